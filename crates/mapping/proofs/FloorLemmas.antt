@@ -1,0 +1,37 @@
+-- The floor of a fraction is the greatest whole number not above it.
+use Rattle.std.proofs.Common.{◌≡◌, ◌≢◌, ℕ, zero, suc, ◌+◌, ◌*◌, ◌/◌, ◌%◌, ◌<◌, ◌≤◌, ℤ, pos, negsuc, neg_ℤ, ◌*ℤ◌, ◌≤ℤ◌, arith, refl, sym, ap, subst}
+use Rattle.std.proofs.lemmas.Int.{ints}
+use Rattle.std.proofs.lemmas.Nat.{le-div, div_below, div-add-mod', mod_below}
+use Rattle.mapping.specs.Floor.{floor_div, IsNotAbove, FloorDivisionIsGreatest}
+
+-- what division of counts says: the quotient's multiple is at most n, and the next one is above it
+quotient_low : (n d : ℕ) → n / suc d * suc d ≤ n
+quotient_low n d = omega (arith, div-add-mod' n (suc d))
+
+quotient_high : (n d : ℕ) → n < (n / suc d + 1) * suc d
+quotient_high n d = let below : n % suc d < suc d = mod_below n (suc d) (omega arith) in omega (arith, div-add-mod' n (suc d))
+
+-- the floor over a divisor above 0 isn't above the fraction
+low : (a : ℤ) (d : ℕ) → IsNotAbove (floor_div a (pos (suc d))) a (pos (suc d))
+low (pos n) d = let h = quotient_low n d in omega (arith, ints, h)
+low (negsuc n) d = let h = quotient_high n d in omega (arith, ints, h)
+
+greatest : (a : ℤ) (d : ℕ) (q : ℤ) → IsNotAbove q a (pos (suc d)) → q ≤ℤ floor_div a (pos (suc d))
+greatest (pos n) d (pos k) h = let fits : k * suc d ≤ n = omega (arith, ints, h) in let e = le-div k n (suc d) (omega arith) fits in omega (arith, ints, e)
+greatest (pos n) d (negsuc k) h = omega (arith, ints)
+greatest (negsuc n) d (pos k) h = absurd (omega (arith, ints, h))
+greatest (negsuc n) d (negsuc k) h =
+    let above : n < suc k * suc d = omega (arith, ints, h) in let e = div_below n (suc d) (suc k) (omega arith) above in omega (arith, ints, e)
+
+-- a fraction stays as it is when both signs are turned
+turned : (q a : ℤ) (d : ℕ) → IsNotAbove q (neg_ℤ a) (pos (suc d)) → IsNotAbove q a (negsuc d)
+turned q a d h = omega (arith, ints, h)
+
+turned_back : (q a : ℤ) (d : ℕ) → IsNotAbove q a (negsuc d) → IsNotAbove q (neg_ℤ a) (pos (suc d))
+turned_back q a d h = omega (arith, ints, h)
+
+pub floor_is_greatest : FloorDivisionIsGreatest
+floor_is_greatest a (pos zero) ne = absurd (ne refl)
+floor_is_greatest a (pos (suc d)) ne = (low a d, greatest a d)
+floor_is_greatest a (negsuc d) ne =
+    (turned _ a d (low (neg_ℤ a) d), λ q h. greatest (neg_ℤ a) d q (turned_back q a d h))

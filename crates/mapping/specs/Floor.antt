@@ -1,0 +1,18 @@
+-- Floor division of whole numbers, and what it means.
+use Rattle.std.specs.Prelude.{◌≢◌, ℕ, suc, ℤ, pos, negsuc, neg_ℤ, ◌*ℤ◌, ◌≤ℤ◌}
+use Rattle.std.specs.Int.{int_div_euclid}
+
+-- The greatest whole number not above a / b. Where b is negative the fraction is that of -a and -b.
+abbrev pub floor_div : ℤ → ℤ → ℤ
+floor_div a (pos b) = int_div_euclid a (pos b)
+floor_div a (negsuc b) = int_div_euclid (neg_ℤ a) (pos (suc b))
+
+-- q is not above the fraction a / b
+abbrev pub IsNotAbove : ℤ → ℤ → ℤ → Type 0
+IsNotAbove q a (pos b) = (q *ℤ pos b) ≤ℤ a
+IsNotAbove q a (negsuc b) = a ≤ℤ (q *ℤ negsuc b)
+
+-- The floor of a / b is not above the fraction, and no whole number that isn't above it is greater.
+abbrev pub FloorDivisionIsGreatest : Type 0
+FloorDivisionIsGreatest =
+    (a b : ℤ) → b ≢ pos 0 → IsNotAbove (floor_div a b) a b × ((q : ℤ) → IsNotAbove q a b → q ≤ℤ floor_div a b)

@@ -1,0 +1,27 @@
+//! Floor division of whole numbers, which rounds towards the lesser number for every sign.
+
+ghost use Rattle.std.specs.Prelude.{◌≡◌, ◌≢◌, ◌<◌, ◌≤◌, ◌^◌, pos, unsigned_abs};
+ghost use Rattle.mapping.specs.Floor.{floor_div, FloorDivisionIsGreatest};
+
+/// The greatest whole number not above `dividend / divisor`. Both are far from the type's ends, so
+/// the quotient and both negations fit.
+pub(crate) fn floor_quotient(dividend: i128, divisor: i128) -> i128
+    requires not_zero { divisor ≢ pos 0 }
+    requires dividend_fits { unsigned_abs dividend < 2 ^ 100 }
+    requires divisor_fits { unsigned_abs divisor < 2 ^ 100 }
+    ensures value { result ≡ floor_div dividend divisor }
+    ensures bound { unsigned_abs result ≤ unsigned_abs dividend }
+{
+    if divisor > 0 {
+        dividend.div_euclid(divisor)
+    } else {
+        (-dividend).div_euclid(-divisor)
+    }
+}
+
+/// The law that gives floor division its meaning: the quotient is not above the fraction, and
+/// every whole number that isn't above the fraction is at most the quotient.
+pub fn floor_division_law()
+    ensures { FloorDivisionIsGreatest }
+{
+}

@@ -1,0 +1,79 @@
+//! Points, boxes, colours and frames: plain values that every layer passes on.
+
+ghost use Rattle.std.specs.Prelude.{◌≡◌, ◌≤◌, ◌^◌, ◌↔◌, IsTrue, IsSome, IfSome};
+ghost use Rattle.mapping.specs.Limits.{IsFrameSide};
+
+/// The longest side of a frame.
+const MAX_SIDE: u32 = 1 << 28;
+
+/// A point of the plane or of a surface. `x` grows to the right and `y` downwards.
+#[derive(Clone, Copy, Debug, PartialEq, Eq)]
+pub struct Point {
+    pub x: i32,
+    pub y: i32,
+}
+
+/// A box by its left, top, right and bottom. Whether the right and the bottom belong to it, and
+/// whether the sides are in order, is said where a box is used.
+#[derive(Clone, Copy, Debug, PartialEq, Eq)]
+pub struct Rect {
+    pub l: i32,
+    pub t: i32,
+    pub r: i32,
+    pub b: i32,
+}
+
+/// A colour of a pixel, each part from 0 (none) to 255 (full).
+#[derive(Clone, Copy, Debug, PartialEq, Eq)]
+pub struct Colour {
+    pub r: u8,
+    pub g: u8,
+    pub b: u8,
+}
+
+impl Colour {
+    /// What a surface shows before anything is drawn.
+    pub const WHITE: Colour = Colour {
+        r: 255,
+        g: 255,
+        b: 255,
+    };
+}
+
+/// The part of the plane that a surface shows, by its two sides in plane units. Its corner is the
+/// plane's origin.
+///
+/// # Guarantees
+///
+/// - Each side is from 1 to 2^28.
+#[derive(Clone, Copy, Debug, PartialEq, Eq)]
+pub struct Frame {
+    pub width: u32,
+    pub height: u32,
+    pub ghost wide: { 1 ≤ width },
+    pub ghost wide_within: { width ≤ 2 ^ 28 },
+    pub ghost high: { 1 ≤ height },
+    pub ghost high_within: { height ≤ 2 ^ 28 },
+}
+
+impl Frame {
+    /// The frame of these sides: none exactly where one of them is 0 or above 2^28.
+    pub fn new(width: u32, height: u32) -> Option<Frame>
+        ensures sides { IsSome result ↔ (IsFrameSide width × IsFrameSide height) }
+        ensures width { IfSome result (λ frame. frame.width ≡ width) }
+        ensures height { IfSome result (λ frame. frame.height ≡ height) }
+    {
+        if is_side(width) && is_side(height) {
+            Some(Frame { width, height })
+        } else {
+            None
+        }
+    }
+}
+
+/// Whether a frame may have this side.
+fn is_side(side: u32) -> bool
+    ensures { IsTrue result ↔ IsFrameSide side }
+{
+    1 <= side && side <= MAX_SIDE
+}

@@ -1,0 +1,22 @@
+//! Where a page coordinate lands: first on the plane, then on a surface.
+//!
+//! # What is promised
+//!
+//! - No sum, product or quotient here wraps or divides by 0, for any page coordinate and any map
+//!   (each function is proved safe for all its inputs).
+//! - A plane coordinate is the floor of the exact fraction, also for negative extents
+//!   (`PageMap::plane`, by `plane_coordinate`; `floor_division_law` says what floor means).
+//! - A point leaves the plane, or doesn't fit a surface, exactly where a limit says so
+//!   (`PageMap::plane`, `Place::fits`).
+//! - Nothing here takes memory.
+#![tactic(auto)]
+
+mod floor;
+mod geometry;
+mod page_map;
+mod place;
+
+pub use floor::floor_division_law;
+pub use geometry::{Colour, Frame, Point, Rect};
+pub use page_map::{PageAxis, PageMap};
+pub use place::Place;

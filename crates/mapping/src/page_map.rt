@@ -1,0 +1,146 @@
+//! The page map: where a page coordinate lands on the plane.
+
+ghost use Rattle.std.specs.Prelude.{◌≡◌, ◌≢◌, ◌+◌, ◌-◌, ◌^◌, ◌<◌, ◌≤◌, pos, ◌+ℤ◌, ◌-ℤ◌, ◌*ℤ◌, unsigned_abs, SomeIff};
+ghost use Rattle.mapping.specs.Plane.{IsOnPlane};
+
+use crate::floor::floor_quotient;
+use crate::geometry::Point;
+
+/// The farthest that a plane coordinate is from 0.
+const PLANE_LIMIT: i128 = 1 << 30;
+
+/// A page map on one axis ([MS-WMF] 2.3.5, [MS-EMF] 2.3.11: window and viewport, each with an
+/// origin and an extent), and the frame's corner on that axis.
+///
+/// # Guarantees
+///
+/// - The window's extent isn't 0, so a coordinate can be scaled by it.
+#[derive(Clone, Copy, Debug, PartialEq, Eq)]
+pub struct PageAxis {
+    pub window_origin: i32,
+    pub window_extent: i32,
+    pub viewport_origin: i32,
+    pub viewport_extent: i32,
+    /// The frame's corner, which is the plane's origin.
+    pub corner: i32,
+    pub ghost window_has_extent: { window_extent ≢ pos 0 },
+}
+
+impl PageAxis {
+    ghost use Rattle.mapping.specs.Plane.{plane_coordinate};
+    ghost use Rattle.mapping.specs.PageMap.{axis_numbers, placeable_axis};
+
+    /// The axis on which a placeable file starts: its box's side is the window, and the frame's
+    /// side the viewport.
+    fn placeable(origin: i32, extent: i32) -> PageAxis
+        requires has_extent { extent ≢ pos 0 }
+        requires not_too_wide { unsigned_abs extent ≤ 2 ^ 28 }
+        ensures { axis_numbers result ≡ placeable_axis origin extent }
+    {
+        PageAxis {
+            window_origin: origin,
+            window_extent: extent,
+            viewport_origin: 0,
+            viewport_extent: extent.abs(),
+            corner: 0,
+        }
+    }
+
+    /// The plane coordinate of a page coordinate, or none where it would leave the plane.
+    fn plane(&self, coordinate: i64) -> Option<i32>
+        ensures { SomeIff result
+            (IsOnPlane (plane_coordinate (axis_numbers self.now) coordinate))
+            (plane_coordinate (axis_numbers self.now) coordinate) }
+    {
+        let scaled = product(
+            distance(coordinate, self.window_origin),
+            i128::from(self.viewport_extent),
+        );
+        let quotient = floor_quotient(scaled, i128::from(self.window_extent));
+        on_plane(moved(quotient, self.viewport_origin, self.corner))
+    }
+}
+
+/// How far a page coordinate is from the window's origin.
+fn distance(coordinate: i64, origin: i32) -> i128
+    ensures value { result ≡ coordinate -ℤ origin }
+    ensures bound { unsigned_abs result ≤ 2 ^ 65 }
+{
+    i128::from(coordinate) - i128::from(origin)
+}
+
+/// A distance on the page times a viewport's extent.
+fn product(distance: i128, extent: i128) -> i128
+    requires distance_fits { unsigned_abs distance ≤ 2 ^ 65 }
+    requires extent_fits { unsigned_abs extent ≤ 2 ^ 31 }
+    ensures value { result ≡ distance *ℤ extent }
+    ensures bound { unsigned_abs result ≤ 2 ^ 96 }
+{
+    distance * extent
+}
+
+/// A scaled distance from the viewport's origin on, seen from the frame's corner.
+fn moved(scaled: i128, origin: i32, corner: i32) -> i128
+    requires { unsigned_abs scaled ≤ 2 ^ 96 }
+    ensures { result ≡ scaled +ℤ origin -ℤ corner }
+{
+    scaled + i128::from(origin) - i128::from(corner)
+}
+
+/// The number as a plane coordinate, or none where it is outside the plane.
+#[tactic(auto, unfolding(crate::specs::Limits::plane_limit))]
+fn on_plane(coordinate: i128) -> Option<i32>
+    ensures { SomeIff result (IsOnPlane coordinate) coordinate }
+{
+    if -PLANE_LIMIT <= coordinate && coordinate <= PLANE_LIMIT {
+        Some(coordinate as i32)
+    } else {
+        None
+    }
+}
+
+/// Where page coordinates land on the plane, each axis by itself.
+#[derive(Clone, Copy, Debug, PartialEq, Eq)]
+pub struct PageMap {
+    pub x: PageAxis,
+    pub y: PageAxis,
+}
+
+impl PageMap {
+    ghost use Rattle.mapping.specs.Plane.{plane_coordinate};
+    ghost use Rattle.mapping.specs.PageMap.{axis_numbers, placeable_axis};
+
+    /// The map on which a placeable file starts ([MS-WMF] 2.3.2.3), whose box has this corner and
+    /// these sides, negative where the right or the bottom comes first.
+    pub fn placeable(corner: Point, sides: Point) -> PageMap
+        requires wide { sides.x ≢ pos 0 }
+        requires wide_within { unsigned_abs sides.x ≤ 2 ^ 28 }
+        requires high { sides.y ≢ pos 0 }
+        requires high_within { unsigned_abs sides.y ≤ 2 ^ 28 }
+        ensures x { axis_numbers result.x ≡ placeable_axis corner.x sides.x }
+        ensures y { axis_numbers result.y ≡ placeable_axis corner.y sides.y }
+    {
+        PageMap {
+            x: PageAxis::placeable(corner.x, sides.x),
+            y: PageAxis::placeable(corner.y, sides.y),
+        }
+    }
+
+    /// The plane point of a page point: none exactly where a coordinate of it would be farther
+    /// than 2^30 from 0.
+    pub fn plane(&self, x: i64, y: i64) -> Option<Point>
+        ensures { SomeIff result
+            (IsOnPlane (plane_coordinate (axis_numbers self.now.x) x)
+                × IsOnPlane (plane_coordinate (axis_numbers self.now.y) y))
+            (record { x = plane_coordinate (axis_numbers self.now.x) x;
+                y = plane_coordinate (axis_numbers self.now.y) y }) }
+    {
+        let Some(x) = self.x.plane(x) else {
+            return None;
+        };
+        let Some(y) = self.y.plane(y) else {
+            return None;
+        };
+        Some(Point { x, y })
+    }
+}

@@ -1,0 +1,99 @@
+//! The place: where a plane point lands on a surface.
+
+ghost use Rattle.std.specs.Prelude.{◌≡◌, ◌≤◌, ◌^◌, ◌↔◌, IsTrue, pos, ◌*ℤ◌, unsigned_abs};
+ghost use Rattle.mapping.specs.Surface.{placed, IsPlaced};
+
+use crate::geometry::{Frame, Point};
+
+/// The farthest that a placed coordinate is from 0.
+const PLACE_LIMIT: i64 = 1 << 28;
+
+/// A frame shown on a surface.
+///
+/// # Guarantees
+///
+/// - Each side of the surface is from 1 to 8,192 pixels.
+#[derive(Clone, Copy, Debug, PartialEq, Eq)]
+pub struct Place {
+    pub frame: Frame,
+    /// The surface's sides in pixels.
+    pub width: u32,
+    pub height: u32,
+    pub ghost wide: { 1 ≤ width },
+    pub ghost wide_within: { width ≤ 8192 },
+    pub ghost high: { 1 ≤ height },
+    pub ghost high_within: { height ≤ 8192 },
+}
+
+impl Place {
+    ghost use Rattle.mapping.specs.PlaceOf.{placed_x, placed_y};
+
+    /// The frame on a surface of `width` by `height` pixels.
+    pub fn new(frame: &Frame, width: u32, height: u32) -> Place
+        requires wide { 1 ≤ width }
+        requires wide_within { width ≤ 8192 }
+        requires high { 1 ≤ height }
+        requires high_within { height ≤ 8192 }
+        ensures frame { result.frame ≡ frame.now }
+        ensures width { result.width ≡ width }
+        ensures height { result.height ≡ height }
+    {
+        Place {
+            frame: *frame,
+            width,
+            height,
+        }
+    }
+
+    /// Whether both placed coordinates of the point are at most 2^28 from 0.
+    pub fn fits(self, point: Point) -> bool
+        ensures { IsTrue result ↔ (IsPlaced (placed_x self point) × IsPlaced (placed_y self point)) }
+    {
+        axis_fits(point.x, self.width, self.frame.width)
+            && axis_fits(point.y, self.height, self.frame.height)
+    }
+
+    /// The placed point.
+    pub fn at(self, point: Point) -> Point
+        requires x_fits { IsPlaced (placed_x self point) }
+        requires y_fits { IsPlaced (placed_y self point) }
+        ensures x { result.x ≡ placed_x self point }
+        ensures y { result.y ≡ placed_y self point }
+    {
+        Point {
+            x: axis_place(point.x, self.width, self.frame.width),
+            y: axis_place(point.y, self.height, self.frame.height),
+        }
+    }
+}
+
+/// A plane coordinate scaled from the frame's side to the surface's.
+fn scaled(coordinate: i32, surface_side: u32, frame_side: u32) -> i64
+    requires surface { surface_side ≤ 8192 }
+    requires frame { 1 ≤ frame_side }
+    ensures { result ≡ placed coordinate surface_side frame_side }
+{
+    (i64::from(coordinate) * i64::from(surface_side)).div_euclid(i64::from(frame_side))
+}
+
+/// Whether the placed coordinate is within its limit.
+#[tactic(auto, unfolding(crate::specs::Limits::place_limit))]
+fn axis_fits(coordinate: i32, surface_side: u32, frame_side: u32) -> bool
+    requires surface { surface_side ≤ 8192 }
+    requires frame { 1 ≤ frame_side }
+    ensures { IsTrue result ↔ IsPlaced (placed coordinate surface_side frame_side) }
+{
+    let placed = scaled(coordinate, surface_side, frame_side);
+    -PLACE_LIMIT <= placed && placed <= PLACE_LIMIT
+}
+
+/// The placed coordinate, where it is within its limit.
+#[tactic(auto, unfolding(crate::specs::Limits::place_limit))]
+fn axis_place(coordinate: i32, surface_side: u32, frame_side: u32) -> i32
+    requires surface { surface_side ≤ 8192 }
+    requires frame { 1 ≤ frame_side }
+    requires fits { IsPlaced (placed coordinate surface_side frame_side) }
+    ensures { result ≡ placed coordinate surface_side frame_side }
+{
+    scaled(coordinate, surface_side, frame_side) as i32
+}
