@@ -1,13 +1,19 @@
-// A library with one function.
+//! Pixels: a surface's rows of colours, a count of the pixels written, and the P6 text.
+//!
+//! # What is promised
+//!
+//! - A new canvas shows one colour and counts no write (`Canvas::new`).
+//! - A write changes the pixel that it names and no other, and is counted once (`Canvas::put`).
+//! - What is written out is the P6 text of the image, byte for byte, and after a failure a front of
+//!   that text (`Canvas::write_ppm`, by `ppm_text`).
+//! - Three bytes a pixel are taken when a canvas is made, and no memory afterwards.
 #![tactic(auto)]
 
-ghost use Rattle.std.specs.Prelude.{◌≡◌};
-ghost use Rattle.canvas.specs.Echo.{echo_of};
+mod canvas_error;
+mod ppm;
+mod surface;
+#[cfg(test)]
+mod tests;
 
-// The `ensures` clause is the contract: what `echo` returns is `echo_of` of its argument, a definition
-// in `specs/Echo.antt`, which a caller's clause can cite too.
-pub fn echo(x: usize) -> usize
-    ensures { result ≡ echo_of x }
-{
-    x
-}
+pub use canvas_error::{OutOfMemory, WriteFault};
+pub use surface::Canvas;

@@ -9,5 +9,7 @@
 #![tactic(auto)]
 
 mod fault;
+#[cfg(test)]
+mod tests;
 
 pub use fault::Fault;

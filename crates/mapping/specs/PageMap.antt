@@ -10,7 +10,7 @@ axis_numbers a = record {
   window_extent = a.window_extent;
   viewport_origin = a.viewport_origin;
   viewport_extent = a.viewport_extent;
-  corner = a.corner
+  corner = a.corner;
 }
 
 -- A placeable file's start: the window is its box, and the viewport the frame, which has the box's size and the corner 0.
@@ -20,5 +20,5 @@ placeable_axis origin extent = record {
   window_extent = extent;
   viewport_origin = pos 0;
   viewport_extent = pos (unsigned_abs extent);
-  corner = pos 0
+  corner = pos 0;
 }

@@ -23,5 +23,4 @@ pub(crate) fn floor_quotient(dividend: i128, divisor: i128) -> i128
 /// every whole number that isn't above the fraction is at most the quotient.
 pub fn floor_division_law()
     ensures { FloorDivisionIsGreatest }
-{
-}
+{}

@@ -15,6 +15,8 @@ mod floor;
 mod geometry;
 mod page_map;
 mod place;
+#[cfg(test)]
+mod tests;
 
 pub use floor::floor_division_law;
 pub use geometry::{Colour, Frame, Point, Rect};

@@ -131,9 +131,11 @@ impl PageMap {
     pub fn plane(&self, x: i64, y: i64) -> Option<Point>
         ensures { SomeIff result
             (IsOnPlane (plane_coordinate (axis_numbers self.now.x) x)
-                × IsOnPlane (plane_coordinate (axis_numbers self.now.y) y))
-            (record { x = plane_coordinate (axis_numbers self.now.x) x;
-                y = plane_coordinate (axis_numbers self.now.y) y }) }
+            × IsOnPlane (plane_coordinate (axis_numbers self.now.y) y))
+            (record {
+              x = plane_coordinate (axis_numbers self.now.x) x;
+              y = plane_coordinate (axis_numbers self.now.y) y;
+            }) }
     {
         let Some(x) = self.x.plane(x) else {
             return None;

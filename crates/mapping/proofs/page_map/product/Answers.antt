@@ -16,7 +16,7 @@ overflow_mul-result c =
     simp to_z-of_z (product_fits c)
 
 pub returns-clause-value : goal.returns-clause-value
-returns-clause-value c = 
+returns-clause-value c =
     let fits = product_fits c in
     let a = c.ranges.distance in
     let b = c.ranges.extent in

@@ -34,6 +34,6 @@ returns c =
     let quotient = simp to_z-of_z at c.floor_quotient-quotient.ensures.value in
     let moved = simp to_z-of_z at c.moved.ensures in
     let whole : c.moved.result ≡ plane_coordinate (axis_numbers axis) c.args.coordinate =
-        steps (axis_numbers axis) _ _ _ _ _ _ _ distance viewport product window quotient moved in
+    steps (axis_numbers axis) _ _ _ _ _ _ _ distance viewport product window quotient moved in
     let is_it : ℤ → Type 0 = λ v. SomeIff c.on_plane.result (IsOnPlane v) v in
     subst is_it whole (simp to_z-of_z at c.on_plane.ensures)

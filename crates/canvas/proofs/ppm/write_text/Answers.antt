@@ -1,0 +1,28 @@
+use Rattle.std.proofs.Common.{◌≡◌, ◌++◌, List, ℕ, sym, refl, arith}
+use Rattle.std.proofs.lemmas.List.{append_assoc}
+use Rattle.std.proofs.lemmas.List.Concat.{flat_map-append}
+use Rattle.std.proofs.lemmas.Result.{err_from_is_err_and, on_err_weaker}
+use Rattle.mapping.specs.declared.geometry.Colour.{Colour}
+use Rattle.canvas.specs.Ppm.{raster, pixel_bytes}
+use Rattle.canvas.proofs.Sending.{sending_more, sending_front_more}
+use Rattle.canvas.proofs.ppm.write_text.Goals as goal
+
+-- a piece takes the samples of the front of the rest, and what is to be sent stays the same
+cut : (bytes piece : List ℕ) (front after rest : List Colour) → rest ≡ front ++ after → piece ≡ bytes ++ raster front → bytes ++ raster rest ≡ piece ++ raster after
+cut bytes piece front after rest e p =
+    rw (e, p, flat_map-append pixel_bytes front after) (sym (append_assoc bytes (raster front) (raster after)))
+
+pub returns-in_err-send-clause-err : goal.returns-in_err-send-clause-err
+returns-in_err-send-clause-err g c =
+    let p = err_from_is_err_and c.from_residual.result c.from_residual.ensures.1 in
+    rw p.1 (sending_front_more _ _ c.loop-rest.invariant.sending (cut _ _ _ _ _ c.split_at.ensures.by_index.0 c.put_pixels-filled.ensures.text) c.in_err-send.ensures.err)
+
+pub loop-rest-preserved : goal.loop-rest-preserved
+loop-rest-preserved g c = record {
+  room = omega arith;
+  sending = sending_more _ _ c.loop-rest.invariant.sending (cut _ _ _ _ _ c.split_at.ensures.by_index.0 c.put_pixels-filled.ensures.text) c.in_ok-send.ensures.ok;
+}
+
+pub returns-clause-err : goal.returns-clause-err
+returns-clause-err g c =
+    on_err_weaker c.send-2.result (λ f. sending_front_more _ _ c.loop-rest.invariant.sending refl f) c.send-2.ensures.err

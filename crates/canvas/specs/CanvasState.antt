@@ -1,0 +1,36 @@
+-- What a canvas is to its callers.
+use Rattle.std.specs.Prelude.{◌≡◌, ℕ, ◌+◌, ◌-◌, ◌*◌, ◌<◌, ◌≤◌, List, length, replicate}
+use Rattle.mapping.specs.declared.geometry.Colour.{Colour}
+use Rattle.canvas.specs.Image.{Image}
+
+-- the rows that a canvas holds of its surface, from `first` on, with their colours, and how many pixels were written
+pub record CanvasState : Type 0 where
+  pub width : ℕ
+  pub first : ℕ
+  pub rows : ℕ
+  pub colours : List Colour
+  pub writes : ℕ
+
+-- the image of the rows held
+abbrev pub image_of : CanvasState → Image
+image_of canvas = record { width = canvas.width; height = canvas.rows; colours = canvas.colours }
+
+-- the canvas holds the surface's pixel (x, y)
+pub record HasPixel (canvas : CanvasState) (x y : ℕ) : Type 0 where
+  pub column : x < canvas.width
+  pub from_first : canvas.first ≤ y
+  pub to_last : y < canvas.first + canvas.rows
+
+-- where the colour of pixel (x, y) stands in the list of colours
+abbrev pub place_of : CanvasState → ℕ → ℕ → ℕ
+place_of canvas x y = (y - canvas.first) * canvas.width + x
+
+-- a canvas before anything is written
+abbrev pub unwritten : ℕ → ℕ → ℕ → Colour → CanvasState
+unwritten width first rows colour = record {
+  width = width;
+  first = first;
+  rows = rows;
+  colours = replicate (rows * width) colour;
+  writes = 0;
+}

@@ -1,0 +1,28 @@
+//! What can go wrong outside a canvas: the machine refuses memory, or a writer fails.
+
+use std::error::Error;
+use std::fmt;
+
+/// Memory for the colours was refused.
+#[derive(Clone, Copy, Debug, PartialEq, Eq)]
+pub struct OutOfMemory;
+
+impl fmt::Display for OutOfMemory {
+    fn fmt<W: fmt::Write>(&self, f: &mut fmt::Formatter<W>) -> fmt::Result {
+        write!(f, "OutOfMemory")
+    }
+}
+
+impl Error for OutOfMemory {}
+
+/// The writer failed, or took no byte of what it was given.
+#[derive(Clone, Copy, Debug, PartialEq, Eq)]
+pub struct WriteFault;
+
+impl fmt::Display for WriteFault {
+    fn fmt<W: fmt::Write>(&self, f: &mut fmt::Formatter<W>) -> fmt::Result {
+        write!(f, "WriteFault")
+    }
+}
+
+impl Error for WriteFault {}

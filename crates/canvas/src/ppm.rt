@@ -1,0 +1,113 @@
+//! The P6 text, written in pieces through a buffer on the stack.
+
+ghost use Rattle.std.specs.Prelude.{◌≡◌, ◌+◌, ◌*◌, ◌≤◌, ◌^◌, ◌<◌, ◌++◌, length, take, decimal, OnOk, OnErr};
+ghost use Rattle.std.specs.Io.KnownBytes.{Appends};
+ghost use Rattle.canvas.specs.Image.{Image};
+ghost use Rattle.canvas.specs.Ppm.{AppendsFront, header, ppm_text, raster};
+
+use crate::canvas_error::WriteFault;
+use itoa::Buffer;
+use mapping::Colour;
+use std::io::{ErrorKind, Write};
+
+/// How many pixels go into a piece. The first piece has the header as well.
+const PIECE_PIXELS: usize = 4096;
+
+/// The longest header: its two numbers have at most ten digits each.
+const HEADER_ROOM: usize = 32;
+
+const PIECE_ROOM: usize = 12320;
+
+/// Writes the P6 text of an image.
+pub(crate) fn write_text<W: Write>(
+    out: &mut W,
+    width: u32,
+    height: u32,
+    colours: &[Colour],
+) -> Result<(), WriteFault>
+    ensures ok { OnOk result (Appends (W.contents out.old) (W.contents out.new) (header width height ++ raster colours.now)) }
+    ensures err { OnErr result (AppendsFront (W.contents out.old) (W.contents out.new) (header width height ++ raster colours.now)) }
+{
+    let mut piece = [0u8; PIECE_ROOM];
+    let mut filled = put_header(&mut piece, width, height);
+    let mut rest = colours;
+    while !rest.is_empty() {
+        let (front, after) = rest.split_at(rest.len().min(PIECE_PIXELS));
+        filled = put_pixels(&mut piece, filled, front);
+        send(out, &piece[..filled])?;
+        filled = 0;
+        rest = after;
+    }
+    send(out, &piece[..filled])
+}
+
+/// Puts the header at the start of the buffer, and tells its length.
+fn put_header(buffer: &mut [u8], width: u32, height: u32) -> usize
+    requires { 32 ≤ length buffer.old }
+    ensures text { take result buffer.new ≡ header width height }
+    ensures short { result ≤ 32 }
+{
+    let end = put_text(buffer, 0, b"P6\n");
+    let end = put_number(buffer, end, width);
+    let end = put_text(buffer, end, b" ");
+    let end = put_number(buffer, end, height);
+    put_text(buffer, end, b"\n255\n")
+}
+
+/// Puts a number's decimal digits behind the first `at` bytes.
+fn put_number(buffer: &mut [u8], at: usize, number: u32) -> usize
+    requires { at + 10 ≤ length buffer.old }
+    ensures text { take result buffer.new ≡ take at buffer.old ++ decimal number }
+    ensures end { result ≡ at + length (decimal number) }
+    ensures short { length (decimal number) ≤ 10 }
+{
+    let mut digits = Buffer::new();
+    put_text(buffer, at, digits.format(number).as_bytes())
+}
+
+/// Puts a text behind the first `at` bytes, and tells where it ends.
+fn put_text(buffer: &mut [u8], at: usize, text: &[u8]) -> usize
+    requires { at + length text.now ≤ length buffer.old }
+    ensures text { take result buffer.new ≡ take at buffer.old ++ text.now }
+    ensures end { result ≡ at + length text.now }
+{
+    let end = at + text.len();
+    buffer[at..end].copy_from_slice(text);
+    end
+}
+
+/// Puts the samples of the colours behind the first `at` bytes, and tells where they end.
+fn put_pixels(buffer: &mut [u8], at: usize, colours: &[Colour]) -> usize
+    requires { at + 3 * length colours.now ≤ length buffer.old }
+    ensures text { take result buffer.new ≡ take at buffer.old ++ raster colours.now }
+    ensures end { result ≡ at + 3 * length colours.now }
+{
+    let mut end = at;
+    for colour in colours {
+        buffer[end] = colour.r;
+        buffer[end + 1] = colour.g;
+        buffer[end + 2] = colour.b;
+        end += 3;
+    }
+    end
+}
+
+/// Writes all of the bytes. At a fault a front of them was written.
+fn send<W: Write>(out: &mut W, bytes: &[u8]) -> Result<(), WriteFault>
+    ensures ok { OnOk result (Appends (W.contents out.old) (W.contents out.new) bytes.now) }
+    ensures err { OnErr result (AppendsFront (W.contents out.old) (W.contents out.new) bytes.now) }
+{
+    let mut rest = bytes;
+    for _ in 0..u64::MAX {
+        if rest.is_empty() {
+            return Ok(());
+        }
+        match out.write(rest) {
+            Ok(0) => return Err(WriteFault),
+            Ok(count) => rest = &rest[count..],
+            Err(error) if error.kind() == ErrorKind::Interrupted => {}
+            Err(_) => return Err(WriteFault),
+        }
+    }
+    Err(WriteFault)
+}

@@ -1,0 +1,157 @@
+//! The canvas: the rows of a surface, each pixel with its colour.
+
+ghost use Rattle.std.specs.Prelude.{◌≡◌, ◌+◌, ◌*◌, ◌<◌, ◌≤◌, ◌^◌, ◌↔◌, Some, IsTrue, IfOk, OnOk, OnErr, slice_get, slice_set};
+ghost use Rattle.std.specs.Io.KnownBytes.{Appends};
+ghost use Rattle.canvas.specs.CanvasState.{HasPixel, image_of, place_of, unwritten};
+ghost use Rattle.canvas.specs.Ppm.{AppendsFront, ppm_text};
+
+use crate::canvas_error::{OutOfMemory, WriteFault};
+use crate::ppm::write_text;
+use mapping::Colour;
+use std::alloc::Global;
+use std::io::Write;
+use std::marker::Model;
+
+/// The rows of a surface from `first` on, and a count of the pixels that were written.
+///
+/// # Guarantees
+///
+/// - The width is from 1 to 8,192 pixels, and the rows held are among 8,192.
+/// - There is one colour for each pixel held.
+#[derive(Debug, Drop)]
+pub struct Canvas {
+    colours: Vec<Colour>,
+    width: u32,
+    first: u32,
+    rows: u32,
+    writes: u64,
+}
+
+impl Model for Canvas {
+    ghost use Rattle.std.specs.Prelude.{◌≡◌, ◌+◌, ◌*◌, ◌≤◌, vec_len};
+    ghost use Rattle.canvas.specs.CanvasState.{CanvasState};
+
+    ghost Value = { CanvasState };
+
+    ghost view = { λ a. record { width = a.width; first = a.first; rows = a.rows; colours = a.colours.items; writes = a.writes } };
+
+    ghost use Rattle.canvas.specs.Canvas.{IsCanvas};
+
+    ghost invariant = { IsCanvas };
+}
+
+impl Canvas {
+    /// A surface of `width` by `height` pixels that shows one colour: `OutOfMemory` where memory
+    /// for it was refused.
+    pub fn new(
+        alloc: Global,
+        width: u32,
+        height: u32,
+        colour: Colour,
+    ) -> Result<Canvas, OutOfMemory>
+        requires wide { 1 ≤ width }
+        requires wide_within { width ≤ 8192 }
+        requires high { 1 ≤ height }
+        requires high_within { height ≤ 8192 }
+        ensures { IfOk result (λ canvas. canvas ≡ unwritten width 0 height colour) }
+    {
+        let Ok(colours) = Vec::from_elem(alloc, colour, pixels(height, width)) else {
+            return Err(OutOfMemory);
+        };
+        Ok(Canvas {
+            colours,
+            width,
+            first: 0,
+            rows: height,
+            writes: 0,
+        })
+    }
+
+    /// The width of the surface, in pixels.
+    pub fn width(&self) -> u32
+        ensures { result ≡ self.now.width }
+    {
+        self.width
+    }
+
+    /// The number of the first row held.
+    pub fn first(&self) -> u32
+        ensures { result ≡ self.now.first }
+    {
+        self.first
+    }
+
+    /// How many rows are held.
+    pub fn rows(&self) -> u32
+        ensures { result ≡ self.now.rows }
+    {
+        self.rows
+    }
+
+    /// How many pixels were written since the canvas was made, each write counted.
+    pub fn writes(&self) -> u64
+        ensures { result ≡ self.now.writes }
+    {
+        self.writes
+    }
+
+    /// Whether the canvas holds the surface's pixel `(x, y)`.
+    pub fn has_pixel(&self, x: u32, y: u32) -> bool
+        ensures { IsTrue result ↔ HasPixel self.now x y }
+    {
+        x < self.width && self.first <= y && y < self.first + self.rows
+    }
+
+    /// The colour of the surface's pixel `(x, y)`.
+    pub fn colour(&self, x: u32, y: u32) -> Colour
+        requires { HasPixel self.now x y }
+        ensures { slice_get self.now.colours (place_of self.now x y) ≡ Some result }
+    {
+        self.colours[place(self.width, y - self.first, x)]
+    }
+
+    /// Writes the surface's pixel `(x, y)`.
+    pub fn put(&mut self, x: u32, y: u32, colour: Colour)
+        requires pixel { HasPixel self.old x y }
+        requires countable { self.old.writes + 1 < 2 ^ 64 }
+        ensures pixel { self.new.colours ≡ slice_set self.old.colours (place_of self.old x y) colour }
+        ensures count { self.new.writes ≡ self.old.writes + 1 }
+        ensures width { self.new.width ≡ self.old.width }
+        ensures first { self.new.first ≡ self.old.first }
+        ensures rows { self.new.rows ≡ self.old.rows }
+    {
+        let place = place(self.width, y - self.first, x);
+        self.colours[place] = colour;
+        self.writes += 1;
+    }
+
+    /// Writes the P6 text (ppm(5)) of the rows held, in pieces of 12 KiB, and doesn't flush. A
+    /// write that was interrupted is tried again.
+    ///
+    /// After a `WriteFault` a front of the text was written.
+    pub fn write_ppm<W: Write>(&self, out: &mut W) -> Result<(), WriteFault>
+        ensures ok { OnOk result (Appends (W.contents out.old) (W.contents out.new) (ppm_text (image_of self.now))) }
+        ensures err { OnErr result (AppendsFront (W.contents out.old) (W.contents out.new) (ppm_text (image_of self.now))) }
+    {
+        write_text(out, self.width, self.rows, self.colours.as_slice())
+    }
+}
+
+/// How many pixels there are in so many rows of this width.
+fn pixels(rows: u32, width: u32) -> usize
+    requires rows { rows ≤ 8192 }
+    requires width { width ≤ 8192 }
+    ensures { result ≡ rows * width }
+{
+    rows as usize * width as usize
+}
+
+/// The place of a column in a row, counted from the first row.
+fn place(width: u32, row: u32, column: u32) -> usize
+    requires width { width ≤ 8192 }
+    requires row { row < 8192 }
+    requires column { column < width }
+    ensures { result ≡ row * width + column }
+{
+    row as usize * width as usize + column as usize
+}

@@ -1,0 +1,4 @@
+pub mod ItemLemmas
+pub mod PointLemmas
+pub mod CountLemmas
+pub mod SplitLemmas

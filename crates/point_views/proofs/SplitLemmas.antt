@@ -1,0 +1,32 @@
+-- A list cut into lists: how many, and where the list at an index stands.
+use Rattle.std.proofs.Common.{◌≡◌, ℕ, zero, suc, ◌+◌, ◌-◌, ◌<◌, ◌≤◌, List, [], ◌∷◌, length, take, drop, get_or, sum, refl, sym, ap, ◌∙◌, arith, Some}
+use Rattle.std.specs.List.{slice_get, slice_range}
+use Rattle.std.proofs.lemmas.List.{drop-drop}
+use Rattle.std.proofs.lemmas.List.Sums.{sum_by-cons, sum_by_more, sum_by_more_le}
+use Rattle.std.proofs.lemmas.Option.{same_Some, slice_get_within, get_or_from_slice_get}
+use Rattle.point_views.specs.Split.{split_by}
+
+pub length-split_by : {A : Type 0} (counts : List ℕ) (items : List A) → length (split_by counts items) ≡ length counts
+length-split_by [] items = refl
+length-split_by (count ∷ counts) items = ap suc (length-split_by counts (drop count items))
+
+-- the list at an index begins after those before it
+pub slice_get-split_by : {A : Type 0} (counts : List ℕ) (items : List A) (k count : ℕ) → slice_get counts k ≡ Some count → slice_get (split_by counts items) k ≡ Some (take count (drop (sum (take k counts)) items))
+slice_get-split_by [] items k count at_k = cc
+slice_get-split_by (first ∷ counts) items zero count at_k = ap (λ n. Some (take n items)) (same_Some first count at_k)
+slice_get-split_by (first ∷ counts) items (suc k) count at_k =
+    let rest = slice_get-split_by counts (drop first items) k count at_k in
+    let place : drop (sum (take k counts)) (drop first items) ≡ drop (sum (first ∷ take k counts)) items =
+    drop-drop (sum (take k counts)) first items ∙ ap (λ n. drop n items) (sym (sum_by-cons (λ x. x) first (take k counts))) in
+    rest ∙ ap (λ part. Some (take count part)) place
+
+-- the sum of the counts before an index, and the count there
+pub sum_next : (counts : List ℕ) (k count : ℕ) → slice_get counts k ≡ Some count → sum (take (k + 1) counts) ≡ sum (take k counts) + count
+sum_next counts k count at_k =
+    sum_by_more (λ x. x) counts k 0 (slice_get_within counts k count at_k) ∙ ap (λ n. sum (take k counts) + n) (get_or_from_slice_get counts k count 0 at_k)
+
+pub sum_next_within : (counts : List ℕ) (k count : ℕ) → slice_get counts k ≡ Some count → sum (take k counts) + count ≤ sum counts
+sum_next_within counts k count at_k =
+    let next = sum_by_more_le (λ x. x) counts k 0 (slice_get_within counts k count at_k) in
+    let here = get_or_from_slice_get counts k count 0 at_k in
+    omega (arith, next, here)

@@ -1,0 +1,7 @@
+pub mod Numbers
+pub mod Items
+pub mod FirstPoint
+pub mod Points
+pub mod Counts
+pub mod Split
+pub mod Polys

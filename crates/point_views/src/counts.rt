@@ -1,0 +1,126 @@
+//! Lists of counts: how many points each of several lists has.
+
+ghost use Rattle.std.specs.Prelude.{◌≡◌, ◌+◌, ◌*◌, ◌^◌, ◌<◌, ◌≤◌, ◌↔◌, [], length, take, drop, sum, IsTrue, IsSome, IfSome, Some, slice_get};
+ghost use Rattle.point_views.specs.Numbers.{number_size};
+
+use crate::numbers::{NumberWidth, unsigned_at};
+
+/// Counts, one after another in a file's bytes, each a number without a sign.
+///
+/// # Guarantees
+///
+/// - `bytes` holds the counts, and nothing after them.
+#[derive(Clone, Copy, Debug, PartialEq, Eq)]
+pub struct Counts<'a> {
+    pub bytes: &'a [u8],
+    /// How many counts.
+    pub count: usize,
+    /// How wide each count is.
+    pub width: NumberWidth,
+    pub ghost exact: { number_size width * count ≡ length bytes.now },
+}
+
+impl<'a> Counts<'a> {
+    ghost use Rattle.point_views.specs.Counts.{counts_in, counts_of};
+
+    /// The first `n` counts in the bytes, each in 16 bits: none exactly where fewer than `2 * n`
+    /// bytes are there.
+    pub fn new16(bytes: &'a [u8], n: usize) -> Option<Counts<'a>>
+        ensures room { IsSome result ↔ (2 * n ≤ length bytes.now) }
+        ensures counts { IfSome result (λ counts. counts_of counts ≡ counts_in NumberWidth.Short n bytes.now) }
+    {
+        if bytes.len() / 2 < n {
+            return None;
+        }
+        Some(Counts { bytes: &bytes[..2 * n], count: n, width: NumberWidth::Short })
+    }
+
+    /// The first `n` counts in the bytes, each in 32 bits: none exactly where fewer than `4 * n`
+    /// bytes are there.
+    pub fn new32(bytes: &'a [u8], n: usize) -> Option<Counts<'a>>
+        ensures room { IsSome result ↔ (4 * n ≤ length bytes.now) }
+        ensures counts { IfSome result (λ counts. counts_of counts ≡ counts_in NumberWidth.Long n bytes.now) }
+    {
+        if bytes.len() / 4 < n {
+            return None;
+        }
+        Some(Counts { bytes: &bytes[..4 * n], count: n, width: NumberWidth::Long })
+    }
+
+    /// How many counts.
+    #[tactic(auto, using(crate::proofs::ItemLemmas::items))]
+    pub fn len(self) -> usize
+        ensures { result ≡ length (counts_of self.entry) }
+    {
+        self.count
+    }
+
+    /// Whether there is no count.
+    pub fn is_empty(self) -> bool
+        ensures { IsTrue result ↔ (counts_of self.entry ≡ []) }
+    {
+        self.count == 0
+    }
+
+    /// The count at an index.
+    #[tactic(auto, using(crate::proofs::ItemLemmas::items))]
+    pub fn get(self, i: usize) -> u32
+        requires { i < length (counts_of self) }
+        ensures { slice_get (counts_of self.entry) i ≡ Some result }
+    {
+        unsigned_at(self.bytes, self.place(i), self.width)
+    }
+
+    /// The counts after the first.
+    pub(crate) fn after_first(self) -> Counts<'a>
+        requires { 0 < length (counts_of self) }
+        ensures { counts_of result ≡ drop 1 (counts_of self.entry) }
+    {
+        Counts {
+            bytes: &self.bytes[self.place(1)..],
+            count: self.count - 1,
+            width: self.width,
+        }
+    }
+
+    /// Whether the counts add up to the total.
+    pub(crate) fn adds_up_to(self, total: usize) -> bool
+        ensures { IsTrue result ↔ (sum (counts_of self.entry) ≡ total) }
+    {
+        let mut left = total;
+        for i in 0..self.count {
+            let count = self.get(i) as usize;
+            if left < count {
+                return false;
+            }
+            left -= count;
+        }
+        left == 0
+    }
+
+    /// The sum of the first `k` counts.
+    pub(crate) fn sum_before(self, k: usize) -> usize
+        requires within { k ≤ length (counts_of self) }
+        requires fits { sum (counts_of self) < 2 ^ 64 }
+        ensures { result ≡ sum (take k (counts_of self.entry)) }
+    {
+        let mut before = 0;
+        for i in 0..k {
+            before += self.get(i) as usize;
+        }
+        before
+    }
+
+    /// The place of a count's first byte.
+    fn place(self, i: usize) -> usize
+        requires { i ≤ self.count }
+        ensures place { result ≡ number_size self.entry.width * i }
+        ensures within { result ≤ length self.entry.bytes.now }
+        ensures room { i < self.entry.count → result + number_size self.entry.width ≤ length self.entry.bytes.now }
+    {
+        match self.width {
+            NumberWidth::Short => 2 * i,
+            NumberWidth::Long => 4 * i,
+        }
+    }
+}

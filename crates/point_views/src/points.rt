@@ -1,0 +1,114 @@
+//! Lists of points.
+
+ghost use Rattle.std.specs.Prelude.{◌≡◌, ◌+◌, ◌*◌, ◌<◌, ◌≤◌, ◌↔◌, [], length, drop, IsTrue, IsSome, IfSome, Some, slice_get, slice_range};
+ghost use Rattle.point_views.specs.Numbers.{point_size};
+ghost use Rattle.point_views.specs.FirstPoint.{first_point, points_in};
+
+use mapping::Point;
+
+use crate::numbers::{NumberWidth, signed_at};
+
+/// Points, one after another in a file's bytes.
+///
+/// # Guarantees
+///
+/// - `bytes` holds the points, and nothing after them.
+#[derive(Clone, Copy, Debug, PartialEq, Eq)]
+pub struct Points<'a> {
+    pub bytes: &'a [u8],
+    /// How many points.
+    pub count: usize,
+    /// How wide each coordinate is.
+    pub width: NumberWidth,
+    pub ghost exact: { point_size width * count ≡ length bytes.now },
+}
+
+impl<'a> Points<'a> {
+    ghost use Rattle.point_views.specs.Points.{points_of};
+
+    /// The first `n` points in the bytes, each coordinate in 16 bits: none exactly where fewer than
+    /// `4 * n` bytes are there.
+    pub fn new16(bytes: &'a [u8], n: usize) -> Option<Points<'a>>
+        ensures room { IsSome result ↔ (4 * n ≤ length bytes.now) }
+        ensures points { IfSome result (λ points. points_of points ≡ points_in NumberWidth.Short n bytes.now) }
+    {
+        if bytes.len() / 4 < n {
+            return None;
+        }
+        Some(Points { bytes: &bytes[..4 * n], count: n, width: NumberWidth::Short })
+    }
+
+    /// The first `n` points in the bytes, each coordinate in 32 bits: none exactly where fewer than
+    /// `8 * n` bytes are there.
+    pub fn new32(bytes: &'a [u8], n: usize) -> Option<Points<'a>>
+        ensures room { IsSome result ↔ (8 * n ≤ length bytes.now) }
+        ensures points { IfSome result (λ points. points_of points ≡ points_in NumberWidth.Long n bytes.now) }
+    {
+        if bytes.len() / 8 < n {
+            return None;
+        }
+        Some(Points { bytes: &bytes[..8 * n], count: n, width: NumberWidth::Long })
+    }
+
+    /// How many points.
+    #[tactic(auto, using(crate::proofs::ItemLemmas::items))]
+    pub fn len(self) -> usize
+        ensures { result ≡ length (points_of self.entry) }
+    {
+        self.count
+    }
+
+    /// Whether there is no point.
+    pub fn is_empty(self) -> bool
+        ensures { IsTrue result ↔ (points_of self.entry ≡ []) }
+    {
+        self.count == 0
+    }
+
+    /// The point at an index.
+    #[tactic(auto, using(crate::proofs::ItemLemmas::items))]
+    pub fn get(self, i: usize) -> Point
+        requires { i < length (points_of self) }
+        ensures { slice_get (points_of self.entry) i ≡ Some result }
+    {
+        point_at(self.bytes, self.place(i), self.width)
+    }
+
+    /// The points from index `from` up to before index `to`.
+    #[tactic(auto, using(crate::proofs::ItemLemmas::items))]
+    pub fn part(self, from: usize, to: usize) -> Points<'a>
+        requires order { from ≤ to }
+        requires within { to ≤ length (points_of self) }
+        ensures { points_of result ≡ slice_range (points_of self.entry) from to }
+    {
+        Points {
+            bytes: &self.bytes[self.place(from)..self.place(to)],
+            count: to - from,
+            width: self.width,
+        }
+    }
+
+    /// The place of a point's first byte; at `count`, the end of the bytes.
+    fn place(self, i: usize) -> usize
+        requires { i ≤ self.count }
+        ensures place { result ≡ point_size self.entry.width * i }
+        ensures within { result ≤ length self.entry.bytes.now }
+        ensures room { i < self.entry.count → result + point_size self.entry.width ≤ length self.entry.bytes.now }
+    {
+        match self.width {
+            NumberWidth::Short => 4 * i,
+            NumberWidth::Long => 8 * i,
+        }
+    }
+}
+
+/// The point at a place: x, and then y.
+fn point_at(bytes: &[u8], place: usize, width: NumberWidth) -> Point
+    requires { place + point_size width ≤ length bytes.now }
+    ensures { result ≡ first_point width (drop place bytes.now) }
+{
+    Point {
+        x: signed_at(bytes, place, width),
+        y: signed_at(bytes, place + width.size(), width),
+    }
+}
