@@ -1,6 +1,6 @@
 //! The canvas: the rows of a surface, each pixel with its colour.
 
-ghost use Rattle.std.specs.Prelude.{◌≡◌, ◌+◌, ◌*◌, ◌<◌, ◌≤◌, ◌^◌, ◌↔◌, Some, IsTrue, IfOk, OnOk, OnErr, slice_get, slice_set};
+ghost use Rattle.std.specs.Prelude.{◌≡◌, ◌+◌, ◌*◌, ◌<◌, ◌≤◌, ◌^◌, ◌↔◌, Some, IsTrue, IfOk, OnOk, OnErr, length, slice_get, slice_set};
 ghost use Rattle.std.specs.Io.KnownBytes.{Appends};
 ghost use Rattle.canvas.specs.CanvasState.{HasPixel, image_of, place_of, unwritten};
 ghost use Rattle.canvas.specs.Ppm.{AppendsFront, ppm_text};
@@ -95,9 +95,10 @@ impl Canvas {
         self.writes
     }
 
-    /// Whether the canvas holds the surface's pixel `(x, y)`.
+    /// Whether the canvas holds the surface's pixel `(x, y)`. There is a colour for each pixel held.
     pub fn has_pixel(&self, x: u32, y: u32) -> bool
-        ensures { IsTrue result ↔ HasPixel self.now x y }
+        ensures pixel { IsTrue result ↔ HasPixel self.now x y }
+        ensures whole { length self.now.colours ≡ self.now.rows * self.now.width }
     {
         x < self.width && self.first <= y && y < self.first + self.rows
     }

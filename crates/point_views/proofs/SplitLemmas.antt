@@ -30,3 +30,6 @@ sum_next_within counts k count at_k =
     let next = sum_by_more_le (λ x. x) counts k 0 (slice_get_within counts k count at_k) in
     let here = get_or_from_slice_get counts k count 0 at_k in
     omega (arith, next, here)
+
+-- what the tactics take to the number of lists
+pub ruleset splits = (length-split_by)

@@ -4,4 +4,5 @@ pub mod FirstPoint
 pub mod Points
 pub mod Counts
 pub mod Split
+pub mod PartedPoints
 pub mod Polys

@@ -47,6 +47,13 @@ impl<'a> Counts<'a> {
         Some(Counts { bytes: &bytes[..4 * n], count: n, width: NumberWidth::Long })
     }
 
+    /// No count.
+    pub(crate) fn empty() -> Counts<'a>
+        ensures { counts_of result ≡ [] }
+    {
+        Counts { bytes: &[], count: 0, width: NumberWidth::Short }
+    }
+
     /// How many counts.
     #[tactic(auto, using(crate::proofs::ItemLemmas::items))]
     pub fn len(self) -> usize

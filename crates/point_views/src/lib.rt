@@ -1,12 +1,27 @@
 //! Lists of points, and lists of such lists, read in place from a file's bytes.
+//!
+//! # What is promised
+//!
+//! - No read here is outside the bytes, and no sum or product wraps, whatever the bytes are and
+//!   whatever number of points a file claims (each function is proved safe for all its inputs).
+//! - A view is a list: `len`, `get` and `part` say what the pairs of numbers in the bytes are
+//!   (`Points`), and `len`, `get`, `split_first` and `lists` how the counts cut them (`Polys`).
+//! - A view is refused exactly where bytes are missing (`Points::new16`, `Points::new32`,
+//!   `Counts::new16`, `Counts::new32`), or where the counts don't add up to the number of points
+//!   (`Polys::new`).
+//! - Nothing here takes memory or copies a point: a view is a slice of the file and a few numbers.
 #![tactic(auto)]
 
 mod counts;
+mod lists;
 mod numbers;
+mod parted_points;
 mod points;
 mod polys;
 
 pub use counts::Counts;
+pub use lists::Lists;
 pub use numbers::NumberWidth;
+pub use parted_points::PartedPoints;
 pub use points::Points;
-pub use polys::{PartedPoints, Polys};
+pub use polys::Polys;

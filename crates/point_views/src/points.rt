@@ -50,6 +50,13 @@ impl<'a> Points<'a> {
         Some(Points { bytes: &bytes[..8 * n], count: n, width: NumberWidth::Long })
     }
 
+    /// No point.
+    pub(crate) fn empty() -> Points<'a>
+        ensures { points_of result ≡ [] }
+    {
+        Points { bytes: &[], count: 0, width: NumberWidth::Short }
+    }
+
     /// How many points.
     #[tactic(auto, using(crate::proofs::ItemLemmas::items))]
     pub fn len(self) -> usize

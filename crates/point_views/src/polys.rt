@@ -1,4 +1,4 @@
-//! Lists of lists of points.
+//! Lists of points: one, or several one after another.
 
 ghost use Rattle.std.specs.Prelude.{◌≡◌, ◌<◌, ◌↔◌, [], ◌∷◌, length, sum, IsTrue, IsSome, IsNone, IfSome, Some, slice_get};
 ghost use Rattle.point_views.specs.Counts.{counts_of};
@@ -6,33 +6,12 @@ ghost use Rattle.point_views.specs.Points.{points_of};
 ghost use Rattle.point_views.specs.Split.{split_by};
 
 use crate::counts::Counts;
-use crate::numbers::NumberWidth;
+use crate::lists::Lists;
+use crate::parted_points::PartedPoints;
 use crate::points::Points;
 
-/// Points cut into lists, one after another, as many points in each as its count says.
-///
-/// # Guarantees
-///
-/// - The counts add up to the number of points.
-#[derive(Clone, Copy, Debug, PartialEq, Eq)]
-pub struct PartedPoints<'a> {
-    pub counts: Counts<'a>,
-    pub points: Points<'a>,
-    pub ghost complete: { sum (counts_of counts) ≡ length (points_of points) },
-}
-
-impl<'a> PartedPoints<'a> {
-    /// The list at an index.
-    fn get(self, k: usize) -> Points<'a>
-        requires { k < length (counts_of self.counts) }
-        ensures { slice_get (split_by (counts_of self.entry.counts) (points_of self.entry.points)) k ≡ Some (points_of result) }
-    {
-        let start = self.counts.sum_before(k);
-        self.points.part(start, start + self.counts.get(k) as usize)
-    }
-}
-
-/// Lists of points ([MS-WMF] 2.3.3.14, [MS-EMF] 2.3.5.32).
+/// Lists of points, as one record draws them: the one list of META_POLYGON or EMR_POLYGON, or the
+/// lists of META_POLYPOLYGON or EMR_POLYPOLYGON.
 #[derive(Clone, Copy, Debug, PartialEq, Eq)]
 pub enum Polys<'a> {
     /// One list.
@@ -43,6 +22,13 @@ pub enum Polys<'a> {
 
 impl<'a> Polys<'a> {
     ghost use Rattle.point_views.specs.Polys.{lists_of};
+
+    /// No list.
+    pub fn empty() -> Polys<'a>
+        ensures { lists_of result ≡ [] }
+    {
+        Polys::Parted(PartedPoints::empty())
+    }
 
     /// One list.
     pub fn one(points: Points<'a>) -> Polys<'a>
@@ -69,7 +55,7 @@ impl<'a> Polys<'a> {
     {
         match self {
             Polys::One(_) => 1,
-            Polys::Parted(parted) => parted.counts.len(),
+            Polys::Parted(parted) => parted.len(),
         }
     }
 
@@ -79,11 +65,12 @@ impl<'a> Polys<'a> {
     {
         match self {
             Polys::One(_) => false,
-            Polys::Parted(parted) => parted.counts.is_empty(),
+            Polys::Parted(parted) => parted.is_empty(),
         }
     }
 
-    /// The list at an index. It goes through the counts before it.
+    /// The list at an index. It adds up the counts before it: to go through all lists in order, use
+    /// `lists` or `split_first`.
     pub fn get(self, k: usize) -> Points<'a>
         requires { k < length (lists_of self) }
         ensures { slice_get (lists_of self.entry) k ≡ Some (points_of result) }
@@ -92,5 +79,29 @@ impl<'a> Polys<'a> {
             Polys::One(points) => points,
             Polys::Parted(parted) => parted.get(k),
         }
+    }
+
+    /// The first list, and the lists after it: none exactly where there is no list.
+    pub fn split_first(self) -> Option<(Points<'a>, Polys<'a>)>
+        ensures none { IsNone result ↔ (lists_of self.entry ≡ []) }
+        ensures lists { IfSome result (λ split. lists_of self.entry ≡ points_of split.0 ∷ lists_of split.1) }
+    {
+        match self {
+            Polys::One(points) => Some((points, Polys::empty())),
+            Polys::Parted(parted) => {
+                if parted.is_empty() {
+                    return None;
+                }
+                let (first, rest) = parted.split_first();
+                Some((first, Polys::Parted(rest)))
+            }
+        }
+    }
+
+    /// The lists in order, each at the cost of one.
+    pub fn lists(self) -> Lists<'a>
+        ensures { lists_of result.rest ≡ lists_of self.entry }
+    {
+        Lists { rest: self }
     }
 }

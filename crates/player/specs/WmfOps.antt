@@ -1,0 +1,46 @@
+-- What a source of a WMF file's operations has left, and what it gives.
+use Rattle.std.specs.Prelude.{◌≡◌, ℕ, zero, suc, ◌-◌, ◌≤◌, ◌==◌, List, if◌then◌else◌, Option, Some, None, Result, Ok, Err}
+use Rattle.draw_ops.specs.declared.fault.Fault.{Fault}
+use Rattle.draw_ops.specs.declared.fault.Fault.TheVariants.{TooManyRecords}
+use Rattle.player.specs.Records.{Record, record_limit, framing_fault, front_of, rest_of}
+use Rattle.player.specs.Wmf.{wmf, wmf_meaning}
+use Rattle.player.specs.Ops.{Content, nothing_left, broken_by, with_step}
+use Rattle.player.specs.Operation.{Operation}
+use Rattle.player.specs.OperationOf.{operation_of}
+use Rattle.player.specs.declared.operation.Operation.{Operation as Op}
+use Rattle.player.specs.declared.wmf_ops.Reading.{Reading}
+use Rattle.player.specs.declared.wmf_ops.Reading.TheVariants.{Records, Ended, Failed}
+
+-- the record in front with what it means, or its first fault
+abbrev meant : Record → Result Operation Fault → Result (Record × Operation) Fault
+meant r (Ok operation) = Ok (r, operation)
+meant r (Err fault) = Err fault
+
+abbrev unless : Option Fault → Result (Record × Operation) Fault → Result (Record × Operation) Fault
+unless None first = first
+unless (Some fault) first = Err fault
+
+abbrev pub first_of : ℕ → List ℕ → Result (Record × Operation) Fault
+first_of place bytes = unless (framing_fault wmf place bytes) (meant (front_of wmf bytes) (wmf_meaning (front_of wmf bytes)))
+
+-- the first record's operation, and what is left behind that record
+abbrev pub first_then : Result (Record × Operation) Fault → Content → Content
+first_then (Err fault) rest = broken_by fault
+first_then (Ok first) rest = with_step first.1 (if first.0.number == wmf.last then nothing_left else rest)
+
+-- the content of the bytes from this place on, of which at most so many records may come
+abbrev pub content_from : ℕ → ℕ → List ℕ → Content
+content_from zero place bytes = broken_by TooManyRecords
+content_from (suc room) place bytes = first_then (first_of place bytes) (content_from room (suc place) (rest_of wmf bytes))
+
+-- what is left at a state of reading
+abbrev pub content_left : Reading → ℕ → List ℕ → Content
+content_left Records place bytes = content_from (record_limit - place) place bytes
+content_left Ended place bytes = nothing_left
+content_left (Failed fault) place bytes = broken_by fault
+
+-- What a call gives: the first operation, and the others are left; or none or the fault at the end, and that stays so.
+abbrev pub Gives : Content → Result (Option Op) Fault → Content → Type 0
+Gives old (Ok (Some operation)) new = old ≡ with_step (operation_of operation) new
+Gives old (Ok None) new = (old ≡ nothing_left) × (new ≡ old)
+Gives old (Err fault) new = (old ≡ broken_by fault) × (new ≡ old)

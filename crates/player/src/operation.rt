@@ -1,0 +1,12 @@
+//! What a record asks for.
+
+use mapping::Colour;
+
+/// One operation.
+#[derive(Clone, Copy, Debug, PartialEq, Eq)]
+pub(crate) enum Operation {
+    /// Without effect, as the end of the file.
+    NoEffect,
+    /// A pixel at a page point, with its colour.
+    Pixel { x: i32, y: i32, colour: Colour },
+}

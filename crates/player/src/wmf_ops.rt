@@ -1,0 +1,100 @@
+//! The operations of a WMF file's records, one at a time.
+
+ghost use Rattle.std.specs.Prelude.{◌≡◌, ◌<◌, ◌≤◌, length, drop, IfOk, OnOk};
+ghost use Rattle.player.specs.Records.{record_limit, rest_of};
+ghost use Rattle.player.specs.Wmf.{wmf, wmf_meaning};
+ghost use Rattle.player.specs.Ops.{IsContent};
+ghost use Rattle.player.specs.OperationOf.{operation_of};
+ghost use Rattle.player.specs.Results.{result_map};
+ghost use Rattle.player.specs.WmfOps.{Gives, first_of};
+ghost use Rattle.player.specs.WmfRecord.{record_of};
+
+use crate::operation::Operation;
+use crate::wmf_records::{WmfRecord, front, meaning};
+use draw_ops::Fault;
+use std::marker::Model;
+
+/// How far a source has come.
+#[derive(Clone, Copy, Debug, PartialEq, Eq)]
+pub(crate) enum Reading {
+    /// Records are left.
+    Records,
+    /// The end record was given.
+    Ended,
+    /// A record has this fault.
+    Failed(Fault),
+}
+
+/// A source of operations over the bytes of a file's records.
+#[derive(Debug, Drop)]
+pub(crate) struct WmfOps<'a> {
+    rest: &'a [u8],
+    /// The number of the record in front of the rest.
+    place: u32,
+    reading: Reading,
+}
+
+impl<'a> Model for WmfOps<'a> {
+    ghost use Rattle.std.specs.Prelude.{◌≤◌};
+    ghost use Rattle.player.specs.Ops.{Content};
+
+    ghost Value = { Content };
+
+    ghost use Rattle.player.specs.Records.{record_limit};
+    ghost use Rattle.player.specs.WmfOps.{content_left};
+
+    ghost view = { λ a. content_left a.reading a.place a.rest.now };
+
+    ghost invariant = { λ a. a.place ≤ record_limit };
+}
+
+impl<'a> WmfOps<'a> {
+    /// The source over the bytes behind a file's headers.
+    pub(crate) fn new(bytes: &'a [u8]) -> WmfOps<'a>
+        ensures content { IsContent wmf wmf_meaning bytes.entry.now result }
+        ensures short { length result.steps ≤ record_limit }
+    {
+        WmfOps {
+            rest: bytes,
+            place: 0,
+            reading: Reading::Records,
+        }
+    }
+
+    /// The next operation, none behind the end record, or the fault at which the records break.
+    pub(crate) fn next_op(&mut self) -> Result<Option<Operation>, Fault>
+        ensures { Gives self.old result self.new }
+    {
+        match self.reading {
+            Reading::Ended => Ok(None),
+            Reading::Failed(fault) => Err(fault),
+            Reading::Records => match read(self.rest, self.place) {
+                Err(fault) => {
+                    self.reading = Reading::Failed(fault);
+                    Err(fault)
+                }
+                Ok((record, operation)) => {
+                    if record.is_last() {
+                        self.reading = Reading::Ended;
+                    } else {
+                        self.rest = &self.rest[record.bytes.len()..];
+                        self.place += 1;
+                    }
+                    Ok(Some(operation))
+                }
+            },
+        }
+    }
+}
+
+/// The record in front of the bytes with what it asks for, or its first fault.
+fn read(bytes: &[u8], place: u32) -> Result<(WmfRecord<'_>, Operation), Fault>
+    ensures value { first_of place bytes.entry.now ≡ result_map (λ r. (record_of r.0, operation_of r.1)) result }
+    ensures rest { IfOk result (λ r. drop (length r.0.bytes.now) bytes.entry.now ≡ rest_of wmf bytes.entry.now) }
+    ensures within { IfOk result (λ r. length r.0.bytes.now ≤ length bytes.entry.now) }
+    ensures below_limit { OnOk result (place < record_limit) }
+{
+    let record = front(bytes, place)?;
+    let operation = meaning(record)?;
+    Ok((record, operation))
+}
