@@ -5,10 +5,14 @@ use Rattle.mapping.specs.declared.geometry.Point.{Point}
 use Rattle.player.specs.Layer.{is_at}
 use Rattle.player.specs.Apply.{map_places, count_places}
 
--- the number, if it isn't negative
-abbrev pub natural_of : ℤ → Option ℕ
-natural_of (pos n) = Some n
-natural_of (negsuc n) = None
+-- a column and a row, if neither is negative
+abbrev pub naturals : ℤ → ℤ → Option (ℕ × ℕ)
+naturals (pos x) (pos y) = Some (x, y)
+naturals (pos x) (negsuc y) = None
+naturals (negsuc x) y = None
+
+abbrev pub pixel_under : Point → Option (ℕ × ℕ)
+pixel_under point = naturals point.x point.y
 
 -- the point lands on the pixel at place k, where a row has this many
 abbrev pub lands_at : Point → ℕ → ℕ → Bool

@@ -23,11 +23,11 @@ pub record Opened : Type 0 where
 unfoldable pub file_limit : ℕ
 file_limit = 67108864
 
--- META_HEADER, [MS-WMF] 2.3.2.2: a type of 1 or 2, a size of 9 words, and one of two versions
-abbrev pub is_standard_header : List ℕ → Bool
-is_standard_header bytes =
-    (number_at 2 0 bytes == 1 || number_at 2 0 bytes == 2) && number_at 2 2 bytes == 9
-    && (number_at 2 4 bytes == 0x0100 || number_at 2 4 bytes == 0x0300)
+-- META_HEADER at a place, [MS-WMF] 2.3.2.2: a type of 1 or 2, a size of 9 words, and one of two versions
+abbrev pub is_standard_header : ℕ → List ℕ → Bool
+is_standard_header place file =
+    (number_at 2 place file == 1 || number_at 2 place file == 2) && number_at 2 (place + 2) file == 9
+    && (number_at 2 (place + 4) file == 0x0100 || number_at 2 (place + 4) file == 0x0300)
 
 -- the box of META_PLACEABLE, [MS-WMF] 2.3.2.3: left and top, and the sides, negative where right or bottom comes first
 abbrev pub box_left : List ℕ → ℤ
@@ -57,7 +57,7 @@ opened_placeable file = record {
 abbrev pub placeable_file : List ℕ → Result Opened Fault
 placeable_file file =
     if nat_lt (length file) 40 then Err ShortHeader
-    else (if not (is_standard_header (drop 22 file)) then Err BadHeader
+    else (if not (is_standard_header 22 file) then Err BadHeader
     else (if unsigned_abs (box_width file) == 0 || unsigned_abs (box_height file) == 0 then Err NoFrame
     else Ok (opened_placeable file)))
 

@@ -5,4 +5,4 @@ use Rattle.player.specs.declared.operation.Operation.TheVariants.{NoEffect, Pixe
 
 abbrev pub operation_of : Op → Operation
 operation_of NoEffect = no_effect
-operation_of (Pixel x y colour) = pixel x y colour
+operation_of (Pixel point colour) = pixel point.x point.y colour

@@ -17,18 +17,21 @@ pub data Outcome : Type 0 where
   refused : Option ℕ → Fault → Outcome
 
 -- at the end of the list: the image, or the fault behind the last record
-abbrev ended : Option Fault → ℕ → Image → Outcome
+abbrev pub ended : Option Fault → ℕ → Image → Outcome
 ended None place image = shown image
 ended (Some fault) place image = refused (Some place) fault
+
+-- the fault, where there is one, or how the run goes on
+abbrev pub unless_refused : Option Fault → ℕ → Outcome → Outcome
+unless_refused None place outcome = outcome
+unless_refused (Some fault) place outcome = refused (Some place) fault
 
 -- The operations from this place on: the first fault ends the run; without one the layers are applied in order, in the state before.
 abbrev pub run_steps : List Operation → Option Fault → ℕ → State → Surface → Image → Outcome
 run_steps [] fault place state s image = ended fault place image
 run_steps (op ∷ ops) fault place state s image =
-    elim (fault_of op state s) [
-      | None ↦ run_steps ops fault (suc place) (next op state) s (apply_all (layers_of op state) state.clip s image)
-      | Some f ↦ refused (Some place) f
-    ]
+    unless_refused (fault_of op state s) place
+    (run_steps ops fault (suc place) (next op state) s (apply_all (layers_of op state) state.clip s image))
 
 -- the pixels written by all operations in order
 abbrev pub writes_of_steps : List Operation → State → Surface → ℕ
@@ -43,7 +46,7 @@ surface_of o width height = record { width = width; height = height; frame_width
 abbrev pub IsFileContent : Format → List ℕ → Content → Type 0
 IsFileContent placeable file content = IsContent wmf wmf_meaning (records_of placeable file) content
 
-abbrev RunOpened : Result Opened Fault → List ℕ → ℕ → ℕ → Image → Outcome → Type 0
+abbrev pub RunOpened : Result Opened Fault → List ℕ → ℕ → ℕ → Image → Outcome → Type 0
 RunOpened (Err fault) file width height image outcome = outcome ≡ refused None fault
 RunOpened (Ok o) file width height image outcome =
     (content : Content) × IsFileContent o.format file content
@@ -54,7 +57,7 @@ RunOpened (Ok o) file width height image outcome =
 abbrev pub Run : List ℕ → ℕ → ℕ → Image → Outcome → Type 0
 Run file width height image outcome = RunOpened (opened file) file width height image outcome
 
-abbrev WritesOpened : Result Opened Fault → List ℕ → ℕ → ℕ → ℕ → Type 0
+abbrev pub WritesOpened : Result Opened Fault → List ℕ → ℕ → ℕ → ℕ → Type 0
 WritesOpened (Err fault) file width height writes = ⊥
 WritesOpened (Ok o) file width height writes =
     (content : Content) × IsFileContent o.format file content × (writes ≡ writes_of_steps content.steps (start_of o) (surface_of o width height))

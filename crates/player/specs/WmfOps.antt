@@ -2,6 +2,7 @@
 use Rattle.std.specs.Prelude.{◌≡◌, ℕ, zero, suc, ◌-◌, ◌≤◌, ◌==◌, List, if◌then◌else◌, Option, Some, None, Result, Ok, Err}
 use Rattle.draw_ops.specs.declared.fault.Fault.{Fault}
 use Rattle.draw_ops.specs.declared.fault.Fault.TheVariants.{TooManyRecords}
+use Rattle.draw_ops.specs.Fault.{IsInRecord}
 use Rattle.player.specs.Records.{Record, record_limit, framing_fault, front_of, rest_of}
 use Rattle.player.specs.Wmf.{wmf, wmf_meaning}
 use Rattle.player.specs.Ops.{Content, nothing_left, broken_by, with_step}
@@ -12,11 +13,11 @@ use Rattle.player.specs.declared.wmf_ops.Reading.{Reading}
 use Rattle.player.specs.declared.wmf_ops.Reading.TheVariants.{Records, Ended, Failed}
 
 -- the record in front with what it means, or its first fault
-abbrev meant : Record → Result Operation Fault → Result (Record × Operation) Fault
+abbrev pub meant : Record → Result Operation Fault → Result (Record × Operation) Fault
 meant r (Ok operation) = Ok (r, operation)
 meant r (Err fault) = Err fault
 
-abbrev unless : Option Fault → Result (Record × Operation) Fault → Result (Record × Operation) Fault
+abbrev pub unless : Option Fault → Result (Record × Operation) Fault → Result (Record × Operation) Fault
 unless None first = first
 unless (Some fault) first = Err fault
 
@@ -38,6 +39,12 @@ abbrev pub content_left : Reading → ℕ → List ℕ → Content
 content_left Records place bytes = content_from (record_limit - place) place bytes
 content_left Ended place bytes = nothing_left
 content_left (Failed fault) place bytes = broken_by fault
+
+-- a fault that a source keeps lies in a record
+abbrev pub IsReading : Reading → Type 0
+IsReading Records = Unit {0}
+IsReading Ended = Unit {0}
+IsReading (Failed fault) = IsInRecord fault
 
 -- What a call gives: the first operation, and the others are left; or none or the fault at the end, and that stays so.
 abbrev pub Gives : Content → Result (Option Op) Fault → Content → Type 0

@@ -1,6 +1,7 @@
 //! Opening a file: its frame, its start map, and where its records begin.
 
-ghost use Rattle.std.specs.Prelude.{◌≡◌, ◌-ℤ◌, ◌+◌, ◌≤◌, unsigned_abs, IfOk, length, drop};
+ghost use Rattle.std.specs.Prelude.{◌≡◌, ◌-ℤ◌, ◌+◌, ◌≤◌, ◌==◌, ◌||◌, unsigned_abs, is_none, IfSome, IfOk, IfErr, ◌<◌, length, drop};
+ghost use Rattle.draw_ops.specs.FaultTable.{row_of};
 ghost use Rattle.player.specs.Bytes.{short_at};
 ghost use Rattle.player.specs.Opening.{opened, is_placeable, is_standard_header, placeable_file};
 ghost use Rattle.player.specs.OpenedFile.{opened_of};
@@ -16,8 +17,7 @@ const FILE_LIMIT: usize = 67108864;
 /// The first four bytes of META_PLACEABLE ([MS-WMF] 2.3.2.3), as a number.
 const PLACEABLE_KEY: u32 = 0x9ac6cdd7;
 
-/// The bytes of META_PLACEABLE, and of it and META_HEADER.
-const PLACEABLE: usize = 22;
+/// The bytes of META_PLACEABLE and META_HEADER.
 const HEADERS: usize = 40;
 
 /// An opened file.
@@ -34,6 +34,7 @@ pub(crate) struct OpenedFile<'a> {
 pub(crate) fn open(file: &[u8]) -> Result<OpenedFile<'_>, Fault>
     ensures opened { opened file.entry.now ≡ result_map opened_of result }
     ensures records { IfOk result (λ o. o.records.now ≡ drop 40 file.entry.now) }
+    ensures in_no_record { IfErr result (λ fault. (row_of fault).code < 10) }
 {
     if file.len() > FILE_LIMIT {
         return Err(Fault::TooLong);
@@ -55,44 +56,55 @@ fn begins_placeable(file: &[u8]) -> bool
 fn open_placeable(file: &[u8]) -> Result<OpenedFile<'_>, Fault>
     ensures opened { placeable_file file.entry.now ≡ result_map opened_of result }
     ensures records { IfOk result (λ o. o.records.now ≡ drop 40 file.entry.now) }
+    ensures in_no_record { IfErr result (λ fault. (row_of fault).code < 10) }
 {
     if file.len() < HEADERS {
         return Err(Fault::ShortHeader);
     }
-    if !has_standard_header(&file[PLACEABLE..]) {
+    if !has_standard_header(file) {
         return Err(Fault::BadHeader);
     }
     let corner = Point {
-        x: i32::from(signed_at(file, 6)),
-        y: i32::from(signed_at(file, 8)),
+        x: coordinate(file, 6),
+        y: coordinate(file, 8),
     };
     let sides = Point {
         x: side(file, 6, 10),
         y: side(file, 8, 12),
     };
-    let Some(frame) = Frame::new(sides.x.unsigned_abs(), sides.y.unsigned_abs()) else {
+    let Some(frame) = frame_of(sides) else {
         return Err(Fault::NoFrame);
     };
+    let (_, records) = file.split_at(HEADERS);
     Ok(OpenedFile {
         frame,
         start_map: PageMap::placeable(corner, sides),
-        records: &file[HEADERS..],
+        records,
     })
 }
 
-/// Whether META_HEADER ([MS-WMF] 2.3.2.2) has a type, a size and a version of the standard's.
-fn has_standard_header(header: &[u8]) -> bool
-    requires { 18 ≤ length header.now }
-    ensures { result ≡ is_standard_header header.now }
+/// Whether META_HEADER ([MS-WMF] 2.3.2.2), behind META_PLACEABLE, has a type, a size and a version
+/// of the standard's.
+fn has_standard_header(file: &[u8]) -> bool
+    requires { 40 ≤ length file.now }
+    ensures { result ≡ is_standard_header 22 file.now }
 {
-    let kind = word_at(header, 0);
-    let version = word_at(header, 4);
+    let kind = word_at(file, 22);
+    let version = word_at(file, 26);
     (kind == 1 || kind == 2)
-        && word_at(header, 2) == 9
+        && word_at(file, 24) == 9
         && (version == 0x0100 || version == 0x0300)
 }
 
-/// A side of the box, from one number of the header to another.
+/// A coordinate of the box.
+fn coordinate(file: &[u8], place: usize) -> i32
+    requires { place + 2 ≤ length file.now }
+    ensures { result ≡ short_at place file.now }
+{
+    i32::from(signed_at(file, place))
+}
+
+/// A side of the box, from one coordinate to another.
 fn side(file: &[u8], from: usize, to: usize) -> i32
     requires from { from + 2 ≤ length file.now }
     requires to { to + 2 ≤ length file.now }
@@ -100,4 +112,15 @@ fn side(file: &[u8], from: usize, to: usize) -> i32
     ensures bound { unsigned_abs result ≤ 65535 }
 {
     i32::from(signed_at(file, to)) - i32::from(signed_at(file, from))
+}
+
+/// The frame of a box with these sides, or none where one of them is 0.
+fn frame_of(sides: Point) -> Option<Frame>
+    requires wide { unsigned_abs sides.x ≤ 65535 }
+    requires high { unsigned_abs sides.y ≤ 65535 }
+    ensures none { is_none result ≡ (unsigned_abs sides.x == 0 || unsigned_abs sides.y == 0) }
+    ensures width { IfSome result (λ frame. frame.width ≡ unsigned_abs sides.x) }
+    ensures height { IfSome result (λ frame. frame.height ≡ unsigned_abs sides.y) }
+{
+    Frame::new(sides.x.unsigned_abs(), sides.y.unsigned_abs())
 }

@@ -1,6 +1,6 @@
 //! What a record asks for.
 
-use mapping::Colour;
+use mapping::{Colour, Point};
 
 /// One operation.
 #[derive(Clone, Copy, Debug, PartialEq, Eq)]
@@ -8,5 +8,5 @@ pub(crate) enum Operation {
     /// Without effect, as the end of the file.
     NoEffect,
     /// A pixel at a page point, with its colour.
-    Pixel { x: i32, y: i32, colour: Colour },
+    Pixel { point: Point, colour: Colour },
 }

@@ -1,6 +1,7 @@
 //! The operations of a WMF file's records, one at a time.
 
-ghost use Rattle.std.specs.Prelude.{◌≡◌, ◌<◌, ◌≤◌, length, drop, IfOk, OnOk};
+ghost use Rattle.std.specs.Prelude.{◌≡◌, ◌<◌, ◌≤◌, length, drop, IfOk, IfErr, OnOk};
+ghost use Rattle.draw_ops.specs.Fault.{IsInRecord};
 ghost use Rattle.player.specs.Records.{record_limit, rest_of};
 ghost use Rattle.player.specs.Wmf.{wmf, wmf_meaning};
 ghost use Rattle.player.specs.Ops.{IsContent};
@@ -41,11 +42,11 @@ impl<'a> Model for WmfOps<'a> {
     ghost Value = { Content };
 
     ghost use Rattle.player.specs.Records.{record_limit};
-    ghost use Rattle.player.specs.WmfOps.{content_left};
+    ghost use Rattle.player.specs.WmfOps.{IsReading, content_left};
 
     ghost view = { λ a. content_left a.reading a.place a.rest.now };
 
-    ghost invariant = { λ a. a.place ≤ record_limit };
+    ghost invariant = { λ a. (a.place ≤ record_limit) × IsReading a.reading };
 }
 
 impl<'a> WmfOps<'a> {
@@ -63,7 +64,8 @@ impl<'a> WmfOps<'a> {
 
     /// The next operation, none behind the end record, or the fault at which the records break.
     pub(crate) fn next_op(&mut self) -> Result<Option<Operation>, Fault>
-        ensures { Gives self.old result self.new }
+        ensures gives { Gives self.old result self.new }
+        ensures in_record { IfErr result IsInRecord }
     {
         match self.reading {
             Reading::Ended => Ok(None),
@@ -93,6 +95,7 @@ fn read(bytes: &[u8], place: u32) -> Result<(WmfRecord<'_>, Operation), Fault>
     ensures rest { IfOk result (λ r. drop (length r.0.bytes.now) bytes.entry.now ≡ rest_of wmf bytes.entry.now) }
     ensures within { IfOk result (λ r. length r.0.bytes.now ≤ length bytes.entry.now) }
     ensures below_limit { OnOk result (place < record_limit) }
+    ensures in_record { IfErr result IsInRecord }
 {
     let record = front(bytes, place)?;
     let operation = meaning(record)?;

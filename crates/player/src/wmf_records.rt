@@ -1,6 +1,7 @@
 //! WMF records: the record in front of some bytes, and what a record means.
 
-ghost use Rattle.std.specs.Prelude.{◌≡◌, ◌==◌, ◌||◌, ◌≤◌, IfOk, length};
+ghost use Rattle.std.specs.Prelude.{◌≡◌, ◌==◌, ◌||◌, ◌≤◌, IfOk, IfErr, length};
+ghost use Rattle.draw_ops.specs.Fault.{IsInRecord};
 ghost use Rattle.player.specs.Results.{result_err, result_map};
 ghost use Rattle.player.specs.Records.{framing_fault, front_of, size_of};
 ghost use Rattle.player.specs.Wmf.{set_pixel, wmf, wmf_meaning};
@@ -10,6 +11,7 @@ ghost use Rattle.player.specs.WmfRecord.{record_of};
 use crate::numbers::{byte_at, colour_at, long_at, signed_at, word_at};
 use crate::operation::Operation;
 use draw_ops::Fault;
+use mapping::Point;
 
 /// How many records a file may have, the end record included.
 pub(crate) const RECORD_LIMIT: u32 = 1048576;
@@ -38,12 +40,13 @@ impl<'a> WmfRecord<'a> {
 }
 
 /// The record in front of the bytes, at this place in the file, or the first fault of its framing.
+#[tactic(auto, unfolding(crate::specs::Records::record_limit))]
 pub(crate) fn front(bytes: &[u8], place: u32) -> Result<WmfRecord<'_>, Fault>
     ensures fault { framing_fault wmf place bytes.entry.now ≡ result_err result }
     ensures record { IfOk result (λ r. record_of r ≡ front_of wmf bytes.entry.now) }
     ensures size { IfOk result (λ r. length r.bytes.now ≡ size_of wmf bytes.entry.now) }
     ensures within { IfOk result (λ r. length r.bytes.now ≤ length bytes.entry.now) }
-    ensures head { IfOk result (λ r. 6 ≤ length r.bytes.now) }
+    ensures in_record { IfErr result IsInRecord }
 {
     if place >= RECORD_LIMIT {
         return Err(Fault::TooManyRecords);
@@ -74,7 +77,8 @@ fn size(bytes: &[u8]) -> usize
 
 /// What a record asks for, or the first fault in its number, its parameters or its values.
 pub(crate) fn meaning(record: WmfRecord<'_>) -> Result<Operation, Fault>
-    ensures { wmf_meaning (record_of record.entry) ≡ result_map operation_of result }
+    ensures value { wmf_meaning (record_of record.entry) ≡ result_map operation_of result }
+    ensures in_record { IfErr result IsInRecord }
 {
     match record.function {
         META_EOF => Ok(Operation::NoEffect),
@@ -85,7 +89,8 @@ pub(crate) fn meaning(record: WmfRecord<'_>) -> Result<Operation, Fault>
 
 /// META_SETPIXEL ([MS-WMF] 2.3.3.19): the colour, y and x.
 fn pixel(bytes: &[u8]) -> Result<Operation, Fault>
-    ensures { set_pixel bytes.now ≡ result_map operation_of result }
+    ensures value { set_pixel bytes.now ≡ result_map operation_of result }
+    ensures in_record { IfErr result IsInRecord }
 {
     if bytes.len() < 14 {
         return Err(Fault::BadParams);
@@ -94,8 +99,10 @@ fn pixel(bytes: &[u8]) -> Result<Operation, Fault>
         return Err(Fault::PaletteColour);
     }
     Ok(Operation::Pixel {
-        x: i32::from(signed_at(bytes, 12)),
-        y: i32::from(signed_at(bytes, 10)),
+        point: Point {
+            x: i32::from(signed_at(bytes, 12)),
+            y: i32::from(signed_at(bytes, 10)),
+        },
         colour: colour_at(bytes, 6),
     })
 }

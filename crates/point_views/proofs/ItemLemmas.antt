@@ -1,9 +1,14 @@
--- Items of one size, one after another: how many, which one stands at an index, and a part of them.
+-- Items of one size, one after another: how many there are, which one stands at an index, and a part of them. Points and
+-- counts are both such items, at either width.
 use Rattle.std.proofs.Common.{◌≡◌, ℕ, zero, suc, ◌+◌, ◌-◌, ◌*◌, ◌<◌, ◌≤◌, List, [], ◌∷◌, length, take, drop, refl, sym, ap, ◌∙◌, arith, Some}
 use Rattle.std.specs.List.{slice_get, slice_range}
 use Rattle.std.proofs.lemmas.List.{drop-drop, drop-take}
 use Rattle.std.proofs.Math.Nat.{mul-zero, mul-sub}
-use Rattle.point_views.specs.Items.{items_in}
+
+-- the first n items of `size` bytes each: `item` says what its bytes are, the first of what is left
+abbrev pub items_in : {A : Type 0} → (List ℕ → A) → ℕ → ℕ → List ℕ → List A
+items_in item size zero bytes = []
+items_in item size (suc n) bytes = item bytes ∷ items_in item size n (drop size bytes)
 
 pub length-items_in : {A : Type 0} (item : List ℕ → A) (size n : ℕ) (bytes : List ℕ) → length (items_in item size n bytes) ≡ n
 length-items_in item size zero bytes = refl
@@ -19,7 +24,7 @@ slice_get-items_in item size (suc n) zero bytes inside = rw (mul-zero size) refl
 slice_get-items_in item size (suc n) (suc i) bytes inside =
     slice_get-items_in item size n i (drop size bytes) (omega arith) ∙ ap (λ rest. Some (item rest)) (drop_next size i bytes)
 
-pub take-items_in : {A : Type 0} (item : List ℕ → A) (size k n : ℕ) (bytes : List ℕ) → k ≤ n → take k (items_in item size n bytes) ≡ items_in item size k bytes
+take-items_in : {A : Type 0} (item : List ℕ → A) (size k n : ℕ) (bytes : List ℕ) → k ≤ n → take k (items_in item size n bytes) ≡ items_in item size k bytes
 take-items_in item size zero n bytes inside = refl
 take-items_in item size (suc k) zero bytes inside = absurd (omega arith)
 take-items_in item size (suc k) (suc n) bytes inside =
@@ -30,12 +35,6 @@ drop-items_in item size zero m n bytes whole = let same : n ≡ m = omega arith 
 drop-items_in item size (suc k) m zero bytes whole = absurd (omega arith)
 drop-items_in item size (suc k) m (suc n) bytes whole =
     drop-items_in item size k m n (drop size bytes) (omega arith) ∙ ap (items_in item size m) (drop_next size k bytes)
-
--- a part of the items
-pub slice_range-items_in : {A : Type 0} (item : List ℕ → A) (size n from to : ℕ) (bytes : List ℕ) → from ≤ to → to ≤ n → slice_range (items_in item size n bytes) from to ≡ items_in item size (to - from) (drop (size * from) bytes)
-slice_range-items_in item size n from to bytes order within =
-    ap (take (to - from)) (drop-items_in item size from (n - from) n bytes (omega arith))
-    ∙ take-items_in item size (to - from) (n - from) (drop (size * from) bytes) (omega arith)
 
 -- an item reads no byte after its own
 pub record IsLocal {A : Type 0} (item : List ℕ → A) (size : ℕ) : Type 0 where
@@ -51,14 +50,12 @@ items_in-take item size (suc n) m bytes local inside =
     let rest = items_in-take item size n (m - size) (drop size bytes) local (omega arith) in
     rw (first, moved, rest) refl
 
--- the items in the bytes of a part are a part of the items
+-- the items in a part of the bytes are a part of the items
 pub items_in-slice_range : {A : Type 0} (item : List ℕ → A) (size n from to start end : ℕ) (bytes : List ℕ) → IsLocal item size → from ≤ to → to ≤ n → start ≡ size * from → end ≡ size * to → items_in item size (to - from) (slice_range bytes start end) ≡ slice_range (items_in item size n bytes) from to
 items_in-slice_range item size n from to start end bytes local order within starts ends =
     let length : size * (to - from) ≡ end - start = rw (starts, ends, mul-sub size to from) refl in
     let cut = items_in-take item size (to - from) (end - start) (drop start bytes) local (omega (arith, length)) in
-    let part = slice_range-items_in item size n from to bytes order within in
     let place : drop start bytes ≡ drop (size * from) bytes = ap (λ k. drop k bytes) starts in
-    cut ∙ ap (items_in item size (to - from)) place ∙ sym part
-
--- what the tactics take to a view's length and its item at an index
-pub ruleset items = (length-items_in, slice_get-items_in)
+    let dropped = drop-items_in item size from (n - from) n bytes (omega arith) in
+    let taken = take-items_in item size (to - from) (n - from) (drop (size * from) bytes) (omega arith) in
+    cut ∙ ap (items_in item size (to - from)) place ∙ sym (ap (take (to - from)) dropped ∙ taken)

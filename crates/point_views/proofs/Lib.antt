@@ -1,4 +1,5 @@
 pub mod ItemLemmas
+pub mod NumberLemmas
 pub mod PointLemmas
 pub mod CountLemmas
 pub mod SplitLemmas

@@ -1,46 +1,32 @@
--- A number and a point read no byte after their own.
-use Rattle.std.proofs.Common.{◌≡◌, ℕ, ◌+◌, ◌-◌, ◌*◌, ◌≤◌, List, length, take, drop, ap, ◌∙◌, arith, refl}
-use Rattle.std.specs.Int.{w16, w32, cast_signed}
-use Rattle.std.specs.List.{slice_range}
-use Rattle.std.proofs.lemmas.List.{drop-take}
-use Rattle.byteorder.specs.Numbers.{little_from-take}
-use Rattle.point_views.specs.Numbers.{number_size, point_size, unsigned_number, signed_number}
-use Rattle.point_views.specs.FirstPoint.{first_point, points_in}
+-- Points in bytes: how many, the point at an index, and a part of them.
+use Rattle.std.proofs.Common.{◌≡◌, ℕ, zero, suc, ◌-◌, ◌*◌, ◌<◌, ◌≤◌, List, ◌∷◌, length, take, drop, ap, arith, refl, Some}
+use Rattle.std.specs.List.{slice_get, slice_range}
+use Rattle.point_views.specs.Numbers.{point_size, first_point}
+use Rattle.point_views.specs.Points.{points_in}
 use Rattle.point_views.specs.declared.numbers.NumberWidth.{NumberWidth}
-use Rattle.point_views.specs.declared.numbers.NumberWidth.TheVariants.{Short, Long}
-use Rattle.point_views.proofs.ItemLemmas.{IsLocal, length-items_in, items_in-take, items_in-slice_range}
+use Rattle.point_views.proofs.ItemLemmas.{items_in, length-items_in, slice_get-items_in, items_in-take, items_in-slice_range}
+use Rattle.point_views.proofs.NumberLemmas.{IsLocal-first_point}
 
-unsigned_number-take : (width : NumberWidth) (m : ℕ) (bytes : List ℕ) → number_size width ≤ m → unsigned_number width (take m bytes) ≡ unsigned_number width bytes
-unsigned_number-take width m bytes inside = little_from-take 0 (number_size width) m bytes (omega arith)
-
-signed_number-take : (width : NumberWidth) (m : ℕ) (bytes : List ℕ) → number_size width ≤ m → signed_number width (take m bytes) ≡ signed_number width bytes
-signed_number-take Short m bytes inside = ap (cast_signed w16) (unsigned_number-take Short m bytes inside)
-signed_number-take Long m bytes inside = ap (cast_signed w32) (unsigned_number-take Long m bytes inside)
-
-pub IsLocal-unsigned_number : (width : NumberWidth) → IsLocal (unsigned_number width) (number_size width)
-IsLocal-unsigned_number width = record { reads = unsigned_number-take width }
-
-first_point-take : (width : NumberWidth) (m : ℕ) (bytes : List ℕ) → point_size width ≤ m → first_point width (take m bytes) ≡ first_point width bytes
-first_point-take width m bytes inside =
-    let size = number_size width in
-    let x = signed_number-take width m bytes (omega arith) in
-    let moved : drop size (take m bytes) ≡ take (m - size) (drop size bytes) =
-    ap (λ k. drop size (take k bytes)) (omega arith) ∙ drop-take size (m - size) bytes in
-    let y = signed_number-take width (m - size) (drop size bytes) (omega arith) in
-    rw (x, moved, y) refl
-
-pub IsLocal-first_point : (width : NumberWidth) → IsLocal (first_point width) (point_size width)
-IsLocal-first_point width = record { reads = first_point-take width }
+-- points are items
+points_in-items : (width : NumberWidth) (n : ℕ) (bytes : List ℕ) → points_in width n bytes ≡ items_in (first_point width) (point_size width) n bytes
+points_in-items width zero bytes = refl
+points_in-items width (suc n) bytes = ap (λ rest. first_point width bytes ∷ rest) (points_in-items width n (drop (point_size width) bytes))
 
 pub length-points_in : (width : NumberWidth) (n : ℕ) (bytes : List ℕ) → length (points_in width n bytes) ≡ n
-length-points_in width n bytes = length-items_in (first_point width) (point_size width) n bytes
+length-points_in width n bytes = rw (points_in-items width n bytes) (length-items_in _ _ n bytes)
 
--- the points in the bytes of a part are a part of the points
-pub points_in-slice_range : (width : NumberWidth) (n from to start end : ℕ) (bytes : List ℕ) → from ≤ to → to ≤ n → start ≡ point_size width * from → end ≡ point_size width * to → points_in width (to - from) (slice_range bytes start end) ≡ slice_range (points_in width n bytes) from to
-points_in-slice_range width n from to start end bytes =
-    items_in-slice_range (first_point width) (point_size width) n from to start end bytes (IsLocal-first_point width)
+pub slice_get-points_in : (width : NumberWidth) (n i : ℕ) (bytes : List ℕ) → i < n → slice_get (points_in width n bytes) i ≡ Some (first_point width (drop (point_size width * i) bytes))
+slice_get-points_in width n i bytes inside = rw (points_in-items width n bytes) (slice_get-items_in (first_point width) (point_size width) n i bytes inside)
 
--- n points need no byte after theirs
+-- n points read no byte after theirs
 pub points_in-take : (width : NumberWidth) (n end : ℕ) (bytes : List ℕ) → end ≡ point_size width * n → points_in width n (take end bytes) ≡ points_in width n bytes
 points_in-take width n end bytes ends =
-    items_in-take (first_point width) (point_size width) n end bytes (IsLocal-first_point width) (omega (arith, ends))
+    rw (points_in-items width n (take end bytes), points_in-items width n bytes) (items_in-take (first_point width) (point_size width) n end bytes (IsLocal-first_point width) (omega (arith, ends)))
+
+-- the points in a part of the bytes are a part of the points
+pub points_in-slice_range : (width : NumberWidth) (n from to start end : ℕ) (bytes : List ℕ) → from ≤ to → to ≤ n → start ≡ point_size width * from → end ≡ point_size width * to → points_in width (to - from) (slice_range bytes start end) ≡ slice_range (points_in width n bytes) from to
+points_in-slice_range width n from to start end bytes order within starts ends =
+    rw (points_in-items width (to - from) (slice_range bytes start end), points_in-items width n bytes) (items_in-slice_range (first_point width) (point_size width) n from to start end bytes (IsLocal-first_point width) order within starts ends)
+
+-- what the tactics take to a view's length and its point at an index
+pub ruleset points = (length-points_in, slice_get-points_in, points_in-take, points_in-slice_range)

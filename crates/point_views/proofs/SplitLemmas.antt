@@ -1,7 +1,7 @@
 -- A list cut into lists: how many, and where the list at an index stands.
-use Rattle.std.proofs.Common.{◌≡◌, ℕ, zero, suc, ◌+◌, ◌-◌, ◌<◌, ◌≤◌, List, [], ◌∷◌, length, take, drop, get_or, sum, refl, sym, ap, ◌∙◌, arith, Some}
+use Rattle.std.proofs.Common.{◌≡◌, ℕ, zero, suc, ◌+◌, ◌≤◌, List, [], ◌∷◌, length, take, drop, sum, refl, sym, ap, ◌∙◌, arith, Some}
 use Rattle.std.specs.List.{slice_get, slice_range}
-use Rattle.std.proofs.lemmas.List.{drop-drop}
+use Rattle.std.proofs.lemmas.List.{drop-drop, length-take, length-drop}
 use Rattle.std.proofs.lemmas.List.Sums.{sum_by-cons, sum_by_more, sum_by_more_le}
 use Rattle.std.proofs.lemmas.Option.{same_Some, slice_get_within, get_or_from_slice_get}
 use Rattle.point_views.specs.Split.{split_by}
@@ -31,5 +31,19 @@ sum_next_within counts k count at_k =
     let here = get_or_from_slice_get counts k count 0 at_k in
     omega (arith, next, here)
 
+-- the first count, and the counts after it
+sum_after_first : (counts : List ℕ) (first : ℕ) → slice_get counts 0 ≡ Some first → sum counts ≡ first + sum (drop 1 counts)
+sum_after_first [] first at_0 = cc
+sum_after_first (count ∷ counts) first at_0 = sum_by-cons (λ x. x) count counts ∙ ap (λ n. n + sum counts) (same_Some count first at_0)
+
+-- the counts after the first add up to the items after the first list
+pub sum_of_rest : {A : Type 0} (counts : List ℕ) (items : List A) (first end : ℕ) → slice_get counts 0 ≡ Some first → end ≡ length items → sum counts ≡ length items → sum (drop 1 counts) ≡ length (slice_range items first end)
+sum_of_rest counts items first end at_0 ends complete =
+    let after = sum_after_first counts first at_0 in
+    simp (length-take, length-drop) (omega (arith, after))
+
 -- what the tactics take to the number of lists
-pub ruleset splits = (length-split_by)
+pub ruleset splits = (length-split_by, slice_get-split_by)
+
+-- and to a sum of the first counts
+pub ruleset sums = (sum_next, sum_next_within)

@@ -1,13 +1,13 @@
--- The counts that a view shows.
-use Rattle.std.specs.Prelude.{ℕ, List}
-use Rattle.point_views.specs.Items.{items_in}
+-- Counts one after another, and the counts that a view shows.
+use Rattle.std.specs.Prelude.{ℕ, zero, suc, List, [], ◌∷◌, drop}
 use Rattle.point_views.specs.Numbers.{number_size, unsigned_number}
 use Rattle.point_views.specs.declared.numbers.NumberWidth.{NumberWidth}
 use Rattle.point_views.specs.declared.counts.Counts.{Counts}
 
 -- the first n counts in the bytes
 abbrev pub counts_in : NumberWidth → ℕ → List ℕ → List ℕ
-counts_in width n bytes = items_in (unsigned_number width) (number_size width) n bytes
+counts_in width zero bytes = []
+counts_in width (suc n) bytes = unsigned_number width bytes ∷ counts_in width n (drop (number_size width) bytes)
 
 -- the counts of a view
 abbrev pub counts_of : Counts → List ℕ

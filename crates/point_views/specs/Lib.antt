@@ -1,6 +1,4 @@
 pub mod Numbers
-pub mod Items
-pub mod FirstPoint
 pub mod Points
 pub mod Counts
 pub mod Split

@@ -1,7 +1,8 @@
--- How numbers stand in bytes: little-endian, in 2 or 4 bytes.
-use Rattle.std.specs.Prelude.{ℕ, ◌*◌, ℤ, List}
+-- How numbers and points stand in bytes. Numbers are little-endian and take 2 or 4 bytes.
+use Rattle.std.specs.Prelude.{ℕ, ◌*◌, ℤ, List, drop}
 use Rattle.std.specs.Int.{w16, w32, cast_signed}
 use Rattle.byteorder.specs.Endian.{little_number}
+use Rattle.mapping.specs.declared.geometry.Point.{Point}
 use Rattle.point_views.specs.declared.numbers.NumberWidth.{NumberWidth}
 use Rattle.point_views.specs.declared.numbers.NumberWidth.TheVariants.{Short, Long}
 
@@ -22,3 +23,10 @@ unsigned_number width bytes = little_number (number_size width) bytes
 abbrev pub signed_number : NumberWidth → List ℕ → ℤ
 signed_number Short bytes = cast_signed w16 (unsigned_number Short bytes)
 signed_number Long bytes = cast_signed w32 (unsigned_number Long bytes)
+
+-- the point in the first bytes: x, and then y
+abbrev pub first_point : NumberWidth → List ℕ → Point
+first_point width bytes = record {
+  x = signed_number width bytes;
+  y = signed_number width (drop (number_size width) bytes);
+}

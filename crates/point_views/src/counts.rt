@@ -1,4 +1,4 @@
-//! Lists of counts: how many points each of several lists has.
+//! Lists of counts, read in place: how many points each of several lists has.
 
 ghost use Rattle.std.specs.Prelude.{◌≡◌, ◌+◌, ◌*◌, ◌^◌, ◌<◌, ◌≤◌, ◌↔◌, [], length, take, drop, sum, IsTrue, IsSome, IfSome, Some, slice_get};
 ghost use Rattle.point_views.specs.Numbers.{number_size};
@@ -12,6 +12,7 @@ use crate::numbers::{NumberWidth, unsigned_at};
 /// - `bytes` holds the counts, and nothing after them.
 #[derive(Clone, Copy, Debug, PartialEq, Eq)]
 pub struct Counts<'a> {
+    /// The counts' bytes.
     pub bytes: &'a [u8],
     /// How many counts.
     pub count: usize,
@@ -20,42 +21,56 @@ pub struct Counts<'a> {
     pub ghost exact: { number_size width * count ≡ length bytes.now },
 }
 
+#[tactic(auto, using(crate::proofs::CountLemmas::counts, crate::proofs::SplitLemmas::sums))]
 impl<'a> Counts<'a> {
     ghost use Rattle.point_views.specs.Counts.{counts_in, counts_of};
 
     /// The first `n` counts in the bytes, each in 16 bits: none exactly where fewer than `2 * n`
-    /// bytes are there.
+    /// bytes are there. Bytes after the counts don't matter.
     pub fn new16(bytes: &'a [u8], n: usize) -> Option<Counts<'a>>
         ensures room { IsSome result ↔ (2 * n ≤ length bytes.now) }
-        ensures counts { IfSome result (λ counts. counts_of counts ≡ counts_in NumberWidth.Short n bytes.now) }
+        ensures counts { IfSome result
+            (λ counts. counts_of counts ≡ counts_in NumberWidth.Short n bytes.now) }
     {
         if bytes.len() / 2 < n {
             return None;
         }
-        Some(Counts { bytes: &bytes[..2 * n], count: n, width: NumberWidth::Short })
+        Some(Counts {
+            bytes: &bytes[..2 * n],
+            count: n,
+            width: NumberWidth::Short,
+        })
     }
 
     /// The first `n` counts in the bytes, each in 32 bits: none exactly where fewer than `4 * n`
-    /// bytes are there.
+    /// bytes are there. Bytes after the counts don't matter.
     pub fn new32(bytes: &'a [u8], n: usize) -> Option<Counts<'a>>
         ensures room { IsSome result ↔ (4 * n ≤ length bytes.now) }
-        ensures counts { IfSome result (λ counts. counts_of counts ≡ counts_in NumberWidth.Long n bytes.now) }
+        ensures counts { IfSome result
+            (λ counts. counts_of counts ≡ counts_in NumberWidth.Long n bytes.now) }
     {
         if bytes.len() / 4 < n {
             return None;
         }
-        Some(Counts { bytes: &bytes[..4 * n], count: n, width: NumberWidth::Long })
+        Some(Counts {
+            bytes: &bytes[..4 * n],
+            count: n,
+            width: NumberWidth::Long,
+        })
     }
 
     /// No count.
     pub(crate) fn empty() -> Counts<'a>
         ensures { counts_of result ≡ [] }
     {
-        Counts { bytes: &[], count: 0, width: NumberWidth::Short }
+        Counts {
+            bytes: &[],
+            count: 0,
+            width: NumberWidth::Short,
+        }
     }
 
     /// How many counts.
-    #[tactic(auto, using(crate::proofs::ItemLemmas::items))]
     pub fn len(self) -> usize
         ensures { result ≡ length (counts_of self.entry) }
     {
@@ -66,11 +81,10 @@ impl<'a> Counts<'a> {
     pub fn is_empty(self) -> bool
         ensures { IsTrue result ↔ (counts_of self.entry ≡ []) }
     {
-        self.count == 0
+        self.len() == 0
     }
 
     /// The count at an index.
-    #[tactic(auto, using(crate::proofs::ItemLemmas::items))]
     pub fn get(self, i: usize) -> u32
         requires { i < length (counts_of self) }
         ensures { slice_get (counts_of self.entry) i ≡ Some result }
@@ -90,12 +104,12 @@ impl<'a> Counts<'a> {
         }
     }
 
-    /// Whether the counts add up to the total.
+    /// Whether the counts add up to the total. It stops at the first count that goes past it.
     pub(crate) fn adds_up_to(self, total: usize) -> bool
         ensures { IsTrue result ↔ (sum (counts_of self.entry) ≡ total) }
     {
         let mut left = total;
-        for i in 0..self.count {
+        for i in 0..self.len() {
             let count = self.get(i) as usize;
             if left < count {
                 return false;
@@ -118,12 +132,13 @@ impl<'a> Counts<'a> {
         before
     }
 
-    /// The place of a count's first byte.
+    /// The place of a count's first byte, or the end of the bytes.
     fn place(self, i: usize) -> usize
-        requires { i ≤ self.count }
+        requires { i ≤ length (counts_of self) }
         ensures place { result ≡ number_size self.entry.width * i }
         ensures within { result ≤ length self.entry.bytes.now }
-        ensures room { i < self.entry.count → result + number_size self.entry.width ≤ length self.entry.bytes.now }
+        ensures room { i < length (counts_of self.entry)
+            → result + number_size self.entry.width ≤ length self.entry.bytes.now }
     {
         match self.width {
             NumberWidth::Short => 2 * i,

@@ -18,6 +18,8 @@ mod numbers;
 mod parted_points;
 mod points;
 mod polys;
+#[cfg(test)]
+mod tests;
 
 pub use counts::Counts;
 pub use lists::Lists;

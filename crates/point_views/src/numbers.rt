@@ -29,7 +29,6 @@ impl NumberWidth {
 }
 
 /// The signed number at a place, two's complement.
-#[inline]
 pub(crate) fn signed_at(bytes: &[u8], place: usize, width: NumberWidth) -> i32
     requires { place + number_size width ≤ length bytes.now }
     ensures { result ≡ signed_number width (drop place bytes.now) }
@@ -41,7 +40,6 @@ pub(crate) fn signed_at(bytes: &[u8], place: usize, width: NumberWidth) -> i32
 }
 
 /// The number at a place, without a sign.
-#[inline]
 pub(crate) fn unsigned_at(bytes: &[u8], place: usize, width: NumberWidth) -> u32
     requires { place + number_size width ≤ length bytes.now }
     ensures { result ≡ unsigned_number width (drop place bytes.now) }

@@ -19,6 +19,7 @@ pub struct PartedPoints<'a> {
     pub ghost complete: { sum (counts_of counts) ≡ length (points_of points) },
 }
 
+#[tactic(auto, using(crate::proofs::SplitLemmas::splits, crate::proofs::SplitLemmas::sums, crate::proofs::PointLemmas::points))]
 impl<'a> PartedPoints<'a> {
     ghost use Rattle.point_views.specs.PartedPoints.{parts_of};
 
@@ -33,7 +34,6 @@ impl<'a> PartedPoints<'a> {
     }
 
     /// How many lists.
-    #[tactic(auto, using(crate::proofs::SplitLemmas::splits))]
     pub(crate) fn len(self) -> usize
         ensures { result ≡ length (parts_of self.entry) }
     {
@@ -48,7 +48,6 @@ impl<'a> PartedPoints<'a> {
     }
 
     /// The list at an index.
-    #[tactic(auto, using(crate::proofs::SplitLemmas::splits))]
     pub(crate) fn get(self, k: usize) -> Points<'a>
         requires { k < length (parts_of self) }
         ensures { slice_get (parts_of self.entry) k ≡ Some (points_of result) }
@@ -58,7 +57,6 @@ impl<'a> PartedPoints<'a> {
     }
 
     /// The first list, and the lists after it.
-    #[tactic(auto, using(crate::proofs::SplitLemmas::splits))]
     pub(crate) fn split_first(self) -> (Points<'a>, PartedPoints<'a>)
         requires { 0 < length (parts_of self) }
         ensures { parts_of self.entry ≡ points_of result.0 ∷ parts_of result.1 }

@@ -1,20 +1,21 @@
-//! Lists of points.
+//! Lists of points, read in place.
 
 ghost use Rattle.std.specs.Prelude.{◌≡◌, ◌+◌, ◌*◌, ◌<◌, ◌≤◌, ◌↔◌, [], length, drop, IsTrue, IsSome, IfSome, Some, slice_get, slice_range};
-ghost use Rattle.point_views.specs.Numbers.{point_size};
-ghost use Rattle.point_views.specs.FirstPoint.{first_point, points_in};
-
-use mapping::Point;
+ghost use Rattle.point_views.specs.Numbers.{point_size, first_point};
 
 use crate::numbers::{NumberWidth, signed_at};
+use mapping::Point;
 
-/// Points, one after another in a file's bytes.
+/// Points, one after another in a file's bytes: of each x, and then y, as a PointS ([MS-WMF]
+/// 2.2.2.16) has them in 16 bits and a PointL ([MS-WMF] 2.2.2.15) in 32. A view is a slice of the
+/// file and two numbers, and `get` reads a point from it.
 ///
 /// # Guarantees
 ///
 /// - `bytes` holds the points, and nothing after them.
 #[derive(Clone, Copy, Debug, PartialEq, Eq)]
 pub struct Points<'a> {
+    /// The points' bytes.
     pub bytes: &'a [u8],
     /// How many points.
     pub count: usize,
@@ -23,42 +24,56 @@ pub struct Points<'a> {
     pub ghost exact: { point_size width * count ≡ length bytes.now },
 }
 
+#[tactic(auto, using(crate::proofs::PointLemmas::points))]
 impl<'a> Points<'a> {
-    ghost use Rattle.point_views.specs.Points.{points_of};
+    ghost use Rattle.point_views.specs.Points.{points_in, points_of};
 
     /// The first `n` points in the bytes, each coordinate in 16 bits: none exactly where fewer than
-    /// `4 * n` bytes are there.
+    /// `4 * n` bytes are there. Bytes after the points don't matter.
     pub fn new16(bytes: &'a [u8], n: usize) -> Option<Points<'a>>
         ensures room { IsSome result ↔ (4 * n ≤ length bytes.now) }
-        ensures points { IfSome result (λ points. points_of points ≡ points_in NumberWidth.Short n bytes.now) }
+        ensures points { IfSome result
+            (λ points. points_of points ≡ points_in NumberWidth.Short n bytes.now) }
     {
         if bytes.len() / 4 < n {
             return None;
         }
-        Some(Points { bytes: &bytes[..4 * n], count: n, width: NumberWidth::Short })
+        Some(Points {
+            bytes: &bytes[..4 * n],
+            count: n,
+            width: NumberWidth::Short,
+        })
     }
 
     /// The first `n` points in the bytes, each coordinate in 32 bits: none exactly where fewer than
-    /// `8 * n` bytes are there.
+    /// `8 * n` bytes are there. Bytes after the points don't matter.
     pub fn new32(bytes: &'a [u8], n: usize) -> Option<Points<'a>>
         ensures room { IsSome result ↔ (8 * n ≤ length bytes.now) }
-        ensures points { IfSome result (λ points. points_of points ≡ points_in NumberWidth.Long n bytes.now) }
+        ensures points { IfSome result
+            (λ points. points_of points ≡ points_in NumberWidth.Long n bytes.now) }
     {
         if bytes.len() / 8 < n {
             return None;
         }
-        Some(Points { bytes: &bytes[..8 * n], count: n, width: NumberWidth::Long })
+        Some(Points {
+            bytes: &bytes[..8 * n],
+            count: n,
+            width: NumberWidth::Long,
+        })
     }
 
     /// No point.
     pub(crate) fn empty() -> Points<'a>
         ensures { points_of result ≡ [] }
     {
-        Points { bytes: &[], count: 0, width: NumberWidth::Short }
+        Points {
+            bytes: &[],
+            count: 0,
+            width: NumberWidth::Short,
+        }
     }
 
     /// How many points.
-    #[tactic(auto, using(crate::proofs::ItemLemmas::items))]
     pub fn len(self) -> usize
         ensures { result ≡ length (points_of self.entry) }
     {
@@ -69,11 +84,10 @@ impl<'a> Points<'a> {
     pub fn is_empty(self) -> bool
         ensures { IsTrue result ↔ (points_of self.entry ≡ []) }
     {
-        self.count == 0
+        self.len() == 0
     }
 
     /// The point at an index.
-    #[tactic(auto, using(crate::proofs::ItemLemmas::items))]
     pub fn get(self, i: usize) -> Point
         requires { i < length (points_of self) }
         ensures { slice_get (points_of self.entry) i ≡ Some result }
@@ -82,7 +96,6 @@ impl<'a> Points<'a> {
     }
 
     /// The points from index `from` up to before index `to`.
-    #[tactic(auto, using(crate::proofs::ItemLemmas::items))]
     pub fn part(self, from: usize, to: usize) -> Points<'a>
         requires order { from ≤ to }
         requires within { to ≤ length (points_of self) }
@@ -95,12 +108,13 @@ impl<'a> Points<'a> {
         }
     }
 
-    /// The place of a point's first byte; at `count`, the end of the bytes.
+    /// The place of a point's first byte, or the end of the bytes.
     fn place(self, i: usize) -> usize
-        requires { i ≤ self.count }
+        requires { i ≤ length (points_of self) }
         ensures place { result ≡ point_size self.entry.width * i }
         ensures within { result ≤ length self.entry.bytes.now }
-        ensures room { i < self.entry.count → result + point_size self.entry.width ≤ length self.entry.bytes.now }
+        ensures room { i < length (points_of self.entry)
+            → result + point_size self.entry.width ≤ length self.entry.bytes.now }
     {
         match self.width {
             NumberWidth::Short => 4 * i,
@@ -109,7 +123,7 @@ impl<'a> Points<'a> {
     }
 }
 
-/// The point at a place: x, and then y.
+/// The point whose first byte is at a place.
 fn point_at(bytes: &[u8], place: usize, width: NumberWidth) -> Point
     requires { place + point_size width ≤ length bytes.now }
     ensures { result ≡ first_point width (drop place bytes.now) }

@@ -40,8 +40,10 @@ impl<'a> Polys<'a> {
     /// The points cut into lists, one after another, as many points in each as its count says: none
     /// exactly where the counts don't add up to the number of points.
     pub fn new(counts: Counts<'a>, points: Points<'a>) -> Option<Polys<'a>>
-        ensures complete { IsSome result ↔ (sum (counts_of counts.entry) ≡ length (points_of points.entry)) }
-        ensures lists { IfSome result (λ polys. lists_of polys ≡ split_by (counts_of counts.entry) (points_of points.entry)) }
+        ensures complete { IsSome result
+            ↔ (sum (counts_of counts.entry) ≡ length (points_of points.entry)) }
+        ensures lists { IfSome result
+            (λ polys. lists_of polys ≡ split_by (counts_of counts.entry) (points_of points.entry)) }
     {
         if !counts.adds_up_to(points.len()) {
             return None;
@@ -69,8 +71,8 @@ impl<'a> Polys<'a> {
         }
     }
 
-    /// The list at an index. It adds up the counts before it: to go through all lists in order, use
-    /// `lists` or `split_first`.
+    /// The list at an index. It adds up the counts before that one: to go through the lists in order,
+    /// use `lists` or `split_first`.
     pub fn get(self, k: usize) -> Points<'a>
         requires { k < length (lists_of self) }
         ensures { slice_get (lists_of self.entry) k ≡ Some (points_of result) }
@@ -84,7 +86,8 @@ impl<'a> Polys<'a> {
     /// The first list, and the lists after it: none exactly where there is no list.
     pub fn split_first(self) -> Option<(Points<'a>, Polys<'a>)>
         ensures none { IsNone result ↔ (lists_of self.entry ≡ []) }
-        ensures lists { IfSome result (λ split. lists_of self.entry ≡ points_of split.0 ∷ lists_of split.1) }
+        ensures lists { IfSome result
+            (λ split. lists_of self.entry ≡ points_of split.0 ∷ lists_of split.1) }
     {
         match self {
             Polys::One(points) => Some((points, Polys::empty())),
@@ -98,7 +101,7 @@ impl<'a> Polys<'a> {
         }
     }
 
-    /// The lists in order, each at the cost of one.
+    /// The lists in order. Going through all of them reads each count once more.
     pub fn lists(self) -> Lists<'a>
         ensures { lists_of result.rest ≡ lists_of self.entry }
     {

@@ -1,0 +1,52 @@
+-- A run ends in one way.
+use Rattle.std.proofs.Common.{◌≡◌, ℕ, suc, List, [], ◌∷◌, Option, Some, None, Result, Ok, Err, refl, sym, ap, ◌∙◌}
+use Rattle.draw_ops.specs.declared.fault.Fault.{Fault}
+use Rattle.canvas.specs.Image.{Image}
+use Rattle.player.specs.Records.{Framed, IsFramed}
+use Rattle.player.specs.Operation.{Operation}
+use Rattle.player.specs.Wmf.{wmf, wmf_meaning}
+use Rattle.player.specs.Ops.{Content, IsContent, content_of}
+use Rattle.player.specs.Opening.{Format, placeable, Opened, opened, records_of}
+use Rattle.player.specs.State.{State, Surface, start_of, fault_of, next}
+use Rattle.player.specs.Layer.{layers_of}
+use Rattle.player.specs.Apply.{apply_all}
+use Rattle.player.specs.Run.{Outcome, shown, refused, run_steps, ended, unless_refused, RunOpened, Run, RunEndsInOneWay, IsFileContent, surface_of}
+use Rattle.player.proofs.FramedLemmas.{one_way}
+
+-- the bytes have one content
+one_content : (bytes : List ℕ) (content other : Content) → IsContent wmf wmf_meaning bytes content → IsContent wmf wmf_meaning bytes other → other ≡ content
+one_content bytes content other h k =
+    let only = (one_way wmf bytes).2 in
+    let same = only k.0 k.1 ∙ sym (only h.0 h.1) in
+    k.2 ∙ ap (λ (f : Framed). content_of wmf_meaning f.records f.fault) same ∙ sym h.2
+
+-- a refusal doesn't depend on the image
+refused_ended : (fault : Option Fault) (place : ℕ) (image other : Image) (number : Option ℕ) (f : Fault) → refused number f ≡ ended fault place image → refused number f ≡ ended fault place other
+refused_ended None place image other number f e = cc
+refused_ended (Some fault) place image other number f e = e
+
+refused_unless : (o : Option Fault) (place : ℕ) (outcome other : Outcome) (number : Option ℕ) (f : Fault) → (refused number f ≡ outcome → refused number f ≡ other) → refused number f ≡ unless_refused o place outcome → refused number f ≡ unless_refused o place other
+refused_unless None place outcome other number f h e = h e
+refused_unless (Some fault) place outcome other number f h e = e
+
+refused_steps : (steps : List Operation) (fault : Option Fault) (place : ℕ) (state : State) (s : Surface) (image other : Image) (number : Option ℕ) (f : Fault) → refused number f ≡ run_steps steps fault place state s image → refused number f ≡ run_steps steps fault place state s other
+refused_steps [] fault place state s image other number f e = refused_ended fault place image other number f e
+refused_steps (op ∷ ops) fault place state s image other number f e =
+    refused_unless (fault_of op state s) place _ _ number f (refused_steps ops fault (suc place) (next op state) s _ _ number f) e
+
+-- a file of any format has one content
+one_file_content : (format : Format) (file : List ℕ) → (content : Content) × IsFileContent format file content × ((other : Content) → IsFileContent format file other → other ≡ content)
+one_file_content placeable file =
+    let framed = one_way wmf (records_of placeable file) in
+    let content = content_of wmf_meaning framed.0.records framed.0.fault in
+    (content, (framed.0, framed.1, refl), λ other h. one_content _ content other (framed.0, framed.1, refl) h)
+
+by_opening : (o : Result Opened Fault) (file : List ℕ) (width height : ℕ) (image : Image) → ((outcome : Outcome) × RunOpened o file width height image outcome × ((other : Outcome) → RunOpened o file width height image other → other ≡ outcome)) × ((other : Image) (number : Option ℕ) (fault : Fault) → RunOpened o file width height image (refused number fault) → RunOpened o file width height other (refused number fault))
+by_opening (Err fault) file width height image = ((refused None fault, refl, λ other e. e), λ other number f e. e)
+by_opening (Ok o) file width height image =
+    let only = one_file_content o.format file in
+    let run : Content → Outcome = λ content. run_steps content.steps content.fault 0 (start_of o) (surface_of o width height) image in
+    ((run only.0, (only.0, only.1, refl), λ other h. h.2 ∙ ap run (only.2 h.0 h.1)), λ other number f h. (h.0, h.1, refused_steps h.0.steps h.0.fault 0 (start_of o) (surface_of o width height) image other number f h.2))
+
+pub run_ends : RunEndsInOneWay
+run_ends file width height image = by_opening (opened file) file width height image

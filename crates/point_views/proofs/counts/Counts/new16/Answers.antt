@@ -1,7 +1,0 @@
-use Rattle.std.proofs.Common.{refl}
-use Rattle.point_views.specs.declared.numbers.NumberWidth.TheVariants.{Short}
-use Rattle.point_views.proofs.CountLemmas.{counts_in-take}
-use Rattle.point_views.proofs.counts.Counts.new16.Goals as goal
-
-pub returns-clause-counts : goal.returns-clause-counts
-returns-clause-counts c = counts_in-take Short c.args.n _ c.args.bytes.now refl
