@@ -1,7 +1,10 @@
 -- A run ends in one way.
-use Rattle.std.proofs.Common.{◌≡◌, ℕ, suc, List, [], ◌∷◌, Option, Some, None, Result, Ok, Err, refl, sym, ap, ◌∙◌}
+use Rattle.std.proofs.Common.{◌≡◌, ℕ, suc, List, [], ◌∷◌, Option, Some, None, Result, Ok, Err, refl, sym, ap, subst, ◌∙◌}
 use Rattle.draw_ops.specs.declared.fault.Fault.{Fault}
+use Rattle.mapping.specs.declared.geometry.Frame.{Frame}
+use Rattle.mapping.specs.declared.place.Place.{Place}
 use Rattle.canvas.specs.Image.{Image}
+use Rattle.player.specs.Playing.{surface_at}
 use Rattle.player.specs.Records.{Framed, IsFramed}
 use Rattle.player.specs.Operation.{Operation}
 use Rattle.player.specs.Wmf.{wmf, wmf_meaning}
@@ -10,7 +13,7 @@ use Rattle.player.specs.Opening.{Format, placeable, Opened, opened, records_of}
 use Rattle.player.specs.State.{State, Surface, start_of, fault_of, next}
 use Rattle.player.specs.Layer.{layers_of}
 use Rattle.player.specs.Apply.{apply_all}
-use Rattle.player.specs.Run.{Outcome, shown, refused, run_steps, ended, unless_refused, RunOpened, Run, RunEndsInOneWay, IsFileContent, surface_of}
+use Rattle.player.specs.Run.{Outcome, shown, refused, run_steps, ended, unless_refused, RunOpened, WritesOpened, Run, Writes, writes_of_steps, RunEndsInOneWay, IsFileContent, surface_of}
 use Rattle.player.proofs.FramedLemmas.{one_way}
 
 -- the bytes have one content
@@ -50,3 +53,18 @@ by_opening (Ok o) file width height image =
 
 pub run_ends : RunEndsInOneWay
 run_ends file width height image = by_opening (opened file) file width height image
+
+-- a run of an opened file whose records have this content
+pub opened_run : (file : List ℕ) (width height : ℕ) (image : Image) (o : Opened) (content : Content) (outcome : Outcome) → opened file ≡ Ok o → IsFileContent o.format file content → run_steps content.steps content.fault 0 (start_of o) (surface_of o width height) image ≡ outcome → Run file width height image outcome
+opened_run file width height image o content outcome e h r = subst (λ (q : Result Opened Fault). RunOpened q file width height image outcome) (sym e) (content, h, sym r)
+
+pub opened_writes : (file : List ℕ) (width height writes : ℕ) (o : Opened) (content : Content) → opened file ≡ Ok o → IsFileContent o.format file content → writes_of_steps content.steps (start_of o) (surface_of o width height) ≡ writes → Writes file width height writes
+opened_writes file width height writes o content e h r = subst (λ (q : Result Opened Fault). WritesOpened q file width height writes) (sym e) (content, h, sym r)
+
+-- the same run, at a place and an image that are known
+pub same_run : (steps : List Operation) (fault : Option Fault) (state : State) (s t : Surface) (i j : Image) → s ≡ t → i ≡ j → run_steps steps fault 0 state s i ≡ run_steps steps fault 0 state t j
+same_run steps fault state s t i j p q = rw (p, q) refl
+
+-- the surface of a place
+pub placed_surface : (place : Place) (frame : Frame) (width height : ℕ) → place.frame ≡ frame → place.width ≡ width → place.height ≡ height → surface_at place ≡ record { width = width; height = height; frame_width = frame.width; frame_height = frame.height }
+placed_surface place frame width height f w h = rw (w, h, f) refl
