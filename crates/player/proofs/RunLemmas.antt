@@ -1,18 +1,18 @@
 -- A run ends in one way.
-use Rattle.std.proofs.Common.{◌≡◌, ℕ, suc, List, [], ◌∷◌, Option, Some, None, Result, Ok, Err, refl, sym, ap, subst, ◌∙◌}
+use Rattle.std.proofs.Common.{◌≡◌, ℕ, suc, ◌+◌, length, add-one, arith, List, [], ◌∷◌, Option, Some, None, Result, Ok, Err, refl, sym, ap, subst, ◌∙◌}
 use Rattle.draw_ops.specs.declared.fault.Fault.{Fault}
 use Rattle.mapping.specs.declared.geometry.Frame.{Frame}
 use Rattle.mapping.specs.declared.place.Place.{Place}
 use Rattle.canvas.specs.Image.{Image}
 use Rattle.player.specs.Playing.{surface_at}
 use Rattle.player.specs.Records.{Framed, IsFramed}
-use Rattle.player.specs.Operation.{Operation}
+use Rattle.player.specs.Operation.{Operation, no_effect, pixel}
 use Rattle.player.specs.Wmf.{wmf, wmf_meaning}
-use Rattle.player.specs.Ops.{Content, IsContent, content_of}
+use Rattle.player.specs.Ops.{Content, IsContent, content_of, with_step}
 use Rattle.player.specs.Opening.{Format, placeable, Opened, opened, records_of}
 use Rattle.player.specs.State.{State, Surface, start_of, fault_of, next}
 use Rattle.player.specs.Layer.{layers_of}
-use Rattle.player.specs.Apply.{apply_all}
+use Rattle.player.specs.Apply.{apply_all, writes_of_layers}
 use Rattle.player.specs.Run.{Outcome, shown, refused, run_steps, ended, unless_refused, RunOpened, WritesOpened, Run, Writes, writes_of_steps, RunEndsInOneWay, IsFileContent, surface_of}
 use Rattle.player.proofs.FramedLemmas.{one_way}
 
@@ -68,3 +68,21 @@ same_run steps fault state s t i j p q = rw (p, q) refl
 -- the surface of a place
 pub placed_surface : (place : Place) (frame : Frame) (width height : ℕ) → place.frame ≡ frame → place.width ≡ width → place.height ≡ height → surface_at place ≡ record { width = width; height = height; frame_width = frame.width; frame_height = frame.height }
 placed_surface place frame width height f w h = rw (w, h, f) refl
+
+-- no operation so far changes the state
+same_state : (op : Operation) (state : State) → next op state ≡ state
+same_state no_effect state = refl
+same_state (pixel x y colour) state = refl
+
+-- one operation without a fault, and its writes
+pub one_step : (old new : Content) (op : Operation) (place : ℕ) (state : State) (s : Surface) (image after : Image) → old ≡ with_step op new → fault_of op state s ≡ None → after ≡ apply_all (layers_of op state) state.clip s image → run_steps old.steps old.fault place state s image ≡ run_steps new.steps new.fault (place + 1) state s after
+one_step old new op place state s image after e f a = rw (e, f, same_state op state, a, add-one) refl
+
+pub one_write : (old new : Content) (op : Operation) (state : State) (s : Surface) (writes after total : ℕ) → old ≡ with_step op new → after ≡ writes + writes_of_layers (layers_of op state) state.clip s → total ≡ writes + writes_of_steps old.steps state s → total ≡ after + writes_of_steps new.steps state s
+one_write old new op state s writes after total e a t =
+    let step : writes_of_steps old.steps state s ≡ writes_of_layers (layers_of op state) state.clip s + writes_of_steps new.steps state s = rw (e, same_state op state) refl in
+    omega arith
+
+-- one operation is one less to come
+pub one_less : (old new : Content) (op : Operation) → old ≡ with_step op new → length old.steps ≡ suc (length new.steps)
+one_less old new op e = ap (λ (c : Content). length c.steps) e

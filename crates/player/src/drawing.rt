@@ -35,7 +35,9 @@ pub(crate) fn draw(
         ≡ apply_all (layers_of (operation_of operation) (state_of map.now)) (state_of map.now).clip (surface_at place) (image_of canvas.old)) }
     ensures writes { OnOk result (canvas.new.writes
         ≡ canvas.old.writes + writes_of_layers (layers_of (operation_of operation) (state_of map.now)) (state_of map.now).clip (surface_at place)) }
+    ensures width { canvas.new.width ≡ canvas.old.width }
     ensures first { canvas.new.first ≡ canvas.old.first }
+    ensures rows { canvas.new.rows ≡ canvas.old.rows }
     ensures few { canvas.new.writes ≤ canvas.old.writes + 1 }
     ensures kept { OnErr result (canvas.new ≡ canvas.old) }
     ensures in_record { IfErr result IsInRecord }

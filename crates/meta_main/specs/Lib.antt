@@ -1,0 +1,3 @@
+pub mod Show
+pub mod Reading
+pub mod Sides

@@ -1,0 +1,12 @@
+//! What a command line asks for.
+
+/// A command with its words and numbers.
+#[derive(Clone, Copy, Debug, PartialEq, Eq)]
+pub enum Line<'a> {
+    /// Show a file on a surface of these sides, in pixels.
+    Show {
+        file: &'a str,
+        width: u32,
+        height: u32,
+    },
+}

@@ -1,0 +1,48 @@
+//! Reading an input to its end.
+
+ghost use Rattle.std.specs.Prelude.{◌≡◌, ◌≤◌, IfOk, IfSome, OnOk, vec_len};
+ghost use Rattle.meta_main.specs.Reading.{input_limit};
+
+use std::alloc::Global;
+use std::io;
+use std::io::{ErrorKind, Read};
+use thiserror::Error;
+
+/// The longest input, in bytes.
+const INPUT_LIMIT: u64 = 268435456;
+
+/// Why an input was not read.
+#[derive(Clone, Copy, Debug, PartialEq, Eq, Error)]
+pub enum InputFault {
+    /// The reader failed, or has more than 268,435,456 bytes.
+    #[error("cannot read")]
+    CannotRead,
+    /// Memory for the bytes was refused.
+    #[error("OutOfMemory")]
+    OutOfMemory,
+}
+
+impl InputFault {
+    /// The fault that an error of the system is.
+    pub(crate) fn of(error: io::Error) -> InputFault {
+        if error.kind() == ErrorKind::OutOfMemory {
+            InputFault::OutOfMemory
+        } else {
+            InputFault::CannotRead
+        }
+    }
+}
+
+/// All bytes of a reader, to its end. A read that was interrupted is tried again.
+pub fn read_input<R: Read>(alloc: Global, input: &mut R) -> Result<Vec<u8>, InputFault>
+    ensures bytes { IfOk result (λ bytes. IfSome (R.remaining input.old) (λ all. bytes.items ≡ all)) }
+    ensures within { IfOk result (λ bytes. vec_len bytes ≤ input_limit) }
+{
+    let mut bytes = Vec::new(alloc);
+    let read = input.take(INPUT_LIMIT + 1).read_to_end(&mut bytes);
+    match read {
+        Ok(count) if count as u64 <= INPUT_LIMIT => Ok(bytes),
+        Ok(_) => Err(InputFault::CannotRead),
+        Err(error) => Err(InputFault::of(error)),
+    }
+}

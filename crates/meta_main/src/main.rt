@@ -1,0 +1,24 @@
+//! `metaplay`: shows what a Windows metafile draws, as a P6 image.
+//!
+//! # What is promised
+//!
+//! - A command line asks only for surfaces from 1 to 8,192 pixels a side (`line`).
+//! - What is read of an input is all of it, or it is refused (`read_input`).
+//! - Status 0 comes only where the P6 text of the image that the file's records define was written
+//!   to the output, and nothing else; status 1 only where the file has a fault; and an image is
+//!   written only once the whole file has been played (`show_command`).
+#![tactic(auto)]
+
+mod asked;
+mod command_line;
+mod input;
+mod program;
+mod show;
+mod status;
+
+use std::process::ExitCode;
+
+fn main(rt: HostRuntime) -> ExitCode {
+    let status = program::run(&rt, &mut rt.stdin(), &mut rt.stdout(), &mut rt.stderr());
+    ExitCode::from(status)
+}

@@ -1,0 +1,80 @@
+//! The program: the command line, its inputs, and the command that they ask for.
+
+use crate::asked::Line;
+use crate::command_line::line;
+use crate::input::{InputFault, read_input};
+use crate::show::{report, show_command};
+use crate::status::{INPUT_OR_OUTPUT, OUT_OF_MEMORY, USAGE};
+use clap::error::ErrorKind;
+use std::alloc::Global;
+use std::env;
+use std::fs;
+use std::io::{Read, Write};
+use std::rt::{Env, Files};
+
+/// The word that names standard input in a file's place.
+const STANDARD_INPUT: &str = "stdin";
+
+/// Runs the program, and answers its status.
+pub(crate) fn run<R, I, O, E>(rt: &R, input: &mut I, out: &mut O, err: &mut E) -> u8
+where
+    R: Env + Files + Print + Eprint + AllocGlobal,
+    I: Read,
+    O: Write,
+    E: Write,
+{
+    let words = match words(rt) {
+        Ok(words) => words,
+        Err(fault) => return no_input(fault, err),
+    };
+    match line(rt.alloc(), words.as_slice()) {
+        Ok(Line::Show {
+            file,
+            width,
+            height,
+        }) => match read_file(rt, file, input) {
+            Ok(bytes) => show_command(rt.alloc(), bytes.as_slice(), width, height, out, err),
+            Err(fault) => no_input(fault, err),
+        },
+        Err(error) => usage(rt, &error, err),
+    }
+}
+
+/// The words of the command line, the program's name first.
+fn words<R: Env + AllocGlobal>(rt: &R) -> Result<Vec<String>, InputFault> {
+    let words = env::args(rt).map_err(InputFault::of)?;
+    words
+        .collect(rt.alloc())
+        .map_err(|_| InputFault::OutOfMemory)
+}
+
+/// The bytes of a file, or of standard input.
+fn read_file<R: Files + AllocGlobal, I: Read>(
+    rt: &R,
+    file: &str,
+    input: &mut I,
+) -> Result<Vec<u8>, InputFault> {
+    if file == STANDARD_INPUT {
+        return read_input(rt.alloc(), input);
+    }
+    let mut opened = fs::open(rt, file).map_err(InputFault::of)?;
+    read_input(rt.alloc(), &mut opened)
+}
+
+/// Reports that an input was not read, and answers the status.
+fn no_input<E: Write>(fault: InputFault, err: &mut E) -> u8 {
+    report(err, fault);
+    match fault {
+        InputFault::CannotRead => INPUT_OR_OUTPUT,
+        InputFault::OutOfMemory => OUT_OF_MEMORY,
+    }
+}
+
+/// Shows the usage or the help that was asked for, and answers the status.
+fn usage<R: Print + Eprint, E: Write>(rt: &R, error: &clap::Error, err: &mut E) -> u8 {
+    if error.kind() == ErrorKind::OutOfMemory {
+        return no_input(InputFault::OutOfMemory, err);
+    }
+    let _ = error.print(rt);
+    USAGE
+}
