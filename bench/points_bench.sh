@@ -34,8 +34,6 @@ cat > "$folder/crates/points_bench/src/main.rt" <<'TEXT'
 //! The sum of x + y over many points, read in place and from a plain slice.
 #![tactic(auto)]
 
-ghost use Rattle.std.specs.Prelude.{◌≤◌, length};
-
 use std::io;
 use std::time::Instant;
 

@@ -33,7 +33,7 @@ abbrev pub apply : Layer → Clip → Surface → Image → Image
 apply layer clip s image = record {
   width = image.width;
   height = image.height;
-  colours = map_places (λ k old. colour_after layer clip s (k % s.width) (k / s.width) old) 0 image.colours
+  colours = map_places (λ k old. colour_after layer clip s (k % s.width) (k / s.width) old) 0 image.colours;
 }
 
 abbrev pub apply_all : List Layer → Clip → Surface → Image → Image

@@ -17,5 +17,5 @@ abbrev pub colour_of_bytes : ℕ → List ℕ → Colour
 colour_of_bytes place bytes = record {
   r = number_at 1 place bytes;
   g = number_at 1 (place + 1) bytes;
-  b = number_at 1 (place + 2) bytes
+  b = number_at 1 (place + 2) bytes;
 }

@@ -30,7 +30,7 @@ layers_of no_effect state = []
 layers_of (pixel x y colour) state = record {
   shape = point (plane_coordinate state.x x) (plane_coordinate state.y y);
   paint = solid colour;
-  raster_operation = copied
+  raster_operation = copied;
 } ∷ []
 
 -- a plane coordinate lands on this column or row

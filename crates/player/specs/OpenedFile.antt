@@ -11,5 +11,5 @@ opened_of o = record {
   height = o.frame.height;
   x = axis_numbers o.start_map.x;
   y = axis_numbers o.start_map.y;
-  handles = None
+  handles = None;
 }

@@ -50,7 +50,7 @@ opened_placeable file = record {
   height = unsigned_abs (box_height file);
   x = placeable_axis (box_left file) (box_width file);
   y = placeable_axis (box_top file) (box_height file);
-  handles = None
+  handles = None;
 }
 
 -- the 22 bytes of META_PLACEABLE and the 18 of META_HEADER, and a box with sides

@@ -13,5 +13,5 @@ surface_at place = record {
   width = place.width;
   height = place.height;
   frame_width = place.frame.width;
-  frame_height = place.frame.height
+  frame_height = place.frame.height;
 }

@@ -56,7 +56,7 @@ pub(crate) fn draw(
 /// placed coordinates.
 fn landing(point: Point, map: &PageMap, place: Place) -> Result<Point, Fault>
     ensures fault { (if lands (axis_numbers map.now.x) place.width place.frame.width point.x
-            && lands (axis_numbers map.now.y) place.height place.frame.height point.y then None else Some Fault.OffPlane) ≡ result_err result }
+        && lands (axis_numbers map.now.y) place.height place.frame.height point.y then None else Some Fault.OffPlane) ≡ result_err result }
     ensures x { IfOk result (λ there. there.x
         ≡ placed (plane_coordinate (axis_numbers map.now.x) point.x) place.width place.frame.width) }
     ensures in_record { IfErr result IsInRecord }

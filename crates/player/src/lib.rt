@@ -17,6 +17,8 @@ mod opening;
 mod operation;
 mod play;
 mod refusal;
+#[cfg(test)]
+mod tests;
 mod wmf_ops;
 mod wmf_records;
 

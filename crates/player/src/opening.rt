@@ -91,9 +91,7 @@ fn has_standard_header(file: &[u8]) -> bool
 {
     let kind = word_at(file, 22);
     let version = word_at(file, 26);
-    (kind == 1 || kind == 2)
-        && word_at(file, 24) == 9
-        && (version == 0x0100 || version == 0x0300)
+    (kind == 1 || kind == 2) && word_at(file, 24) == 9 && (version == 0x0100 || version == 0x0300)
 }
 
 /// A coordinate of the box.

@@ -21,27 +21,20 @@ use std::alloc::Global;
 /// fault, and never both.
 pub fn records_law()
     ensures { FramedInOneWay }
-{
-}
+{}
 
 /// A run ends in one way, and whether it is refused, and by which fault, doesn't depend on the image
 /// that it starts from.
 pub fn run_law()
     ensures { RunEndsInOneWay }
-{
-}
+{}
 
 /// Plays a file on a white surface of `width` by `height` pixels. The canvas shows the image that the
 /// file's records define, and counts the pixels written.
 ///
 /// The refusal is the first fault of the file with its record, or `OutOfMemory` without one where
 /// memory for the canvas was refused.
-pub fn play_file(
-    alloc: Global,
-    file: &[u8],
-    width: u32,
-    height: u32,
-) -> Result<Canvas, Refusal>
+pub fn play_file(alloc: Global, file: &[u8], width: u32, height: u32) -> Result<Canvas, Refusal>
     requires wide { 1 ≤ width }
     requires wide_within { width ≤ 8192 }
     requires high { 1 ≤ height }
@@ -54,7 +47,10 @@ pub fn play_file(
 {
     let opened = match open(file) {
         Ok(opened) => opened,
-        Err(fault) => return Err(Refusal { number: None, fault }),
+        Err(fault) => return Err(Refusal {
+            number: None,
+            fault,
+        }),
     };
     let Ok(mut canvas) = Canvas::new(alloc, width, height, Colour::WHITE) else {
         return Err(Refusal {

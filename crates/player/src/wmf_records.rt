@@ -21,6 +21,7 @@ const HEAD: usize = 6;
 
 // The functions ([MS-WMF] 2.1.1.1).
 const META_EOF: u16 = 0x0000;
+
 const META_SETPIXEL: u16 = 0x041f;
 
 /// A record: its function, and its bytes with the head.

@@ -1,7 +1,7 @@
 -- A list cut into lists: how many, and where the list at an index stands.
-use Rattle.std.proofs.Common.{◌≡◌, ℕ, zero, suc, ◌+◌, ◌≤◌, List, [], ◌∷◌, length, take, drop, sum, refl, sym, ap, ◌∙◌, arith, Some}
-use Rattle.std.specs.List.{slice_get, slice_range}
-use Rattle.std.proofs.lemmas.List.{drop-drop, length-take, length-drop}
+use Rattle.std.proofs.Common.{◌≡◌, ℕ, zero, suc, ◌+◌, ◌≤◌, List, [], ◌∷◌, ◌++◌, map, length, take, drop, sum, refl, sym, ap, ◌∙◌, arith, Some}
+use Rattle.std.specs.List.{slice_get, slice_range, flat_map}
+use Rattle.std.proofs.lemmas.List.{drop-drop, length-take, length-take-le, length-drop, nil_from_length, take-append-drop}
 use Rattle.std.proofs.lemmas.List.Sums.{sum_by-cons, sum_by_more, sum_by_more_le}
 use Rattle.std.proofs.lemmas.Option.{same_Some, slice_get_within, get_or_from_slice_get}
 use Rattle.point_views.specs.Split.{split_by}
@@ -42,8 +42,33 @@ sum_of_rest counts items first end at_0 ends complete =
     let after = sum_after_first counts first at_0 in
     simp (length-take, length-drop) (omega (arith, after))
 
+-- the counts after the first are those of the items after the first list
+fits_rest : {A : Type 0} (count : ℕ) (counts : List ℕ) (items : List A) → sum (count ∷ counts) ≡ length items → (count ≤ length items) × (sum counts ≡ length (drop count items))
+fits_rest count counts items complete =
+    let whole : count + sum counts ≡ length items = sym (sum_by-cons (λ x. x) count counts) ∙ complete in
+    (omega (arith, whole), simp length-drop (omega (arith, whole)))
+
+-- each list is as long as its count
+pub map-split_by : {A : Type 0} (counts : List ℕ) (items : List A) → sum counts ≡ length items → map length (split_by counts items) ≡ counts
+map-split_by [] items complete = refl
+map-split_by (count ∷ counts) items complete =
+    let fits = fits_rest count counts items complete in
+    let first = length-take-le count items fits.0 in
+    let rest = map-split_by counts (drop count items) fits.1 in
+    rw (first, rest) refl
+
+-- the lists, one after another, are the items
+pub flat_map-split_by : {A : Type 0} (counts : List ℕ) (items : List A) → sum counts ≡ length items → flat_map (λ list. list) (split_by counts items) ≡ items
+flat_map-split_by [] items complete = sym (nil_from_length items (sym complete))
+flat_map-split_by (count ∷ counts) items complete =
+    let fits = fits_rest count counts items complete in
+    ap (λ rest. take count items ++ rest) (flat_map-split_by counts (drop count items) fits.1) ∙ take-append-drop count items
+
 -- what the tactics take to the number of lists
 pub ruleset splits = (length-split_by, slice_get-split_by)
 
 -- and to a sum of the first counts
 pub ruleset sums = (sum_next, sum_next_within)
+
+-- and to what the lists are as a whole
+pub ruleset wholes = (map-split_by, flat_map-split_by)

@@ -9,7 +9,8 @@ use crate::numbers::{NumberWidth, unsigned_at};
 ///
 /// # Guarantees
 ///
-/// - `bytes` holds the counts, and nothing after them.
+/// - `bytes` holds the counts and nothing else, so two views of one width are equal exactly where
+///   their bytes are.
 #[derive(Clone, Copy, Debug, PartialEq, Eq)]
 pub struct Counts<'a> {
     /// The counts' bytes.

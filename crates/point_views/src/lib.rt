@@ -4,8 +4,10 @@
 //!
 //! - No read here is outside the bytes, and no sum or product wraps, whatever the bytes are and
 //!   whatever number of points a file claims (each function is proved safe for all its inputs).
-//! - A view is a list: `len`, `get` and `part` say what the pairs of numbers in the bytes are
-//!   (`Points`), and `len`, `get`, `split_first` and `lists` how the counts cut them (`Polys`).
+//! - A view is a list: `Points::get` gives the i-th pair of numbers in the bytes, `part` a part of
+//!   the list, and `len` its length.
+//! - `Polys::new` cuts points into lists that are as long as the counts say and that, one after
+//!   another, are all the points. `get`, `split_first` and `lists` give those lists in order.
 //! - A view is refused exactly where bytes are missing (`Points::new16`, `Points::new32`,
 //!   `Counts::new16`, `Counts::new32`), or where the counts don't add up to the number of points
 //!   (`Polys::new`).

@@ -15,8 +15,6 @@ pub enum NumberWidth {
 }
 
 impl NumberWidth {
-    ghost use Rattle.point_views.specs.Numbers.{number_size};
-
     /// How many bytes a number takes.
     pub(crate) fn size(self) -> usize
         ensures { result ≡ number_size self }

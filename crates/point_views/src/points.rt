@@ -12,7 +12,8 @@ use mapping::Point;
 ///
 /// # Guarantees
 ///
-/// - `bytes` holds the points, and nothing after them.
+/// - `bytes` holds the points and nothing else, so two views of one width are equal exactly where
+///   their bytes are.
 #[derive(Clone, Copy, Debug, PartialEq, Eq)]
 pub struct Points<'a> {
     /// The points' bytes.

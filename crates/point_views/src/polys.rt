@@ -1,6 +1,7 @@
 //! Lists of points: one, or several one after another.
 
-ghost use Rattle.std.specs.Prelude.{◌≡◌, ◌<◌, ◌↔◌, [], ◌∷◌, length, sum, IsTrue, IsSome, IsNone, IfSome, Some, slice_get};
+ghost use Rattle.std.specs.Prelude.{◌≡◌, ◌<◌, ◌↔◌, [], ◌∷◌, length, map, sum, IsTrue, IsSome, IsNone, IfSome, Some, slice_get};
+ghost use Rattle.std.specs.List.{flat_map};
 ghost use Rattle.point_views.specs.Counts.{counts_of};
 ghost use Rattle.point_views.specs.Points.{points_of};
 ghost use Rattle.point_views.specs.Split.{split_by};
@@ -39,11 +40,18 @@ impl<'a> Polys<'a> {
 
     /// The points cut into lists, one after another, as many points in each as its count says: none
     /// exactly where the counts don't add up to the number of points.
+    #[tactic(auto, using(crate::proofs::SplitLemmas::wholes))]
     pub fn new(counts: Counts<'a>, points: Points<'a>) -> Option<Polys<'a>>
         ensures complete { IsSome result
             ↔ (sum (counts_of counts.entry) ≡ length (points_of points.entry)) }
         ensures lists { IfSome result
             (λ polys. lists_of polys ≡ split_by (counts_of counts.entry) (points_of points.entry)) }
+
+        // which says of the lists as a whole:
+        ensures lengths { IfSome result
+            (λ polys. map length (lists_of polys) ≡ counts_of counts.entry) }
+        ensures joined { IfSome result
+            (λ polys. flat_map (λ list. list) (lists_of polys) ≡ points_of points.entry) }
     {
         if !counts.adds_up_to(points.len()) {
             return None;

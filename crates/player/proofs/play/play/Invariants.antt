@@ -14,7 +14,7 @@ invariant-loop-operation l = record {
   rows : l.canvas.rows ≡ l.place.height;
   first : l.canvas.first ≡ 0;
   run : run_steps l.fn.source.steps l.fn.source.fault 0 (state_of l.map) (surface_at l.place) (image_of l.fn.canvas) ≡ run_steps l.source.steps l.source.fault l.number (state_of l.map) (surface_at l.place) (image_of l.canvas);
-  writes : writes_of_steps l.fn.source.steps (state_of l.map) (surface_at l.place) ≡ l.canvas.writes + writes_of_steps l.source.steps (state_of l.map) (surface_at l.place)
+  writes : writes_of_steps l.fn.source.steps (state_of l.map) (surface_at l.place) ≡ l.canvas.writes + writes_of_steps l.source.steps (state_of l.map) (surface_at l.place);
 }
 
 abbrev pub decreases-loop-operation : goal.decreases-loop-operation
