@@ -32,6 +32,7 @@ fn metaplay<'a>(alloc: Global) -> Result<Command<'a>, AllocError> {
         .arg(side(alloc, "W", "The surface's width in pixels"))?
         .arg(side(alloc, "H", "The surface's height in pixels"))?;
     Command::new(alloc, "metaplay")
+        .bin_name("metaplay")?
         .about("Plays Windows metafiles (WMF, EMF) on a pixel surface")
         .subcommand_required(true)
         .subcommand(show)

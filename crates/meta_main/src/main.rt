@@ -15,6 +15,8 @@ mod input;
 mod program;
 mod show;
 mod status;
+#[cfg(test)]
+mod tests;
 
 use std::process::ExitCode;
 

@@ -7,10 +7,9 @@ use crate::show::{report, show_command};
 use crate::status::{INPUT_OR_OUTPUT, OUT_OF_MEMORY, USAGE};
 use clap::error::ErrorKind;
 use std::alloc::Global;
-use std::env;
-use std::fs;
 use std::io::{Read, Write};
 use std::rt::{Env, Files};
+use std::{env, fs};
 
 /// The word that names standard input in a file's place.
 const STANDARD_INPUT: &str = "stdin";
@@ -28,11 +27,13 @@ where
         Err(fault) => return no_input(fault, err),
     };
     match line(rt.alloc(), words.as_slice()) {
-        Ok(Line::Show {
-            file,
-            width,
-            height,
-        }) => match read_file(rt, file, input) {
+        Ok(
+            Line::Show {
+                file,
+                width,
+                height,
+            },
+        ) => match read_file(rt, file, input) {
             Ok(bytes) => show_command(rt.alloc(), bytes.as_slice(), width, height, out, err),
             Err(fault) => no_input(fault, err),
         },
@@ -71,7 +72,7 @@ fn no_input<E: Write>(fault: InputFault, err: &mut E) -> u8 {
 }
 
 /// Shows the usage or the help that was asked for, and answers the status.
-fn usage<R: Print + Eprint, E: Write>(rt: &R, error: &clap::Error, err: &mut E) -> u8 {
+pub(crate) fn usage<R: Print + Eprint, E: Write>(rt: &R, error: &clap::Error, err: &mut E) -> u8 {
     if error.kind() == ErrorKind::OutOfMemory {
         return no_input(InputFault::OutOfMemory, err);
     }

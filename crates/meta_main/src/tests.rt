@@ -1,0 +1,231 @@
+//! Command lines, inputs and outputs that work, and each that doesn't.
+
+use crate::asked::Line;
+use crate::command_line::line;
+use crate::input::{InputFault, read_input};
+use crate::program::usage;
+use crate::show::show_command;
+use clap::error::ErrorKind;
+use std::alloc::{AllocError, Global};
+use std::io;
+use std::io::{Read, Write};
+use std::test::Fail;
+
+/// A placeable file with the box (0,0,4,4), a red pixel at (2,1), and an end.
+const DOT: &[u8] = b"\xd7\xcd\xc6\x9a\0\0\0\0\0\0\x04\0\x04\0\x60\0\0\0\0\0\x71\x57\
+    \x01\0\x09\0\0\x03\x13\0\0\0\0\0\x07\0\0\0\0\0\
+    \x07\0\0\0\x1f\x04\xff\0\0\0\x01\0\x02\0\x03\0\0\0\0\0";
+
+/// A reader of some bytes that gives one at a call, and fails at a call, counted from 0.
+#[derive(Drop)]
+struct Failing<'a> {
+    bytes: &'a [u8],
+    calls_left: u32,
+}
+
+impl Read for Failing<'_> {
+    fn read(&mut self, buf: &mut [u8]) -> io::Result<usize> {
+        if self.calls_left == 0 {
+            return Err(io::Error::from(io::ErrorKind::BrokenPipe));
+        }
+        self.calls_left -= 1;
+        let Some((first, others)) = self.bytes.split_first() else {
+            return Ok(0);
+        };
+        if buf.is_empty() {
+            return Ok(0);
+        }
+        buf[0] = *first;
+        self.bytes = others;
+        Ok(1)
+    }
+}
+
+/// A writer that keeps what it takes, and fails once it has taken so many bytes, or at a flush.
+#[derive(Drop)]
+struct Full {
+    taken: Vec<u8>,
+    most: usize,
+    can_flush: bool,
+}
+
+impl Write for Full {
+    fn write(&mut self, buf: &[u8]) -> io::Result<usize> {
+        let room = self.most.saturating_sub(self.taken.len());
+        if room == 0 && !buf.is_empty() {
+            return Err(io::Error::from(io::ErrorKind::StorageFull));
+        }
+        let count = buf.len().min(room);
+        self.taken.extend_from_slice(&buf[..count])?;
+        Ok(count)
+    }
+
+    fn flush(&mut self) -> io::Result<()> {
+        if self.can_flush {
+            Ok(())
+        } else {
+            Err(io::Error::from(io::ErrorKind::StorageFull))
+        }
+    }
+}
+
+fn limited(alloc: Global, most: usize, can_flush: bool) -> Full {
+    Full {
+        taken: Vec::new(alloc),
+        most,
+        can_flush,
+    }
+}
+
+fn words(alloc: Global, words: &[&str]) -> Result<Vec<String>, AllocError> {
+    let mut list = Vec::new(alloc);
+    for word in words {
+        list.push(String::from_str(alloc, word)?)?;
+    }
+    Ok(list)
+}
+
+#[test]
+fn a_command_line_asks_for_a_file_and_sides(rt: HostRuntime) -> Result<(), Fail> {
+    for (width, height, wide, high) in [("1", "8192", 1, 8192), ("400", "+3", 400, 3)] {
+        let asked = words(rt.alloc(), &["metaplay", "show", "a.wmf", width, height])?;
+        let want = Line::Show {
+            file: "a.wmf",
+            width: wide,
+            height: high,
+        };
+        assert!(rt;
+            line(rt.alloc(), asked.as_slice()).ok() == Some(want),
+            "{width} {height}"
+        );
+    }
+    Ok(())
+}
+
+#[test]
+fn each_wrong_command_line_has_status_2(rt: HostRuntime) -> Result<(), Fail> {
+    let lines: [&[&str]; 12] = [
+        &["metaplay"],
+        &["metaplay", "--help"],
+        &["metaplay", "show", "--help"],
+        &["metaplay", "play", "a.wmf", "4", "4"],
+        &["metaplay", "show"],
+        &["metaplay", "show", "a.wmf", "4"],
+        &["metaplay", "show", "a.wmf", "4", "4", "4"],
+        &["metaplay", "show", "a.wmf", "0", "4"],
+        &["metaplay", "show", "a.wmf", "4", "8193"],
+        &["metaplay", "show", "a.wmf", "x", "4"],
+        &["metaplay", "show", "a.wmf", "4", "-1"],
+        &["metaplay", "show", "a.wmf", "4", "4294967296"],
+    ];
+    for (k, list) in lines.iter().enumerate() {
+        let asked = words(rt.alloc(), list)?;
+        let Err(error) = line(rt.alloc(), asked.as_slice()) else {
+            return Err(Fail::from("a wrong command line was taken"));
+        };
+        let mut err = Vec::new(rt.alloc());
+        assert!(rt; error.kind() != ErrorKind::OutOfMemory, "line {k}");
+        assert_eq!(rt; usage(&rt, &error, &mut err), 2, "line {k}");
+        assert!(rt; err.is_empty(), "line {k}");
+    }
+    Ok(())
+}
+
+#[test]
+fn showing_a_dot_writes_its_image(rt: HostRuntime) -> Result<(), Fail> {
+    let mut out = limited(rt.alloc(), 1000, true);
+    let mut err = Vec::new(rt.alloc());
+    let status = show_command(rt.alloc(), DOT, 2, 2, &mut out, &mut err);
+    assert_eq!(rt; status, 0);
+    let want = b"P6\n2 2\n255\n\xff\xff\xff\xff\x00\x00\xff\xff\xff\xff\xff\xff";
+    assert_eq!(rt; out.taken.as_slice(), want.as_slice());
+    assert!(rt; err.is_empty());
+    Ok(())
+}
+
+#[test]
+fn a_refused_file_is_reported_in_one_line(rt: HostRuntime) -> Result<(), Fail> {
+    let cases: [(&[u8], &[u8]); 3] = [
+        (b"", b"metaplay: NotMetafile\n"),
+        (&DOT[..54], b"metaplay: NoEnd at record 1\n"),
+        (&DOT[..50], b"metaplay: PastEnd at record 0\n"),
+    ];
+    for (file, text) in cases {
+        let mut out = limited(rt.alloc(), 1000, true);
+        let mut err = Vec::new(rt.alloc());
+        let status = show_command(rt.alloc(), file, 4, 4, &mut out, &mut err);
+        assert_eq!(rt; status, 1);
+        assert_eq!(rt; err.as_slice(), text);
+        assert!(rt; out.taken.is_empty());
+        // A fault of standard error changes no status.
+        let mut closed = limited(rt.alloc(), 0, false);
+        let status = show_command(rt.alloc(), file, 4, 4, &mut out, &mut closed);
+        assert_eq!(rt; status, 1);
+    }
+    Ok(())
+}
+
+#[test]
+fn a_failed_write_or_flush_has_status_3(rt: HostRuntime) -> Result<(), Fail> {
+    for (most, can_flush) in [(0, true), (10, true), (58, true), (59, false)] {
+        let mut out = limited(rt.alloc(), most, can_flush);
+        let mut err = Vec::new(rt.alloc());
+        let status = show_command(rt.alloc(), DOT, 4, 4, &mut out, &mut err);
+        assert_eq!(rt; status, 3, "{most} bytes");
+        assert_eq!(rt; err.as_slice(), b"metaplay: cannot write\n".as_slice());
+        assert_eq!(rt; out.taken.len(), most);
+    }
+    Ok(())
+}
+
+#[test]
+fn an_input_is_read_to_its_end(rt: HostRuntime) -> Result<(), Fail> {
+    for text in ["", "a", "some more bytes than one"] {
+        let mut at_once = text.as_bytes();
+        let bytes = read_input(rt.alloc(), &mut at_once)?;
+        assert_eq!(rt; bytes.as_slice(), text.as_bytes());
+        let mut slow = Failing {
+            bytes: text.as_bytes(),
+            calls_left: 1000,
+        };
+        let bytes = read_input(rt.alloc(), &mut slow)?;
+        assert_eq!(rt; bytes.as_slice(), text.as_bytes());
+    }
+    Ok(())
+}
+
+#[test]
+fn a_reader_that_fails_cannot_be_read(rt: HostRuntime) -> Result<(), Fail> {
+    for calls_left in 0..4 {
+        let mut input = Failing {
+            bytes: b"abc",
+            calls_left,
+        };
+        let read = read_input(rt.alloc(), &mut input);
+        assert_eq!(rt;
+            read.err(),
+            Some(InputFault::CannotRead),
+            "at call {calls_left}"
+        );
+    }
+    Ok(())
+}
+
+#[test]
+fn an_input_has_at_most_268435456_bytes(rt: HostRuntime) -> Result<(), Fail> {
+    let bytes = read_input(rt.alloc(), &mut io::repeat(0).take(268435456))?;
+    assert_eq!(rt; bytes.len(), 268435456);
+    drop(bytes);
+    let read = read_input(rt.alloc(), &mut io::repeat(0).take(268435457));
+    assert_eq!(rt; read.err(), Some(InputFault::CannotRead));
+    Ok(())
+}
+
+#[test]
+fn the_faults_of_an_input_show_their_lines(rt: HostRuntime) -> Result<(), Fail> {
+    let read = format!(in rt.alloc(); "{}", InputFault::CannotRead)?;
+    assert_eq!(rt; read.as_str(), "cannot read");
+    let memory = format!(in rt.alloc(); "{}", InputFault::OutOfMemory)?;
+    assert_eq!(rt; memory.as_str(), "OutOfMemory");
+    Ok(())
+}
