@@ -1,6 +1,6 @@
 //! The place: where a plane point lands on a surface.
 
-ghost use Rattle.std.specs.Prelude.{◌≡◌, ◌≤◌, ◌^◌, ◌↔◌, IsTrue, pos, ◌*ℤ◌, unsigned_abs};
+ghost use Rattle.std.specs.Prelude.{◌≡◌, ◌≤◌, ◌^◌, ◌↔◌, IsTrue, SomeIff, pos, ◌*ℤ◌, unsigned_abs};
 ghost use Rattle.mapping.specs.Surface.{placed, IsPlaced};
 
 use crate::geometry::{Frame, Point};
@@ -49,8 +49,22 @@ impl Place {
     pub fn fits(self, point: Point) -> bool
         ensures { IsTrue result ↔ (IsPlaced (placed_x self point) × IsPlaced (placed_y self point)) }
     {
-        axis_fits(point.x, self.width, self.frame.width)
-            && axis_fits(point.y, self.height, self.frame.height)
+        self.place(point).is_some()
+    }
+
+    /// The placed point, or none where it doesn't fit.
+    pub fn place(self, point: Point) -> Option<Point>
+        ensures { SomeIff result
+            (IsPlaced (placed_x self point) × IsPlaced (placed_y self point))
+            (record { x = placed_x self point; y = placed_y self point }) }
+    {
+        let Some(x) = axis_place(point.x, self.width, self.frame.width) else {
+            return None;
+        };
+        let Some(y) = axis_place(point.y, self.height, self.frame.height) else {
+            return None;
+        };
+        Some(Point { x, y })
     }
 
     /// The placed point.
@@ -61,8 +75,8 @@ impl Place {
         ensures y { result.y ≡ placed_y self point }
     {
         Point {
-            x: axis_place(point.x, self.width, self.frame.width),
-            y: axis_place(point.y, self.height, self.frame.height),
+            x: axis_at(point.x, self.width, self.frame.width),
+            y: axis_at(point.y, self.height, self.frame.height),
         }
     }
 }
@@ -76,20 +90,26 @@ fn scaled(coordinate: i32, surface_side: u32, frame_side: u32) -> i64
     (i64::from(coordinate) * i64::from(surface_side)).div_euclid(i64::from(frame_side))
 }
 
-/// Whether the placed coordinate is within its limit.
+/// The placed coordinate, or none where it is outside its limit.
 #[tactic(auto, unfolding(crate::specs::Limits::place_limit))]
-fn axis_fits(coordinate: i32, surface_side: u32, frame_side: u32) -> bool
+fn axis_place(coordinate: i32, surface_side: u32, frame_side: u32) -> Option<i32>
     requires surface { surface_side ≤ 8192 }
     requires frame { 1 ≤ frame_side }
-    ensures { IsTrue result ↔ IsPlaced (placed coordinate surface_side frame_side) }
+    ensures { SomeIff result
+        (IsPlaced (placed coordinate surface_side frame_side))
+        (placed coordinate surface_side frame_side) }
 {
     let placed = scaled(coordinate, surface_side, frame_side);
-    -PLACE_LIMIT <= placed && placed <= PLACE_LIMIT
+    if -PLACE_LIMIT <= placed && placed <= PLACE_LIMIT {
+        Some(placed as i32)
+    } else {
+        None
+    }
 }
 
 /// The placed coordinate, where it is within its limit.
 #[tactic(auto, unfolding(crate::specs::Limits::place_limit))]
-fn axis_place(coordinate: i32, surface_side: u32, frame_side: u32) -> i32
+fn axis_at(coordinate: i32, surface_side: u32, frame_side: u32) -> i32
     requires surface { surface_side ≤ 8192 }
     requires frame { 1 ≤ frame_side }
     requires fits { IsPlaced (placed coordinate surface_side frame_side) }

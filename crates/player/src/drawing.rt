@@ -66,10 +66,10 @@ fn landing(point: Point, map: &PageMap, place: Place) -> Result<Point, Fault>
     let Some(point) = on_plane(point, map) else {
         return Err(Fault::OffPlane);
     };
-    if !place.fits(point) {
+    let Some(placed) = place.place(point) else {
         return Err(Fault::OffPlane);
-    }
-    Ok(place.at(point))
+    };
+    Ok(placed)
 }
 
 /// The plane point of a page point, or none where it would leave the plane.
