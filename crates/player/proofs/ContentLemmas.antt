@@ -1,11 +1,10 @@
 -- What a source has left is the content of its bytes.
-use Rattle.std.proofs.Common.{◌≡◌, ℕ, zero, suc, ◌+◌, ◌-◌, ◌≤◌, ◌<◌, Bool, true, false, List, [], ◌∷◌, length, Option, Some, None, Result, Ok, Err, eqb, cond, refl, sym, ap, ◌∙◌, subst, arith}
+use Rattle.std.proofs.Common.{◌≡◌, ℕ, zero, suc, ◌-◌, ◌≤◌, Bool, true, false, List, length, Option, Some, None, Result, Ok, Err, eqb, cond, refl, arith}
 use Rattle.draw_ops.specs.declared.fault.Fault.{Fault}
-use Rattle.draw_ops.specs.declared.fault.Fault.TheVariants.{TooManyRecords}
 use Rattle.player.specs.Records.{Record, Framed, framing_fault, front_of, rest_of, record_limit}
 use Rattle.player.specs.Operation.{Operation}
 use Rattle.player.specs.Wmf.{wmf, wmf_meaning}
-use Rattle.player.specs.Ops.{Content, IsContent, nothing_left, broken_by, with_step, followed, content_of}
+use Rattle.player.specs.Ops.{Content, IsContent, nothing_left, content_of}
 use Rattle.player.specs.WmfOps.{content_from, first_of, first_then, meant, unless}
 use Rattle.player.proofs.FramedLemmas.{framed_from, from_fault, from_last, is_framed, too_many}
 

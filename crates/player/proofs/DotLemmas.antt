@@ -1,6 +1,6 @@
 -- One pixel among the places of a surface.
-use Rattle.std.proofs.Common.{◌≡◌, ◌≢◌, ℕ, zero, suc, ◌+◌, ◌*◌, ◌/◌, ◌%◌, ◌<◌, ◌≤◌, Bool, true, false, ◌&&◌, cond, eqb, List, [], ◌∷◌, length, set, ℤ, pos, negsuc, refl, sym, ap, ◌∙◌, subst, arith, inl, inr, Option, Some, None, add-zero}
-use Rattle.std.proofs.lemmas.Bool.{eqb-true, eq-eqb, ne_eqb, and_right, cases_eq}
+use Rattle.std.proofs.Common.{◌≡◌, ◌≢◌, ℕ, zero, suc, ◌+◌, ◌*◌, ◌/◌, ◌%◌, ◌<◌, ◌≤◌, Bool, true, false, ◌&&◌, cond, eqb, List, [], ◌∷◌, length, set, ℤ, pos, negsuc, refl, sym, ap, ◌∙◌, subst, arith, inl, inr, Some, None, add-zero}
+use Rattle.std.proofs.lemmas.Bool.{eq-eqb, ne_eqb, and_right, cases_eq}
 use Rattle.std.proofs.lemmas.Option.{same_Some, none-some}
 use Rattle.std.proofs.lemmas.Nat.{mul-add-lt, div-mul-add, mod-mul-add, div-add-mod', mod_below, div_below}
 use Rattle.mapping.specs.declared.geometry.Colour.{Colour}

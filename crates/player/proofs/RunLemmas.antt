@@ -5,7 +5,7 @@ use Rattle.mapping.specs.declared.geometry.Frame.{Frame}
 use Rattle.mapping.specs.declared.place.Place.{Place}
 use Rattle.canvas.specs.Image.{Image}
 use Rattle.player.specs.Playing.{surface_at}
-use Rattle.player.specs.Records.{Framed, IsFramed}
+use Rattle.player.specs.Records.{Framed}
 use Rattle.player.specs.Operation.{Operation, no_effect, pixel}
 use Rattle.player.specs.Wmf.{wmf, wmf_meaning}
 use Rattle.player.specs.Ops.{Content, IsContent, content_of, with_step}
@@ -13,7 +13,7 @@ use Rattle.player.specs.Opening.{Format, placeable, Opened, opened, records_of}
 use Rattle.player.specs.State.{State, Surface, start_of, fault_of, next}
 use Rattle.player.specs.Layer.{layers_of}
 use Rattle.player.specs.Apply.{apply_all, writes_of_layers}
-use Rattle.player.specs.Run.{Outcome, shown, refused, run_steps, ended, unless_refused, RunOpened, WritesOpened, Run, Writes, writes_of_steps, RunEndsInOneWay, IsFileContent, surface_of}
+use Rattle.player.specs.Run.{Outcome, refused, run_steps, ended, unless_refused, RunOpened, WritesOpened, Run, Writes, writes_of_steps, RunEndsInOneWay, IsFileContent, surface_of}
 use Rattle.player.proofs.FramedLemmas.{one_way}
 
 -- the bytes have one content

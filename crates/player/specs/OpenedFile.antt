@@ -1,5 +1,5 @@
 -- The value of an opened file of the code.
-use Rattle.std.specs.Prelude.{ℕ, List, Option, None}
+use Rattle.std.specs.Prelude.{None}
 use Rattle.mapping.specs.PageMap.{axis_numbers}
 use Rattle.player.specs.Opening.{Opened, placeable}
 use Rattle.player.specs.declared.opening.OpenedFile.{OpenedFile}

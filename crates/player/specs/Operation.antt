@@ -1,5 +1,5 @@
 -- What a record asks for, as plain values.
-use Rattle.std.specs.Prelude.{ℕ, ℤ}
+use Rattle.std.specs.Prelude.{ℤ}
 use Rattle.mapping.specs.declared.geometry.Colour.{Colour}
 
 -- one operation: none, or the pixel at a page point

@@ -2,7 +2,6 @@
 use Rattle.std.specs.Prelude.{◌≡◌, ℕ, suc, ◌+◌, List, [], ◌∷◌, Option, Some, None, Result, Ok, Err}
 use Rattle.draw_ops.specs.declared.fault.Fault.{Fault}
 use Rattle.canvas.specs.Image.{Image, blank}
-use Rattle.player.specs.Records.{Framing, Record}
 use Rattle.player.specs.Operation.{Operation}
 use Rattle.player.specs.Wmf.{wmf, wmf_meaning}
 use Rattle.player.specs.Ops.{Content, IsContent}

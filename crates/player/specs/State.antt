@@ -1,5 +1,5 @@
 -- The playing state, as far as records change it.
-use Rattle.std.specs.Prelude.{ℕ, ℤ, pos, negsuc, Bool, ◌&&◌, true, false, int_le, neg_ℤ, if◌then◌else◌, List, [], Option, Some, None}
+use Rattle.std.specs.Prelude.{ℕ, ℤ, pos, Bool, ◌&&◌, int_le, neg_ℤ, if◌then◌else◌, List, [], Option, Some, None}
 use Rattle.draw_ops.specs.declared.fault.Fault.{Fault}
 use Rattle.draw_ops.specs.declared.fault.Fault.TheVariants.{OffPlane}
 use Rattle.mapping.specs.Limits.{plane_limit, place_limit}

@@ -1,5 +1,5 @@
 -- What a source of a WMF file's operations has left, and what it gives.
-use Rattle.std.specs.Prelude.{◌≡◌, ℕ, zero, suc, ◌-◌, ◌≤◌, ◌==◌, List, if◌then◌else◌, Option, Some, None, Result, Ok, Err}
+use Rattle.std.specs.Prelude.{◌≡◌, ℕ, zero, suc, ◌-◌, ◌==◌, List, if◌then◌else◌, Option, Some, None, Result, Ok, Err}
 use Rattle.draw_ops.specs.declared.fault.Fault.{Fault}
 use Rattle.draw_ops.specs.declared.fault.Fault.TheVariants.{TooManyRecords}
 use Rattle.draw_ops.specs.Fault.{IsInRecord}

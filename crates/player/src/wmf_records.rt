@@ -77,13 +77,13 @@ fn size(bytes: &[u8]) -> usize
 }
 
 /// What a record asks for, or the first fault in its number, its parameters or its values.
-pub(crate) fn meaning(record: WmfRecord<'_>) -> Result<Operation, Fault>
-    ensures value { wmf_meaning (record_of record.entry) ≡ result_map operation_of result }
+pub(crate) fn meaning(front: WmfRecord<'_>) -> Result<Operation, Fault>
+    ensures value { wmf_meaning (record_of front.entry) ≡ result_map operation_of result }
     ensures in_record { IfErr result IsInRecord }
 {
-    match record.function {
+    match front.function {
         META_EOF => Ok(Operation::NoEffect),
-        META_SETPIXEL => pixel(record.bytes),
+        META_SETPIXEL => pixel(front.bytes),
         function => Err(Fault::Unsupported(u32::from(function))),
     }
 }

@@ -1,4 +1,4 @@
-use Rattle.std.proofs.Common.{◌≡◌, ℕ, ◌+◌, ap, ◌∙◌}
+use Rattle.std.proofs.Common.{◌+◌, ap, ◌∙◌}
 use Rattle.player.proofs.DotLemmas.{dots_are}
 use Rattle.player.proofs.drawing.draw.Goals as goal
 

@@ -1,5 +1,5 @@
 -- Each turn plays one operation, and what is left of the run ends as before.
-use Rattle.std.proofs.Common.{◌≡◌, ◌+◌, length, ◌∙◌, arith, rules}
+use Rattle.std.proofs.Common.{◌≡◌, ◌∙◌, arith, rules}
 use Rattle.player.specs.Records.{record_limit}
 use Rattle.player.specs.Ops.{with_step}
 use Rattle.player.specs.OperationOf.{operation_of}

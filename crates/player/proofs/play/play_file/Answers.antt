@@ -1,7 +1,7 @@
 -- What `play` says of the source's content is said of the file, whose content that is.
-use Rattle.std.proofs.Common.{◌≡◌, ℕ, List, subst, sym, ap, ◌∙◌}
-use Rattle.canvas.specs.CanvasState.{CanvasState, image_of}
-use Rattle.player.specs.Ops.{Content, IsContent}
+use Rattle.std.proofs.Common.{ℕ, List, subst, sym, ap, ◌∙◌}
+use Rattle.canvas.specs.CanvasState.{image_of}
+use Rattle.player.specs.Ops.{IsContent}
 use Rattle.player.specs.State.{Surface}
 use Rattle.player.specs.Wmf.{wmf, wmf_meaning}
 use Rattle.player.specs.Run.{writes_of_steps}

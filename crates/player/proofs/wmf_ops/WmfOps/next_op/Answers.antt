@@ -1,5 +1,5 @@
 -- While records are left, the content is what the first record gives and what the rest has.
-use Rattle.std.proofs.Common.{◌≡◌, ℕ, suc, ◌+◌, ◌-◌, ◌≤◌, List, Bool, true, false, eqb, Result, Ok, Err, take, drop, length, refl, sym, ap, ◌∙◌, arith, rules, add-one}
+use Rattle.std.proofs.Common.{◌≡◌, ℕ, suc, ◌+◌, ◌-◌, ◌≤◌, List, Result, take, drop, length, refl, sym, ap, ◌∙◌, rules, add-one}
 use Rattle.std.proofs.lemmas.List.{take_rest}
 use Rattle.draw_ops.specs.declared.fault.Fault.{Fault}
 use Rattle.player.specs.declared.wmf_ops.Reading.{Reading}
@@ -8,7 +8,7 @@ use Rattle.player.specs.Records.{Record, record_limit, rest_of}
 use Rattle.player.specs.Operation.{Operation}
 use Rattle.player.specs.OperationOf.{operation_of}
 use Rattle.player.specs.Wmf.{wmf}
-use Rattle.player.specs.Ops.{Content, nothing_left, broken_by, with_step}
+use Rattle.player.specs.Ops.{Content, broken_by, with_step}
 use Rattle.player.specs.WmfOps.{content_from, content_left, first_of, first_then}
 use Rattle.player.proofs.ContentLemmas.{content_step}
 use Rattle.player.proofs.wmf_ops.WmfOps.next_op.Goals as goal
