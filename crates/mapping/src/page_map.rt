@@ -34,7 +34,7 @@ impl PageAxis {
     /// side the viewport.
     fn placeable(origin: i32, extent: i32) -> PageAxis
         requires has_extent { extent ≢ pos 0 }
-        requires not_too_wide { unsigned_abs extent ≤ 2 ^ 28 }
+        requires can_be_turned { unsigned_abs extent < 2 ^ 31 }
         ensures { axis_numbers result ≡ placeable_axis origin extent }
     {
         PageAxis {
@@ -114,9 +114,9 @@ impl PageMap {
     /// these sides, negative where the right or the bottom comes first.
     pub fn placeable(corner: Point, sides: Point) -> PageMap
         requires wide { sides.x ≢ pos 0 }
-        requires wide_within { unsigned_abs sides.x ≤ 2 ^ 28 }
+        requires width_can_be_turned { unsigned_abs sides.x < 2 ^ 31 }
         requires high { sides.y ≢ pos 0 }
-        requires high_within { unsigned_abs sides.y ≤ 2 ^ 28 }
+        requires height_can_be_turned { unsigned_abs sides.y < 2 ^ 31 }
         ensures x { axis_numbers result.x ≡ placeable_axis corner.x sides.x }
         ensures y { axis_numbers result.y ≡ placeable_axis corner.y sides.y }
     {

@@ -9,7 +9,10 @@ use std::io::{ErrorKind, Read};
 use thiserror::Error;
 
 /// The longest input, in bytes.
-const INPUT_LIMIT: u64 = 268435456;
+const INPUT_LIMIT: usize = 268435456;
+
+/// How many bytes a read asks for.
+const PIECE: usize = 65536;
 
 /// Why an input was not read.
 #[derive(Clone, Copy, Debug, PartialEq, Eq, Error)]
@@ -23,7 +26,7 @@ pub enum InputFault {
 }
 
 impl InputFault {
-    /// The fault that an error of the system is.
+    /// The fault that an error of the system is, where a file is opened.
     pub(crate) fn of(error: io::Error) -> InputFault {
         if error.kind() == ErrorKind::OutOfMemory {
             InputFault::OutOfMemory
@@ -33,16 +36,23 @@ impl InputFault {
     }
 }
 
-/// All bytes of a reader, to its end. A read that was interrupted is tried again.
+/// All bytes of a reader, to its end. Any error of a read is `CannotRead`, whatever its kind.
 pub fn read_input<R: Read>(alloc: Global, input: &mut R) -> Result<Vec<u8>, InputFault>
     ensures bytes { IfOk result (λ bytes. IfSome (R.remaining input.old) (λ all. bytes.items ≡ all)) }
     ensures within { IfOk result (λ bytes. vec_len bytes ≤ input_limit) }
 {
     let mut bytes = Vec::new(alloc);
-    let read = input.take(INPUT_LIMIT + 1).read_to_end(&mut bytes);
-    match read {
-        Ok(count) if count as u64 <= INPUT_LIMIT => Ok(bytes),
-        Ok(_) => Err(InputFault::CannotRead),
-        Err(error) => Err(InputFault::of(error)),
+    let mut piece = [0u8; PIECE];
+    while bytes.len() <= INPUT_LIMIT {
+        let Ok(count) = input.read(&mut piece) else {
+            return Err(InputFault::CannotRead);
+        };
+        if count == 0 {
+            return Ok(bytes);
+        }
+        if bytes.extend_from_slice(&piece[..count]).is_err() {
+            return Err(InputFault::OutOfMemory);
+        }
     }
+    Err(InputFault::CannotRead)
 }

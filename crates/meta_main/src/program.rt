@@ -1,5 +1,7 @@
 //! The program: the command line, its inputs, and the command that they ask for.
 
+ghost use Rattle.std.specs.Prelude.{◌≡◌, ◌⊎◌};
+
 use crate::asked::Line;
 use crate::command_line::line;
 use crate::input::{InputFault, read_input};
@@ -17,27 +19,29 @@ const STANDARD_INPUT: &str = "stdin";
 /// Runs the program, and answers its status.
 pub(crate) fn run<R, I, O, E>(rt: &R, input: &mut I, out: &mut O, err: &mut E) -> u8
 where
-    R: Env + Files + Print + Eprint + AllocGlobal,
+    R: Env + Files + AllocGlobal,
     I: Read,
     O: Write,
     E: Write,
 {
     let words = match words(rt) {
         Ok(words) => words,
-        Err(fault) => return no_input(fault, err),
+        Err(InputFault::OutOfMemory) => return no_input(InputFault::OutOfMemory, err),
+        Err(InputFault::CannotRead) => {
+            report(err, "the command line is not UTF-8 text");
+            return USAGE;
+        }
     };
     match line(rt.alloc(), words.as_slice()) {
-        Ok(
-            Line::Show {
-                file,
-                width,
-                height,
-            },
-        ) => match read_file(rt, file, input) {
+        Ok(Line::Show {
+            file,
+            width,
+            height,
+        }) => match read_file(rt, file, input) {
             Ok(bytes) => show_command(rt.alloc(), bytes.as_slice(), width, height, out, err),
             Err(fault) => no_input(fault, err),
         },
-        Err(error) => usage(rt, &error, err),
+        Err(error) => usage(&error, out, err),
     }
 }
 
@@ -50,7 +54,7 @@ fn words<R: Env + AllocGlobal>(rt: &R) -> Result<Vec<String>, InputFault> {
 }
 
 /// The bytes of a file, or of standard input.
-fn read_file<R: Files + AllocGlobal, I: Read>(
+pub(crate) fn read_file<R: Files + AllocGlobal, I: Read>(
     rt: &R,
     file: &str,
     input: &mut I,
@@ -63,7 +67,10 @@ fn read_file<R: Files + AllocGlobal, I: Read>(
 }
 
 /// Reports that an input was not read, and answers the status.
-fn no_input<E: Write>(fault: InputFault, err: &mut E) -> u8 {
+pub(crate) fn no_input<E: Write>(fault: InputFault, err: &mut E) -> u8
+    ensures input { fault ≡ InputFault.CannotRead → result ≡ 3 }
+    ensures memory { fault ≡ InputFault.OutOfMemory → result ≡ 4 }
+{
     report(err, fault);
     match fault {
         InputFault::CannotRead => INPUT_OR_OUTPUT,
@@ -71,11 +78,17 @@ fn no_input<E: Write>(fault: InputFault, err: &mut E) -> u8 {
     }
 }
 
-/// Shows the usage or the help that was asked for, and answers the status.
-pub(crate) fn usage<R: Print + Eprint, E: Write>(rt: &R, error: &clap::Error, err: &mut E) -> u8 {
+/// Shows the usage, or the help that was asked for, where `clap` says, and answers the status.
+pub(crate) fn usage<O: Write, E: Write>(error: &clap::Error, out: &mut O, err: &mut E) -> u8
+    ensures statuses { (result ≡ 2) ⊎ (result ≡ 4) }
+{
     if error.kind() == ErrorKind::OutOfMemory {
         return no_input(InputFault::OutOfMemory, err);
     }
-    let _ = error.print(rt);
+    if error.use_stderr() {
+        let _ = write!(err, "{error}");
+    } else {
+        let _ = write!(out, "{error}");
+    }
     USAGE
 }

@@ -3,9 +3,8 @@
 use crate::asked::Line;
 use crate::command_line::line;
 use crate::input::{InputFault, read_input};
-use crate::program::usage;
+use crate::program::{no_input, read_file, usage};
 use crate::show::show_command;
-use clap::error::ErrorKind;
 use std::alloc::{AllocError, Global};
 use std::io;
 use std::io::{Read, Write};
@@ -21,12 +20,13 @@ const DOT: &[u8] = b"\xd7\xcd\xc6\x9a\0\0\0\0\0\0\x04\0\x04\0\x60\0\0\0\0\0\x71\
 struct Failing<'a> {
     bytes: &'a [u8],
     calls_left: u32,
+    kind: io::ErrorKind,
 }
 
 impl Read for Failing<'_> {
     fn read(&mut self, buf: &mut [u8]) -> io::Result<usize> {
         if self.calls_left == 0 {
-            return Err(io::Error::from(io::ErrorKind::BrokenPipe));
+            return Err(io::Error::from(self.kind));
         }
         self.calls_left -= 1;
         let Some((first, others)) = self.bytes.split_first() else {
@@ -104,30 +104,82 @@ fn a_command_line_asks_for_a_file_and_sides(rt: HostRuntime) -> Result<(), Fail>
 
 #[test]
 fn each_wrong_command_line_has_status_2(rt: HostRuntime) -> Result<(), Fail> {
-    let lines: [&[&str]; 12] = [
-        &["metaplay"],
-        &["metaplay", "--help"],
-        &["metaplay", "show", "--help"],
-        &["metaplay", "play", "a.wmf", "4", "4"],
-        &["metaplay", "show"],
-        &["metaplay", "show", "a.wmf", "4"],
-        &["metaplay", "show", "a.wmf", "4", "4", "4"],
-        &["metaplay", "show", "a.wmf", "0", "4"],
-        &["metaplay", "show", "a.wmf", "4", "8193"],
-        &["metaplay", "show", "a.wmf", "x", "4"],
-        &["metaplay", "show", "a.wmf", "4", "-1"],
-        &["metaplay", "show", "a.wmf", "4", "4294967296"],
+    let lines: [(&[&str], &str); 12] = [
+        (&["metaplay"], "requires a subcommand"),
+        (&["metaplay", "play", "a.wmf", "4", "4"], "unrecognized subcommand"),
+        (&["metaplay", "show"], "were not provided"),
+        (&["metaplay", "show", "a.wmf", "4"], "were not provided"),
+        (&["metaplay", "show", "a.wmf", "4", "4", "4"], "unexpected argument"),
+        (&["metaplay", "show", "a.wmf", "0", "4"], "0 is not in 1..=8192"),
+        (&["metaplay", "show", "a.wmf", "4", "8193"], "8193 is not in 1..=8192"),
+        (&["metaplay", "show", "a.wmf", "x", "4"], "invalid value 'x'"),
+        (&["metaplay", "show", "a.wmf", "4", "-1"], "unexpected argument"),
+        (&["metaplay", "show", "a.wmf", "4", "4294967296"], "4294967296 is not in 1..=8192"),
+        (&["metaplay", "show", "a.wmf", "4", ""], "for '<H>'"),
+        (&["metaplay", "--bands"], "unexpected argument"),
     ];
-    for (k, list) in lines.iter().enumerate() {
+    for (list, text) in lines {
         let asked = words(rt.alloc(), list)?;
         let Err(error) = line(rt.alloc(), asked.as_slice()) else {
             return Err(Fail::from("a wrong command line was taken"));
         };
+        let mut out = Vec::new(rt.alloc());
         let mut err = Vec::new(rt.alloc());
-        assert!(rt; error.kind() != ErrorKind::OutOfMemory, "line {k}");
-        assert_eq!(rt; usage(&rt, &error, &mut err), 2, "line {k}");
-        assert!(rt; err.is_empty(), "line {k}");
+        assert_eq!(rt; usage(&error, &mut out, &mut err), 2, "{text}");
+        assert!(rt; out.is_empty(), "{text}");
+        let shown = str::from_utf8(err.as_slice())?;
+        assert!(rt; shown.contains(text), "{text} in {shown}");
     }
+    Ok(())
+}
+
+#[test]
+fn help_that_was_asked_for_goes_to_standard_output(rt: HostRuntime) -> Result<(), Fail> {
+    let lines: [&[&str]; 3] = [
+        &["metaplay", "--help"],
+        &["metaplay", "show", "--help"],
+        &["metaplay", "help", "show"],
+    ];
+    for list in lines {
+        let asked = words(rt.alloc(), list)?;
+        let Err(error) = line(rt.alloc(), asked.as_slice()) else {
+            return Err(Fail::from("help was taken for work"));
+        };
+        let mut out = Vec::new(rt.alloc());
+        let mut err = Vec::new(rt.alloc());
+        assert_eq!(rt; usage(&error, &mut out, &mut err), 2);
+        assert!(rt; err.is_empty());
+        assert!(rt; str::from_utf8(out.as_slice())?.contains("Usage: metaplay"));
+    }
+    Ok(())
+}
+
+#[test]
+fn an_input_that_fails_is_reported_in_one_line(rt: HostRuntime) -> Result<(), Fail> {
+    let cases: [(InputFault, u8, &[u8]); 2] = [
+        (InputFault::CannotRead, 3, b"metaplay: cannot read\n"),
+        (InputFault::OutOfMemory, 4, b"metaplay: OutOfMemory\n"),
+    ];
+    for (fault, status, text) in cases {
+        let mut err = Vec::new(rt.alloc());
+        assert_eq!(rt; no_input(fault, &mut err), status);
+        assert_eq!(rt; err.as_slice(), text);
+    }
+    Ok(())
+}
+
+#[test]
+fn a_file_is_read_and_not_standard_input(rt: HostRuntime) -> Result<(), Fail> {
+    let mut input = "from standard input".as_bytes();
+    let bytes = read_file(&rt, "stdin", &mut input)?;
+    assert_eq!(rt; bytes.as_slice(), b"from standard input".as_slice());
+    // A directory can be opened, and not read; this one is there on every machine.
+    let mut input = "from standard input".as_bytes();
+    assert_eq!(rt; read_file(&rt, "/", &mut input).err(), Some(InputFault::CannotRead));
+    let mut input = "from standard input".as_bytes();
+    assert_eq!(rt; read_file(&rt, "/no/such/file", &mut input).err(), Some(InputFault::CannotRead));
+    let bytes = read_file(&rt, "/dev/null", &mut input)?;
+    assert!(rt; bytes.is_empty());
     Ok(())
 }
 
@@ -187,6 +239,7 @@ fn an_input_is_read_to_its_end(rt: HostRuntime) -> Result<(), Fail> {
         let mut slow = Failing {
             bytes: text.as_bytes(),
             calls_left: 1000,
+            kind: io::ErrorKind::BrokenPipe,
         };
         let bytes = read_input(rt.alloc(), &mut slow)?;
         assert_eq!(rt; bytes.as_slice(), text.as_bytes());
@@ -196,17 +249,21 @@ fn an_input_is_read_to_its_end(rt: HostRuntime) -> Result<(), Fail> {
 
 #[test]
 fn a_reader_that_fails_cannot_be_read(rt: HostRuntime) -> Result<(), Fail> {
-    for calls_left in 0..4 {
-        let mut input = Failing {
-            bytes: b"abc",
-            calls_left,
-        };
-        let read = read_input(rt.alloc(), &mut input);
-        assert_eq!(rt;
-            read.err(),
-            Some(InputFault::CannotRead),
-            "at call {calls_left}"
-        );
+    // Whatever the kind of its error is, it was no refused growth.
+    for kind in [
+        io::ErrorKind::BrokenPipe,
+        io::ErrorKind::Interrupted,
+        io::ErrorKind::OutOfMemory,
+    ] {
+        for calls_left in 0..4 {
+            let mut input = Failing {
+                bytes: b"abc",
+                calls_left,
+                kind,
+            };
+            let read = read_input(rt.alloc(), &mut input);
+            assert_eq!(rt; read.err(), Some(InputFault::CannotRead), "at call {calls_left}");
+        }
     }
     Ok(())
 }

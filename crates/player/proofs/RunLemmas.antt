@@ -13,7 +13,7 @@ use Rattle.player.specs.Opening.{Format, placeable, Opened, opened, records_of}
 use Rattle.player.specs.State.{State, Surface, start_of, fault_of, next}
 use Rattle.player.specs.Layer.{layers_of}
 use Rattle.player.specs.Apply.{apply_all, writes_of_layers}
-use Rattle.player.specs.Run.{Outcome, refused, run_steps, ended, unless_refused, RunOpened, WritesOpened, Run, Writes, writes_of_steps, RunEndsInOneWay, IsFileContent, surface_of}
+use Rattle.player.specs.Run.{Outcome, shown, refused, run_steps, ended, unless_refused, RunOpened, WritesOpened, Run, Writes, writes_of_steps, RunEndsInOneWay, WritesAreOne, IsShown, white, IsFileContent, surface_of}
 use Rattle.player.proofs.FramedLemmas.{one_way}
 
 -- the bytes have one content
@@ -58,8 +58,18 @@ run_ends file width height image = by_opening (opened file) file width height im
 pub opened_run : (file : List ℕ) (width height : ℕ) (image : Image) (o : Opened) (content : Content) (outcome : Outcome) → opened file ≡ Ok o → IsFileContent o.format file content → run_steps content.steps content.fault 0 (start_of o) (surface_of o width height) image ≡ outcome → Run file width height image outcome
 opened_run file width height image o content outcome e h r = subst (λ (q : Result Opened Fault). RunOpened q file width height image outcome) (sym e) (content, h, sym r)
 
-pub opened_writes : (file : List ℕ) (width height writes : ℕ) (o : Opened) (content : Content) → opened file ≡ Ok o → IsFileContent o.format file content → writes_of_steps content.steps (start_of o) (surface_of o width height) ≡ writes → Writes file width height writes
-opened_writes file width height writes o content e h r = subst (λ (q : Result Opened Fault). WritesOpened q file width height writes) (sym e) (content, h, sym r)
+pub opened_writes : (file : List ℕ) (width height writes : ℕ) (o : Opened) (content : Content) (image : Image) → opened file ≡ Ok o → IsFileContent o.format file content → run_steps content.steps content.fault 0 (start_of o) (surface_of o width height) (white width height) ≡ shown image → writes_of_steps content.steps (start_of o) (surface_of o width height) ≡ writes → Writes file width height writes
+opened_writes file width height writes o content image e h s r = subst (λ (q : Result Opened Fault). WritesOpened q file width height writes) (sym e) (content, h, subst IsShown (sym s) tt, sym r)
+
+by_writes : (o : Result Opened Fault) (file : List ℕ) (width height m n : ℕ) → WritesOpened o file width height m → WritesOpened o file width height n → m ≡ n
+by_writes (Err fault) file width height m n h k = absurd h
+by_writes (Ok o) file width height m n h k =
+    let only = one_file_content o.format file in
+    let writes : Content → ℕ = λ content. writes_of_steps content.steps (start_of o) (surface_of o width height) in
+    h.3 ∙ ap writes (only.2 h.0 h.1) ∙ sym (ap writes (only.2 k.0 k.1)) ∙ sym k.3
+
+pub writes_are_one : WritesAreOne
+writes_are_one file width height m n h k = by_writes (opened file) file width height m n h k
 
 -- the same run, at a place and an image that are known
 pub same_run : (steps : List Operation) (fault : Option Fault) (state : State) (s t : Surface) (i j : Image) → s ≡ t → i ≡ j → run_steps steps fault 0 state s i ≡ run_steps steps fault 0 state t j

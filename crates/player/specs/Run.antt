@@ -51,17 +51,28 @@ RunOpened (Ok o) file width height image outcome =
     (content : Content) × IsFileContent o.format file content
     × (outcome ≡ run_steps content.steps content.fault 0 (start_of o) (surface_of o width height) image)
 
--- The run of a file at a size over an image ends so: opening has the first fault, or else the operations of the records have it, or
+-- The run of a file at a size, over an image of that size, ends so: opening has the first fault, or else the operations of the records have it, or
 -- else the image is the last one.
 abbrev pub Run : List ℕ → ℕ → ℕ → Image → Outcome → Type 0
 Run file width height image outcome = RunOpened (opened file) file width height image outcome
 
+-- the run has no fault
+abbrev pub IsShown : Outcome → Type 0
+IsShown (shown image) = Unit {0}
+IsShown (refused number fault) = ⊥
+
+-- the white image of these sides
+abbrev pub white : ℕ → ℕ → Image
+white width height = blank width height (record { r = 255; g = 255; b = 255 })
+
 abbrev pub WritesOpened : Result Opened Fault → List ℕ → ℕ → ℕ → ℕ → Type 0
 WritesOpened (Err fault) file width height writes = ⊥
 WritesOpened (Ok o) file width height writes =
-    (content : Content) × IsFileContent o.format file content × (writes ≡ writes_of_steps content.steps (start_of o) (surface_of o width height))
+    (content : Content) × IsFileContent o.format file content
+    × IsShown (run_steps content.steps content.fault 0 (start_of o) (surface_of o width height) (white width height))
+    × (writes ≡ writes_of_steps content.steps (start_of o) (surface_of o width height))
 
--- how many pixels the run of a file at a size writes
+-- How many pixels the run of a file at a size writes, where it has no fault: none over white, and so none over any image.
 abbrev pub Writes : List ℕ → ℕ → ℕ → ℕ → Type 0
 Writes file width height writes = WritesOpened (opened file) file width height writes
 
@@ -72,6 +83,6 @@ RunEndsInOneWay =
     → ((outcome : Outcome) × Run file width height image outcome × ((other : Outcome) → Run file width height image other → other ≡ outcome))
     × ((other : Image) (number : Option ℕ) (fault : Fault) → Run file width height image (refused number fault) → Run file width height other (refused number fault))
 
--- the white image of these sides
-abbrev pub white : ℕ → ℕ → Image
-white width height = blank width height (record { r = 255; g = 255; b = 255 })
+-- a run writes one number of pixels
+abbrev pub WritesAreOne : Type 0
+WritesAreOne = (file : List ℕ) (width height m n : ℕ) → Writes file width height m → Writes file width height n → m ≡ n

@@ -10,7 +10,8 @@ use Rattle.player.specs.Operation.{Operation, no_effect, pixel}
 abbrev pub wmf : Framing
 wmf = record { head = 6; size_place = 0; unit = 2; multiple = 2; number_place = 4; number_length = 2; last = 0 }
 
--- META_SETPIXEL, 2.3.3.19: the colour, y and x. A colour's type is 0 or 2 (2.2.2.8); any other counts in a palette.
+-- META_SETPIXEL, 2.3.3.19: the colour, y and x. The byte behind a colour's blue (2.2.2.8, reserved) is its type: 0 or 2, by a rule of
+-- our own, and any other is a colour of a palette.
 abbrev pub set_pixel : List ℕ → Result Operation Fault
 set_pixel bytes =
     if nat_lt (length bytes) 14 then Err BadParams

@@ -6,7 +6,7 @@ ghost use Rattle.draw_ops.specs.Fault.{IsInRecord};
 ghost use Rattle.player.specs.Playing.{state_of, surface_at};
 ghost use Rattle.player.specs.Records.{FramedInOneWay, record_limit};
 ghost use Rattle.player.specs.RefusedBy.{IsOutOfMemory};
-ghost use Rattle.player.specs.Run.{Run, RunEndsInOneWay, Writes, shown, refused, run_steps, white, writes_of_steps};
+ghost use Rattle.player.specs.Run.{Run, RunEndsInOneWay, Writes, WritesAreOne, shown, refused, run_steps, white, writes_of_steps};
 
 use crate::drawing::draw;
 use crate::opening::open;
@@ -24,9 +24,10 @@ pub fn records_law()
 {}
 
 /// A run ends in one way, and whether it is refused, and by which fault, doesn't depend on the image
-/// that it starts from.
+/// that it starts from; and it writes one number of pixels.
 pub fn run_law()
-    ensures { RunEndsInOneWay }
+    ensures end { RunEndsInOneWay }
+    ensures writes { WritesAreOne }
 {}
 
 /// Plays a file on a white surface of `width` by `height` pixels. The canvas shows the image that the

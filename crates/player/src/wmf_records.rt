@@ -108,7 +108,8 @@ fn pixel(bytes: &[u8]) -> Result<Operation, Fault>
     })
 }
 
-/// Whether a colour of this type is given by red, green and blue ([MS-WMF] 2.2.2.8).
+/// Whether a colour of this type is given by red, green and blue: a rule of our own on the byte that
+/// [MS-WMF] 2.2.2.8 reserves.
 fn is_rgb(kind: u8) -> bool
     ensures { result ≡ (kind == 0 || kind == 2) }
 {
