@@ -37,6 +37,7 @@ impl InputFault {
 }
 
 /// All bytes of a reader, to its end. Any error of a read is `CannotRead`, whatever its kind.
+#[tactic(auto, unfolding(crate::specs::Reading::input_limit))]
 pub fn read_input<R: Read>(alloc: Global, input: &mut R) -> Result<Vec<u8>, InputFault>
     ensures bytes { IfOk result (λ bytes. IfSome (R.remaining input.old) (λ all. bytes.items ≡ all)) }
     ensures within { IfOk result (λ bytes. vec_len bytes ≤ input_limit) }

@@ -33,11 +33,13 @@ where
         }
     };
     match line(rt.alloc(), words.as_slice()) {
-        Ok(Line::Show {
-            file,
-            width,
-            height,
-        }) => match read_file(rt, file, input) {
+        Ok(
+            Line::Show {
+                file,
+                width,
+                height,
+            },
+        ) => match read_file(rt, file, input) {
             Ok(bytes) => show_command(rt.alloc(), bytes.as_slice(), width, height, out, err),
             Err(fault) => no_input(fault, err),
         },

@@ -106,15 +106,36 @@ fn a_command_line_asks_for_a_file_and_sides(rt: HostRuntime) -> Result<(), Fail>
 fn each_wrong_command_line_has_status_2(rt: HostRuntime) -> Result<(), Fail> {
     let lines: [(&[&str], &str); 12] = [
         (&["metaplay"], "requires a subcommand"),
-        (&["metaplay", "play", "a.wmf", "4", "4"], "unrecognized subcommand"),
+        (
+            &["metaplay", "play", "a.wmf", "4", "4"],
+            "unrecognized subcommand",
+        ),
         (&["metaplay", "show"], "were not provided"),
         (&["metaplay", "show", "a.wmf", "4"], "were not provided"),
-        (&["metaplay", "show", "a.wmf", "4", "4", "4"], "unexpected argument"),
-        (&["metaplay", "show", "a.wmf", "0", "4"], "0 is not in 1..=8192"),
-        (&["metaplay", "show", "a.wmf", "4", "8193"], "8193 is not in 1..=8192"),
-        (&["metaplay", "show", "a.wmf", "x", "4"], "invalid value 'x'"),
-        (&["metaplay", "show", "a.wmf", "4", "-1"], "unexpected argument"),
-        (&["metaplay", "show", "a.wmf", "4", "4294967296"], "4294967296 is not in 1..=8192"),
+        (
+            &["metaplay", "show", "a.wmf", "4", "4", "4"],
+            "unexpected argument",
+        ),
+        (
+            &["metaplay", "show", "a.wmf", "0", "4"],
+            "0 is not in 1..=8192",
+        ),
+        (
+            &["metaplay", "show", "a.wmf", "4", "8193"],
+            "8193 is not in 1..=8192",
+        ),
+        (
+            &["metaplay", "show", "a.wmf", "x", "4"],
+            "invalid value 'x'",
+        ),
+        (
+            &["metaplay", "show", "a.wmf", "4", "-1"],
+            "unexpected argument",
+        ),
+        (
+            &["metaplay", "show", "a.wmf", "4", "4294967296"],
+            "4294967296 is not in 1..=8192",
+        ),
         (&["metaplay", "show", "a.wmf", "4", ""], "for '<H>'"),
         (&["metaplay", "--bands"], "unexpected argument"),
     ];
@@ -175,9 +196,15 @@ fn a_file_is_read_and_not_standard_input(rt: HostRuntime) -> Result<(), Fail> {
     assert_eq!(rt; bytes.as_slice(), b"from standard input".as_slice());
     // A directory can be opened, and not read; this one is there on every machine.
     let mut input = "from standard input".as_bytes();
-    assert_eq!(rt; read_file(&rt, "/", &mut input).err(), Some(InputFault::CannotRead));
+    assert_eq!(rt;
+        read_file(&rt, "/", &mut input).err(),
+        Some(InputFault::CannotRead)
+    );
     let mut input = "from standard input".as_bytes();
-    assert_eq!(rt; read_file(&rt, "/no/such/file", &mut input).err(), Some(InputFault::CannotRead));
+    assert_eq!(rt;
+        read_file(&rt, "/no/such/file", &mut input).err(),
+        Some(InputFault::CannotRead)
+    );
     let bytes = read_file(&rt, "/dev/null", &mut input)?;
     assert!(rt; bytes.is_empty());
     Ok(())
@@ -262,7 +289,11 @@ fn a_reader_that_fails_cannot_be_read(rt: HostRuntime) -> Result<(), Fail> {
                 kind,
             };
             let read = read_input(rt.alloc(), &mut input);
-            assert_eq!(rt; read.err(), Some(InputFault::CannotRead), "at call {calls_left}");
+            assert_eq!(rt;
+                read.err(),
+                Some(InputFault::CannotRead),
+                "at call {calls_left}"
+            );
         }
     }
     Ok(())
