@@ -1,2 +1,14 @@
 pub mod Fault
 pub mod FaultTable
+pub mod Settings
+pub mod RasterOp
+pub mod Hatch
+pub mod Objects
+pub mod Operation
+pub mod OperationOf
+pub mod NoteTable
+pub mod NoteCounts
+pub mod Content
+pub mod StepOf
+pub mod Gives
+pub mod Counted

@@ -6,10 +6,41 @@
 //!   `Fault::name`, `Fault::number`, by `row_of` and `record_number_of`).
 //! - A fault's text is its name and, where it speaks of a record's function or type, that number
 //!   (`Display`, by `text_of`).
+//! - A setting, a raster operation or a hatch has a value that the standard allows, since there is
+//!   none else to make, and each is made from its own number (`from_code`, by `raster_op_of` and its
+//!   like).
+//! - A count of notes is at most 1,048,576, and a note is counted under its kind alone
+//!   (`Notes::count`, `Notes::with`, `Notes::plus`).
+//! - A source gives its steps in order, each once, and then none or one fault, and the same again at
+//!   each call after that (`OpSource::next_op`, by `Gives`). `Listed` is such a source.
+//! - What a program does with any source can be proved from the contract alone: `count_steps` counts
+//!   the steps of each source, or gives its fault.
 #![tactic(auto)]
 
+mod counting;
 mod fault;
+mod hatch;
+mod listed;
+mod note;
+mod notes;
+mod objects;
+mod operation;
+mod raster_op;
+mod settings;
+mod source;
+mod step;
 #[cfg(test)]
 mod tests;
 
+pub use counting::count_steps;
 pub use fault::Fault;
+pub use hatch::Hatch;
+pub use listed::Listed;
+pub use note::Note;
+pub use notes::Notes;
+pub use objects::{Brush, Handle, Object, Pen};
+pub use operation::{Op, RectangleEdges, SavedState};
+pub use raster_op::RasterOp;
+pub use settings::{BackgroundMode, FillMode, MapMode};
+pub use source::{HasContent, OpSource};
+pub use step::Step;

@@ -1,4 +1,8 @@
-//! What faults show to users.
+//! What faults show to users, and in the files beside this one: numbers, notes and sources.
+
+mod codes;
+mod note_counts;
+mod sources;
 
 use super::*;
 use std::test::Fail;

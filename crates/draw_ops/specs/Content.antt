@@ -1,0 +1,27 @@
+-- What the records of a file ask for, one after another.
+use Rattle.std.specs.Prelude.{ℕ, List, [], ◌∷◌, Option, Some, None}
+use Rattle.draw_ops.specs.Operation.{Operation}
+use Rattle.draw_ops.specs.declared.fault.Fault.{Fault}
+
+-- one record: its number in the file, what it asks for, and how many notes of each kind it has
+pub record StepValue : Type 0 where
+  pub number : ℕ
+  pub operation : Operation
+  pub notes : List ℕ
+
+-- the steps in order, and at most one fault at their end
+pub record Content : Type 0 where
+  pub steps : List StepValue
+  pub fault : Option Fault
+
+-- nothing is left
+abbrev pub nothing_left : Content
+nothing_left = record { steps = []; fault = None }
+
+-- a fault is all that is left
+abbrev pub broken_by : Fault → Content
+broken_by fault = record { steps = []; fault = Some fault }
+
+-- a step in front of the others
+abbrev pub with_step : StepValue → Content → Content
+with_step step content = record { steps = step ∷ content.steps; fault = content.fault }

@@ -1,0 +1,12 @@
+-- What a call of a source gives.
+use Rattle.std.specs.Prelude.{◌≡◌, Option, Some, None, Result, Ok, Err}
+use Rattle.draw_ops.specs.Content.{Content, nothing_left, broken_by, with_step}
+use Rattle.draw_ops.specs.StepOf.{step_value_of}
+use Rattle.draw_ops.specs.declared.fault.Fault.{Fault}
+use Rattle.draw_ops.specs.declared.step.Step.{Step}
+
+-- The first step, and the others are left. Or, where no step is left, none or the fault; that stays so, and the next call gives the same again.
+abbrev pub Gives : Content → Result (Option Step) Fault → Content → Type 0
+Gives old (Ok (Some step)) new = old ≡ with_step (step_value_of step) new
+Gives old (Ok None) new = (old ≡ nothing_left) × (new ≡ old)
+Gives old (Err fault) new = (old ≡ broken_by fault) × (new ≡ old)

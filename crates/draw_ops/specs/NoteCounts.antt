@@ -1,0 +1,25 @@
+-- How many notes of each kind there are: a list of counts, in the order of the table of notes.
+use Rattle.std.specs.Prelude.{ℕ, ◌+◌, List, [], ◌∷◌, replicate, slice_index, slice_set}
+use Rattle.draw_ops.specs.NoteTable.{note_row_of}
+use Rattle.draw_ops.specs.declared.note.Note.{Note}
+
+-- the most notes of one kind
+abbrev pub note_limit : ℕ
+note_limit = 1048576
+
+-- how many notes of a kind
+abbrev pub note_count : List ℕ → Note → ℕ
+note_count counts note = slice_index counts (note_row_of note).place
+
+-- no note of any kind
+abbrev pub no_notes : List ℕ
+no_notes = replicate 9 0
+
+-- one more note of a kind, and as many as before of each other kind
+abbrev pub with_note : List ℕ → Note → List ℕ
+with_note counts note = slice_set counts (note_row_of note).place (note_count counts note + 1)
+
+-- as many notes of each kind as two lists of counts have together
+abbrev pub added_notes : List ℕ → List ℕ → List ℕ
+added_notes (count ∷ counts) (more ∷ others) = (count + more) ∷ added_notes counts others
+added_notes counts others = []

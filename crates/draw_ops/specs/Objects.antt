@@ -1,0 +1,41 @@
+-- Objects as plain values, without what holds them.
+use Rattle.std.specs.Prelude.{ℕ, Option, Some, None}
+use Rattle.mapping.specs.declared.geometry.Colour.{Colour}
+use Rattle.draw_ops.specs.declared.hatch.Hatch.{Hatch}
+use Rattle.draw_ops.specs.declared.objects.Brush.{Brush}
+use Rattle.draw_ops.specs.declared.objects.Brush.TheVariants.{Solid, Null, Hatched}
+use Rattle.draw_ops.specs.declared.objects.Handle.{Handle}
+use Rattle.draw_ops.specs.declared.objects.Object.{Object}
+use Rattle.draw_ops.specs.declared.objects.Object.TheVariants.{Pen as ThePen, Brush as TheBrush, Font, Palette}
+use Rattle.draw_ops.specs.declared.objects.Pen.{Pen}
+
+-- what fills: a colour, nothing, or lines
+pub data BrushValue : Type 0 where
+  solid_brush : Colour → BrushValue
+  null_brush : BrushValue
+  hatched_brush : Hatch → Colour → BrushValue
+
+-- an object: a pen, a brush, or one that draws nothing
+pub data ObjectValue : Type 0 where
+  pen_object : Pen → ObjectValue
+  brush_object : BrushValue → ObjectValue
+  font_object : ObjectValue
+  palette_object : ObjectValue
+
+-- the value of a brush of the code
+abbrev pub brush_value_of : Brush → BrushValue
+brush_value_of (Solid colour) = solid_brush colour
+brush_value_of Null = null_brush
+brush_value_of (Hatched hatch colour) = hatched_brush hatch colour
+
+-- the value of an object of the code
+abbrev pub object_value_of : Object → ObjectValue
+object_value_of (ThePen pen) = pen_object pen
+object_value_of (TheBrush brush) = brush_object (brush_value_of brush)
+object_value_of Font = font_object
+object_value_of Palette = palette_object
+
+-- the index where an object is to be, if one is given
+abbrev pub index_of : Option Handle → Option ℕ
+index_of None = None
+index_of (Some handle) = Some handle.0

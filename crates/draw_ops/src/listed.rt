@@ -1,0 +1,54 @@
+//! Steps that are listed, for tests, examples and files that are read already.
+
+ghost use Rattle.std.specs.Prelude.{◌≡◌, map};
+ghost use Rattle.draw_ops.specs.StepOf.{step_value_of};
+
+use crate::fault::Fault;
+use crate::source::{HasContent, OpSource};
+use crate::step::Step;
+use std::marker::Model;
+
+/// The steps of a list in order, and then perhaps a fault.
+#[derive(Debug, Drop)]
+pub struct Listed<'a> {
+    steps: &'a [Step<'a>],
+    fault: Option<Fault>,
+}
+
+impl<'a> Model for Listed<'a> {
+    ghost use Rattle.std.specs.Prelude.{map};
+    ghost use Rattle.draw_ops.specs.Content.{Content};
+    ghost use Rattle.draw_ops.specs.StepOf.{step_value_of};
+
+    ghost Value = { Content };
+
+    ghost view = { λ listed. record { steps = map step_value_of listed.steps.now; fault = listed.fault } };
+}
+
+impl<'a> Listed<'a> {
+    /// The source of these steps, and of this fault behind them.
+    pub fn new(steps: &'a [Step<'a>], fault: Option<Fault>) -> Listed<'a>
+        ensures steps { result.steps ≡ map step_value_of steps.entry.now }
+        ensures fault { result.fault ≡ fault }
+    {
+        Listed { steps, fault }
+    }
+}
+
+impl<'a> HasContent for Listed<'a> {
+    ghost content = { λ listed. listed };
+}
+
+impl<'a> OpSource<'a> for Listed<'a> {
+    fn next_op(&mut self) -> Result<Option<Step<'a>>, Fault> {
+        if self.steps.is_empty() {
+            return match self.fault {
+                Some(fault) => Err(fault),
+                None => Ok(None),
+            };
+        }
+        let first = self.steps[0];
+        self.steps = &self.steps[1..];
+        Ok(Some(first))
+    }
+}

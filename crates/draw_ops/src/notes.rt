@@ -1,0 +1,59 @@
+//! How many notes there are.
+
+ghost use Rattle.std.specs.Prelude.{◌≡◌, ◌<◌, ◌≤◌, All};
+ghost use Rattle.draw_ops.specs.NoteCounts.{note_limit, note_count, no_notes, with_note, added_notes};
+
+use crate::note::Note;
+
+/// How many notes of each kind.
+///
+/// # Guarantees
+///
+/// - There are at most 1,048,576 notes of a kind.
+#[derive(Clone, Copy, Debug, PartialEq, Eq)]
+pub struct Notes {
+    /// The counts, in the order of the table of notes.
+    pub counts: [u32; 9],
+    pub ghost limited: { All (λ count. count ≤ note_limit) counts },
+}
+
+impl Notes {
+    /// No note of any kind.
+    pub fn none() -> Notes
+        ensures { result.counts ≡ no_notes }
+    {
+        Notes { counts: [0; 9] }
+    }
+
+    /// How many notes of a kind.
+    pub fn count(self, note: Note) -> u32
+        ensures count { result ≡ note_count self.counts note }
+        ensures within { result ≤ note_limit }
+    {
+        self.counts[note.row().0]
+    }
+
+    /// One more note of a kind, and as many as before of each other kind.
+    pub fn with(self, note: Note) -> Notes
+        requires { note_count self.counts note < note_limit }
+        ensures { result.counts ≡ with_note self.counts note }
+    {
+        let mut counts = self.counts;
+        let place = note.row().0;
+        counts[place] += 1;
+        Notes { counts }
+    }
+
+    /// As many notes of each kind as both have together.
+    #[tactic(auto, using(crate::proofs::NoteLemmas::sums))]
+    pub fn plus(self, other: Notes) -> Notes
+        requires { All (λ count. count ≤ note_limit) (added_notes self.counts other.counts) }
+        ensures { result.counts ≡ added_notes self.counts other.counts }
+    {
+        let mut counts = self.counts;
+        for i in 0..9 {
+            counts[i] += other.counts[i];
+        }
+        Notes { counts }
+    }
+}

@@ -1,0 +1,38 @@
+//! The objects that a metafile makes, selects and deletes.
+
+use crate::hatch::Hatch;
+use mapping::Colour;
+
+/// The index of an object. In EMF the indexes from 0x80000000 on are those of the stock objects
+/// ([MS-EMF] 2.1.31).
+#[derive(Clone, Copy, Debug, PartialEq, Eq)]
+pub struct Handle(pub u32);
+
+/// What draws lines and outlines.
+#[derive(Clone, Copy, Debug, PartialEq, Eq)]
+pub enum Pen {
+    /// It draws nothing.
+    Null,
+    /// It draws lines of this colour.
+    Solid { colour: Colour },
+}
+
+/// What fills.
+#[derive(Clone, Copy, Debug, PartialEq, Eq)]
+pub enum Brush {
+    /// It paints every pixel in this colour.
+    Solid(Colour),
+    /// It paints nothing.
+    Null,
+    /// It paints the lines of the hatch in this colour. The gaps go by the background mode.
+    Hatched { hatch: Hatch, colour: Colour },
+}
+
+/// An object. Fonts and palettes take an index and draw nothing.
+#[derive(Clone, Copy, Debug, PartialEq, Eq)]
+pub enum Object {
+    Pen(Pen),
+    Brush(Brush),
+    Font,
+    Palette,
+}
