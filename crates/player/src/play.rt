@@ -85,7 +85,7 @@ fn play(
         ≡ refused r.number r.fault) }
     ensures record { IfErr result (λ r. IsSome r.number ↔ IsInRecord r.fault) }
 {
-    let mut number = 0;
+    let mut number: u32 = 0;
     loop {
         let operation = match source.next_op() {
             Ok(Some(operation)) => operation,
