@@ -1,5 +1,5 @@
 -- What a canvas is to its callers.
-use Rattle.std.specs.Prelude.{◌≡◌, ℕ, ◌+◌, ◌-◌, ◌*◌, ◌<◌, ◌≤◌, List, length, replicate}
+use Rattle.std.specs.Prelude.{ℕ, ◌+◌, ◌-◌, ◌*◌, ◌<◌, ◌≤◌, List, replicate}
 use Rattle.mapping.specs.declared.geometry.Colour.{Colour}
 use Rattle.canvas.specs.Image.{Image}
 

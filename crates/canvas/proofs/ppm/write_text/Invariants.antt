@@ -1,4 +1,4 @@
-use Rattle.std.proofs.Common.{◌+◌, ◌≤◌, ◌++◌, length, take}
+use Rattle.std.proofs.Common.{◌≤◌, ◌++◌, length, take}
 use Rattle.canvas.specs.Ppm.{header, raster}
 use Rattle.canvas.proofs.Sending.{Sending}
 use Rattle.canvas.proofs.ppm.write_text.Given as goal
