@@ -173,3 +173,19 @@ fn the_faults_show_their_names(rt: HostRuntime) -> Result<(), Fail> {
     assert_eq!(rt; writer.as_str(), "WriteFault");
     Ok(())
 }
+
+// Run once more for each growth refused in turn, by tests/refused_growth_test.py.
+#[test]
+fn a_canvas_under_refused_growth(rt: HostRuntime) -> Result<(), Fail> {
+    match Canvas::new(rt.alloc(), 2, 3, RED) {
+        Ok(canvas) => {
+            for (x, y) in [(0, 0), (1, 0), (0, 1), (1, 1), (0, 2), (1, 2)] {
+                assert!(rt; canvas.has_pixel(x, y), "{x} {y}");
+                assert_eq!(rt; canvas.colour(x, y), RED, "{x} {y}");
+            }
+            assert_eq!(rt; canvas.writes(), 0);
+        }
+        Err(error) => assert_eq!(rt; error, OutOfMemory),
+    }
+    Ok(())
+}

@@ -1,5 +1,5 @@
 -- What a fault shows beside its row of the table.
-use Rattle.std.specs.Prelude.{ℕ, List, [], ◌∷◌, ◌++◌, Option, Some, None, MatchOption, decimal, codes, ◌≤◌}
+use Rattle.std.specs.Prelude.{ℕ, List, [], ◌++◌, Option, Some, None, decimal, codes, ◌≤◌}
 use Rattle.draw_ops.specs.FaultTable.{row_of}
 use Rattle.draw_ops.specs.declared.fault.Fault.{Fault}
 use Rattle.draw_ops.specs.declared.fault.Fault.TheVariants.{UnknownRecord, Unsupported}

@@ -1,6 +1,11 @@
 -- What is read of an input.
-use Rattle.std.specs.Prelude.{ℕ}
+use Rattle.std.specs.Prelude.{ℕ, List, Option}
+use Rattle.std.specs.Io.KnownBytes.{Consumes}
 
 -- the longest input, in bytes
 unfoldable pub input_limit : ℕ
 input_limit = 268435456
+
+-- known bytes begin with some bytes, and lose them
+abbrev pub ConsumesFront : Option (List ℕ) → Option (List ℕ) → Type 0
+ConsumesFront old new = (front : List ℕ) × Consumes old new front

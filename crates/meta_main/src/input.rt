@@ -1,7 +1,8 @@
 //! Reading an input to its end.
 
-ghost use Rattle.std.specs.Prelude.{◌≡◌, ◌≤◌, IfOk, IfSome, OnOk, vec_len};
-ghost use Rattle.meta_main.specs.Reading.{input_limit};
+ghost use Rattle.std.specs.Prelude.{◌≡◌, ◌≤◌, ◌<◌, IfOk, IfSome, IsErr, OnOk, OnErr, length, vec_len};
+ghost use Rattle.std.specs.Io.KnownBytes.{IsAtEnd};
+ghost use Rattle.meta_main.specs.Reading.{ConsumesFront, input_limit};
 
 use std::alloc::Global;
 use std::io;
@@ -36,11 +37,15 @@ impl InputFault {
     }
 }
 
-/// All bytes of a reader, to its end. Any error of a read is `CannotRead`, whatever its kind.
+/// All bytes of a reader, to its end. Any error of a read is `CannotRead`, whatever its kind, and so is
+/// an input of more than 268,435,456 bytes. After an error the reader has lost a front of its bytes.
 #[tactic(auto, unfolding(crate::specs::Reading::input_limit))]
 pub fn read_input<R: Read>(alloc: Global, input: &mut R) -> Result<Vec<u8>, InputFault>
     ensures bytes { IfOk result (λ bytes. IfSome (R.remaining input.old) (λ all. bytes.items ≡ all)) }
+    ensures end { OnOk result (IsAtEnd (R.remaining input.new)) }
     ensures within { IfOk result (λ bytes. vec_len bytes ≤ input_limit) }
+    ensures longer { IfSome (R.remaining input.old) (λ all. input_limit < length all → IsErr result) }
+    ensures front { OnErr result (ConsumesFront (R.remaining input.old) (R.remaining input.new)) }
 {
     let mut bytes = Vec::new(alloc);
     let mut piece = [0u8; PIECE];

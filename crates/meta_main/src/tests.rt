@@ -317,3 +317,63 @@ fn the_faults_of_an_input_show_their_lines(rt: HostRuntime) -> Result<(), Fail> 
     assert_eq!(rt; memory.as_str(), "OutOfMemory");
     Ok(())
 }
+
+// The tests below are run once more for each growth refused in turn, by
+// tests/refused_growth_test.py.
+
+#[test]
+fn an_input_under_refused_growth(rt: HostRuntime) -> Result<(), Fail> {
+    match read_input(rt.alloc(), &mut io::repeat(7).take(300000)) {
+        Ok(bytes) => {
+            assert_eq!(rt; bytes.len(), 300000);
+            assert!(rt; bytes.iter().all(|byte| *byte == 7));
+        }
+        Err(fault) => assert_eq!(rt; fault, InputFault::OutOfMemory),
+    }
+    Ok(())
+}
+
+#[test]
+fn a_command_line_under_refused_growth(rt: HostRuntime) -> Result<(), Fail> {
+    // Where the test's own words meet the refusal, no line is read.
+    let Ok(asked) = words(rt.alloc(), &["metaplay", "show", "a.wmf", "4", "5"]) else {
+        return Ok(());
+    };
+    match line(rt.alloc(), asked.as_slice()) {
+        Ok(
+            Line::Show {
+                file,
+                width,
+                height,
+            },
+        ) => {
+            assert_eq!(rt; file, "a.wmf");
+            assert_eq!(rt; (width, height), (4, 5));
+        }
+        Err(error) => assert!(rt; error.kind() == clap::error::ErrorKind::OutOfMemory),
+    }
+    Ok(())
+}
+
+#[test]
+fn showing_under_refused_growth(rt: HostRuntime) -> Result<(), Fail> {
+    let mut out = [0u8; 64];
+    let mut err = [0u8; 64];
+    let status = show_command(
+        rt.alloc(),
+        DOT,
+        1,
+        1,
+        &mut out.as_mut_slice(),
+        &mut err.as_mut_slice(),
+    );
+    if status == 0 {
+        assert_eq!(rt; &out[..14], b"P6\n1 1\n255\n\xff\0\0".as_slice());
+        assert_eq!(rt; err[0], 0);
+    } else {
+        assert_eq!(rt; status, 4);
+        assert_eq!(rt; out[0], 0);
+        assert_eq!(rt; &err[..22], b"metaplay: OutOfMemory\n".as_slice());
+    }
+    Ok(())
+}

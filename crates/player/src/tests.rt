@@ -271,3 +271,22 @@ fn a_refusal_shows_its_record(rt: HostRuntime) -> Result<(), Fail> {
     }
     Ok(())
 }
+
+// Run once more for each growth refused in turn, by tests/refused_growth_test.py.
+#[test]
+fn a_dot_under_refused_growth(rt: HostRuntime) -> Result<(), Fail> {
+    match play_file(rt.alloc(), &DOT, 4, 4) {
+        Ok(canvas) => {
+            assert_eq!(rt; canvas.writes(), 1);
+            assert_eq!(rt; colour(&canvas, 2, 1), Some(RED));
+        }
+        Err(refusal) => {
+            let want = Refusal {
+                number: None,
+                fault: Fault::OutOfMemory,
+            };
+            assert_eq!(rt; refusal, want);
+        }
+    }
+    Ok(())
+}

@@ -1,0 +1,108 @@
+"""The built program on what only a machine has: words that are no text, files, pipes, full disks and
+little memory."""
+
+import os
+import resource
+import subprocess
+import tempfile
+import unittest
+
+from built import DOT, DOT_IMAGE, ROOT, SAMPLES, Answer, answer, for_each_program
+
+DOT_FILE = SAMPLES / "dot.wmf"
+
+CANNOT_READ = Answer(3, b"", b"metaplay: cannot read\n")
+
+CANNOT_WRITE = Answer(3, b"", b"metaplay: cannot write\n")
+
+
+def with_little_memory():
+    """Leaves a process 64 MiB of addresses, of which an image of 8,192 by 8,192 needs 192."""
+    resource.setrlimit(resource.RLIMIT_AS, (1 << 26, 1 << 26))
+
+
+class Program(unittest.TestCase):
+    @for_each_program
+    def test_a_file_and_standard_input_show_the_same(self, program):
+        shown = Answer(0, DOT_IMAGE, b"")
+        self.assertEqual(answer(program, ["show", DOT_FILE, "4", "4"]), shown)
+        self.assertEqual(answer(program, ["show", "stdin", "4", "4"], DOT), shown)
+        # Where a file is named, standard input isn't read.
+        self.assertEqual(answer(program, ["show", DOT_FILE, "4", "4"], b"no metafile"), shown)
+
+    @for_each_program
+    def test_a_file_may_lie_in_any_folder(self, program):
+        with tempfile.TemporaryDirectory() as folder:
+            with open(f"{folder}/dot.wmf", "wb") as file:
+                file.write(DOT)
+            answered = answer(program, ["show", "dot.wmf", "4", "4"], cwd=folder)
+            self.assertEqual(answered, Answer(0, DOT_IMAGE, b""))
+
+    @for_each_program
+    def test_words_that_are_no_text_are_wrong_usage(self, program):
+        refused = Answer(2, b"", b"metaplay: the command line is not UTF-8 text\n")
+        self.assertEqual(answer(program, ["show", b"a\xff.wmf", "4", "4"]), refused)
+
+    @for_each_program
+    def test_help_goes_to_standard_output_and_usage_to_standard_error(self, program):
+        helped = answer(program, ["--help"])
+        self.assertEqual((helped.status, helped.err), (2, b""))
+        self.assertIn(b"Usage: metaplay", helped.out)
+        for words in [[], ["show"], ["show", "stdin", "4", "8193"], ["show", "stdin", "x", "4"]]:
+            wrong = answer(program, words, DOT)
+            self.assertEqual((wrong.status, wrong.out), (2, b""), words)
+            self.assertTrue(wrong.err.endswith(b"\n"), words)
+
+    @for_each_program
+    def test_what_cannot_be_read_is_refused(self, program):
+        for file in ["/no/such/file", "/", ""]:
+            self.assertEqual(answer(program, ["show", file, "4", "4"], DOT), CANNOT_READ, file)
+
+    @for_each_program
+    def test_a_full_disk_cannot_be_written(self, program):
+        with open("/dev/full", "wb") as full:
+            words = [program, "show", DOT_FILE, "400", "400"]
+            ran = subprocess.run(words, stdout=full, stderr=subprocess.PIPE, check=False)
+        self.assertEqual(Answer(ran.returncode, b"", ran.stderr), CANNOT_WRITE)
+
+    @for_each_program
+    def test_a_reader_that_goes_away_cannot_be_written(self, program):
+        reader, writer = os.pipe()
+        os.close(reader)
+        words = [program, "show", DOT_FILE, "400", "400"]
+        ran = subprocess.run(words, stdout=writer, stderr=subprocess.PIPE, check=False)
+        os.close(writer)
+        self.assertEqual(Answer(ran.returncode, b"", ran.stderr), CANNOT_WRITE)
+
+    @for_each_program
+    def test_a_fault_of_standard_error_changes_no_status(self, program):
+        for file, side, status in [("stdin", "4", 1), ("stdin", "0", 2), ("/", "4", 3)]:
+            words = [program, "show", file, side, "4"]
+            with open("/dev/full", "wb") as full:
+                ran = subprocess.run(
+                    words, input=b"", stdout=subprocess.PIPE, stderr=full, check=False
+                )
+            self.assertEqual((ran.returncode, ran.stdout), (status, b""), words)
+
+    @for_each_program
+    def test_little_memory_is_told(self, program):
+        large = ["show", DOT_FILE, "8192", "8192"]
+        answered = answer(program, large, preexec_fn=with_little_memory)
+        self.assertEqual(answered, Answer(4, b"", b"metaplay: OutOfMemory\n"))
+        small = answer(program, ["show", DOT_FILE, "4", "4"], preexec_fn=with_little_memory)
+        self.assertEqual(small, Answer(0, DOT_IMAGE, b""))
+
+
+class Launcher(unittest.TestCase):
+    def test_the_launcher_works_from_any_folder(self):
+        launcher = ROOT / "metaplay"
+        with tempfile.TemporaryDirectory() as folder:
+            relative = os.path.relpath(DOT_FILE, folder)
+            answered = answer(launcher, ["show", relative, "4", "4"], cwd=folder)
+        self.assertEqual(answered, Answer(0, DOT_IMAGE, b""))
+        refused = answer(launcher, ["show", "stdin", "4", "4"], DOT[:50])
+        self.assertEqual(refused, Answer(1, b"", b"metaplay: PastEnd at record 0\n"))
+
+
+if __name__ == "__main__":
+    unittest.main()
