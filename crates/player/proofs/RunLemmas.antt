@@ -1,14 +1,14 @@
 -- A run ends in one way.
 use Rattle.std.proofs.Common.{◌≡◌, ℕ, suc, ◌+◌, length, add-one, arith, List, [], ◌∷◌, Option, Some, None, Result, Ok, Err, refl, sym, ap, subst, ◌∙◌}
 use Rattle.draw_ops.specs.declared.fault.Fault.{Fault}
+use Rattle.draw_ops.specs.Content.{Content, StepValue, with_step}
 use Rattle.mapping.specs.declared.geometry.Frame.{Frame}
 use Rattle.mapping.specs.declared.place.Place.{Place}
 use Rattle.canvas.specs.Image.{Image}
 use Rattle.player.specs.Playing.{surface_at}
 use Rattle.player.specs.Records.{Framed}
-use Rattle.player.specs.Operation.{Operation, no_effect, pixel}
 use Rattle.player.specs.Wmf.{wmf, wmf_meaning}
-use Rattle.player.specs.Ops.{Content, IsContent, content_of, with_step}
+use Rattle.player.specs.Ops.{IsContent, content_of}
 use Rattle.player.specs.Opening.{Format, placeable, Opened, opened, records_of}
 use Rattle.player.specs.State.{State, Surface, start_of, fault_of, next}
 use Rattle.player.specs.Layer.{layers_of}
@@ -21,7 +21,7 @@ one_content : (bytes : List ℕ) (content other : Content) → IsContent wmf wmf
 one_content bytes content other h k =
     let only = (one_way wmf bytes).2 in
     let same = only k.0 k.1 ∙ sym (only h.0 h.1) in
-    k.2 ∙ ap (λ (f : Framed). content_of wmf_meaning f.records f.fault) same ∙ sym h.2
+    k.2 ∙ ap (λ (f : Framed). content_of wmf_meaning 0 f.records f.fault) same ∙ sym h.2
 
 -- a refusal doesn't depend on the image
 refused_ended : (fault : Option Fault) (place : ℕ) (image other : Image) (number : Option ℕ) (f : Fault) → refused number f ≡ ended fault place image → refused number f ≡ ended fault place other
@@ -32,16 +32,16 @@ refused_unless : (o : Option Fault) (place : ℕ) (outcome other : Outcome) (num
 refused_unless None place outcome other number f h e = h e
 refused_unless (Some fault) place outcome other number f h e = e
 
-refused_steps : (steps : List Operation) (fault : Option Fault) (place : ℕ) (state : State) (s : Surface) (image other : Image) (number : Option ℕ) (f : Fault) → refused number f ≡ run_steps steps fault place state s image → refused number f ≡ run_steps steps fault place state s other
+refused_steps : (steps : List StepValue) (fault : Option Fault) (place : ℕ) (state : State) (s : Surface) (image other : Image) (number : Option ℕ) (f : Fault) → refused number f ≡ run_steps steps fault place state s image → refused number f ≡ run_steps steps fault place state s other
 refused_steps [] fault place state s image other number f e = refused_ended fault place image other number f e
-refused_steps (op ∷ ops) fault place state s image other number f e =
-    refused_unless (fault_of op state s) place _ _ number f (refused_steps ops fault (suc place) (next op state) s _ _ number f) e
+refused_steps (step ∷ steps) fault place state s image other number f e =
+    refused_unless (fault_of step.operation state s) place _ _ number f (refused_steps steps fault (suc place) (next step.operation state) s _ _ number f) e
 
 -- a file of any format has one content
 one_file_content : (format : Format) (file : List ℕ) → (content : Content) × IsFileContent format file content × ((other : Content) → IsFileContent format file other → other ≡ content)
 one_file_content placeable file =
     let framed = one_way wmf (records_of placeable file) in
-    let content = content_of wmf_meaning framed.0.records framed.0.fault in
+    let content = content_of wmf_meaning 0 framed.0.records framed.0.fault in
     (content, (framed.0, framed.1, refl), λ other h. one_content _ content other (framed.0, framed.1, refl) h)
 
 by_opening : (o : Result Opened Fault) (file : List ℕ) (width height : ℕ) (image : Image) → ((outcome : Outcome) × RunOpened o file width height image outcome × ((other : Outcome) → RunOpened o file width height image other → other ≡ outcome)) × ((other : Image) (number : Option ℕ) (fault : Fault) → RunOpened o file width height image (refused number fault) → RunOpened o file width height other (refused number fault))
@@ -72,27 +72,22 @@ pub writes_are_one : WritesAreOne
 writes_are_one file width height m n h k = by_writes (opened file) file width height m n h k
 
 -- the same run, at a place and an image that are known
-pub same_run : (steps : List Operation) (fault : Option Fault) (state : State) (s t : Surface) (i j : Image) → s ≡ t → i ≡ j → run_steps steps fault 0 state s i ≡ run_steps steps fault 0 state t j
+pub same_run : (steps : List StepValue) (fault : Option Fault) (state : State) (s t : Surface) (i j : Image) → s ≡ t → i ≡ j → run_steps steps fault 0 state s i ≡ run_steps steps fault 0 state t j
 same_run steps fault state s t i j p q = rw (p, q) refl
 
 -- the surface of a place
 pub placed_surface : (place : Place) (frame : Frame) (width height : ℕ) → place.frame ≡ frame → place.width ≡ width → place.height ≡ height → surface_at place ≡ record { width = width; height = height; frame_width = frame.width; frame_height = frame.height }
 placed_surface place frame width height f w h = rw (w, h, f) refl
 
--- no operation so far changes the state
-same_state : (op : Operation) (state : State) → next op state ≡ state
-same_state no_effect state = refl
-same_state (pixel x y colour) state = refl
+-- one step without a fault, and its writes
+pub one_step : (old new : Content) (step : StepValue) (place : ℕ) (state : State) (s : Surface) (image after : Image) → old ≡ with_step step new → fault_of step.operation state s ≡ None → after ≡ apply_all (layers_of step.operation state) state.clip s image → run_steps old.steps old.fault place state s image ≡ run_steps new.steps new.fault (place + 1) state s after
+one_step old new step place state s image after e f a = rw (e, f, a, add-one) refl
 
--- one operation without a fault, and its writes
-pub one_step : (old new : Content) (op : Operation) (place : ℕ) (state : State) (s : Surface) (image after : Image) → old ≡ with_step op new → fault_of op state s ≡ None → after ≡ apply_all (layers_of op state) state.clip s image → run_steps old.steps old.fault place state s image ≡ run_steps new.steps new.fault (place + 1) state s after
-one_step old new op place state s image after e f a = rw (e, f, same_state op state, a, add-one) refl
-
-pub one_write : (old new : Content) (op : Operation) (state : State) (s : Surface) (writes after total : ℕ) → old ≡ with_step op new → after ≡ writes + writes_of_layers (layers_of op state) state.clip s → total ≡ writes + writes_of_steps old.steps state s → total ≡ after + writes_of_steps new.steps state s
-one_write old new op state s writes after total e a t =
-    let step : writes_of_steps old.steps state s ≡ writes_of_layers (layers_of op state) state.clip s + writes_of_steps new.steps state s = rw (e, same_state op state) refl in
+pub one_write : (old new : Content) (step : StepValue) (state : State) (s : Surface) (writes after total : ℕ) → old ≡ with_step step new → after ≡ writes + writes_of_layers (layers_of step.operation state) state.clip s → total ≡ writes + writes_of_steps old.steps state s → total ≡ after + writes_of_steps new.steps state s
+one_write old new step state s writes after total e a t =
+    let first : writes_of_steps old.steps state s ≡ writes_of_layers (layers_of step.operation state) state.clip s + writes_of_steps new.steps state s = rw e refl in
     omega arith
 
--- one operation is one less to come
-pub one_less : (old new : Content) (op : Operation) → old ≡ with_step op new → length old.steps ≡ suc (length new.steps)
-one_less old new op e = ap (λ (c : Content). length c.steps) e
+-- one step is one less to come
+pub one_less : (old new : Content) (step : StepValue) → old ≡ with_step step new → length old.steps ≡ suc (length new.steps)
+one_less old new step e = ap (λ (c : Content). length c.steps) e

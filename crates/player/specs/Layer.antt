@@ -4,7 +4,7 @@ use Rattle.std.specs.List.{list_any}
 use Rattle.mapping.specs.declared.geometry.Colour.{Colour}
 use Rattle.mapping.specs.Plane.{plane_coordinate}
 use Rattle.mapping.specs.Surface.{placed}
-use Rattle.player.specs.Operation.{Operation, no_effect, pixel}
+use Rattle.draw_ops.specs.Operation.{Operation, pixel}
 use Rattle.player.specs.State.{Box, Clip, State, Surface}
 
 -- a shape by its plane points: the pixel on which a point lands
@@ -24,14 +24,14 @@ pub record Layer : Type 0 where
   pub paint : Paint
   pub raster_operation : RasterOperation
 
--- what an operation draws in a state
+-- what an operation draws in a state; one that isn't played yet has a fault, and draws nothing
 abbrev pub layers_of : Operation → State → List Layer
-layers_of no_effect state = []
-layers_of (pixel x y colour) state = record {
-  shape = point (plane_coordinate state.x x) (plane_coordinate state.y y);
+layers_of (pixel page colour) state = record {
+  shape = point (plane_coordinate state.x page.x) (plane_coordinate state.y page.y);
   paint = solid colour;
   raster_operation = copied;
 } ∷ []
+layers_of _ state = []
 
 -- a plane coordinate lands on this column or row
 abbrev pub is_at : ℤ → ℕ → Bool

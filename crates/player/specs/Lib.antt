@@ -4,7 +4,6 @@ pub use Rattle.canvas.specs.Image
 pub use Rattle.canvas.specs.CanvasState
 pub mod Bytes
 pub mod Records
-pub mod Operation
 pub mod Wmf
 pub mod Ops
 pub mod Opening
@@ -13,7 +12,6 @@ pub mod Layer
 pub mod Apply
 pub mod Run
 pub mod Refusal
-pub mod OperationOf
 pub mod Results
 pub mod WmfRecord
 pub mod WmfOps

@@ -1,10 +1,10 @@
 -- The run of a file at a size, over an image.
 use Rattle.std.specs.Prelude.{◌≡◌, ℕ, suc, ◌+◌, List, [], ◌∷◌, Option, Some, None, Result, Ok, Err}
 use Rattle.draw_ops.specs.declared.fault.Fault.{Fault}
+use Rattle.draw_ops.specs.Content.{Content, StepValue}
 use Rattle.canvas.specs.Image.{Image, blank}
-use Rattle.player.specs.Operation.{Operation}
 use Rattle.player.specs.Wmf.{wmf, wmf_meaning}
-use Rattle.player.specs.Ops.{Content, IsContent}
+use Rattle.player.specs.Ops.{IsContent}
 use Rattle.player.specs.Opening.{Format, placeable, Opened, opened, records_of}
 use Rattle.player.specs.State.{State, Surface, start_of, fault_of, next}
 use Rattle.player.specs.Layer.{layers_of}
@@ -25,17 +25,18 @@ abbrev pub unless_refused : Option Fault → ℕ → Outcome → Outcome
 unless_refused None place outcome = outcome
 unless_refused (Some fault) place outcome = refused (Some place) fault
 
--- The operations from this place on: the first fault ends the run; without one the layers are applied in order, in the state before.
-abbrev pub run_steps : List Operation → Option Fault → ℕ → State → Surface → Image → Outcome
+-- The steps from this place on: the first fault ends the run; without one the layers are applied in order, in the state before.
+abbrev pub run_steps : List StepValue → Option Fault → ℕ → State → Surface → Image → Outcome
 run_steps [] fault place state s image = ended fault place image
-run_steps (op ∷ ops) fault place state s image =
-    unless_refused (fault_of op state s) place
-    (run_steps ops fault (suc place) (next op state) s (apply_all (layers_of op state) state.clip s image))
+run_steps (step ∷ steps) fault place state s image =
+    unless_refused (fault_of step.operation state s) place
+    (run_steps steps fault (suc place) (next step.operation state) s (apply_all (layers_of step.operation state) state.clip s image))
 
--- the pixels written by all operations in order
-abbrev pub writes_of_steps : List Operation → State → Surface → ℕ
+-- the pixels written by all steps in order
+abbrev pub writes_of_steps : List StepValue → State → Surface → ℕ
 writes_of_steps [] state s = 0
-writes_of_steps (op ∷ ops) state s = writes_of_layers (layers_of op state) state.clip s + writes_of_steps ops (next op state) s
+writes_of_steps (step ∷ steps) state s =
+    writes_of_layers (layers_of step.operation state) state.clip s + writes_of_steps steps (next step.operation state) s
 
 -- the surface of these sides that shows an opened file
 abbrev pub surface_of : Opened → ℕ → ℕ → Surface
@@ -51,7 +52,7 @@ RunOpened (Ok o) file width height image outcome =
     (content : Content) × IsFileContent o.format file content
     × (outcome ≡ run_steps content.steps content.fault 0 (start_of o) (surface_of o width height) image)
 
--- The run of a file at a size, over an image of that size, ends so: opening has the first fault, or else the operations of the records have it, or
+-- The run of a file at a size, over an image of that size, ends so: opening has the first fault, or else the steps of the records have it, or
 -- else the image is the last one.
 abbrev pub Run : List ℕ → ℕ → ℕ → Image → Outcome → Type 0
 Run file width height image outcome = RunOpened (opened file) file width height image outcome

@@ -1,11 +1,11 @@
 -- The playing state, as far as records change it.
 use Rattle.std.specs.Prelude.{ℕ, ℤ, pos, Bool, ◌&&◌, int_le, neg_ℤ, if◌then◌else◌, List, [], Option, Some, None}
 use Rattle.draw_ops.specs.declared.fault.Fault.{Fault}
-use Rattle.draw_ops.specs.declared.fault.Fault.TheVariants.{OffPlane}
+use Rattle.draw_ops.specs.declared.fault.Fault.TheVariants.{OffPlane, Unsupported}
+use Rattle.draw_ops.specs.Operation.{Operation, no_effect, pixel}
 use Rattle.mapping.specs.Limits.{plane_limit, place_limit}
 use Rattle.mapping.specs.Plane.{AxisNumbers, plane_coordinate}
 use Rattle.mapping.specs.Surface.{placed}
-use Rattle.player.specs.Operation.{Operation, no_effect, pixel}
 use Rattle.player.specs.Opening.{Opened}
 
 -- a surface, and the sides of the frame that it shows
@@ -46,13 +46,13 @@ abbrev pub lands : AxisNumbers → ℕ → ℕ → ℤ → Bool
 lands axis side frame_side v =
     is_within plane_limit (plane_coordinate axis v) && is_within place_limit (placed (plane_coordinate axis v) side frame_side)
 
--- the first fault of an operation at a surface
+-- the first fault of an operation at a surface; an operation that isn't played yet is unsupported
 abbrev pub fault_of : Operation → State → Surface → Option Fault
 fault_of no_effect state surface = None
-fault_of (pixel x y colour) state surface =
-    if lands state.x surface.width surface.frame_width x && lands state.y surface.height surface.frame_height y then None else Some OffPlane
+fault_of (pixel point colour) state surface =
+    if lands state.x surface.width surface.frame_width point.x && lands state.y surface.height surface.frame_height point.y then None else Some OffPlane
+fault_of _ state surface = Some (Unsupported 0)
 
--- the state after an operation
+-- the state after an operation: none that is played so far changes it
 abbrev pub next : Operation → State → State
-next no_effect state = state
-next (pixel x y colour) state = state
+next operation state = state

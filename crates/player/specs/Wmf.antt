@@ -2,9 +2,9 @@
 use Rattle.std.specs.Prelude.{ℕ, ◌==◌, ◌||◌, nat_lt, if◌then◌else◌, List, length, Result, Ok, Err}
 use Rattle.draw_ops.specs.declared.fault.Fault.{Fault}
 use Rattle.draw_ops.specs.declared.fault.Fault.TheVariants.{BadParams, PaletteColour, Unsupported}
+use Rattle.draw_ops.specs.Operation.{Operation, no_effect, pixel}
 use Rattle.player.specs.Bytes.{number_at, short_at, colour_of_bytes}
 use Rattle.player.specs.Records.{Framing, Record}
-use Rattle.player.specs.Operation.{Operation, no_effect, pixel}
 
 -- a head of six bytes: the size in words of two bytes, and the function; 0 ends the file
 abbrev pub wmf : Framing
@@ -15,7 +15,7 @@ wmf = record { head = 6; size_place = 0; unit = 2; multiple = 2; number_place = 
 abbrev pub set_pixel : List ℕ → Result Operation Fault
 set_pixel bytes =
     if nat_lt (length bytes) 14 then Err BadParams
-    else (if number_at 1 9 bytes == 0 || number_at 1 9 bytes == 2 then Ok (pixel (short_at 12 bytes) (short_at 10 bytes) (colour_of_bytes 6 bytes))
+    else (if number_at 1 9 bytes == 0 || number_at 1 9 bytes == 2 then Ok (pixel (record { x = short_at 12 bytes; y = short_at 10 bytes }) (colour_of_bytes 6 bytes))
     else Err PaletteColour)
 
 -- one operation or one fault; a function that isn't played is unsupported

@@ -1,31 +1,30 @@
--- What a source of a WMF file's operations has left, and what it gives.
-use Rattle.std.specs.Prelude.{◌≡◌, ℕ, zero, suc, ◌-◌, ◌==◌, List, if◌then◌else◌, Option, Some, None, Result, Ok, Err}
+-- What a source over a WMF file's records has left.
+use Rattle.std.specs.Prelude.{ℕ, zero, suc, ◌-◌, ◌==◌, List, if◌then◌else◌, Option, Some, None, Result, Ok, Err}
 use Rattle.draw_ops.specs.declared.fault.Fault.{Fault}
 use Rattle.draw_ops.specs.declared.fault.Fault.TheVariants.{TooManyRecords}
+use Rattle.draw_ops.specs.Content.{Content, StepValue, nothing_left, broken_by, with_step}
 use Rattle.draw_ops.specs.Fault.{IsInRecord}
+use Rattle.draw_ops.specs.Operation.{Operation}
 use Rattle.player.specs.Records.{Record, record_limit, framing_fault, front_of, rest_of}
 use Rattle.player.specs.Wmf.{wmf, wmf_meaning}
-use Rattle.player.specs.Ops.{Content, nothing_left, broken_by, with_step}
-use Rattle.player.specs.Operation.{Operation}
-use Rattle.player.specs.OperationOf.{operation_of}
-use Rattle.player.specs.declared.operation.Operation.{Operation as Op}
+use Rattle.player.specs.Ops.{step_at}
 use Rattle.player.specs.declared.wmf_ops.Reading.{Reading}
 use Rattle.player.specs.declared.wmf_ops.Reading.TheVariants.{Records, Ended, Failed}
 
--- the record in front with what it means, or its first fault
-abbrev pub meant : Record → Result Operation Fault → Result (Record × Operation) Fault
-meant r (Ok operation) = Ok (r, operation)
-meant r (Err fault) = Err fault
+-- the record in front, which is at this place in the file, with its step; or its first fault
+abbrev pub meant : ℕ → Record → Result Operation Fault → Result (Record × StepValue) Fault
+meant place r (Ok operation) = Ok (r, step_at place operation)
+meant place r (Err fault) = Err fault
 
-abbrev pub unless : Option Fault → Result (Record × Operation) Fault → Result (Record × Operation) Fault
+abbrev pub unless : Option Fault → Result (Record × StepValue) Fault → Result (Record × StepValue) Fault
 unless None first = first
 unless (Some fault) first = Err fault
 
-abbrev pub first_of : ℕ → List ℕ → Result (Record × Operation) Fault
-first_of place bytes = unless (framing_fault wmf place bytes) (meant (front_of wmf bytes) (wmf_meaning (front_of wmf bytes)))
+abbrev pub first_of : ℕ → List ℕ → Result (Record × StepValue) Fault
+first_of place bytes = unless (framing_fault wmf place bytes) (meant place (front_of wmf bytes) (wmf_meaning (front_of wmf bytes)))
 
--- the first record's operation, and what is left behind that record
-abbrev pub first_then : Result (Record × Operation) Fault → Content → Content
+-- the first record's step, and what is left behind that record
+abbrev pub first_then : Result (Record × StepValue) Fault → Content → Content
 first_then (Err fault) rest = broken_by fault
 first_then (Ok first) rest = with_step first.1 (if first.0.number == wmf.last then nothing_left else rest)
 
@@ -45,9 +44,3 @@ abbrev pub IsReading : Reading → Type 0
 IsReading Records = Unit {0}
 IsReading Ended = Unit {0}
 IsReading (Failed fault) = IsInRecord fault
-
--- What a call gives: the first operation, and the others are left; or none or the fault at the end, and that stays so.
-abbrev pub Gives : Content → Result (Option Op) Fault → Content → Type 0
-Gives old (Ok (Some operation)) new = old ≡ with_step (operation_of operation) new
-Gives old (Ok None) new = (old ≡ nothing_left) × (new ≡ old)
-Gives old (Err fault) new = (old ≡ broken_by fault) × (new ≡ old)

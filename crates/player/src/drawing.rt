@@ -2,6 +2,7 @@
 
 ghost use Rattle.std.specs.Prelude.{◌≡◌, ◌+◌, ◌<◌, ◌^◌, ◌&&◌, if◌then◌else◌, Some, None, SomeIff, IfOk, IfErr, OnOk, OnErr, ◌≤◌};
 ghost use Rattle.draw_ops.specs.Fault.{IsInRecord};
+ghost use Rattle.draw_ops.specs.OperationOf.{operation_of};
 ghost use Rattle.canvas.specs.CanvasState.{image_of};
 ghost use Rattle.mapping.specs.PageMap.{axis_numbers};
 ghost use Rattle.mapping.specs.Plane.{plane_coordinate, IsOnPlane};
@@ -9,19 +10,17 @@ ghost use Rattle.mapping.specs.Surface.{placed};
 ghost use Rattle.player.specs.Apply.{apply_all, writes_of_layers};
 ghost use Rattle.player.specs.Dot.{dots, dotted, pixel_under};
 ghost use Rattle.player.specs.Layer.{layers_of};
-ghost use Rattle.player.specs.OperationOf.{operation_of};
 ghost use Rattle.player.specs.Playing.{state_of, surface_at};
 ghost use Rattle.player.specs.Results.{result_err};
 ghost use Rattle.player.specs.State.{fault_of, lands};
 
-use crate::operation::Operation;
 use canvas::Canvas;
-use draw_ops::Fault;
+use draw_ops::{Fault, Op};
 use mapping::{Colour, PageMap, Place, Point};
 
 /// Draws an operation, or tells its first fault. After a fault the canvas is as it was.
 pub(crate) fn draw(
-    operation: Operation,
+    op: Op<'_>,
     map: &PageMap,
     place: Place,
     canvas: &mut Canvas,
@@ -30,11 +29,11 @@ pub(crate) fn draw(
     requires rows { canvas.old.rows ≡ place.height }
     requires first { canvas.old.first ≡ 0 }
     requires countable { canvas.old.writes + 1 < 2 ^ 64 }
-    ensures fault { fault_of (operation_of operation) (state_of map.now) (surface_at place) ≡ result_err result }
+    ensures fault { fault_of (operation_of op.entry) (state_of map.now) (surface_at place) ≡ result_err result }
     ensures image { OnOk result (image_of canvas.new
-        ≡ apply_all (layers_of (operation_of operation) (state_of map.now)) (state_of map.now).clip (surface_at place) (image_of canvas.old)) }
+        ≡ apply_all (layers_of (operation_of op.entry) (state_of map.now)) (state_of map.now).clip (surface_at place) (image_of canvas.old)) }
     ensures writes { OnOk result (canvas.new.writes
-        ≡ canvas.old.writes + writes_of_layers (layers_of (operation_of operation) (state_of map.now)) (state_of map.now).clip (surface_at place)) }
+        ≡ canvas.old.writes + writes_of_layers (layers_of (operation_of op.entry) (state_of map.now)) (state_of map.now).clip (surface_at place)) }
     ensures width { canvas.new.width ≡ canvas.old.width }
     ensures first { canvas.new.first ≡ canvas.old.first }
     ensures rows { canvas.new.rows ≡ canvas.old.rows }
@@ -42,13 +41,15 @@ pub(crate) fn draw(
     ensures kept { OnErr result (canvas.new ≡ canvas.old) }
     ensures in_record { IfErr result IsInRecord }
 {
-    match operation {
-        Operation::NoEffect => Ok(()),
-        Operation::Pixel { point, colour } => {
+    match op {
+        Op::NoEffect => Ok(()),
+        Op::Pixel { point, colour } => {
             let placed = landing(point, map, place)?;
             put(placed, colour, canvas);
             Ok(())
         }
+        // Nothing that this player's source gives; what it is to draw isn't defined yet.
+        _ => Err(Fault::Unsupported(0)),
     }
 }
 

@@ -14,7 +14,6 @@
 mod drawing;
 mod numbers;
 mod opening;
-mod operation;
 mod play;
 mod refusal;
 #[cfg(test)]

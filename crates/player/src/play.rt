@@ -1,4 +1,4 @@
-//! Playing a file: its operations in order, on a white canvas.
+//! Playing a file: its records' steps in order, on a white canvas.
 
 ghost use Rattle.std.specs.Prelude.{◌≡◌, ◌+◌, ◌<◌, ◌≤◌, ◌^◌, ◌↔◌, ◌⊎◌, IsSome, IfOk, IfErr, OnOk, length};
 ghost use Rattle.canvas.specs.CanvasState.{image_of};
@@ -13,7 +13,7 @@ use crate::opening::open;
 use crate::refusal::Refusal;
 use crate::wmf_ops::WmfOps;
 use canvas::Canvas;
-use draw_ops::Fault;
+use draw_ops::{Fault, OpSource};
 use mapping::{Colour, PageMap, Place};
 use std::alloc::Global;
 
@@ -65,7 +65,7 @@ pub fn play_file(alloc: Global, file: &[u8], width: u32, height: u32) -> Result<
     Ok(canvas)
 }
 
-/// Plays the operations that are left of a source.
+/// Plays the steps that are left of a source.
 fn play(
     source: &mut WmfOps<'_>,
     map: &PageMap,
@@ -87,12 +87,12 @@ fn play(
 {
     let mut number: u32 = 0;
     loop {
-        let operation = match source.next_op() {
-            Ok(Some(operation)) => operation,
+        let step = match source.next_op() {
+            Ok(Some(step)) => step,
             Ok(None) => return Ok(()),
             Err(fault) => return Err(Refusal::at(number, fault)),
         };
-        if let Err(fault) = draw(operation, map, place, canvas) {
+        if let Err(fault) = draw(step.op, map, place, canvas) {
             return Err(Refusal::at(number, fault));
         }
         number += 1;

@@ -1,18 +1,18 @@
-//! The operations of a WMF file's records, one at a time.
+//! The steps of a WMF file's records, one at a time.
 
 ghost use Rattle.std.specs.Prelude.{◌≡◌, ◌<◌, ◌≤◌, length, drop, IfOk, IfErr, OnOk};
 ghost use Rattle.draw_ops.specs.Fault.{IsInRecord};
+ghost use Rattle.draw_ops.specs.Gives.{Gives};
+ghost use Rattle.draw_ops.specs.StepOf.{step_value_of};
 ghost use Rattle.player.specs.Records.{record_limit, rest_of};
 ghost use Rattle.player.specs.Wmf.{wmf, wmf_meaning};
 ghost use Rattle.player.specs.Ops.{IsContent};
-ghost use Rattle.player.specs.OperationOf.{operation_of};
 ghost use Rattle.player.specs.Results.{result_map};
-ghost use Rattle.player.specs.WmfOps.{Gives, first_of};
+ghost use Rattle.player.specs.WmfOps.{first_of};
 ghost use Rattle.player.specs.WmfRecord.{record_of};
 
-use crate::operation::Operation;
 use crate::wmf_records::{WmfRecord, front, meaning};
-use draw_ops::Fault;
+use draw_ops::{Fault, HasContent, Notes, OpSource, Step};
 use std::marker::Model;
 
 /// How far a source has come.
@@ -26,7 +26,7 @@ pub(crate) enum Reading {
     Failed(Fault),
 }
 
-/// A source of operations over the bytes of a file's records.
+/// A source over the bytes of a file's records.
 #[derive(Debug, Drop)]
 pub(crate) struct WmfOps<'a> {
     rest: &'a [u8],
@@ -37,7 +37,7 @@ pub(crate) struct WmfOps<'a> {
 
 impl<'a> Model for WmfOps<'a> {
     ghost use Rattle.std.specs.Prelude.{◌≤◌};
-    ghost use Rattle.player.specs.Ops.{Content};
+    ghost use Rattle.draw_ops.specs.Content.{Content};
 
     ghost Value = { Content };
 
@@ -61,9 +61,15 @@ impl<'a> WmfOps<'a> {
             reading: Reading::Records,
         }
     }
+}
 
-    /// The next operation, none behind the end record, or the fault at which the records break.
-    pub(crate) fn next_op(&mut self) -> Result<Option<Operation>, Fault>
+impl<'a> HasContent for WmfOps<'a> {
+    ghost content = { λ source. source };
+}
+
+impl<'a> OpSource<'a> for WmfOps<'a> {
+    /// The next record's step, none behind the end record, or the fault at which the records break.
+    fn next_op(&mut self) -> Result<Option<Step<'a>>, Fault>
         ensures gives { Gives self.old result self.new }
         ensures in_record { IfErr result IsInRecord }
     {
@@ -75,29 +81,35 @@ impl<'a> WmfOps<'a> {
                     self.reading = Reading::Failed(fault);
                     Err(fault)
                 }
-                Ok((record, operation)) => {
+                Ok((record, step)) => {
                     if record.is_last() {
                         self.reading = Reading::Ended;
-                    } else {
-                        self.rest = &self.rest[record.bytes.len()..];
-                        self.place += 1;
+                        return Ok(Some(step));
                     }
-                    Ok(Some(operation))
+                    self.rest = &self.rest[record.bytes.len()..];
+                    self.place += 1;
+                    Ok(Some(step))
                 }
             },
         }
     }
 }
 
-/// The record in front of the bytes with what it asks for, or its first fault.
-fn read(bytes: &[u8], place: u32) -> Result<(WmfRecord<'_>, Operation), Fault>
-    ensures value { first_of place bytes.entry.now ≡ result_map (λ r. (record_of r.0, operation_of r.1)) result }
+/// The record in front of the bytes, which is at this place in the file, with its step; or its first
+/// fault.
+fn read(bytes: &[u8], place: u32) -> Result<(WmfRecord<'_>, Step<'_>), Fault>
+    ensures value { first_of place bytes.entry.now ≡ result_map (λ r. (record_of r.0, step_value_of r.1)) result }
     ensures rest { IfOk result (λ r. drop (length r.0.bytes.now) bytes.entry.now ≡ rest_of wmf bytes.entry.now) }
     ensures within { IfOk result (λ r. length r.0.bytes.now ≤ length bytes.entry.now) }
     ensures below_limit { OnOk result (place < record_limit) }
     ensures in_record { IfErr result IsInRecord }
 {
     let record = front(bytes, place)?;
-    let operation = meaning(record)?;
-    Ok((record, operation))
+    let op = meaning(record)?;
+    let step = Step {
+        number: place,
+        op,
+        notes: Notes::none(),
+    };
+    Ok((record, step))
 }

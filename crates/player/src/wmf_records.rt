@@ -2,15 +2,14 @@
 
 ghost use Rattle.std.specs.Prelude.{◌≡◌, ◌==◌, ◌||◌, ◌≤◌, IfOk, IfErr, length};
 ghost use Rattle.draw_ops.specs.Fault.{IsInRecord};
+ghost use Rattle.draw_ops.specs.OperationOf.{operation_of};
 ghost use Rattle.player.specs.Results.{result_err, result_map};
 ghost use Rattle.player.specs.Records.{framing_fault, front_of, size_of};
 ghost use Rattle.player.specs.Wmf.{set_pixel, wmf, wmf_meaning};
-ghost use Rattle.player.specs.OperationOf.{operation_of};
 ghost use Rattle.player.specs.WmfRecord.{record_of};
 
 use crate::numbers::{byte_at, colour_at, long_at, signed_at, word_at};
-use crate::operation::Operation;
-use draw_ops::Fault;
+use draw_ops::{Fault, Op};
 use mapping::Point;
 
 /// How many records a file may have, the end record included.
@@ -77,20 +76,20 @@ fn size(bytes: &[u8]) -> usize
 }
 
 /// What a record asks for, or the first fault in its number, its parameters or its values.
-pub(crate) fn meaning(front: WmfRecord<'_>) -> Result<Operation, Fault>
+pub(crate) fn meaning(front: WmfRecord<'_>) -> Result<Op<'_>, Fault>
     ensures value { wmf_meaning (record_of front.entry) ≡ result_map operation_of result }
     ensures in_record { IfErr result IsInRecord }
 {
     match front.function {
-        META_EOF => Ok(Operation::NoEffect),
+        META_EOF => Ok(Op::NoEffect),
         META_SETPIXEL => pixel(front.bytes),
         function => Err(Fault::Unsupported(u32::from(function))),
     }
 }
 
 /// META_SETPIXEL ([MS-WMF] 2.3.3.19): the colour, y and x.
-fn pixel(bytes: &[u8]) -> Result<Operation, Fault>
-    ensures value { set_pixel bytes.now ≡ result_map operation_of result }
+fn pixel(bytes: &[u8]) -> Result<Op<'_>, Fault>
+    ensures value { set_pixel bytes.entry.now ≡ result_map operation_of result }
     ensures in_record { IfErr result IsInRecord }
 {
     if bytes.len() < 14 {
@@ -99,7 +98,7 @@ fn pixel(bytes: &[u8]) -> Result<Operation, Fault>
     if !is_rgb(byte_at(bytes, 9)) {
         return Err(Fault::PaletteColour);
     }
-    Ok(Operation::Pixel {
+    Ok(Op::Pixel {
         point: Point {
             x: i32::from(signed_at(bytes, 12)),
             y: i32::from(signed_at(bytes, 10)),

@@ -1,8 +1,8 @@
 -- Each turn plays one operation, and what is left of the run ends as before.
 use Rattle.std.proofs.Common.{◌≡◌, ◌∙◌, arith, rules}
 use Rattle.player.specs.Records.{record_limit}
-use Rattle.player.specs.Ops.{with_step}
-use Rattle.player.specs.OperationOf.{operation_of}
+use Rattle.draw_ops.specs.Content.{with_step}
+use Rattle.draw_ops.specs.StepOf.{step_value_of}
 use Rattle.player.proofs.RunLemmas.{one_step, one_write, one_less}
 use Rattle.player.proofs.play.play.Goals as goal
 
@@ -10,10 +10,10 @@ pub overflow_add-number : goal.overflow_add-number
 unfolding record_limit
 overflow_add-number c = search rules
 
-pub loop-operation-preserved : goal.loop-operation-preserved
-loop-operation-preserved c =
-    let before = c.loop-operation in
-    let given : before.source ≡ with_step (operation_of c.in-Ok-Some.operation) c.next_op.new.self = rw c.in-Ok-Some.field-0-is at c.in-Ok-Some.ensures.gives in
+pub loop-step-preserved : goal.loop-step-preserved
+loop-step-preserved c =
+    let before = c.loop-step in
+    let given : before.source ≡ with_step (step_value_of c.in-Ok-Some.step) c.next_op.new.self = rw c.in-Ok-Some.field-0-is at c.in-Ok-Some.ensures.gives in
     let drawn = c.in_default.ensures in
     let shorter = one_less _ _ _ given in
     record {

@@ -6,8 +6,8 @@ use Rattle.player.specs.Run.{run_steps, writes_of_steps}
 use Rattle.player.proofs.play.play.Given as goal
 
 -- what is left of the run ends as the whole run does
-abbrev pub invariant-loop-operation : goal.invariant-loop-operation
-invariant-loop-operation l = record {
+abbrev pub invariant-loop-step : goal.invariant-loop-step
+invariant-loop-step l = record {
   short : l.number + length l.source.steps ≤ record_limit;
   few : l.canvas.writes ≤ l.number;
   width : l.canvas.width ≡ l.place.width;
@@ -17,5 +17,5 @@ invariant-loop-operation l = record {
   writes : writes_of_steps l.fn.source.steps (state_of l.map) (surface_at l.place) ≡ l.canvas.writes + writes_of_steps l.source.steps (state_of l.map) (surface_at l.place);
 }
 
-abbrev pub decreases-loop-operation : goal.decreases-loop-operation
-decreases-loop-operation l = length l.source.steps
+abbrev pub decreases-loop-step : goal.decreases-loop-step
+decreases-loop-step l = length l.source.steps
