@@ -1,5 +1,6 @@
 -- The floor of a fraction is the greatest whole number not above it.
-use Rattle.std.proofs.Common.{◌≡◌, ◌≢◌, ℕ, zero, suc, ◌+◌, ◌*◌, ◌/◌, ◌%◌, ◌<◌, ◌≤◌, ℤ, pos, negsuc, neg_ℤ, ◌*ℤ◌, ◌≤ℤ◌, arith, refl, sym, ap, subst}
+use Rattle.std.proofs.Common.{◌≡◌, ◌≢◌, ℕ, zero, suc, ◌+◌, ◌*◌, ◌/◌, ◌%◌, ◌<◌, ◌≤◌, ℤ, pos, negsuc, neg_ℤ, ◌*ℤ◌, ◌≤ℤ◌, arith, refl, ap, ◌∙◌}
+use Rattle.std.proofs.Math.Nat.{mul-div_cancel}
 use Rattle.std.proofs.lemmas.Int.{ints}
 use Rattle.std.proofs.lemmas.Nat.{le-div, div_below, div-add-mod', mod_below}
 use Rattle.mapping.specs.Floor.{floor_div, IsNotAbove, FloorDivisionIsGreatest}
@@ -35,3 +36,22 @@ floor_is_greatest a (pos zero) ne = absurd (ne refl)
 floor_is_greatest a (pos (suc d)) ne = (low a d, greatest a d)
 floor_is_greatest a (negsuc d) ne =
     (turned _ a d (low (neg_ℤ a) d), λ q h. greatest (neg_ℤ a) d q (turned_back q a d h))
+
+-- the floor of a multiple over what it is a multiple of
+below : (m k n p : ℕ) → n ≡ suc p → floor_div (neg_ℤ (pos n)) (pos (suc k)) ≡ negsuc (p / suc k)
+below m k n p e = rw e refl
+
+whole : (m k : ℕ) → (m * suc k + k) / suc k ≡ m
+whole m k =
+    let least : m ≤ (m * suc k + k) / suc k = le-div m _ (suc k) (omega arith) (omega arith) in
+    let most : (m * suc k + k) / suc k < suc m = div_below _ (suc k) (suc m) (omega arith) (omega arith) in
+    omega arith
+
+multiple : (d : ℤ) (k : ℕ) → floor_div (d *ℤ pos (suc k)) (pos (suc k)) ≡ d
+multiple (pos m) k = ap pos (mul-div_cancel m (omega arith))
+multiple (negsuc m) k = below m k (suc m * suc k) (m * suc k + k) (omega arith) ∙ ap negsuc (whole m k)
+
+pub floor_of_multiple : (d v : ℤ) → v ≢ pos 0 → floor_div (d *ℤ v) v ≡ d
+floor_of_multiple d (pos zero) ne = absurd (ne refl)
+floor_of_multiple d (pos (suc k)) ne = multiple d k
+floor_of_multiple d (negsuc k) ne = let turned : neg_ℤ (d *ℤ negsuc k) ≡ d *ℤ pos (suc k) = omega (arith, ints) in rw turned (multiple d k)

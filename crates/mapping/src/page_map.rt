@@ -1,6 +1,7 @@
 //! The page map: where a page coordinate lands on the plane.
 
 ghost use Rattle.std.specs.Prelude.{◌≡◌, ◌≢◌, ◌+◌, ◌-◌, ◌^◌, ◌<◌, ◌≤◌, pos, ◌+ℤ◌, ◌-ℤ◌, ◌*ℤ◌, unsigned_abs, SomeIff};
+ghost use Rattle.mapping.specs.Floor.{floor_div};
 ghost use Rattle.mapping.specs.Plane.{IsOnPlane};
 
 use crate::floor::floor_quotient;
@@ -52,12 +53,23 @@ impl PageAxis {
             (IsOnPlane (plane_coordinate (axis_numbers self.now) coordinate))
             (plane_coordinate (axis_numbers self.now) coordinate) }
     {
-        let scaled = product(
-            distance(coordinate, self.window_origin),
-            i128::from(self.viewport_extent),
-        );
-        let quotient = floor_quotient(scaled, i128::from(self.window_extent));
-        on_plane(moved(quotient, self.viewport_origin, self.corner))
+        let distance = distance(coordinate, self.window_origin);
+        let scaled = self.scaled(distance);
+        on_plane(moved(scaled, self.viewport_origin, self.corner))
+    }
+
+    /// A distance on the page, scaled from the window's extent to the viewport's and rounded down.
+    /// Most maps scale nothing, and a division would cost more than all else here.
+    fn scaled(&self, distance: i128) -> i128
+        requires { unsigned_abs distance ≤ 2 ^ 65 }
+        ensures value { result ≡ floor_div (distance *ℤ self.now.viewport_extent) self.now.window_extent }
+        ensures bound { unsigned_abs result ≤ 2 ^ 96 }
+    {
+        if self.viewport_extent == self.window_extent {
+            return distance;
+        }
+        let product = product(distance, i128::from(self.viewport_extent));
+        floor_quotient(product, i128::from(self.window_extent))
     }
 }
 

@@ -9,31 +9,22 @@ use Rattle.mapping.specs.PageMap.{axis_numbers}
 use Rattle.mapping.proofs.page_map.PageAxis.plane.Goals as goal
 
 -- the steps, one after another, are the definition
-steps : (n : AxisNumbers) (x distance viewport product window quotient moved : ℤ) → distance ≡ x -ℤ n.window_origin → viewport ≡ n.viewport_extent → product ≡ distance *ℤ viewport → window ≡ n.window_extent → quotient ≡ floor_div product window → moved ≡ quotient +ℤ n.viewport_origin -ℤ n.corner → moved ≡ plane_coordinate n x
-steps n x distance viewport product window quotient moved d v p w q m = rw (m, q, p, d, v, w) refl
+steps : (n : AxisNumbers) (x distance scaled moved : ℤ) → distance ≡ x -ℤ n.window_origin → scaled ≡ floor_div (distance *ℤ n.viewport_extent) n.window_extent → moved ≡ scaled +ℤ n.viewport_origin -ℤ n.corner → moved ≡ plane_coordinate n x
+steps n x distance scaled moved d s m = rw (m, s, d) refl
 
 pub returns : goal.returns
 returns c =
     let axis = c.args.self.now in
     let coordinate_fits = c.ranges.coordinate in
     let window_origin_fits : FitsSigned w32 axis.window_origin = search rules in
-    let window_extent_fits : FitsSigned w32 axis.window_extent = search rules in
     let viewport_origin_fits : FitsSigned w32 axis.viewport_origin = search rules in
-    let viewport_extent_fits : FitsSigned w32 axis.viewport_extent = search rules in
     let corner_fits : FitsSigned w32 axis.corner = search rules in
-    let distance_fits : FitsSigned w128 c.distance.result = search rules in
-    let viewport_fits : FitsSigned w128 c.from.result = search rules in
-    let window_fits : FitsSigned w128 c.from-2.result = search rules in
-    let product_fits : FitsSigned w128 c.product-scaled.result = search rules in
-    let quotient_fits : FitsSigned w128 c.floor_quotient-quotient.result = search rules in
+    let distance_fits : FitsSigned w128 c.distance-distance.result = search rules in
+    let scaled_fits : FitsSigned w128 c.scaled-scaled.result = search rules in
     let moved_fits : FitsSigned w128 c.moved.result = search rules in
-    let distance = simp to_z-of_z at c.distance.ensures.value in
-    let viewport = simp to_z-of_z at c.from.ensures in
-    let product = simp to_z-of_z at c.product-scaled.ensures.value in
-    let window = simp to_z-of_z at c.from-2.ensures in
-    let quotient = simp to_z-of_z at c.floor_quotient-quotient.ensures.value in
+    let distance = simp to_z-of_z at c.distance-distance.ensures.value in
+    let scaled = simp to_z-of_z at c.scaled-scaled.ensures.value in
     let moved = simp to_z-of_z at c.moved.ensures in
-    let whole : c.moved.result ≡ plane_coordinate (axis_numbers axis) c.args.coordinate =
-    steps (axis_numbers axis) _ _ _ _ _ _ _ distance viewport product window quotient moved in
+    let whole : c.moved.result ≡ plane_coordinate (axis_numbers axis) c.args.coordinate = steps (axis_numbers axis) _ _ _ _ distance scaled moved in
     let is_it : ℤ → Type 0 = λ v. SomeIff c.on_plane.result (IsOnPlane v) v in
     subst is_it whole (simp to_z-of_z at c.on_plane.ensures)
