@@ -37,19 +37,23 @@ floor_is_greatest a (pos (suc d)) ne = (low a d, greatest a d)
 floor_is_greatest a (negsuc d) ne =
     (turned _ a d (low (neg_ℤ a) d), λ q h. greatest (neg_ℤ a) d q (turned_back q a d h))
 
--- the floor of a multiple over what it is a multiple of
-below : (m k n p : ℕ) → n ≡ suc p → floor_div (neg_ℤ (pos n)) (pos (suc k)) ≡ negsuc (p / suc k)
-below m k n p e = rw e refl
+-- a number below 0, divided
+below : (n k : ℕ) → floor_div (neg_ℤ (pos (suc n))) (pos (suc k)) ≡ negsuc (n / suc k)
+below n k = refl
 
-whole : (m k : ℕ) → (m * suc k + k) / suc k ≡ m
-whole m k =
+-- the last number below the next multiple has the same quotient
+last_of : (m k : ℕ) → (m * suc k + k) / suc k ≡ m
+last_of m k =
     let least : m ≤ (m * suc k + k) / suc k = le-div m _ (suc k) (omega arith) (omega arith) in
     let most : (m * suc k + k) / suc k < suc m = div_below _ (suc k) (suc m) (omega arith) (omega arith) in
     omega arith
 
+-- the floor of a multiple, over what it is a multiple of
 multiple : (d : ℤ) (k : ℕ) → floor_div (d *ℤ pos (suc k)) (pos (suc k)) ≡ d
 multiple (pos m) k = ap pos (mul-div_cancel m (omega arith))
-multiple (negsuc m) k = below m k (suc m * suc k) (m * suc k + k) (omega arith) ∙ ap negsuc (whole m k)
+multiple (negsuc m) k =
+    let next : suc m * suc k ≡ suc (m * suc k + k) = omega arith in
+    ap (λ (n : ℕ). floor_div (neg_ℤ (pos n)) (pos (suc k))) next ∙ below (m * suc k + k) k ∙ ap negsuc (last_of m k)
 
 pub floor_of_multiple : (d v : ℤ) → v ≢ pos 0 → floor_div (d *ℤ v) v ≡ d
 floor_of_multiple d (pos zero) ne = absurd (ne refl)

@@ -16,6 +16,7 @@ mod numbers;
 mod opening;
 mod play;
 mod refusal;
+mod state;
 #[cfg(test)]
 mod tests;
 mod wmf_ops;

@@ -11,10 +11,11 @@ ghost use Rattle.player.specs.Run.{Run, RunEndsInOneWay, Writes, WritesAreOne, s
 use crate::drawing::draw;
 use crate::opening::open;
 use crate::refusal::Refusal;
+use crate::state::State;
 use crate::wmf_ops::WmfOps;
 use canvas::Canvas;
 use draw_ops::{Fault, OpSource};
-use mapping::{Colour, PageMap, Place};
+use mapping::{Colour, Place};
 use std::alloc::Global;
 
 /// Bytes are records in one way: they spell one list of records, or break behind one list with one
@@ -60,28 +61,27 @@ pub fn play_file(alloc: Global, file: &[u8], width: u32, height: u32) -> Result<
         });
     };
     let place = Place::new(&opened.frame, width, height);
+    let state = State {
+        map: opened.start_map,
+        place,
+    };
     let mut source = WmfOps::new(opened.records);
-    play(&mut source, &opened.start_map, place, &mut canvas)?;
+    play(&mut source, &state, &mut canvas)?;
     Ok(canvas)
 }
 
 /// Plays the steps that are left of a source.
-fn play(
-    source: &mut WmfOps<'_>,
-    map: &PageMap,
-    place: Place,
-    canvas: &mut Canvas,
-) -> Result<(), Refusal>
+fn play(source: &mut WmfOps<'_>, state: &State, canvas: &mut Canvas) -> Result<(), Refusal>
     requires short { length source.old.steps ≤ record_limit }
-    requires width { canvas.old.width ≡ place.width }
-    requires rows { canvas.old.rows ≡ place.height }
+    requires width { canvas.old.width ≡ state.now.place.width }
+    requires rows { canvas.old.rows ≡ state.now.place.height }
     requires first { canvas.old.first ≡ 0 }
     requires uncounted { canvas.old.writes ≡ 0 }
-    ensures image { OnOk result (run_steps source.old.steps source.old.fault 0 (state_of map.now) (surface_at place) (image_of canvas.old)
+    ensures image { OnOk result (run_steps source.old.steps source.old.fault 0 (state_of state.now.map) (surface_at state.now.place) (image_of canvas.old)
         ≡ shown (image_of canvas.new)) }
-    ensures writes { OnOk result (canvas.new.writes ≡ writes_of_steps source.old.steps (state_of map.now) (surface_at place)) }
+    ensures writes { OnOk result (canvas.new.writes ≡ writes_of_steps source.old.steps (state_of state.now.map) (surface_at state.now.place)) }
     ensures first { canvas.new.first ≡ 0 }
-    ensures refusal { IfErr result (λ r. run_steps source.old.steps source.old.fault 0 (state_of map.now) (surface_at place) (image_of canvas.old)
+    ensures refusal { IfErr result (λ r. run_steps source.old.steps source.old.fault 0 (state_of state.now.map) (surface_at state.now.place) (image_of canvas.old)
         ≡ refused r.number r.fault) }
     ensures record { IfErr result (λ r. IsSome r.number ↔ IsInRecord r.fault) }
 {
@@ -92,7 +92,7 @@ fn play(
             Ok(None) => return Ok(()),
             Err(fault) => return Err(Refusal::at(number, fault)),
         };
-        if let Err(fault) = draw(step.op, map, place, canvas) {
+        if let Err(fault) = draw(step.op, state, canvas) {
             return Err(Refusal::at(number, fault));
         }
         number += 1;

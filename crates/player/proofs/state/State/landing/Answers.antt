@@ -8,7 +8,7 @@ use Rattle.mapping.specs.PlaceOf.{placed_x, placed_y}
 use Rattle.mapping.specs.Surface.{IsPlaced}
 use Rattle.player.specs.State.{lands}
 use Rattle.player.proofs.PlaneLemmas.{Lands, both_true, both_false}
-use Rattle.player.proofs.drawing.landing.Goals as goal
+use Rattle.player.proofs.state.State.landing.Goals as goal
 
 -- a page point lands, on each axis
 abbrev LandsX : PageMap → Place → Point → Type 0
@@ -22,25 +22,25 @@ off map place point out = both_false (axis_numbers map.x) (axis_numbers map.y) p
 
 pub returns-in_default-clause-fault : goal.returns-in_default-clause-fault
 returns-in_default-clause-fault c =
-    rw (off c.args.map.now c.args.place c.args.point (λ p q. c.in_default.ensures (p.plane, q.plane))) refl
+    rw (off c.args.self.now.map c.args.self.now.place c.args.point (λ p q. c.in_default.ensures (p.plane, q.plane))) refl
 
 pub returns-in_default-place-clause-fault : goal.returns-in_default-place-clause-fault
 returns-in_default-place-clause-fault c =
     let at = sym c.in-Some.ensures.1 in
-    rw (off c.args.map.now c.args.place c.args.point (λ p q. c.in_default-place.ensures (subst (λ (v : Point). IsPlaced (placed_x c.args.place v)) at p.place, subst (λ (v : Point). IsPlaced (placed_y c.args.place v)) at q.place))) refl
+    rw (off c.args.self.now.map c.args.self.now.place c.args.point (λ p q. c.in_default-place.ensures (subst (λ (v : Point). IsPlaced (placed_x c.args.self.now.place v)) at p.place, subst (λ (v : Point). IsPlaced (placed_y c.args.self.now.place v)) at q.place))) refl
 
 pub returns-clause-fault : goal.returns-clause-fault
 returns-clause-fault c =
     let at = c.in-Some.ensures.1 in
     let fits = c.in-Some-place.ensures.0 in
-    let x : LandsX c.args.map.now c.args.place c.args.point = record { plane = c.in-Some.ensures.0.0; place = subst (λ (v : Point). IsPlaced (placed_x c.args.place v)) at fits.0 } in
-    let y : LandsY c.args.map.now c.args.place c.args.point = record { plane = c.in-Some.ensures.0.1; place = subst (λ (v : Point). IsPlaced (placed_y c.args.place v)) at fits.1 } in
+    let x : LandsX c.args.self.now.map c.args.self.now.place c.args.point = record { plane = c.in-Some.ensures.0.0; place = subst (λ (v : Point). IsPlaced (placed_x c.args.self.now.place v)) at fits.0 } in
+    let y : LandsY c.args.self.now.map c.args.self.now.place c.args.point = record { plane = c.in-Some.ensures.0.1; place = subst (λ (v : Point). IsPlaced (placed_y c.args.self.now.place v)) at fits.1 } in
     rw (both_true _ _ _ _ _ _ _ _ x y) refl
 
 pub returns-clause-x : goal.returns-clause-x
 returns-clause-x c =
-    ap (λ (v : Point). v.x) c.in-Some-place.ensures.1 ∙ ap (λ (v : Point). placed_x c.args.place v) c.in-Some.ensures.1
+    ap (λ (v : Point). v.x) c.in-Some-place.ensures.1 ∙ ap (λ (v : Point). placed_x c.args.self.now.place v) c.in-Some.ensures.1
 
 pub returns-clause-y : goal.returns-clause-y
 returns-clause-y c =
-    ap (λ (v : Point). v.y) c.in-Some-place.ensures.1 ∙ ap (λ (v : Point). placed_y c.args.place v) c.in-Some.ensures.1
+    ap (λ (v : Point). v.y) c.in-Some-place.ensures.1 ∙ ap (λ (v : Point). placed_y c.args.self.now.place v) c.in-Some.ensures.1

@@ -2,7 +2,7 @@ use Rattle.std.proofs.Common.{rules}
 use Rattle.std.specs.Prelude.{FitsSigned}
 use Rattle.std.specs.Int.{w32, w64}
 use Rattle.std.proofs.lemmas.Int.{to_z-of_z}
-use Rattle.player.proofs.drawing.on_plane.Goals as goal
+use Rattle.player.proofs.state.on_plane.Goals as goal
 
 pub returns : goal.returns
 returns c =
