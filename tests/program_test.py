@@ -94,13 +94,23 @@ class Program(unittest.TestCase):
 
 
 class Launcher(unittest.TestCase):
+    launcher = ROOT / "metaplay"
+
     def test_the_launcher_works_from_any_folder(self):
-        launcher = ROOT / "metaplay"
         with tempfile.TemporaryDirectory() as folder:
             relative = os.path.relpath(DOT_FILE, folder)
-            answered = answer(launcher, ["show", relative, "4", "4"], cwd=folder)
+            answered = answer(self.launcher, ["show", relative, "4", "4"], cwd=folder)
         self.assertEqual(answered, Answer(0, DOT_IMAGE, b""))
-        refused = answer(launcher, ["show", "stdin", "4", "4"], DOT[:50])
+
+    def test_the_launcher_works_through_links(self):
+        with tempfile.TemporaryDirectory() as folder:
+            os.symlink(self.launcher, f"{folder}/first")
+            os.symlink("first", f"{folder}/second")
+            answered = answer(f"{folder}/second", ["show", "stdin", "4", "4"], DOT)
+        self.assertEqual(answered, Answer(0, DOT_IMAGE, b""))
+
+    def test_the_launcher_answers_the_program_s_status(self):
+        refused = answer(self.launcher, ["show", "stdin", "4", "4"], DOT[:50])
         self.assertEqual(refused, Answer(1, b"", b"metaplay: PastEnd at record 0\n"))
 
 

@@ -6,7 +6,9 @@
 //! - A write changes the pixel that it names and no other, and is counted once (`Canvas::put`).
 //! - What is written out is the P6 text of the image, byte for byte, and after a failure a front of
 //!   that text (`Canvas::write_ppm`, by `ppm_text`).
-//! - Three bytes a pixel are taken when a canvas is made, and no memory afterwards.
+//!
+//! Memory, three bytes a pixel, is taken when a canvas is made; no other call can take any, since none
+//! has an allocator.
 #![tactic(auto)]
 
 mod canvas_error;

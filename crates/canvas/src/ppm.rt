@@ -1,9 +1,8 @@
 //! The P6 text, written in pieces through a buffer on the stack.
 
-ghost use Rattle.std.specs.Prelude.{◌≡◌, ◌+◌, ◌*◌, ◌≤◌, ◌^◌, ◌<◌, ◌++◌, length, take, decimal, OnOk, OnErr};
+ghost use Rattle.std.specs.Prelude.{◌≡◌, ◌+◌, ◌*◌, ◌≤◌, ◌++◌, length, take, decimal, OnOk, OnErr};
 ghost use Rattle.std.specs.Io.KnownBytes.{Appends};
-ghost use Rattle.canvas.specs.Image.{Image};
-ghost use Rattle.canvas.specs.Ppm.{AppendsFront, header, ppm_text, raster};
+ghost use Rattle.canvas.specs.Ppm.{AppendsFront, header, raster};
 
 use crate::canvas_error::WriteFault;
 use itoa::Buffer;
@@ -13,10 +12,11 @@ use std::io::{ErrorKind, Write};
 /// How many pixels go into a piece. The first piece has the header as well.
 const PIECE_PIXELS: usize = 4096;
 
-/// The longest header: its two numbers have at most ten digits each.
+/// Room for the longest header, 29 bytes: its two numbers have at most ten digits each.
 const HEADER_ROOM: usize = 32;
 
-const PIECE_ROOM: usize = 12320;
+/// Room for a piece, three bytes a pixel.
+const PIECE_ROOM: usize = HEADER_ROOM + 3 * PIECE_PIXELS;
 
 /// Writes the P6 text of an image.
 pub(crate) fn write_text<W: Write>(

@@ -28,7 +28,6 @@ pub struct Canvas {
 }
 
 impl Model for Canvas {
-    ghost use Rattle.std.specs.Prelude.{◌≡◌, ◌+◌, ◌*◌, ◌≤◌, vec_len};
     ghost use Rattle.canvas.specs.CanvasState.{CanvasState};
 
     ghost Value = { CanvasState };

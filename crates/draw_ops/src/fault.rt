@@ -1,12 +1,12 @@
 //! Why a file, a certificate or a call is refused.
 
-ghost use Rattle.std.specs.Prelude.{◌≡◌, ◌++◌, ◌∷◌, [], codes, Some, decimal};
+ghost use Rattle.std.specs.Prelude.{◌≡◌};
 
 use std::error::Error;
 use std::fmt;
 
 /// A fault. Its number, its name and, where it has one, the function or the type of the record
-/// that it speaks of never change: reports and refusal lines show them.
+/// that it speaks of never change: callers and refusal lines show them.
 #[derive(Clone, Copy, Debug, PartialEq, Eq)]
 pub enum Fault {
     // The file: its opening.

@@ -6,7 +6,8 @@ ghost use Rattle.mapping.specs.Limits.{IsFrameSide};
 /// The longest side of a frame.
 const MAX_SIDE: u32 = 1 << 28;
 
-/// A point of the plane or of a surface. `x` grows to the right and `y` downwards.
+/// A point, or two sides, of the page, of the plane or of a surface. On the plane and on a surface `x`
+/// grows to the right and `y` downwards.
 #[derive(Clone, Copy, Debug, PartialEq, Eq)]
 pub struct Point {
     pub x: i32,

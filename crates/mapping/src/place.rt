@@ -1,6 +1,6 @@
 //! The place: where a plane point lands on a surface.
 
-ghost use Rattle.std.specs.Prelude.{◌≡◌, ◌≤◌, ◌^◌, ◌↔◌, IsTrue, SomeIff, pos, ◌*ℤ◌, unsigned_abs};
+ghost use Rattle.std.specs.Prelude.{◌≡◌, ◌≤◌, ◌↔◌, IsTrue, SomeIff};
 ghost use Rattle.mapping.specs.Surface.{placed, IsPlaced};
 
 use crate::geometry::{Frame, Point};

@@ -1,6 +1,6 @@
 //! Reading the command line.
 
-ghost use Rattle.std.specs.Prelude.{◌≤◌, IfOk, IfSome};
+ghost use Rattle.std.specs.Prelude.{IfOk, IfSome};
 ghost use Rattle.meta_main.specs.Sides.{HasSides, IsSide};
 
 use crate::asked::Line;
@@ -33,7 +33,7 @@ fn metaplay<'a>(alloc: Global) -> Result<Command<'a>, AllocError> {
         .arg(side(alloc, "H", "The surface's height in pixels"))?;
     Command::new(alloc, "metaplay")
         .bin_name("metaplay")?
-        .about("Plays Windows metafiles (WMF, EMF) on a pixel surface")
+        .about("Plays Windows metafiles on a pixel surface")
         .subcommand_required(true)
         .subcommand(show)
 }

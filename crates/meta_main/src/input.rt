@@ -27,7 +27,7 @@ pub enum InputFault {
 }
 
 impl InputFault {
-    /// The fault that an error of the system is, where a file is opened.
+    /// The fault that an error of the system is, where a file is opened or the command line is read.
     pub(crate) fn of(error: io::Error) -> InputFault {
         if error.kind() == ErrorKind::OutOfMemory {
             InputFault::OutOfMemory

@@ -47,7 +47,7 @@ where
     }
 }
 
-/// The words of the command line, the program's name first.
+/// The words of the command line, the program's name first: `CannotRead` where one isn't UTF-8.
 fn words<R: Env + AllocGlobal>(rt: &R) -> Result<Vec<String>, InputFault> {
     let words = env::args(rt).map_err(InputFault::of)?;
     words

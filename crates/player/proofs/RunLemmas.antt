@@ -61,15 +61,15 @@ opened_run file width height image o content outcome e h r = subst (λ (q : Resu
 pub opened_writes : (file : List ℕ) (width height writes : ℕ) (o : Opened) (content : Content) (image : Image) → opened file ≡ Ok o → IsFileContent o.format file content → run_steps content.steps content.fault 0 (start_of o) (surface_of o width height) (white width height) ≡ shown image → writes_of_steps content.steps (start_of o) (surface_of o width height) ≡ writes → Writes file width height writes
 opened_writes file width height writes o content image e h s r = subst (λ (q : Result Opened Fault). WritesOpened q file width height writes) (sym e) (content, h, subst IsShown (sym s) tt, sym r)
 
-by_writes : (o : Result Opened Fault) (file : List ℕ) (width height m n : ℕ) → WritesOpened o file width height m → WritesOpened o file width height n → m ≡ n
-by_writes (Err fault) file width height m n h k = absurd h
-by_writes (Ok o) file width height m n h k =
+by_writes : (o : Result Opened Fault) (file : List ℕ) (width height : ℕ) (image : Image) → RunOpened o file width height (white width height) (shown image) → (writes : ℕ) × WritesOpened o file width height writes × ((other : ℕ) → WritesOpened o file width height other → other ≡ writes)
+by_writes (Err fault) file width height image h = absurd (cc h)
+by_writes (Ok o) file width height image h =
     let only = one_file_content o.format file in
     let writes : Content → ℕ = λ content. writes_of_steps content.steps (start_of o) (surface_of o width height) in
-    h.3 ∙ ap writes (only.2 h.0 h.1) ∙ sym (ap writes (only.2 k.0 k.1)) ∙ sym k.3
+    (writes h.0, (h.0, h.1, subst IsShown h.2 tt, refl), λ other k. k.3 ∙ ap writes (only.2 k.0 k.1) ∙ sym (ap writes (only.2 h.0 h.1)))
 
 pub writes_are_one : WritesAreOne
-writes_are_one file width height m n h k = by_writes (opened file) file width height m n h k
+writes_are_one file width height image h = by_writes (opened file) file width height image h
 
 -- the same run, at a place and an image that are known
 pub same_run : (steps : List StepValue) (fault : Option Fault) (state : State) (s t : Surface) (i j : Image) → s ≡ t → i ≡ j → run_steps steps fault 0 state s i ≡ run_steps steps fault 0 state t j

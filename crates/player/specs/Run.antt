@@ -84,6 +84,8 @@ RunEndsInOneWay =
     → ((outcome : Outcome) × Run file width height image outcome × ((other : Outcome) → Run file width height image other → other ≡ outcome))
     × ((other : Image) (number : Option ℕ) (fault : Fault) → Run file width height image (refused number fault) → Run file width height other (refused number fault))
 
--- a run writes one number of pixels
+-- a run without a fault writes one number of pixels
 abbrev pub WritesAreOne : Type 0
-WritesAreOne = (file : List ℕ) (width height m n : ℕ) → Writes file width height m → Writes file width height n → m ≡ n
+WritesAreOne =
+    (file : List ℕ) (width height : ℕ) (image : Image) → Run file width height (white width height) (shown image)
+    → (writes : ℕ) × Writes file width height writes × ((other : ℕ) → Writes file width height other → other ≡ writes)

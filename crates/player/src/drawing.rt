@@ -11,22 +11,22 @@ ghost use Rattle.player.specs.Playing.{state_of, surface_at};
 ghost use Rattle.player.specs.Results.{result_err};
 ghost use Rattle.player.specs.State.{fault_of};
 
-use crate::state::State;
+use crate::state::Machine;
 use canvas::Canvas;
 use draw_ops::{Fault, Op};
 use mapping::{Colour, Point};
 
 /// Draws an operation, or tells its first fault. After a fault the canvas is as it was.
-pub(crate) fn draw(op: Op<'_>, state: &State, canvas: &mut Canvas) -> Result<(), Fault>
-    requires width { canvas.old.width ≡ state.now.place.width }
-    requires rows { canvas.old.rows ≡ state.now.place.height }
+pub(crate) fn draw(op: Op<'_>, machine: &Machine, canvas: &mut Canvas) -> Result<(), Fault>
+    requires width { canvas.old.width ≡ machine.now.place.width }
+    requires rows { canvas.old.rows ≡ machine.now.place.height }
     requires first { canvas.old.first ≡ 0 }
     requires countable { canvas.old.writes + 1 < 2 ^ 64 }
-    ensures fault { fault_of (operation_of op.entry) (state_of state.now.map) (surface_at state.now.place) ≡ result_err result }
+    ensures fault { fault_of (operation_of op.entry) (state_of machine.now.map) (surface_at machine.now.place) ≡ result_err result }
     ensures image { OnOk result (image_of canvas.new
-        ≡ apply_all (layers_of (operation_of op.entry) (state_of state.now.map)) (state_of state.now.map).clip (surface_at state.now.place) (image_of canvas.old)) }
+        ≡ apply_all (layers_of (operation_of op.entry) (state_of machine.now.map)) (state_of machine.now.map).clip (surface_at machine.now.place) (image_of canvas.old)) }
     ensures writes { OnOk result (canvas.new.writes
-        ≡ canvas.old.writes + writes_of_layers (layers_of (operation_of op.entry) (state_of state.now.map)) (state_of state.now.map).clip (surface_at state.now.place)) }
+        ≡ canvas.old.writes + writes_of_layers (layers_of (operation_of op.entry) (state_of machine.now.map)) (state_of machine.now.map).clip (surface_at machine.now.place)) }
     ensures width { canvas.new.width ≡ canvas.old.width }
     ensures first { canvas.new.first ≡ canvas.old.first }
     ensures rows { canvas.new.rows ≡ canvas.old.rows }
@@ -37,7 +37,7 @@ pub(crate) fn draw(op: Op<'_>, state: &State, canvas: &mut Canvas) -> Result<(),
     match op {
         Op::NoEffect => Ok(()),
         Op::Pixel { point, colour } => {
-            let placed = state.landing(point)?;
+            let placed = machine.landing(point)?;
             put(placed, colour, canvas);
             Ok(())
         }

@@ -1,6 +1,6 @@
 //! Playing a file: its records' steps in order, on a white canvas.
 
-ghost use Rattle.std.specs.Prelude.{◌≡◌, ◌+◌, ◌<◌, ◌≤◌, ◌^◌, ◌↔◌, ◌⊎◌, IsSome, IfOk, IfErr, OnOk, length};
+ghost use Rattle.std.specs.Prelude.{◌≡◌, ◌≤◌, ◌↔◌, ◌⊎◌, IsSome, IfOk, IfErr, OnOk, length};
 ghost use Rattle.canvas.specs.CanvasState.{image_of};
 ghost use Rattle.draw_ops.specs.Fault.{IsInRecord};
 ghost use Rattle.player.specs.Playing.{state_of, surface_at};
@@ -11,7 +11,7 @@ ghost use Rattle.player.specs.Run.{Run, RunEndsInOneWay, Writes, WritesAreOne, s
 use crate::drawing::draw;
 use crate::opening::open;
 use crate::refusal::Refusal;
-use crate::state::State;
+use crate::state::Machine;
 use crate::wmf_ops::WmfOps;
 use canvas::Canvas;
 use draw_ops::{Fault, OpSource};
@@ -25,7 +25,7 @@ pub fn records_law()
 {}
 
 /// A run ends in one way, and whether it is refused, and by which fault, doesn't depend on the image
-/// that it starts from; and it writes one number of pixels.
+/// that it starts from; without a fault it writes one number of pixels.
 pub fn run_law()
     ensures end { RunEndsInOneWay }
     ensures writes { WritesAreOne }
@@ -61,27 +61,27 @@ pub fn play_file(alloc: Global, file: &[u8], width: u32, height: u32) -> Result<
         });
     };
     let place = Place::new(&opened.frame, width, height);
-    let state = State {
+    let machine = Machine {
         map: opened.start_map,
         place,
     };
     let mut source = WmfOps::new(opened.records);
-    play(&mut source, &state, &mut canvas)?;
+    play(&mut source, &machine, &mut canvas)?;
     Ok(canvas)
 }
 
 /// Plays the steps that are left of a source.
-fn play(source: &mut WmfOps<'_>, state: &State, canvas: &mut Canvas) -> Result<(), Refusal>
+fn play(source: &mut WmfOps<'_>, machine: &Machine, canvas: &mut Canvas) -> Result<(), Refusal>
     requires short { length source.old.steps ≤ record_limit }
-    requires width { canvas.old.width ≡ state.now.place.width }
-    requires rows { canvas.old.rows ≡ state.now.place.height }
+    requires width { canvas.old.width ≡ machine.now.place.width }
+    requires rows { canvas.old.rows ≡ machine.now.place.height }
     requires first { canvas.old.first ≡ 0 }
     requires uncounted { canvas.old.writes ≡ 0 }
-    ensures image { OnOk result (run_steps source.old.steps source.old.fault 0 (state_of state.now.map) (surface_at state.now.place) (image_of canvas.old)
+    ensures image { OnOk result (run_steps source.old.steps source.old.fault 0 (state_of machine.now.map) (surface_at machine.now.place) (image_of canvas.old)
         ≡ shown (image_of canvas.new)) }
-    ensures writes { OnOk result (canvas.new.writes ≡ writes_of_steps source.old.steps (state_of state.now.map) (surface_at state.now.place)) }
+    ensures writes { OnOk result (canvas.new.writes ≡ writes_of_steps source.old.steps (state_of machine.now.map) (surface_at machine.now.place)) }
     ensures first { canvas.new.first ≡ 0 }
-    ensures refusal { IfErr result (λ r. run_steps source.old.steps source.old.fault 0 (state_of state.now.map) (surface_at state.now.place) (image_of canvas.old)
+    ensures refusal { IfErr result (λ r. run_steps source.old.steps source.old.fault 0 (state_of machine.now.map) (surface_at machine.now.place) (image_of canvas.old)
         ≡ refused r.number r.fault) }
     ensures record { IfErr result (λ r. IsSome r.number ↔ IsInRecord r.fault) }
 {
@@ -92,7 +92,7 @@ fn play(source: &mut WmfOps<'_>, state: &State, canvas: &mut Canvas) -> Result<(
             Ok(None) => return Ok(()),
             Err(fault) => return Err(Refusal::at(number, fault)),
         };
-        if let Err(fault) = draw(step.op, state, canvas) {
+        if let Err(fault) = draw(step.op, machine, canvas) {
             return Err(Refusal::at(number, fault));
         }
         number += 1;

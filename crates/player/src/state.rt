@@ -11,16 +11,16 @@ ghost use Rattle.player.specs.State.{lands};
 use draw_ops::Fault;
 use mapping::{PageMap, Place, Point};
 
-/// What drawings depend on.
+/// The playing state on a surface.
 #[derive(Clone, Copy, Debug, PartialEq, Eq)]
-pub(crate) struct State {
+pub(crate) struct Machine {
     /// The page map, which no record changes so far.
     pub(crate) map: PageMap,
     /// The surface, which stays the same for a whole run.
     pub(crate) place: Place,
 }
 
-impl State {
+impl Machine {
     /// Where a page point lands on the surface, or `OffPlane` where it leaves the plane or the range
     /// of placed coordinates.
     pub(crate) fn landing(&self, point: Point) -> Result<Point, Fault>

@@ -15,7 +15,7 @@ use std::test::Fail;
 /// META_SAVEDC, 0x001e.
 fn save() -> Step<'static> {
     Step {
-        number: 30,
+        number: 0,
         op: Op::Save,
         notes: Notes::none(),
     }
@@ -24,7 +24,7 @@ fn save() -> Step<'static> {
 /// META_MOVETO, 0x0214, to (3, -4).
 fn move_to() -> Step<'static> {
     Step {
-        number: 532,
+        number: 1,
         op: Op::MoveTo(Point { x: 3, y: -4 }),
         notes: Notes::none(),
     }
@@ -33,7 +33,7 @@ fn move_to() -> Step<'static> {
 /// META_ESCAPE, 0x0626, which is skipped.
 fn skipped() -> Step<'static> {
     Step {
-        number: 1574,
+        number: 2,
         op: Op::NoEffect,
         notes: Notes::none().with(Note::Skipped),
     }
@@ -45,7 +45,7 @@ fn gives_its_steps_and_then_none_twice(rt: HostRuntime) -> Result<(), Fail> {
     let bytes = [1, 0, 0, 0, 2, 0, 0, 0];
     let points = Points::new16(&bytes, 2).ok_or("two points")?;
     let polyline = Step {
-        number: 805,
+        number: 1,
         op: Op::Polyline(Polys::one(points)),
         notes: Notes::none(),
     };

@@ -10,11 +10,11 @@ abbrev pub invariant-loop-step : goal.invariant-loop-step
 invariant-loop-step l = record {
   short : l.number + length l.source.steps ≤ record_limit;
   few : l.canvas.writes ≤ l.number;
-  width : l.canvas.width ≡ l.state.place.width;
-  rows : l.canvas.rows ≡ l.state.place.height;
+  width : l.canvas.width ≡ l.machine.place.width;
+  rows : l.canvas.rows ≡ l.machine.place.height;
   first : l.canvas.first ≡ 0;
-  run : run_steps l.fn.source.steps l.fn.source.fault 0 (state_of l.state.map) (surface_at l.state.place) (image_of l.fn.canvas) ≡ run_steps l.source.steps l.source.fault l.number (state_of l.state.map) (surface_at l.state.place) (image_of l.canvas);
-  writes : writes_of_steps l.fn.source.steps (state_of l.state.map) (surface_at l.state.place) ≡ l.canvas.writes + writes_of_steps l.source.steps (state_of l.state.map) (surface_at l.state.place);
+  run : run_steps l.fn.source.steps l.fn.source.fault 0 (state_of l.machine.map) (surface_at l.machine.place) (image_of l.fn.canvas) ≡ run_steps l.source.steps l.source.fault l.number (state_of l.machine.map) (surface_at l.machine.place) (image_of l.canvas);
+  writes : writes_of_steps l.fn.source.steps (state_of l.machine.map) (surface_at l.machine.place) ≡ l.canvas.writes + writes_of_steps l.source.steps (state_of l.machine.map) (surface_at l.machine.place);
 }
 
 abbrev pub decreases-loop-step : goal.decreases-loop-step

@@ -8,7 +8,7 @@ use Rattle.mapping.specs.PlaceOf.{placed_x, placed_y}
 use Rattle.mapping.specs.Surface.{IsPlaced}
 use Rattle.player.specs.State.{lands}
 use Rattle.player.proofs.PlaneLemmas.{Lands, both_true, both_false}
-use Rattle.player.proofs.state.State.landing.Goals as goal
+use Rattle.player.proofs.state.Machine.landing.Goals as goal
 
 -- a page point lands, on each axis
 abbrev LandsX : PageMap → Place → Point → Type 0
