@@ -17,7 +17,7 @@ CANNOT_WRITE = Answer(3, b"", b"metaplay: cannot write\n")
 
 
 def with_little_memory():
-    """Leaves a process 64 MiB of addresses, of which an image of 8,192 by 8,192 needs 192."""
+    """Leaves a process 64 MiB of addresses, while an image of 8,192 by 8,192 needs 192."""
     resource.setrlimit(resource.RLIMIT_AS, (1 << 26, 1 << 26))
 
 

@@ -72,8 +72,7 @@ class RefusedGrowth(unittest.TestCase):
                     refusals += answered == OUT_OF_MEMORY
                 self.assertGreater(refusals, 0, words)
 
-    def test_the_program_needs_no_growth_that_it_was_not_refused(self):
-        # Where nothing is refused, the answers are those of the standards, and no OutOfMemory.
+    def test_the_program_answers_in_full_where_nothing_is_refused(self):
         for program in PROGRAMS:
             self.assertEqual(answer(program, *LINES[0]), Answer(0, DOT_IMAGE, b""))
             refused = Answer(1, b"", b"metaplay: NoEnd at record 1\n")

@@ -4,8 +4,8 @@ use Rattle.draw_ops.specs.declared.fault.Fault.{Fault}
 use Rattle.draw_ops.specs.declared.fault.Fault.TheVariants.{TooManyRecords, NoEnd, ShortRecord, PastEnd}
 use Rattle.player.specs.Bytes.{number_at}
 
--- what differs between the formats: how long a record's head is, where in it the size and the number stand, in which units and
--- multiples the size counts, and which number ends the file
+-- what differs between the formats: how long a record's head is, where in it the size and the number (its function or type) stand,
+-- in which units and multiples the size counts, how many bytes the number has, and which one ends the file
 pub record Framing : Type 0 where
   pub head : ℕ
   pub size_place : ℕ

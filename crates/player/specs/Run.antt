@@ -52,7 +52,7 @@ RunOpened (Ok o) file width height image outcome =
     (content : Content) × IsFileContent o.format file content
     × (outcome ≡ run_steps content.steps content.fault 0 (start_of o) (surface_of o width height) image)
 
--- The run of a file at a size, over an image of that size, ends so: opening has the first fault, or else the steps of the records have it, or
+-- The run of a file at a size, over an image that is meant to be of that size, ends so: opening has the first fault, or else the steps of the records have it, or
 -- else the image is the last one.
 abbrev pub Run : List ℕ → ℕ → ℕ → Image → Outcome → Type 0
 Run file width height image outcome = RunOpened (opened file) file width height image outcome

@@ -1,4 +1,4 @@
--- The source over all bytes has their content, and no more operations than a file may have records.
+-- The source over all bytes has their content, and no more steps than a file may have records.
 use Rattle.std.proofs.Common.{◌≡◌, ◌-◌, arith}
 use Rattle.player.specs.Records.{record_limit}
 use Rattle.player.proofs.ContentLemmas.{whole_content, content_short}
