@@ -27,16 +27,52 @@ class Program(unittest.TestCase):
         shown = Answer(0, DOT_IMAGE, b"")
         self.assertEqual(answer(program, ["show", DOT_FILE, "4", "4"]), shown)
         self.assertEqual(answer(program, ["show", "stdin", "4", "4"], DOT), shown)
-        # Where a file is named, standard input isn't read.
-        self.assertEqual(answer(program, ["show", DOT_FILE, "4", "4"], b"no metafile"), shown)
 
     @for_each_program
-    def test_a_file_may_lie_in_any_folder(self, program):
+    def test_the_width_comes_before_the_height(self, program):
+        image = b"P6\n4 2\n255\n" + b"\xff" * 7 + b"\0\0" + b"\xff" * 15
+        shown = Answer(0, image, b"")
+        self.assertEqual(answer(program, ["show", DOT_FILE, "4", "2"]), shown)
+        self.assertEqual(answer(program, ["show", "stdin", "4", "2"], DOT), shown)
+
+    @for_each_program
+    def test_a_file_is_known_by_its_whole_name(self, program):
         with tempfile.TemporaryDirectory() as folder:
-            with open(f"{folder}/dot.wmf", "wb") as file:
+            for name in ["dot.wmf", "stdin.wmf", "./stdin"]:
+                with open(f"{folder}/{name}", "wb") as file:
+                    file.write(DOT)
+                answered = answer(program, ["show", name, "4", "4"], b"no metafile", cwd=folder)
+                self.assertEqual(answered, Answer(0, DOT_IMAGE, b""), name)
+
+    @for_each_program
+    def test_standard_input_is_left_alone_where_a_file_is_named(self, program):
+        with open(DOT_FILE, "rb") as given:
+            words = [program, "show", DOT_FILE, "4", "4"]
+            ran = subprocess.run(words, stdin=given, capture_output=True, check=False)
+            self.assertEqual(os.lseek(given.fileno(), 0, os.SEEK_CUR), 0)
+        self.assertEqual(ran.stdout, DOT_IMAGE)
+
+    @for_each_program
+    def test_a_long_file_is_refused_and_not_cut(self, program):
+        # Bytes behind the end record are ignored, up to the longest file and the longest input.
+        for length, wanted in [
+            (1 << 26, Answer(0, DOT_IMAGE, b"")),
+            ((1 << 26) + 1, Answer(1, b"", b"metaplay: TooLong\n")),
+            (1 << 28, Answer(1, b"", b"metaplay: TooLong\n")),
+            ((1 << 28) + 1, CANNOT_READ),
+        ]:
+            with tempfile.NamedTemporaryFile() as file:
                 file.write(DOT)
-            answered = answer(program, ["show", "dot.wmf", "4", "4"], cwd=folder)
-            self.assertEqual(answered, Answer(0, DOT_IMAGE, b""))
+                file.truncate(length)
+                self.assertEqual(answer(program, ["show", file.name, "4", "4"]), wanted, length)
+
+    @for_each_program
+    def test_the_largest_surface_is_shown(self, program):
+        with tempfile.TemporaryFile() as image:
+            words = [program, "show", DOT_FILE, "8192", "8192"]
+            ran = subprocess.run(words, stdout=image, stderr=subprocess.PIPE, check=False)
+            self.assertEqual((ran.returncode, ran.stderr), (0, b""))
+            self.assertEqual(os.fstat(image.fileno()).st_size, 17 + 3 * 8192 * 8192)
 
     @for_each_program
     def test_words_that_are_no_text_are_wrong_usage(self, program):
@@ -48,7 +84,8 @@ class Program(unittest.TestCase):
         helped = answer(program, ["--help"])
         self.assertEqual((helped.status, helped.err), (2, b""))
         self.assertIn(b"Usage: metaplay", helped.out)
-        for words in [[], ["show"], ["show", "stdin", "4", "8193"], ["show", "stdin", "x", "4"]]:
+        lines = ["", "show", "show stdin 4 8193", "show stdin x 4", "show stdin 4 4 4", "play"]
+        for words in map(str.split, lines):
             wrong = answer(program, words, DOT)
             self.assertEqual((wrong.status, wrong.out), (2, b""), words)
             self.assertTrue(wrong.err.endswith(b"\n"), words)

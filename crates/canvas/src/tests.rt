@@ -174,6 +174,16 @@ fn the_faults_show_their_names(rt: HostRuntime) -> Result<(), Fail> {
     Ok(())
 }
 
+#[test]
+fn a_large_piece_goes_out_byte_by_byte(rt: HostRuntime) -> Result<(), Fail> {
+    let canvas = Canvas::new(rt.alloc(), 100, 41, RED)?;
+    let mut out = Slow::new(Vec::new(rt.alloc()), 1, usize::MAX);
+    canvas.write_ppm(&mut out)?;
+    // The header has 14 bytes, and each of 4,100 pixels 3.
+    assert_eq!(rt; out.taken.len(), 12314);
+    Ok(())
+}
+
 // Run once more for each growth refused in turn, by tests/refused_growth_test.py.
 #[test]
 fn a_canvas_under_refused_growth(rt: HostRuntime) -> Result<(), Fail> {

@@ -1,3 +1,4 @@
 pub mod Show
 pub mod Reading
+pub mod Input
 pub mod Sides

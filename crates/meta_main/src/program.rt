@@ -1,6 +1,11 @@
 //! The program: the command line, its inputs, and the command that they ask for.
 
-ghost use Rattle.std.specs.Prelude.{◌≡◌, ◌⊎◌};
+ghost use Rattle.std.specs.Prelude.{◌≡◌, ◌≢◌, ◌⊎◌, ◌↔◌, IfOk, IfSome, codes};
+ghost use Rattle.std.specs.Io.KnownBytes.{Keeps};
+ghost use Rattle.clap.specs.Words.{kind_of};
+ghost use Rattle.meta_main.specs.Input.{RefusesInput, ShowsInput, standard_input};
+ghost use Rattle.meta_main.specs.Show.{IsRefused, Shows};
+ghost use Rattle.meta_main.specs.Sides.{HasSides, IsSide};
 
 use crate::asked::Line;
 use crate::command_line::line;
@@ -33,17 +38,56 @@ where
         }
     };
     match line(rt.alloc(), words.as_slice()) {
-        Ok(
-            Line::Show {
-                file,
-                width,
-                height,
-            },
-        ) => match read_file(rt, file, input) {
-            Ok(bytes) => show_command(rt.alloc(), bytes.as_slice(), width, height, out, err),
-            Err(fault) => no_input(fault, err),
-        },
+        Ok(line) => perform(rt, line, input, out, err),
         Err(error) => usage(&error, out, err),
+    }
+}
+
+/// Does what a command line asks for, and answers the status.
+fn perform<R, I, O, E>(rt: &R, line: Line<'_>, input: &mut I, out: &mut O, err: &mut E) -> u8
+where
+    R: Files + AllocGlobal,
+    I: Read,
+    O: Write,
+    E: Write,
+    requires sides { HasSides line }
+    ensures done { result ≡ 0 → ShowsInput line.entry (I.remaining input.old) (O.contents out.old) (O.contents out.new) }
+    ensures refused { result ≡ 1 → RefusesInput line.entry (I.remaining input.old) }
+{
+    match line {
+        Line::Show {
+            file,
+            width,
+            height,
+        } => show(rt, file, width, height, input, out, err),
+    }
+}
+
+/// Reads and shows a file.
+fn show<R, I, O, E>(
+    rt: &R,
+    file: &str,
+    width: u32,
+    height: u32,
+    input: &mut I,
+    out: &mut O,
+    err: &mut E,
+) -> u8
+where
+    R: Files + AllocGlobal,
+    I: Read,
+    O: Write,
+    E: Write,
+    requires width { IsSide width }
+    requires height { IsSide height }
+    ensures done { result ≡ 0 → file.now ≡ standard_input
+        → IfSome (I.remaining input.old) (λ all. Shows all width height (O.contents out.old) (O.contents out.new)) }
+    ensures refused { result ≡ 1 → file.now ≡ standard_input
+        → IfSome (I.remaining input.old) (λ all. IsRefused all width height) }
+{
+    match read_file(rt, file, input) {
+        Ok(bytes) => show_command(rt.alloc(), bytes.as_slice(), width, height, out, err),
+        Err(fault) => no_input(fault, err),
     }
 }
 
@@ -60,7 +104,10 @@ pub(crate) fn read_file<R: Files + AllocGlobal, I: Read>(
     rt: &R,
     file: &str,
     input: &mut I,
-) -> Result<Vec<u8>, InputFault> {
+) -> Result<Vec<u8>, InputFault>
+    ensures read { file.entry.now ≡ standard_input → IfOk result (λ bytes. IfSome (I.remaining input.old) (λ all. bytes.items ≡ all)) }
+    ensures unread { file.entry.now ≢ standard_input → Keeps (I.remaining input.old) (I.remaining input.new) }
+{
     if file == STANDARD_INPUT {
         return read_input(rt.alloc(), input);
     }
@@ -72,6 +119,7 @@ pub(crate) fn read_file<R: Files + AllocGlobal, I: Read>(
 pub(crate) fn no_input<E: Write>(fault: InputFault, err: &mut E) -> u8
     ensures input { fault ≡ InputFault.CannotRead → result ≡ 3 }
     ensures memory { fault ≡ InputFault.OutOfMemory → result ≡ 4 }
+    ensures statuses { (result ≡ 3) ⊎ (result ≡ 4) }
 {
     report(err, fault);
     match fault {
@@ -82,6 +130,7 @@ pub(crate) fn no_input<E: Write>(fault: InputFault, err: &mut E) -> u8
 
 /// Shows the usage, or the help that was asked for, where `clap` says, and answers the status.
 pub(crate) fn usage<O: Write, E: Write>(error: &clap::Error, out: &mut O, err: &mut E) -> u8
+    ensures memory { result ≡ 4 ↔ kind_of error.now ≡ ErrorKind.OutOfMemory }
     ensures statuses { (result ≡ 2) ⊎ (result ≡ 4) }
 {
     if error.kind() == ErrorKind::OutOfMemory {

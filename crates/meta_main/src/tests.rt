@@ -15,7 +15,7 @@ const DOT: &[u8] = b"\xd7\xcd\xc6\x9a\0\0\0\0\0\0\x04\0\x04\0\x60\0\0\0\0\0\x71\
     \x01\0\x09\0\0\x03\x13\0\0\0\0\0\x07\0\0\0\0\0\
     \x07\0\0\0\x1f\x04\xff\0\0\0\x01\0\x02\0\x03\0\0\0\0\0";
 
-/// A reader of some bytes that gives one at a call, and fails at a call, counted from 0.
+/// A reader of some bytes that gives one at a call, and fails at one call, counted from 0.
 #[derive(Drop)]
 struct Failing<'a> {
     bytes: &'a [u8],
@@ -26,6 +26,7 @@ struct Failing<'a> {
 impl Read for Failing<'_> {
     fn read(&mut self, buf: &mut [u8]) -> io::Result<usize> {
         if self.calls_left == 0 {
+            self.calls_left = u32::MAX;
             return Err(io::Error::from(self.kind));
         }
         self.calls_left -= 1;

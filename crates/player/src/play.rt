@@ -1,8 +1,9 @@
 //! Playing a file: its records' steps in order, on a white canvas.
 
-ghost use Rattle.std.specs.Prelude.{◌≡◌, ◌≤◌, ◌↔◌, ◌⊎◌, IsSome, IfOk, IfErr, OnOk, length};
+ghost use Rattle.std.specs.Prelude.{◌≡◌, ◌≤◌, ◌↔◌, ◌⊎◌, IsOk, IsSome, IfOk, IfErr, OnOk, length};
 ghost use Rattle.canvas.specs.CanvasState.{image_of};
 ghost use Rattle.draw_ops.specs.Fault.{IsInRecord};
+ghost use Rattle.player.specs.Opening.{opened};
 ghost use Rattle.player.specs.Playing.{state_of, surface_at};
 ghost use Rattle.player.specs.Records.{FramedInOneWay, record_limit};
 ghost use Rattle.player.specs.RefusedBy.{IsOutOfMemory};
@@ -35,7 +36,7 @@ pub fn run_law()
 /// file's records define, and counts the pixels written.
 ///
 /// The refusal is the first fault of the file with its record, or `OutOfMemory` without one where
-/// memory for the canvas was refused.
+/// memory for the canvas was refused, which is taken once the file's headers are read.
 pub fn play_file(alloc: Global, file: &[u8], width: u32, height: u32) -> Result<Canvas, Refusal>
     requires wide { 1 ≤ width }
     requires wide_within { width ≤ 8192 }
@@ -44,7 +45,8 @@ pub fn play_file(alloc: Global, file: &[u8], width: u32, height: u32) -> Result<
     ensures image { IfOk result (λ canvas. Run file.now width height (white width height) (shown (image_of canvas))) }
     ensures writes { IfOk result (λ canvas. Writes file.now width height canvas.writes) }
     ensures whole_surface { IfOk result (λ canvas. canvas.first ≡ 0) }
-    ensures refusal { IfErr result (λ r. IsOutOfMemory r ⊎ Run file.now width height (white width height) (refused r.number r.fault)) }
+    ensures refusal { IfErr result (λ r. (IsOutOfMemory r × IsOk (opened file.now))
+        ⊎ Run file.now width height (white width height) (refused r.number r.fault)) }
     ensures record { IfErr result (λ r. IsSome r.number ↔ IsInRecord r.fault) }
 {
     let opened = match open(file) {
