@@ -7,8 +7,8 @@
 //! - What is written out is the P6 text of the image, byte for byte, and after a failure a front of
 //!   that text (`Canvas::write_ppm`, by `ppm_text`).
 //!
-//! Memory, three bytes a pixel, is taken when a canvas is made; no other call can take any, since none
-//! has an allocator.
+//! Memory, three bytes a pixel, is taken when a canvas is made. No other call takes any: their bodies
+//! show that, and no contract says it.
 #![tactic(auto)]
 
 mod canvas_error;

@@ -41,7 +41,7 @@ pub(crate) fn draw(op: Op<'_>, machine: &Machine, canvas: &mut Canvas) -> Result
             put(placed, colour, canvas);
             Ok(())
         }
-        // Nothing that this player's source gives; what it is to draw isn't defined yet.
+        // Nothing that this player's source gives: no record means such an operation yet.
         _ => Err(Fault::Unsupported(0)),
     }
 }
