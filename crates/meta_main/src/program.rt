@@ -84,6 +84,7 @@ where
         → IfSome (I.remaining input.old) (λ all. Shows all width height (O.contents out.old) (O.contents out.new)) }
     ensures refused { result ≡ 1 → file.now ≡ standard_input
         → IfSome (I.remaining input.old) (λ all. IsRefused all width height) }
+    ensures unread { file.now ≢ standard_input → Keeps (I.remaining input.old) (I.remaining input.new) }
 {
     match read_file(rt, file, input) {
         Ok(bytes) => show_command(rt.alloc(), bytes.as_slice(), width, height, out, err),
