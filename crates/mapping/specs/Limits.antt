@@ -1,5 +1,5 @@
--- The limits on plane coordinates, placed coordinates and sides.
-use Rattle.std.specs.Prelude.{ℕ, ◌^◌, ◌≤◌, ℤ, pos, neg_ℤ, ◌≤ℤ◌}
+-- The limits on plane coordinates, placed coordinates and sides, as facts and as tests.
+use Rattle.std.specs.Prelude.{ℕ, ◌^◌, ◌≤◌, ℤ, pos, neg_ℤ, ◌≤ℤ◌, Bool, ◌&&◌, int_le}
 
 -- a plane coordinate is at most this far from 0
 unfoldable pub plane_limit : ℕ
@@ -9,10 +9,28 @@ plane_limit = 2 ^ 30
 unfoldable pub place_limit : ℕ
 place_limit = 2 ^ 28
 
+-- the longest side of a surface, in pixels
+abbrev pub surface_side_limit : ℕ
+surface_side_limit = 8192
+
+-- the longest side of a frame, in plane units
+abbrev pub frame_side_limit : ℕ
+frame_side_limit = 2 ^ 28
+
 -- the number is at most this far from 0
 abbrev pub IsWithin : ℕ → ℤ → Type 0
 IsWithin limit v = (neg_ℤ (pos limit) ≤ℤ v) × (v ≤ℤ pos limit)
 
+-- the same, as a test
+abbrev pub is_within : ℕ → ℤ → Bool
+is_within limit v = int_le (neg_ℤ (pos limit)) v && int_le v (pos limit)
+
+-- a surface may have this side
+pub record IsSurfaceSide (side : ℕ) : Type 0 where
+  pub not_empty : 1 ≤ side
+  pub within : side ≤ surface_side_limit
+
 -- a frame may have this side
-abbrev pub IsFrameSide : ℕ → Type 0
-IsFrameSide side = (1 ≤ side) × (side ≤ 2 ^ 28)
+pub record IsFrameSide (side : ℕ) : Type 0 where
+  pub not_empty : 1 ≤ side
+  pub within : side ≤ frame_side_limit

@@ -1,7 +1,10 @@
 -- The numbers of a page map, as its definitions read them.
 use Rattle.std.specs.Prelude.{ℤ, pos, unsigned_abs}
-use Rattle.mapping.specs.Plane.{AxisNumbers}
+use Rattle.mapping.specs.Plane.{AxisNumbers, MapNumbers}
+use Rattle.mapping.specs.declared.geometry.Point.{Point}
+use Rattle.mapping.specs.declared.map_mode.MapMode.TheVariants.{Anisotropic}
 use Rattle.mapping.specs.declared.page_map.PageAxis.{PageAxis}
+use Rattle.mapping.specs.declared.page_map.PageMap.{PageMap}
 
 -- the numbers of an axis
 abbrev pub axis_numbers : PageAxis → AxisNumbers
@@ -13,6 +16,10 @@ axis_numbers a = record {
   corner = a.corner;
 }
 
+-- the numbers of a map, and its mode
+abbrev pub map_numbers : PageMap → MapNumbers
+map_numbers map = record { mode = map.mode; x = axis_numbers map.x; y = axis_numbers map.y }
+
 -- A placeable file's start: the window is its box, and the viewport the frame, which has the box's size and the corner 0.
 abbrev pub placeable_axis : ℤ → ℤ → AxisNumbers
 placeable_axis origin extent = record {
@@ -21,4 +28,12 @@ placeable_axis origin extent = record {
   viewport_origin = pos 0;
   viewport_extent = pos (unsigned_abs extent);
   corner = pos 0;
+}
+
+-- the map of a placeable file whose box has this corner and these sides: each axis is scaled by itself
+abbrev pub placeable_map : Point → Point → MapNumbers
+placeable_map corner sides = record {
+  mode = Anisotropic;
+  x = placeable_axis corner.x sides.x;
+  y = placeable_axis corner.y sides.y;
 }

@@ -1,12 +1,13 @@
--- Where a place puts a point.
-use Rattle.std.specs.Prelude.{ℤ}
-use Rattle.mapping.specs.Surface.{placed}
-use Rattle.mapping.specs.declared.geometry.Point.{Point}
+-- The surface of a place.
+use Rattle.std.specs.Prelude.{ℕ}
+use Rattle.mapping.specs.Surface.{Surface}
+use Rattle.mapping.specs.declared.geometry.Frame.{Frame}
 use Rattle.mapping.specs.declared.place.Place.{Place}
 
--- the placed coordinates of a point
-abbrev pub placed_x : Place → Point → ℤ
-placed_x place point = placed point.x place.width place.frame.width
+-- the surface of these sides that shows a frame
+abbrev pub surface_with : Frame → ℕ → ℕ → Surface
+surface_with frame width height = record { width = width; height = height; frame_width = frame.width; frame_height = frame.height }
 
-abbrev pub placed_y : Place → Point → ℤ
-placed_y place point = placed point.y place.height place.frame.height
+-- the surface of a place of the code
+abbrev pub surface_of : Place → Surface
+surface_of place = surface_with place.frame place.width place.height

@@ -1,7 +1,9 @@
--- Where a page coordinate lands on the plane, on one axis.
-use Rattle.std.specs.Prelude.{ℤ, ◌+ℤ◌, ◌-ℤ◌, ◌*ℤ◌}
+-- Where a page coordinate lands on the plane.
+use Rattle.std.specs.Prelude.{ℤ, ◌+ℤ◌, ◌-ℤ◌, ◌*ℤ◌, Bool, ◌&&◌}
 use Rattle.mapping.specs.Floor.{floor_div}
-use Rattle.mapping.specs.Limits.{plane_limit, IsWithin}
+use Rattle.mapping.specs.Limits.{plane_limit, IsWithin, is_within}
+use Rattle.mapping.specs.declared.geometry.Point.{Point}
+use Rattle.mapping.specs.declared.map_mode.MapMode.{MapMode}
 
 -- the numbers of a page map on one axis
 pub record AxisNumbers : Type 0 where
@@ -11,11 +13,30 @@ pub record AxisNumbers : Type 0 where
   pub viewport_extent : ℤ
   pub corner : ℤ
 
+-- the numbers of a page map, and its mode
+pub record MapNumbers : Type 0 where
+  pub mode : MapMode
+  pub x : AxisNumbers
+  pub y : AxisNumbers
+
 -- The distance from the window's origin, scaled from the window's extent to the viewport's and rounded down,
 -- from the viewport's origin on. The frame's corner is the plane's origin.
 abbrev pub plane_coordinate : AxisNumbers → ℤ → ℤ
-plane_coordinate n x = floor_div ((x -ℤ n.window_origin) *ℤ n.viewport_extent) n.window_extent +ℤ n.viewport_origin -ℤ n.corner
+plane_coordinate n v = floor_div ((v -ℤ n.window_origin) *ℤ n.viewport_extent) n.window_extent +ℤ n.viewport_origin -ℤ n.corner
+
+-- the plane point of a page point, each axis by itself
+abbrev pub plane_point : MapNumbers → ℤ → ℤ → Point
+plane_point map x y = record { x = plane_coordinate map.x x; y = plane_coordinate map.y y }
 
 -- the coordinate is one of the plane
-abbrev pub IsOnPlane : ℤ → Type 0
-IsOnPlane v = IsWithin plane_limit v
+abbrev pub IsPlaneCoordinate : ℤ → Type 0
+IsPlaneCoordinate v = IsWithin plane_limit v
+
+-- the point is one of the plane
+pub record IsOnPlane (point : Point) : Type 0 where
+  pub x : IsPlaneCoordinate point.x
+  pub y : IsPlaneCoordinate point.y
+
+-- the same, as a test
+abbrev pub is_on_plane : Point → Bool
+is_on_plane point = is_within plane_limit point.x && is_within plane_limit point.y

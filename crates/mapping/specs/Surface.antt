@@ -1,12 +1,43 @@
--- Where a plane coordinate lands on a surface, on one axis.
-use Rattle.std.specs.Prelude.{ℕ, ℤ, pos, ◌*ℤ◌}
+-- Where a plane point lands on a surface.
+use Rattle.std.specs.Prelude.{ℕ, ℤ, pos, ◌*ℤ◌, Bool, ◌&&◌}
+use Rattle.std.specs.Ordering.{int_eq}
 use Rattle.mapping.specs.Floor.{floor_div}
-use Rattle.mapping.specs.Limits.{place_limit, IsWithin}
+use Rattle.mapping.specs.Limits.{place_limit, IsWithin, is_within}
+use Rattle.mapping.specs.Plane.{is_on_plane}
+use Rattle.mapping.specs.declared.geometry.Point.{Point}
+
+-- a surface's sides in pixels, and the sides of the frame that it shows in plane units
+pub record Surface : Type 0 where
+  pub width : ℕ
+  pub height : ℕ
+  pub frame_width : ℕ
+  pub frame_height : ℕ
 
 -- the plane coordinate v, scaled from the frame's side to the surface's side and rounded down
 abbrev pub placed : ℤ → ℕ → ℕ → ℤ
 placed v surface_side frame_side = floor_div (v *ℤ pos surface_side) (pos frame_side)
 
+-- where a plane point lands: in a column by its x and the widths, and in a row by its y and the heights
+abbrev pub placed_point : Surface → Point → Point
+placed_point s point = record { x = placed point.x s.width s.frame_width; y = placed point.y s.height s.frame_height }
+
 -- the placed coordinate is within its limit
-abbrev pub IsPlaced : ℤ → Type 0
-IsPlaced v = IsWithin place_limit v
+abbrev pub IsPlacedCoordinate : ℤ → Type 0
+IsPlacedCoordinate v = IsWithin place_limit v
+
+-- the placed point is within its limit
+pub record IsPlaced (point : Point) : Type 0 where
+  pub x : IsPlacedCoordinate point.x
+  pub y : IsPlacedCoordinate point.y
+
+-- the same, as a test
+abbrev pub is_placed : Point → Bool
+is_placed point = is_within place_limit point.x && is_within place_limit point.y
+
+-- A point is one of the plane, and lands within the limit of placed coordinates.
+abbrev pub lands : Surface → Point → Bool
+lands s point = is_on_plane point && is_placed (placed_point s point)
+
+-- a placed point is the pixel in column x of row y
+abbrev pub is_pixel : Point → ℕ → ℕ → Bool
+is_pixel point x y = int_eq point.x (pos x) && int_eq point.y (pos y)

@@ -1,10 +1,9 @@
 //! Points, boxes, colours and frames: plain values that every layer passes on.
 
-ghost use Rattle.std.specs.Prelude.{◌≡◌, ◌≤◌, ◌^◌, ◌↔◌, IsTrue, IsSome, IfSome};
+ghost use Rattle.std.specs.Prelude.{◌≡◌, ◌↔◌, IsTrue, IsSome, IfSome};
 ghost use Rattle.mapping.specs.Limits.{IsFrameSide};
 
-/// The longest side of a frame.
-const MAX_SIDE: u32 = 1 << 28;
+use crate::limits::MAX_FRAME_SIDE;
 
 /// A point, or two sides, of the page, of the plane or of a surface. On the plane and on a surface `x`
 /// grows to the right and `y` downwards.
@@ -51,10 +50,8 @@ impl Colour {
 pub struct Frame {
     pub width: u32,
     pub height: u32,
-    pub ghost wide: { 1 ≤ width },
-    pub ghost wide_within: { width ≤ 2 ^ 28 },
-    pub ghost high: { 1 ≤ height },
-    pub ghost high_within: { height ≤ 2 ^ 28 },
+    pub ghost wide: { IsFrameSide width },
+    pub ghost high: { IsFrameSide height },
 }
 
 impl Frame {
@@ -76,5 +73,5 @@ impl Frame {
 fn is_side(side: u32) -> bool
     ensures { IsTrue result ↔ IsFrameSide side }
 {
-    1 <= side && side <= MAX_SIDE
+    1 <= side && side <= MAX_FRAME_SIDE
 }

@@ -13,6 +13,8 @@
 
 mod floor;
 mod geometry;
+mod limits;
+mod map_mode;
 mod page_map;
 mod place;
 #[cfg(test)]
@@ -20,5 +22,7 @@ mod tests;
 
 pub use floor::floor_division_law;
 pub use geometry::{Colour, Frame, Point, Rect};
+pub use limits::{MAX_FRAME_SIDE, MAX_SURFACE_SIDE};
+pub use map_mode::MapMode;
 pub use page_map::{PageAxis, PageMap};
 pub use place::Place;

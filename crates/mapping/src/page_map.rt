@@ -1,14 +1,14 @@
 //! The page map: where a page coordinate lands on the plane.
 
-ghost use Rattle.std.specs.Prelude.{◌≡◌, ◌≢◌, ◌^◌, ◌<◌, ◌≤◌, pos, ◌+ℤ◌, ◌-ℤ◌, ◌*ℤ◌, unsigned_abs, SomeIff};
+ghost use Rattle.std.specs.Prelude.{◌≡◌, ◌≢◌, ◌^◌, ◌<◌, ◌≤◌, pos, ◌+ℤ◌, ◌-ℤ◌, ◌*ℤ◌, unsigned_abs, SomeIff, is_some};
 ghost use Rattle.mapping.specs.Floor.{floor_div};
-ghost use Rattle.mapping.specs.Plane.{IsOnPlane};
+ghost use Rattle.mapping.specs.Limits.{is_within, plane_limit};
+ghost use Rattle.mapping.specs.Plane.{IsPlaneCoordinate};
 
 use crate::floor::floor_quotient;
 use crate::geometry::Point;
-
-/// The farthest that a plane coordinate is from 0.
-const PLANE_LIMIT: i128 = 1 << 30;
+use crate::limits::PLANE_LIMIT;
+use crate::map_mode::MapMode;
 
 /// A page map on one axis ([MS-WMF] 2.3.5, [MS-EMF] 2.3.11: window and viewport, each with an
 /// origin and an extent), and the frame's corner on that axis.
@@ -49,9 +49,8 @@ impl PageAxis {
 
     /// The plane coordinate of a page coordinate, or none where it would leave the plane.
     fn plane(&self, coordinate: i64) -> Option<i32>
-        ensures { SomeIff result
-            (IsOnPlane (plane_coordinate (axis_numbers self.now) coordinate))
-            (plane_coordinate (axis_numbers self.now) coordinate) }
+        ensures value { let there = plane_coordinate (axis_numbers self.now) coordinate in SomeIff result (IsPlaneCoordinate there) there }
+        ensures test { is_some result ≡ is_within plane_limit (plane_coordinate (axis_numbers self.now) coordinate) }
     {
         let distance = distance(coordinate, self.window_origin);
         let scaled = self.scaled(distance);
@@ -102,7 +101,8 @@ fn moved(scaled: i128, origin: i32, corner: i32) -> i128
 /// The number as a plane coordinate, or none where it is outside the plane.
 #[tactic(auto, unfolding(crate::specs::Limits::plane_limit))]
 fn on_plane(coordinate: i128) -> Option<i32>
-    ensures { SomeIff result (IsOnPlane coordinate) coordinate }
+    ensures value { SomeIff result (IsPlaneCoordinate coordinate) coordinate }
+    ensures test { is_some result ≡ is_within plane_limit coordinate }
 {
     if -PLANE_LIMIT <= coordinate && coordinate <= PLANE_LIMIT {
         Some(coordinate as i32)
@@ -111,16 +111,18 @@ fn on_plane(coordinate: i128) -> Option<i32>
     }
 }
 
-/// Where page coordinates land on the plane, each axis by itself.
+/// Where page coordinates land on the plane, each axis by itself. The mode says which records may change
+/// the extents.
 #[derive(Clone, Copy, Debug, PartialEq, Eq)]
 pub struct PageMap {
+    pub mode: MapMode,
     pub x: PageAxis,
     pub y: PageAxis,
 }
 
 impl PageMap {
-    ghost use Rattle.mapping.specs.Plane.{plane_coordinate};
-    ghost use Rattle.mapping.specs.PageMap.{axis_numbers, placeable_axis};
+    ghost use Rattle.mapping.specs.Plane.{IsOnPlane, is_on_plane, plane_point};
+    ghost use Rattle.mapping.specs.PageMap.{map_numbers, placeable_map};
 
     /// The map on which a placeable file starts ([MS-WMF] 2.3.2.3), whose box has this corner and
     /// these sides, negative where the right or the bottom comes first.
@@ -129,10 +131,10 @@ impl PageMap {
         requires width_can_be_turned { unsigned_abs sides.x < 2 ^ 31 }
         requires high { sides.y ≢ pos 0 }
         requires height_can_be_turned { unsigned_abs sides.y < 2 ^ 31 }
-        ensures x { axis_numbers result.x ≡ placeable_axis corner.x sides.x }
-        ensures y { axis_numbers result.y ≡ placeable_axis corner.y sides.y }
+        ensures { map_numbers result ≡ placeable_map corner sides }
     {
         PageMap {
+            mode: MapMode::Anisotropic,
             x: PageAxis::placeable(corner.x, sides.x),
             y: PageAxis::placeable(corner.y, sides.y),
         }
@@ -141,13 +143,8 @@ impl PageMap {
     /// The plane point of a page point: none exactly where a coordinate of it would be farther
     /// than 2^30 from 0.
     pub fn plane(&self, x: i64, y: i64) -> Option<Point>
-        ensures { SomeIff result
-            (IsOnPlane (plane_coordinate (axis_numbers self.now.x) x)
-            × IsOnPlane (plane_coordinate (axis_numbers self.now.y) y))
-            (record {
-              x = plane_coordinate (axis_numbers self.now.x) x;
-              y = plane_coordinate (axis_numbers self.now.y) y;
-            }) }
+        ensures point { let there = plane_point (map_numbers self.now) x y in SomeIff result (IsOnPlane there) there }
+        ensures test { is_some result ≡ is_on_plane (plane_point (map_numbers self.now) x y) }
     {
         let Some(x) = self.x.plane(x) else {
             return None;

@@ -1,12 +1,11 @@
 //! The place: where a plane point lands on a surface.
 
-ghost use Rattle.std.specs.Prelude.{◌≡◌, ◌≤◌, ◌↔◌, IsTrue, SomeIff};
-ghost use Rattle.mapping.specs.Surface.{placed, IsPlaced};
+ghost use Rattle.std.specs.Prelude.{◌≡◌, ◌≤◌, ◌↔◌, IsTrue, SomeIff, is_some};
+ghost use Rattle.mapping.specs.Limits.{IsSurfaceSide, is_within, place_limit};
+ghost use Rattle.mapping.specs.Surface.{placed, IsPlaced, IsPlacedCoordinate, is_placed, placed_point};
 
 use crate::geometry::{Frame, Point};
-
-/// The farthest that a placed coordinate is from 0.
-const PLACE_LIMIT: i64 = 1 << 28;
+use crate::limits::PLACE_LIMIT;
 
 /// A frame shown on a surface.
 ///
@@ -19,24 +18,19 @@ pub struct Place {
     /// The surface's sides in pixels.
     pub width: u32,
     pub height: u32,
-    pub ghost wide: { 1 ≤ width },
-    pub ghost wide_within: { width ≤ 8192 },
-    pub ghost high: { 1 ≤ height },
-    pub ghost high_within: { height ≤ 8192 },
+    pub ghost wide: { IsSurfaceSide width },
+    pub ghost high: { IsSurfaceSide height },
 }
 
 impl Place {
-    ghost use Rattle.mapping.specs.PlaceOf.{placed_x, placed_y};
+    ghost use Rattle.mapping.specs.PlaceOf.{surface_of, surface_with};
 
     /// The frame on a surface of `width` by `height` pixels.
     pub fn new(frame: &Frame, width: u32, height: u32) -> Place
-        requires wide { 1 ≤ width }
-        requires wide_within { width ≤ 8192 }
-        requires high { 1 ≤ height }
-        requires high_within { height ≤ 8192 }
+        requires wide { IsSurfaceSide width }
+        requires high { IsSurfaceSide height }
         ensures frame { result.frame ≡ frame.now }
-        ensures width { result.width ≡ width }
-        ensures height { result.height ≡ height }
+        ensures surface { surface_of result ≡ surface_with frame.now width height }
     {
         Place {
             frame: *frame,
@@ -45,18 +39,17 @@ impl Place {
         }
     }
 
-    /// Whether both placed coordinates of the point are at most 2^28 from 0.
+    /// Whether both placed coordinates of a plane point are at most 2^28 from 0.
     pub fn fits(self, point: Point) -> bool
-        ensures { IsTrue result ↔ (IsPlaced (placed_x self point) × IsPlaced (placed_y self point)) }
+        ensures { IsTrue result ↔ IsPlaced (placed_point (surface_of self) point) }
     {
         self.place(point).is_some()
     }
 
-    /// The placed point, or none where it doesn't fit.
+    /// Where a plane point lands, or none where it doesn't fit.
     pub fn place(self, point: Point) -> Option<Point>
-        ensures { SomeIff result
-            (IsPlaced (placed_x self point) × IsPlaced (placed_y self point))
-            (record { x = placed_x self point; y = placed_y self point }) }
+        ensures point { let there = placed_point (surface_of self) point in SomeIff result (IsPlaced there) there }
+        ensures test { is_some result ≡ is_placed (placed_point (surface_of self) point) }
     {
         let Some(x) = axis_place(point.x, self.width, self.frame.width) else {
             return None;
@@ -67,12 +60,10 @@ impl Place {
         Some(Point { x, y })
     }
 
-    /// The placed point.
+    /// Where a plane point that fits lands.
     pub fn at(self, point: Point) -> Point
-        requires x_fits { IsPlaced (placed_x self point) }
-        requires y_fits { IsPlaced (placed_y self point) }
-        ensures x { result.x ≡ placed_x self point }
-        ensures y { result.y ≡ placed_y self point }
+        requires { IsPlaced (placed_point (surface_of self) point) }
+        ensures { result ≡ placed_point (surface_of self) point }
     {
         Point {
             x: axis_at(point.x, self.width, self.frame.width),
@@ -95,9 +86,8 @@ fn scaled(coordinate: i32, surface_side: u32, frame_side: u32) -> i64
 fn axis_place(coordinate: i32, surface_side: u32, frame_side: u32) -> Option<i32>
     requires surface { surface_side ≤ 8192 }
     requires frame { 1 ≤ frame_side }
-    ensures { SomeIff result
-        (IsPlaced (placed coordinate surface_side frame_side))
-        (placed coordinate surface_side frame_side) }
+    ensures value { let there = placed coordinate surface_side frame_side in SomeIff result (IsPlacedCoordinate there) there }
+    ensures test { is_some result ≡ is_within place_limit (placed coordinate surface_side frame_side) }
 {
     let placed = scaled(coordinate, surface_side, frame_side);
     if -PLACE_LIMIT <= placed && placed <= PLACE_LIMIT {
@@ -112,7 +102,7 @@ fn axis_place(coordinate: i32, surface_side: u32, frame_side: u32) -> Option<i32
 fn axis_at(coordinate: i32, surface_side: u32, frame_side: u32) -> i32
     requires surface { surface_side ≤ 8192 }
     requires frame { 1 ≤ frame_side }
-    requires fits { IsPlaced (placed coordinate surface_side frame_side) }
+    requires fits { IsPlacedCoordinate (placed coordinate surface_side frame_side) }
     ensures { result ≡ placed coordinate surface_side frame_side }
 {
     scaled(coordinate, surface_side, frame_side) as i32

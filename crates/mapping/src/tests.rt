@@ -17,7 +17,11 @@ fn axis(window_origin: i32, window_extent: i32, viewport_extent: i32) -> Option<
 }
 
 fn map(x: PageAxis, y: PageAxis) -> PageMap {
-    PageMap { x, y }
+    PageMap {
+        mode: MapMode::Anisotropic,
+        x,
+        y,
+    }
 }
 
 #[test]

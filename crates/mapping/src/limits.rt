@@ -1,0 +1,13 @@
+//! The limits on coordinates and sides.
+
+/// The farthest that a plane coordinate is from 0.
+pub(crate) const PLANE_LIMIT: i128 = 1 << 30;
+
+/// The farthest that a placed coordinate is from 0.
+pub(crate) const PLACE_LIMIT: i64 = 1 << 28;
+
+/// The longest side of a surface, in pixels.
+pub const MAX_SURFACE_SIDE: u32 = 8192;
+
+/// The longest side of a frame, in plane units.
+pub const MAX_FRAME_SIDE: u32 = 1 << 28;

@@ -1,0 +1,40 @@
+//! How the page is mapped.
+
+ghost use Rattle.std.specs.Prelude.{◌≡◌};
+ghost use Rattle.mapping.specs.MapMode.{map_mode_code, map_mode_of};
+
+/// How page coordinates are mapped ([MS-WMF] 2.1.1.16). The metric modes, 2 to 6, are not played.
+#[derive(Clone, Copy, Debug, PartialEq, Eq)]
+pub enum MapMode {
+    /// A unit is a pixel of the device.
+    Text,
+    /// The window is scaled to the viewport, by one factor for both axes.
+    Isotropic,
+    /// The window is scaled to the viewport, each axis by itself.
+    Anisotropic,
+}
+
+impl MapMode {
+    /// The mode with this number: none exactly where no mode that is played has it.
+    pub fn from_code(code: u32) -> Option<MapMode>
+        ensures { result ≡ map_mode_of code }
+    {
+        match code {
+            1 => Some(MapMode::Text),
+            7 => Some(MapMode::Isotropic),
+            8 => Some(MapMode::Anisotropic),
+            _ => None,
+        }
+    }
+
+    /// The mode's number: 1, 7 or 8.
+    pub fn code(self) -> u8
+        ensures { result ≡ map_mode_code self }
+    {
+        match self {
+            MapMode::Text => 1,
+            MapMode::Isotropic => 7,
+            MapMode::Anisotropic => 8,
+        }
+    }
+}
