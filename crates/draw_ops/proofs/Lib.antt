@@ -1,1 +1,4 @@
 pub mod NoteLemmas
+pub mod NoteSetLemmas
+pub mod FramedLemmas
+pub mod ContentLemmas

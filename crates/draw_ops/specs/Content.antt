@@ -3,7 +3,7 @@ use Rattle.std.specs.Prelude.{ℕ, List, [], ◌∷◌, Option, Some, None}
 use Rattle.draw_ops.specs.Operation.{Operation}
 use Rattle.draw_ops.specs.declared.fault.Fault.{Fault}
 
--- one record: its number in the file, what it asks for, and how many notes of each kind it has
+-- one record: its number in the file, what it asks for, and for each kind of note 1 where it is noted, and else 0
 pub record StepValue : Type 0 where
   pub number : ℕ
   pub operation : Operation

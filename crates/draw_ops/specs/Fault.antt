@@ -4,21 +4,22 @@ use Rattle.draw_ops.specs.FaultTable.{row_of}
 use Rattle.draw_ops.specs.declared.fault.Fault.{Fault}
 use Rattle.draw_ops.specs.declared.fault.Fault.TheVariants.{UnknownRecord, Unsupported}
 
--- the function or the type of the record that a fault speaks of
-abbrev pub record_number_of : Fault → Option ℕ
-record_number_of (UnknownRecord number) = Some number
-record_number_of (Unsupported number) = Some number
-record_number_of _ = None
+-- the kind of the record that a fault speaks of, its function or type
+abbrev pub record_kind_of : Fault → Option ℕ
+record_kind_of (UnknownRecord kind) = Some kind
+record_kind_of (Unsupported kind) = Some kind
+record_kind_of _ = None
 
--- a blank and the number, where there is one
-abbrev number_text : Option ℕ → List ℕ
-number_text None = []
-number_text (Some number) = codes " " ++ decimal number
+-- a blank and the kind, where there is one
+abbrev kind_text : Option ℕ → List ℕ
+kind_text None = []
+kind_text (Some kind) = codes " " ++ decimal kind
 
--- a fault's text: its name, and behind it the number of the record's function or type
+-- a fault's text: its name, and behind it the record's kind
 abbrev pub text_of : Fault → List ℕ
-text_of fault = (row_of fault).name ++ number_text (record_number_of fault)
+text_of fault = (row_of fault).name ++ kind_text (record_kind_of fault)
 
 -- the fault lies in a record, so a refusal says in which
-abbrev pub IsInRecord : Fault → Type 0
-IsInRecord fault = (10 ≤ (row_of fault).code) × ((row_of fault).code ≤ 39)
+pub record IsInRecord (fault : Fault) : Type 0 where
+  pub from_framing : 10 ≤ (row_of fault).code
+  pub to_entries : (row_of fault).code ≤ 39

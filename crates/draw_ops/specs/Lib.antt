@@ -1,3 +1,5 @@
+pub mod ExactlyOne
+pub mod Results
 pub mod Fault
 pub mod FaultTable
 pub mod Settings
@@ -8,7 +10,15 @@ pub mod Operation
 pub mod OperationOf
 pub mod NoteTable
 pub mod NoteCounts
+pub mod NoteKinds
+pub mod NoteSet
 pub mod Content
 pub mod StepOf
 pub mod Gives
 pub mod Counted
+pub mod Records
+pub mod Meaning
+pub mod RecordContent
+pub mod RecordOf
+pub mod Reading
+pub mod Fields

@@ -3,9 +3,9 @@ use Rattle.std.specs.Prelude.{ℕ, ◌+◌, List, [], ◌∷◌, replicate, slic
 use Rattle.draw_ops.specs.NoteTable.{note_row_of}
 use Rattle.draw_ops.specs.declared.note.Note.{Note}
 
--- the most notes of one kind
+-- the most notes of one kind: more than a file can have, whose records are at most 1,048,576
 abbrev pub note_limit : ℕ
-note_limit = 1048576
+note_limit = 4294967295
 
 -- how many notes of a kind
 abbrev pub note_count : List ℕ → Note → ℕ

@@ -3,12 +3,12 @@ use Rattle.std.specs.Prelude.{ℕ, ℤ, List, Option}
 use Rattle.mapping.specs.declared.geometry.Colour.{Colour}
 use Rattle.mapping.specs.declared.geometry.Point.{Point}
 use Rattle.mapping.specs.declared.geometry.Rect.{Rect}
+use Rattle.mapping.specs.declared.map_mode.MapMode.{MapMode}
 use Rattle.draw_ops.specs.Objects.{ObjectValue}
 use Rattle.draw_ops.specs.declared.operation.RectangleEdges.{RectangleEdges}
 use Rattle.draw_ops.specs.declared.raster_op.RasterOp.{RasterOp}
 use Rattle.draw_ops.specs.declared.settings.BackgroundMode.{BackgroundMode}
 use Rattle.draw_ops.specs.declared.settings.FillMode.{FillMode}
-use Rattle.draw_ops.specs.declared.settings.MapMode.{MapMode}
 
 -- one operation
 pub data Operation : Type 0 where

@@ -4,8 +4,6 @@ use Rattle.draw_ops.specs.declared.settings.BackgroundMode.{BackgroundMode}
 use Rattle.draw_ops.specs.declared.settings.BackgroundMode.TheVariants.{Transparent, Opaque}
 use Rattle.draw_ops.specs.declared.settings.FillMode.{FillMode}
 use Rattle.draw_ops.specs.declared.settings.FillMode.TheVariants.{Alternate, Winding}
-use Rattle.draw_ops.specs.declared.settings.MapMode.{MapMode}
-use Rattle.draw_ops.specs.declared.settings.MapMode.TheVariants.{Text, Isotropic, Anisotropic}
 
 -- a background mode's number
 abbrev pub background_mode_code : BackgroundMode → ℕ
@@ -24,13 +22,3 @@ fill_mode_code Winding = 2
 -- the fill mode with this number
 abbrev pub fill_mode_of : ℕ → Option FillMode
 fill_mode_of code = find (λ mode. fill_mode_code mode == code) (Alternate ∷ Winding ∷ [])
-
--- a map mode's number
-abbrev pub map_mode_code : MapMode → ℕ
-map_mode_code Text = 1
-map_mode_code Isotropic = 7
-map_mode_code Anisotropic = 8
-
--- the map mode with this number, of those that are played
-abbrev pub map_mode_of : ℕ → Option MapMode
-map_mode_of code = find (λ mode. map_mode_code mode == code) (Text ∷ Isotropic ∷ Anisotropic ∷ [])

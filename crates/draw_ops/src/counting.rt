@@ -1,7 +1,8 @@
 //! Running a source to its end.
 
-ghost use Rattle.std.specs.Prelude.{◌≡◌, ◌<◌, ◌^◌, length};
+ghost use Rattle.std.specs.Prelude.{◌≡◌, ◌<◌, ◌^◌, IfErr, length};
 ghost use Rattle.draw_ops.specs.Counted.{counted, behind_steps};
+ghost use Rattle.draw_ops.specs.Fault.{IsInRecord};
 
 use crate::fault::Fault;
 use crate::source::OpSource;
@@ -11,6 +12,7 @@ use crate::source::OpSource;
 pub fn count_steps<'a, S: OpSource<'a>>(source: &mut S) -> Result<u64, Fault>
     requires { length (S.content source.old).steps < 2 ^ 64 }
     ensures count { result ≡ counted (S.content source.old) }
+    ensures in_record { IfErr result IsInRecord }
     ensures left { S.content source.new ≡ behind_steps (S.content source.old) }
 {
     let mut count: u64 = 0;

@@ -5,8 +5,8 @@ ghost use Rattle.std.specs.Prelude.{◌≡◌};
 use std::error::Error;
 use std::fmt;
 
-/// A fault. Its number, its name and, where it has one, the function or the type of the record
-/// that it speaks of never change: callers and refusal lines show them.
+/// A fault. Its number, its name and, where it has one, the kind of record that it speaks of (a
+/// function or a type) never change: callers and refusal lines show them.
 #[derive(Clone, Copy, Debug, PartialEq, Eq)]
 pub enum Fault {
     // The file: its opening.
@@ -113,7 +113,7 @@ pub enum Fault {
 
 impl Fault {
     ghost use Rattle.draw_ops.specs.FaultTable.{row_of};
-    ghost use Rattle.draw_ops.specs.Fault.{record_number_of};
+    ghost use Rattle.draw_ops.specs.Fault.{record_kind_of};
 
     /// The fault's number, from 1 on.
     pub fn code(self) -> u8
@@ -129,12 +129,13 @@ impl Fault {
         self.row().1
     }
 
-    /// The function ([MS-WMF]) or type ([MS-EMF]) that the fault speaks of, if it does.
+    /// The kind of record that the fault speaks of, if it does: a function ([MS-WMF]) or a type
+    /// ([MS-EMF]). Reports call it the fault's number.
     pub fn number(self) -> Option<u32>
-        ensures { result ≡ record_number_of self }
+        ensures { result ≡ record_kind_of self }
     {
         match self {
-            Fault::UnknownRecord(number) | Fault::Unsupported(number) => Some(number),
+            Fault::UnknownRecord(kind) | Fault::Unsupported(kind) => Some(kind),
             _ => None,
         }
     }
@@ -201,11 +202,11 @@ impl fmt::Display for Fault {
 
     ghost output = { λ fault. Some (text_of fault) };
 
-    /// The name, and behind it the number of the record's function or type, if there is one.
+    /// The name, and behind it the kind of record that the fault speaks of, if it does.
     fn fmt<W: fmt::Write>(&self, f: &mut fmt::Formatter<W>) -> fmt::Result {
         let name = self.name();
         match self.number() {
-            Some(number) => write!(f, "{name} {number}"),
+            Some(kind) => write!(f, "{name} {kind}"),
             None => write!(f, "{name}"),
         }
     }

@@ -1,6 +1,7 @@
 //! Steps that are listed, for tests, examples and files that are read already.
 
-ghost use Rattle.std.specs.Prelude.{◌≡◌, map};
+ghost use Rattle.std.specs.Prelude.{◌≡◌, IfSome, map};
+ghost use Rattle.draw_ops.specs.Fault.{IsInRecord};
 ghost use Rattle.draw_ops.specs.StepOf.{step_value_of};
 
 use crate::fault::Fault;
@@ -16,18 +17,22 @@ pub struct Listed<'a> {
 }
 
 impl<'a> Model for Listed<'a> {
-    ghost use Rattle.std.specs.Prelude.{map};
+    ghost use Rattle.std.specs.Prelude.{IfSome, map};
     ghost use Rattle.draw_ops.specs.Content.{Content};
+    ghost use Rattle.draw_ops.specs.Fault.{IsInRecord};
     ghost use Rattle.draw_ops.specs.StepOf.{step_value_of};
 
     ghost Value = { Content };
 
     ghost view = { λ listed. record { steps = map step_value_of listed.steps.now; fault = listed.fault } };
+
+    ghost invariant = { λ listed. IfSome listed.fault IsInRecord };
 }
 
 impl<'a> Listed<'a> {
-    /// The source of these steps, and of this fault behind them.
+    /// The source of these steps, and of this fault behind them, which lies in a record.
     pub fn new(steps: &'a [Step<'a>], fault: Option<Fault>) -> Listed<'a>
+        requires { IfSome fault IsInRecord }
         ensures steps { result.steps ≡ map step_value_of steps.entry.now }
         ensures fault { result.fault ≡ fault }
     {

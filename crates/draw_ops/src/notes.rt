@@ -2,19 +2,16 @@
 
 ghost use Rattle.std.specs.Prelude.{◌≡◌, ◌<◌, ◌≤◌, All};
 ghost use Rattle.draw_ops.specs.NoteCounts.{note_limit, note_count, no_notes, with_note, added_notes};
+ghost use Rattle.draw_ops.specs.NoteSet.{kinds_of};
 
 use crate::note::Note;
+use crate::note_set::NoteSet;
 
 /// How many notes of each kind.
-///
-/// # Guarantees
-///
-/// - There are at most 1,048,576 notes of a kind.
 #[derive(Clone, Copy, Debug, PartialEq, Eq)]
 pub struct Notes {
     /// The counts, in the order of the table of notes.
     pub counts: [u32; 9],
-    pub ghost limited: { All (λ count. count ≤ note_limit) counts },
 }
 
 impl Notes {
@@ -25,10 +22,28 @@ impl Notes {
         Notes { counts: [0; 9] }
     }
 
+    /// One note of each kind in a set.
+    pub fn of(set: NoteSet) -> Notes
+        ensures { result.counts ≡ kinds_of set }
+    {
+        Notes {
+            counts: [
+                set.bit(0),
+                set.bit(1),
+                set.bit(2),
+                set.bit(3),
+                set.bit(4),
+                set.bit(5),
+                set.bit(6),
+                set.bit(7),
+                set.bit(8),
+            ],
+        }
+    }
+
     /// How many notes of a kind.
     pub fn count(self, note: Note) -> u32
-        ensures count { result ≡ note_count self.counts note }
-        ensures within { result ≤ note_limit }
+        ensures { result ≡ note_count self.counts note }
     {
         self.counts[note.row().0]
     }

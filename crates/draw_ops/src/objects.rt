@@ -17,22 +17,35 @@ pub enum Pen {
     Solid { colour: Colour },
 }
 
+/// A picture that a brush repeats over the surface, from the surface's corner on.
+#[derive(Clone, Copy, Debug, PartialEq, Eq)]
+pub struct Tile<'a> {
+    /// The sides, in pixels.
+    pub width: u32,
+    pub height: u32,
+    /// The colours row by row from the top, each row from the left. A view of the file's bitmap takes
+    /// their place once bitmaps are read; until then no reader gives a tile.
+    pub colours: &'a [Colour],
+}
+
 /// What fills.
 #[derive(Clone, Copy, Debug, PartialEq, Eq)]
-pub enum Brush {
+pub enum Brush<'a> {
     /// It paints every pixel in this colour.
     Solid(Colour),
     /// It paints nothing.
     Null,
     /// It paints the lines of the hatch in this colour. The gaps go by the background mode.
     Hatched { hatch: Hatch, colour: Colour },
+    /// It paints the picture's colours.
+    Tiled(Tile<'a>),
 }
 
 /// An object. Fonts and palettes take an index and draw nothing.
 #[derive(Clone, Copy, Debug, PartialEq, Eq)]
-pub enum Object {
+pub enum Object<'a> {
     Pen(Pen),
-    Brush(Brush),
+    Brush(Brush<'a>),
     Font,
     Palette,
 }

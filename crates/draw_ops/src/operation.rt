@@ -2,8 +2,8 @@
 
 use crate::objects::{Handle, Object};
 use crate::raster_op::RasterOp;
-use crate::settings::{BackgroundMode, FillMode, MapMode};
-use mapping::{Colour, Point, Rect};
+use crate::settings::{BackgroundMode, FillMode};
+use mapping::{Colour, MapMode, Point, Rect};
 use point_views::{Points, Polys};
 
 /// Which saved state is to come back, as META_RESTOREDC and EMR_RESTOREDC say it: a number above 0
@@ -91,7 +91,7 @@ pub enum Op<'a> {
     /// Make an object at the index, or at the lowest free one (WMF).
     Create {
         at: Option<Handle>,
-        object: Object,
+        object: Object<'a>,
     },
     /// Draw with the object from here on (SELECTOBJECT).
     Select(Handle),

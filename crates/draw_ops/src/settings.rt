@@ -1,7 +1,7 @@
 //! Settings that say how what follows is drawn.
 
 ghost use Rattle.std.specs.Prelude.{◌≡◌};
-ghost use Rattle.draw_ops.specs.Settings.{background_mode_of, fill_mode_of, map_mode_of};
+ghost use Rattle.draw_ops.specs.Settings.{background_mode_code, background_mode_of, fill_mode_code, fill_mode_of};
 
 /// How the gaps of a hatched brush are painted ([MS-WMF] 2.1.1.20).
 #[derive(Clone, Copy, Debug, PartialEq, Eq)]
@@ -21,6 +21,16 @@ impl BackgroundMode {
             1 => Some(BackgroundMode::Transparent),
             2 => Some(BackgroundMode::Opaque),
             _ => None,
+        }
+    }
+
+    /// The mode's number, 1 or 2.
+    pub fn code(self) -> u8
+        ensures { result ≡ background_mode_code self }
+    {
+        match self {
+            BackgroundMode::Transparent => 1,
+            BackgroundMode::Opaque => 2,
         }
     }
 }
@@ -45,29 +55,14 @@ impl FillMode {
             _ => None,
         }
     }
-}
 
-/// How page coordinates are mapped ([MS-WMF] 2.1.1.16). The metric modes, 2 to 6, are not played.
-#[derive(Clone, Copy, Debug, PartialEq, Eq)]
-pub enum MapMode {
-    /// A unit is a pixel of the device.
-    Text,
-    /// The window is scaled to the viewport, by one factor for both axes.
-    Isotropic,
-    /// The window is scaled to the viewport, each axis by itself.
-    Anisotropic,
-}
-
-impl MapMode {
-    /// The mode with this number: none exactly where no mode that is played has it.
-    pub fn from_code(code: u32) -> Option<MapMode>
-        ensures { result ≡ map_mode_of code }
+    /// The mode's number, 1 or 2.
+    pub fn code(self) -> u8
+        ensures { result ≡ fill_mode_code self }
     {
-        match code {
-            1 => Some(MapMode::Text),
-            7 => Some(MapMode::Isotropic),
-            8 => Some(MapMode::Anisotropic),
-            _ => None,
+        match self {
+            FillMode::Alternate => 1,
+            FillMode::Winding => 2,
         }
     }
 }

@@ -1,6 +1,6 @@
 //! One record of a file, as what it asks for.
 
-use crate::notes::Notes;
+use crate::note_set::NoteSet;
 use crate::operation::Op;
 
 /// What one record asks for.
@@ -10,5 +10,5 @@ pub struct Step<'a> {
     pub number: u32,
     pub op: Op<'a>,
     /// What is to be noted of the record.
-    pub notes: Notes,
+    pub notes: NoteSet,
 }

@@ -6,6 +6,18 @@ use Rattle.mapping.specs.declared.geometry.Point.{Point}
 use Rattle.point_views.specs.declared.numbers.NumberWidth.{NumberWidth}
 use Rattle.point_views.specs.declared.numbers.NumberWidth.TheVariants.{Short, Long}
 
+-- the number of so many bytes at a place, the lowest byte first
+abbrev pub number_at : ℕ → ℕ → List ℕ → ℕ
+number_at size place bytes = little_number size (drop place bytes)
+
+-- the number of two bytes at a place, in two's complement
+abbrev pub i16_at : ℕ → List ℕ → ℤ
+i16_at place bytes = cast_signed w16 (number_at 2 place bytes)
+
+-- the number of four bytes at a place, in two's complement
+abbrev pub i32_at : ℕ → List ℕ → ℤ
+i32_at place bytes = cast_signed w32 (number_at 4 place bytes)
+
 -- how many bytes a number takes
 abbrev pub number_size : NumberWidth → ℕ
 number_size Short = 2

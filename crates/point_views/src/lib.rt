@@ -25,7 +25,7 @@ mod tests;
 
 pub use counts::Counts;
 pub use lists::Lists;
-pub use numbers::NumberWidth;
+pub use numbers::{NumberWidth, i16_at, i32_at, u8_at, u16_at, u32_at};
 pub use parted_points::PartedPoints;
 pub use points::Points;
 pub use polys::Polys;

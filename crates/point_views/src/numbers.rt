@@ -1,9 +1,49 @@
 //! How numbers stand in a file: the one place where bytes become numbers.
 
 ghost use Rattle.std.specs.Prelude.{◌≡◌, ◌+◌, ◌≤◌, length, drop};
-ghost use Rattle.point_views.specs.Numbers.{number_size, signed_number, unsigned_number};
+ghost use Rattle.point_views.specs.Numbers.{i16_at, i32_at, number_at, number_size, signed_number, unsigned_number};
 
 use byteorder::{ByteOrder, LittleEndian};
+
+/// The number of one byte at a place.
+pub fn u8_at(bytes: &[u8], place: usize) -> u8
+    requires { place + 1 ≤ length bytes.now }
+    ensures { result ≡ number_at 1 place bytes.now }
+{
+    bytes[place]
+}
+
+/// The number of two bytes at a place, without a sign.
+pub fn u16_at(bytes: &[u8], place: usize) -> u16
+    requires { place + 2 ≤ length bytes.now }
+    ensures { result ≡ number_at 2 place bytes.now }
+{
+    LittleEndian::read_u16(&bytes[place..])
+}
+
+/// The number of four bytes at a place, without a sign.
+pub fn u32_at(bytes: &[u8], place: usize) -> u32
+    requires { place + 4 ≤ length bytes.now }
+    ensures { result ≡ number_at 4 place bytes.now }
+{
+    LittleEndian::read_u32(&bytes[place..])
+}
+
+/// The number of two bytes at a place, in two's complement.
+pub fn i16_at(bytes: &[u8], place: usize) -> i16
+    requires { place + 2 ≤ length bytes.now }
+    ensures { result ≡ i16_at place bytes.now }
+{
+    LittleEndian::read_i16(&bytes[place..])
+}
+
+/// The number of four bytes at a place, in two's complement.
+pub fn i32_at(bytes: &[u8], place: usize) -> i32
+    requires { place + 4 ≤ length bytes.now }
+    ensures { result ≡ i32_at place bytes.now }
+{
+    LittleEndian::read_i32(&bytes[place..])
+}
 
 /// How wide the numbers of a list are. All are little-endian.
 #[derive(Clone, Copy, Debug, PartialEq, Eq)]
@@ -32,8 +72,8 @@ pub(crate) fn signed_at(bytes: &[u8], place: usize, width: NumberWidth) -> i32
     ensures { result ≡ signed_number width (drop place bytes.now) }
 {
     match width {
-        NumberWidth::Short => i32::from(LittleEndian::read_i16(&bytes[place..])),
-        NumberWidth::Long => LittleEndian::read_i32(&bytes[place..]),
+        NumberWidth::Short => i32::from(i16_at(bytes, place)),
+        NumberWidth::Long => i32_at(bytes, place),
     }
 }
 
@@ -43,7 +83,7 @@ pub(crate) fn unsigned_at(bytes: &[u8], place: usize, width: NumberWidth) -> u32
     ensures { result ≡ unsigned_number width (drop place bytes.now) }
 {
     match width {
-        NumberWidth::Short => u32::from(LittleEndian::read_u16(&bytes[place..])),
-        NumberWidth::Long => LittleEndian::read_u32(&bytes[place..]),
+        NumberWidth::Short => u32::from(u16_at(bytes, place)),
+        NumberWidth::Long => u32_at(bytes, place),
     }
 }

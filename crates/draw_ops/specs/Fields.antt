@@ -1,0 +1,21 @@
+-- Fields that records of both formats have.
+use Rattle.std.specs.Prelude.{ℕ, ◌+◌, Bool, ◌||◌, ◌==◌, nat_lt, if◌then◌else◌, List, length, Result, Ok, Err}
+use Rattle.mapping.specs.declared.geometry.Colour.{Colour}
+use Rattle.point_views.specs.Numbers.{number_at}
+use Rattle.draw_ops.specs.declared.fault.Fault.{Fault}
+use Rattle.draw_ops.specs.declared.fault.Fault.TheVariants.{BadParams, PaletteColour}
+
+-- a record's parameters, which end before this place, are there, or it has bad parameters
+abbrev pub params : {T : Type 0} → ℕ → List ℕ → Result T Fault → Result T Fault
+params end bytes value = if nat_lt (length bytes) end then Err BadParams else value
+
+-- The type of a colour, the byte behind its blue ([MS-WMF] 2.2.2.8, reserved), is one of red, green and blue: 0 or 2, by a rule of our own.
+abbrev pub is_rgb : ℕ → Bool
+is_rgb colour_type = colour_type == 0 || colour_type == 2
+
+-- the colour at a place: red, green and blue, or a colour of a palette
+abbrev pub rgb_at : ℕ → List ℕ → Result Colour Fault
+rgb_at place bytes =
+    if is_rgb (number_at 1 (place + 3) bytes)
+    then Ok (record { r = number_at 1 place bytes; g = number_at 1 (place + 1) bytes; b = number_at 1 (place + 2) bytes })
+    else Err PaletteColour

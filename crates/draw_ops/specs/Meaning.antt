@@ -1,0 +1,32 @@
+-- What a record means: an operation with what is to be noted, or a fault.
+use Rattle.std.specs.Prelude.{ℕ, Bool, true, false, ◌==◌, List, [], ◌∷◌, Result}
+use Rattle.draw_ops.specs.Content.{StepValue}
+use Rattle.draw_ops.specs.NoteKinds.{noted}
+use Rattle.draw_ops.specs.Operation.{Operation}
+use Rattle.draw_ops.specs.Records.{Framing, Record}
+use Rattle.draw_ops.specs.Results.{result_map}
+use Rattle.draw_ops.specs.declared.fault.Fault.{Fault}
+use Rattle.draw_ops.specs.declared.note.Note.TheVariants.{AfterEnd}
+
+-- an operation, and the kinds that are noted
+pub record MeantValue : Type 0 where
+  pub operation : Operation
+  pub notes : List ℕ
+
+-- what the record with a number in the file means
+abbrev pub Meaning : Type 0
+Meaning = ℕ → Record → Result MeantValue Fault
+
+-- what is noted of a record: with the end record also that bytes lie behind it
+abbrev pub end_notes : Bool → List ℕ → List ℕ → List ℕ
+end_notes false behind notes = notes
+end_notes true [] notes = notes
+end_notes true (byte ∷ bytes) notes = noted AfterEnd notes
+
+-- the step of the record with this number
+abbrev pub step_at : Bool → List ℕ → ℕ → MeantValue → StepValue
+step_at is_last behind number meant = record { number = number; operation = meant.operation; notes = end_notes is_last behind meant.notes }
+
+-- the step of a record, where these bytes lie behind the end record, or its fault
+abbrev pub step_of : Framing → Meaning → List ℕ → ℕ → Record → Result StepValue Fault
+step_of f meaning behind number r = result_map (step_at (r.kind == f.last) behind number) (meaning number r)

@@ -1,0 +1,12 @@
+-- Results, made of others.
+use Rattle.std.specs.Prelude.{Option, Some, None, Result, Ok, Err}
+
+-- the value as f makes it, or the same error
+abbrev pub result_map : {T U E : Type 0} → (T → U) → Result T E → Result U E
+result_map f (Ok x) = Ok (f x)
+result_map f (Err e) = Err e
+
+-- an error in front, if there is one, and else the result
+abbrev pub result_unless : {T E : Type 0} → Option E → Result T E → Result T E
+result_unless None result = result
+result_unless (Some error) result = Err error

@@ -1,0 +1,63 @@
+//! What differs between the formats of records.
+
+ghost use Rattle.std.specs.Prelude.{◌≡◌, ◌≤◌, IfErr, length};
+ghost use Rattle.draw_ops.specs.Fault.{IsInRecord};
+ghost use Rattle.draw_ops.specs.Meaning.{Meaning};
+ghost use Rattle.draw_ops.specs.RecordOf.{meant_of, record_of};
+ghost use Rattle.draw_ops.specs.Records.{Framing, is_size, kind_of, size_of};
+ghost use Rattle.draw_ops.specs.Results.{result_map};
+
+use crate::fault::Fault;
+use crate::note_set::NoteSet;
+use crate::operation::Op;
+
+/// A record by its kind, a function ([MS-WMF]) or a type ([MS-EMF]), and its bytes with the head.
+#[derive(Clone, Copy, Debug, PartialEq, Eq)]
+pub struct RawRecord<'a> {
+    pub kind: u32,
+    pub bytes: &'a [u8],
+}
+
+/// What a record means: what it asks for, and what is to be noted of it.
+#[derive(Clone, Copy, Debug, PartialEq, Eq)]
+pub struct Meant<'a> {
+    pub op: Op<'a>,
+    pub notes: NoteSet,
+}
+
+/// A format of records: how they stand one after another, and what each means. `RecordOps` reads the
+/// records of any format.
+pub trait Format {
+    /// How the records are framed.
+    ghost framing: { Framing };
+
+    /// What a record means, by its number in the file.
+    ghost meaning: { Meaning };
+
+    /// The length of a record's head, in bytes.
+    fn head() -> usize
+        ensures { result ≡ framing.head };
+
+    /// The size in bytes that the head in front gives.
+    fn size(bytes: &[u8]) -> usize
+        requires { framing.head ≤ length bytes.now }
+        ensures { result ≡ size_of framing bytes.now };
+
+    /// Whether a record may have this size.
+    fn is_size(size: usize) -> bool
+        ensures { result ≡ is_size framing size };
+
+    /// The kind that the head in front gives.
+    fn kind(bytes: &[u8]) -> u32
+        requires { framing.head ≤ length bytes.now }
+        ensures { result ≡ kind_of framing bytes.now };
+
+    /// The kind of the record that ends a file.
+    fn last() -> u32
+        ensures { result ≡ framing.last };
+
+    /// What the record with this number in the file means, or its first fault.
+    fn read(number: u32, front: RawRecord<'_>) -> Result<Meant<'_>, Fault>
+        ensures value { meaning number (record_of front.entry) ≡ result_map meant_of result }
+        ensures in_record { IfErr result IsInRecord };
+}

@@ -1,0 +1,160 @@
+//! The steps of a file's records, one at a time, in any format.
+
+ghost use Rattle.std.specs.Prelude.{◌≡◌, ◌<◌, ◌≤◌, length, IfErr, IfOk, OnOk};
+ghost use Rattle.draw_ops.specs.Fault.{IsInRecord};
+ghost use Rattle.draw_ops.specs.Meaning.{end_notes};
+ghost use Rattle.draw_ops.specs.NoteSet.{kinds_of};
+ghost use Rattle.draw_ops.specs.Reading.{first_of};
+ghost use Rattle.draw_ops.specs.RecordContent.{IsContent};
+ghost use Rattle.draw_ops.specs.RecordOf.{record_of};
+ghost use Rattle.draw_ops.specs.Records.{framing_fault, front_of, record_limit, size_of};
+ghost use Rattle.draw_ops.specs.Results.{result_map};
+ghost use Rattle.draw_ops.specs.StepOf.{step_value_of};
+ghost use Rattle.std.specs.Result.{result_err};
+
+use crate::fault::Fault;
+use crate::format::{Format, RawRecord};
+use crate::note::Note;
+use crate::note_set::NoteSet;
+use crate::source::{HasContent, OpSource};
+use crate::step::Step;
+use std::marker::{Model, PhantomData};
+
+/// How many records a file may have, the end record included.
+const RECORD_LIMIT: u32 = 1048576;
+
+/// How far a source has come.
+#[derive(Clone, Copy, Debug, PartialEq, Eq)]
+enum Reading {
+    /// Records are left.
+    Records,
+    /// The end record was given.
+    Ended,
+    /// A record has this fault.
+    Failed(Fault),
+}
+
+/// A source over the bytes of a file's records: each record is read where it stands.
+#[derive(Debug, Drop)]
+pub struct RecordOps<'a, F: Format> {
+    rest: &'a [u8],
+    /// The number in the file of the record in front of the rest.
+    number: u32,
+    reading: Reading,
+    format: PhantomData<F>,
+}
+
+impl<'a, F: Format> Model for RecordOps<'a, F> {
+    ghost use Rattle.draw_ops.specs.Content.{Content};
+
+    ghost Value = { Content };
+
+    ghost use Rattle.draw_ops.specs.Reading.{IsReading, content_left};
+
+    ghost view = { λ a. content_left F.framing F.meaning a.reading a.number a.rest.now };
+
+    ghost invariant = { λ a. IsReading a.reading a.number };
+}
+
+impl<'a, F: Format> RecordOps<'a, F> {
+    /// The source over the bytes from record 0 on.
+    pub fn new(bytes: &'a [u8]) -> RecordOps<'a, F>
+        ensures content { IsContent F.framing F.meaning bytes.entry.now result }
+        ensures short { length result.steps ≤ record_limit }
+    {
+        RecordOps {
+            rest: bytes,
+            number: 0,
+            reading: Reading::Records,
+            format: PhantomData,
+        }
+    }
+}
+
+impl<'a, F: Format> HasContent for RecordOps<'a, F> {
+    ghost content = { λ source. source };
+}
+
+impl<'a, F: Format> OpSource<'a> for RecordOps<'a, F> {
+    /// The next record's step, none behind the end record, or the fault at which the records break.
+    fn next_op(&mut self) -> Result<Option<Step<'a>>, Fault> {
+        match self.reading {
+            Reading::Ended => Ok(None),
+            Reading::Failed(fault) => Err(fault),
+            Reading::Records => match step::<F>(self.rest, self.number) {
+                Err(fault) => {
+                    self.reading = Reading::Failed(fault);
+                    Err(fault)
+                }
+                Ok(step) => {
+                    if F::kind(self.rest) == F::last() {
+                        self.reading = Reading::Ended;
+                        return Ok(Some(step));
+                    }
+                    self.rest = &self.rest[F::size(self.rest)..];
+                    self.number += 1;
+                    Ok(Some(step))
+                }
+            },
+        }
+    }
+}
+
+/// The step of the record in front of the bytes, which has this number in the file, or its first fault.
+fn step<F: Format>(bytes: &[u8], number: u32) -> Result<Step<'_>, Fault>
+    ensures value { first_of F.framing F.meaning number bytes.entry.now ≡ result_map step_value_of result }
+    ensures head { OnOk result (F.framing.head ≤ length bytes.entry.now) }
+    ensures within { OnOk result (size_of F.framing bytes.entry.now ≤ length bytes.entry.now) }
+    ensures below_limit { OnOk result (number < record_limit) }
+    ensures in_record { IfErr result IsInRecord }
+{
+    let front = front::<F>(bytes, number)?;
+    let meant = F::read(number, front)?;
+    let behind = &bytes[front.bytes.len()..];
+    Ok(Step {
+        number,
+        op: meant.op,
+        notes: with_end(meant.notes, front.kind == F::last(), behind),
+    })
+}
+
+/// The notes of a record, and with the end record also that bytes lie behind it.
+fn with_end(notes: NoteSet, is_last: bool, behind: &[u8]) -> NoteSet
+    ensures { kinds_of result ≡ end_notes is_last behind.now (kinds_of notes) }
+{
+    if is_last && !behind.is_empty() {
+        notes.with(Note::AfterEnd)
+    } else {
+        notes
+    }
+}
+
+/// The record in front of the bytes, which has this number in the file, or the first fault of its framing.
+#[tactic(auto, unfolding(crate::specs::Records::record_limit))]
+fn front<F: Format>(bytes: &[u8], number: u32) -> Result<RawRecord<'_>, Fault>
+    ensures fault { framing_fault F.framing number bytes.entry.now ≡ result_err result }
+    ensures front { IfOk result (λ r. record_of r ≡ front_of F.framing bytes.entry.now) }
+    ensures size { IfOk result (λ r. length r.bytes.now ≡ size_of F.framing bytes.entry.now) }
+    ensures head { OnOk result (F.framing.head ≤ length bytes.entry.now) }
+    ensures within { OnOk result (size_of F.framing bytes.entry.now ≤ length bytes.entry.now) }
+    ensures below_limit { OnOk result (number < record_limit) }
+    ensures in_record { IfErr result IsInRecord }
+{
+    if number >= RECORD_LIMIT {
+        return Err(Fault::TooManyRecords);
+    }
+    if bytes.len() < F::head() {
+        return Err(Fault::NoEnd);
+    }
+    let size = F::size(bytes);
+    if !F::is_size(size) {
+        return Err(Fault::ShortRecord);
+    }
+    if bytes.len() < size {
+        return Err(Fault::PastEnd);
+    }
+    Ok(RawRecord {
+        kind: F::kind(bytes),
+        bytes: &bytes[..size],
+    })
+}
