@@ -2,6 +2,7 @@
 
 ghost use Rattle.std.specs.Prelude.{◌≡◌, ◌+◌, ◌*◌, ◌<◌, ◌≤◌, ◌^◌, ◌↔◌, Some, IsTrue, IfOk, OnOk, OnErr, length, slice_get, slice_set};
 ghost use Rattle.std.specs.Io.KnownBytes.{Appends};
+ghost use Rattle.mapping.specs.Limits.{IsSurfaceSide};
 ghost use Rattle.canvas.specs.CanvasState.{HasPixel, image_of, place_of, unwritten};
 ghost use Rattle.canvas.specs.Ppm.{AppendsFront, ppm_text};
 
@@ -28,6 +29,7 @@ pub struct Canvas {
 }
 
 impl Model for Canvas {
+    ghost use Rattle.mapping.specs.Limits.{IsSurfaceSide};
     ghost use Rattle.canvas.specs.CanvasState.{CanvasState};
 
     ghost Value = { CanvasState };
@@ -48,10 +50,8 @@ impl Canvas {
         height: u32,
         colour: Colour,
     ) -> Result<Canvas, OutOfMemory>
-        requires wide { 1 ≤ width }
-        requires wide_within { width ≤ 8192 }
-        requires high { 1 ≤ height }
-        requires high_within { height ≤ 8192 }
+        requires wide { IsSurfaceSide width }
+        requires high { IsSurfaceSide height }
         ensures { IfOk result (λ canvas. canvas ≡ unwritten width 0 height colour) }
     {
         let Ok(colours) = Vec::from_elem(alloc, colour, pixels(height, width)) else {
@@ -68,7 +68,8 @@ impl Canvas {
 
     /// The width of the surface, in pixels.
     pub fn width(&self) -> u32
-        ensures { result ≡ self.now.width }
+        ensures width { result ≡ self.now.width }
+        ensures side { IsSurfaceSide self.now.width }
     {
         self.width
     }
@@ -82,7 +83,8 @@ impl Canvas {
 
     /// How many rows are held.
     pub fn rows(&self) -> u32
-        ensures { result ≡ self.now.rows }
+        ensures rows { result ≡ self.now.rows }
+        ensures side { IsSurfaceSide self.now.rows }
     {
         self.rows
     }

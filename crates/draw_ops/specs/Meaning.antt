@@ -1,6 +1,7 @@
 -- What a record means: an operation with what is to be noted, or a fault.
 use Rattle.std.specs.Prelude.{ℕ, Bool, true, false, ◌==◌, List, [], ◌∷◌, Result}
 use Rattle.draw_ops.specs.Content.{StepValue}
+use Rattle.draw_ops.specs.NoteCounts.{no_notes}
 use Rattle.draw_ops.specs.NoteKinds.{noted}
 use Rattle.draw_ops.specs.Operation.{Operation}
 use Rattle.draw_ops.specs.Records.{Framing, Record}
@@ -30,3 +31,7 @@ step_at is_last behind number meant = record { number = number; operation = mean
 -- the step of a record, where these bytes lie behind the end record, or its fault
 abbrev pub step_of : Framing → Meaning → List ℕ → ℕ → Record → Result StepValue Fault
 step_of f meaning behind number r = result_map (step_at (r.kind == f.last) behind number) (meaning number r)
+
+-- an operation of which nothing is to be noted
+abbrev pub unnoted : Operation → MeantValue
+unnoted operation = record { operation = operation; notes = no_notes }

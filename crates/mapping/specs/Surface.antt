@@ -1,6 +1,5 @@
 -- Where a plane point lands on a surface.
-use Rattle.std.specs.Prelude.{ℕ, ℤ, pos, ◌*ℤ◌, Bool, ◌&&◌}
-use Rattle.std.specs.Ordering.{int_eq}
+use Rattle.std.specs.Prelude.{ℕ, ℤ, pos, negsuc, ◌*ℤ◌, Bool, false, ◌&&◌, ◌==◌}
 use Rattle.mapping.specs.Floor.{floor_div}
 use Rattle.mapping.specs.Limits.{place_limit, IsWithin, is_within}
 use Rattle.mapping.specs.Plane.{is_on_plane}
@@ -38,6 +37,11 @@ is_placed point = is_within place_limit point.x && is_within place_limit point.y
 abbrev pub lands : Surface → Point → Bool
 lands s point = is_on_plane point && is_placed (placed_point s point)
 
+-- a placed coordinate is the column or the row with this number
+abbrev pub is_index : ℤ → ℕ → Bool
+is_index (pos v) n = v == n
+is_index (negsuc v) n = false
+
 -- a placed point is the pixel in column x of row y
 abbrev pub is_pixel : Point → ℕ → ℕ → Bool
-is_pixel point x y = int_eq point.x (pos x) && int_eq point.y (pos y)
+is_pixel point x y = is_index point.x x && is_index point.y y

@@ -1,9 +1,13 @@
 -- What a layer does to an image, each pixel by itself.
 use Rattle.std.specs.Prelude.{ℕ, zero, suc, ◌+◌, ◌*◌, ◌/◌, ◌%◌, Bool, ◌&&◌, if◌then◌else◌, List, [], ◌∷◌, Option, Some, None, is_some}
 use Rattle.mapping.specs.declared.geometry.Colour.{Colour}
+use Rattle.mapping.specs.Surface.{Surface}
 use Rattle.canvas.specs.Image.{Image}
-use Rattle.player.specs.State.{Clip, Surface}
-use Rattle.player.specs.Layer.{Layer, RasterOperation, in_clip, in_shape, paint_at, mixed}
+use Rattle.player.specs.Clip.{in_clip}
+use Rattle.player.specs.Layer.{Layer}
+use Rattle.player.specs.Mixing.{Mixing, mixed}
+use Rattle.player.specs.Paint.{paint_at}
+use Rattle.player.specs.Shape.{in_shape}
 
 -- each colour, the first at place k, by what f makes of its place and itself
 abbrev pub map_places : (ℕ → Colour → Colour) → ℕ → List Colour → List Colour
@@ -16,35 +20,36 @@ count_places test k zero = 0
 count_places test k (suc n) = (if test k then 1 else 0) + count_places test (suc k) n
 
 -- the layer writes the surface's pixel (x, y): it is in the clip and in the shape, and the paint there isn't nothing
-abbrev pub writes_pixel : Layer → Clip → Surface → ℕ → ℕ → Bool
-writes_pixel layer clip s x y = in_clip clip s x y && in_shape layer.shape s x y && is_some (paint_at layer.paint x y)
+abbrev pub writes_pixel : Layer → Surface → ℕ → ℕ → Bool
+writes_pixel layer s x y = in_clip layer.clip s x y && in_shape layer.shape s x y && is_some (paint_at layer.paint s x y)
 
--- the raster operation's result, where the paint gives a colour
-abbrev pub painted : RasterOperation → Option Colour → Colour → Colour
-painted operation None old = old
-painted operation (Some paint) old = mixed operation paint old
+-- the paint joined with the old colour, where the paint gives one
+abbrev pub painted : Mixing → Surface → ℕ → ℕ → Option Colour → Colour → Colour
+painted mixing s x y None old = old
+painted mixing s x y (Some paint) old = mixed mixing s x y paint old
 
 -- a pixel's colour after the layer
-abbrev pub colour_after : Layer → Clip → Surface → ℕ → ℕ → Colour → Colour
-colour_after layer clip s x y old = if writes_pixel layer clip s x y then painted layer.raster_operation (paint_at layer.paint x y) old else old
+abbrev pub colour_after : Layer → Surface → ℕ → ℕ → Colour → Colour
+colour_after layer s x y old = if writes_pixel layer s x y then painted layer.mixing s x y (paint_at layer.paint s x y) old else old
 
 -- the image after a layer: the pixels that the layer writes, and every other as it was
-abbrev pub apply : Layer → Clip → Surface → Image → Image
-apply layer clip s image = record {
+abbrev pub apply : Layer → Surface → Image → Image
+apply layer s image = record {
   width = image.width;
   height = image.height;
-  colours = map_places (λ k old. colour_after layer clip s (k % s.width) (k / s.width) old) 0 image.colours;
+  colours = map_places (λ k old. colour_after layer s (k % s.width) (k / s.width) old) 0 image.colours;
 }
 
-abbrev pub apply_all : List Layer → Clip → Surface → Image → Image
-apply_all [] clip s image = image
-apply_all (layer ∷ layers) clip s image = apply_all layers clip s (apply layer clip s image)
+-- the image after some layers, one after another
+abbrev pub apply_all : List Layer → Surface → Image → Image
+apply_all [] s image = image
+apply_all (layer ∷ layers) s image = apply_all layers s (apply layer s image)
 
 -- how many pixels a layer writes
-abbrev pub writes_of_layer : Layer → Clip → Surface → ℕ
-writes_of_layer layer clip s = count_places (λ k. writes_pixel layer clip s (k % s.width) (k / s.width)) 0 (s.height * s.width)
+abbrev pub writes_of_layer : Layer → Surface → ℕ
+writes_of_layer layer s = count_places (λ k. writes_pixel layer s (k % s.width) (k / s.width)) 0 (s.height * s.width)
 
 -- a pixel that two layers write counts twice
-abbrev pub writes_of_layers : List Layer → Clip → Surface → ℕ
-writes_of_layers [] clip s = 0
-writes_of_layers (layer ∷ layers) clip s = writes_of_layer layer clip s + writes_of_layers layers clip s
+abbrev pub writes_of_layers : List Layer → Surface → ℕ
+writes_of_layers [] s = 0
+writes_of_layers (layer ∷ layers) s = writes_of_layer layer s + writes_of_layers layers s

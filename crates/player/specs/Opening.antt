@@ -1,10 +1,12 @@
 -- Opening a file: its format, frame, start map and handle count, or the first fault.
 use Rattle.std.specs.Prelude.{ℕ, ℤ, ◌+◌, ◌-ℤ◌, unsigned_abs, Bool, ◌&&◌, ◌||◌, not, ◌==◌, nat_lt, nat_le, if◌then◌else◌, List, length, drop, Option, None, Result, Ok, Err}
+use Rattle.mapping.specs.declared.geometry.Point.{Point}
+use Rattle.mapping.specs.Plane.{MapNumbers}
+use Rattle.mapping.specs.PageMap.{placeable_map}
+use Rattle.mapping.specs.Surface.{Surface}
+use Rattle.point_views.specs.Numbers.{number_at, i16_at}
 use Rattle.draw_ops.specs.declared.fault.Fault.{Fault}
 use Rattle.draw_ops.specs.declared.fault.Fault.TheVariants.{TooLong, NotMetafile, ShortHeader, BadHeader, NoFrame}
-use Rattle.mapping.specs.Plane.{AxisNumbers}
-use Rattle.mapping.specs.PageMap.{placeable_axis}
-use Rattle.player.specs.Bytes.{number_at, short_at}
 
 -- the formats that are opened
 pub data Format : Type 0 where
@@ -13,10 +15,9 @@ pub data Format : Type 0 where
 -- an opened file: its frame's sides, the map at its start, and how many object indexes it may use, where the format says so
 pub record Opened : Type 0 where
   pub format : Format
-  pub width : ℕ
-  pub height : ℕ
-  pub x : AxisNumbers
-  pub y : AxisNumbers
+  pub frame_width : ℕ
+  pub frame_height : ℕ
+  pub map : MapNumbers
   pub handles : Option ℕ
 
 -- the longest file, in bytes
@@ -30,26 +31,19 @@ is_standard_header place file =
     && (number_at 2 (place + 4) file == 0x0100 || number_at 2 (place + 4) file == 0x0300)
 
 -- the box of META_PLACEABLE, [MS-WMF] 2.3.2.3: left and top, and the sides, negative where right or bottom comes first
-abbrev pub box_left : List ℕ → ℤ
-box_left file = short_at 6 file
+abbrev pub box_corner : List ℕ → Point
+box_corner file = record { x = i16_at 6 file; y = i16_at 8 file }
 
-abbrev pub box_top : List ℕ → ℤ
-box_top file = short_at 8 file
-
-abbrev pub box_width : List ℕ → ℤ
-box_width file = short_at 10 file -ℤ short_at 6 file
-
-abbrev pub box_height : List ℕ → ℤ
-box_height file = short_at 12 file -ℤ short_at 8 file
+abbrev pub box_sides : List ℕ → Point
+box_sides file = record { x = i16_at 10 file -ℤ i16_at 6 file; y = i16_at 12 file -ℤ i16_at 8 file }
 
 -- the frame is as large as the box, and the box is the window at the start
 abbrev pub opened_placeable : List ℕ → Opened
 opened_placeable file = record {
   format = placeable;
-  width = unsigned_abs (box_width file);
-  height = unsigned_abs (box_height file);
-  x = placeable_axis (box_left file) (box_width file);
-  y = placeable_axis (box_top file) (box_height file);
+  frame_width = unsigned_abs (box_sides file).x;
+  frame_height = unsigned_abs (box_sides file).y;
+  map = placeable_map (box_corner file) (box_sides file);
   handles = None;
 }
 
@@ -58,7 +52,7 @@ abbrev pub placeable_file : List ℕ → Result Opened Fault
 placeable_file file =
     if nat_lt (length file) 40 then Err ShortHeader
     else (if not (is_standard_header 22 file) then Err BadHeader
-    else (if unsigned_abs (box_width file) == 0 || unsigned_abs (box_height file) == 0 then Err NoFrame
+    else (if unsigned_abs (box_sides file).x == 0 || unsigned_abs (box_sides file).y == 0 then Err NoFrame
     else Ok (opened_placeable file)))
 
 -- the file begins with META_PLACEABLE's key
@@ -73,3 +67,7 @@ opened file =
 -- the bytes from record 0 on
 abbrev pub records_of : Format → List ℕ → List ℕ
 records_of placeable file = drop 40 file
+
+-- the surface of these sides that shows an opened file's frame
+abbrev pub surface_for : Opened → ℕ → ℕ → Surface
+surface_for o width height = record { width = width; height = height; frame_width = o.frame_width; frame_height = o.frame_height }

@@ -1,58 +1,75 @@
--- The playing state, as far as records change it.
-use Rattle.std.specs.Prelude.{ℕ, ℤ, pos, Bool, ◌&&◌, int_le, neg_ℤ, if◌then◌else◌, List, [], Option, Some, None}
-use Rattle.draw_ops.specs.declared.fault.Fault.{Fault}
-use Rattle.draw_ops.specs.declared.fault.Fault.TheVariants.{OffPlane, Unsupported}
-use Rattle.draw_ops.specs.Operation.{Operation, no_effect, pixel}
-use Rattle.mapping.specs.Limits.{plane_limit, place_limit}
-use Rattle.mapping.specs.Plane.{AxisNumbers, plane_coordinate}
-use Rattle.mapping.specs.Surface.{placed}
+-- The playing state.
+use Rattle.std.specs.Prelude.{ℕ, pos, List, [], Option, None}
+use Rattle.mapping.specs.declared.geometry.Colour.{Colour}
+use Rattle.mapping.specs.declared.geometry.Point.{Point}
+use Rattle.mapping.specs.Plane.{MapNumbers}
+use Rattle.draw_ops.specs.declared.objects.Pen.{Pen}
+use Rattle.draw_ops.specs.declared.objects.Pen.TheVariants.{Solid}
+use Rattle.draw_ops.specs.declared.raster_op.RasterOp.{RasterOp}
+use Rattle.draw_ops.specs.declared.raster_op.RasterOp.TheVariants.{CopyPen}
+use Rattle.draw_ops.specs.declared.settings.BackgroundMode.{BackgroundMode}
+use Rattle.draw_ops.specs.declared.settings.BackgroundMode.TheVariants.{Opaque}
+use Rattle.draw_ops.specs.declared.settings.FillMode.{FillMode}
+use Rattle.draw_ops.specs.declared.settings.FillMode.TheVariants.{Alternate}
+use Rattle.draw_ops.specs.Objects.{BrushValue, ObjectValue, solid_brush}
+use Rattle.player.specs.Clip.{Clip, unclipped}
 use Rattle.player.specs.Opening.{Opened}
+use Rattle.player.specs.Path.{Path}
 
--- a surface, and the sides of the frame that it shows
-pub record Surface : Type 0 where
-  pub width : ℕ
-  pub height : ℕ
-  pub frame_width : ℕ
-  pub frame_height : ℕ
+-- an object in use, and its index, if it isn't a stock object
+pub record Selected (A : Type 0) : Type 0 where
+  pub object : A
+  pub index : Option ℕ
 
--- a box of the plane, its corners in order
-pub record Box : Type 0 where
-  pub left : ℤ
-  pub top : ℤ
-  pub right : ℤ
-  pub bottom : ℤ
-
--- the clip: one kept box or none, and the boxes that are cut out
-pub record Clip : Type 0 where
-  pub kept : Option Box
-  pub cuts : List Box
-
--- what drawings depend on
-pub record State : Type 0 where
-  pub x : AxisNumbers
-  pub y : AxisNumbers
+-- What drawings depend on, and saving copies: the objects selected (of font and palette the index alone), modes and colours, the page
+-- map, the position in page units, and the clip.
+pub record Dc : Type 0 where
+  pub pen : Selected Pen
+  pub brush : Selected BrushValue
+  pub font : Option ℕ
+  pub palette : Option ℕ
+  pub background_mode : BackgroundMode
+  pub background_colour : Colour
+  pub raster_op : RasterOp
+  pub fill_mode : FillMode
+  pub map : MapNumbers
+  pub position : Point
   pub clip : Clip
 
--- the state before the first record
+-- The whole state: what saving copies, and beside it the objects by their indexes, how many indexes there may be (where records don't
+-- name an index there is no such number), the states saved, the newest first, and the path, if there is one.
+pub record State : Type 0 where
+  pub dc : Dc
+  pub slots : List (ℕ × ObjectValue)
+  pub handles : Option ℕ
+  pub saved : List Dc
+  pub path : Option Path
+
+abbrev black : Colour
+black = record { r = 0; g = 0; b = 0 }
+
+abbrev white : Colour
+white = record { r = 255; g = 255; b = 255 }
+
+-- what drawings depend on before the first record: stock objects, and nothing clipped
+abbrev pub start_dc : MapNumbers → Dc
+start_dc map = record {
+  pen = record { object = Solid black; index = None };
+  brush = record { object = solid_brush white; index = None };
+  font = None;
+  palette = None;
+  background_mode = Opaque;
+  background_colour = white;
+  raster_op = CopyPen;
+  fill_mode = Alternate;
+  map = map;
+  position = record { x = pos 0; y = pos 0 };
+  clip = unclipped;
+}
+
+-- the state before the first record of a file that starts with this map
+abbrev pub start_state : MapNumbers → Option ℕ → State
+start_state map handles = record { dc = start_dc map; slots = []; handles = handles; saved = []; path = None }
+
 abbrev pub start_of : Opened → State
-start_of o = record { x = o.x; y = o.y; clip = record { kept = None; cuts = [] } }
-
--- the number is at most this far from 0
-abbrev pub is_within : ℕ → ℤ → Bool
-is_within limit v = int_le (neg_ℤ (pos limit)) v && int_le v (pos limit)
-
--- a page coordinate lands on the plane, and its plane coordinate on the surface, each within its limit
-abbrev pub lands : AxisNumbers → ℕ → ℕ → ℤ → Bool
-lands axis side frame_side v =
-    is_within plane_limit (plane_coordinate axis v) && is_within place_limit (placed (plane_coordinate axis v) side frame_side)
-
--- the first fault of an operation at a surface; an operation that isn't played yet is unsupported
-abbrev pub fault_of : Operation → State → Surface → Option Fault
-fault_of no_effect state surface = None
-fault_of (pixel point colour) state surface =
-    if lands state.x surface.width surface.frame_width point.x && lands state.y surface.height surface.frame_height point.y then None else Some OffPlane
-fault_of _ state surface = Some (Unsupported 0)
-
--- the state after an operation: none that is played so far changes it
-abbrev pub next : Operation → State → State
-next operation state = state
+start_of o = start_state o.map o.handles

@@ -3,24 +3,23 @@
 //! # What is promised
 //!
 //! - A played file leaves the image that its records define, and the canvas counts the pixels
-//!   written (`play_file`, by `Run` and `Writes`).
-//! - A refused file has that fault first, in that record (`play_file`, by `Run`).
+//!   written (`play_file`, over white, and `play_on`, over what a canvas shows, by `Run` and `Writes`).
+//! - A refused file has that fault first, in that record (`play_file`, `play_on`, by `Run`).
+//! - Playing on a canvas that is there is never refused for memory (`play_on`).
 //! - A run ends in one way, and whether it is refused doesn't depend on the image that it starts
 //!   from (`run_law`).
-//! - Bytes are records in one way, or break in one way (`records_law`).
-//! - Records are read in place: no memory is taken and nothing is copied for them.
 #![tactic(auto)]
 
 mod drawing;
-mod numbers;
+mod laws;
 mod opening;
+mod placed_map;
 mod play;
 mod refusal;
-mod state;
 #[cfg(test)]
 mod tests;
-mod wmf_ops;
-mod wmf_records;
+mod wmf;
 
-pub use play::{play_file, records_law, run_law};
+pub use laws::run_law;
+pub use play::{play_file, play_on};
 pub use refusal::Refusal;

@@ -2,14 +2,14 @@
 
 ghost use Rattle.std.specs.Prelude.{◌≡◌, ◌-ℤ◌, ◌+◌, ◌≤◌, ◌==◌, ◌||◌, unsigned_abs, is_none, IfSome, IfOk, IfErr, ◌<◌, length, drop};
 ghost use Rattle.draw_ops.specs.FaultTable.{row_of};
-ghost use Rattle.player.specs.Bytes.{short_at};
+ghost use Rattle.draw_ops.specs.Results.{result_map};
+ghost use Rattle.point_views.specs.Numbers.{i16_at};
 ghost use Rattle.player.specs.Opening.{opened, is_placeable, is_standard_header, placeable_file};
 ghost use Rattle.player.specs.OpenedFile.{opened_of};
-ghost use Rattle.player.specs.Results.{result_map};
 
-use crate::numbers::{long_at, signed_at, word_at};
 use draw_ops::Fault;
 use mapping::{Frame, PageMap, Point};
+use point_views::{i16_at, u16_at, u32_at};
 
 /// The longest file, in bytes.
 const FILE_LIMIT: usize = 67108864;
@@ -49,7 +49,7 @@ pub(crate) fn open(file: &[u8]) -> Result<OpenedFile<'_>, Fault>
 fn begins_placeable(file: &[u8]) -> bool
     ensures { result ≡ is_placeable file.now }
 {
-    file.len() >= 4 && long_at(file, 0) == PLACEABLE_KEY
+    file.len() >= 4 && u32_at(file, 0) == PLACEABLE_KEY
 }
 
 /// Opens a placeable file ([MS-WMF] 2.3.2.3), or tells the first fault of its headers.
@@ -89,27 +89,27 @@ fn has_standard_header(file: &[u8]) -> bool
     requires { 40 ≤ length file.now }
     ensures { result ≡ is_standard_header 22 file.now }
 {
-    let kind = word_at(file, 22);
-    let version = word_at(file, 26);
-    (kind == 1 || kind == 2) && word_at(file, 24) == 9 && (version == 0x0100 || version == 0x0300)
+    let kind = u16_at(file, 22);
+    let version = u16_at(file, 26);
+    (kind == 1 || kind == 2) && u16_at(file, 24) == 9 && (version == 0x0100 || version == 0x0300)
 }
 
 /// A coordinate of the box.
 fn coordinate(file: &[u8], place: usize) -> i32
     requires { place + 2 ≤ length file.now }
-    ensures { result ≡ short_at place file.now }
+    ensures { result ≡ i16_at place file.now }
 {
-    i32::from(signed_at(file, place))
+    i32::from(i16_at(file, place))
 }
 
 /// A side of the box, from one coordinate to another.
 fn side(file: &[u8], from: usize, to: usize) -> i32
     requires from { from + 2 ≤ length file.now }
     requires to { to + 2 ≤ length file.now }
-    ensures value { result ≡ short_at to file.now -ℤ short_at from file.now }
+    ensures value { result ≡ i16_at to file.now -ℤ i16_at from file.now }
     ensures bound { unsigned_abs result ≤ 65535 }
 {
-    i32::from(signed_at(file, to)) - i32::from(signed_at(file, from))
+    i32::from(i16_at(file, to)) - i32::from(i16_at(file, from))
 }
 
 /// The frame of a box with these sides, or none where one of them is 0.

@@ -1,6 +1,6 @@
 //! Why a file isn't played, and where in it the fault lies.
 
-ghost use Rattle.std.specs.Prelude.{◌≡◌, Some};
+ghost use Rattle.std.specs.Prelude.{◌≡◌, Some, None};
 
 use draw_ops::Fault;
 use std::error::Error;
@@ -14,6 +14,17 @@ pub struct Refusal {
 }
 
 impl Refusal {
+    /// A fault that lies in no record.
+    pub(crate) fn of_file(fault: Fault) -> Refusal
+        ensures number { result.number ≡ None }
+        ensures fault { result.fault ≡ fault }
+    {
+        Refusal {
+            number: None,
+            fault,
+        }
+    }
+
     /// A fault in a record.
     pub(crate) fn at(number: u32, fault: Fault) -> Refusal
         ensures number { result.number ≡ Some number }

@@ -1,0 +1,49 @@
+//! Where page points land: on the plane by a page map, and from there on a surface.
+
+ghost use Rattle.std.specs.Prelude.{◌≡◌, if◌then◌else◌, Some, None, IfOk, IfErr, SomeIff, is_some};
+ghost use Rattle.std.specs.Result.{result_err};
+ghost use Rattle.draw_ops.specs.Fault.{IsInRecord};
+ghost use Rattle.mapping.specs.PageMap.{map_numbers};
+ghost use Rattle.mapping.specs.Plane.{IsOnPlane, is_on_plane, plane_point};
+ghost use Rattle.mapping.specs.PlaceOf.{surface_of};
+ghost use Rattle.mapping.specs.Surface.{lands, placed_point};
+
+use draw_ops::Fault;
+use mapping::{PageMap, Place, Point};
+
+/// A page map, and the surface on which its plane is shown.
+#[derive(Clone, Copy, Debug, PartialEq, Eq)]
+pub(crate) struct PlacedMap {
+    /// The page map, which no record changes so far.
+    pub(crate) map: PageMap,
+    /// The surface, which stays the same for a whole run.
+    pub(crate) place: Place,
+}
+
+impl PlacedMap {
+    /// The placed point of a page point, or `OffPlane` where it leaves the plane or the range of placed
+    /// coordinates.
+    pub(crate) fn place_page_point(&self, point: Point) -> Result<Point, Fault>
+        ensures fault { let there = plane_point (map_numbers self.now.map) point.x point.y in
+            (if lands (surface_of self.now.place) there then None else Some Fault.OffPlane) ≡ result_err result }
+        ensures point { let there = plane_point (map_numbers self.now.map) point.x point.y in
+            IfOk result (λ placed. placed ≡ placed_point (surface_of self.now.place) there) }
+        ensures in_record { IfErr result IsInRecord }
+    {
+        let Some(point) = on_plane(point, &self.map) else {
+            return Err(Fault::OffPlane);
+        };
+        let Some(placed) = self.place.place(point) else {
+            return Err(Fault::OffPlane);
+        };
+        Ok(placed)
+    }
+}
+
+/// The plane point of a page point, or none where it would leave the plane.
+fn on_plane(point: Point, map: &PageMap) -> Option<Point>
+    ensures point { let there = plane_point (map_numbers map.now) point.x point.y in SomeIff result (IsOnPlane there) there }
+    ensures test { is_some result ≡ is_on_plane (plane_point (map_numbers map.now) point.x point.y) }
+{
+    map.plane(i64::from(point.x), i64::from(point.y))
+}
