@@ -5,9 +5,15 @@ use Rattle.std.proofs.lemmas.Option.{same_Some, none-some}
 use Rattle.std.proofs.lemmas.Nat.{mul-add-lt, div-mul-add, mod-mul-add, div-add-mod', mod_below, div_below}
 use Rattle.mapping.specs.declared.geometry.Colour.{Colour}
 use Rattle.mapping.specs.declared.geometry.Point.{Point}
-use Rattle.player.specs.Layer.{is_at}
-use Rattle.player.specs.Apply.{map_places, count_places}
-use Rattle.player.specs.Dot.{dots, dotted, lands_at, naturals, pixel_under}
+use Rattle.player.specs.Apply.{map_places, count_places, apply, writes_of_layers}
+use Rattle.mapping.specs.Surface.{Surface, is_index, placed_point}
+use Rattle.canvas.specs.Image.{Image}
+use Rattle.player.specs.Clip.{unclipped}
+use Rattle.player.specs.Layer.{Layer}
+use Rattle.player.specs.Mixing.{copied}
+use Rattle.player.specs.Paint.{solid}
+use Rattle.player.specs.Shape.{pixel_under}
+use Rattle.player.specs.Dot.{dots, dotted, is_at_place, naturals, indexes_of}
 
 -- what is the same at each place gives the same colours
 pub same_map : (f g : ℕ → Colour → Colour) → ((k : ℕ) (c : Colour) → f k c ≡ g k c) → (k : ℕ) (cs : List Colour) → map_places f k cs ≡ map_places g k cs
@@ -73,17 +79,17 @@ lands_outside x y (suc w) height i b out =
     ]
 
 -- a point that lands nowhere changes nothing
-nowhere : (x y : ℤ) → naturals x y ≡ None → (width i : ℕ) → is_at x (i % width) && is_at y (i / width) ≡ false
+nowhere : (x y : ℤ) → naturals x y ≡ None → (width i : ℕ) → is_index x (i % width) && is_index y (i / width) ≡ false
 nowhere (pos x) (pos y) e width i = absurd (none-some _ (sym e))
 nowhere (pos x) (negsuc y) e width i = and_right _ _ refl
 nowhere (negsuc x) y e width i = refl
 
-module _ (point : Point) (outside : pixel_under point ≡ None) where
+module _ (point : Point) (outside : indexes_of point ≡ None) where
   pub dotted_nowhere : (v : Colour) (width : ℕ) (cs : List Colour) → dotted point v width cs ≡ cs
-  dotted_nowhere v width cs = no_colour (lands_at point width) v 0 cs (λ i a b. nowhere point.x point.y outside width i)
+  dotted_nowhere v width cs = no_colour (is_at_place point width) v 0 cs (λ i a b. nowhere point.x point.y outside width i)
 
   pub dots_nowhere : (width height : ℕ) → dots point width height ≡ 0
-  dots_nowhere width height = no_count (lands_at point width) 0 (height * width) (λ i a b. nowhere point.x point.y outside width i)
+  dots_nowhere width height = no_count (is_at_place point width) 0 (height * width) (λ i a b. nowhere point.x point.y outside width i)
 
 -- a point with a column and a row
 pixel_parts : (x y : ℤ) (m n : ℕ) → naturals x y ≡ Some (m, n) → (x ≡ pos m) × (y ≡ pos n)
@@ -92,7 +98,7 @@ pixel_parts (pos x) (pos y) m n e =
 pixel_parts (pos x) (negsuc y) m n e = absurd (none-some _ e)
 pixel_parts (negsuc x) y m n e = absurd (none-some _ e)
 
-module _ (point : Point) (v : Colour) (x y width height : ℕ) (cs : List Colour) (under : pixel_under point ≡ Some (x, y)) (whole : length cs ≡ height * width) where
+module _ (point : Point) (v : Colour) (x y width height : ℕ) (cs : List Colour) (under : indexes_of point ≡ Some (x, y)) (whole : length cs ≡ height * width) where
   -- a point outside the surface changes nothing
   pub dotted_outside : (x < width → y < height → ⊥) → dotted point v width cs ≡ cs
   dotted_outside out =
@@ -119,11 +125,20 @@ module _ (point : Point) (v : Colour) (x y width height : ℕ) (cs : List Colour
       rw (parts.0, parts.1)
       (one_count _ (y * width + x) 0 (y * width + x) (height * width) (omega arith) (omega arith) (lands_there x y width column) (λ i ne a b. lands_else x y width i ne))
 
--- a layer of one pixel with paint everywhere and no clip writes as many pixels
+-- the layer of a dot where nothing is clipped
+abbrev pub dot_layer : Point → Colour → Layer
+dot_layer there v = record { shape = pixel_under there; paint = solid v; mixing = copied; clip = unclipped }
+
+-- a layer of one pixel, with paint everywhere and nothing clipped, changes that pixel
 and_true : (b : Bool) → b && true ≡ b
 and_true true = refl
 and_true false = refl
 
-pub dots_are : (a b : ℤ) (point : Point) → point.x ≡ a → point.y ≡ b → (w h w' h' : ℕ) → w ≡ w' → h ≡ h' → dots point w h ≡ count_places (λ k. (is_at a (k % w') && is_at b (k / w')) && true) 0 (h' * w') + 0
-dots_are a b point x y w h w' h' p q =
-    rw (p, q) (same_count (lands_at point w') _ (λ k. rw (x, y) (sym (and_true _))) 0 (h' * w') ∙ sym (add-zero _))
+pub dotted_layer : (there placed : Point) (v : Colour) (s : Surface) (image : Image) (width : ℕ) → placed ≡ placed_point s there → width ≡ s.width → dotted placed v width image.colours ≡ (apply (dot_layer there v) s image).colours
+dotted_layer there placed v s image width p w =
+    rw (p, w) (same_map _ _ (λ k old. rw (and_true (is_at_place (placed_point s there) s.width k)) refl) 0 image.colours)
+
+-- and writes as many
+pub dots_layer : (there placed : Point) (v : Colour) (s : Surface) (width height : ℕ) → placed ≡ placed_point s there → width ≡ s.width → height ≡ s.height → dots placed width height ≡ writes_of_layers (dot_layer there v ∷ []) s
+dots_layer there placed v s width height p w h =
+    rw (p, w, h) (same_count (is_at_place (placed_point s there) s.width) _ (λ k. sym (and_true _)) 0 (s.height * s.width) ∙ sym (add-zero _))

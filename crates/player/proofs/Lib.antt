@@ -1,5 +1,3 @@
-pub mod FramedLemmas
-pub mod ContentLemmas
 pub mod DotLemmas
 pub mod RunLemmas
-pub mod PlaneLemmas
+pub mod PlayLemmas

@@ -2,90 +2,80 @@
 use Rattle.std.proofs.Common.{◌≡◌, ℕ, suc, ◌+◌, length, add-one, arith, List, [], ◌∷◌, Option, Some, None, Result, Ok, Err, refl, sym, ap, subst, ◌∙◌}
 use Rattle.draw_ops.specs.declared.fault.Fault.{Fault}
 use Rattle.draw_ops.specs.Content.{Content, StepValue, with_step}
-use Rattle.mapping.specs.declared.geometry.Frame.{Frame}
-use Rattle.mapping.specs.declared.place.Place.{Place}
+use Rattle.draw_ops.specs.ExactlyOne.{ExactlyOne}
+use Rattle.draw_ops.specs.RecordContent.{ContentIsOne}
+use Rattle.mapping.specs.Surface.{Surface}
 use Rattle.canvas.specs.Image.{Image}
-use Rattle.player.specs.Playing.{surface_at}
-use Rattle.player.specs.Records.{Framed}
+use Rattle.player.specs.Next.{next}
+use Rattle.player.specs.OperationFault.{fault_of}
+use Rattle.player.specs.Opening.{Format, placeable, Opened, opened, records_of, surface_for}
+use Rattle.player.specs.State.{State, start_of}
 use Rattle.player.specs.Wmf.{wmf, wmf_meaning}
-use Rattle.player.specs.Ops.{IsContent, content_of}
-use Rattle.player.specs.Opening.{Format, placeable, Opened, opened, records_of}
-use Rattle.player.specs.State.{State, Surface, start_of, fault_of, next}
-use Rattle.player.specs.Layer.{layers_of}
-use Rattle.player.specs.Apply.{apply_all, writes_of_layers}
-use Rattle.player.specs.Run.{Outcome, shown, refused, run_steps, ended, unless_refused, RunOpened, WritesOpened, Run, Writes, writes_of_steps, RunEndsInOneWay, WritesAreOne, IsShown, white, IsFileContent, surface_of}
-use Rattle.player.proofs.FramedLemmas.{one_way}
-
--- the bytes have one content
-one_content : (bytes : List ℕ) (content other : Content) → IsContent wmf wmf_meaning bytes content → IsContent wmf wmf_meaning bytes other → other ≡ content
-one_content bytes content other h k =
-    let only = (one_way wmf bytes).2 in
-    let same = only k.0 k.1 ∙ sym (only h.0 h.1) in
-    k.2 ∙ ap (λ (f : Framed). content_of wmf_meaning 0 f.records f.fault) same ∙ sym h.2
-
--- a refusal doesn't depend on the image
-refused_ended : (fault : Option Fault) (place : ℕ) (image other : Image) (number : Option ℕ) (f : Fault) → refused number f ≡ ended fault place image → refused number f ≡ ended fault place other
-refused_ended None place image other number f e = cc
-refused_ended (Some fault) place image other number f e = e
-
-refused_unless : (o : Option Fault) (place : ℕ) (outcome other : Outcome) (number : Option ℕ) (f : Fault) → (refused number f ≡ outcome → refused number f ≡ other) → refused number f ≡ unless_refused o place outcome → refused number f ≡ unless_refused o place other
-refused_unless None place outcome other number f h e = h e
-refused_unless (Some fault) place outcome other number f h e = e
-
-refused_steps : (steps : List StepValue) (fault : Option Fault) (place : ℕ) (state : State) (s : Surface) (image other : Image) (number : Option ℕ) (f : Fault) → refused number f ≡ run_steps steps fault place state s image → refused number f ≡ run_steps steps fault place state s other
-refused_steps [] fault place state s image other number f e = refused_ended fault place image other number f e
-refused_steps (step ∷ steps) fault place state s image other number f e =
-    refused_unless (fault_of step.operation state s) place _ _ number f (refused_steps steps fault (suc place) (next step.operation state) s _ _ number f) e
+use Rattle.player.specs.Run.{Stop, Outcome, shown, refused, ended, stopped, drawn, image_after, writes_of, writes_after, outcome_of, IsFileContent, RunsOpened, RunOpened, Run, WritesOpened, WritesIfOpened, Writes, RunEndsInOneWay, RefusedOverAnyImage, WritesAreOne}
 
 -- a file of any format has one content
-one_file_content : (format : Format) (file : List ℕ) → (content : Content) × IsFileContent format file content × ((other : Content) → IsFileContent format file other → other ≡ content)
-one_file_content placeable file =
-    let framed = one_way wmf (records_of placeable file) in
-    let content = content_of wmf_meaning 0 framed.0.records framed.0.fault in
-    (content, (framed.0, framed.1, refl), λ other h. one_content _ content other (framed.0, framed.1, refl) h)
+one_file_content : ContentIsOne → (format : Format) (file : List ℕ) → ExactlyOne (IsFileContent format file)
+one_file_content one placeable file = one wmf wmf_meaning (records_of placeable file)
 
-by_opening : (o : Result Opened Fault) (file : List ℕ) (width height : ℕ) (image : Image) → ((outcome : Outcome) × RunOpened o file width height image outcome × ((other : Outcome) → RunOpened o file width height image other → other ≡ outcome)) × ((other : Image) (number : Option ℕ) (fault : Fault) → RunOpened o file width height image (refused number fault) → RunOpened o file width height other (refused number fault))
-by_opening (Err fault) file width height image = ((refused None fault, refl, λ other e. e), λ other number f e. e)
-by_opening (Ok o) file width height image =
-    let only = one_file_content o.format file in
-    let run : Content → Outcome = λ content. run_steps content.steps content.fault 0 (start_of o) (surface_of o width height) image in
-    ((run only.0, (only.0, only.1, refl), λ other h. h.2 ∙ ap run (only.2 h.0 h.1)), λ other number f h. (h.0, h.1, refused_steps h.0.steps h.0.fault 0 (start_of o) (surface_of o width height) image other number f h.2))
+by_opening : ContentIsOne → (o : Result Opened Fault) (file : List ℕ) (width height : ℕ) (image : Image) → ExactlyOne (RunOpened o file width height image)
+by_opening one (Err fault) file width height image = record { value = refused None fault; holds = refl; only = λ other e. e }
+by_opening one (Ok o) file width height image =
+    let content = one_file_content one o.format file in
+    let end : Content → Outcome = λ content. outcome_of content (start_of o) (surface_for o width height) image in
+    record {
+      value = end content.value;
+      holds = record { content = content.value; of_file = content.holds; ends = refl };
+      only = λ other h. h.ends ∙ ap end (content.only h.content h.of_file);
+    }
 
-pub run_ends : RunEndsInOneWay
-run_ends file width height image = by_opening (opened file) file width height image
+pub run_ends : ContentIsOne → RunEndsInOneWay
+run_ends one file width height image = by_opening one (opened file) file width height image
 
--- a run of an opened file whose records have this content
-pub opened_run : (file : List ℕ) (width height : ℕ) (image : Image) (o : Opened) (content : Content) (outcome : Outcome) → opened file ≡ Ok o → IsFileContent o.format file content → run_steps content.steps content.fault 0 (start_of o) (surface_of o width height) image ≡ outcome → Run file width height image outcome
-opened_run file width height image o content outcome e h r = subst (λ (q : Result Opened Fault). RunOpened q file width height image outcome) (sym e) (content, h, sym r)
+-- a refusal doesn't depend on the image
+refused_ended : (stop : Option Stop) (image other : Image) (number : Option ℕ) (f : Fault) → refused number f ≡ ended stop image → refused number f ≡ ended stop other
+refused_ended None image other number f e = cc
+refused_ended (Some stop) image other number f e = e
 
-pub opened_writes : (file : List ℕ) (width height writes : ℕ) (o : Opened) (content : Content) (image : Image) → opened file ≡ Ok o → IsFileContent o.format file content → run_steps content.steps content.fault 0 (start_of o) (surface_of o width height) (white width height) ≡ shown image → writes_of_steps content.steps (start_of o) (surface_of o width height) ≡ writes → Writes file width height writes
-opened_writes file width height writes o content image e h s r = subst (λ (q : Result Opened Fault). WritesOpened q file width height writes) (sym e) (content, h, subst IsShown (sym s) tt, sym r)
+refused_opened : (o : Result Opened Fault) (file : List ℕ) (width height : ℕ) (image other : Image) (number : Option ℕ) (f : Fault) → RunOpened o file width height image (refused number f) → RunOpened o file width height other (refused number f)
+refused_opened (Err fault) file width height image other number f h = h
+refused_opened (Ok o) file width height image other number f h = record {
+  content = h.content;
+  of_file = h.of_file;
+  ends = refused_ended (stopped h.content.steps h.content.fault 0 (start_of o) (surface_for o width height)) _ _ number f h.ends;
+}
 
-by_writes : (o : Result Opened Fault) (file : List ℕ) (width height : ℕ) (image : Image) → RunOpened o file width height (white width height) (shown image) → (writes : ℕ) × WritesOpened o file width height writes × ((other : ℕ) → WritesOpened o file width height other → other ≡ writes)
-by_writes (Err fault) file width height image h = absurd (cc h)
-by_writes (Ok o) file width height image h =
-    let only = one_file_content o.format file in
-    let writes : Content → ℕ = λ content. writes_of_steps content.steps (start_of o) (surface_of o width height) in
-    (writes h.0, (h.0, h.1, subst IsShown h.2 tt, refl), λ other k. k.3 ∙ ap writes (only.2 k.0 k.1) ∙ sym (ap writes (only.2 h.0 h.1)))
+pub refused_over_any : RefusedOverAnyImage
+refused_over_any file width height image other number fault h = refused_opened (opened file) file width height image other number fault h
 
-pub writes_are_one : WritesAreOne
-writes_are_one file width height image h = by_writes (opened file) file width height image h
+-- an image is shown only where nothing stops the run
+shown_unstopped : (stop : Option Stop) (image after : Image) → shown after ≡ ended stop image → stop ≡ None
+shown_unstopped None image after e = refl
+shown_unstopped (Some stop) image after e = cc
 
--- the same run, at a place and an image that are known
-pub same_run : (steps : List StepValue) (fault : Option Fault) (state : State) (s t : Surface) (i j : Image) → s ≡ t → i ≡ j → run_steps steps fault 0 state s i ≡ run_steps steps fault 0 state t j
-same_run steps fault state s t i j p q = rw (p, q) refl
+by_writes : ContentIsOne → (o : Result Opened Fault) (file : List ℕ) (width height : ℕ) (image after : Image) → RunOpened o file width height image (shown after) → ExactlyOne (WritesIfOpened o file width height)
+by_writes one (Err fault) file width height image after h = absurd (cc h)
+by_writes one (Ok o) file width height image after h =
+    let content = one_file_content one o.format file in
+    let count : Content → ℕ = λ content. writes_after content.steps (start_of o) (surface_for o width height) in
+    record {
+      value = count h.content;
+      holds = record { content = h.content; of_file = h.of_file; unstopped = shown_unstopped _ _ after h.ends; count = refl };
+      only = λ other k. k.count ∙ ap count (content.only k.content k.of_file ∙ sym (content.only h.content h.of_file));
+    }
 
--- the surface of a place
-pub placed_surface : (place : Place) (frame : Frame) (width height : ℕ) → place.frame ≡ frame → place.width ≡ width → place.height ≡ height → surface_at place ≡ record { width = width; height = height; frame_width = frame.width; frame_height = frame.height }
-placed_surface place frame width height f w h = rw (w, h, f) refl
+pub writes_are_one : ContentIsOne → WritesAreOne
+writes_are_one one file width height image after h = by_writes one (opened file) file width height image after h
 
--- one step without a fault, and its writes
-pub one_step : (old new : Content) (step : StepValue) (place : ℕ) (state : State) (s : Surface) (image after : Image) → old ≡ with_step step new → fault_of step.operation state s ≡ None → after ≡ apply_all (layers_of step.operation state) state.clip s image → run_steps old.steps old.fault place state s image ≡ run_steps new.steps new.fault (place + 1) state s after
-one_step old new step place state s image after e f a = rw (e, f, a, add-one) refl
+-- one step without a fault: where the run stops, its image and its writes
+pub one_stop : (old new : Content) (step : StepValue) (number : ℕ) (state : State) (s : Surface) → old ≡ with_step step new → fault_of step.operation state s ≡ None → stopped old.steps old.fault number state s ≡ stopped new.steps new.fault (number + 1) (next step.operation state) s
+one_stop old new step number state s e f = rw (e, f, add-one) refl
 
-pub one_write : (old new : Content) (step : StepValue) (state : State) (s : Surface) (writes after total : ℕ) → old ≡ with_step step new → after ≡ writes + writes_of_layers (layers_of step.operation state) state.clip s → total ≡ writes + writes_of_steps old.steps state s → total ≡ after + writes_of_steps new.steps state s
+pub one_image : (old new : Content) (step : StepValue) (state : State) (s : Surface) (image after : Image) → old ≡ with_step step new → after ≡ drawn step.operation state s image → image_after old.steps state s image ≡ image_after new.steps (next step.operation state) s after
+one_image old new step state s image after e a = rw (e, a) refl
+
+pub one_write : (old new : Content) (step : StepValue) (state : State) (s : Surface) (writes after total : ℕ) → old ≡ with_step step new → after ≡ writes + writes_of step.operation state s → total ≡ writes + writes_after old.steps state s → total ≡ after + writes_after new.steps (next step.operation state) s
 one_write old new step state s writes after total e a t =
-    let first : writes_of_steps old.steps state s ≡ writes_of_layers (layers_of step.operation state) state.clip s + writes_of_steps new.steps state s = rw e refl in
+    let first : writes_after old.steps state s ≡ writes_of step.operation state s + writes_after new.steps (next step.operation state) s = rw e refl in
     omega arith
 
 -- one step is one less to come

@@ -56,9 +56,13 @@ drawn_points (Some drawing) = points_of drawing
 abbrev pub points_placed : Operation → State → List Point
 points_placed operation state = drawn_points (drawing_of operation state)
 
--- the fault that depends on the surface, and comes last: one of these points doesn't land
+-- one of these points of the plane doesn't land
+abbrev pub off_plane : List Point → Surface → Option Fault
+off_plane points s = if list_all (lands s) points then None else Some OffPlane
+
+-- the fault that depends on the surface, and comes last
 abbrev pub place_fault : Operation → State → Surface → Option Fault
-place_fault operation state s = if list_all (lands s) (points_placed operation state) then None else Some OffPlane
+place_fault operation state s = off_plane (points_placed operation state) s
 
 -- the first fault of an operation
 abbrev pub fault_of : Operation → State → Surface → Option Fault

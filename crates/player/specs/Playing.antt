@@ -1,8 +1,14 @@
 -- The playing state of the code: a page map over a place, and no record changes it so far.
 use Rattle.std.specs.Prelude.{None}
+use Rattle.mapping.specs.declared.geometry.Point.{Point}
 use Rattle.mapping.specs.PageMap.{map_numbers}
+use Rattle.mapping.specs.Plane.{plane_point}
 use Rattle.player.specs.State.{State, start_state}
 use Rattle.player.specs.declared.placed_map.PlacedMap.{PlacedMap}
 
 abbrev pub state_of : PlacedMap → State
 state_of on = start_state (map_numbers on.map) None
+
+-- the plane point of a page point
+abbrev pub on_plane : PlacedMap → Point → Point
+on_plane on point = plane_point (map_numbers on.map) point.x point.y

@@ -3,6 +3,7 @@
 ghost use Rattle.std.specs.Prelude.{◌≡◌, ◌+◌, ◌<◌, ◌≤◌, ◌^◌, IfErr, OnOk, OnErr};
 ghost use Rattle.std.specs.Result.{result_err};
 ghost use Rattle.draw_ops.specs.Fault.{IsInRecord};
+ghost use Rattle.draw_ops.specs.Operation.{pixel};
 ghost use Rattle.draw_ops.specs.OperationOf.{operation_of};
 ghost use Rattle.player.specs.Dot.{dots, dotted, indexes_of};
 ghost use Rattle.player.specs.Plays.{Draws, IsWhole, SameRows, fault_on};
@@ -25,14 +26,26 @@ pub(crate) fn draw(op: Op<'_>, on: &PlacedMap, canvas: &mut Canvas) -> Result<()
 {
     match op {
         Op::NoEffect => Ok(()),
-        Op::Pixel { point, colour } => {
-            let placed = on.place_page_point(point)?;
-            put(placed, colour, canvas);
-            Ok(())
-        }
+        Op::Pixel { point, colour } => dot(point, colour, on, canvas),
         // Nothing that this player's source gives: no record means such an operation yet.
         _ => Err(Fault::Unsupported(0)),
     }
+}
+
+/// Draws a pixel, or tells that it doesn't land.
+fn dot(point: Point, colour: Colour, on: &PlacedMap, canvas: &mut Canvas) -> Result<(), Fault>
+    requires whole { IsWhole canvas.old on.now.place }
+    requires countable { canvas.old.writes + 1 < 2 ^ 64 }
+    ensures fault { fault_on (pixel point colour) on.now ≡ result_err result }
+    ensures drawn { OnOk result (Draws (pixel point colour) on.now canvas.old canvas.new) }
+    ensures rows { SameRows canvas.old canvas.new }
+    ensures few { canvas.new.writes ≤ canvas.old.writes + 1 }
+    ensures kept { OnErr result (canvas.new ≡ canvas.old) }
+    ensures in_record { IfErr result IsInRecord }
+{
+    let placed = on.place_page_point(point)?;
+    put(placed, colour, canvas);
+    Ok(())
 }
 
 /// Writes the pixel that a placed point is, if the surface has it.

@@ -1,12 +1,13 @@
 //! Where page points land: on the plane by a page map, and from there on a surface.
 
-ghost use Rattle.std.specs.Prelude.{◌≡◌, if◌then◌else◌, Some, None, IfOk, IfErr, SomeIff, is_some};
+ghost use Rattle.std.specs.Prelude.{◌≡◌, [], ◌∷◌, IfOk, IfErr, SomeIff, is_some};
 ghost use Rattle.std.specs.Result.{result_err};
 ghost use Rattle.draw_ops.specs.Fault.{IsInRecord};
 ghost use Rattle.mapping.specs.PageMap.{map_numbers};
 ghost use Rattle.mapping.specs.Plane.{IsOnPlane, is_on_plane, plane_point};
 ghost use Rattle.mapping.specs.PlaceOf.{surface_of};
-ghost use Rattle.mapping.specs.Surface.{lands, placed_point};
+ghost use Rattle.mapping.specs.Surface.{placed_point};
+ghost use Rattle.player.specs.OperationFault.{off_plane};
 
 use draw_ops::Fault;
 use mapping::{PageMap, Place, Point};
@@ -21,16 +22,16 @@ pub(crate) struct PlacedMap {
 }
 
 impl PlacedMap {
+    ghost use Rattle.player.specs.Playing.{on_plane};
+
     /// The placed point of a page point, or `OffPlane` where it leaves the plane or the range of placed
     /// coordinates.
     pub(crate) fn place_page_point(&self, point: Point) -> Result<Point, Fault>
-        ensures fault { let there = plane_point (map_numbers self.now.map) point.x point.y in
-            (if lands (surface_of self.now.place) there then None else Some Fault.OffPlane) ≡ result_err result }
-        ensures point { let there = plane_point (map_numbers self.now.map) point.x point.y in
-            IfOk result (λ placed. placed ≡ placed_point (surface_of self.now.place) there) }
+        ensures fault { off_plane (on_plane self.now point ∷ []) (surface_of self.now.place) ≡ result_err result }
+        ensures point { IfOk result (λ placed. placed ≡ placed_point (surface_of self.now.place) (on_plane self.now point)) }
         ensures in_record { IfErr result IsInRecord }
     {
-        let Some(point) = on_plane(point, &self.map) else {
+        let Some(point) = plane_point(point, &self.map) else {
             return Err(Fault::OffPlane);
         };
         let Some(placed) = self.place.place(point) else {
@@ -41,7 +42,7 @@ impl PlacedMap {
 }
 
 /// The plane point of a page point, or none where it would leave the plane.
-fn on_plane(point: Point, map: &PageMap) -> Option<Point>
+fn plane_point(point: Point, map: &PageMap) -> Option<Point>
     ensures point { let there = plane_point (map_numbers map.now) point.x point.y in SomeIff result (IsOnPlane there) there }
     ensures test { is_some result ≡ is_on_plane (plane_point (map_numbers map.now) point.x point.y) }
 {
