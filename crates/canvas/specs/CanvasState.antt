@@ -1,7 +1,7 @@
 -- What a canvas is to its callers.
 use Rattle.std.specs.Prelude.{ℕ, ◌+◌, ◌-◌, ◌*◌, ◌<◌, ◌≤◌, List, replicate}
 use Rattle.mapping.specs.declared.geometry.Colour.{Colour}
-use Rattle.canvas.specs.Image.{Image}
+use Rattle.mapping.specs.Image.{Image}
 
 -- the rows that a canvas holds of its surface, from `first` on, with their colours, and how many pixels were written
 pub record CanvasState : Type 0 where

@@ -3,7 +3,7 @@ use Rattle.std.specs.Prelude.{◌≡◌, ℕ, List, [], ◌∷◌, ◌++◌, cod
 use Rattle.std.specs.List.{flat_map}
 use Rattle.std.specs.Io.KnownBytes.{Appends}
 use Rattle.mapping.specs.declared.geometry.Colour.{Colour}
-use Rattle.canvas.specs.Image.{Image}
+use Rattle.mapping.specs.Image.{Image}
 
 -- the magic number, the two sides in decimal digits, and the greatest value of a sample
 abbrev pub header : ℕ → ℕ → List ℕ

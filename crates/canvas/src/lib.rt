@@ -14,8 +14,6 @@
 mod canvas_error;
 mod ppm;
 mod surface;
-#[cfg(test)]
-mod tests;
 
 pub use canvas_error::{OutOfMemory, WriteFault};
 pub use surface::Canvas;

@@ -3,15 +3,16 @@ use Rattle.std.proofs.Common.{◌≡◌, ℕ, zero, suc, ◌-◌, ◌≤◌, Boo
 use Rattle.draw_ops.specs.declared.fault.Fault.{Fault}
 use Rattle.draw_ops.specs.Content.{Content, StepValue, nothing_left}
 use Rattle.draw_ops.specs.ExactlyOne.{ExactlyOne}
-use Rattle.draw_ops.specs.Meaning.{Meaning, MeantValue, step_at}
-use Rattle.draw_ops.specs.Reading.{content_from, first_of, first_then}
+use Rattle.draw_ops.specs.Meaning.{Meaning, MeantValue, step_meant}
+use Rattle.draw_ops.specs.Reading.{content_from, front_step, first_then}
 use Rattle.draw_ops.specs.RecordContent.{IsContent, ContentIsOne, content_of}
 use Rattle.draw_ops.specs.Records.{Framing, Record, Framed, framing_fault, kind_of, front_of, rest_of, record_limit}
 use Rattle.draw_ops.specs.Results.{result_map, result_unless}
-use Rattle.draw_ops.proofs.FramedLemmas.{framed_from, from_fault, from_last, is_framed, only_way, too_many}
+use Rattle.draw_ops.specs.Framed.{framed_from, from_fault, from_record}
+use Rattle.draw_ops.proofs.FramedLemmas.{is_framed, only_way, too_many}
 
 -- the record in front by its meaning, and whether it ends the file
-by_meaning : (f : Framing) (meaning : Meaning) (number : ℕ) (bytes : List ℕ) (m : Result MeantValue Fault) (b : Bool) (rest : Content) (framed : Framed) → meaning number (front_of f bytes) ≡ m → eqb (kind_of f bytes) f.last ≡ b → rest ≡ content_of f meaning (suc number) framed → first_then f bytes (result_map (step_at b (rest_of f bytes) number) m) rest ≡ content_of f meaning number (from_last b (front_of f bytes) (rest_of f bytes) framed)
+by_meaning : (f : Framing) (meaning : Meaning) (number : ℕ) (bytes : List ℕ) (m : Result MeantValue Fault) (b : Bool) (rest : Content) (framed : Framed) → meaning number (front_of f bytes) ≡ m → eqb (kind_of f bytes) f.end_kind ≡ b → rest ≡ content_of f meaning (suc number) framed → first_then f bytes (result_map (step_meant b (rest_of f bytes) number) m) rest ≡ content_of f meaning number (from_record b (front_of f bytes) (rest_of f bytes) framed)
 by_meaning f meaning number bytes (Err fault) true rest framed p q e = rw p refl
 by_meaning f meaning number bytes (Err fault) false rest framed p q e = rw p refl
 by_meaning f meaning number bytes (Ok meant) true rest framed p q e = rw (p, q) refl
@@ -47,11 +48,11 @@ one_content f meaning bytes = record {
 }
 
 -- one record further on
-stepped : (f : Framing) (meaning : Meaning) (room number : ℕ) (bytes : List ℕ) → number ≤ record_limit → room ≡ record_limit - number → content_from f meaning room number bytes ≡ first_then f bytes (first_of f meaning number bytes) (content_from f meaning (record_limit - suc number) (suc number) (rest_of f bytes))
+stepped : (f : Framing) (meaning : Meaning) (room number : ℕ) (bytes : List ℕ) → number ≤ record_limit → room ≡ record_limit - number → content_from f meaning room number bytes ≡ first_then f bytes (front_step f meaning number bytes) (content_from f meaning (record_limit - suc number) (suc number) (rest_of f bytes))
 stepped f meaning zero number bytes h e = let full = too_many f number bytes (omega arith) in rw full refl
 stepped f meaning (suc room) number bytes h e = let next : room ≡ record_limit - suc number = omega arith in rw next refl
 
-pub content_step : (f : Framing) (meaning : Meaning) (number : ℕ) (bytes : List ℕ) → number ≤ record_limit → content_from f meaning (record_limit - number) number bytes ≡ first_then f bytes (first_of f meaning number bytes) (content_from f meaning (record_limit - suc number) (suc number) (rest_of f bytes))
+pub content_step : (f : Framing) (meaning : Meaning) (number : ℕ) (bytes : List ℕ) → number ≤ record_limit → content_from f meaning (record_limit - number) number bytes ≡ first_then f bytes (front_step f meaning number bytes) (content_from f meaning (record_limit - suc number) (suc number) (rest_of f bytes))
 content_step f meaning number bytes h = stepped f meaning (record_limit - number) number bytes h refl
 
 -- there are no more steps than room
@@ -61,9 +62,9 @@ short_cond false rest room h = h
 
 short_first : (f : Framing) (bytes : List ℕ) (first : Result StepValue Fault) (rest : Content) (room : ℕ) → length rest.steps ≤ room → length (first_then f bytes first rest).steps ≤ suc room
 short_first f bytes (Err fault) rest room h = omega arith
-short_first f bytes (Ok first) rest room h = let shorter = short_cond (eqb (kind_of f bytes) f.last) rest room h in omega arith
+short_first f bytes (Ok first) rest room h = let shorter = short_cond (eqb (kind_of f bytes) f.end_kind) rest room h in omega arith
 
 pub content_short : (f : Framing) (meaning : Meaning) (room number : ℕ) (bytes : List ℕ) → length (content_from f meaning room number bytes).steps ≤ room
 content_short f meaning zero number bytes = omega arith
 content_short f meaning (suc room) number bytes =
-    short_first f bytes (first_of f meaning number bytes) _ room (content_short f meaning room (suc number) (rest_of f bytes))
+    short_first f bytes (front_step f meaning number bytes) _ room (content_short f meaning room (suc number) (rest_of f bytes))

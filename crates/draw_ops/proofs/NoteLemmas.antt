@@ -1,7 +1,6 @@
 -- Lists of counts added one count after another, as a loop does it.
-use Rattle.std.proofs.Common.{◌≡◌, ℕ, zero, suc, ◌+◌, ◌<◌, ◌≤◌, List, [], ◌∷◌, length, refl, ap, arith, add-one}
+use Rattle.std.proofs.Common.{◌≡◌, ℕ, zero, suc, ◌+◌, ◌<◌, min, List, [], ◌∷◌, length, refl, ap, arith, add-one}
 use Rattle.std.proofs.Math.ListN.{get_or, set}
-use Rattle.std.specs.List.{All}
 use Rattle.draw_ops.specs.NoteCounts.{note_limit, added_notes}
 
 -- the first counts added, and the others as they were
@@ -9,7 +8,7 @@ abbrev pub added_front : ℕ → List ℕ → List ℕ → List ℕ
 added_front zero counts more = counts
 added_front (suc i) [] more = []
 added_front (suc i) (count ∷ counts) [] = count ∷ counts
-added_front (suc i) (count ∷ counts) (m ∷ more) = (count + m) ∷ added_front i counts more
+added_front (suc i) (count ∷ counts) (m ∷ more) = min (count + m) note_limit ∷ added_front i counts more
 
 get_or-added_front : (i : ℕ) (counts more : List ℕ) → get_or (added_front i counts more) i 0 ≡ get_or counts i 0
 get_or-added_front zero counts more = refl
@@ -17,22 +16,12 @@ get_or-added_front (suc i) [] more = refl
 get_or-added_front (suc i) (count ∷ counts) [] = refl
 get_or-added_front (suc i) (count ∷ counts) (m ∷ more) = get_or-added_front i counts more
 
-get_or-added_notes : (i : ℕ) (counts more : List ℕ) → i < length counts → length counts ≡ length more → get_or (added_notes counts more) i 0 ≡ get_or counts i 0 + get_or more i 0
-get_or-added_notes i [] more inside same = absurd (omega arith)
-get_or-added_notes i (count ∷ counts) [] inside same = absurd (omega arith)
-get_or-added_notes zero (count ∷ counts) (m ∷ more) inside same = refl
-get_or-added_notes (suc i) (count ∷ counts) (m ∷ more) inside same = get_or-added_notes i counts more (omega arith) (omega arith)
-
-length-added_notes : (counts more : List ℕ) → length counts ≡ length more → length (added_notes counts more) ≡ length counts
-length-added_notes [] more same = refl
-length-added_notes (count ∷ counts) [] same = absurd (omega arith)
-length-added_notes (count ∷ counts) (m ∷ more) same = ap suc (length-added_notes counts more (omega arith))
-
-set-added_front : (i : ℕ) (counts more : List ℕ) → i < length counts → length counts ≡ length more → set (added_front i counts more) i (get_or counts i 0 + get_or more i 0) ≡ added_front (suc i) counts more
+set-added_front : (i : ℕ) (counts more : List ℕ) → i < length counts → length counts ≡ length more → set (added_front i counts more) i (min (get_or counts i 0 + get_or more i 0) note_limit) ≡ added_front (suc i) counts more
 set-added_front i [] more inside same = absurd (omega arith)
 set-added_front i (count ∷ counts) [] inside same = absurd (omega arith)
 set-added_front zero (count ∷ counts) (m ∷ more) inside same = refl
-set-added_front (suc i) (count ∷ counts) (m ∷ more) inside same = ap (λ rest. (count + m) ∷ rest) (set-added_front i counts more (omega arith) (omega arith))
+set-added_front (suc i) (count ∷ counts) (m ∷ more) inside same =
+    ap (λ rest. min (count + m) note_limit ∷ rest) (set-added_front i counts more (omega arith) (omega arith))
 
 -- when all are added
 pub added_front-all : (i : ℕ) (counts more : List ℕ) → i ≡ length counts → length counts ≡ length more → added_front i counts more ≡ added_notes counts more
@@ -40,17 +29,11 @@ added_front-all zero [] more ends same = refl
 added_front-all (suc i) [] more ends same = absurd (omega arith)
 added_front-all i (count ∷ counts) [] ends same = absurd (omega arith)
 added_front-all zero (count ∷ counts) (m ∷ more) ends same = absurd (omega arith)
-added_front-all (suc i) (count ∷ counts) (m ∷ more) ends same = ap (λ rest. (count + m) ∷ rest) (added_front-all i counts more (omega arith) (omega arith))
-
--- the next sum is within the limit
-pub next_within : (i : ℕ) (counts more now : List ℕ) → i < length counts → length counts ≡ length more → All (λ count. count ≤ note_limit) (added_notes counts more) → now ≡ added_front i counts more → get_or now i 0 + get_or more i 0 ≤ note_limit
-next_within i counts more now inside same limited is =
-    let sum_within : get_or (added_notes counts more) i 0 ≤ note_limit = limited i 0 (omega (arith, length-added_notes counts more same)) in
-    rw is (omega (arith, sum_within, get_or-added_front i counts more, get_or-added_notes i counts more inside same))
+added_front-all (suc i) (count ∷ counts) (m ∷ more) ends same = ap (λ rest. min (count + m) note_limit ∷ rest) (added_front-all i counts more (omega arith) (omega arith))
 
 -- one more is added
-pub next_added : (i : ℕ) (counts more now : List ℕ) → i < length counts → length counts ≡ length more → now ≡ added_front i counts more → set now i (get_or now i 0 + get_or more i 0) ≡ added_front (i + 1) counts more
+pub next_added : (i : ℕ) (counts more now : List ℕ) → i < length counts → length counts ≡ length more → now ≡ added_front i counts more → set now i (min (get_or now i 0 + get_or more i 0) note_limit) ≡ added_front (i + 1) counts more
 next_added i counts more now inside same is = rw (is, get_or-added_front i counts more, add-one) (set-added_front i counts more inside same)
 
 -- what the tactics take to a sum of notes
-pub ruleset sums = (added_front-all, next_within, next_added)
+pub ruleset sums = (added_front-all, next_added)

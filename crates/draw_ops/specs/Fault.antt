@@ -1,6 +1,6 @@
 -- What a fault shows beside its row of the table.
-use Rattle.std.specs.Prelude.{ℕ, List, [], ◌++◌, Option, Some, None, decimal, codes, ◌≤◌}
-use Rattle.draw_ops.specs.FaultTable.{row_of}
+use Rattle.std.specs.Prelude.{ℕ, List, [], ◌++◌, Option, Some, None, decimal, codes, IsTrue}
+use Rattle.draw_ops.specs.FaultTable.{fault_row}
 use Rattle.draw_ops.specs.declared.fault.Fault.{Fault}
 use Rattle.draw_ops.specs.declared.fault.Fault.TheVariants.{UnknownRecord, Unsupported}
 
@@ -17,9 +17,8 @@ kind_text (Some kind) = codes " " ++ decimal kind
 
 -- a fault's text: its name, and behind it the record's kind
 abbrev pub text_of : Fault → List ℕ
-text_of fault = (row_of fault).name ++ kind_text (record_kind_of fault)
+text_of fault = (fault_row fault).name ++ kind_text (record_kind_of fault)
 
 -- the fault lies in a record, so a refusal says in which
-pub record IsInRecord (fault : Fault) : Type 0 where
-  pub from_framing : 10 ≤ (row_of fault).code
-  pub to_entries : (row_of fault).code ≤ 39
+abbrev pub IsInRecord : Fault → Type 0
+IsInRecord fault = IsTrue (fault_row fault).in_record

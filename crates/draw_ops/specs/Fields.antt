@@ -1,13 +1,18 @@
 -- Fields that records of both formats have.
 use Rattle.std.specs.Prelude.{ℕ, ◌+◌, Bool, ◌||◌, ◌==◌, nat_lt, if◌then◌else◌, List, length, Result, Ok, Err}
 use Rattle.mapping.specs.declared.geometry.Colour.{Colour}
-use Rattle.point_views.specs.Numbers.{number_at}
+use Rattle.mapping.specs.declared.geometry.Point.{Point}
+use Rattle.point_views.specs.Numbers.{number_at, i16_at}
 use Rattle.draw_ops.specs.declared.fault.Fault.{Fault}
 use Rattle.draw_ops.specs.declared.fault.Fault.TheVariants.{BadParams, PaletteColour}
 
--- a record's parameters, which end before this place, are there, or it has bad parameters
-abbrev pub params : {T : Type 0} → ℕ → List ℕ → Result T Fault → Result T Fault
-params end bytes value = if nat_lt (length bytes) end then Err BadParams else value
+-- a record of fewer bytes than its parameters need has bad parameters
+abbrev pub needs_bytes : {T : Type 0} → ℕ → List ℕ → Result T Fault → Result T Fault
+needs_bytes count bytes value = if nat_lt (length bytes) count then Err BadParams else value
+
+-- the point at a place, of which WMF's records have y before x, two bytes each
+abbrev pub yx_at : ℕ → List ℕ → Point
+yx_at place bytes = record { x = i16_at (place + 2) bytes; y = i16_at place bytes }
 
 -- The type of a colour, the byte behind its blue ([MS-WMF] 2.2.2.8, reserved), is one of red, green and blue: 0 or 2, by a rule of our own.
 abbrev pub is_rgb : ℕ → Bool

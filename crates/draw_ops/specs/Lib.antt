@@ -17,6 +17,7 @@ pub mod StepOf
 pub mod Gives
 pub mod Counted
 pub mod Records
+pub mod Framed
 pub mod Meaning
 pub mod RecordContent
 pub mod RecordOf

@@ -9,7 +9,7 @@ use Rattle.draw_ops.specs.Results.{result_map}
 use Rattle.draw_ops.specs.declared.fault.Fault.{Fault}
 use Rattle.draw_ops.specs.declared.note.Note.TheVariants.{AfterEnd}
 
--- an operation, and the kinds that are noted
+-- an operation, and what is to be noted with it: for each kind 1, or else 0
 pub record MeantValue : Type 0 where
   pub operation : Operation
   pub notes : List ℕ
@@ -22,15 +22,15 @@ Meaning = ℕ → Record → Result MeantValue Fault
 abbrev pub end_notes : Bool → List ℕ → List ℕ → List ℕ
 end_notes false behind notes = notes
 end_notes true [] notes = notes
-end_notes true (byte ∷ bytes) notes = noted AfterEnd notes
+end_notes true (byte ∷ bytes) notes = noted notes AfterEnd
 
 -- the step of the record with this number
-abbrev pub step_at : Bool → List ℕ → ℕ → MeantValue → StepValue
-step_at is_last behind number meant = record { number = number; operation = meant.operation; notes = end_notes is_last behind meant.notes }
+abbrev pub step_meant : Bool → List ℕ → ℕ → MeantValue → StepValue
+step_meant is_last behind number meant = record { number = number; operation = meant.operation; notes = end_notes is_last behind meant.notes }
 
 -- the step of a record, where these bytes lie behind the end record, or its fault
 abbrev pub step_of : Framing → Meaning → List ℕ → ℕ → Record → Result StepValue Fault
-step_of f meaning behind number r = result_map (step_at (r.kind == f.last) behind number) (meaning number r)
+step_of f meaning behind number r = result_map (step_meant (r.kind == f.end_kind) behind number) (meaning number r)
 
 -- an operation of which nothing is to be noted
 abbrev pub unnoted : Operation → MeantValue

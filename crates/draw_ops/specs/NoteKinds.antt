@@ -4,9 +4,9 @@ use Rattle.draw_ops.specs.NoteTable.{note_row_of}
 use Rattle.draw_ops.specs.declared.note.Note.{Note}
 
 -- a kind is noted
-abbrev pub is_noted : Note → List ℕ → Bool
-is_noted note kinds = slice_index kinds (note_row_of note).place == 1
+abbrev pub is_noted : List ℕ → Note → Bool
+is_noted notes note = slice_index notes (note_row_of note).index == 1
 
 -- one kind is noted, and each other as before
-abbrev pub noted : Note → List ℕ → List ℕ
-noted note kinds = slice_set kinds (note_row_of note).place 1
+abbrev pub noted : List ℕ → Note → List ℕ
+noted notes note = slice_set notes (note_row_of note).index 1

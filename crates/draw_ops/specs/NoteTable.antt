@@ -1,16 +1,17 @@
--- The table of notes: the place and the name of each kind.
+-- The table of notes: the index and the name of each kind.
 use Rattle.std.specs.Prelude.{ℕ, List, codes}
 use Rattle.draw_ops.specs.declared.note.Note.{Note}
 use Rattle.draw_ops.specs.declared.note.Note.TheVariants.{PlaceableChecksum, PlaceableFields, SizeField, AfterEnd, DashedPen, WidePen, Isotropic, EmfPlus, Skipped}
 
--- the place of a kind's count among the counts, and the kind's name
+-- the index of a kind's count among the counts, and the kind's name
 pub record NoteRow : Type 0 where
-  pub place : ℕ
+  pub index : ℕ
   pub name : List ℕ
 
 abbrev note_row : ℕ → List ℕ → NoteRow
-note_row place name = record { place = place; name = name }
+note_row index name = record { index = index; name = name }
 
+-- the row of each kind
 abbrev pub note_row_of : Note → NoteRow
 note_row_of PlaceableChecksum = note_row 0 (codes "PlaceableChecksum")
 note_row_of PlaceableFields = note_row 1 (codes "PlaceableFields")

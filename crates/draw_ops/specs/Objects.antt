@@ -11,7 +11,7 @@ use Rattle.draw_ops.specs.declared.objects.Pen.{Pen}
 use Rattle.draw_ops.specs.declared.objects.Tile.{Tile}
 
 -- a picture that is repeated: its sides, and its colours row by row from the top
-pub record TileValue : Type 0 where
+pub record Picture : Type 0 where
   pub width : ℕ
   pub height : ℕ
   pub colours : List Colour
@@ -21,7 +21,7 @@ pub data BrushValue : Type 0 where
   solid_brush : Colour → BrushValue
   null_brush : BrushValue
   hatched_brush : Hatch → Colour → BrushValue
-  tile_brush : TileValue → BrushValue
+  tile_brush : Picture → BrushValue
 
 -- an object: a pen, a brush, or one that draws nothing
 pub data ObjectValue : Type 0 where
@@ -31,15 +31,15 @@ pub data ObjectValue : Type 0 where
   palette_object : ObjectValue
 
 -- the value of a tile of the code
-abbrev pub tile_value_of : Tile → TileValue
-tile_value_of tile = record { width = tile.width; height = tile.height; colours = tile.colours.now }
+abbrev pub picture_of : Tile → Picture
+picture_of tile = record { width = tile.width; height = tile.height; colours = tile.colours.now }
 
 -- the value of a brush of the code
 abbrev pub brush_value_of : Brush → BrushValue
 brush_value_of (Solid colour) = solid_brush colour
 brush_value_of Null = null_brush
 brush_value_of (Hatched hatch colour) = hatched_brush hatch colour
-brush_value_of (Tiled tile) = tile_brush (tile_value_of tile)
+brush_value_of (Tiled tile) = tile_brush (picture_of tile)
 
 -- the value of an object of the code
 abbrev pub object_value_of : Object → ObjectValue

@@ -23,9 +23,9 @@ raster_op_code MergePen = 15
 raster_op_code White = 16
 
 -- every operation
-abbrev pub raster_ops : List RasterOp
-raster_ops = Black ∷ NotMergePen ∷ MaskNotPen ∷ NotCopyPen ∷ MaskPenNot ∷ Not ∷ XorPen ∷ NotMaskPen ∷ MaskPen ∷ NotXorPen ∷ Nop ∷ MergeNotPen ∷ CopyPen ∷ MergePenNot ∷ MergePen ∷ White ∷ []
+abbrev pub all_raster_ops : List RasterOp
+all_raster_ops = Black ∷ NotMergePen ∷ MaskNotPen ∷ NotCopyPen ∷ MaskPenNot ∷ Not ∷ XorPen ∷ NotMaskPen ∷ MaskPen ∷ NotXorPen ∷ Nop ∷ MergeNotPen ∷ CopyPen ∷ MergePenNot ∷ MergePen ∷ White ∷ []
 
 -- the operation with this number
 abbrev pub raster_op_of : ℕ → Option RasterOp
-raster_op_of code = find (λ op. raster_op_code op == code) raster_ops
+raster_op_of code = find (λ op. raster_op_code op == code) all_raster_ops

@@ -11,19 +11,19 @@ use Rattle.draw_ops.specs.declared.record_ops.Reading.{Reading}
 use Rattle.draw_ops.specs.declared.record_ops.Reading.TheVariants.{Records, Ended, Failed}
 
 -- the step of the record in front, which has this number, or its first fault
-abbrev pub first_of : Framing → Meaning → ℕ → List ℕ → Result StepValue Fault
-first_of f meaning number bytes = result_unless (framing_fault f number bytes) (step_of f meaning (rest_of f bytes) number (front_of f bytes))
+abbrev pub front_step : Framing → Meaning → ℕ → List ℕ → Result StepValue Fault
+front_step f meaning number bytes = result_unless (framing_fault f number bytes) (step_of f meaning (rest_of f bytes) number (front_of f bytes))
 
 -- the step in front, and what is left behind its record, which is nothing behind the end record
 abbrev pub first_then : Framing → List ℕ → Result StepValue Fault → Content → Content
 first_then f bytes (Err fault) rest = broken_by fault
-first_then f bytes (Ok step) rest = with_step step (if kind_of f bytes == f.last then nothing_left else rest)
+first_then f bytes (Ok step) rest = with_step step (if kind_of f bytes == f.end_kind then nothing_left else rest)
 
 -- the content of the bytes from the record with this number on, of which at most so many records may come
 abbrev pub content_from : Framing → Meaning → ℕ → ℕ → List ℕ → Content
 content_from f meaning zero number bytes = broken_by TooManyRecords
 content_from f meaning (suc room) number bytes =
-    first_then f bytes (first_of f meaning number bytes) (content_from f meaning room (suc number) (rest_of f bytes))
+    first_then f bytes (front_step f meaning number bytes) (content_from f meaning room (suc number) (rest_of f bytes))
 
 -- what is left at a state of reading
 abbrev pub content_left : Framing → Meaning → Reading → ℕ → List ℕ → Content

@@ -6,15 +6,15 @@ use Rattle.draw_ops.specs.declared.fault.Fault.{Fault}
 use Rattle.draw_ops.specs.declared.fault.Fault.TheVariants.{TooManyRecords, NoEnd, ShortRecord, PastEnd}
 
 -- what differs between the formats: how long a record's head is, where in it the size and the kind (its function or type) stand,
--- in which units and multiples the size counts, how many bytes the kind has, and which one ends the file
+-- in which units and multiples the size counts, how many bytes the kind has, and which kind ends the file
 pub record Framing : Type 0 where
-  pub head : ℕ
+  pub head_length : ℕ
   pub size_place : ℕ
   pub unit : ℕ
   pub multiple : ℕ
   pub kind_place : ℕ
   pub kind_length : ℕ
-  pub last : ℕ
+  pub end_kind : ℕ
 
 -- a record by its kind, and its bytes with the head
 pub record Record : Type 0 where
@@ -30,17 +30,18 @@ abbrev pub size_of : Framing → List ℕ → ℕ
 size_of f bytes = f.unit * number_at 4 f.size_place bytes
 
 -- a record may have this size: it has a head, and is a multiple
-abbrev pub is_size : Framing → ℕ → Bool
-is_size f size = nat_le f.head size && size % f.multiple == 0
+abbrev pub may_be_size : Framing → ℕ → Bool
+may_be_size f size = nat_le f.head_length size && size % f.multiple == 0
 
 -- the kind that the head in front gives
 abbrev pub kind_of : Framing → List ℕ → ℕ
 kind_of f bytes = number_at f.kind_length f.kind_place bytes
 
--- the record in front, if it is good, and the bytes behind it
+-- the record in front, if it is good
 abbrev pub front_of : Framing → List ℕ → Record
 front_of f bytes = record { kind = kind_of f bytes; bytes = take (size_of f bytes) bytes }
 
+-- the bytes behind that record
 abbrev pub rest_of : Framing → List ℕ → List ℕ
 rest_of f bytes = drop (size_of f bytes) bytes
 
@@ -48,25 +49,35 @@ rest_of f bytes = drop (size_of f bytes) bytes
 abbrev pub framing_fault : Framing → ℕ → List ℕ → Option Fault
 framing_fault f number bytes =
     if nat_le record_limit number then Some TooManyRecords
-    else (if nat_lt (length bytes) f.head then Some NoEnd
-    else (if not (is_size f (size_of f bytes)) then Some ShortRecord
+    else (if nat_lt (length bytes) f.head_length then Some NoEnd
+    else (if not (may_be_size f (size_of f bytes)) then Some ShortRecord
     else (if nat_lt (length bytes) (size_of f bytes) then Some PastEnd else None)))
 
+-- the front is this good record, it ends the file, and these bytes lie behind it
+pub record EndsBy (f : Framing) (number : ℕ) (bytes : List ℕ) (r : Record) (behind : List ℕ) : Type 0 where
+  pub good : framing_fault f number bytes ≡ None
+  pub front : r ≡ front_of f bytes
+  pub last : r.kind ≡ f.end_kind
+  pub behind_it : behind ≡ rest_of f bytes
+
+-- the front is this good record, and it doesn't end the file
+pub record GoesOnBy (f : Framing) (number : ℕ) (bytes : List ℕ) (r : Record) : Type 0 where
+  pub good : framing_fault f number bytes ≡ None
+  pub front : r ≡ front_of f bytes
+  pub not_last : r.kind ≢ f.end_kind
+
 -- The bytes, from the record with this number on, spell these records, and these bytes lie behind them: the front is a good record
--- of the kind that ends the file, and the list is that one alone; or the front is a good record of another kind, and the rest of the
--- bytes spells the rest of the list.
+-- that ends the file, and the list is that one alone; or the front is a good record that doesn't, and the rest of the bytes spells
+-- the rest of the list.
 abbrev pub Spells : Framing → ℕ → List ℕ → List Record → List ℕ → Type 0
 Spells f number bytes [] behind = ⊥
-Spells f number bytes (r ∷ []) behind =
-    (framing_fault f number bytes ≡ None) × (r ≡ front_of f bytes) × (r.kind ≡ f.last) × (behind ≡ rest_of f bytes)
-Spells f number bytes (r ∷ s ∷ rs) behind =
-    (framing_fault f number bytes ≡ None) × (r ≡ front_of f bytes) × (r.kind ≢ f.last) × Spells f (suc number) (rest_of f bytes) (s ∷ rs) behind
+Spells f number bytes (r ∷ []) behind = EndsBy f number bytes r behind
+Spells f number bytes (r ∷ s ∷ rs) behind = GoesOnBy f number bytes r × Spells f (suc number) (rest_of f bytes) (s ∷ rs) behind
 
 -- These good records without an end stand in front, from the one with this number on, and the record behind them has this fault.
 abbrev pub Broken : Framing → ℕ → List ℕ → List Record → Fault → Type 0
 Broken f number bytes [] fault = framing_fault f number bytes ≡ Some fault
-Broken f number bytes (r ∷ rs) fault =
-    (framing_fault f number bytes ≡ None) × (r ≡ front_of f bytes) × (r.kind ≢ f.last) × Broken f (suc number) (rest_of f bytes) rs fault
+Broken f number bytes (r ∷ rs) fault = GoesOnBy f number bytes r × Broken f (suc number) (rest_of f bytes) rs fault
 
 -- the records of some bytes, the fault behind them, if there is one, and the bytes behind the end record
 pub record Framed : Type 0 where
@@ -74,6 +85,7 @@ pub record Framed : Type 0 where
   pub fault : Option Fault
   pub behind : List ℕ
 
+-- without a fault the bytes are spelled, and with one they are broken, and none lie behind
 abbrev pub IsSpelledOrBroken : Framing → ℕ → List ℕ → List Record → Option Fault → List ℕ → Type 0
 IsSpelledOrBroken f number bytes records None behind = Spells f number bytes records behind
 IsSpelledOrBroken f number bytes records (Some fault) behind = Broken f number bytes records fault × (behind ≡ [])

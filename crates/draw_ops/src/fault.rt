@@ -112,19 +112,19 @@ pub enum Fault {
 }
 
 impl Fault {
-    ghost use Rattle.draw_ops.specs.FaultTable.{row_of};
+    ghost use Rattle.draw_ops.specs.FaultTable.{fault_row};
     ghost use Rattle.draw_ops.specs.Fault.{record_kind_of};
 
     /// The fault's number, from 1 on.
     pub fn code(self) -> u8
-        ensures { result ≡ (row_of self).code }
+        ensures { result ≡ (fault_row self).code }
     {
         self.row().0
     }
 
     /// The fault's name, as its variant is written.
     pub fn name(self) -> &'static str
-        ensures { result.now ≡ (row_of self).name }
+        ensures { result.now ≡ (fault_row self).name }
     {
         self.row().1
     }
@@ -143,8 +143,8 @@ impl Fault {
     /// The table of faults: the one place where a number and a name meet.
     #[rattlefmt::skip]
     fn row(self) -> (u8, &'static str)
-        ensures code { result.0 ≡ (row_of self).code }
-        ensures name { result.1.now ≡ (row_of self).name }
+        ensures code { result.0 ≡ (fault_row self).code }
+        ensures name { result.1.now ≡ (fault_row self).name }
     {
         match self {
             Fault::TooLong => (1, "TooLong"),

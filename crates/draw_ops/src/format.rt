@@ -2,9 +2,10 @@
 
 ghost use Rattle.std.specs.Prelude.{◌≡◌, ◌≤◌, IfErr, length};
 ghost use Rattle.draw_ops.specs.Fault.{IsInRecord};
-ghost use Rattle.draw_ops.specs.Meaning.{Meaning};
+ghost use Rattle.draw_ops.specs.Meaning.{Meaning, unnoted};
+ghost use Rattle.draw_ops.specs.OperationOf.{operation_of};
 ghost use Rattle.draw_ops.specs.RecordOf.{meant_of, record_of};
-ghost use Rattle.draw_ops.specs.Records.{Framing, is_size, kind_of, size_of};
+ghost use Rattle.draw_ops.specs.Records.{Framing, may_be_size, kind_of, size_of};
 ghost use Rattle.draw_ops.specs.Results.{result_map};
 
 use crate::fault::Fault;
@@ -25,6 +26,18 @@ pub struct Meant<'a> {
     pub notes: NoteSet,
 }
 
+impl<'a> Meant<'a> {
+    /// An operation of which nothing is to be noted.
+    pub fn unnoted(op: Op<'a>) -> Meant<'a>
+        ensures { meant_of result ≡ unnoted (operation_of op.entry) }
+    {
+        Meant {
+            op,
+            notes: NoteSet::none(),
+        }
+    }
+}
+
 /// A format of records: how they stand one after another, and what each means. `RecordOps` reads the
 /// records of any format.
 pub trait Format {
@@ -35,26 +48,26 @@ pub trait Format {
     ghost meaning: { Meaning };
 
     /// The length of a record's head, in bytes.
-    fn head() -> usize
-        ensures { result ≡ framing.head };
+    fn head_length() -> usize
+        ensures { result ≡ framing.head_length };
 
     /// The size in bytes that the head in front gives.
     fn size(bytes: &[u8]) -> usize
-        requires { framing.head ≤ length bytes.now }
+        requires { framing.head_length ≤ length bytes.now }
         ensures { result ≡ size_of framing bytes.now };
 
     /// Whether a record may have this size.
-    fn is_size(size: usize) -> bool
-        ensures { result ≡ is_size framing size };
+    fn may_be_size(size: usize) -> bool
+        ensures { result ≡ may_be_size framing size };
 
     /// The kind that the head in front gives.
     fn kind(bytes: &[u8]) -> u32
-        requires { framing.head ≤ length bytes.now }
+        requires { framing.head_length ≤ length bytes.now }
         ensures { result ≡ kind_of framing bytes.now };
 
     /// The kind of the record that ends a file.
-    fn last() -> u32
-        ensures { result ≡ framing.last };
+    fn end_kind() -> u32
+        ensures { result ≡ framing.end_kind };
 
     /// What the record with this number in the file means, or its first fault.
     fn read(number: u32, front: RawRecord<'_>) -> Result<Meant<'_>, Fault>

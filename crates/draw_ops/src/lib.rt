@@ -2,17 +2,21 @@
 //!
 //! # What is promised
 //!
-//! - Each fault has one number and one name, those of the table of faults (`Fault::code`,
-//!   `Fault::name`, `Fault::number`, by `row_of` and `record_number_of`).
-//! - A fault's text is its name and, where it speaks of a record's function or type, that number
-//!   (`Display`, by `text_of`).
+//! - Each fault has one code and one name, those of the table of faults (`Fault::code`,
+//!   `Fault::name`, `Fault::number`, by `fault_row` and `record_kind_of`).
+//! - A fault's text is its name and, where it speaks of a kind of record, that kind (`Display`, by
+//!   `text_of`).
 //! - A setting, a raster operation or a hatch has a value that the standard allows, since there is
-//!   none else to make, and each is made from its own number (`from_code`, by `raster_op_of` and its
-//!   like).
-//! - A count of notes is at most 1,048,576, and a note is counted under its kind alone
-//!   (`Notes::count`, `Notes::with`, `Notes::plus`).
-//! - A source gives its steps in order, each once, and then none or one fault, and the same again at
-//!   each call after that (`OpSource::next_op`, by `Gives`). `Listed` is such a source.
+//!   none else to make, and each is made from its own code (`from_code`, by `raster_op_of` and its
+//!   like), and tells it (`code`).
+//! - A record has each kind of note at most once (`NoteSet`), and a note is counted under its kind alone
+//!   (`Notes::count`, `Notes::with`, `Notes::plus`, `Notes::of`).
+//! - A source gives its steps in order, each once, and then none or one fault, which lies in a record,
+//!   and the same again at each call after that (`OpSource::next_op`, by `Gives`). `Listed` is such a
+//!   source.
+//! - A source over a file's records has what those records mean, whatever their format
+//!   (`RecordOps::new`, by `IsContent`).
+//! - Bytes are records in one way, and have one content (`records_law`, `content_law`).
 //! - What a program does with any source can be proved from the contract alone: `count_steps` counts
 //!   the steps of each source, or gives its fault.
 #![tactic(auto)]
@@ -34,12 +38,10 @@ mod record_ops;
 mod settings;
 mod source;
 mod step;
-#[cfg(test)]
-mod tests;
 
 pub use counting::count_steps;
 pub use fault::Fault;
-pub use fields::rgb_at;
+pub use fields::{rgb_at, yx_at};
 pub use format::{Format, Meant, RawRecord};
 pub use hatch::Hatch;
 pub use laws::{content_law, records_law};

@@ -35,9 +35,9 @@ impl Note {
         self.row().1
     }
 
-    /// The row of the table of notes: the place of the kind's count, and the name.
+    /// The row of the table of notes: the index of the kind's count, and the name.
     pub(crate) fn row(self) -> (usize, &'static str)
-        ensures place { result.0 ≡ (note_row_of self).place }
+        ensures index { result.0 ≡ (note_row_of self).index }
         ensures name { result.1.now ≡ (note_row_of self).name }
         ensures below { result.0 < 9 }
     {

@@ -1,8 +1,8 @@
 //! How many notes there are.
 
-ghost use Rattle.std.specs.Prelude.{◌≡◌, ◌<◌, ◌≤◌, All};
-ghost use Rattle.draw_ops.specs.NoteCounts.{note_limit, note_count, no_notes, with_note, added_notes};
-ghost use Rattle.draw_ops.specs.NoteSet.{kinds_of};
+ghost use Rattle.std.specs.Prelude.{◌≡◌};
+ghost use Rattle.draw_ops.specs.NoteCounts.{note_count, no_notes, with_note, added_notes};
+ghost use Rattle.draw_ops.specs.NoteSet.{notes_in};
 
 use crate::note::Note;
 use crate::note_set::NoteSet;
@@ -24,7 +24,7 @@ impl Notes {
 
     /// One note of each kind in a set.
     pub fn of(set: NoteSet) -> Notes
-        ensures { result.counts ≡ kinds_of set }
+        ensures { result.counts ≡ notes_in set }
     {
         Notes {
             counts: [
@@ -48,26 +48,25 @@ impl Notes {
         self.counts[note.row().0]
     }
 
-    /// One more note of a kind, and as many as before of each other kind.
+    /// One more note of a kind, and as many as before of each other kind. A count stops at 2^32 - 1, which
+    /// no file reaches.
     pub fn with(self, note: Note) -> Notes
-        requires { note_count self.counts note < note_limit }
         ensures { result.counts ≡ with_note self.counts note }
     {
         let mut counts = self.counts;
-        let place = note.row().0;
-        counts[place] += 1;
+        let index = note.row().0;
+        counts[index] = counts[index].saturating_add(1);
         Notes { counts }
     }
 
-    /// As many notes of each kind as both have together.
+    /// As many notes of each kind as both have together. A count stops at 2^32 - 1, which no file reaches.
     #[tactic(auto, using(crate::proofs::NoteLemmas::sums))]
     pub fn plus(self, other: Notes) -> Notes
-        requires { All (λ count. count ≤ note_limit) (added_notes self.counts other.counts) }
         ensures { result.counts ≡ added_notes self.counts other.counts }
     {
         let mut counts = self.counts;
         for i in 0..9 {
-            counts[i] += other.counts[i];
+            counts[i] = counts[i].saturating_add(other.counts[i]);
         }
         Notes { counts }
     }

@@ -3,8 +3,8 @@
 ghost use Rattle.std.specs.Prelude.{◌≡◌, ◌<◌, ◌≤◌, length, IfErr, IfOk, OnOk};
 ghost use Rattle.draw_ops.specs.Fault.{IsInRecord};
 ghost use Rattle.draw_ops.specs.Meaning.{end_notes};
-ghost use Rattle.draw_ops.specs.NoteSet.{kinds_of};
-ghost use Rattle.draw_ops.specs.Reading.{first_of};
+ghost use Rattle.draw_ops.specs.NoteSet.{notes_in};
+ghost use Rattle.draw_ops.specs.Reading.{front_step};
 ghost use Rattle.draw_ops.specs.RecordContent.{IsContent};
 ghost use Rattle.draw_ops.specs.RecordOf.{record_of};
 ghost use Rattle.draw_ops.specs.Records.{framing_fault, front_of, record_limit, size_of};
@@ -87,7 +87,7 @@ impl<'a, F: Format> OpSource<'a> for RecordOps<'a, F> {
                     Err(fault)
                 }
                 Ok(step) => {
-                    if F::kind(self.rest) == F::last() {
+                    if F::kind(self.rest) == F::end_kind() {
                         self.reading = Reading::Ended;
                         return Ok(Some(step));
                     }
@@ -102,8 +102,8 @@ impl<'a, F: Format> OpSource<'a> for RecordOps<'a, F> {
 
 /// The step of the record in front of the bytes, which has this number in the file, or its first fault.
 fn step<F: Format>(bytes: &[u8], number: u32) -> Result<Step<'_>, Fault>
-    ensures value { first_of F.framing F.meaning number bytes.entry.now ≡ result_map step_value_of result }
-    ensures head { OnOk result (F.framing.head ≤ length bytes.entry.now) }
+    ensures value { front_step F.framing F.meaning number bytes.entry.now ≡ result_map step_value_of result }
+    ensures head { OnOk result (F.framing.head_length ≤ length bytes.entry.now) }
     ensures within { OnOk result (size_of F.framing bytes.entry.now ≤ length bytes.entry.now) }
     ensures below_limit { OnOk result (number < record_limit) }
     ensures in_record { IfErr result IsInRecord }
@@ -114,13 +114,13 @@ fn step<F: Format>(bytes: &[u8], number: u32) -> Result<Step<'_>, Fault>
     Ok(Step {
         number,
         op: meant.op,
-        notes: with_end(meant.notes, front.kind == F::last(), behind),
+        notes: with_end(meant.notes, front.kind == F::end_kind(), behind),
     })
 }
 
 /// The notes of a record, and with the end record also that bytes lie behind it.
 fn with_end(notes: NoteSet, is_last: bool, behind: &[u8]) -> NoteSet
-    ensures { kinds_of result ≡ end_notes is_last behind.now (kinds_of notes) }
+    ensures { notes_in result ≡ end_notes is_last behind.now (notes_in notes) }
 {
     if is_last && !behind.is_empty() {
         notes.with(Note::AfterEnd)
@@ -135,7 +135,7 @@ fn front<F: Format>(bytes: &[u8], number: u32) -> Result<RawRecord<'_>, Fault>
     ensures fault { framing_fault F.framing number bytes.entry.now ≡ result_err result }
     ensures front { IfOk result (λ r. record_of r ≡ front_of F.framing bytes.entry.now) }
     ensures size { IfOk result (λ r. length r.bytes.now ≡ size_of F.framing bytes.entry.now) }
-    ensures head { OnOk result (F.framing.head ≤ length bytes.entry.now) }
+    ensures head { OnOk result (F.framing.head_length ≤ length bytes.entry.now) }
     ensures within { OnOk result (size_of F.framing bytes.entry.now ≤ length bytes.entry.now) }
     ensures below_limit { OnOk result (number < record_limit) }
     ensures in_record { IfErr result IsInRecord }
@@ -143,11 +143,11 @@ fn front<F: Format>(bytes: &[u8], number: u32) -> Result<RawRecord<'_>, Fault>
     if number >= RECORD_LIMIT {
         return Err(Fault::TooManyRecords);
     }
-    if bytes.len() < F::head() {
+    if bytes.len() < F::head_length() {
         return Err(Fault::NoEnd);
     }
     let size = F::size(bytes);
-    if !F::is_size(size) {
+    if !F::may_be_size(size) {
         return Err(Fault::ShortRecord);
     }
     if bytes.len() < size {

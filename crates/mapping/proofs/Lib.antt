@@ -1,1 +1,3 @@
 pub mod FloorLemmas
+pub mod LimitLemmas
+pub mod WorkedRows

@@ -4,4 +4,6 @@ pub mod MapMode
 pub mod Plane
 pub mod Surface
 pub mod PageMap
+pub mod Image
+pub mod Colours
 pub mod PlaceOf

@@ -1,5 +1,5 @@
 -- The limits on plane coordinates, placed coordinates and sides, as facts and as tests.
-use Rattle.std.specs.Prelude.{ℕ, ◌^◌, ◌≤◌, ℤ, pos, neg_ℤ, ◌≤ℤ◌, Bool, ◌&&◌, int_le}
+use Rattle.std.specs.Prelude.{ℕ, ◌^◌, ◌≤◌, ℤ, pos, neg_ℤ, ◌≤ℤ◌, Bool, ◌&&◌, ◌↔◌, int_le, nat_le, IsTrue}
 
 -- a plane coordinate is at most this far from 0
 unfoldable pub plane_limit : ℕ
@@ -18,8 +18,9 @@ abbrev pub frame_side_limit : ℕ
 frame_side_limit = 2 ^ 28
 
 -- the number is at most this far from 0
-abbrev pub IsWithin : ℕ → ℤ → Type 0
-IsWithin limit v = (neg_ℤ (pos limit) ≤ℤ v) × (v ≤ℤ pos limit)
+pub record IsWithin (limit : ℕ) (v : ℤ) : Type 0 where
+  pub low : neg_ℤ (pos limit) ≤ℤ v
+  pub high : v ≤ℤ pos limit
 
 -- the same, as a test
 abbrev pub is_within : ℕ → ℤ → Bool
@@ -30,7 +31,21 @@ pub record IsSurfaceSide (side : ℕ) : Type 0 where
   pub not_empty : 1 ≤ side
   pub within : side ≤ surface_side_limit
 
+-- the same, as a test
+abbrev pub is_surface_side : ℕ → Bool
+is_surface_side side = nat_le 1 side && nat_le side surface_side_limit
+
 -- a frame may have this side
 pub record IsFrameSide (side : ℕ) : Type 0 where
   pub not_empty : 1 ≤ side
   pub within : side ≤ frame_side_limit
+
+-- the same, as a test
+abbrev pub is_frame_side : ℕ → Bool
+is_frame_side side = nat_le 1 side && nat_le side frame_side_limit
+
+-- the tests hold exactly where the facts do
+pub record TestsAreLimits : Type 0 where
+  pub within : (limit : ℕ) (v : ℤ) → IsTrue (is_within limit v) ↔ IsWithin limit v
+  pub surface_side : (side : ℕ) → IsTrue (is_surface_side side) ↔ IsSurfaceSide side
+  pub frame_side : (side : ℕ) → IsTrue (is_frame_side side) ↔ IsFrameSide side

@@ -1,6 +1,6 @@
 -- The numbers of a page map, as its definitions read them.
 use Rattle.std.specs.Prelude.{ℤ, pos, unsigned_abs}
-use Rattle.mapping.specs.Plane.{AxisNumbers, MapNumbers}
+use Rattle.mapping.specs.Plane.{AxisNumbers, MapNumbers, plane_coordinate}
 use Rattle.mapping.specs.declared.geometry.Point.{Point}
 use Rattle.mapping.specs.declared.map_mode.MapMode.TheVariants.{Anisotropic}
 use Rattle.mapping.specs.declared.page_map.PageAxis.{PageAxis}
@@ -15,6 +15,10 @@ axis_numbers a = record {
   viewport_extent = a.viewport_extent;
   corner = a.corner;
 }
+
+-- the plane coordinate of a page coordinate on an axis
+abbrev pub axis_coordinate : PageAxis → ℤ → ℤ
+axis_coordinate a v = plane_coordinate (axis_numbers a) v
 
 -- the numbers of a map, and its mode
 abbrev pub map_numbers : PageMap → MapNumbers

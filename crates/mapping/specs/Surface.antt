@@ -17,25 +17,25 @@ abbrev pub placed : ℤ → ℕ → ℕ → ℤ
 placed v surface_side frame_side = floor_div (v *ℤ pos surface_side) (pos frame_side)
 
 -- where a plane point lands: in a column by its x and the widths, and in a row by its y and the heights
-abbrev pub placed_point : Surface → Point → Point
-placed_point s point = record { x = placed point.x s.width s.frame_width; y = placed point.y s.height s.frame_height }
+abbrev pub placed_point : Point → Surface → Point
+placed_point point s = record { x = placed point.x s.width s.frame_width; y = placed point.y s.height s.frame_height }
 
 -- the placed coordinate is within its limit
-abbrev pub IsPlacedCoordinate : ℤ → Type 0
-IsPlacedCoordinate v = IsWithin place_limit v
+abbrev pub IsPlaceCoordinate : ℤ → Type 0
+IsPlaceCoordinate v = IsWithin place_limit v
 
 -- the placed point is within its limit
-pub record IsPlaced (point : Point) : Type 0 where
-  pub x : IsPlacedCoordinate point.x
-  pub y : IsPlacedCoordinate point.y
+pub record FitsPlace (point : Point) : Type 0 where
+  pub x : IsPlaceCoordinate point.x
+  pub y : IsPlaceCoordinate point.y
 
 -- the same, as a test
-abbrev pub is_placed : Point → Bool
-is_placed point = is_within place_limit point.x && is_within place_limit point.y
+abbrev pub fits_place : Point → Bool
+fits_place point = is_within place_limit point.x && is_within place_limit point.y
 
--- A point is one of the plane, and lands within the limit of placed coordinates.
-abbrev pub lands : Surface → Point → Bool
-lands s point = is_on_plane point && is_placed (placed_point s point)
+-- A point is one of the plane, and where it lands is within the limit of placed coordinates.
+abbrev pub lands_within_limits : Point → Surface → Bool
+lands_within_limits point s = is_on_plane point && fits_place (placed_point point s)
 
 -- a placed coordinate is the column or the row with this number
 abbrev pub is_index : ℤ → ℕ → Bool

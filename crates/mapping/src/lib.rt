@@ -17,12 +17,10 @@ mod limits;
 mod map_mode;
 mod page_map;
 mod place;
-#[cfg(test)]
-mod tests;
 
 pub use floor::floor_division_law;
 pub use geometry::{Colour, Frame, Point, Rect};
-pub use limits::{MAX_FRAME_SIDE, MAX_SURFACE_SIDE};
+pub use limits::{MAX_FRAME_SIDE, MAX_SURFACE_SIDE, limits_law};
 pub use map_mode::MapMode;
 pub use page_map::{PageAxis, PageMap};
 pub use place::Place;

@@ -1,5 +1,7 @@
 //! The limits on coordinates and sides.
 
+ghost use Rattle.mapping.specs.Limits.{TestsAreLimits};
+
 /// The farthest that a plane coordinate is from 0.
 pub(crate) const PLANE_LIMIT: i128 = 1 << 30;
 
@@ -11,3 +13,8 @@ pub const MAX_SURFACE_SIDE: u32 = 8192;
 
 /// The longest side of a frame, in plane units.
 pub const MAX_FRAME_SIDE: u32 = 1 << 28;
+
+/// The law that ties the limits' tests to what they test.
+pub fn limits_law()
+    ensures { TestsAreLimits }
+{}

@@ -28,8 +28,7 @@ pub struct PageAxis {
 }
 
 impl PageAxis {
-    ghost use Rattle.mapping.specs.Plane.{plane_coordinate};
-    ghost use Rattle.mapping.specs.PageMap.{axis_numbers, placeable_axis};
+    ghost use Rattle.mapping.specs.PageMap.{axis_coordinate, axis_numbers, placeable_axis};
 
     /// The axis on which a placeable file starts: its box's side is the window, and the frame's
     /// side the viewport.
@@ -49,8 +48,8 @@ impl PageAxis {
 
     /// The plane coordinate of a page coordinate, or none where it would leave the plane.
     fn plane(&self, coordinate: i64) -> Option<i32>
-        ensures value { let there = plane_coordinate (axis_numbers self.now) coordinate in SomeIff result (IsPlaneCoordinate there) there }
-        ensures test { is_some result ≡ is_within plane_limit (plane_coordinate (axis_numbers self.now) coordinate) }
+        ensures value { let there = axis_coordinate self.now coordinate in SomeIff result (IsPlaneCoordinate there) there }
+        ensures test { is_some result ≡ is_within plane_limit (axis_coordinate self.now coordinate) }
     {
         let distance = distance(coordinate, self.window_origin);
         let scaled = self.scaled(distance);

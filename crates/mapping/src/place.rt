@@ -1,8 +1,8 @@
 //! The place: where a plane point lands on a surface.
 
 ghost use Rattle.std.specs.Prelude.{◌≡◌, ◌≤◌, ◌↔◌, IsTrue, SomeIff, is_some};
-ghost use Rattle.mapping.specs.Limits.{IsSurfaceSide, is_within, place_limit};
-ghost use Rattle.mapping.specs.Surface.{placed, IsPlaced, IsPlacedCoordinate, is_placed, placed_point};
+ghost use Rattle.mapping.specs.Limits.{IsSurfaceSide, is_within, place_limit, surface_side_limit};
+ghost use Rattle.mapping.specs.Surface.{placed, FitsPlace, IsPlaceCoordinate, fits_place, placed_point};
 
 use crate::geometry::{Frame, Point};
 use crate::limits::PLACE_LIMIT;
@@ -41,15 +41,15 @@ impl Place {
 
     /// Whether both placed coordinates of a plane point are at most 2^28 from 0.
     pub fn fits(self, point: Point) -> bool
-        ensures { IsTrue result ↔ IsPlaced (placed_point (surface_of self) point) }
+        ensures { IsTrue result ↔ FitsPlace (placed_point point (surface_of self)) }
     {
         self.place(point).is_some()
     }
 
     /// Where a plane point lands, or none where it doesn't fit.
     pub fn place(self, point: Point) -> Option<Point>
-        ensures point { let there = placed_point (surface_of self) point in SomeIff result (IsPlaced there) there }
-        ensures test { is_some result ≡ is_placed (placed_point (surface_of self) point) }
+        ensures point { let there = placed_point point (surface_of self) in SomeIff result (FitsPlace there) there }
+        ensures test { is_some result ≡ fits_place (placed_point point (surface_of self)) }
     {
         let Some(x) = axis_place(point.x, self.width, self.frame.width) else {
             return None;
@@ -62,8 +62,8 @@ impl Place {
 
     /// Where a plane point that fits lands.
     pub fn at(self, point: Point) -> Point
-        requires { IsPlaced (placed_point (surface_of self) point) }
-        ensures { result ≡ placed_point (surface_of self) point }
+        requires { FitsPlace (placed_point point (surface_of self)) }
+        ensures { result ≡ placed_point point (surface_of self) }
     {
         Point {
             x: axis_at(point.x, self.width, self.frame.width),
@@ -74,7 +74,7 @@ impl Place {
 
 /// A plane coordinate scaled from the frame's side to the surface's.
 fn scaled(coordinate: i32, surface_side: u32, frame_side: u32) -> i64
-    requires surface { surface_side ≤ 8192 }
+    requires surface { surface_side ≤ surface_side_limit }
     requires frame { 1 ≤ frame_side }
     ensures { result ≡ placed coordinate surface_side frame_side }
 {
@@ -84,9 +84,9 @@ fn scaled(coordinate: i32, surface_side: u32, frame_side: u32) -> i64
 /// The placed coordinate, or none where it is outside its limit.
 #[tactic(auto, unfolding(crate::specs::Limits::place_limit))]
 fn axis_place(coordinate: i32, surface_side: u32, frame_side: u32) -> Option<i32>
-    requires surface { surface_side ≤ 8192 }
+    requires surface { surface_side ≤ surface_side_limit }
     requires frame { 1 ≤ frame_side }
-    ensures value { let there = placed coordinate surface_side frame_side in SomeIff result (IsPlacedCoordinate there) there }
+    ensures value { let p = placed coordinate surface_side frame_side in SomeIff result (IsPlaceCoordinate p) p }
     ensures test { is_some result ≡ is_within place_limit (placed coordinate surface_side frame_side) }
 {
     let placed = scaled(coordinate, surface_side, frame_side);
@@ -100,9 +100,9 @@ fn axis_place(coordinate: i32, surface_side: u32, frame_side: u32) -> Option<i32
 /// The placed coordinate, where it is within its limit.
 #[tactic(auto, unfolding(crate::specs::Limits::place_limit))]
 fn axis_at(coordinate: i32, surface_side: u32, frame_side: u32) -> i32
-    requires surface { surface_side ≤ 8192 }
+    requires surface { surface_side ≤ surface_side_limit }
     requires frame { 1 ≤ frame_side }
-    requires fits { IsPlacedCoordinate (placed coordinate surface_side frame_side) }
+    requires fits { IsPlaceCoordinate (placed coordinate surface_side frame_side) }
     ensures { result ≡ placed coordinate surface_side frame_side }
 {
     scaled(coordinate, surface_side, frame_side) as i32

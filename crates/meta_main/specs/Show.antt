@@ -2,7 +2,7 @@
 use Rattle.std.specs.Prelude.{ℕ, List, Option}
 use Rattle.std.specs.Io.KnownBytes.{Appends}
 use Rattle.draw_ops.specs.declared.fault.Fault.{Fault}
-use Rattle.canvas.specs.Image.{Image}
+use Rattle.mapping.specs.Image.{Image}
 use Rattle.canvas.specs.Ppm.{AppendsFront, ppm_text}
 use Rattle.player.specs.Run.{Run, shown, refused, white}
 

@@ -5,38 +5,38 @@ use Rattle.std.proofs.lemmas.Option.{same_Some, none-some}
 use Rattle.std.proofs.lemmas.Nat.{mul-add-lt, div-mul-add, mod-mul-add, div-add-mod', mod_below, div_below}
 use Rattle.mapping.specs.declared.geometry.Colour.{Colour}
 use Rattle.mapping.specs.declared.geometry.Point.{Point}
-use Rattle.player.specs.Apply.{map_places, count_places, apply, writes_of_layers}
+use Rattle.player.specs.Apply.{map_indexed, count_indexes, apply, writes_of_layers}
 use Rattle.mapping.specs.Surface.{Surface, is_index, placed_point}
-use Rattle.canvas.specs.Image.{Image}
+use Rattle.mapping.specs.Image.{Image}
 use Rattle.player.specs.Clip.{unclipped}
 use Rattle.player.specs.Layer.{Layer}
 use Rattle.player.specs.Mixing.{copied}
 use Rattle.player.specs.Paint.{solid}
 use Rattle.player.specs.Shape.{pixel_under}
-use Rattle.player.specs.Dot.{dots, dotted, is_at_place, naturals, indexes_of}
+use Rattle.player.specs.Dot.{dots, dotted, is_at_index, naturals, indexes_of}
 
 -- what is the same at each place gives the same colours
-pub same_map : (f g : ℕ → Colour → Colour) → ((k : ℕ) (c : Colour) → f k c ≡ g k c) → (k : ℕ) (cs : List Colour) → map_places f k cs ≡ map_places g k cs
+pub same_map : (f g : ℕ → Colour → Colour) → ((k : ℕ) (c : Colour) → f k c ≡ g k c) → (k : ℕ) (cs : List Colour) → map_indexed f k cs ≡ map_indexed g k cs
 same_map f g h k [] = refl
 same_map f g h k (c ∷ cs) = rw (h k c, same_map f g h (suc k) cs) refl
 
-pub same_count : (p q : ℕ → Bool) → ((k : ℕ) → p k ≡ q k) → (k n : ℕ) → count_places p k n ≡ count_places q k n
+pub same_count : (p q : ℕ → Bool) → ((k : ℕ) → p k ≡ q k) → (k n : ℕ) → count_indexes p k n ≡ count_indexes q k n
 same_count p q h k zero = refl
 same_count p q h k (suc n) = rw (h k, same_count p q h (suc k) n) refl
 
 -- no place passes the test
-no_colour : (p : ℕ → Bool) (v : Colour) (k : ℕ) (cs : List Colour) → ((i : ℕ) → k ≤ i → i < k + length cs → p i ≡ false) → map_places (λ i old. cond (p i) v old) k cs ≡ cs
+no_colour : (p : ℕ → Bool) (v : Colour) (k : ℕ) (cs : List Colour) → ((i : ℕ) → k ≤ i → i < k + length cs → p i ≡ false) → map_indexed (λ i old. cond (p i) v old) k cs ≡ cs
 no_colour p v k [] h = refl
 no_colour p v k (c ∷ cs) h =
     let here : p k ≡ false = h k (omega arith) (omega arith) in rw (here, no_colour p v (suc k) cs (λ i a b. h i (omega arith) (omega arith))) refl
 
-no_count : (p : ℕ → Bool) (k n : ℕ) → ((i : ℕ) → k ≤ i → i < k + n → p i ≡ false) → count_places p k n ≡ 0
+no_count : (p : ℕ → Bool) (k n : ℕ) → ((i : ℕ) → k ≤ i → i < k + n → p i ≡ false) → count_indexes p k n ≡ 0
 no_count p k zero h = refl
 no_count p k (suc n) h =
     let here : p k ≡ false = h k (omega arith) (omega arith) in rw (here, no_count p (suc k) n (λ i a b. h i (omega arith) (omega arith))) refl
 
 -- one place passes the test, the place m
-one_colour : (p : ℕ → Bool) (v : Colour) (m k j : ℕ) (cs : List Colour) → k + j ≡ m → j < length cs → p m ≡ true → ((i : ℕ) → i ≢ m → k ≤ i → i < k + length cs → p i ≡ false) → map_places (λ i old. cond (p i) v old) k cs ≡ set cs j v
+one_colour : (p : ℕ → Bool) (v : Colour) (m k j : ℕ) (cs : List Colour) → k + j ≡ m → j < length cs → p m ≡ true → ((i : ℕ) → i ≢ m → k ≤ i → i < k + length cs → p i ≡ false) → map_indexed (λ i old. cond (p i) v old) k cs ≡ set cs j v
 one_colour p v m k j [] at within passes others = absurd (omega arith)
 one_colour p v m k zero (c ∷ cs) at within passes others =
     let here : p k ≡ true = subst (λ (i : ℕ). p i ≡ true) (omega arith) passes in
@@ -45,7 +45,7 @@ one_colour p v m k (suc j) (c ∷ cs) at within passes others =
     let here : p k ≡ false = others k (omega arith) (omega arith) (omega arith) in
     rw (here, one_colour p v m (suc k) j cs (omega arith) (omega arith) passes (λ i ne a b. others i ne (omega arith) (omega arith))) refl
 
-one_count : (p : ℕ → Bool) (m k j n : ℕ) → k + j ≡ m → j < n → p m ≡ true → ((i : ℕ) → i ≢ m → k ≤ i → i < k + n → p i ≡ false) → count_places p k n ≡ 1
+one_count : (p : ℕ → Bool) (m k j n : ℕ) → k + j ≡ m → j < n → p m ≡ true → ((i : ℕ) → i ≢ m → k ≤ i → i < k + n → p i ≡ false) → count_indexes p k n ≡ 1
 one_count p m k j zero at within passes others = absurd (omega arith)
 one_count p m k zero (suc n) at within passes others =
     let here : p k ≡ true = subst (λ (i : ℕ). p i ≡ true) (omega arith) passes in
@@ -86,10 +86,10 @@ nowhere (negsuc x) y e width i = refl
 
 module _ (point : Point) (outside : indexes_of point ≡ None) where
   pub dotted_nowhere : (v : Colour) (width : ℕ) (cs : List Colour) → dotted point v width cs ≡ cs
-  dotted_nowhere v width cs = no_colour (is_at_place point width) v 0 cs (λ i a b. nowhere point.x point.y outside width i)
+  dotted_nowhere v width cs = no_colour (is_at_index point width) v 0 cs (λ i a b. nowhere point.x point.y outside width i)
 
   pub dots_nowhere : (width height : ℕ) → dots point width height ≡ 0
-  dots_nowhere width height = no_count (is_at_place point width) 0 (height * width) (λ i a b. nowhere point.x point.y outside width i)
+  dots_nowhere width height = no_count (is_at_index point width) 0 (height * width) (λ i a b. nowhere point.x point.y outside width i)
 
 -- a point with a column and a row
 pixel_parts : (x y : ℤ) (m n : ℕ) → naturals x y ≡ Some (m, n) → (x ≡ pos m) × (y ≡ pos n)
@@ -136,9 +136,9 @@ and_true false = refl
 
 pub dotted_layer : (there placed : Point) (v : Colour) (s : Surface) (image : Image) (width : ℕ) → placed ≡ placed_point s there → width ≡ s.width → dotted placed v width image.colours ≡ (apply (dot_layer there v) s image).colours
 dotted_layer there placed v s image width p w =
-    rw (p, w) (same_map _ _ (λ k old. rw (and_true (is_at_place (placed_point s there) s.width k)) refl) 0 image.colours)
+    rw (p, w) (same_map _ _ (λ k old. rw (and_true (is_at_index (placed_point s there) s.width k)) refl) 0 image.colours)
 
 -- and writes as many
 pub dots_layer : (there placed : Point) (v : Colour) (s : Surface) (width height : ℕ) → placed ≡ placed_point s there → width ≡ s.width → height ≡ s.height → dots placed width height ≡ writes_of_layers (dot_layer there v ∷ []) s
 dots_layer there placed v s width height p w h =
-    rw (p, w, h) (same_count (is_at_place (placed_point s there) s.width) _ (λ k. sym (and_true _)) 0 (s.height * s.width) ∙ sym (add-zero _))
+    rw (p, w, h) (same_count (is_at_index (placed_point s there) s.width) _ (λ k. sym (and_true _)) 0 (s.height * s.width) ∙ sym (add-zero _))

@@ -6,7 +6,7 @@ use Rattle.draw_ops.specs.RecordContent.{IsContent}
 use Rattle.mapping.specs.PlaceOf.{surface_of}
 use Rattle.mapping.specs.Surface.{Surface}
 use Rattle.canvas.specs.CanvasState.{CanvasState, image_of}
-use Rattle.canvas.specs.Image.{Image}
+use Rattle.mapping.specs.Image.{Image}
 use Rattle.player.specs.OpenedFile.{opened_of}
 use Rattle.player.specs.Opening.{Opened, opened, surface_for}
 use Rattle.player.specs.Playing.{state_of}

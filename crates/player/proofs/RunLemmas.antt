@@ -5,17 +5,17 @@ use Rattle.draw_ops.specs.Content.{Content, StepValue, with_step}
 use Rattle.draw_ops.specs.ExactlyOne.{ExactlyOne}
 use Rattle.draw_ops.specs.RecordContent.{ContentIsOne}
 use Rattle.mapping.specs.Surface.{Surface}
-use Rattle.canvas.specs.Image.{Image}
+use Rattle.mapping.specs.Image.{Image}
 use Rattle.player.specs.Next.{next}
 use Rattle.player.specs.OperationFault.{fault_of}
-use Rattle.player.specs.Opening.{Format, placeable, Opened, opened, records_of, surface_for}
+use Rattle.player.specs.Opening.{Format, placeable, Opened, opened, record_bytes, surface_for}
 use Rattle.player.specs.State.{State, start_of}
 use Rattle.player.specs.Wmf.{wmf, wmf_meaning}
 use Rattle.player.specs.Run.{Stop, Outcome, shown, refused, ended, stopped, drawn, image_after, writes_of, writes_after, outcome_of, IsFileContent, RunsOpened, RunOpened, Run, WritesOpened, WritesIfOpened, Writes, RunEndsInOneWay, RefusedOverAnyImage, WritesAreOne}
 
 -- a file of any format has one content
 one_file_content : ContentIsOne → (format : Format) (file : List ℕ) → ExactlyOne (IsFileContent format file)
-one_file_content one placeable file = one wmf wmf_meaning (records_of placeable file)
+one_file_content one placeable file = one wmf wmf_meaning (record_bytes placeable file)
 
 by_opening : ContentIsOne → (o : Result Opened Fault) (file : List ℕ) (width height : ℕ) (image : Image) → ExactlyOne (RunOpened o file width height image)
 by_opening one (Err fault) file width height image = record { value = refused None fault; holds = refl; only = λ other e. e }

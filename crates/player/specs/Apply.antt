@@ -2,7 +2,7 @@
 use Rattle.std.specs.Prelude.{ℕ, zero, suc, ◌+◌, ◌*◌, ◌/◌, ◌%◌, Bool, ◌&&◌, if◌then◌else◌, List, [], ◌∷◌, Option, Some, None, is_some}
 use Rattle.mapping.specs.declared.geometry.Colour.{Colour}
 use Rattle.mapping.specs.Surface.{Surface}
-use Rattle.canvas.specs.Image.{Image}
+use Rattle.mapping.specs.Image.{Image}
 use Rattle.player.specs.Clip.{in_clip}
 use Rattle.player.specs.Layer.{Layer}
 use Rattle.player.specs.Mixing.{Mixing, mixed}
@@ -10,14 +10,14 @@ use Rattle.player.specs.Paint.{paint_at}
 use Rattle.player.specs.Shape.{in_shape}
 
 -- each colour, the first at place k, by what f makes of its place and itself
-abbrev pub map_places : (ℕ → Colour → Colour) → ℕ → List Colour → List Colour
-map_places f k [] = []
-map_places f k (c ∷ cs) = f k c ∷ map_places f (suc k) cs
+abbrev pub map_indexed : (ℕ → Colour → Colour) → ℕ → List Colour → List Colour
+map_indexed f k [] = []
+map_indexed f k (c ∷ cs) = f k c ∷ map_indexed f (suc k) cs
 
 -- how many of n places, from k on, pass the test
-abbrev pub count_places : (ℕ → Bool) → ℕ → ℕ → ℕ
-count_places test k zero = 0
-count_places test k (suc n) = (if test k then 1 else 0) + count_places test (suc k) n
+abbrev pub count_indexes : (ℕ → Bool) → ℕ → ℕ → ℕ
+count_indexes test k zero = 0
+count_indexes test k (suc n) = (if test k then 1 else 0) + count_indexes test (suc k) n
 
 -- the layer writes the surface's pixel (x, y): it is in the clip and in the shape, and the paint there isn't nothing
 abbrev pub writes_pixel : Layer → Surface → ℕ → ℕ → Bool
@@ -37,7 +37,7 @@ abbrev pub apply : Layer → Surface → Image → Image
 apply layer s image = record {
   width = image.width;
   height = image.height;
-  colours = map_places (λ k old. colour_after layer s (k % s.width) (k / s.width) old) 0 image.colours;
+  colours = map_indexed (λ k old. colour_after layer s (k % s.width) (k / s.width) old) 0 image.colours;
 }
 
 -- the image after some layers, one after another
@@ -47,7 +47,7 @@ apply_all (layer ∷ layers) s image = apply_all layers s (apply layer s image)
 
 -- how many pixels a layer writes
 abbrev pub writes_of_layer : Layer → Surface → ℕ
-writes_of_layer layer s = count_places (λ k. writes_pixel layer s (k % s.width) (k / s.width)) 0 (s.height * s.width)
+writes_of_layer layer s = count_indexes (λ k. writes_pixel layer s (k % s.width) (k / s.width)) 0 (s.height * s.width)
 
 -- a pixel that two layers write counts twice
 abbrev pub writes_of_layers : List Layer → Surface → ℕ

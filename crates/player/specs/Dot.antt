@@ -3,7 +3,7 @@ use Rattle.std.specs.Prelude.{ℕ, ℤ, pos, negsuc, ◌*◌, ◌/◌, ◌%◌, 
 use Rattle.mapping.specs.declared.geometry.Colour.{Colour}
 use Rattle.mapping.specs.declared.geometry.Point.{Point}
 use Rattle.mapping.specs.Surface.{is_pixel}
-use Rattle.player.specs.Apply.{map_places, count_places}
+use Rattle.player.specs.Apply.{map_indexed, count_indexes}
 
 -- a column and a row, if neither is negative
 abbrev pub naturals : ℤ → ℤ → Option (ℕ × ℕ)
@@ -15,13 +15,13 @@ abbrev pub indexes_of : Point → Option (ℕ × ℕ)
 indexes_of point = naturals point.x point.y
 
 -- the point is the pixel at place k, where a row has this many
-abbrev pub is_at_place : Point → ℕ → ℕ → Bool
-is_at_place point width k = is_pixel point (k % width) (k / width)
+abbrev pub is_at_index : Point → ℕ → ℕ → Bool
+is_at_index point width k = is_pixel point (k % width) (k / width)
 
 -- the colours with that pixel in this colour
 abbrev pub dotted : Point → Colour → ℕ → List Colour → List Colour
-dotted point colour width colours = map_places (λ k old. if is_at_place point width k then colour else old) 0 colours
+dotted point colour width colours = map_indexed (λ k old. if is_at_index point width k then colour else old) 0 colours
 
 -- how many pixels that is
 abbrev pub dots : Point → ℕ → ℕ → ℕ
-dots point width height = count_places (is_at_place point width) 0 (height * width)
+dots point width height = count_indexes (is_at_index point width) 0 (height * width)

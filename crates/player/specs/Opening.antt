@@ -65,8 +65,8 @@ opened file =
     else (if is_placeable file then placeable_file file else Err NotMetafile)
 
 -- the bytes from record 0 on
-abbrev pub records_of : Format → List ℕ → List ℕ
-records_of placeable file = drop 40 file
+abbrev pub record_bytes : Format → List ℕ → List ℕ
+record_bytes placeable file = drop 40 file
 
 -- the surface of these sides that shows an opened file's frame
 abbrev pub surface_for : Opened → ℕ → ℕ → Surface

@@ -6,12 +6,12 @@ use Rattle.draw_ops.specs.Content.{Content, StepValue}
 use Rattle.draw_ops.specs.ExactlyOne.{ExactlyOne}
 use Rattle.draw_ops.specs.Operation.{Operation}
 use Rattle.draw_ops.specs.RecordContent.{IsContent}
-use Rattle.canvas.specs.Image.{Image, blank}
+use Rattle.mapping.specs.Image.{Image, blank}
 use Rattle.player.specs.Apply.{apply_all, writes_of_layers}
 use Rattle.player.specs.Layer.{layers_drawn}
 use Rattle.player.specs.Next.{next}
 use Rattle.player.specs.OperationFault.{fault_of}
-use Rattle.player.specs.Opening.{Format, placeable, Opened, opened, records_of, surface_for}
+use Rattle.player.specs.Opening.{Format, placeable, Opened, opened, record_bytes, surface_for}
 use Rattle.player.specs.State.{State, start_of}
 use Rattle.player.specs.Wmf.{wmf, wmf_meaning}
 
@@ -68,7 +68,7 @@ outcome_of content state s image = ended (stopped content.steps content.fault 0 
 
 -- the content of an opened file's records, by its format
 abbrev pub IsFileContent : Format → List ℕ → Content → Type 0
-IsFileContent placeable file content = IsContent wmf wmf_meaning (records_of placeable file) content
+IsFileContent placeable file content = IsContent wmf wmf_meaning (record_bytes placeable file) content
 
 -- the records of an opened file have a content, whose steps end so
 pub record RunsOpened (o : Opened) (file : List ℕ) (width height : ℕ) (image : Image) (outcome : Outcome) : Type 0 where

@@ -1,7 +1,7 @@
 //! Opening a file: its frame, its start map, and where its records begin.
 
 ghost use Rattle.std.specs.Prelude.{◌≡◌, ◌-ℤ◌, ◌+◌, ◌≤◌, ◌==◌, ◌||◌, unsigned_abs, is_none, IfSome, IfOk, IfErr, ◌<◌, length, drop};
-ghost use Rattle.draw_ops.specs.FaultTable.{row_of};
+ghost use Rattle.draw_ops.specs.FaultTable.{fault_row};
 ghost use Rattle.draw_ops.specs.Results.{result_map};
 ghost use Rattle.point_views.specs.Numbers.{i16_at};
 ghost use Rattle.player.specs.Opening.{opened, is_placeable, is_standard_header, placeable_file};
@@ -34,7 +34,7 @@ pub(crate) struct OpenedFile<'a> {
 pub(crate) fn open(file: &[u8]) -> Result<OpenedFile<'_>, Fault>
     ensures opened { opened file.entry.now ≡ result_map opened_of result }
     ensures records { IfOk result (λ o. o.records.now ≡ drop 40 file.entry.now) }
-    ensures in_no_record { IfErr result (λ fault. (row_of fault).code < 10) }
+    ensures in_no_record { IfErr result (λ fault. (fault_row fault).code < 10) }
 {
     if file.len() > FILE_LIMIT {
         return Err(Fault::TooLong);
@@ -56,7 +56,7 @@ fn begins_placeable(file: &[u8]) -> bool
 fn open_placeable(file: &[u8]) -> Result<OpenedFile<'_>, Fault>
     ensures opened { placeable_file file.entry.now ≡ result_map opened_of result }
     ensures records { IfOk result (λ o. o.records.now ≡ drop 40 file.entry.now) }
-    ensures in_no_record { IfErr result (λ fault. (row_of fault).code < 10) }
+    ensures in_no_record { IfErr result (λ fault. (fault_row fault).code < 10) }
 {
     if file.len() < HEADERS {
         return Err(Fault::ShortHeader);

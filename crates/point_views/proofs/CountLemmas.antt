@@ -1,10 +1,11 @@
 -- Counts in bytes: how many, the count at an index, and those after the first.
-use Rattle.std.proofs.Common.{◌≡◌, ℕ, zero, suc, ◌-◌, ◌*◌, ◌<◌, List, ◌∷◌, length, take, drop, ap, sym, arith, refl, Some}
+use Rattle.std.proofs.Common.{◌≡◌, ℕ, zero, suc, ◌-◌, ◌*◌, ◌/◌, ◌<◌, ◌≤◌, List, ◌∷◌, length, take, drop, ap, sym, arith, refl, Some}
 use Rattle.std.specs.List.{slice_get}
 use Rattle.point_views.specs.Numbers.{number_size, unsigned_number}
 use Rattle.point_views.specs.Counts.{counts_in}
 use Rattle.point_views.specs.declared.numbers.NumberWidth.{NumberWidth}
-use Rattle.point_views.proofs.ItemLemmas.{items_in, length-items_in, slice_get-items_in, items_in-take, drop-items_in}
+use Rattle.point_views.specs.declared.numbers.NumberWidth.TheVariants.{Short, Long}
+use Rattle.point_views.proofs.ItemLemmas.{items_in, length-items_in, slice_get-items_in, items_in-take, drop-items_in, items_taken}
 use Rattle.point_views.proofs.NumberLemmas.{IsLocal-unsigned_number}
 
 -- counts are items
@@ -27,6 +28,15 @@ counts_in-take width n end bytes ends =
 pub counts_in-after_first : (width : NumberWidth) (n start : ℕ) (bytes : List ℕ) → 0 < n → start ≡ number_size width * 1 → counts_in width (n - 1) (drop start bytes) ≡ drop 1 (counts_in width n bytes)
 counts_in-after_first width n start bytes some starts =
     rw (starts, counts_in-items width (n - 1) (drop (number_size width * 1) bytes), counts_in-items width n bytes) (sym (drop-items_in (unsigned_number width) (number_size width) 1 (n - 1) n bytes (omega arith)))
+
+-- the bytes of n counts hold n counts
+some_size : (width : NumberWidth) → 0 < number_size width
+some_size Short = omega arith
+some_size Long = omega arith
+
+pub counts_in-taken : (width : NumberWidth) (n end : ℕ) (bytes : List ℕ) → end ≡ number_size width * n → end ≤ length bytes → counts_in width (length (take end bytes) / number_size width) (take end bytes) ≡ counts_in width n bytes
+counts_in-taken width n end bytes ends within =
+    let count = items_taken (number_size width) n end bytes (some_size width) ends within in rw count (counts_in-take width n end bytes ends)
 
 -- what the tactics take to a view's length and its count at an index
 pub ruleset counts = (length-counts_in, slice_get-counts_in, counts_in-take, counts_in-after_first)

@@ -1,9 +1,9 @@
 -- Items of one size, one after another: how many there are, which one stands at an index, and a part of them. Points and
 -- counts are both such items, at either width.
-use Rattle.std.proofs.Common.{◌≡◌, ℕ, zero, suc, ◌+◌, ◌-◌, ◌*◌, ◌<◌, ◌≤◌, List, [], ◌∷◌, length, take, drop, refl, sym, ap, ◌∙◌, arith, Some}
+use Rattle.std.proofs.Common.{◌≡◌, ℕ, zero, suc, ◌+◌, ◌-◌, ◌*◌, ◌/◌, ◌<◌, ◌≤◌, List, [], ◌∷◌, length, take, drop, refl, sym, ap, ◌∙◌, arith, mul_comm, Some}
 use Rattle.std.specs.List.{slice_get, slice_range}
-use Rattle.std.proofs.lemmas.List.{drop-drop, drop-take}
-use Rattle.std.proofs.Math.Nat.{mul-zero, mul-sub}
+use Rattle.std.proofs.lemmas.List.{drop-drop, drop-take, length-take-le}
+use Rattle.std.proofs.Math.Nat.{mul-zero, mul-sub, mul-div_cancel}
 
 -- the first n items of `size` bytes each: `item` says what its bytes are, the first of what is left
 abbrev pub items_in : {A : Type 0} → (List ℕ → A) → ℕ → ℕ → List ℕ → List A
@@ -59,3 +59,11 @@ items_in-slice_range item size n from to start end bytes local order within star
     let dropped = drop-items_in item size from (n - from) n bytes (omega arith) in
     let taken = take-items_in item size (to - from) (n - from) (drop (size * from) bytes) (omega arith) in
     cut ∙ ap (items_in item size (to - from)) place ∙ sym (ap (take (to - from)) dropped ∙ taken)
+
+-- as many items as the bytes that were taken for them hold
+pub items_taken : (size n end : ℕ) (bytes : List ℕ) → 0 < size → end ≡ size * n → end ≤ length bytes → length (take end bytes) / size ≡ n
+items_taken zero n end bytes some ends within = absurd (omega arith)
+items_taken (suc k) n end bytes some ends within =
+    let taken = length-take-le end bytes within in
+    let whole : suc k * n ≡ n * suc k = mul_comm (suc k) n in
+    rw (taken, ends, whole) (mul-div_cancel n (omega arith))

@@ -1,6 +1,6 @@
--- How numbers and points stand in bytes. Numbers are little-endian and take 2 or 4 bytes.
+-- How numbers and points stand in bytes, the lowest byte first.
 use Rattle.std.specs.Prelude.{ℕ, ◌*◌, ℤ, List, drop}
-use Rattle.std.specs.Int.{w16, w32, cast_signed}
+use Rattle.std.specs.Int.{w8, w16, w32, cast_signed}
 use Rattle.byteorder.specs.Endian.{little_number}
 use Rattle.mapping.specs.declared.geometry.Point.{Point}
 use Rattle.point_views.specs.declared.numbers.NumberWidth.{NumberWidth}
@@ -9,6 +9,10 @@ use Rattle.point_views.specs.declared.numbers.NumberWidth.TheVariants.{Short, Lo
 -- the number of so many bytes at a place, the lowest byte first
 abbrev pub number_at : ℕ → ℕ → List ℕ → ℕ
 number_at size place bytes = little_number size (drop place bytes)
+
+-- the number of one byte at a place, in two's complement
+abbrev pub i8_at : ℕ → List ℕ → ℤ
+i8_at place bytes = cast_signed w8 (number_at 1 place bytes)
 
 -- the number of two bytes at a place, in two's complement
 abbrev pub i16_at : ℕ → List ℕ → ℤ
@@ -29,12 +33,12 @@ point_size width = 2 * number_size width
 
 -- the number in the first bytes, without a sign
 abbrev pub unsigned_number : NumberWidth → List ℕ → ℕ
-unsigned_number width bytes = little_number (number_size width) bytes
+unsigned_number width bytes = number_at (number_size width) 0 bytes
 
 -- the number in the first bytes, two's complement
 abbrev pub signed_number : NumberWidth → List ℕ → ℤ
-signed_number Short bytes = cast_signed w16 (unsigned_number Short bytes)
-signed_number Long bytes = cast_signed w32 (unsigned_number Long bytes)
+signed_number Short bytes = i16_at 0 bytes
+signed_number Long bytes = i32_at 0 bytes
 
 -- the point in the first bytes: x, and then y
 abbrev pub first_point : NumberWidth → List ℕ → Point

@@ -1,6 +1,6 @@
 //! Lists of counts, read in place: how many points each of several lists has.
 
-ghost use Rattle.std.specs.Prelude.{◌≡◌, ◌+◌, ◌*◌, ◌^◌, ◌<◌, ◌≤◌, ◌↔◌, [], length, take, drop, sum, IsTrue, IsSome, IfSome, Some, slice_get};
+ghost use Rattle.std.specs.Prelude.{◌≡◌, ◌+◌, ◌*◌, ◌%◌, ◌^◌, ◌<◌, ◌≤◌, ◌↔◌, [], length, take, drop, sum, IsTrue, IsSome, IfSome, Some, slice_get};
 ghost use Rattle.point_views.specs.Numbers.{number_size};
 
 use crate::numbers::{NumberWidth, unsigned_at};
@@ -15,11 +15,9 @@ use crate::numbers::{NumberWidth, unsigned_at};
 pub struct Counts<'a> {
     /// The counts' bytes.
     pub bytes: &'a [u8],
-    /// How many counts.
-    pub count: usize,
     /// How wide each count is.
     pub width: NumberWidth,
-    pub ghost exact: { number_size width * count ≡ length bytes.now },
+    pub ghost whole: { length bytes.now % number_size width ≡ 0 },
 }
 
 #[tactic(auto, using(crate::proofs::CountLemmas::counts, crate::proofs::SplitLemmas::sums))]
@@ -38,7 +36,6 @@ impl<'a> Counts<'a> {
         }
         Some(Counts {
             bytes: &bytes[..2 * n],
-            count: n,
             width: NumberWidth::Short,
         })
     }
@@ -55,7 +52,6 @@ impl<'a> Counts<'a> {
         }
         Some(Counts {
             bytes: &bytes[..4 * n],
-            count: n,
             width: NumberWidth::Long,
         })
     }
@@ -66,7 +62,6 @@ impl<'a> Counts<'a> {
     {
         Counts {
             bytes: &[],
-            count: 0,
             width: NumberWidth::Short,
         }
     }
@@ -75,7 +70,10 @@ impl<'a> Counts<'a> {
     pub fn len(self) -> usize
         ensures { result ≡ length (counts_of self.entry) }
     {
-        self.count
+        match self.width {
+            NumberWidth::Short => self.bytes.len() / 2,
+            NumberWidth::Long => self.bytes.len() / 4,
+        }
     }
 
     /// Whether there is no count.
@@ -100,7 +98,6 @@ impl<'a> Counts<'a> {
     {
         Counts {
             bytes: &self.bytes[self.place(1)..],
-            count: self.count - 1,
             width: self.width,
         }
     }

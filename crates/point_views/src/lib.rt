@@ -20,12 +20,10 @@ mod numbers;
 mod parted_points;
 mod points;
 mod polys;
-#[cfg(test)]
-mod tests;
 
 pub use counts::Counts;
 pub use lists::Lists;
-pub use numbers::{NumberWidth, i16_at, i32_at, u8_at, u16_at, u32_at};
+pub use numbers::{NumberWidth, i8_at, i16_at, i32_at, u8_at, u16_at, u32_at};
 pub use parted_points::PartedPoints;
 pub use points::Points;
 pub use polys::Polys;

@@ -1,7 +1,7 @@
 //! How numbers stand in a file: the one place where bytes become numbers.
 
 ghost use Rattle.std.specs.Prelude.{◌≡◌, ◌+◌, ◌≤◌, length, drop};
-ghost use Rattle.point_views.specs.Numbers.{i16_at, i32_at, number_at, number_size, signed_number, unsigned_number};
+ghost use Rattle.point_views.specs.Numbers.{i8_at, i16_at, i32_at, number_at, number_size, signed_number, unsigned_number};
 
 use byteorder::{ByteOrder, LittleEndian};
 
@@ -27,6 +27,14 @@ pub fn u32_at(bytes: &[u8], place: usize) -> u32
     ensures { result ≡ number_at 4 place bytes.now }
 {
     LittleEndian::read_u32(&bytes[place..])
+}
+
+/// The number of one byte at a place, in two's complement.
+pub fn i8_at(bytes: &[u8], place: usize) -> i8
+    requires { place + 1 ≤ length bytes.now }
+    ensures { result ≡ i8_at place bytes.now }
+{
+    u8_at(bytes, place).cast_signed()
 }
 
 /// The number of two bytes at a place, in two's complement.

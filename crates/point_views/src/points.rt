@@ -1,6 +1,6 @@
 //! Lists of points, read in place.
 
-ghost use Rattle.std.specs.Prelude.{◌≡◌, ◌+◌, ◌*◌, ◌<◌, ◌≤◌, ◌↔◌, [], length, drop, IsTrue, IsSome, IfSome, Some, slice_get, slice_range};
+ghost use Rattle.std.specs.Prelude.{◌≡◌, ◌+◌, ◌*◌, ◌%◌, ◌<◌, ◌≤◌, ◌↔◌, [], length, drop, IsTrue, IsSome, IfSome, Some, slice_get, slice_range};
 ghost use Rattle.point_views.specs.Numbers.{point_size, first_point};
 
 use crate::numbers::{NumberWidth, signed_at};
@@ -8,7 +8,7 @@ use mapping::Point;
 
 /// Points, one after another in a file's bytes: of each x, and then y, as a PointS ([MS-WMF]
 /// 2.2.2.16) has them in 16 bits and a PointL ([MS-WMF] 2.2.2.15) in 32. A view is a slice of the
-/// file and two numbers, and `get` reads a point from it.
+/// file and a width, and `get` reads a point from it.
 ///
 /// # Guarantees
 ///
@@ -18,11 +18,9 @@ use mapping::Point;
 pub struct Points<'a> {
     /// The points' bytes.
     pub bytes: &'a [u8],
-    /// How many points.
-    pub count: usize,
     /// How wide each coordinate is.
     pub width: NumberWidth,
-    pub ghost exact: { point_size width * count ≡ length bytes.now },
+    pub ghost whole: { length bytes.now % point_size width ≡ 0 },
 }
 
 #[tactic(auto, using(crate::proofs::PointLemmas::points))]
@@ -41,7 +39,6 @@ impl<'a> Points<'a> {
         }
         Some(Points {
             bytes: &bytes[..4 * n],
-            count: n,
             width: NumberWidth::Short,
         })
     }
@@ -58,7 +55,6 @@ impl<'a> Points<'a> {
         }
         Some(Points {
             bytes: &bytes[..8 * n],
-            count: n,
             width: NumberWidth::Long,
         })
     }
@@ -69,7 +65,6 @@ impl<'a> Points<'a> {
     {
         Points {
             bytes: &[],
-            count: 0,
             width: NumberWidth::Short,
         }
     }
@@ -78,7 +73,10 @@ impl<'a> Points<'a> {
     pub fn len(self) -> usize
         ensures { result ≡ length (points_of self.entry) }
     {
-        self.count
+        match self.width {
+            NumberWidth::Short => self.bytes.len() / 4,
+            NumberWidth::Long => self.bytes.len() / 8,
+        }
     }
 
     /// Whether there is no point.
@@ -104,7 +102,6 @@ impl<'a> Points<'a> {
     {
         Points {
             bytes: &self.bytes[self.place(from)..self.place(to)],
-            count: to - from,
             width: self.width,
         }
     }

@@ -1,7 +1,7 @@
 -- What is played of the opened file's records over a new canvas is the file's run over white.
 use Rattle.std.proofs.Common.{◌≡◌, ◌+◌, ap, ◌∙◌, arith, subst, refl, sym, zero-add}
 use Rattle.canvas.specs.CanvasState.{CanvasState, image_of, unwritten}
-use Rattle.canvas.specs.Image.{Image}
+use Rattle.mapping.specs.Image.{Image}
 use Rattle.mapping.specs.declared.geometry.Colour.{Colour}
 use Rattle.player.specs.Run.{Run, shown, white}
 use Rattle.player.proofs.PlayLemmas.{runs, counts, new_on}

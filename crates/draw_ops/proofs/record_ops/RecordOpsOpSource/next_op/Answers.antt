@@ -5,7 +5,7 @@ use Rattle.std.proofs.lemmas.List.{take_rest}
 use Rattle.draw_ops.specs.declared.fault.Fault.{Fault}
 use Rattle.draw_ops.specs.Content.{Content, StepValue, broken_by, with_step}
 use Rattle.draw_ops.specs.Meaning.{Meaning}
-use Rattle.draw_ops.specs.Reading.{content_from, content_left, first_of, first_then}
+use Rattle.draw_ops.specs.Reading.{content_from, content_left, front_step, first_then}
 use Rattle.draw_ops.specs.Records.{Framing, record_limit, rest_of, size_of}
 use Rattle.draw_ops.specs.StepOf.{step_value_of}
 use Rattle.draw_ops.specs.declared.record_ops.Reading.{Reading}
@@ -14,7 +14,7 @@ use Rattle.draw_ops.proofs.ContentLemmas.{content_step}
 use Rattle.draw_ops.proofs.record_ops.RecordOpsOpSource.next_op.Goals as goal
 
 -- what is left, by the first record
-left_by : (f : Framing) (meaning : Meaning) (reading : Reading) (number : ℕ) (rest : List ℕ) (value : Content) (first : Result StepValue Fault) → reading ≡ Records → number ≤ record_limit → content_left f meaning reading number rest ≡ value → first_of f meaning number rest ≡ first → value ≡ first_then f rest first (content_from f meaning (record_limit - suc number) (suc number) (rest_of f rest))
+left_by : (f : Framing) (meaning : Meaning) (reading : Reading) (number : ℕ) (rest : List ℕ) (value : Content) (first : Result StepValue Fault) → reading ≡ Records → number ≤ record_limit → content_left f meaning reading number rest ≡ value → front_step f meaning number rest ≡ first → value ≡ first_then f rest first (content_from f meaning (record_limit - suc number) (suc number) (rest_of f rest))
 left_by f meaning reading number rest value first r h v e =
     sym v ∙ ap (λ (s : Reading). content_left f meaning s number rest) r ∙ content_step f meaning number rest h
     ∙ ap (λ (g : Result StepValue Fault). first_then f rest g (content_from f meaning (record_limit - suc number) (suc number) (rest_of f rest))) e
@@ -30,17 +30,17 @@ overflow_add-self g c = search rules
 pub returns-in-Err-clause-gives : goal.returns-in-Err-clause-gives
 returns-in-Err-clause-gives g c =
     let e : c.args.self.now ≡ broken_by c.in-Err.fault =
-    left_by g.F.Format.framing g.F.Format.meaning _ _ _ _ _ c.in-Records.is c.self.invariant.within c.self.view_is c.in-Err.ensures.value in (e, sym e)
+    left_by g.F.Format.framing g.F.Format.meaning _ _ _ _ _ c.in-Records.is c.self.invariant.within c.self.view_is c.in-Err.ensures.value in record { is = e; stays = sym e }
 
-pub returns-then-kind-last-clause-gives : goal.returns-then-kind-last-clause-gives
-returns-then-kind-last-clause-gives g c =
+pub returns-then-kind-end_kind-clause-gives : goal.returns-then-kind-end_kind-clause-gives
+returns-then-kind-end_kind-clause-gives g c =
     let e = left_by g.F.Format.framing g.F.Format.meaning _ _ _ _ _ c.in-Records.is c.self.invariant.within c.self.view_is c.in-Ok.ensures.value in
-    let last = eq-eqb _ _ (sym c.kind.ensures ∙ c.if-kind-last.true ∙ c.last.ensures) in
+    let last = eq-eqb _ _ (sym c.kind.ensures ∙ c.if-kind-end_kind.true ∙ c.end_kind.ensures) in
     rw last at e
 
-pub returns-else-kind-last-clause-gives : goal.returns-else-kind-last-clause-gives
-returns-else-kind-last-clause-gives g c =
+pub returns-else-kind-end_kind-clause-gives : goal.returns-else-kind-end_kind-clause-gives
+returns-else-kind-end_kind-clause-gives g c =
     let e = left_by g.F.Format.framing g.F.Format.meaning _ _ _ _ _ c.in-Records.is c.self.invariant.within c.self.view_is c.in-Ok.ensures.value in
-    let goes_on = ne_eqb _ _ (λ p. c.if-kind-last.false (c.kind.ensures ∙ p ∙ sym c.last.ensures)) in
+    let goes_on = ne_eqb _ _ (λ p. c.if-kind-end_kind.false (c.kind.ensures ∙ p ∙ sym c.end_kind.ensures)) in
     rw goes_on at e
     ∙ ap (with_step (step_value_of c.in-Ok.step)) (sym (left_behind g.F.Format.framing g.F.Format.meaning c.self.inside.reading c.self.inside.number c.size.result c.self.inside.rest.now c.in-Records.is c.size.ensures))

@@ -1,10 +1,6 @@
-//! What faults show to users, and in the files beside this one: numbers, notes and sources.
+//! What faults show to users.
 
-mod codes;
-mod note_counts;
-mod sources;
-
-use super::*;
+use draw_ops::Fault;
 use std::test::Fail;
 
 #[test]

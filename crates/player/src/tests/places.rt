@@ -1,6 +1,6 @@
 //! Worked values, by hand, and each limit from both sides.
 
-use super::*;
+use mapping::{Frame, MapMode, PageAxis, PageMap, Place, Point};
 use std::test::Fail;
 
 fn axis(window_origin: i32, window_extent: i32, viewport_extent: i32) -> Option<PageAxis> {

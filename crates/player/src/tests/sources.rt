@@ -1,13 +1,6 @@
 //! What a listed source gives, and how many steps it has.
 
-use crate::counting::count_steps;
-use crate::fault::Fault;
-use crate::listed::Listed;
-use crate::note::Note;
-use crate::notes::Notes;
-use crate::operation::Op;
-use crate::source::OpSource;
-use crate::step::Step;
+use draw_ops::{Fault, Listed, Note, NoteSet, Op, OpSource, Step, count_steps};
 use mapping::Point;
 use point_views::{Points, Polys};
 use std::test::Fail;
@@ -17,7 +10,7 @@ fn save() -> Step<'static> {
     Step {
         number: 0,
         op: Op::Save,
-        notes: Notes::none(),
+        notes: NoteSet::none(),
     }
 }
 
@@ -26,7 +19,7 @@ fn move_to() -> Step<'static> {
     Step {
         number: 1,
         op: Op::MoveTo(Point { x: 3, y: -4 }),
-        notes: Notes::none(),
+        notes: NoteSet::none(),
     }
 }
 
@@ -35,7 +28,7 @@ fn skipped() -> Step<'static> {
     Step {
         number: 2,
         op: Op::NoEffect,
-        notes: Notes::none().with(Note::Skipped),
+        notes: NoteSet::none().with(Note::Skipped),
     }
 }
 
@@ -47,7 +40,7 @@ fn gives_its_steps_and_then_none_twice(rt: HostRuntime) -> Result<(), Fail> {
     let polyline = Step {
         number: 1,
         op: Op::Polyline(Polys::one(points)),
-        notes: Notes::none(),
+        notes: NoteSet::none(),
     };
     let steps = [save(), polyline, skipped()];
     let mut source = Listed::new(&steps, None);

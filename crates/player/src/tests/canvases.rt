@@ -1,6 +1,6 @@
 //! Texts byte by byte, and writers that are slow or fail.
 
-use super::*;
+use canvas::{Canvas, OutOfMemory, WriteFault};
 use mapping::Colour;
 use std::io;
 use std::io::{ErrorKind, Write};

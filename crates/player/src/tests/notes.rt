@@ -1,7 +1,6 @@
 //! Names of notes, and counts of them.
 
-use crate::note::Note;
-use crate::notes::Notes;
+use draw_ops::{Note, NoteSet, Notes};
 use std::test::Fail;
 
 /// Every kind of note, with its name.
@@ -67,5 +66,23 @@ fn notes_are_added_kind_by_kind(rt: HostRuntime) -> Result<(), Fail> {
         assert_eq!(rt; both.count(note), expected, "{note:?}");
     }
     assert!(rt; first.plus(Notes::none()) == first);
+    Ok(())
+}
+
+#[test]
+fn a_set_has_each_kind_at_most_once(rt: HostRuntime) -> Result<(), Fail> {
+    let set = NoteSet::none().with(Note::Skipped).with(Note::AfterEnd);
+    let again = set.with(Note::Skipped);
+    assert!(rt; again == set);
+    for (note, _) in KINDS {
+        let noted = match note {
+            Note::Skipped | Note::AfterEnd => true,
+            _ => false,
+        };
+        assert_eq!(rt; set.contains(note), noted, "{note:?}");
+        assert!(rt; !NoteSet::none().contains(note), "{note:?}");
+        assert!(rt; NoteSet::none().with(note).contains(note), "{note:?}");
+        assert_eq!(rt; Notes::of(set).count(note), u32::from(noted), "{note:?}");
+    }
     Ok(())
 }

@@ -1,9 +1,7 @@
 //! Views over small files, with every expected number worked by hand.
 
-use crate::counts::Counts;
-use crate::points::Points;
-use crate::polys::Polys;
 use mapping::Point;
+use point_views::{Counts, Points, Polys, i16_at, i32_at, u8_at, u16_at, u32_at};
 use std::test::Fail;
 
 /// Three points of 16-bit numbers: (-1, 1), (-32768, 32767) and (300, -2).
@@ -174,4 +172,18 @@ fn takes_points_as_one_list(rt: HostRuntime) -> Result<(), Fail> {
     assert_eq!(rt; polys.lists().count(), 1);
     assert!(rt; Polys::empty().is_empty());
     Ok(())
+}
+
+#[test]
+fn numbers_begin_with_their_lowest_byte(rt: HostRuntime) {
+    let bytes = [0x01, 0x02, 0x83, 0xff, 0xff, 0xff];
+    assert_eq!(rt; u8_at(&bytes, 2), 0x83);
+    assert_eq!(rt; u16_at(&bytes, 0), 0x0201);
+    assert_eq!(rt; u16_at(&bytes, 1), 0x8302);
+    assert_eq!(rt; u32_at(&bytes, 0), 0xff830201);
+    assert_eq!(rt; i16_at(&bytes, 1), -31998);
+    assert_eq!(rt; i16_at(&bytes, 0), 513);
+    // 0xff830201 is 8,191,487 less than 2^32.
+    assert_eq!(rt; i32_at(&bytes, 0), -8191487);
+    assert_eq!(rt; i32_at(&bytes, 2), -125);
 }

@@ -1,8 +1,7 @@
 //! Numbers of settings, raster operations and hatches: the first, the last, and the ones beside them.
 
-use crate::hatch::Hatch;
-use crate::raster_op::RasterOp;
-use crate::settings::{BackgroundMode, FillMode, MapMode};
+use draw_ops::{BackgroundMode, FillMode, Hatch, RasterOp};
+use mapping::MapMode;
 use std::test::Fail;
 
 #[test]
@@ -15,6 +14,9 @@ fn background_modes_are_1_and_2(rt: HostRuntime) -> Result<(), Fail> {
         (u32::MAX, None),
     ] {
         assert_eq!(rt; BackgroundMode::from_code(code), mode, "{code}");
+        if let Some(mode) = mode {
+            assert_eq!(rt; u32::from(mode.code()), code);
+        }
     }
     Ok(())
 }
@@ -29,6 +31,9 @@ fn fill_modes_are_1_and_2(rt: HostRuntime) -> Result<(), Fail> {
         (u32::MAX, None),
     ] {
         assert_eq!(rt; FillMode::from_code(code), mode, "{code}");
+        if let Some(mode) = mode {
+            assert_eq!(rt; u32::from(mode.code()), code);
+        }
     }
     Ok(())
 }
@@ -46,6 +51,9 @@ fn map_modes_leave_out_2_to_6(rt: HostRuntime) -> Result<(), Fail> {
         (u32::MAX, None),
     ] {
         assert_eq!(rt; MapMode::from_code(code), mode, "{code}");
+        if let Some(mode) = mode {
+            assert_eq!(rt; u32::from(mode.code()), code);
+        }
     }
     Ok(())
 }

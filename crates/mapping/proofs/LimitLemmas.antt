@@ -1,0 +1,25 @@
+-- Limits as facts and as tests.
+use Rattle.std.proofs.Common.{◌≡◌, ℕ, ◌≤◌, ℤ, pos, neg_ℤ, ◌≤ℤ◌, int_le, nat_le, Bool, true, false, ◌&&◌, arith}
+use Rattle.std.proofs.lemmas.Int.{ints}
+use Rattle.std.proofs.lemmas.Bool.{and_parts, and_from, le-leb, leb-true}
+use Rattle.mapping.specs.Limits.{IsWithin, is_within, IsSurfaceSide, IsFrameSide, surface_side_limit, frame_side_limit, TestsAreLimits}
+
+le_true : (a b : ℤ) → a ≤ℤ b → int_le a b ≡ true
+le_true a b h = grind (arith, ints)
+
+true_le : (a b : ℤ) → int_le a b ≡ true → a ≤ℤ b
+true_le a b h = grind (arith, ints)
+
+within_parts : (limit : ℕ) (v : ℤ) → is_within limit v ≡ true → IsWithin limit v
+within_parts limit v t =
+    let parts = and_parts (int_le (neg_ℤ (pos limit)) v) (int_le v (pos limit)) t in record { low = true_le _ _ parts.0; high = true_le _ _ parts.1 }
+
+between_parts : (low high n : ℕ) → nat_le low n && nat_le n high ≡ true → (low ≤ n) × (n ≤ high)
+between_parts low high n t = let parts = and_parts (nat_le low n) (nat_le n high) t in (leb-true _ _ parts.0, leb-true _ _ parts.1)
+
+pub tests_are_limits : TestsAreLimits
+tests_are_limits = record {
+  within = λ limit v. (within_parts limit v, λ h. and_from (int_le (neg_ℤ (pos limit)) v) (int_le v (pos limit)) (le_true _ _ h.low) (le_true _ _ h.high));
+  surface_side = λ side. (λ t. let parts = between_parts 1 surface_side_limit side t in record { not_empty = parts.0; within = parts.1 }, λ h. and_from (nat_le 1 side) (nat_le side surface_side_limit) (le-leb _ _ h.not_empty) (le-leb _ _ h.within));
+  frame_side = λ side. (λ t. let parts = between_parts 1 frame_side_limit side t in record { not_empty = parts.0; within = parts.1 }, λ h. and_from (nat_le 1 side) (nat_le side frame_side_limit) (le-leb _ _ h.not_empty) (le-leb _ _ h.within));
+}

@@ -1,0 +1,68 @@
+//! The steps of WMF records, with their numbers and notes.
+
+use crate::wmf::WmfOps;
+use draw_ops::{Fault, Note, NoteSet, Op, OpSource, Step};
+use mapping::{Colour, Point};
+use std::test::Fail;
+
+/// META_SETPIXEL of red at (2, 1), and META_EOF.
+const PIXEL_AND_END: [u8; 20] = [
+    7, 0, 0, 0, 0x1f, 4, 255, 0, 0, 0, 1, 0, 2, 0, // size in words, function, colour, y, x
+    3, 0, 0, 0, 0, 0, // size in words, function
+];
+
+/// The pixel's step, which is the first.
+fn pixel() -> Step<'static> {
+    Step {
+        number: 0,
+        op: Op::Pixel {
+            point: Point { x: 2, y: 1 },
+            colour: Colour { r: 255, g: 0, b: 0 },
+        },
+        notes: NoteSet::none(),
+    }
+}
+
+/// The step of the end record.
+fn end(number: u32, notes: NoteSet) -> Step<'static> {
+    Step {
+        number,
+        op: Op::NoEffect,
+        notes,
+    }
+}
+
+#[test]
+fn each_record_is_a_step_with_its_number(rt: HostRuntime) -> Result<(), Fail> {
+    let mut source = WmfOps::new(&PIXEL_AND_END);
+    assert!(rt; source.next_op()? == Some(pixel()));
+    assert!(rt; source.next_op()? == Some(end(1, NoteSet::none())));
+    assert!(rt; source.next_op()?.is_none());
+    assert!(rt; source.next_op()?.is_none());
+    Ok(())
+}
+
+#[test]
+fn bytes_behind_the_end_are_noted_with_the_end(rt: HostRuntime) -> Result<(), Fail> {
+    let mut file = Vec::from_slice(rt.alloc(), &PIXEL_AND_END)?;
+    file.push(0)?;
+    let mut source = WmfOps::new(file.as_slice());
+    assert!(rt; source.next_op()? == Some(pixel()));
+    let noted = NoteSet::none().with(Note::AfterEnd);
+    assert!(rt; source.next_op()? == Some(end(1, noted)));
+    assert!(rt; source.next_op()?.is_none());
+    Ok(())
+}
+
+#[test]
+fn a_fault_comes_again_at_each_call(rt: HostRuntime) -> Result<(), Fail> {
+    let front = PIXEL_AND_END.get(..19).ok_or("a front")?;
+    let mut source = WmfOps::new(front);
+    assert!(rt; source.next_op()? == Some(pixel()));
+    for _ in 0..3 {
+        assert!(rt; source.next_op() == Err(Fault::NoEnd));
+    }
+    let empty: [u8; 0] = [];
+    assert!(rt; WmfOps::new(&empty).next_op() == Err(Fault::NoEnd));
+    Ok(())
+}
