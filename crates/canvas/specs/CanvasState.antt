@@ -22,8 +22,8 @@ pub record HasPixel (canvas : CanvasState) (x y : ℕ) : Type 0 where
   pub to_last : y < canvas.first + canvas.rows
 
 -- where the colour of pixel (x, y) stands in the list of colours
-abbrev pub place_of : CanvasState → ℕ → ℕ → ℕ
-place_of canvas x y = (y - canvas.first) * canvas.width + x
+abbrev pub colour_index : CanvasState → ℕ → ℕ → ℕ
+colour_index canvas x y = (y - canvas.first) * canvas.width + x
 
 -- a canvas before anything is written
 abbrev pub unwritten : ℕ → ℕ → ℕ → Colour → CanvasState

@@ -3,7 +3,7 @@
 ghost use Rattle.std.specs.Prelude.{◌≡◌, ◌+◌, ◌*◌, ◌<◌, ◌≤◌, ◌^◌, ◌↔◌, Some, IsTrue, IfOk, OnOk, OnErr, length, slice_get, slice_set};
 ghost use Rattle.std.specs.Io.KnownBytes.{Appends};
 ghost use Rattle.mapping.specs.Limits.{IsSurfaceSide};
-ghost use Rattle.canvas.specs.CanvasState.{HasPixel, image_of, place_of, unwritten};
+ghost use Rattle.canvas.specs.CanvasState.{HasPixel, image_of, colour_index, unwritten};
 ghost use Rattle.canvas.specs.Ppm.{AppendsFront, ppm_text};
 
 use crate::canvas_error::{OutOfMemory, WriteFault};
@@ -107,7 +107,7 @@ impl Canvas {
     /// The colour of the surface's pixel `(x, y)`.
     pub fn colour(&self, x: u32, y: u32) -> Colour
         requires { HasPixel self.now x y }
-        ensures { slice_get self.now.colours (place_of self.now x y) ≡ Some result }
+        ensures { slice_get self.now.colours (colour_index self.now x y) ≡ Some result }
     {
         self.colours[place(self.width, y - self.first, x)]
     }
@@ -116,7 +116,7 @@ impl Canvas {
     pub fn put(&mut self, x: u32, y: u32, colour: Colour)
         requires pixel { HasPixel self.old x y }
         requires countable { self.old.writes + 1 < 2 ^ 64 }
-        ensures pixel { self.new.colours ≡ slice_set self.old.colours (place_of self.old x y) colour }
+        ensures pixel { self.new.colours ≡ slice_set self.old.colours (colour_index self.old x y) colour }
         ensures count { self.new.writes ≡ self.old.writes + 1 }
         ensures width { self.new.width ≡ self.old.width }
         ensures first { self.new.first ≡ self.old.first }

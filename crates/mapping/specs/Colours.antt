@@ -2,9 +2,9 @@
 use Rattle.mapping.specs.declared.geometry.Colour.{Colour}
 
 -- every part full
-abbrev pub white : Colour
-white = record { r = 255; g = 255; b = 255 }
+abbrev pub white_colour : Colour
+white_colour = record { r = 255; g = 255; b = 255 }
 
 -- every part none
-abbrev pub black : Colour
-black = record { r = 0; g = 0; b = 0 }
+abbrev pub black_colour : Colour
+black_colour = record { r = 0; g = 0; b = 0 }

@@ -5,7 +5,8 @@ use Rattle.std.proofs.lemmas.Option.{same_Some, none-some}
 use Rattle.std.proofs.lemmas.Nat.{mul-add-lt, div-mul-add, mod-mul-add, div-add-mod', mod_below, div_below}
 use Rattle.mapping.specs.declared.geometry.Colour.{Colour}
 use Rattle.mapping.specs.declared.geometry.Point.{Point}
-use Rattle.player.specs.Apply.{map_indexed, count_indexes, apply, writes_of_layers}
+use Rattle.player.specs.Apply.{map_indexed, apply}
+use Rattle.player.specs.Writes.{count_indexes, writes_of_layers}
 use Rattle.mapping.specs.Surface.{Surface, is_index, placed_point}
 use Rattle.mapping.specs.Image.{Image}
 use Rattle.player.specs.Clip.{unclipped}
@@ -134,11 +135,11 @@ and_true : (b : Bool) → b && true ≡ b
 and_true true = refl
 and_true false = refl
 
-pub dotted_layer : (there placed : Point) (v : Colour) (s : Surface) (image : Image) (width : ℕ) → placed ≡ placed_point s there → width ≡ s.width → dotted placed v width image.colours ≡ (apply (dot_layer there v) s image).colours
+pub dotted_layer : (there placed : Point) (v : Colour) (s : Surface) (image : Image) (width : ℕ) → placed ≡ placed_point there s → width ≡ s.width → dotted placed v width image.colours ≡ (apply (dot_layer there v) s image).colours
 dotted_layer there placed v s image width p w =
-    rw (p, w) (same_map _ _ (λ k old. rw (and_true (is_at_index (placed_point s there) s.width k)) refl) 0 image.colours)
+    rw (p, w) (same_map _ _ (λ k old. rw (and_true (is_at_index (placed_point there s) s.width k)) refl) 0 image.colours)
 
 -- and writes as many
-pub dots_layer : (there placed : Point) (v : Colour) (s : Surface) (width height : ℕ) → placed ≡ placed_point s there → width ≡ s.width → height ≡ s.height → dots placed width height ≡ writes_of_layers (dot_layer there v ∷ []) s
+pub dots_layer : (there placed : Point) (v : Colour) (s : Surface) (width height : ℕ) → placed ≡ placed_point there s → width ≡ s.width → height ≡ s.height → dots placed width height ≡ writes_of_layers (dot_layer there v ∷ []) s
 dots_layer there placed v s width height p w h =
-    rw (p, w, h) (same_count (is_at_index (placed_point s there) s.width) _ (λ k. sym (and_true _)) 0 (s.height * s.width) ∙ sym (add-zero _))
+    rw (p, w, h) (same_count (is_at_index (placed_point there s) s.width) _ (λ k. sym (and_true _)) 0 (s.height * s.width) ∙ sym (add-zero _))

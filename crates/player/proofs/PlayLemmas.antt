@@ -6,49 +6,64 @@ use Rattle.draw_ops.specs.RecordContent.{IsContent}
 use Rattle.mapping.specs.PlaceOf.{surface_of}
 use Rattle.mapping.specs.Surface.{Surface}
 use Rattle.canvas.specs.CanvasState.{CanvasState, image_of}
-use Rattle.mapping.specs.Image.{Image}
+use Rattle.player.specs.Apply.{image_after}
 use Rattle.player.specs.OpenedFile.{opened_of}
 use Rattle.player.specs.Opening.{Opened, opened, surface_for}
 use Rattle.player.specs.Playing.{state_of}
-use Rattle.player.specs.Plays.{PlaysRecords, stopped_on}
-use Rattle.player.specs.Run.{Stop, Outcome, shown, image_after, outcome_of, stopped, writes_after, RunsOpened, RunOpened, Run, WritesOpened, WritesIfOpened, Writes}
+use Rattle.player.specs.Plays.{PlaysRecords, StopsRecordsBy}
+use Rattle.player.specs.Run.{shown, OpenedShows, OpenedStops, OpenedWrites, RefusedIfOpened, Refused, ShowsIfOpened, Run, WritesIfOpened, Writes}
 use Rattle.player.specs.State.{State, start_of}
-use Rattle.player.specs.Wmf.{wmf, wmf_meaning}
+use Rattle.player.specs.Stop.{Stop, stop_of}
+use Rattle.player.specs.Writes.{writes_after}
+use Rattle.player.specs.Wmf.{wmf_framing, wmf_meaning}
 use Rattle.player.specs.declared.opening.OpenedFile.{OpenedFile}
 use Rattle.player.specs.declared.placed_map.PlacedMap.{PlacedMap}
+use Rattle.player.specs.declared.refusal.Refusal.{Refusal}
 
-module _ (file records : List ℕ) (width height : ℕ) (o : OpenedFile) (on : PlacedMap) (old new : CanvasState) (opens : opened file ≡ Ok (opened_of o)) (behind : records ≡ drop 40 file) (state : state_of on ≡ start_of (opened_of o)) (surface : surface_of on.place ≡ surface_for (opened_of o) width height) (plays : PlaysRecords records on old new) where
+-- what depends on the state and the surface is the same at equal ones
+same : {A : Type 0} (f : State → Surface → A) (st st' : State) (s s' : Surface) → st ≡ st' → s ≡ s' → f st s ≡ f st' s'
+same f st st' s s' p q = ap (λ (t : State). f t s) p ∙ ap (f st') q
+
+module _ (file records : List ℕ) (width height : ℕ) (o : OpenedFile) (on : PlacedMap) (opens : opened file ≡ Ok (opened_of o)) (behind : records ≡ drop 40 file) (state : state_of on ≡ start_of (opened_of o)) (surface : surface_of on.place ≡ surface_for (opened_of o) width height) where
   -- the records' content is the file's
-  of_file : IsContent wmf wmf_meaning (drop 40 file) plays.content
-  of_file = subst (λ (bytes : List ℕ). IsContent wmf wmf_meaning bytes plays.content) behind plays.of_records
+  of_file : (content : Content) → IsContent wmf_framing wmf_meaning records content → IsContent wmf_framing wmf_meaning (drop 40 file) content
+  of_file content h = subst (λ (bytes : List ℕ). IsContent wmf_framing wmf_meaning bytes content) behind h
 
-  -- what depends on the state and the surface is the same at those of the file
-  same : {A : Type 0} (f : State → Surface → A) → f (state_of on) (surface_of on.place) ≡ f (start_of (opened_of o)) (surface_for (opened_of o) width height)
-  same f = ap (λ (s : State). f s (surface_of on.place)) state ∙ ap (f (start_of (opened_of o))) surface
-
-  ends_here : shown (image_of new) ≡ outcome_of plays.content (state_of on) (surface_of on.place) (image_of old)
-  ends_here = rw plays.unstopped (ap shown plays.plays.image)
+  -- where it stops is where the file's does
+  stops : (content : Content) → stop_of content (state_of on) (surface_of on.place) ≡ stop_of content (start_of (opened_of o)) (surface_for (opened_of o) width height)
+  stops content = same (stop_of content) _ _ _ _ state surface
 
   -- the canvas shows the image of the file's run
-  pub runs : Run file width height (image_of old) (shown (image_of new))
-  runs =
-      let run : RunsOpened (opened_of o) file width height (image_of old) (shown (image_of new)) = record {
-        content = plays.content;
-        of_file = of_file;
-        ends = ends_here ∙ same (λ st s. outcome_of plays.content st s (image_of old));
+  pub runs : (old new : CanvasState) → PlaysRecords wmf_framing wmf_meaning records (state_of on) (surface_of on.place) old new → Run file width height (image_of old) (shown (image_of new))
+  runs old new h =
+      let shows : OpenedShows (opened_of o) file width height (image_of old) (image_of new) = record {
+        content = h.content;
+        of_file = of_file h.content h.of_records;
+        unstopped = sym (stops h.content) ∙ h.plays.unstopped;
+        shows = h.plays.image ∙ same (λ st s. image_after h.content.steps st s (image_of old)) _ _ _ _ state surface;
       } in
-      subst (λ (q : Result Opened Fault). RunOpened q file width height (image_of old) (shown (image_of new))) (sym opens) run
+      subst (λ (q : Result Opened Fault). ShowsIfOpened q file width height (image_of old) (image_of new)) (sym opens) shows
 
   -- so many pixels are the run's
-  pub counts : (writes : ℕ) → writes ≡ writes_after plays.content.steps (state_of on) (surface_of on.place) → Writes file width height writes
-  counts writes e =
-      let count : WritesOpened (opened_of o) file width height writes = record {
-        content = plays.content;
-        of_file = of_file;
-        unstopped = sym (same (λ st s. stopped plays.content.steps plays.content.fault 0 st s)) ∙ plays.unstopped;
-        count = e ∙ same (λ st s. writes_after plays.content.steps st s);
+  pub counts : (old new : CanvasState) (writes : ℕ) (h : PlaysRecords wmf_framing wmf_meaning records (state_of on) (surface_of on.place) old new) → writes ≡ writes_after h.content.steps (state_of on) (surface_of on.place) → Writes file width height writes
+  counts old new writes h e =
+      let count : OpenedWrites (opened_of o) file width height writes = record {
+        content = h.content;
+        of_file = of_file h.content h.of_records;
+        unstopped = sym (stops h.content) ∙ h.plays.unstopped;
+        count = e ∙ same (λ st s. writes_after h.content.steps st s) _ _ _ _ state surface;
       } in
       subst (λ (q : Result Opened Fault). WritesIfOpened q file width height writes) (sym opens) count
+
+  -- the refusal is the run's
+  pub refuses : (r : Refusal) → StopsRecordsBy wmf_framing wmf_meaning records (state_of on) (surface_of on.place) r → Refused file width height r.number r.fault
+  refuses r h =
+      let stop : OpenedStops (opened_of o) file width height h.stops.stop.number h.stops.stop.fault = record {
+        content = h.content;
+        of_file = of_file h.content h.of_records;
+        stops = sym (stops h.content) ∙ h.stops.stops;
+      } in
+      rw (h.stops.number, h.stops.fault) (subst (λ (q : Result Opened Fault). RefusedIfOpened q file width height (Some h.stops.stop.number) h.stops.stop.fault) (sym opens) stop)
 
 -- what is new on a count
 pub new_on : (old new more writes : ℕ) → new ≡ old + more → writes ≡ new - old → writes ≡ more

@@ -3,7 +3,8 @@ use Rattle.std.specs.Prelude.{ℕ, ℤ, pos, negsuc, ◌*◌, ◌/◌, ◌%◌, 
 use Rattle.mapping.specs.declared.geometry.Colour.{Colour}
 use Rattle.mapping.specs.declared.geometry.Point.{Point}
 use Rattle.mapping.specs.Surface.{is_pixel}
-use Rattle.player.specs.Apply.{map_indexed, count_indexes}
+use Rattle.player.specs.Writes.{count_indexes}
+use Rattle.player.specs.Apply.{map_indexed}
 
 -- a column and a row, if neither is negative
 abbrev pub naturals : ℤ → ℤ → Option (ℕ × ℕ)
@@ -11,10 +12,11 @@ naturals (pos x) (pos y) = Some (x, y)
 naturals (pos x) (negsuc y) = None
 naturals (negsuc x) y = None
 
+-- those of a placed point
 abbrev pub indexes_of : Point → Option (ℕ × ℕ)
 indexes_of point = naturals point.x point.y
 
--- the point is the pixel at place k, where a row has this many
+-- the point is the pixel at index k, where a row has this many
 abbrev pub is_at_index : Point → ℕ → ℕ → Bool
 is_at_index point width k = is_pixel point (k % width) (k / width)
 

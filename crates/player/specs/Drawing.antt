@@ -3,24 +3,55 @@ use Rattle.std.specs.Prelude.{List, [], ◌∷◌, Option, Some, None}
 use Rattle.mapping.specs.declared.geometry.Colour.{Colour}
 use Rattle.mapping.specs.declared.geometry.Point.{Point}
 use Rattle.mapping.specs.Plane.{plane_point}
+use Rattle.draw_ops.specs.declared.objects.Pen.{Pen}
+use Rattle.draw_ops.specs.declared.raster_op.RasterOp.{RasterOp}
+use Rattle.draw_ops.specs.declared.settings.BackgroundMode.{BackgroundMode}
+use Rattle.draw_ops.specs.declared.settings.FillMode.{FillMode}
+use Rattle.draw_ops.specs.Objects.{BrushValue}
 use Rattle.draw_ops.specs.Operation.{Operation, no_effect, save, restore, set_background_mode, set_map_mode, set_raster_op, set_fill_mode, set_background_colour, set_window_origin, set_window_extent, set_viewport_origin, set_viewport_extent, offset_window_origin, offset_viewport_origin, exclude_clip, intersect_clip, remove_clip, move_to, line_to, pixel, rectangle, polyline, polygon, polyline_to, create, select, select_palette, delete, begin_path, end_path, close_figure, abort_path, fill_path, stroke_path, stroke_and_fill_path}
+use Rattle.player.specs.Clip.{Clip}
 use Rattle.player.specs.State.{Dc, State}
 
 -- what is marked on the plane: a point in a colour
 pub data Mark : Type 0 where
   dot : Point → Colour → Mark
 
--- a drawing: its mark, and the pen, the brush, the clip and the modes of the moment
+-- what is drawn with: the pen, the brush, the modes, and the clip
+pub record Tools : Type 0 where
+  pub pen : Pen
+  pub brush : BrushValue
+  pub background_mode : BackgroundMode
+  pub background_colour : Colour
+  pub raster_op : RasterOp
+  pub fill_mode : FillMode
+  pub clip : Clip
+
+-- the tools of the moment
+abbrev pub tools_of : Dc → Tools
+tools_of dc = record {
+  pen = dc.pen.object;
+  brush = dc.brush.object;
+  background_mode = dc.background_mode;
+  background_colour = dc.background_colour;
+  raster_op = dc.raster_op;
+  fill_mode = dc.fill_mode;
+  clip = dc.clip;
+}
+
+-- a drawing: its mark, and the tools of its moment
 pub record Drawing : Type 0 where
   pub mark : Mark
-  pub dc : Dc
+  pub tools : Tools
 
--- The drawing of an operation, if it draws. What isn't played yet is refused (`plain_fault`), and draws nothing.
+-- the drawing of an operation that isn't played yet, and is refused (`plain_fault`)
+abbrev unplayed : Option Drawing
+unplayed = None
+
+-- the drawing of an operation, if it draws
 abbrev pub drawing_of : Operation → State → Option Drawing
-drawing_of (pixel point colour) state = Some (record { mark = dot (plane_point state.dc.map point.x point.y) colour; dc = state.dc })
 drawing_of no_effect state = None
 drawing_of save state = None
-drawing_of (restore number) state = None
+drawing_of (restore which) state = None
 drawing_of (set_background_mode mode) state = None
 drawing_of (set_map_mode mode) state = None
 drawing_of (set_raster_op op) state = None
@@ -36,11 +67,12 @@ drawing_of (exclude_clip corners) state = None
 drawing_of (intersect_clip corners) state = None
 drawing_of remove_clip state = None
 drawing_of (move_to point) state = None
-drawing_of (line_to point) state = None
-drawing_of (rectangle corners edges) state = None
-drawing_of (polyline lists) state = None
-drawing_of (polygon lists) state = None
-drawing_of (polyline_to points) state = None
+drawing_of (line_to point) state = unplayed
+drawing_of (pixel point colour) state = Some (record { mark = dot (plane_point state.dc.map point.x point.y) colour; tools = tools_of state.dc })
+drawing_of (rectangle corners edges) state = unplayed
+drawing_of (polyline lists) state = unplayed
+drawing_of (polygon lists) state = unplayed
+drawing_of (polyline_to points) state = unplayed
 drawing_of (create at object) state = None
 drawing_of (select index) state = None
 drawing_of (select_palette index) state = None
@@ -49,14 +81,14 @@ drawing_of begin_path state = None
 drawing_of end_path state = None
 drawing_of close_figure state = None
 drawing_of abort_path state = None
-drawing_of fill_path state = None
-drawing_of stroke_path state = None
-drawing_of stroke_and_fill_path state = None
+drawing_of fill_path state = unplayed
+drawing_of stroke_path state = unplayed
+drawing_of stroke_and_fill_path state = unplayed
 
 -- the points of a mark
-abbrev pub points_of_mark : Mark → List Point
-points_of_mark (dot point colour) = point ∷ []
+abbrev pub mark_points : Mark → List Point
+mark_points (dot point colour) = point ∷ []
 
 -- the points of a drawing
-abbrev pub points_of : Drawing → List Point
-points_of drawing = points_of_mark drawing.mark
+abbrev pub drawing_points : Drawing → List Point
+drawing_points drawing = mark_points drawing.mark

@@ -2,11 +2,11 @@
 use Rattle.std.specs.Prelude.{List, [], ◌∷◌, Option, Some, None}
 use Rattle.draw_ops.specs.Operation.{Operation}
 use Rattle.player.specs.Clip.{Clip}
-use Rattle.player.specs.Drawing.{Drawing, Mark, dot, drawing_of}
+use Rattle.player.specs.Drawing.{Drawing, Mark, Tools, dot, drawing_of}
 use Rattle.player.specs.Mixing.{Mixing, copied}
 use Rattle.player.specs.Paint.{Paint, solid}
 use Rattle.player.specs.Shape.{Shape, pixel_under}
-use Rattle.player.specs.State.{Dc, State}
+use Rattle.player.specs.State.{State}
 
 -- which pixels, in which paint, joined how, within which clip
 pub record Layer : Type 0 where
@@ -16,13 +16,14 @@ pub record Layer : Type 0 where
   pub clip : Clip
 
 -- a dot is one layer: the pixel on which its point lands, in its colour
-abbrev pub layers_of_mark : Mark → Dc → List Layer
-layers_of_mark (dot point colour) dc = record { shape = pixel_under point; paint = solid colour; mixing = copied; clip = dc.clip } ∷ []
+abbrev pub layers_of_mark : Mark → Tools → List Layer
+layers_of_mark (dot point colour) tools = record { shape = pixel_under point; paint = solid colour; mixing = copied; clip = tools.clip } ∷ []
 
 -- the layers of a drawing, the first drawn first
 abbrev pub layers_of : Drawing → List Layer
-layers_of drawing = layers_of_mark drawing.mark drawing.dc
+layers_of drawing = layers_of_mark drawing.mark drawing.tools
 
+-- the layers of a drawing, if there is one
 abbrev layers_if_drawn : Option Drawing → List Layer
 layers_if_drawn None = []
 layers_if_drawn (Some drawing) = layers_of drawing

@@ -11,10 +11,11 @@ pub mod Shape
 pub mod Paint
 pub mod Mixing
 pub mod Layer
+pub mod Writes
 pub mod Apply
+pub mod Stop
 pub mod Run
 pub mod Playing
 pub mod Plays
 pub mod Dot
 pub mod Refusal
-pub mod RefusedBy

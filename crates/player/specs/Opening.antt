@@ -4,21 +4,27 @@ use Rattle.mapping.specs.declared.geometry.Point.{Point}
 use Rattle.mapping.specs.Plane.{MapNumbers}
 use Rattle.mapping.specs.PageMap.{placeable_map}
 use Rattle.mapping.specs.Surface.{Surface}
+use Rattle.draw_ops.specs.Meaning.{Meaning}
+use Rattle.draw_ops.specs.NoteCounts.{no_notes}
+use Rattle.draw_ops.specs.Records.{Framing}
+use Rattle.player.specs.Wmf.{wmf_framing, wmf_meaning}
 use Rattle.point_views.specs.Numbers.{number_at, i16_at}
 use Rattle.draw_ops.specs.declared.fault.Fault.{Fault}
 use Rattle.draw_ops.specs.declared.fault.Fault.TheVariants.{TooLong, NotMetafile, ShortHeader, BadHeader, NoFrame}
 
 -- the formats that are opened
-pub data Format : Type 0 where
-  placeable : Format
+pub data FileFormat : Type 0 where
+  placeable : FileFormat
 
--- an opened file: its frame's sides, the map at its start, and how many object indexes it may use, where the format says so
+-- an opened file: its frame's sides, the map at its start, how many object indexes it may use, where the format says so, and what is
+-- noted of its headers (nothing so far)
 pub record Opened : Type 0 where
-  pub format : Format
+  pub format : FileFormat
   pub frame_width : ℕ
   pub frame_height : ℕ
   pub map : MapNumbers
   pub handles : Option ℕ
+  pub notes : List ℕ
 
 -- the longest file, in bytes
 unfoldable pub file_limit : ℕ
@@ -30,10 +36,11 @@ is_standard_header place file =
     (number_at 2 place file == 1 || number_at 2 place file == 2) && number_at 2 (place + 2) file == 9
     && (number_at 2 (place + 4) file == 0x0100 || number_at 2 (place + 4) file == 0x0300)
 
--- the box of META_PLACEABLE, [MS-WMF] 2.3.2.3: left and top, and the sides, negative where right or bottom comes first
+-- the box of META_PLACEABLE, [MS-WMF] 2.3.2.3: left and top
 abbrev pub box_corner : List ℕ → Point
 box_corner file = record { x = i16_at 6 file; y = i16_at 8 file }
 
+-- its sides, negative where right or bottom comes first
 abbrev pub box_sides : List ℕ → Point
 box_sides file = record { x = i16_at 10 file -ℤ i16_at 6 file; y = i16_at 12 file -ℤ i16_at 8 file }
 
@@ -45,6 +52,7 @@ opened_placeable file = record {
   frame_height = unsigned_abs (box_sides file).y;
   map = placeable_map (box_corner file) (box_sides file);
   handles = None;
+  notes = no_notes;
 }
 
 -- the 22 bytes of META_PLACEABLE and the 18 of META_HEADER, and a box with sides
@@ -59,13 +67,21 @@ placeable_file file =
 abbrev pub is_placeable : List ℕ → Bool
 is_placeable file = nat_le 4 (length file) && number_at 4 0 file == 0x9ac6cdd7
 
+-- the file's headers: too long a file, a placeable one, or none that is opened
 abbrev pub opened : List ℕ → Result Opened Fault
 opened file =
     if nat_lt file_limit (length file) then Err TooLong
     else (if is_placeable file then placeable_file file else Err NotMetafile)
 
+-- how the records of a format are framed, and what each means
+abbrev pub framing_of : FileFormat → Framing
+framing_of placeable = wmf_framing
+
+abbrev pub meaning_of : FileFormat → Meaning
+meaning_of placeable = wmf_meaning
+
 -- the bytes from record 0 on
-abbrev pub record_bytes : Format → List ℕ → List ℕ
+abbrev pub record_bytes : FileFormat → List ℕ → List ℕ
 record_bytes placeable file = drop 40 file
 
 -- the surface of these sides that shows an opened file's frame

@@ -18,7 +18,7 @@ pub data PathPhase : Type 0 where
   open_path : PathPhase
   finished_path : PathPhase
 
--- a path: its figures in order, and how many pieces they were gathered from
+-- a path: its figures, the newest last, and how many pieces they were gathered from
 pub record Path : Type 0 where
   pub phase : PathPhase
   pub figures : List Figure

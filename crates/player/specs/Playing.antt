@@ -6,9 +6,10 @@ use Rattle.mapping.specs.Plane.{plane_point}
 use Rattle.player.specs.State.{State, start_state}
 use Rattle.player.specs.declared.placed_map.PlacedMap.{PlacedMap}
 
+-- the start of a file with this map
 abbrev pub state_of : PlacedMap → State
 state_of on = start_state (map_numbers on.map) None
 
 -- the plane point of a page point
-abbrev pub on_plane : PlacedMap → Point → Point
-on_plane on point = plane_point (map_numbers on.map) point.x point.y
+abbrev pub plane_point_of : PlacedMap → Point → Point
+plane_point_of on point = plane_point (map_numbers on.map) point.x point.y

@@ -9,4 +9,4 @@ pub data Shape : Type 0 where
 
 -- the shape has the pixel (x, y)
 abbrev pub in_shape : Shape → Surface → ℕ → ℕ → Bool
-in_shape (pixel_under point) s x y = is_pixel (placed_point s point) x y
+in_shape (pixel_under point) s x y = is_pixel (placed_point point s) x y

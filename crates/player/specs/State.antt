@@ -1,7 +1,8 @@
 -- The playing state.
-use Rattle.std.specs.Prelude.{ℕ, pos, List, [], Option, None}
+use Rattle.std.specs.Prelude.{ℕ, pos, List, [], Option, Some, None}
 use Rattle.mapping.specs.declared.geometry.Colour.{Colour}
 use Rattle.mapping.specs.declared.geometry.Point.{Point}
+use Rattle.mapping.specs.Colours.{black_colour, white_colour}
 use Rattle.mapping.specs.Plane.{MapNumbers}
 use Rattle.draw_ops.specs.declared.objects.Pen.{Pen}
 use Rattle.draw_ops.specs.declared.objects.Pen.TheVariants.{Solid}
@@ -36,30 +37,33 @@ pub record Dc : Type 0 where
   pub position : Point
   pub clip : Clip
 
--- The whole state: what saving copies, and beside it the objects by their indexes, how many indexes there may be (where records don't
--- name an index there is no such number), the states saved, the newest first, and the path, if there is one.
+-- which index a new object has: the least that is free, or the one that its record gives, below this many
+pub data TableKind : Type 0 where
+  lowest_free : TableKind
+  given : ℕ → TableKind
+
+abbrev table_kind_of : Option ℕ → TableKind
+table_kind_of None = lowest_free
+table_kind_of (Some handles) = given handles
+
+-- The whole state: what saving copies, and beside it the objects by their indexes, in order and each index once, the kind of that
+-- table, the states saved, the newest first, and the path, if there is one.
 pub record State : Type 0 where
   pub dc : Dc
   pub slots : List (ℕ × ObjectValue)
-  pub handles : Option ℕ
+  pub table_kind : TableKind
   pub saved : List Dc
   pub path : Option Path
-
-abbrev black : Colour
-black = record { r = 0; g = 0; b = 0 }
-
-abbrev white : Colour
-white = record { r = 255; g = 255; b = 255 }
 
 -- what drawings depend on before the first record: stock objects, and nothing clipped
 abbrev pub start_dc : MapNumbers → Dc
 start_dc map = record {
-  pen = record { object = Solid black; index = None };
-  brush = record { object = solid_brush white; index = None };
+  pen = record { object = Solid black_colour; index = None };
+  brush = record { object = solid_brush white_colour; index = None };
   font = None;
   palette = None;
   background_mode = Opaque;
-  background_colour = white;
+  background_colour = white_colour;
   raster_op = CopyPen;
   fill_mode = Alternate;
   map = map;
@@ -69,7 +73,8 @@ start_dc map = record {
 
 -- the state before the first record of a file that starts with this map
 abbrev pub start_state : MapNumbers → Option ℕ → State
-start_state map handles = record { dc = start_dc map; slots = []; handles = handles; saved = []; path = None }
+start_state map handles = record { dc = start_dc map; slots = []; table_kind = table_kind_of handles; saved = []; path = None }
 
+-- the state before the first record of an opened file
 abbrev pub start_of : Opened → State
 start_of o = start_state o.map o.handles

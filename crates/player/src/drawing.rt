@@ -6,21 +6,25 @@ ghost use Rattle.draw_ops.specs.Fault.{IsInRecord};
 ghost use Rattle.draw_ops.specs.Operation.{pixel};
 ghost use Rattle.draw_ops.specs.OperationOf.{operation_of};
 ghost use Rattle.player.specs.Dot.{dots, dotted, indexes_of};
-ghost use Rattle.player.specs.Plays.{Draws, IsWhole, SameRows, fault_on};
+ghost use Rattle.mapping.specs.PlaceOf.{surface_of};
+ghost use Rattle.player.specs.OperationFault.{fault_of};
+ghost use Rattle.player.specs.Playing.{state_of};
+ghost use Rattle.player.specs.Plays.{Draws, IsWhole, SameRows};
 
 use crate::placed_map::PlacedMap;
 use canvas::Canvas;
 use draw_ops::{Fault, Op};
 use mapping::{Colour, Point};
 
-/// Draws an operation, or tells its first fault. After a fault the canvas is as it was.
+/// Draws an operation, or tells its first fault. After a fault the canvas is as it was. An operation
+/// has at most two layers, and a surface at most 2^26 pixels.
 pub(crate) fn draw(op: Op<'_>, on: &PlacedMap, canvas: &mut Canvas) -> Result<(), Fault>
-    requires whole { IsWhole canvas.old on.now.place }
-    requires countable { canvas.old.writes + 1 < 2 ^ 64 }
-    ensures fault { fault_on (operation_of op.entry) on.now ≡ result_err result }
-    ensures drawn { OnOk result (Draws (operation_of op.entry) on.now canvas.old canvas.new) }
+    requires whole { IsWhole canvas.old (surface_of on.now.place) }
+    requires countable { canvas.old.writes + 2 ^ 27 < 2 ^ 64 }
+    ensures fault { fault_of (operation_of op.entry) (state_of on.now) (surface_of on.now.place) ≡ result_err result }
+    ensures drawn { OnOk result (Draws (operation_of op.entry) (state_of on.now) (surface_of on.now.place) canvas.old canvas.new) }
     ensures rows { SameRows canvas.old canvas.new }
-    ensures few { canvas.new.writes ≤ canvas.old.writes + 1 }
+    ensures few { canvas.new.writes ≤ canvas.old.writes + 2 ^ 27 }
     ensures kept { OnErr result (canvas.new ≡ canvas.old) }
     ensures in_record { IfErr result IsInRecord }
 {
@@ -34,10 +38,10 @@ pub(crate) fn draw(op: Op<'_>, on: &PlacedMap, canvas: &mut Canvas) -> Result<()
 
 /// Draws a pixel, or tells that it doesn't land.
 fn dot(point: Point, colour: Colour, on: &PlacedMap, canvas: &mut Canvas) -> Result<(), Fault>
-    requires whole { IsWhole canvas.old on.now.place }
+    requires whole { IsWhole canvas.old (surface_of on.now.place) }
     requires countable { canvas.old.writes + 1 < 2 ^ 64 }
-    ensures fault { fault_on (pixel point colour) on.now ≡ result_err result }
-    ensures drawn { OnOk result (Draws (pixel point colour) on.now canvas.old canvas.new) }
+    ensures fault { fault_of (pixel point colour) (state_of on.now) (surface_of on.now.place) ≡ result_err result }
+    ensures drawn { OnOk result (Draws (pixel point colour) (state_of on.now) (surface_of on.now.place) canvas.old canvas.new) }
     ensures rows { SameRows canvas.old canvas.new }
     ensures few { canvas.new.writes ≤ canvas.old.writes + 1 }
     ensures kept { OnErr result (canvas.new ≡ canvas.old) }

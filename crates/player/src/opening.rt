@@ -1,6 +1,6 @@
 //! Opening a file: its frame, its start map, and where its records begin.
 
-ghost use Rattle.std.specs.Prelude.{◌≡◌, ◌-ℤ◌, ◌+◌, ◌≤◌, ◌==◌, ◌||◌, unsigned_abs, is_none, IfSome, IfOk, IfErr, ◌<◌, length, drop};
+ghost use Rattle.std.specs.Prelude.{◌≡◌, ◌-ℤ◌, ◌+◌, ◌≤◌, ◌==◌, ◌||◌, false, unsigned_abs, is_none, IfSome, IfOk, IfErr, length, drop};
 ghost use Rattle.draw_ops.specs.FaultTable.{fault_row};
 ghost use Rattle.draw_ops.specs.Results.{result_map};
 ghost use Rattle.point_views.specs.Numbers.{i16_at};
@@ -34,7 +34,7 @@ pub(crate) struct OpenedFile<'a> {
 pub(crate) fn open(file: &[u8]) -> Result<OpenedFile<'_>, Fault>
     ensures opened { opened file.entry.now ≡ result_map opened_of result }
     ensures records { IfOk result (λ o. o.records.now ≡ drop 40 file.entry.now) }
-    ensures in_no_record { IfErr result (λ fault. (fault_row fault).code < 10) }
+    ensures in_no_record { IfErr result (λ fault. (fault_row fault).in_record ≡ false) }
 {
     if file.len() > FILE_LIMIT {
         return Err(Fault::TooLong);
@@ -56,7 +56,7 @@ fn begins_placeable(file: &[u8]) -> bool
 fn open_placeable(file: &[u8]) -> Result<OpenedFile<'_>, Fault>
     ensures opened { placeable_file file.entry.now ≡ result_map opened_of result }
     ensures records { IfOk result (λ o. o.records.now ≡ drop 40 file.entry.now) }
-    ensures in_no_record { IfErr result (λ fault. (fault_row fault).code < 10) }
+    ensures in_no_record { IfErr result (λ fault. (fault_row fault).in_record ≡ false) }
 {
     if file.len() < HEADERS {
         return Err(Fault::ShortHeader);
@@ -89,9 +89,11 @@ fn has_standard_header(file: &[u8]) -> bool
     requires { 40 ≤ length file.now }
     ensures { result ≡ is_standard_header 22 file.now }
 {
-    let kind = u16_at(file, 22);
+    let header_type = u16_at(file, 22);
     let version = u16_at(file, 26);
-    (kind == 1 || kind == 2) && u16_at(file, 24) == 9 && (version == 0x0100 || version == 0x0300)
+    (header_type == 1 || header_type == 2)
+        && u16_at(file, 24) == 9
+        && (version == 0x0100 || version == 0x0300)
 }
 
 /// A coordinate of the box.

@@ -7,7 +7,7 @@ ghost use Rattle.mapping.specs.PageMap.{map_numbers};
 ghost use Rattle.mapping.specs.Plane.{IsOnPlane, is_on_plane, plane_point};
 ghost use Rattle.mapping.specs.PlaceOf.{surface_of};
 ghost use Rattle.mapping.specs.Surface.{placed_point};
-ghost use Rattle.player.specs.OperationFault.{off_plane};
+ghost use Rattle.player.specs.OperationFault.{off_plane_fault};
 
 use draw_ops::Fault;
 use mapping::{PageMap, Place, Point};
@@ -22,13 +22,13 @@ pub(crate) struct PlacedMap {
 }
 
 impl PlacedMap {
-    ghost use Rattle.player.specs.Playing.{on_plane};
+    ghost use Rattle.player.specs.Playing.{plane_point_of};
 
     /// The placed point of a page point, or `OffPlane` where it leaves the plane or the range of placed
     /// coordinates.
     pub(crate) fn place_page_point(&self, point: Point) -> Result<Point, Fault>
-        ensures fault { off_plane (on_plane self.now point ∷ []) (surface_of self.now.place) ≡ result_err result }
-        ensures point { IfOk result (λ placed. placed ≡ placed_point (surface_of self.now.place) (on_plane self.now point)) }
+        ensures fault { off_plane_fault (plane_point_of self.now point ∷ []) (surface_of self.now.place) ≡ result_err result }
+        ensures point { IfOk result (λ placed. placed ≡ placed_point (plane_point_of self.now point) (surface_of self.now.place)) }
         ensures in_record { IfErr result IsInRecord }
     {
         let Some(point) = plane_point(point, &self.map) else {
@@ -43,7 +43,7 @@ impl PlacedMap {
 
 /// The plane point of a page point, or none where it would leave the plane.
 fn plane_point(point: Point, map: &PageMap) -> Option<Point>
-    ensures point { let there = plane_point (map_numbers map.now) point.x point.y in SomeIff result (IsOnPlane there) there }
+    ensures point { let p = plane_point (map_numbers map.now) point.x point.y in SomeIff result (IsOnPlane p) p }
     ensures test { is_some result ≡ is_on_plane (plane_point (map_numbers map.now) point.x point.y) }
 {
     map.plane(i64::from(point.x), i64::from(point.y))

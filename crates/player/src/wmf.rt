@@ -2,18 +2,15 @@
 
 ghost use Rattle.std.specs.Prelude.{◌≡◌, IfErr};
 ghost use Rattle.draw_ops.specs.Fault.{IsInRecord};
-ghost use Rattle.draw_ops.specs.Meaning.{unnoted};
-ghost use Rattle.draw_ops.specs.OperationOf.{operation_of};
 ghost use Rattle.draw_ops.specs.RecordOf.{meant_of};
 ghost use Rattle.draw_ops.specs.Results.{result_map};
-ghost use Rattle.player.specs.Wmf.{set_pixel, wmf, wmf_meaning};
+ghost use Rattle.player.specs.Wmf.{set_pixel, wmf_framing, wmf_meaning};
 
-use draw_ops::{Fault, Format, Meant, NoteSet, Op, RawRecord, RecordOps, rgb_at};
-use mapping::Point;
-use point_views::{i16_at, u16_at, u32_at};
+use draw_ops::{Fault, Format, Meant, Op, RawRecord, RecordOps, rgb_at, yx_at};
+use point_views::{u16_at, u32_at};
 
 /// The bytes of a record's head: the size in words of two bytes, and the function.
-const HEAD: usize = 6;
+const HEAD_LENGTH: usize = 6;
 
 // The functions ([MS-WMF] 2.1.1.1).
 const META_EOF: u32 = 0x0000;
@@ -28,33 +25,33 @@ pub(crate) struct Wmf;
 pub(crate) type WmfOps<'a> = RecordOps<'a, Wmf>;
 
 impl Format for Wmf {
-    ghost framing = { wmf };
+    ghost framing = { wmf_framing };
 
     ghost meaning = { wmf_meaning };
 
-    fn head() -> usize {
-        HEAD
+    fn head_length() -> usize {
+        HEAD_LENGTH
     }
 
     fn size(bytes: &[u8]) -> usize {
         2 * u32_at(bytes, 0) as usize
     }
 
-    fn is_size(size: usize) -> bool {
-        HEAD <= size && size % 2 == 0
+    fn may_be_size(size: usize) -> bool {
+        HEAD_LENGTH <= size && size % 2 == 0
     }
 
     fn kind(bytes: &[u8]) -> u32 {
         u32::from(u16_at(bytes, 4))
     }
 
-    fn last() -> u32 {
+    fn end_kind() -> u32 {
         META_EOF
     }
 
     fn read(_number: u32, front: RawRecord<'_>) -> Result<Meant<'_>, Fault> {
         match front.kind {
-            META_EOF => Ok(unnoted(Op::NoEffect)),
+            META_EOF => Ok(Meant::unnoted(Op::NoEffect)),
             META_SETPIXEL => pixel(front.bytes),
             kind => Err(Fault::Unsupported(kind)),
         }
@@ -70,19 +67,6 @@ fn pixel(bytes: &[u8]) -> Result<Meant<'_>, Fault>
         return Err(Fault::BadParams);
     }
     let colour = rgb_at(bytes, 6)?;
-    let point = Point {
-        x: i32::from(i16_at(bytes, 12)),
-        y: i32::from(i16_at(bytes, 10)),
-    };
-    Ok(unnoted(Op::Pixel { point, colour }))
-}
-
-/// An operation of which nothing is to be noted.
-fn unnoted(op: Op<'_>) -> Meant<'_>
-    ensures { meant_of result ≡ unnoted (operation_of op.entry) }
-{
-    Meant {
-        op,
-        notes: NoteSet::none(),
-    }
+    let point = yx_at(bytes, 10);
+    Ok(Meant::unnoted(Op::Pixel { point, colour }))
 }

@@ -3,7 +3,7 @@ use Rattle.std.proofs.Common.{◌≡◌, ◌+◌, List, ap, ◌∙◌, refl}
 use Rattle.mapping.specs.declared.geometry.Colour.{Colour}
 use Rattle.mapping.specs.PlaceOf.{surface_of}
 use Rattle.canvas.specs.CanvasState.{CanvasState, image_of}
-use Rattle.player.specs.Playing.{on_plane}
+use Rattle.player.specs.Playing.{plane_point_of}
 use Rattle.player.specs.Plays.{SameRows}
 use Rattle.player.proofs.DotLemmas.{dotted_layer, dots_layer}
 use Rattle.player.proofs.drawing.dot.Goals as goal
@@ -14,7 +14,7 @@ same_sides old new colours same e = rw (same.width, same.rows, e) refl
 
 pub returns-clause-drawn : goal.returns-clause-drawn
 returns-clause-drawn c =
-    let there = on_plane c.args.on.now c.args.point in
+    let there = plane_point_of c.args.on.now c.args.point in
     let surface = surface_of c.args.on.now.place in
     let whole = c.requires.whole in
     let put = c.put.ensures in

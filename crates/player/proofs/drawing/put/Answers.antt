@@ -1,6 +1,6 @@
 use Rattle.std.proofs.Common.{◌≡◌, ℕ, ◌+◌, ◌-◌, ◌*◌, ◌<◌, set, arith, refl, sym, ap, ◌∙◌}
 use Rattle.std.proofs.lemmas.Bool.{false≢true}
-use Rattle.canvas.specs.CanvasState.{CanvasState, HasPixel, place_of}
+use Rattle.canvas.specs.CanvasState.{CanvasState, HasPixel, colour_index}
 use Rattle.player.proofs.DotLemmas.{dotted_nowhere, dots_nowhere, dotted_outside, dots_outside, dotted_at, dots_at}
 use Rattle.player.proofs.drawing.put.Goals as goal
 
@@ -17,7 +17,7 @@ inside first has = (has.column, omega (arith, has.to_last))
 outside : {canvas : CanvasState} {x y : ℕ} → canvas.first ≡ 0 → (HasPixel canvas x y → ⊥) → x < canvas.width → y < canvas.rows → ⊥
 outside first lacks column row = lacks (record { column = column; from_first = omega arith; to_last = omega arith })
 
-place : (canvas : CanvasState) (x y : ℕ) → canvas.first ≡ 0 → place_of canvas x y ≡ y * canvas.width + x
+place : (canvas : CanvasState) (x y : ℕ) → canvas.first ≡ 0 → colour_index canvas x y ≡ y * canvas.width + x
 place canvas x y first = let row : y - canvas.first ≡ y = omega arith in rw row refl
 
 pub returns-then-has_pixel-clause-colours : goal.returns-then-has_pixel-clause-colours

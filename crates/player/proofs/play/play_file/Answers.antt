@@ -1,18 +1,14 @@
 -- What is played of the opened file's records over a new canvas is the file's run over white.
-use Rattle.std.proofs.Common.{◌≡◌, ◌+◌, ap, ◌∙◌, arith, subst, refl, sym, zero-add}
-use Rattle.canvas.specs.CanvasState.{CanvasState, image_of, unwritten}
-use Rattle.mapping.specs.Image.{Image}
-use Rattle.mapping.specs.declared.geometry.Colour.{Colour}
-use Rattle.player.specs.Run.{Run, shown, white}
-use Rattle.player.proofs.PlayLemmas.{runs, counts, new_on}
+use Rattle.std.proofs.Common.{◌≡◌, ap, ◌∙◌, zero-add}
+use Rattle.canvas.specs.CanvasState.{CanvasState}
+use Rattle.player.proofs.PlayLemmas.{runs, counts, refuses}
 use Rattle.player.proofs.play.play_file.Goals as goal
-use Rattle.player.proofs.play.play_file.Goals.{In_ok-play_records}
 
 pub returns-clause-image : goal.returns-clause-image
 returns-clause-image c =
     let start = c.in-Ok-new.ensures in
     let surface = rw start at c.start-on.ensures.surface in
-    let whole = runs _ _ _ _ c.in-Ok.opened c.start-on.result _ _ c.in-Ok.ensures.opened c.in-Ok.ensures.records c.start-on.ensures.state surface c.in_ok-play_records.ensures.played in
+    let whole = runs _ _ _ _ c.in-Ok.opened c.start-on.result c.in-Ok.ensures.opened c.in-Ok.ensures.records c.start-on.ensures.state surface _ _ c.in_ok-play_records.ensures.played in
     rw start at whole
 
 pub returns-clause-writes : goal.returns-clause-writes
@@ -21,4 +17,4 @@ returns-clause-writes c =
     let surface = rw start at c.start-on.ensures.surface in
     let played = c.in_ok-play_records.ensures.played in
     let none : c.in-Ok-new.canvas.writes ≡ 0 = ap (λ (s : CanvasState). s.writes) start in
-    counts _ _ _ _ c.in-Ok.opened c.start-on.result _ _ c.in-Ok.ensures.opened c.in-Ok.ensures.records c.start-on.ensures.state surface played _ (rw none at played.plays.writes ∙ zero-add _)
+    counts _ _ _ _ c.in-Ok.opened c.start-on.result c.in-Ok.ensures.opened c.in-Ok.ensures.records c.start-on.ensures.state surface _ _ _ played (rw none at played.plays.writes ∙ zero-add _)

@@ -1,10 +1,12 @@
-use Rattle.std.proofs.Common.{◌≡◌, ◌+◌, ◌≤◌, length}
+use Rattle.std.proofs.Common.{◌≡◌, ◌+◌, ◌*◌, ◌≤◌, length}
 use Rattle.canvas.specs.CanvasState.{image_of}
 use Rattle.mapping.specs.PlaceOf.{surface_of}
 use Rattle.draw_ops.specs.Records.{record_limit}
+use Rattle.player.specs.Apply.{image_after}
 use Rattle.player.specs.Playing.{state_of}
 use Rattle.player.specs.Plays.{IsWhole, SameRows}
-use Rattle.player.specs.Run.{image_after, stopped, writes_after}
+use Rattle.player.specs.Stop.{stopped}
+use Rattle.player.specs.Writes.{writes_after}
 use Rattle.player.proofs.play.play_steps.Given as goal
 
 -- what is left of the run ends as the whole run does
@@ -14,11 +16,11 @@ invariant-loop-step g l =
     let state = state_of l.on in
     let surface = surface_of l.on.place in
     record {
-      short : l.number + length (content l.source).steps ≤ record_limit;
-      few : l.canvas.writes ≤ l.fn.canvas.writes + l.number;
-      whole : IsWhole l.canvas l.on.place;
+      short : l.before + length (content l.source).steps ≤ record_limit;
+      few : l.canvas.writes ≤ l.fn.canvas.writes + 134217728 * l.before;
+      whole : IsWhole l.canvas surface;
       rows : SameRows l.fn.canvas l.canvas;
-      stops : stopped (content l.fn.source).steps (content l.fn.source).fault 0 state surface ≡ stopped (content l.source).steps (content l.source).fault l.number state surface;
+      stops : stopped (content l.fn.source).steps (content l.fn.source).fault 0 state surface ≡ stopped (content l.source).steps (content l.source).fault l.before state surface;
       image : image_after (content l.fn.source).steps state surface (image_of l.fn.canvas) ≡ image_after (content l.source).steps state surface (image_of l.canvas);
       writes : l.fn.canvas.writes + writes_after (content l.fn.source).steps state surface ≡ l.canvas.writes + writes_after (content l.source).steps state surface;
     }
