@@ -55,16 +55,6 @@ module _ (file records : List ℕ) (width height : ℕ) (o : OpenedFile) (on : P
       } in
       subst (λ (q : Result Opened Fault). WritesIfOpened q file width height writes) (sym opens) count
 
-  -- the refusal is the run's
-  pub refuses : (r : Refusal) → StopsRecordsBy wmf_framing wmf_meaning records (state_of on) (surface_of on.place) r → Refused file width height r.number r.fault
-  refuses r h =
-      let stop : OpenedStops (opened_of o) file width height h.stops.stop.number h.stops.stop.fault = record {
-        content = h.content;
-        of_file = of_file h.content h.of_records;
-        stops = sym (stops h.content) ∙ h.stops.stops;
-      } in
-      rw (h.stops.number, h.stops.fault) (subst (λ (q : Result Opened Fault). RefusedIfOpened q file width height (Some h.stops.stop.number) h.stops.stop.fault) (sym opens) stop)
-
 -- what is new on a count
 pub new_on : (old new more writes : ℕ) → new ≡ old + more → writes ≡ new - old → writes ≡ more
 new_on old new more writes e w = omega arith

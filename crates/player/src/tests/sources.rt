@@ -57,8 +57,8 @@ fn gives_its_steps_and_then_the_fault_twice(rt: HostRuntime) -> Result<(), Fail>
     let steps = [move_to()];
     let mut source = Listed::new(&steps, Some(Fault::ShortRecord));
     assert!(rt; source.next_op()? == Some(move_to()));
-    assert!(rt; source.next_op() == Err(Fault::ShortRecord));
-    assert!(rt; source.next_op() == Err(Fault::ShortRecord));
+    assert_eq!(rt; source.next_op().err(), Some(Fault::ShortRecord));
+    assert_eq!(rt; source.next_op().err(), Some(Fault::ShortRecord));
     Ok(())
 }
 

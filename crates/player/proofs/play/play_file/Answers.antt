@@ -1,7 +1,7 @@
 -- What is played of the opened file's records over a new canvas is the file's run over white.
 use Rattle.std.proofs.Common.{◌≡◌, ap, ◌∙◌, zero-add}
 use Rattle.canvas.specs.CanvasState.{CanvasState}
-use Rattle.player.proofs.PlayLemmas.{runs, counts, refuses}
+use Rattle.player.proofs.PlayLemmas.{runs, counts}
 use Rattle.player.proofs.play.play_file.Goals as goal
 
 pub returns-clause-image : goal.returns-clause-image

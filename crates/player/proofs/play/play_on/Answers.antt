@@ -1,7 +1,6 @@
 -- What is played of the opened file's records is its run, and what the count has grown by are its writes.
 use Rattle.std.proofs.Common.{◌-◌, ap, ◌∙◌}
-use Rattle.std.proofs.lemmas.Result.{err_from_is_err_and}
-use Rattle.player.proofs.PlayLemmas.{runs, counts, refuses, new_on}
+use Rattle.player.proofs.PlayLemmas.{runs, counts, new_on}
 use Rattle.player.proofs.play.play_on.Goals as goal
 
 pub returns-clause-image : goal.returns-clause-image
