@@ -3,6 +3,7 @@ little memory."""
 
 import os
 import resource
+import shutil
 import subprocess
 import tempfile
 import unittest
@@ -14,6 +15,18 @@ DOT_FILE = SAMPLES / "dot.wmf"
 CANNOT_READ = Answer(3, b"", b"metaplay: cannot read\n")
 
 CANNOT_WRITE = Answer(3, b"", b"metaplay: cannot write\n")
+
+
+# The user that owns no file.
+NOBODY = 65534
+
+
+def as_nobody():
+    """Takes a process the leave to read what its owner shut: the superuser may read all."""
+    if os.getuid() == 0:
+        os.setgroups([])
+        os.setgid(NOBODY)
+        os.setuid(NOBODY)
 
 
 def with_little_memory():
@@ -38,7 +51,8 @@ class Program(unittest.TestCase):
     @for_each_program
     def test_a_file_is_known_by_its_whole_name(self, program):
         with tempfile.TemporaryDirectory() as folder:
-            for name in ["dot.wmf", "stdin.wmf", "./stdin"]:
+            os.mkdir(f"{folder}/sub")
+            for name in ["dot.wmf", "stdin.wmf", "./stdin", "sub/stdin", "-", " a ", "STDIN"]:
                 with open(f"{folder}/{name}", "wb") as file:
                     file.write(DOT)
                 answered = answer(program, ["show", name, "4", "4"], b"no metafile", cwd=folder)
@@ -67,6 +81,27 @@ class Program(unittest.TestCase):
                 self.assertEqual(answer(program, ["show", file.name, "4", "4"]), wanted, length)
 
     @for_each_program
+    def test_an_input_may_end_at_a_piece_or_beside_it(self, program):
+        for length in [65535, 65536, 65537]:
+            given = DOT.ljust(length, b"\0")
+            self.assertEqual(len(given), length)
+            with tempfile.NamedTemporaryFile() as file:
+                file.write(given)
+                file.flush()
+                shown = Answer(0, DOT_IMAGE, b"")
+                self.assertEqual(answer(program, ["show", file.name, "4", "4"]), shown, length)
+            self.assertEqual(answer(program, ["show", "stdin", "4", "4"], given), shown, length)
+
+    @for_each_program
+    def test_a_record_across_two_pieces_is_played(self, program):
+        # The pixel of the dot in white, as often as leaves the red one the bytes 65,532 to 65,545.
+        white = b"\x07\0\0\0\x1f\x04\xff\xff\xff\0\x01\0\x02\0"
+        given = DOT[:40] + 4678 * white + DOT[40:]
+        self.assertEqual(len(given), 65552)
+        shown = Answer(0, DOT_IMAGE, b"")
+        self.assertEqual(answer(program, ["show", "stdin", "4", "4"], given), shown)
+
+    @for_each_program
     def test_the_largest_surface_is_shown(self, program):
         with tempfile.TemporaryFile() as image:
             words = [program, "show", DOT_FILE, "8192", "8192"]
@@ -84,16 +119,50 @@ class Program(unittest.TestCase):
         helped = answer(program, ["--help"])
         self.assertEqual((helped.status, helped.err), (2, b""))
         self.assertIn(b"Usage: metaplay", helped.out)
-        lines = ["", "show", "show stdin 4 8193", "show stdin x 4", "show stdin 4 4 4", "play"]
-        for words in map(str.split, lines):
-            wrong = answer(program, words, DOT)
-            self.assertEqual((wrong.status, wrong.out), (2, b""), words)
-            self.assertTrue(wrong.err.endswith(b"\n"), words)
+        self.assertEqual(helped.out.count(b"Usage:"), 1)
+        # A value that is out of range is told without the usage.
+        lines = [
+            ("", 1),
+            ("show", 1),
+            ("show stdin 4 4 4", 1),
+            ("show -- stdin 4 4 x", 1),
+            ("play", 1),
+            ("--bands", 1),
+            ("show stdin 4 8193", 0),
+            ("show stdin x 4", 0),
+        ]
+        for line, usages in lines:
+            wrong = answer(program, line.split(), DOT)
+            self.assertEqual((wrong.status, wrong.out), (2, b""), line)
+            self.assertEqual(wrong.err.count(b"Usage:"), usages, line)
+            self.assertEqual(wrong.err.count(b"error:"), 1, line)
+            self.assertTrue(wrong.err.endswith(b"\n"), line)
+
+    @for_each_program
+    def test_words_behind_two_hyphens_are_no_flags(self, program):
+        shown = Answer(0, DOT_IMAGE, b"")
+        self.assertEqual(answer(program, ["show", "--", "stdin", "4", "4"], DOT), shown)
+        with tempfile.TemporaryDirectory() as folder:
+            shutil.copy(DOT_FILE, f"{folder}/--help")
+            answered = answer(program, ["show", "--", "--help", "4", "4"], cwd=folder)
+        self.assertEqual(answered, shown)
 
     @for_each_program
     def test_what_cannot_be_read_is_refused(self, program):
         for file in ["/no/such/file", "/", ""]:
             self.assertEqual(answer(program, ["show", file, "4", "4"], DOT), CANNOT_READ, file)
+
+    @for_each_program
+    def test_what_may_not_be_read_is_refused(self, program):
+        with tempfile.TemporaryDirectory() as folder:
+            os.chmod(folder, 0o755)
+            copy = shutil.copy(program, f"{folder}/metaplay")
+            os.chmod(copy, 0o755)
+            file = shutil.copy(DOT_FILE, f"{folder}/dot.wmf")
+            words = ["show", file, "4", "4"]
+            for mode, wanted in [(0o644, Answer(0, DOT_IMAGE, b"")), (0, CANNOT_READ)]:
+                os.chmod(file, mode)
+                self.assertEqual(answer(copy, words, DOT, preexec_fn=as_nobody), wanted, mode)
 
     @for_each_program
     def test_a_full_disk_cannot_be_written(self, program):

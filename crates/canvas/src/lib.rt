@@ -6,14 +6,17 @@
 //! - A write changes the pixel that it names and no other, and is counted once (`Canvas::put`).
 //! - What is written out is the P6 text of the image, byte for byte, and after a failure a front of
 //!   that text (`Canvas::write_ppm`, by `ppm_text`).
+//! - Bytes are sent whole, or a front of them, whatever the writer takes a call (`send`).
 //!
-//! Memory, three bytes a pixel, is taken when a canvas is made. No other call takes any: their bodies
-//! show that, and no contract says it.
+//! Memory, three bytes a pixel, is taken when a canvas is made. No other call takes any: no contract says
+//! that, and a test over the built program counts its calls for memory.
 #![tactic(auto)]
 
 mod canvas_error;
 mod ppm;
+mod sending;
 mod surface;
 
 pub use canvas_error::{OutOfMemory, WriteFault};
+pub use sending::send;
 pub use surface::Canvas;

@@ -5,9 +5,10 @@ ghost use Rattle.std.specs.Io.KnownBytes.{Appends};
 ghost use Rattle.canvas.specs.Ppm.{AppendsFront, header, raster};
 
 use crate::canvas_error::WriteFault;
+use crate::sending::send;
 use itoa::Buffer;
 use mapping::Colour;
-use std::io::{ErrorKind, Write};
+use std::io::Write;
 
 /// How many pixels go into a piece. The first piece has the header as well.
 const PIECE_PIXELS: usize = 4096;
@@ -90,24 +91,4 @@ fn put_pixels(buffer: &mut [u8], at: usize, colours: &[Colour]) -> usize
         end += 3;
     }
     end
-}
-
-/// Writes all of the bytes. At a fault a front of them was written.
-fn send<W: Write>(out: &mut W, bytes: &[u8]) -> Result<(), WriteFault>
-    ensures ok { OnOk result (Appends (W.contents out.old) (W.contents out.new) bytes.now) }
-    ensures err { OnErr result (AppendsFront (W.contents out.old) (W.contents out.new) bytes.now) }
-{
-    let mut rest = bytes;
-    for _ in 0..u64::MAX {
-        if rest.is_empty() {
-            return Ok(());
-        }
-        match out.write(rest) {
-            Ok(0) => return Err(WriteFault),
-            Ok(count) => rest = &rest[count..],
-            Err(error) if error.kind() == ErrorKind::Interrupted => {}
-            Err(_) => return Err(WriteFault),
-        }
-    }
-    Err(WriteFault)
 }

@@ -1,20 +1,23 @@
 //! Reading the command line.
 
-ghost use Rattle.std.specs.Prelude.{IfOk, IfSome};
-ghost use Rattle.meta_main.specs.Sides.{HasSides, IsSide};
+ghost use Rattle.std.specs.Prelude.{◌≡◌, IfOk, IfSome, codes, false, map, string_bytes};
+ghost use Rattle.clap.specs.Words.{app_of, found_of, rows_of, rule_of, subcommand_rows_of};
+ghost use Rattle.mapping.specs.Limits.{IsSurfaceSide};
+ghost use Rattle.meta_main.specs.CommandLine.{GivesNumber, HasPlainWords, IsAskedBy, IsAskedByWords, file_rule, metaplay_app, show_app, side_rule};
+ghost use Rattle.meta_main.specs.Sides.{HasSides};
 
 use crate::asked::Line;
 use clap::error::ErrorKind;
 use clap::{Arg, ArgAction, ArgMatches, Command, Error, value_parser};
+use mapping::MAX_SURFACE_SIDE;
 use std::alloc::{AllocError, Global};
-
-/// The longest side of a surface, in pixels.
-const MAX_SIDE: u32 = 8192;
 
 /// What the words of a command line ask for, the program's name first. An error has the text that
 /// the user is shown, for asked-for help too.
 pub fn line<'a>(alloc: Global, words: &'a [String]) -> Result<Line<'a>, Error>
-    ensures { IfOk result HasSides }
+    ensures sides { IfOk result HasSides }
+    ensures asked { IfOk result (IsAskedByWords (map string_bytes words.entry.now)) }
+    ensures plain { IfOk result (HasPlainWords (map string_bytes words.entry.now)) }
 {
     let mut command = metaplay(alloc)?;
     let matches = command.try_get_matches_from_mut(words)?;
@@ -25,7 +28,9 @@ pub fn line<'a>(alloc: Global, words: &'a [String]) -> Result<Line<'a>, Error>
 }
 
 /// The program's command line.
-fn metaplay<'a>(alloc: Global) -> Result<Command<'a>, AllocError> {
+fn metaplay<'a>(alloc: Global) -> Result<Command<'a>, AllocError>
+    ensures { IfOk result (λ command. app_of command ≡ metaplay_app) }
+{
     let show = Command::new(alloc, "show")
         .about("Plays a metafile on white, and writes the image as P6 to standard output")
         .arg(file(alloc))?
@@ -39,7 +44,10 @@ fn metaplay<'a>(alloc: Global) -> Result<Command<'a>, AllocError> {
 }
 
 /// The metafile to read.
-fn file<'a>(alloc: Global) -> Arg<'a> {
+fn file<'a>(alloc: Global) -> Arg<'a>
+    ensures rule { rule_of result ≡ file_rule }
+    ensures local { result.global ≡ false }
+{
     Arg::new(alloc, "FILE")
         .required(true)
         .action(ArgAction::Set)
@@ -47,7 +55,10 @@ fn file<'a>(alloc: Global) -> Arg<'a> {
 }
 
 /// A side of the surface.
-fn side<'a>(alloc: Global, id: &'a str, help: &'a str) -> Arg<'a> {
+fn side<'a>(alloc: Global, id: &'a str, help: &'a str) -> Arg<'a>
+    ensures rule { rule_of result ≡ side_rule id.entry.now }
+    ensures local { result.global ≡ false }
+{
     Arg::new(alloc, id)
         .required(true)
         .action(ArgAction::Set)
@@ -57,23 +68,35 @@ fn side<'a>(alloc: Global, id: &'a str, help: &'a str) -> Arg<'a> {
 
 /// The command that was met, if its numbers are within their range.
 fn asked<'a>(matches: &ArgMatches<'a>) -> Option<Line<'a>>
-    ensures { IfSome result HasSides }
+    ensures sides { IfSome result HasSides }
+    ensures asked { IfSome result (IsAskedBy (subcommand_rows_of matches.now)) }
 {
-    let (name, matches) = matches.subcommand()?;
-    match name {
-        "show" => Some(Line::Show {
-            file: matches.get_str("FILE")?,
-            width: side_of(matches, "W")?,
-            height: side_of(matches, "H")?,
-        }),
-        _ => None,
-    }
+    let Some(shown) = matches.subcommand_matches("show") else {
+        return None;
+    };
+    let Some(file) = shown.get_str("FILE") else {
+        return None;
+    };
+    let Some(width) = side_of(shown, "W") else {
+        return None;
+    };
+    let Some(height) = side_of(shown, "H") else {
+        return None;
+    };
+    Some(Line::Show {
+        file,
+        width,
+        height,
+    })
 }
 
 /// A side, if it is within its range, as the parser sees to.
 fn side_of(matches: &ArgMatches<'_>, id: &str) -> Option<u32>
-    ensures { IfSome result IsSide }
+    ensures side { IfSome result IsSurfaceSide }
+    ensures given { IfSome result (GivesNumber (rows_of (found_of matches.now)) id.now) }
 {
-    let side = matches.get_one::<u32>(id)?;
-    (1 <= side && side <= MAX_SIDE).then_some(side)
+    let Some(side) = matches.get_one::<u32>(id) else {
+        return None;
+    };
+    (1 <= side && side <= MAX_SURFACE_SIDE).then_some(side)
 }

@@ -1,7 +1,9 @@
 //! Reading an input to its end.
 
-ghost use Rattle.std.specs.Prelude.{◌≡◌, ◌≤◌, ◌<◌, IfOk, IfSome, IsErr, OnOk, OnErr, length, vec_len};
+ghost use Rattle.std.specs.Prelude.{◌≡◌, ◌≤◌, ◌<◌, ◌↔◌, IfOk, IfSome, IsErr, OnOk, OnErr, length, vec_len};
+ghost use Rattle.std.specs.IoError.{error_kind};
 ghost use Rattle.std.specs.Io.KnownBytes.{IsAtEnd};
+ghost use Rattle.meta_main.specs.Faults.{fault_text};
 ghost use Rattle.meta_main.specs.Reading.{ConsumesFront, input_limit};
 
 use std::alloc::Global;
@@ -19,16 +21,28 @@ const PIECE: usize = 65536;
 #[derive(Clone, Copy, Debug, PartialEq, Eq, Error)]
 pub enum InputFault {
     /// The reader failed, or has more than 268,435,456 bytes.
-    #[error("cannot read")]
+    #[error("{}", InputFault::CannotRead.text())]
     CannotRead,
     /// Memory for the bytes was refused.
-    #[error("OutOfMemory")]
+    #[error("{}", InputFault::OutOfMemory.text())]
     OutOfMemory,
 }
 
 impl InputFault {
+    /// What went wrong, as a line on standard error tells it.
+    pub fn text(self) -> &'static str
+        ensures { result.now ≡ fault_text self }
+    {
+        match self {
+            InputFault::CannotRead => "cannot read",
+            InputFault::OutOfMemory => "OutOfMemory",
+        }
+    }
+
     /// The fault that an error of the system is, where a file is opened or the command line is read.
-    pub(crate) fn of(error: io::Error) -> InputFault {
+    pub(crate) fn of(error: io::Error) -> InputFault
+        ensures { result ≡ InputFault.OutOfMemory ↔ error_kind error ≡ ErrorKind.OutOfMemory }
+    {
         if error.kind() == ErrorKind::OutOfMemory {
             InputFault::OutOfMemory
         } else {

@@ -13,6 +13,7 @@ mod asked;
 mod command_line;
 mod input;
 mod program;
+mod report;
 mod show;
 mod status;
 #[cfg(test)]

@@ -1,16 +1,20 @@
 //! The program: the command line, its inputs, and the command that they ask for.
 
-ghost use Rattle.std.specs.Prelude.{◌≡◌, ◌≢◌, ◌⊎◌, ◌↔◌, IfOk, IfSome};
+ghost use Rattle.std.specs.Prelude.{◌≡◌, ◌≢◌, ◌≤◌, ◌⊎◌, ◌↔◌, IfOk, IfSome, codes, vec_len};
 ghost use Rattle.std.specs.Io.KnownBytes.{Keeps};
+ghost use Rattle.mapping.specs.Limits.{IsSurfaceSide};
 ghost use Rattle.clap.specs.Words.{kind_of};
-ghost use Rattle.meta_main.specs.Input.{RefusesInput, ShowsInput, standard_input};
-ghost use Rattle.meta_main.specs.Show.{IsRefused, Shows};
-ghost use Rattle.meta_main.specs.Sides.{HasSides, IsSide};
+ghost use Rattle.meta_main.specs.Faults.{fault_text};
+ghost use Rattle.meta_main.specs.Input.{FailsInput, RefusesInput, ShowsInput, standard_input};
+ghost use Rattle.meta_main.specs.Reading.{input_limit};
+ghost use Rattle.meta_main.specs.Report.{Reports};
+ghost use Rattle.meta_main.specs.Sides.{HasSides, HoldsOf, HoldsOfSome};
 
 use crate::asked::Line;
 use crate::command_line::line;
 use crate::input::{InputFault, read_input};
-use crate::show::{report, show_command};
+use crate::report::report;
+use crate::show::show_command;
 use crate::status::{INPUT_OR_OUTPUT, OUT_OF_MEMORY, USAGE};
 use clap::error::ErrorKind;
 use std::alloc::Global;
@@ -28,6 +32,19 @@ where
     I: Read,
     O: Write,
     E: Write,
+    ensures done { result ≡ 0 → HoldsOfSome (λ name width height.
+        ShowsInput name (I.remaining input.old) width height (O.contents out.old) (O.contents out.new)) }
+    ensures done_silent { result ≡ 0 → Keeps (E.contents err.old) (E.contents err.new) }
+    ensures refused { result ≡ 1 → HoldsOfSome (λ name width height.
+        RefusesInput name (I.remaining input.old) width height (E.contents err.old) (E.contents err.new)) }
+    ensures refused_unwritten { result ≡ 1 → Keeps (O.contents out.old) (O.contents out.new) }
+    ensures usage_unread { result ≡ 2 → Keeps (I.remaining input.old) (I.remaining input.new) }
+    ensures failed { result ≡ 3 → HoldsOfSome (λ name width height.
+        FailsInput name (I.remaining input.old) width height (O.contents out.old) (O.contents out.new)
+        (E.contents err.old) (E.contents err.new)) }
+    ensures memory_unwritten { result ≡ 4 → Keeps (O.contents out.old) (O.contents out.new) }
+    ensures memory_line { result ≡ 4 → Reports (E.contents err.old) (E.contents err.new) (codes "OutOfMemory") }
+    ensures statuses { result ≤ 4 }
 {
     let words = match words(rt) {
         Ok(words) => words,
@@ -51,8 +68,20 @@ where
     O: Write,
     E: Write,
     requires sides { HasSides line }
-    ensures done { result ≡ 0 → ShowsInput line.entry (I.remaining input.old) (O.contents out.old) (O.contents out.new) }
-    ensures refused { result ≡ 1 → RefusesInput line.entry (I.remaining input.old) }
+    ensures done { result ≡ 0 → HoldsOf line.entry (λ name width height.
+        ShowsInput name (I.remaining input.old) width height (O.contents out.old) (O.contents out.new)) }
+    ensures done_silent { result ≡ 0 → Keeps (E.contents err.old) (E.contents err.new) }
+    ensures refused { result ≡ 1 → HoldsOf line.entry (λ name width height.
+        RefusesInput name (I.remaining input.old) width height (E.contents err.old) (E.contents err.new)) }
+    ensures refused_unwritten { result ≡ 1 → Keeps (O.contents out.old) (O.contents out.new) }
+    ensures failed { result ≡ 3 → HoldsOf line.entry (λ name width height.
+        FailsInput name (I.remaining input.old) width height (O.contents out.old) (O.contents out.new)
+        (E.contents err.old) (E.contents err.new)) }
+    ensures memory_unwritten { result ≡ 4 → Keeps (O.contents out.old) (O.contents out.new) }
+    ensures memory_line { result ≡ 4 → Reports (E.contents err.old) (E.contents err.new) (codes "OutOfMemory") }
+    ensures statuses { ((result ≡ 0) ⊎ (result ≡ 1)) ⊎ ((result ≡ 3) ⊎ (result ≡ 4)) }
+    ensures unread { HoldsOf line.entry (λ name width height.
+        name ≢ standard_input → Keeps (I.remaining input.old) (I.remaining input.new)) }
 {
     match line {
         Line::Show {
@@ -78,12 +107,17 @@ where
     I: Read,
     O: Write,
     E: Write,
-    requires width { IsSide width }
-    requires height { IsSide height }
-    ensures done { result ≡ 0 → file.now ≡ standard_input
-        → IfSome (I.remaining input.old) (λ all. Shows all width height (O.contents out.old) (O.contents out.new)) }
-    ensures refused { result ≡ 1 → file.now ≡ standard_input
-        → IfSome (I.remaining input.old) (λ all. IsRefused all width height) }
+    requires width { IsSurfaceSide width }
+    requires height { IsSurfaceSide height }
+    ensures done { result ≡ 0 → ShowsInput file.now (I.remaining input.old) width height (O.contents out.old) (O.contents out.new) }
+    ensures done_silent { result ≡ 0 → Keeps (E.contents err.old) (E.contents err.new) }
+    ensures refused { result ≡ 1 → RefusesInput file.now (I.remaining input.old) width height (E.contents err.old) (E.contents err.new) }
+    ensures refused_unwritten { result ≡ 1 → Keeps (O.contents out.old) (O.contents out.new) }
+    ensures failed { result ≡ 3 → FailsInput file.now (I.remaining input.old) width height (O.contents out.old) (O.contents out.new)
+        (E.contents err.old) (E.contents err.new) }
+    ensures memory_unwritten { result ≡ 4 → Keeps (O.contents out.old) (O.contents out.new) }
+    ensures memory_line { result ≡ 4 → Reports (E.contents err.old) (E.contents err.new) (codes "OutOfMemory") }
+    ensures statuses { ((result ≡ 0) ⊎ (result ≡ 1)) ⊎ ((result ≡ 3) ⊎ (result ≡ 4)) }
     ensures unread { file.now ≢ standard_input → Keeps (I.remaining input.old) (I.remaining input.new) }
 {
     match read_file(rt, file, input) {
@@ -107,6 +141,7 @@ pub(crate) fn read_file<R: Files + AllocGlobal, I: Read>(
     input: &mut I,
 ) -> Result<Vec<u8>, InputFault>
     ensures read { file.entry.now ≡ standard_input → IfOk result (λ bytes. IfSome (I.remaining input.old) (λ all. bytes.items ≡ all)) }
+    ensures within { IfOk result (λ bytes. vec_len bytes ≤ input_limit) }
     ensures unread { file.entry.now ≢ standard_input → Keeps (I.remaining input.old) (I.remaining input.new) }
 {
     if file == STANDARD_INPUT {
@@ -118,11 +153,12 @@ pub(crate) fn read_file<R: Files + AllocGlobal, I: Read>(
 
 /// Reports that an input was not read, and answers the status.
 pub(crate) fn no_input<E: Write>(fault: InputFault, err: &mut E) -> u8
-    ensures input { fault ≡ InputFault.CannotRead → result ≡ 3 }
-    ensures memory { fault ≡ InputFault.OutOfMemory → result ≡ 4 }
+    ensures input { result ≡ 3 ↔ fault ≡ InputFault.CannotRead }
+    ensures memory { result ≡ 4 ↔ fault ≡ InputFault.OutOfMemory }
     ensures statuses { (result ≡ 3) ⊎ (result ≡ 4) }
+    ensures line { Reports (E.contents err.old) (E.contents err.new) (fault_text fault) }
 {
-    report(err, fault);
+    report(err, fault.text());
     match fault {
         InputFault::CannotRead => INPUT_OR_OUTPUT,
         InputFault::OutOfMemory => OUT_OF_MEMORY,
@@ -133,6 +169,8 @@ pub(crate) fn no_input<E: Write>(fault: InputFault, err: &mut E) -> u8
 pub(crate) fn usage<O: Write, E: Write>(error: &clap::Error, out: &mut O, err: &mut E) -> u8
     ensures memory { result ≡ 4 ↔ kind_of error.now ≡ ErrorKind.OutOfMemory }
     ensures statuses { (result ≡ 2) ⊎ (result ≡ 4) }
+    ensures memory_unwritten { result ≡ 4 → Keeps (O.contents out.old) (O.contents out.new) }
+    ensures memory_line { result ≡ 4 → Reports (E.contents err.old) (E.contents err.new) (codes "OutOfMemory") }
 {
     if error.kind() == ErrorKind::OutOfMemory {
         return no_input(InputFault::OutOfMemory, err);

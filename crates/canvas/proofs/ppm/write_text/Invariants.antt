@@ -1,6 +1,6 @@
 use Rattle.std.proofs.Common.{◌≤◌, ◌++◌, length, take}
 use Rattle.canvas.specs.Ppm.{header, raster}
-use Rattle.canvas.proofs.Sending.{Sending}
+use Rattle.canvas.proofs.SendingLemmas.{Sending}
 use Rattle.canvas.proofs.ppm.write_text.Given as goal
 
 -- what is in the piece and what is left to put into one wasn't sent, and the rest of the text was

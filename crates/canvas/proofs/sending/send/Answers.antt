@@ -1,9 +1,9 @@
 use Rattle.std.proofs.Common.{◌≡◌, List, ℕ, drop, sym, ap, ◌∙◌}
 use Rattle.std.specs.Borrow.{Bor}
 use Rattle.std.proofs.lemmas.List.{take-append-drop, take_rest}
-use Rattle.canvas.proofs.Sending.{sending_more, sending_kept}
-use Rattle.canvas.proofs.ppm.send.Goals as goal
-use Rattle.canvas.proofs.ppm.send.Goals.{in-Ok, in-Err}
+use Rattle.canvas.proofs.SendingLemmas.{sending_more, sending_kept}
+use Rattle.canvas.proofs.sending.send.Goals as goal
+use Rattle.canvas.proofs.sending.send.Goals.{in-Ok, in-Err}
 
 -- the writer took the first bytes of the rest, or was interrupted and took none
 pub loop-preserved : goal.loop-preserved

@@ -1,5 +1,5 @@
-use Rattle.canvas.proofs.Sending.{Sending}
-use Rattle.canvas.proofs.ppm.send.Given as goal
+use Rattle.canvas.proofs.SendingLemmas.{Sending}
+use Rattle.canvas.proofs.sending.send.Given as goal
 
 -- what isn't left was sent
 abbrev pub invariant-loop : goal.invariant-loop
