@@ -3,7 +3,8 @@
 ghost use Rattle.std.specs.Prelude.{◌≡◌, IfOk, IfSome, codes, false, map, string_bytes};
 ghost use Rattle.clap.specs.Words.{app_of, found_of, rows_of, rule_of, subcommand_rows_of};
 ghost use Rattle.mapping.specs.Limits.{IsSurfaceSide};
-ghost use Rattle.meta_main.specs.CommandLine.{GivesNumber, HasPlainWords, IsAskedBy, IsAskedByWords, file_rule, metaplay_app, show_app, side_rule};
+ghost use Rattle.meta_main.specs.CommandLine.{GivesNumber, HasPlainWords, IsAskedBy, IsAskedByWords};
+ghost use Rattle.meta_main.specs.CommandLine.{file_rule, metaplay_app, side_rule};
 ghost use Rattle.meta_main.specs.Sides.{HasSides};
 
 use crate::asked::Line;
@@ -12,8 +13,8 @@ use clap::{Arg, ArgAction, ArgMatches, Command, Error, value_parser};
 use mapping::MAX_SURFACE_SIDE;
 use std::alloc::{AllocError, Global};
 
-/// What the words of a command line ask for, the program's name first. An error has the text that
-/// the user is shown, for asked-for help too.
+/// What the words of a command line ask for, the program's name first, by `clap`'s walk over them.
+/// An error has the text that the user is shown, for asked-for help too.
 pub fn line<'a>(alloc: Global, words: &'a [String]) -> Result<Line<'a>, Error>
     ensures sides { IfOk result HasSides }
     ensures asked { IfOk result (IsAskedByWords (map string_bytes words.entry.now)) }

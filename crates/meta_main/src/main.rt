@@ -2,11 +2,16 @@
 //!
 //! # What is promised
 //!
-//! - A command line asks only for surfaces from 1 to 8,192 pixels a side (`line`).
+//! - A command line asks only for surfaces from 1 to 8,192 pixels a side, and for the file and the
+//!   sides that its words give, as `clap` walks over them (`line`).
 //! - What is read of an input is all of it, or it is refused (`read_input`).
 //! - Status 0 comes only where the P6 text of the image that the file's records define was written
-//!   to the output, and nothing else; status 1 only where the file has a fault; and an image is
-//!   written only once the whole file has been played (`show_command`).
+//!   to the output, and nothing else; status 1 only where the file has a fault; status 4 only where
+//!   it opens; and an image is written only once the whole file has been played (`show_command`).
+//! - The same holds of the whole program for some bytes and for sides from 1 to 8,192, and of no
+//!   status above 4 (`run`).
+//! - Standard error gets nothing at status 0, and at 1, 3 and 4 a front of the one line that tells
+//!   why (`report`, `run`).
 #![tactic(auto)]
 
 mod asked;

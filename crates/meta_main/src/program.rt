@@ -109,11 +109,14 @@ where
     E: Write,
     requires width { IsSurfaceSide width }
     requires height { IsSurfaceSide height }
-    ensures done { result ≡ 0 → ShowsInput file.now (I.remaining input.old) width height (O.contents out.old) (O.contents out.new) }
+    ensures done { result ≡ 0
+        → ShowsInput file.now (I.remaining input.old) width height (O.contents out.old) (O.contents out.new) }
     ensures done_silent { result ≡ 0 → Keeps (E.contents err.old) (E.contents err.new) }
-    ensures refused { result ≡ 1 → RefusesInput file.now (I.remaining input.old) width height (E.contents err.old) (E.contents err.new) }
+    ensures refused { result ≡ 1
+        → RefusesInput file.now (I.remaining input.old) width height (E.contents err.old) (E.contents err.new) }
     ensures refused_unwritten { result ≡ 1 → Keeps (O.contents out.old) (O.contents out.new) }
-    ensures failed { result ≡ 3 → FailsInput file.now (I.remaining input.old) width height (O.contents out.old) (O.contents out.new)
+    ensures failed { result ≡ 3
+        → FailsInput file.now (I.remaining input.old) width height (O.contents out.old) (O.contents out.new)
         (E.contents err.old) (E.contents err.new) }
     ensures memory_unwritten { result ≡ 4 → Keeps (O.contents out.old) (O.contents out.new) }
     ensures memory_line { result ≡ 4 → Reports (E.contents err.old) (E.contents err.new) (codes "OutOfMemory") }
