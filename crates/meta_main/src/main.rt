@@ -8,8 +8,8 @@
 //! - Status 0 comes only where the P6 text of the image that the file's records define was written
 //!   to the output, and nothing else; status 1 only where the file has a fault; status 4 only where
 //!   it opens; and an image is written only once the whole file has been played (`show_command`).
-//! - The same holds of the whole program for some bytes and for sides from 1 to 8,192, and of no
-//!   status above 4 (`run`).
+//! - The whole program's statuses 0 and 1 mean the same of some bytes, at sides from 1 to 8,192; 3
+//!   leaves nothing or a front of such a text, 4 nothing, and no status is above 4 (`run`).
 //! - Standard error gets nothing at status 0, and at 1, 3 and 4 a front of the one line that tells
 //!   why (`report`, `run`).
 #![tactic(auto)]
