@@ -78,6 +78,21 @@ class RefusedGrowth(unittest.TestCase):
             refused = Answer(1, b"", b"metaplay: NoEnd at record 1\n")
             self.assertEqual(answer(program, *LINES[2]), refused)
 
+    def calls_for_memory(self, program, sides, given):
+        """How many calls for memory the program makes to show a file."""
+        return sum(1 for _ in self.under_refusals(program, ["show", "stdin", *sides], given))
+
+    def test_records_and_pixels_take_no_memory(self):
+        # Files of one length, with one pixel and with 1,001, and surfaces of 16 pixels and of 90,000.
+        pixel, end = DOT[40:54], DOT[54:]
+        few = DOT + pixel * 1000
+        many = DOT[:40] + pixel * 1001 + end
+        for program in PROGRAMS:
+            with self.subTest(program=program.name):
+                calls = self.calls_for_memory(program, ["4", "4"], few)
+                self.assertEqual(self.calls_for_memory(program, ["4", "4"], many), calls)
+                self.assertEqual(self.calls_for_memory(program, ["300", "300"], few), calls)
+
     def test_the_crates_answer_a_refusal_or_as_ever(self):
         # Tests with this name take either answer of the calls that they make, and no third one.
         tried = []

@@ -116,3 +116,6 @@ pub enum Op<'a> {
     /// STROKEANDFILLPATH.
     StrokeAndFillPath,
 }
+
+// An operation is moved once for each record.
+const _: () = prove!(size_of::<Op<'static>>() <= 64);

@@ -35,6 +35,7 @@ pub(crate) fn open(file: &[u8]) -> Result<OpenedFile<'_>, Fault>
     ensures opened { opened file.entry.now ≡ result_map opened_of result }
     ensures records { IfOk result (λ o. o.records.now ≡ drop 40 file.entry.now) }
     ensures in_no_record { IfErr result (λ fault. (fault_row fault).in_record ≡ false) }
+    ensures no_memory { IfErr result (λ fault. fault ≡ Fault.OutOfMemory → ⊥) }
 {
     if file.len() > FILE_LIMIT {
         return Err(Fault::TooLong);
@@ -57,6 +58,7 @@ fn open_placeable(file: &[u8]) -> Result<OpenedFile<'_>, Fault>
     ensures opened { placeable_file file.entry.now ≡ result_map opened_of result }
     ensures records { IfOk result (λ o. o.records.now ≡ drop 40 file.entry.now) }
     ensures in_no_record { IfErr result (λ fault. (fault_row fault).in_record ≡ false) }
+    ensures no_memory { IfErr result (λ fault. fault ≡ Fault.OutOfMemory → ⊥) }
 {
     if file.len() < HEADERS {
         return Err(Fault::ShortHeader);

@@ -36,6 +36,7 @@ pub fn play_file(alloc: Global, file: &[u8], width: u32, height: u32) -> Result<
     ensures writes { IfOk result (λ canvas. Writes file.now width height canvas.writes) }
     ensures whole_surface { IfOk result (λ canvas. canvas.first ≡ 0) }
     ensures refusal { IfErr result (λ r. WantsMemory file.now r ⊎ Refused file.now width height r.number r.fault) }
+    ensures memory { IfErr result (λ r. r.fault ≡ Fault.OutOfMemory → WantsMemory file.now r) }
     ensures record { IfErr result (λ r. IsSome r.number ↔ IsInRecord r.fault) }
 {
     let opened = match open(file) {

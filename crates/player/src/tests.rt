@@ -7,5 +7,6 @@ mod lists_of_points;
 mod notes;
 mod places;
 mod playing;
+mod playing_on;
 mod sources;
 mod wmf_records;

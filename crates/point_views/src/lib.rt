@@ -11,7 +11,9 @@
 //! - A view is refused exactly where bytes are missing (`Points::new16`, `Points::new32`,
 //!   `Counts::new16`, `Counts::new32`), or where the counts don't add up to the number of points
 //!   (`Polys::new`).
-//! - Nothing here takes memory or copies a point: a view is a slice of the file and a few numbers.
+//!
+//! A view is a slice of the file and a few numbers, so no point is copied and no memory is taken. No
+//! contract says so, and a test over the built program counts its calls for memory.
 #![tactic(auto)]
 
 mod counts;

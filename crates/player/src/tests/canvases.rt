@@ -166,6 +166,44 @@ fn a_large_text_goes_out_in_large_pieces(rt: HostRuntime) -> Result<(), Fail> {
 }
 
 #[test]
+fn a_text_ends_with_its_last_pixel(rt: HostRuntime) -> Result<(), Fail> {
+    // Around the 4,096 pixels of a piece: the header has 14 bytes, and each pixel 3.
+    let sizes: [(u32, &[usize]); 3] = [
+        (4095, &[14 + 12285]),
+        (4096, &[14 + 12288]),
+        (4097, &[14 + 12288, 3]),
+    ];
+    for (width, lengths) in sizes {
+        let mut canvas = Canvas::new(rt.alloc(), width, 1, Colour::WHITE)?;
+        assert!(rt; canvas.has_pixel(width - 1, 0) && canvas.writes() < 1000);
+        canvas.put(width - 1, 0, RED);
+        let mut pieces = Pieces {
+            lengths: Vec::new(rt.alloc()),
+        };
+        canvas.write_ppm(&mut pieces)?;
+        assert_eq!(rt; pieces.lengths.as_slice(), lengths, "{width} pixels");
+        let mut text = Vec::new(rt.alloc());
+        canvas.write_ppm(&mut text)?;
+        let end = b"\xff\xff\xff\xff\x00\x00".as_slice();
+        assert!(rt; text.as_slice().ends_with(end), "{width} pixels");
+    }
+    Ok(())
+}
+
+#[test]
+fn a_canvas_has_each_side_up_to_8192(rt: HostRuntime) -> Result<(), Fail> {
+    for side in [1, 8191, 8192] {
+        let wide = Canvas::new(rt.alloc(), side, 1, RED)?;
+        assert!(rt; wide.has_pixel(side - 1, 0) && !wide.has_pixel(side, 0), "{side}");
+        assert_eq!(rt; wide.colour(side - 1, 0), RED, "{side}");
+        let high = Canvas::new(rt.alloc(), 1, side, RED)?;
+        assert!(rt; high.has_pixel(0, side - 1) && !high.has_pixel(0, side), "{side}");
+        assert_eq!(rt; high.colour(0, side - 1), RED, "{side}");
+    }
+    Ok(())
+}
+
+#[test]
 fn the_faults_show_their_names(rt: HostRuntime) -> Result<(), Fail> {
     let memory = format!(in rt.alloc(); "{OutOfMemory}")?;
     assert_eq!(rt; memory.as_str(), "OutOfMemory");

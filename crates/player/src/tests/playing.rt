@@ -9,7 +9,7 @@ use std::alloc::{AllocError, Global};
 use std::test::Fail;
 
 /// A placeable file with the box (0,0,4,4), a red pixel at (2,1), and an end.
-const DOT: [u8; 60] = [
+pub(crate) const DOT: [u8; 60] = [
     // META_PLACEABLE: key, handle, box, inch, reserved, checksum.
     0xd7, 0xcd, 0xc6, 0x9a, 0, 0, 0, 0, 0, 0, 4, 0, 4, 0, 0x60, 0, 0, 0, 0, 0, 0x71, 0x57,
     // META_HEADER: type, header size, version, size, objects, largest record, members.
@@ -20,12 +20,12 @@ const DOT: [u8; 60] = [
     3, 0, 0, 0, 0, 0,
 ];
 
-const RED: Colour = Colour { r: 255, g: 0, b: 0 };
+pub(crate) const RED: Colour = Colour { r: 255, g: 0, b: 0 };
 
-const BLUE: Colour = Colour { r: 0, g: 0, b: 255 };
+pub(crate) const BLUE: Colour = Colour { r: 0, g: 0, b: 255 };
 
 /// `DOT` with other bytes from a place on.
-fn changed(alloc: Global, place: usize, bytes: &[u8]) -> Result<Vec<u8>, AllocError> {
+pub(crate) fn changed(alloc: Global, place: usize, bytes: &[u8]) -> Result<Vec<u8>, AllocError> {
     let mut file = Vec::new(alloc);
     for (k, byte) in DOT.iter().enumerate() {
         let new = k.checked_sub(place).and_then(|offset| bytes.get(offset));
@@ -41,7 +41,7 @@ fn with_records(alloc: Global, records: &[u8]) -> Result<Vec<u8>, AllocError> {
     Ok(file)
 }
 
-fn colour(canvas: &Canvas, x: u32, y: u32) -> Option<Colour> {
+pub(crate) fn colour(canvas: &Canvas, x: u32, y: u32) -> Option<Colour> {
     canvas.has_pixel(x, y).then(|| canvas.colour(x, y))
 }
 
@@ -71,6 +71,18 @@ fn a_dot_moves_with_the_surface(rt: HostRuntime) -> Result<(), Fail> {
         (1, 1, Colour::WHITE),
     ] {
         assert_eq!(rt; colour(&canvas, x, y), Some(want), "at ({x}, {y})");
+    }
+    Ok(())
+}
+
+#[test]
+fn a_dot_lands_on_each_side_up_to_8192(rt: HostRuntime) -> Result<(), Fail> {
+    // Column 2 of 4 begins at half of the width, and row 1 at a quarter of the height.
+    for (side, column, row) in [(1, 0, 0), (8191, 4095, 2047), (8192, 4096, 2048)] {
+        let wide = play_file(rt.alloc(), &DOT, side, 1)?;
+        assert_eq!(rt; colour(&wide, column, 0), Some(RED), "{side}");
+        let high = play_file(rt.alloc(), &DOT, 1, side)?;
+        assert_eq!(rt; colour(&high, 0, row), Some(RED), "{side}");
     }
     Ok(())
 }
