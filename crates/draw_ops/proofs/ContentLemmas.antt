@@ -2,11 +2,10 @@
 use Rattle.std.proofs.Common.{◌≡◌, ℕ, zero, suc, ◌-◌, ◌≤◌, Bool, true, false, List, length, Option, Some, None, Result, Ok, Err, eqb, cond, refl, sym, ap, ◌∙◌, arith}
 use Rattle.draw_ops.specs.declared.fault.Fault.{Fault}
 use Rattle.draw_ops.specs.Content.{Content, StepValue, nothing_left}
-use Rattle.draw_ops.specs.ExactlyOne.{ExactlyOne}
 use Rattle.draw_ops.specs.Meaning.{Meaning, MeantValue, step_meant}
 use Rattle.draw_ops.specs.Reading.{content_from, front_step, first_then}
 use Rattle.draw_ops.specs.RecordContent.{IsContent, ContentIsOne, content_of}
-use Rattle.draw_ops.specs.Records.{Framing, Record, Framed, framing_fault, kind_of, front_of, rest_of, record_limit}
+use Rattle.draw_ops.specs.Records.{Framing, Framed, framing_fault, kind_of, front_of, rest_of, record_limit}
 use Rattle.draw_ops.specs.Results.{result_map, result_unless}
 use Rattle.draw_ops.specs.Framed.{framed_from, from_fault, from_record}
 use Rattle.draw_ops.proofs.FramedLemmas.{is_framed, only_way, too_many}

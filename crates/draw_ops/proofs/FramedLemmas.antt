@@ -1,7 +1,7 @@
 -- Any bytes are framed in one way.
 use Rattle.std.proofs.Common.{◌≡◌, ◌≢◌, ℕ, zero, suc, ◌+◌, ◌≤◌, Bool, true, false, List, [], ◌∷◌, Option, Some, None, eqb, refl, sym, ap, ◌∙◌, arith}
 use Rattle.std.proofs.lemmas.Bool.{eqb-true, eqb-false, le-leb, eq-eqb, ne_eqb}
-use Rattle.draw_ops.specs.Framed.{alone, broken, in_front, from_record, from_fault, framed_from, framed_of, FramedByFunction}
+use Rattle.draw_ops.specs.Framed.{in_front, from_record, from_fault, framed_from, framed_of, FramedByFunction}
 use Rattle.draw_ops.specs.declared.fault.Fault.{Fault}
 use Rattle.draw_ops.specs.declared.fault.Fault.TheVariants.{TooManyRecords}
 use Rattle.draw_ops.specs.Records.{Framing, Record, Framed, IsFramed, IsSpelledOrBroken, FramedInOneWay, framing_fault, kind_of, front_of, rest_of, record_limit}

@@ -1,8 +1,8 @@
 -- Limits as facts and as tests.
-use Rattle.std.proofs.Common.{◌≡◌, ℕ, ◌≤◌, ℤ, pos, neg_ℤ, ◌≤ℤ◌, int_le, nat_le, Bool, true, false, ◌&&◌, arith}
+use Rattle.std.proofs.Common.{◌≡◌, ℕ, ◌≤◌, ℤ, pos, neg_ℤ, ◌≤ℤ◌, int_le, nat_le, true, ◌&&◌, arith}
 use Rattle.std.proofs.lemmas.Int.{ints}
 use Rattle.std.proofs.lemmas.Bool.{and_parts, and_from, le-leb, leb-true}
-use Rattle.mapping.specs.Limits.{IsWithin, is_within, IsSurfaceSide, IsFrameSide, surface_side_limit, frame_side_limit, TestsAreLimits}
+use Rattle.mapping.specs.Limits.{IsWithin, is_within, surface_side_limit, frame_side_limit, TestsAreLimits}
 
 le_true : (a b : ℤ) → a ≤ℤ b → int_le a b ≡ true
 le_true a b h = grind (arith, ints)

@@ -1,5 +1,5 @@
 -- The definitions on worked numbers.
-use Rattle.std.proofs.Common.{◌≡◌, ℤ, pos, negsuc, refl}
+use Rattle.std.proofs.Common.{◌≡◌, pos, negsuc, refl}
 use Rattle.mapping.specs.Plane.{AxisNumbers, plane_coordinate}
 use Rattle.mapping.specs.Surface.{placed}
 

@@ -1,5 +1,5 @@
 -- What is said of an opened file's records is said of the file.
-use Rattle.std.proofs.Common.{◌≡◌, ℕ, ◌+◌, ◌-◌, arith, List, drop, Option, Some, None, Result, Ok, Err, refl, sym, ap, subst, ◌∙◌}
+use Rattle.std.proofs.Common.{◌≡◌, ℕ, ◌+◌, ◌-◌, arith, List, drop, Result, Ok, sym, ap, subst, ◌∙◌}
 use Rattle.draw_ops.specs.declared.fault.Fault.{Fault}
 use Rattle.draw_ops.specs.Content.{Content}
 use Rattle.draw_ops.specs.RecordContent.{IsContent}
@@ -10,15 +10,14 @@ use Rattle.player.specs.Apply.{image_after}
 use Rattle.player.specs.OpenedFile.{opened_of}
 use Rattle.player.specs.Opening.{Opened, opened, surface_for}
 use Rattle.player.specs.Playing.{state_of}
-use Rattle.player.specs.Plays.{PlaysRecords, StopsRecordsBy}
-use Rattle.player.specs.Run.{shown, OpenedShows, OpenedStops, OpenedWrites, RefusedIfOpened, Refused, ShowsIfOpened, Run, WritesIfOpened, Writes}
+use Rattle.player.specs.Plays.{PlaysRecords}
+use Rattle.player.specs.Run.{shown, OpenedShows, OpenedWrites, ShowsIfOpened, Run, WritesIfOpened, Writes}
 use Rattle.player.specs.State.{State, start_of}
-use Rattle.player.specs.Stop.{Stop, stop_of}
+use Rattle.player.specs.Stop.{stop_of}
 use Rattle.player.specs.Writes.{writes_after}
 use Rattle.player.specs.Wmf.{wmf_framing, wmf_meaning}
 use Rattle.player.specs.declared.opening.OpenedFile.{OpenedFile}
 use Rattle.player.specs.declared.placed_map.PlacedMap.{PlacedMap}
-use Rattle.player.specs.declared.refusal.Refusal.{Refusal}
 
 -- what depends on the state and the surface is the same at equal ones
 same : {A : Type 0} (f : State → Surface → A) (st st' : State) (s s' : Surface) → st ≡ st' → s ≡ s' → f st s ≡ f st' s'

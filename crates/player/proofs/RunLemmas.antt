@@ -1,5 +1,5 @@
 -- A run ends in one way.
-use Rattle.std.proofs.Common.{◌≡◌, ℕ, suc, ◌+◌, length, add-one, arith, List, [], ◌∷◌, Option, Some, None, Result, Ok, Err, refl, sym, ap, ◌∙◌}
+use Rattle.std.proofs.Common.{◌≡◌, ℕ, suc, ◌+◌, length, add-one, arith, List, Option, Some, None, Result, Ok, Err, refl, sym, ap, ◌∙◌}
 use Rattle.draw_ops.specs.declared.fault.Fault.{Fault}
 use Rattle.draw_ops.specs.Content.{Content, StepValue, with_step}
 use Rattle.draw_ops.specs.ExactlyOne.{ExactlyOne}
@@ -11,9 +11,9 @@ use Rattle.player.specs.Next.{next}
 use Rattle.player.specs.OperationFault.{fault_of}
 use Rattle.player.specs.Opening.{FileFormat, Opened, framing_of, meaning_of, opened, record_bytes, surface_for}
 use Rattle.player.specs.State.{State, start_of}
-use Rattle.player.specs.Stop.{Stop, stop_at, stop_of, stopped}
+use Rattle.player.specs.Stop.{Stop, stop_of, stopped}
 use Rattle.player.specs.Writes.{writes_of, writes_after}
-use Rattle.player.specs.Run.{Outcome, shown, refused, IsFileContent, IsOpeningFault, OpenedStops, RefusedIfOpened, OpenedShows, ShowsIfOpened, OpenedWrites, WritesIfOpened, Run, RunEndsInOneWay, RefusedOverAnyImage, WritesAreOne}
+use Rattle.player.specs.Run.{Outcome, shown, refused, IsFileContent, RefusedIfOpened, ShowsIfOpened, WritesIfOpened, Run, RunEndsInOneWay, RefusedOverAnyImage, WritesAreOne}
 
 -- a file of any format has one content
 one_file_content : ContentIsOne → (format : FileFormat) (file : List ℕ) → ExactlyOne (IsFileContent format file)

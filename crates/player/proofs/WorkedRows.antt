@@ -1,17 +1,16 @@
 -- The definitions on worked values.
-use Rattle.std.proofs.Common.{◌≡◌, ℕ, pos, List, [], ◌∷◌, Option, Some, None, Result, Ok, Err, Bool, true, false, refl}
+use Rattle.std.proofs.Common.{◌≡◌, pos, [], ◌∷◌, Some, None, true, false, refl}
 use Rattle.mapping.specs.Colours.{black_colour, white_colour}
-use Rattle.mapping.specs.Image.{Image, blank}
+use Rattle.mapping.specs.Image.{blank}
 use Rattle.mapping.specs.PageMap.{placeable_map}
 use Rattle.mapping.specs.Surface.{Surface}
 use Rattle.mapping.specs.declared.geometry.Colour.{Colour}
-use Rattle.mapping.specs.declared.geometry.Rect.{Rect}
-use Rattle.draw_ops.specs.Content.{Content, StepValue}
+use Rattle.draw_ops.specs.Content.{StepValue}
 use Rattle.draw_ops.specs.NoteCounts.{no_notes}
 use Rattle.draw_ops.specs.NoteKinds.{noted}
 use Rattle.draw_ops.specs.Operation.{no_effect, pixel}
 use Rattle.draw_ops.specs.RecordContent.{content_of}
-use Rattle.draw_ops.specs.Records.{Framed, Record}
+use Rattle.draw_ops.specs.Records.{Record}
 use Rattle.draw_ops.specs.declared.fault.Fault.TheVariants.{PaletteColour}
 use Rattle.draw_ops.specs.declared.note.Note.TheVariants.{AfterEnd}
 use Rattle.draw_ops.specs.declared.raster_op.RasterOp.TheVariants.{CopyPen, Not, XorPen}

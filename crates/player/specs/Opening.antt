@@ -1,5 +1,5 @@
 -- Opening a file: its format, frame, start map and handle count, or the first fault.
-use Rattle.std.specs.Prelude.{ℕ, ℤ, ◌+◌, ◌-ℤ◌, unsigned_abs, Bool, ◌&&◌, ◌||◌, not, ◌==◌, nat_lt, nat_le, if◌then◌else◌, List, length, drop, Option, None, Result, Ok, Err}
+use Rattle.std.specs.Prelude.{ℕ, ◌+◌, ◌-ℤ◌, unsigned_abs, Bool, ◌&&◌, ◌||◌, not, ◌==◌, nat_lt, nat_le, if◌then◌else◌, List, length, drop, Option, None, Result, Ok, Err}
 use Rattle.mapping.specs.declared.geometry.Point.{Point}
 use Rattle.mapping.specs.Plane.{MapNumbers}
 use Rattle.mapping.specs.PageMap.{placeable_map}

@@ -194,10 +194,16 @@ fn a_text_ends_with_its_last_pixel(rt: HostRuntime) -> Result<(), Fail> {
 fn a_canvas_has_each_side_up_to_8192(rt: HostRuntime) -> Result<(), Fail> {
     for side in [1, 8191, 8192] {
         let wide = Canvas::new(rt.alloc(), side, 1, RED)?;
-        assert!(rt; wide.has_pixel(side - 1, 0) && !wide.has_pixel(side, 0), "{side}");
+        assert!(rt;
+            wide.has_pixel(side - 1, 0) && !wide.has_pixel(side, 0),
+            "{side}"
+        );
         assert_eq!(rt; wide.colour(side - 1, 0), RED, "{side}");
         let high = Canvas::new(rt.alloc(), 1, side, RED)?;
-        assert!(rt; high.has_pixel(0, side - 1) && !high.has_pixel(0, side), "{side}");
+        assert!(rt;
+            high.has_pixel(0, side - 1) && !high.has_pixel(0, side),
+            "{side}"
+        );
         assert_eq!(rt; high.colour(0, side - 1), RED, "{side}");
     }
     Ok(())

@@ -1,5 +1,5 @@
 -- A refusal that isn't for memory is the run's, and one for memory comes only behind the headers.
-use Rattle.std.proofs.Common.{◌≡◌, ℕ, List, Option, Some, None, IsSome, codes, inl, inr, refl, subst}
+use Rattle.std.proofs.Common.{◌≡◌, ℕ, List, Option, None, codes, inl, inr, refl, subst}
 use Rattle.draw_ops.specs.declared.fault.Fault.{Fault}
 use Rattle.draw_ops.specs.declared.fault.Fault.TheVariants.{OutOfMemory}
 use Rattle.player.specs.Refusal.{refusal_text}
