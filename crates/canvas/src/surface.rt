@@ -2,7 +2,7 @@
 
 ghost use Rattle.std.specs.Prelude.{◌≡◌, ◌+◌, ◌*◌, ◌<◌, ◌≤◌, ◌^◌, ◌↔◌, Some, IsTrue, IfOk, OnOk, OnErr, length, slice_get, slice_set};
 ghost use Rattle.std.specs.Io.KnownBytes.{Appends};
-ghost use Rattle.mapping.specs.Limits.{IsSurfaceSide};
+ghost use Rattle.mapping.specs.Limits.{IsSurfaceSide, surface_side_limit};
 ghost use Rattle.canvas.specs.CanvasState.{HasPixel, image_of, colour_index, unwritten};
 ghost use Rattle.canvas.specs.Ppm.{AppendsFront, ppm_text};
 
@@ -141,8 +141,8 @@ impl Canvas {
 
 /// How many pixels there are in so many rows of this width.
 fn pixels(rows: u32, width: u32) -> usize
-    requires rows { rows ≤ 8192 }
-    requires width { width ≤ 8192 }
+    requires rows { rows ≤ surface_side_limit }
+    requires width { width ≤ surface_side_limit }
     ensures { result ≡ rows * width }
 {
     rows as usize * width as usize
@@ -150,8 +150,8 @@ fn pixels(rows: u32, width: u32) -> usize
 
 /// The place of a column in a row, counted from the first row.
 fn place(width: u32, row: u32, column: u32) -> usize
-    requires width { width ≤ 8192 }
-    requires row { row < 8192 }
+    requires width { width ≤ surface_side_limit }
+    requires row { row < surface_side_limit }
     requires column { column < width }
     ensures { result ≡ row * width + column }
 {

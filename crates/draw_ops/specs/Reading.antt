@@ -37,7 +37,7 @@ KeepsFault Records = Unit {0}
 KeepsFault Ended = Unit {0}
 KeepsFault (Failed fault) = IsInRecord fault
 
--- what is true of the fields of each source: the number is within the limit
+-- what is true of the fields of each source: the number is within the limit, and a fault that is kept lies in a record
 pub record IsReading (reading : Reading) (number : ℕ) : Type 0 where
   pub within : number ≤ record_limit
   pub fault : KeepsFault reading

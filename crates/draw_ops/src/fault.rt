@@ -5,8 +5,8 @@ ghost use Rattle.std.specs.Prelude.{◌≡◌};
 use std::error::Error;
 use std::fmt;
 
-/// A fault. Its number, its name and, where it has one, the kind of record that it speaks of (a
-/// function or a type) never change: callers and refusal lines show them.
+/// A fault. Its code, its name and, where it has one, the kind of record that it speaks of (a
+/// function or a type) never change: callers know them, and refusals show the name and the kind.
 #[derive(Clone, Copy, Debug, PartialEq, Eq)]
 pub enum Fault {
     // The file: its opening.
@@ -38,7 +38,7 @@ pub enum Fault {
     PastEnd,
     /// There are more than 1,048,576 records.
     TooManyRecords,
-    // A record: its number, its parameters and its values.
+    // A record: its kind, its parameters and its values.
     /// The standard has no record with this function or type.
     UnknownRecord(u32),
     /// The record, or a value in it, is one that is not played.
@@ -115,7 +115,7 @@ impl Fault {
     ghost use Rattle.draw_ops.specs.FaultTable.{fault_row};
     ghost use Rattle.draw_ops.specs.Fault.{record_kind_of};
 
-    /// The fault's number, from 1 on.
+    /// The fault's code, from 1 on.
     pub fn code(self) -> u8
         ensures { result ≡ (fault_row self).code }
     {
@@ -130,7 +130,7 @@ impl Fault {
     }
 
     /// The kind of record that the fault speaks of, if it does: a function ([MS-WMF]) or a type
-    /// ([MS-EMF]). Reports call it the fault's number.
+    /// ([MS-EMF]).
     pub fn number(self) -> Option<u32>
         ensures { result ≡ record_kind_of self }
     {
@@ -140,7 +140,7 @@ impl Fault {
         }
     }
 
-    /// The table of faults: the one place where a number and a name meet.
+    /// The table of faults: the one place where a code and a name meet.
     #[rattlefmt::skip]
     fn row(self) -> (u8, &'static str)
         ensures code { result.0 ≡ (fault_row self).code }

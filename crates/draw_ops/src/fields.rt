@@ -1,4 +1,4 @@
-//! Fields that records of both formats have.
+//! Fields of records.
 
 ghost use Rattle.std.specs.Prelude.{◌≡◌, ◌+◌, ◌≤◌, IfErr, length};
 ghost use Rattle.draw_ops.specs.Fault.{IsInRecord};

@@ -3,6 +3,7 @@ pub mod Limits
 pub mod MapMode
 pub mod Plane
 pub mod Surface
+pub mod LimitTests
 pub mod PageMap
 pub mod Image
 pub mod Colours

@@ -1,5 +1,5 @@
 -- The limits on plane coordinates, placed coordinates and sides, as facts and as tests.
-use Rattle.std.specs.Prelude.{ℕ, ◌^◌, ◌≤◌, ℤ, pos, neg_ℤ, ◌≤ℤ◌, Bool, ◌&&◌, ◌↔◌, int_le, nat_le, IsTrue}
+use Rattle.std.specs.Prelude.{ℕ, ◌^◌, ◌≤◌, ℤ, pos, neg_ℤ, ◌≤ℤ◌, Bool, ◌&&◌, int_le, nat_le}
 
 -- a plane coordinate is at most this far from 0
 unfoldable pub plane_limit : ℕ
@@ -43,9 +43,3 @@ pub record IsFrameSide (side : ℕ) : Type 0 where
 -- the same, as a test
 abbrev pub is_frame_side : ℕ → Bool
 is_frame_side side = nat_le 1 side && nat_le side frame_side_limit
-
--- the tests hold exactly where the facts do
-pub record TestsAreLimits : Type 0 where
-  pub within : (limit : ℕ) (v : ℤ) → IsTrue (is_within limit v) ↔ IsWithin limit v
-  pub surface_side : (side : ℕ) → IsTrue (is_surface_side side) ↔ IsSurfaceSide side
-  pub frame_side : (side : ℕ) → IsTrue (is_frame_side side) ↔ IsFrameSide side

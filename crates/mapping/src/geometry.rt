@@ -32,7 +32,7 @@ pub struct Colour {
 }
 
 impl Colour {
-    /// What a surface shows before anything is drawn.
+    /// The colour of paper: what a file is played on.
     pub const WHITE: Colour = Colour {
         r: 255,
         g: 255,

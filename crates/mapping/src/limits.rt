@@ -1,6 +1,6 @@
 //! The limits on coordinates and sides.
 
-ghost use Rattle.mapping.specs.Limits.{TestsAreLimits};
+ghost use Rattle.mapping.specs.LimitTests.{TestsAreLimits};
 
 /// The farthest that a plane coordinate is from 0.
 pub(crate) const PLANE_LIMIT: i128 = 1 << 30;

@@ -8,7 +8,7 @@ ghost use Rattle.mapping.specs.MapMode.{map_mode_code, map_mode_of};
 pub enum MapMode {
     /// A unit is a pixel of the device.
     Text,
-    /// The window is scaled to the viewport, by one factor for both axes.
+    /// The standard scales both axes by one factor. It is played as `Anisotropic`, and noted.
     Isotropic,
     /// The window is scaled to the viewport, each axis by itself.
     Anisotropic,

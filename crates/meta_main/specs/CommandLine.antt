@@ -1,5 +1,6 @@
 -- The program's command line, as clap reads it.
 use Rattle.std.specs.Prelude.{◌≡◌, ℕ, List, [], ◌∷◌, Option, Some, None, codes, pos, true}
+use Rattle.mapping.specs.Limits.{surface_side_limit}
 use Rattle.std.specs.Str.Parse.{digits_value, without_leading_plus}
 use Rattle.clap.specs.Words.{App, Row, Rule, Text, first_of, new_app, new_rule, one_of, subcommand_of, with_rule, with_subcommand}
 use Rattle.clap.specs.declared.builder.ArgAction.TheVariants.{Set}
@@ -13,7 +14,7 @@ file_rule = record (new_rule (codes "FILE")) { required = true; action = Some Se
 
 -- W or H, which has to be given, from 1 to 8,192
 abbrev pub side_rule : Text → Rule
-side_rule id = record (new_rule id) { required = true; action = Some Set; parser = Some (Signed (pos 1) (pos 8192)) }
+side_rule id = record (new_rule id) { required = true; action = Some Set; parser = Some (Signed (pos 1) (pos surface_side_limit)) }
 
 -- show FILE W H
 abbrev pub show_app : App

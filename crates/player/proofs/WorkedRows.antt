@@ -19,7 +19,7 @@ use Rattle.player.specs.Clip.{Clip, in_clip}
 use Rattle.player.specs.Mixing.{mixed_colour}
 use Rattle.player.specs.State.{State, start_state}
 use Rattle.player.specs.Stop.{stop_at, stop_of}
-use Rattle.player.specs.Wmf.{wmf_framing, wmf_meaning}
+use Rattle.player.specs.Wmf.{wmf_framing, wmf_meaning, wmf_record}
 use Rattle.player.specs.Writes.{writes_after}
 
 abbrev red : Colour
@@ -40,17 +40,20 @@ red_step = record { number = 0; operation = pixel (record { x = pos 2; y = pos 1
 
 -- the steps of a file of a pixel and an end, with a byte behind the end
 dot_with_a_byte_behind : content_of wmf_framing wmf_meaning 0 (record { records = red_pixel ∷ end_record ∷ []; fault = None; behind = 0 ∷ [] }) ≡ record { steps = red_step ∷ record { number = 1; operation = no_effect; notes = noted no_notes AfterEnd } ∷ []; fault = None }
+unfolding wmf_record
 dot_with_a_byte_behind = refl
 
 -- without one nothing is noted
 dot_alone : content_of wmf_framing wmf_meaning 0 (record { records = red_pixel ∷ end_record ∷ []; fault = None; behind = [] }) ≡ record { steps = red_step ∷ record { number = 1; operation = no_effect; notes = no_notes } ∷ []; fault = None }
+unfolding wmf_record
 dot_alone = refl
 
 -- a record with a fault ends the steps
 palette_dot : content_of wmf_framing wmf_meaning 0 (record { records = palette_pixel ∷ end_record ∷ []; fault = None; behind = [] }) ≡ record { steps = []; fault = Some PaletteColour }
+unfolding wmf_record
 palette_dot = refl
 
--- the box (0, 0, 4, 4), shown on surfaces of 2 by 2 and 1 by 1
+-- the box (0, 0, 4, 4), shown on a surface of 2 by 2
 abbrev start : State
 start = start_state (placeable_map (record { x = pos 0; y = pos 0 }) (record { x = pos 4; y = pos 4 })) None
 

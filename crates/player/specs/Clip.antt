@@ -4,7 +4,7 @@ use Rattle.std.specs.List.{list_any}
 use Rattle.mapping.specs.declared.geometry.Rect.{Rect}
 use Rattle.mapping.specs.Surface.{Surface, placed}
 
--- one kept box or none, and the boxes that are cut out, the newest first, all of the plane with their corners in order
+-- one kept box or none, and the boxes that are cut out, the newest first, all of the plane; those that are cut have their corners in order
 pub record Clip : Type 0 where
   pub kept : Option Rect
   pub cuts : List Rect

@@ -103,7 +103,7 @@ points_kept stroke_and_fill_path state = []
 abbrev pub plane_points : Operation → State → List Point
 plane_points operation state = points_drawn (drawing_of operation state) ++ points_kept operation state
 
--- off the plane, where one of these points of the plane isn't within the limits
+-- off the plane, where one of these mapped points isn't one of the plane, or doesn't land within the limits
 abbrev pub off_plane_fault : List Point → Surface → Option Fault
 off_plane_fault points s = if list_all (λ point. lands_within_limits point s) points then None else Some OffPlane
 

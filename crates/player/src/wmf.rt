@@ -49,6 +49,7 @@ impl Format for Wmf {
         META_EOF
     }
 
+    #[tactic(auto, unfolding(crate::specs::Wmf::wmf_record))]
     fn read(_number: u32, front: RawRecord<'_>) -> Result<Meant<'_>, Fault> {
         match front.kind {
             META_EOF => Ok(Meant::unnoted(Op::NoEffect)),
