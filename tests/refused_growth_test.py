@@ -105,7 +105,7 @@ class RefusedGrowth(unittest.TestCase):
                 for number, answered in answers:
                     with self.subTest(test=name, number=number):
                         self.assertEqual(answered.status, 0, answered.err)
-        self.assertGreaterEqual(len(tried), 5, tried)
+        self.assertGreaterEqual(len(tried), 6, tried)
 
 
 if __name__ == "__main__":

@@ -8,7 +8,7 @@
 //!   (`PageMap::plane`, by `plane_coordinate`; `floor_division_law` says what floor means).
 //! - A point leaves the plane, or doesn't fit a surface, exactly where a limit says so
 //!   (`PageMap::plane`, `Place::fits`).
-//! - The tests of the limits that contracts are read by hold exactly where the limits do (`limits_law`).
+//! - Each test of a limit holds exactly where the limit does (`limits_law`).
 //!
 //! Nothing here is made for memory to be taken: the values are numbers. No contract says so, and a test
 //! over the built program counts its calls for memory.

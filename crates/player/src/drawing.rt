@@ -16,8 +16,8 @@ use canvas::Canvas;
 use draw_ops::{Fault, Op};
 use mapping::{Colour, Point};
 
-/// Draws an operation, or tells its first fault. After a fault the canvas is as it was. Room
-/// is for two layers of a surface of 2^26 pixels.
+/// Draws an operation, or tells its first fault. After a fault the canvas is as it was. The
+/// count of writes has room for two layers of a surface of 2^26 pixels.
 pub(crate) fn draw(op: Op<'_>, on: &PlacedMap, canvas: &mut Canvas) -> Result<(), Fault>
     requires whole { IsWhole canvas.old (surface_of on.now.place) }
     requires countable { canvas.old.writes + 2 ^ 27 < 2 ^ 64 }

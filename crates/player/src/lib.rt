@@ -4,7 +4,8 @@
 //!
 //! - A played file leaves the image that its records define, and the canvas counts the pixels
 //!   written (`play_file`, over white, and `play_on`, over what a canvas shows, by `Run` and `Writes`).
-//! - A refused file has that fault first, in that record (`play_file`, `play_on`, by `Run`).
+//! - A refused file has that fault first, in that record (`play_file`, `play_on`, by `Refused`), or it opens
+//!   and memory for its canvas was refused (`play_file`, by `WantsMemory`).
 //! - Playing on a canvas that is there is never refused for memory (`play_on`).
 //! - A run ends in one way, and whether it is refused doesn't depend on the image that it starts
 //!   from (`run_law`).

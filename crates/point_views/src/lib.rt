@@ -12,8 +12,8 @@
 //!   `Counts::new16`, `Counts::new32`), or where the counts don't add up to the number of points
 //!   (`Polys::new`).
 //!
-//! A view is a slice of the file and a few numbers, so no point is copied and no memory is taken. No
-//! contract says so, and a test over the built program counts its calls for memory.
+//! A view is a slice of the file and a few numbers, so no point is copied and no memory is taken; no
+//! contract says so.
 #![tactic(auto)]
 
 mod counts;
