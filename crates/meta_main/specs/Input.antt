@@ -3,6 +3,7 @@ use Rattle.std.specs.Prelude.{◌≡◌, ◌⊎◌, ℕ, List, Option, IfSome, c
 use Rattle.std.specs.Io.KnownBytes.{Keeps}
 use Rattle.meta_main.specs.Report.{Reports}
 use Rattle.meta_main.specs.Show.{ReportsRefusal, Shows, ShowsFront}
+use Rattle.meta_main.specs.Sides.{HoldsOfSome}
 
 -- the word that names standard input in a file's place
 abbrev pub standard_input : List ℕ
@@ -40,3 +41,15 @@ pub record FailsToWrite (name : List ℕ) (input : Option (List ℕ)) (width hei
 abbrev pub FailsInput : List ℕ → Option (List ℕ) → ℕ → ℕ → Option (List ℕ) → Option (List ℕ) → Option (List ℕ) → Option (List ℕ) → Type 0
 FailsInput name input width height old new before after =
     FailsToRead old new before after ⊎ FailsToWrite name input width height old new before after
+
+-- some input is shown at some sides of a surface
+abbrev pub ShowsSome : Option (List ℕ) → Option (List ℕ) → Option (List ℕ) → Type 0
+ShowsSome input old new = HoldsOfSome (λ name width height. ShowsInput name input width height old new)
+
+-- some input is refused at some sides of a surface
+abbrev pub RefusesSome : Option (List ℕ) → Option (List ℕ) → Option (List ℕ) → Type 0
+RefusesSome input before after = HoldsOfSome (λ name width height. RefusesInput name input width height before after)
+
+-- some input fails at some sides of a surface
+abbrev pub FailsSome : Option (List ℕ) → Option (List ℕ) → Option (List ℕ) → Option (List ℕ) → Option (List ℕ) → Type 0
+FailsSome input old new before after = HoldsOfSome (λ name width height. FailsInput name input width height old new before after)

@@ -5,10 +5,10 @@ ghost use Rattle.std.specs.Io.KnownBytes.{Keeps};
 ghost use Rattle.mapping.specs.Limits.{IsSurfaceSide};
 ghost use Rattle.clap.specs.Words.{kind_of};
 ghost use Rattle.meta_main.specs.Faults.{fault_text};
-ghost use Rattle.meta_main.specs.Input.{FailsInput, RefusesInput, ShowsInput, standard_input};
+ghost use Rattle.meta_main.specs.Input.{FailsInput, FailsSome, RefusesInput, RefusesSome, ShowsInput, ShowsSome, standard_input};
 ghost use Rattle.meta_main.specs.Reading.{input_limit};
 ghost use Rattle.meta_main.specs.Report.{Reports};
-ghost use Rattle.meta_main.specs.Sides.{HasSides, HoldsOf, HoldsOfSome};
+ghost use Rattle.meta_main.specs.Sides.{HasSides, HoldsOf};
 
 use crate::asked::Line;
 use crate::command_line::line;
@@ -32,16 +32,12 @@ where
     I: Read,
     O: Write,
     E: Write,
-    ensures done { result ≡ 0 → HoldsOfSome (λ name width height.
-        ShowsInput name (I.remaining input.old) width height (O.contents out.old) (O.contents out.new)) }
+    ensures done { result ≡ 0 → ShowsSome (I.remaining input.old) (O.contents out.old) (O.contents out.new) }
     ensures done_silent { result ≡ 0 → Keeps (E.contents err.old) (E.contents err.new) }
-    ensures refused { result ≡ 1 → HoldsOfSome (λ name width height.
-        RefusesInput name (I.remaining input.old) width height (E.contents err.old) (E.contents err.new)) }
+    ensures refused { result ≡ 1 → RefusesSome (I.remaining input.old) (E.contents err.old) (E.contents err.new) }
     ensures refused_unwritten { result ≡ 1 → Keeps (O.contents out.old) (O.contents out.new) }
     ensures usage_unread { result ≡ 2 → Keeps (I.remaining input.old) (I.remaining input.new) }
-    ensures failed { result ≡ 3 → HoldsOfSome (λ name width height.
-        FailsInput name (I.remaining input.old) width height (O.contents out.old) (O.contents out.new)
-        (E.contents err.old) (E.contents err.new)) }
+    ensures failed { result ≡ 3 → FailsSome (I.remaining input.old) (O.contents out.old) (O.contents out.new) (E.contents err.old) (E.contents err.new) }
     ensures memory_unwritten { result ≡ 4 → Keeps (O.contents out.old) (O.contents out.new) }
     ensures memory_line { result ≡ 4 → Reports (E.contents err.old) (E.contents err.new) (codes "OutOfMemory") }
     ensures statuses { result ≤ 4 }

@@ -28,8 +28,7 @@ impl<'a> Counts<'a> {
     /// bytes are there. Bytes after the counts don't matter.
     pub fn new16(bytes: &'a [u8], n: usize) -> Option<Counts<'a>>
         ensures room { IsSome result ↔ (2 * n ≤ length bytes.now) }
-        ensures counts { IfSome result
-            (λ counts. counts_of counts ≡ counts_in NumberWidth.Short n bytes.now) }
+        ensures counts { IfSome result (λ counts. counts_of counts ≡ counts_in NumberWidth.Short n bytes.now) }
     {
         if bytes.len() / 2 < n {
             return None;
@@ -44,8 +43,7 @@ impl<'a> Counts<'a> {
     /// bytes are there. Bytes after the counts don't matter.
     pub fn new32(bytes: &'a [u8], n: usize) -> Option<Counts<'a>>
         ensures room { IsSome result ↔ (4 * n ≤ length bytes.now) }
-        ensures counts { IfSome result
-            (λ counts. counts_of counts ≡ counts_in NumberWidth.Long n bytes.now) }
+        ensures counts { IfSome result (λ counts. counts_of counts ≡ counts_in NumberWidth.Long n bytes.now) }
     {
         if bytes.len() / 4 < n {
             return None;

@@ -31,8 +31,7 @@ impl<'a> Points<'a> {
     /// `4 * n` bytes are there. Bytes after the points don't matter.
     pub fn new16(bytes: &'a [u8], n: usize) -> Option<Points<'a>>
         ensures room { IsSome result ↔ (4 * n ≤ length bytes.now) }
-        ensures points { IfSome result
-            (λ points. points_of points ≡ points_in NumberWidth.Short n bytes.now) }
+        ensures points { IfSome result (λ points. points_of points ≡ points_in NumberWidth.Short n bytes.now) }
     {
         if bytes.len() / 4 < n {
             return None;
@@ -47,8 +46,7 @@ impl<'a> Points<'a> {
     /// `8 * n` bytes are there. Bytes after the points don't matter.
     pub fn new32(bytes: &'a [u8], n: usize) -> Option<Points<'a>>
         ensures room { IsSome result ↔ (8 * n ≤ length bytes.now) }
-        ensures points { IfSome result
-            (λ points. points_of points ≡ points_in NumberWidth.Long n bytes.now) }
+        ensures points { IfSome result (λ points. points_of points ≡ points_in NumberWidth.Long n bytes.now) }
     {
         if bytes.len() / 8 < n {
             return None;

@@ -42,16 +42,12 @@ impl<'a> Polys<'a> {
     /// exactly where the counts don't add up to the number of points.
     #[tactic(auto, using(crate::proofs::SplitLemmas::wholes))]
     pub fn new(counts: Counts<'a>, points: Points<'a>) -> Option<Polys<'a>>
-        ensures complete { IsSome result
-            ↔ (sum (counts_of counts.entry) ≡ length (points_of points.entry)) }
-        ensures lists { IfSome result
-            (λ polys. lists_of polys ≡ split_by (counts_of counts.entry) (points_of points.entry)) }
+        ensures complete { IsSome result ↔ (sum (counts_of counts.entry) ≡ length (points_of points.entry)) }
+        ensures lists { IfSome result (λ polys. lists_of polys ≡ split_by (counts_of counts.entry) (points_of points.entry)) }
 
         // which says of the lists as a whole:
-        ensures lengths { IfSome result
-            (λ polys. map length (lists_of polys) ≡ counts_of counts.entry) }
-        ensures joined { IfSome result
-            (λ polys. flat_map (λ list. list) (lists_of polys) ≡ points_of points.entry) }
+        ensures lengths { IfSome result (λ polys. map length (lists_of polys) ≡ counts_of counts.entry) }
+        ensures joined { IfSome result (λ polys. flat_map (λ list. list) (lists_of polys) ≡ points_of points.entry) }
     {
         if !counts.adds_up_to(points.len()) {
             return None;
@@ -94,8 +90,7 @@ impl<'a> Polys<'a> {
     /// The first list, and the lists after it: none exactly where there is no list.
     pub fn split_first(self) -> Option<(Points<'a>, Polys<'a>)>
         ensures none { IsNone result ↔ (lists_of self.entry ≡ []) }
-        ensures lists { IfSome result
-            (λ split. lists_of self.entry ≡ points_of split.0 ∷ lists_of split.1) }
+        ensures lists { IfSome result (λ split. lists_of self.entry ≡ points_of split.0 ∷ lists_of split.1) }
     {
         match self {
             Polys::One(points) => Some((points, Polys::empty())),
