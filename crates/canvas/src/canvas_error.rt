@@ -1,4 +1,4 @@
-//! What can go wrong outside a canvas: the machine refuses memory, or a writer fails.
+//! What can go wrong outside a canvas: the system refuses memory, or a writer fails.
 
 use std::error::Error;
 use std::fmt;

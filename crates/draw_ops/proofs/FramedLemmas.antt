@@ -13,8 +13,9 @@ too_many f number bytes h = rw (le-leb record_limit number h) refl
 -- a record in front of framed bytes
 put_in_front : (f : Framing) (number : ℕ) (bytes : List ℕ) (records : List Record) (fault : Option Fault) (behind : List ℕ) → framing_fault f number bytes ≡ None → kind_of f bytes ≢ f.end_kind → IsSpelledOrBroken f (suc number) (rest_of f bytes) records fault behind → IsSpelledOrBroken f number bytes (front_of f bytes ∷ records) fault behind
 put_in_front f number bytes [] None behind good ne h = absurd h
-put_in_front f number bytes (s ∷ rs) None behind good ne h = (record { good = good; front = refl; not_last = ne }, h)
-put_in_front f number bytes records (Some fault) behind good ne h = ((record { good = good; front = refl; not_last = ne }, h.0), h.1)
+put_in_front f number bytes (s ∷ rs) None behind good ne h = record { good = good; front = refl; not_last = ne; onward = h }
+put_in_front f number bytes records (Some fault) behind good ne h =
+    record { broken = record { good = good; front = refl; not_last = ne; onward = h.broken }; none_behind = h.none_behind }
 
 -- the bytes are framed as `framed_from` says
 framed_last : (f : Framing) (number : ℕ) (bytes : List ℕ) (framed : Framed) (b : Bool) → eqb (kind_of f bytes) f.end_kind ≡ b → framing_fault f number bytes ≡ None → IsFramed f (suc number) (rest_of f bytes) framed → IsFramed f number bytes (from_record b (front_of f bytes) (rest_of f bytes) framed)
@@ -23,10 +24,10 @@ framed_last f number bytes framed false e good h = put_in_front f number bytes f
 
 framed_fault : (f : Framing) (number : ℕ) (bytes : List ℕ) (framed : Framed) (o : Option Fault) → framing_fault f number bytes ≡ o → (o ≡ None → IsFramed f number bytes framed) → IsFramed f number bytes (from_fault o framed)
 framed_fault f number bytes framed None e h = h refl
-framed_fault f number bytes framed (Some fault) e h = (e, refl)
+framed_fault f number bytes framed (Some fault) e h = record { broken = e; none_behind = refl }
 
 pub is_framed : (f : Framing) (room number : ℕ) (bytes : List ℕ) → room + number ≡ record_limit → IsFramed f number bytes (framed_from f room number bytes)
-is_framed f zero number bytes e = (too_many f number bytes (omega arith), refl)
+is_framed f zero number bytes e = record { broken = too_many f number bytes (omega arith); none_behind = refl }
 is_framed f (suc room) number bytes e =
     framed_fault f number bytes _ _ refl (λ good. framed_last f number bytes _ _ refl good (is_framed f room (suc number) (rest_of f bytes) (omega arith)))
 
@@ -41,22 +42,22 @@ full f number bytes e good = some_none (sym (too_many f number bytes (omega arit
 pub only_way : (f : Framing) (room number : ℕ) (bytes : List ℕ) → room + number ≡ record_limit → (records : List Record) (fault : Option Fault) (behind : List ℕ) → IsSpelledOrBroken f number bytes records fault behind → record { records = records; fault = fault; behind = behind } ≡ framed_from f room number bytes
 only_way f room number bytes e [] None behind h = absurd h
 only_way f zero number bytes e (r ∷ []) None behind h = absurd (full f number bytes e h.good)
-only_way f zero number bytes e (r ∷ s ∷ rs) None behind h = absurd (full f number bytes e h.0.good)
+only_way f zero number bytes e (r ∷ s ∷ rs) None behind h = absurd (full f number bytes e h.good)
 only_way f zero number bytes e [] (Some x) behind h =
     let many = too_many f number bytes (omega arith) in
-    rw h.1 (ap (λ (o : Option Fault). record { records = []; fault = o; behind = [] }) (sym h.0 ∙ many))
-only_way f zero number bytes e (r ∷ rs) (Some x) behind h = absurd (full f number bytes e h.0.0.good)
-only_way f (suc room) number bytes e [] (Some x) behind h = rw (h.0, h.1) refl
+    rw h.none_behind (ap (λ (o : Option Fault). record { records = []; fault = o; behind = [] }) (sym h.broken ∙ many))
+only_way f zero number bytes e (r ∷ rs) (Some x) behind h = absurd (full f number bytes e h.broken.good)
+only_way f (suc room) number bytes e [] (Some x) behind h = rw (h.broken, h.none_behind) refl
 only_way f (suc room) number bytes e (r ∷ []) None behind h =
     let last = eq-eqb _ _ (sym (ap (λ (q : Record). q.kind) h.front) ∙ h.last) in rw (h.good, last, h.front, h.behind_it) refl
 only_way f (suc room) number bytes e (r ∷ s ∷ rs) None behind h =
-    let goes_on = ne_eqb _ _ (λ p. h.0.not_last (ap (λ (q : Record). q.kind) h.0.front ∙ p)) in
-    let rest = only_way f room (suc number) (rest_of f bytes) (omega arith) (s ∷ rs) None behind h.1 in
-    rw (h.0.good, goes_on, h.0.front) (ap (in_front (front_of f bytes)) rest)
+    let goes_on = ne_eqb _ _ (λ p. h.not_last (ap (λ (q : Record). q.kind) h.front ∙ p)) in
+    let rest = only_way f room (suc number) (rest_of f bytes) (omega arith) (s ∷ rs) None behind h.onward in
+    rw (h.good, goes_on, h.front) (ap (in_front (front_of f bytes)) rest)
 only_way f (suc room) number bytes e (r ∷ rs) (Some x) behind h =
-    let goes_on = ne_eqb _ _ (λ p. h.0.0.not_last (ap (λ (q : Record). q.kind) h.0.0.front ∙ p)) in
-    let rest = only_way f room (suc number) (rest_of f bytes) (omega arith) rs (Some x) behind (h.0.1, h.1) in
-    rw (h.0.0.good, goes_on, h.0.0.front) (ap (in_front (front_of f bytes)) rest)
+    let goes_on = ne_eqb _ _ (λ p. h.broken.not_last (ap (λ (q : Record). q.kind) h.broken.front ∙ p)) in
+    let rest = only_way f room (suc number) (rest_of f bytes) (omega arith) rs (Some x) behind (record { broken = h.broken.onward; none_behind = h.none_behind }) in
+    rw (h.broken.good, goes_on, h.broken.front) (ap (in_front (front_of f bytes)) rest)
 
 pub one_way : FramedInOneWay
 one_way f bytes = record {

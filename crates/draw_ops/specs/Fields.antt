@@ -11,16 +11,16 @@ abbrev pub needs_bytes : {T : Type 0} → ℕ → List ℕ → Result T Fault �
 needs_bytes count bytes value = if nat_lt (length bytes) count then Err BadParams else value
 
 -- the point at a place, of which WMF's records have y before x, two bytes each
-abbrev pub yx_at : ℕ → List ℕ → Point
-yx_at place bytes = record { x = i16_at (place + 2) bytes; y = i16_at place bytes }
+abbrev pub yx_at : List ℕ → ℕ → Point
+yx_at bytes place = record { x = i16_at bytes (place + 2); y = i16_at bytes place }
 
 -- The type of a colour, the byte behind its blue ([MS-WMF] 2.2.2.8, reserved), is one of red, green and blue: 0 or 2, by a rule of our own.
 abbrev pub is_rgb : ℕ → Bool
 is_rgb colour_type = colour_type == 0 || colour_type == 2
 
 -- the colour at a place: red, green and blue, or a colour of a palette
-abbrev pub rgb_at : ℕ → List ℕ → Result Colour Fault
-rgb_at place bytes =
-    if is_rgb (number_at 1 (place + 3) bytes)
-    then Ok (record { r = number_at 1 place bytes; g = number_at 1 (place + 1) bytes; b = number_at 1 (place + 2) bytes })
+abbrev pub rgb_at : List ℕ → ℕ → Result Colour Fault
+rgb_at bytes place =
+    if is_rgb (number_at bytes (place + 3) 1)
+    then Ok (record { r = number_at bytes place 1; g = number_at bytes (place + 1) 1; b = number_at bytes (place + 2) 1 })
     else Err PaletteColour

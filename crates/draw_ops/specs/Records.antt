@@ -27,7 +27,7 @@ record_limit = 1048576
 
 -- the size in bytes that the head in front gives
 abbrev pub size_of : Framing → List ℕ → ℕ
-size_of f bytes = f.unit * number_at 4 f.size_place bytes
+size_of f bytes = f.unit * number_at bytes f.size_place 4
 
 -- a record may have this size: it has a head, and is a multiple
 abbrev pub may_be_size : Framing → ℕ → Bool
@@ -35,7 +35,7 @@ may_be_size f size = nat_le f.head_length size && size % f.multiple == 0
 
 -- the kind that the head in front gives
 abbrev pub kind_of : Framing → List ℕ → ℕ
-kind_of f bytes = number_at f.kind_length f.kind_place bytes
+kind_of f bytes = number_at bytes f.kind_place f.kind_length
 
 -- the record in front, if it is good
 abbrev pub front_of : Framing → List ℕ → Record
@@ -60,11 +60,12 @@ pub record EndsBy (f : Framing) (number : ℕ) (bytes : List ℕ) (r : Record) (
   pub last : r.kind ≡ f.end_kind
   pub behind_it : behind ≡ rest_of f bytes
 
--- the front is this good record, and it doesn't end the file
-pub record GoesOnBy (f : Framing) (number : ℕ) (bytes : List ℕ) (r : Record) : Type 0 where
+-- the front is this good record, it doesn't end the file, and this holds of the bytes behind it
+pub record GoesOnBy (f : Framing) (number : ℕ) (bytes : List ℕ) (r : Record) (holds : Type 0) : Type 0 where
   pub good : framing_fault f number bytes ≡ None
   pub front : r ≡ front_of f bytes
   pub not_last : r.kind ≢ f.end_kind
+  pub onward : holds
 
 -- The bytes, from the record with this number on, spell these records, and these bytes lie behind them: the front is a good record
 -- that ends the file, and the list is that one alone; or the front is a good record that doesn't, and the rest of the bytes spells
@@ -72,12 +73,12 @@ pub record GoesOnBy (f : Framing) (number : ℕ) (bytes : List ℕ) (r : Record)
 abbrev pub Spells : Framing → ℕ → List ℕ → List Record → List ℕ → Type 0
 Spells f number bytes [] behind = ⊥
 Spells f number bytes (r ∷ []) behind = EndsBy f number bytes r behind
-Spells f number bytes (r ∷ s ∷ rs) behind = GoesOnBy f number bytes r × Spells f (suc number) (rest_of f bytes) (s ∷ rs) behind
+Spells f number bytes (r ∷ s ∷ rs) behind = GoesOnBy f number bytes r (Spells f (suc number) (rest_of f bytes) (s ∷ rs) behind)
 
 -- These good records without an end stand in front, from the one with this number on, and the record behind them has this fault.
 abbrev pub Broken : Framing → ℕ → List ℕ → List Record → Fault → Type 0
 Broken f number bytes [] fault = framing_fault f number bytes ≡ Some fault
-Broken f number bytes (r ∷ rs) fault = GoesOnBy f number bytes r × Broken f (suc number) (rest_of f bytes) rs fault
+Broken f number bytes (r ∷ rs) fault = GoesOnBy f number bytes r (Broken f (suc number) (rest_of f bytes) rs fault)
 
 -- the records of some bytes, the fault behind them, if there is one, and the bytes behind the end record
 pub record Framed : Type 0 where
@@ -85,10 +86,15 @@ pub record Framed : Type 0 where
   pub fault : Option Fault
   pub behind : List ℕ
 
--- without a fault the bytes are spelled, and with one they are broken, and none lie behind
+-- the bytes are broken, and so none lie behind an end record
+pub record BreaksBy (f : Framing) (number : ℕ) (bytes : List ℕ) (records : List Record) (fault : Fault) (behind : List ℕ) : Type 0 where
+  pub broken : Broken f number bytes records fault
+  pub none_behind : behind ≡ []
+
+-- without a fault the bytes are spelled, and with one they are broken
 abbrev pub IsSpelledOrBroken : Framing → ℕ → List ℕ → List Record → Option Fault → List ℕ → Type 0
 IsSpelledOrBroken f number bytes records None behind = Spells f number bytes records behind
-IsSpelledOrBroken f number bytes records (Some fault) behind = Broken f number bytes records fault × (behind ≡ [])
+IsSpelledOrBroken f number bytes records (Some fault) behind = BreaksBy f number bytes records fault behind
 
 -- the bytes, from the record with this number on, are framed so
 abbrev pub IsFramed : Framing → ℕ → List ℕ → Framed → Type 0

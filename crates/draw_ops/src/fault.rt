@@ -104,7 +104,7 @@ pub enum Fault {
     SurfaceTooLarge,
     /// The image is no P6 text with allowed sides.
     BadImage,
-    // The machine.
+    // The computer.
     /// The writer failed, or took no byte.
     WriteFault,
     /// Memory was refused.

@@ -12,7 +12,7 @@ use point_views::{i16_at, u8_at};
 /// behind its blue, is neither 0 nor 2.
 pub fn rgb_at(bytes: &[u8], place: usize) -> Result<Colour, Fault>
     requires { place + 4 ≤ length bytes.now }
-    ensures value { result ≡ rgb_at place bytes.now }
+    ensures value { result ≡ rgb_at bytes.now place }
     ensures in_record { IfErr result IsInRecord }
 {
     if !is_rgb(u8_at(bytes, place + 3)) {
@@ -28,7 +28,7 @@ pub fn rgb_at(bytes: &[u8], place: usize) -> Result<Colour, Fault>
 /// The point at a place, of which WMF's records have y before x, in 16 bits each.
 pub fn yx_at(bytes: &[u8], place: usize) -> Point
     requires { place + 4 ≤ length bytes.now }
-    ensures { result ≡ yx_at place bytes.now }
+    ensures { result ≡ yx_at bytes.now place }
 {
     Point {
         x: i32::from(i16_at(bytes, place + 2)),

@@ -33,9 +33,9 @@ turned_back q a d h = omega (arith, ints, h)
 
 pub floor_is_greatest : FloorDivisionIsGreatest
 floor_is_greatest a (pos zero) ne = absurd (ne refl)
-floor_is_greatest a (pos (suc d)) ne = (low a d, greatest a d)
+floor_is_greatest a (pos (suc d)) ne = record { not_above = low a d; greatest = greatest a d }
 floor_is_greatest a (negsuc d) ne =
-    (turned _ a d (low (neg_ℤ a) d), λ q h. greatest (neg_ℤ a) d q (turned_back q a d h))
+    record { not_above = turned _ a d (low (neg_ℤ a) d); greatest = λ q h. greatest (neg_ℤ a) d q (turned_back q a d h) }
 
 -- a number below 0, divided
 below : (n k : ℕ) → floor_div (neg_ℤ (pos (suc n))) (pos (suc k)) ≡ negsuc (n / suc k)

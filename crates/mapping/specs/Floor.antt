@@ -12,7 +12,11 @@ abbrev pub IsNotAbove : ℤ → ℤ → ℤ → Type 0
 IsNotAbove q a (pos b) = (q *ℤ pos b) ≤ℤ a
 IsNotAbove q a (negsuc b) = a ≤ℤ (q *ℤ negsuc b)
 
--- The floor of a / b is not above the fraction, and no whole number that isn't above it is greater.
+-- q is not above the fraction a / b, and no whole number that isn't above it is greater
+pub record IsGreatestNotAbove (q a b : ℤ) : Type 0 where
+  pub not_above : IsNotAbove q a b
+  pub greatest : (other : ℤ) → IsNotAbove other a b → other ≤ℤ q
+
+-- The floor of a / b is the greatest whole number not above the fraction.
 abbrev pub FloorDivisionIsGreatest : Type 0
-FloorDivisionIsGreatest =
-    (a b : ℤ) → b ≢ pos 0 → IsNotAbove (floor_div a b) a b × ((q : ℤ) → IsNotAbove q a b → q ≤ℤ floor_div a b)
+FloorDivisionIsGreatest = (a b : ℤ) → b ≢ pos 0 → IsGreatestNotAbove (floor_div a b) a b

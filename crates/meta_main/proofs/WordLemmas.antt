@@ -4,11 +4,11 @@ use Rattle.std.proofs.lemmas.Bool.{ne_eqb}
 use Rattle.clap.specs.Lexer.{short_of, without_minus}
 use Rattle.clap.specs.Simple.{Shape, built}
 use Rattle.clap.specs.Walk.{Held, Row, Rule, Step, Text, Walk, after_step, finished, idle, nothing_held, one_of, rows_after, value, walked, word_met}
-use Rattle.clap.specs.Words.{subcommand_of}
+use Rattle.clap.specs.Words.{first_of, subcommand_of}
 use Rattle.clap.proofs.OnLiterals.{clap_on_literals}
 use Rattle.meta_main.specs.declared.asked.Line.{Line}
 use Rattle.meta_main.specs.declared.asked.Line.TheVariants.{Show}
-use Rattle.meta_main.specs.CommandLine.{GivesNumber, HasPlainWords, HasWords, IsAskedBy, IsAskedByWords, IsPlainWord, metaplay_app, number_of}
+use Rattle.meta_main.specs.CommandLine.{AreOfWords, GivesNumber, HasPlainWords, HasWords, IsAskedByWords, IsPlainWord, IsShow, metaplay_app, number_of}
 
 no_flags : (byte : ℕ) (rest : Text) → (byte ≡ 45 → ⊥) → short_of (byte ∷ rest) ≡ None
 no_flags byte rest plain = rw (ne_eqb byte 45 plain) refl
@@ -64,17 +64,32 @@ no_minus (byte ∷ rest) plain = rw (ne_eqb byte 45 plain) refl
 
 number_given : (word : Text) (given : List Row) (id : Text) (number : ℕ) → IsPlainWord word → one_of id given ≡ Some (without_minus word) → GivesNumber given id number → number ≡ number_of word
 number_given word given id number plain is gives =
-    let met : one_of id given ≡ Some gives.0 = gives.1 in
-    let same : without_minus word ≡ gives.0 = cc in
-    gives.2 ∙ ap number_of (sym same ∙ no_minus word plain)
+    let met : one_of id given ≡ Some gives.text = gives.is_given in
+    let same : without_minus word ≡ gives.text = cc in
+    gives.reads ∙ ap number_of (sym same ∙ no_minus word plain)
+
+-- the rows behind one name
+same_inside : {A : Type 0} {x y : A} → Some x ≡ Some y → x ≡ y
+same_inside e = cc
+
+same_rows : (met : Option (Text × List Row)) (name other : Text) (given all : List Row) → met ≡ Some (name, given) → met ≡ Some (other, all) → given ≡ all
+same_rows met name other given all e f = ap (λ (command : Text × List Row). command.1) (same_inside (sym e ∙ f))
+
+-- what a command says whose rows are known
+by_rows : (met : Option (Text × List Row)) (all : List Row) (file wide high name : Text) (width height : ℕ) → IsPlainWord wide → IsPlainWord high → met ≡ Some (codes "show", all) → first_of (codes "FILE") all ≡ Some file → one_of (codes "W") all ≡ Some (without_minus wide) → one_of (codes "H") all ≡ Some (without_minus high) → IsShow met name width height → AreOfWords file wide high name width height
+by_rows met all file wide high name width height plain_wide plain_high is has_file has_wide has_high show =
+    let same = same_rows met _ _ _ _ show.command is in
+    let named : first_of (codes "FILE") all ≡ Some name = rw same at show.file in
+    record {
+      named = same_inside (sym named ∙ has_file);
+      wide_reads = number_given wide all (codes "W") width plain_wide has_wide (rw same at show.wide);
+      high_reads = number_given high all (codes "H") height plain_high has_high (rw same at show.high);
+    }
 
 given_words : (line : Line) (program file wide high : Text) → IsPlainWord file → IsPlainWord wide → IsPlainWord high → IsAskedByWords (program ∷ codes "show" ∷ file ∷ wide ∷ high ∷ []) line → HasWords file wide high line
 given_words (Show name width height) program file wide high plain_file plain_wide plain_high asked =
     let rows = first_word program file wide high ∙ ap (λ (r : List Row). Some (codes "show", r)) (other_words file wide high plain_file plain_wide plain_high) in
-    let has : IsAskedBy (Some (codes "show", given_all file wide high)) (Show name width height) =
-    subst (λ (met : Option (Text × List Row)). IsAskedBy met (Show name width height)) rows asked in
-    let is_file : Some file ≡ Some name.now = has.1.0 in
-    (cc, number_given wide (given_all file wide high) (codes "W") width plain_wide refl has.1.1, number_given high (given_all file wide high) (codes "H") height plain_high refl has.1.2)
+    by_rows _ (given_all file wide high) file wide high name.now width height plain_wide plain_high rows refl refl refl asked
 
 -- what five such words ask for
 pub plain_words : (words : List Text) (line : Line) → IsAskedByWords words line → HasPlainWords words line

@@ -1,12 +1,12 @@
 -- The program's command line, as clap reads it.
-use Rattle.std.specs.Prelude.{◌≡◌, ℕ, List, [], ◌∷◌, Option, Some, None, codes, pos, true}
+use Rattle.std.specs.Prelude.{◌≡◌, ℕ, List, [], ◌∷◌, Option, Some, codes, pos, true}
 use Rattle.mapping.specs.Limits.{surface_side_limit}
 use Rattle.std.specs.Str.Parse.{digits_value, without_leading_plus}
 use Rattle.clap.specs.Words.{App, Row, Rule, Text, first_of, new_app, new_rule, one_of, subcommand_of, with_rule, with_subcommand}
 use Rattle.clap.specs.declared.builder.ArgAction.TheVariants.{Set}
 use Rattle.clap.specs.declared.builder.value_parser.ValueParser.TheVariants.{Signed}
 use Rattle.meta_main.specs.declared.asked.Line.{Line}
-use Rattle.meta_main.specs.Sides.{HoldsOf}
+use Rattle.meta_main.specs.declared.asked.Line.TheVariants.{Show}
 
 -- FILE, which has to be given
 abbrev pub file_rule : Rule
@@ -33,18 +33,22 @@ abbrev pub number_of : Text → ℕ
 number_of text = digits_value 10 (without_leading_plus text)
 
 -- the text that was given for an id reads as this number
-abbrev pub GivesNumber : List Row → Text → ℕ → Type 0
-GivesNumber given id number = (text : Text) × (one_of id given ≡ Some text) × (number ≡ number_of text)
+pub record GivesNumber (given : List Row) (id : Text) (number : ℕ) : Type 0 where
+  pub text : Text
+  pub is_given : one_of id given ≡ Some text
+  pub reads : number ≡ number_of text
 
--- the line has the file and the sides that were given
-abbrev pub HasGiven : List Row → Line → Type 0
-HasGiven given line = HoldsOf line (λ name width height.
-    (first_of (codes "FILE") given ≡ Some name) × GivesNumber given (codes "W") width × GivesNumber given (codes "H") height)
+-- the command that was met is `show`, and was given this file and these sides
+pub record IsShow (met : Option (Text × List Row)) (name : Text) (width height : ℕ) : Type 0 where
+  pub given : List Row
+  pub command : met ≡ Some (codes "show", given)
+  pub file : first_of (codes "FILE") given ≡ Some name
+  pub wide : GivesNumber given (codes "W") width
+  pub high : GivesNumber given (codes "H") height
 
--- the command is `show`, and the line has what it was given
+-- the command that was met is the line's, and was given what the line has
 abbrev pub IsAskedBy : Option (Text × List Row) → Line → Type 0
-IsAskedBy None line = ⊥
-IsAskedBy (Some command) line = (command.0 ≡ codes "show") × HasGiven command.1 line
+IsAskedBy met (Show file width height) = IsShow met file.now width height
 
 -- the line has what the words, the program's name first, give the command `show`
 abbrev pub IsAskedByWords : List Text → Line → Type 0
@@ -55,9 +59,15 @@ abbrev pub IsPlainWord : Text → Type 0
 IsPlainWord [] = Unit {0}
 IsPlainWord (byte ∷ rest) = byte ≡ 45 → ⊥
 
--- the line has this file, and these texts' numbers for its sides
+-- the file has this name, and the sides are these texts' numbers
+pub record AreOfWords (file wide high : Text) (name : Text) (width height : ℕ) : Type 0 where
+  pub named : name ≡ file
+  pub wide_reads : width ≡ number_of wide
+  pub high_reads : height ≡ number_of high
+
+-- the line shows the file of this name at these texts' numbers
 abbrev pub HasWords : Text → Text → Text → Line → Type 0
-HasWords file wide high line = HoldsOf line (λ name width height. (name ≡ file) × (width ≡ number_of wide) × (height ≡ number_of high))
+HasWords file wide high (Show name width height) = AreOfWords file wide high name.now width height
 
 -- where the words are five, the program's name, `show` and three that do not begin with a hyphen, the line has those three
 abbrev pub HasPlainWords : List Text → Line → Type 0

@@ -4,6 +4,8 @@ use Rattle.std.specs.Io.KnownBytes.{Keeps}
 use Rattle.meta_main.specs.Report.{Reports}
 use Rattle.meta_main.specs.Show.{ReportsRefusal, Shows, ShowsFront}
 use Rattle.meta_main.specs.Sides.{HoldsOfSome}
+use Rattle.meta_main.specs.declared.asked.Line.{Line}
+use Rattle.meta_main.specs.declared.asked.Line.TheVariants.{Show}
 
 -- the word that names standard input in a file's place
 abbrev pub standard_input : List ℕ
@@ -42,14 +44,26 @@ abbrev pub FailsInput : List ℕ → Option (List ℕ) → ℕ → ℕ → Optio
 FailsInput name input width height old new before after =
     FailsToRead old new before after ⊎ FailsToWrite name input width height old new before after
 
--- some input is shown at some sides of a surface
-abbrev pub ShowsSome : Option (List ℕ) → Option (List ℕ) → Option (List ℕ) → Type 0
-ShowsSome input old new = HoldsOfSome (λ name width height. ShowsInput name input width height old new)
+-- what the line asks for is done with its input
+abbrev pub Does : Line → Option (List ℕ) → Option (List ℕ) → Option (List ℕ) → Type 0
+Does (Show file width height) input old new = ShowsInput file.now input width height old new
 
--- some input is refused at some sides of a surface
+-- its input is refused
+abbrev pub Refuses : Line → Option (List ℕ) → Option (List ℕ) → Option (List ℕ) → Type 0
+Refuses (Show file width height) input before after = RefusesInput file.now input width height before after
+
+-- its input could not be read, or what it asks for not be written
+abbrev pub Fails : Line → Option (List ℕ) → Option (List ℕ) → Option (List ℕ) → Option (List ℕ) → Option (List ℕ) → Type 0
+Fails (Show file width height) input old new before after = FailsInput file.now input width height old new before after
+
+-- what some line asks for is done
+abbrev pub DoesSome : Option (List ℕ) → Option (List ℕ) → Option (List ℕ) → Type 0
+DoesSome input old new = HoldsOfSome (λ line. Does line input old new)
+
+-- the input of some line is refused
 abbrev pub RefusesSome : Option (List ℕ) → Option (List ℕ) → Option (List ℕ) → Type 0
-RefusesSome input before after = HoldsOfSome (λ name width height. RefusesInput name input width height before after)
+RefusesSome input before after = HoldsOfSome (λ line. Refuses line input before after)
 
--- some input fails at some sides of a surface
+-- what some line asks for fails
 abbrev pub FailsSome : Option (List ℕ) → Option (List ℕ) → Option (List ℕ) → Option (List ℕ) → Option (List ℕ) → Type 0
-FailsSome input old new before after = HoldsOfSome (λ name width height. FailsInput name input width height old new before after)
+FailsSome input old new before after = HoldsOfSome (λ line. Fails line input old new before after)

@@ -7,5 +7,6 @@ unfoldable pub input_limit : ℕ
 input_limit = 268435456
 
 -- known bytes begin with some bytes, and lose them
-abbrev pub ConsumesFront : Option (List ℕ) → Option (List ℕ) → Type 0
-ConsumesFront old new = (front : List ℕ) × Consumes old new front
+pub record ConsumesFront (old new : Option (List ℕ)) : Type 0 where
+  pub front : List ℕ
+  pub consumed : Consumes old new front

@@ -63,7 +63,7 @@ fn side<'a>(alloc: Global, id: &'a str, help: &'a str) -> Arg<'a>
     Arg::new(alloc, id)
         .required(true)
         .action(ArgAction::Set)
-        .value_parser(value_parser!(u32).range(1..=8192))
+        .value_parser(value_parser!(u32).range(1..=i64::from(MAX_SURFACE_SIDE)))
         .help(help)
 }
 

@@ -5,10 +5,11 @@ ghost use Rattle.std.specs.Io.KnownBytes.{Keeps};
 ghost use Rattle.mapping.specs.Limits.{IsSurfaceSide};
 ghost use Rattle.clap.specs.Words.{kind_of};
 ghost use Rattle.meta_main.specs.Faults.{fault_text};
-ghost use Rattle.meta_main.specs.Input.{FailsInput, FailsSome, RefusesInput, RefusesSome, ShowsInput, ShowsSome, standard_input};
+ghost use Rattle.meta_main.specs.Input.{Does, DoesSome, Fails, FailsInput, FailsSome, Refuses, RefusesInput, RefusesSome};
+ghost use Rattle.meta_main.specs.Input.{ShowsInput, standard_input};
 ghost use Rattle.meta_main.specs.Reading.{input_limit};
 ghost use Rattle.meta_main.specs.Report.{Reports};
-ghost use Rattle.meta_main.specs.Sides.{HasSides, HoldsOf};
+ghost use Rattle.meta_main.specs.Sides.{HasSides, file_of};
 
 use crate::asked::Line;
 use crate::command_line::line;
@@ -32,7 +33,7 @@ where
     I: Read,
     O: Write,
     E: Write,
-    ensures done { result ≡ 0 → ShowsSome (I.remaining input.old) (O.contents out.old) (O.contents out.new) }
+    ensures done { result ≡ 0 → DoesSome (I.remaining input.old) (O.contents out.old) (O.contents out.new) }
     ensures done_silent { result ≡ 0 → Keeps (E.contents err.old) (E.contents err.new) }
     ensures refused { result ≡ 1 → RefusesSome (I.remaining input.old) (E.contents err.old) (E.contents err.new) }
     ensures refused_unwritten { result ≡ 1 → Keeps (O.contents out.old) (O.contents out.new) }
@@ -64,20 +65,16 @@ where
     O: Write,
     E: Write,
     requires sides { HasSides line }
-    ensures done { result ≡ 0 → HoldsOf line.entry (λ name width height.
-        ShowsInput name (I.remaining input.old) width height (O.contents out.old) (O.contents out.new)) }
+    ensures done { result ≡ 0 → Does line.entry (I.remaining input.old) (O.contents out.old) (O.contents out.new) }
     ensures done_silent { result ≡ 0 → Keeps (E.contents err.old) (E.contents err.new) }
-    ensures refused { result ≡ 1 → HoldsOf line.entry (λ name width height.
-        RefusesInput name (I.remaining input.old) width height (E.contents err.old) (E.contents err.new)) }
+    ensures refused { result ≡ 1 → Refuses line.entry (I.remaining input.old) (E.contents err.old) (E.contents err.new) }
     ensures refused_unwritten { result ≡ 1 → Keeps (O.contents out.old) (O.contents out.new) }
-    ensures failed { result ≡ 3 → HoldsOf line.entry (λ name width height.
-        FailsInput name (I.remaining input.old) width height (O.contents out.old) (O.contents out.new)
-        (E.contents err.old) (E.contents err.new)) }
+    ensures failed { result ≡ 3
+        → Fails line.entry (I.remaining input.old) (O.contents out.old) (O.contents out.new) (E.contents err.old) (E.contents err.new) }
     ensures memory_unwritten { result ≡ 4 → Keeps (O.contents out.old) (O.contents out.new) }
     ensures memory_line { result ≡ 4 → Reports (E.contents err.old) (E.contents err.new) (codes "OutOfMemory") }
     ensures statuses { ((result ≡ 0) ⊎ (result ≡ 1)) ⊎ ((result ≡ 3) ⊎ (result ≡ 4)) }
-    ensures unread { HoldsOf line.entry (λ name width height.
-        name ≢ standard_input → Keeps (I.remaining input.old) (I.remaining input.new)) }
+    ensures unread { file_of line.entry ≢ standard_input → Keeps (I.remaining input.old) (I.remaining input.new) }
 {
     match line {
         Line::Show {

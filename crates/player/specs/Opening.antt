@@ -31,18 +31,18 @@ unfoldable pub file_limit : ℕ
 file_limit = 67108864
 
 -- META_HEADER at a place, [MS-WMF] 2.3.2.2: a type of 1 or 2, a size of 9 words, and one of two versions
-abbrev pub is_standard_header : ℕ → List ℕ → Bool
-is_standard_header place file =
-    (number_at 2 place file == 1 || number_at 2 place file == 2) && number_at 2 (place + 2) file == 9
-    && (number_at 2 (place + 4) file == 0x0100 || number_at 2 (place + 4) file == 0x0300)
+abbrev pub is_standard_header : List ℕ → ℕ → Bool
+is_standard_header file place =
+    (number_at file place 2 == 1 || number_at file place 2 == 2) && number_at file (place + 2) 2 == 9
+    && (number_at file (place + 4) 2 == 0x0100 || number_at file (place + 4) 2 == 0x0300)
 
 -- the box of META_PLACEABLE, [MS-WMF] 2.3.2.3: left and top
 abbrev pub box_corner : List ℕ → Point
-box_corner file = record { x = i16_at 6 file; y = i16_at 8 file }
+box_corner file = record { x = i16_at file 6; y = i16_at file 8 }
 
 -- its sides, negative where right or bottom comes first
 abbrev pub box_sides : List ℕ → Point
-box_sides file = record { x = i16_at 10 file -ℤ i16_at 6 file; y = i16_at 12 file -ℤ i16_at 8 file }
+box_sides file = record { x = i16_at file 10 -ℤ i16_at file 6; y = i16_at file 12 -ℤ i16_at file 8 }
 
 -- the frame is as large as the box, and the box is the window at the start
 abbrev pub opened_placeable : List ℕ → Opened
@@ -59,13 +59,13 @@ opened_placeable file = record {
 abbrev pub placeable_file : List ℕ → Result Opened Fault
 placeable_file file =
     if nat_lt (length file) 40 then Err ShortHeader
-    else (if not (is_standard_header 22 file) then Err BadHeader
+    else (if not (is_standard_header file 22) then Err BadHeader
     else (if unsigned_abs (box_sides file).x == 0 || unsigned_abs (box_sides file).y == 0 then Err NoFrame
     else Ok (opened_placeable file)))
 
 -- the file begins with META_PLACEABLE's key
 abbrev pub is_placeable : List ℕ → Bool
-is_placeable file = nat_le 4 (length file) && number_at 4 0 file == 0x9ac6cdd7
+is_placeable file = nat_le 4 (length file) && number_at file 0 4 == 0x9ac6cdd7
 
 -- the file's headers: too long a file, a placeable one, or none that is opened
 abbrev pub opened : List ℕ → Result Opened Fault

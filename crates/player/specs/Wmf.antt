@@ -20,7 +20,7 @@ pixel_meant point colour = unnoted (pixel point colour)
 
 -- META_SETPIXEL, 2.3.3.19: the colour, y and x
 abbrev pub set_pixel : List ℕ → Result MeantValue Fault
-set_pixel bytes = needs_bytes 14 bytes (result_map (pixel_meant (yx_at 10 bytes)) (rgb_at 6 bytes))
+set_pixel bytes = needs_bytes 14 bytes (result_map (pixel_meant (yx_at bytes 10)) (rgb_at bytes 6))
 
 -- the records that are played
 pub data WmfKind : Type 0 where

@@ -89,7 +89,7 @@ fn open_placeable(file: &[u8]) -> Result<OpenedFile<'_>, Fault>
 /// of the standard's.
 fn has_standard_header(file: &[u8]) -> bool
     requires { 40 ≤ length file.now }
-    ensures { result ≡ is_standard_header 22 file.now }
+    ensures { result ≡ is_standard_header file.now 22 }
 {
     let header_type = u16_at(file, 22);
     let version = u16_at(file, 26);
@@ -101,7 +101,7 @@ fn has_standard_header(file: &[u8]) -> bool
 /// A coordinate of the box.
 fn coordinate(file: &[u8], place: usize) -> i32
     requires { place + 2 ≤ length file.now }
-    ensures { result ≡ i16_at place file.now }
+    ensures { result ≡ i16_at file.now place }
 {
     i32::from(i16_at(file, place))
 }
@@ -110,7 +110,7 @@ fn coordinate(file: &[u8], place: usize) -> i32
 fn side(file: &[u8], from: usize, to: usize) -> i32
     requires from { from + 2 ≤ length file.now }
     requires to { to + 2 ≤ length file.now }
-    ensures value { result ≡ i16_at to file.now -ℤ i16_at from file.now }
+    ensures value { result ≡ i16_at file.now to -ℤ i16_at file.now from }
     ensures bound { unsigned_abs result ≤ 65535 }
 {
     i32::from(i16_at(file, to)) - i32::from(i16_at(file, from))

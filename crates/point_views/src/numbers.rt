@@ -8,7 +8,7 @@ use byteorder::{ByteOrder, LittleEndian};
 /// The number of one byte at a place.
 pub fn u8_at(bytes: &[u8], place: usize) -> u8
     requires { place + 1 ≤ length bytes.now }
-    ensures { result ≡ number_at 1 place bytes.now }
+    ensures { result ≡ number_at bytes.now place 1 }
 {
     bytes[place]
 }
@@ -16,7 +16,7 @@ pub fn u8_at(bytes: &[u8], place: usize) -> u8
 /// The number of two bytes at a place, without a sign.
 pub fn u16_at(bytes: &[u8], place: usize) -> u16
     requires { place + 2 ≤ length bytes.now }
-    ensures { result ≡ number_at 2 place bytes.now }
+    ensures { result ≡ number_at bytes.now place 2 }
 {
     LittleEndian::read_u16(&bytes[place..])
 }
@@ -24,7 +24,7 @@ pub fn u16_at(bytes: &[u8], place: usize) -> u16
 /// The number of four bytes at a place, without a sign.
 pub fn u32_at(bytes: &[u8], place: usize) -> u32
     requires { place + 4 ≤ length bytes.now }
-    ensures { result ≡ number_at 4 place bytes.now }
+    ensures { result ≡ number_at bytes.now place 4 }
 {
     LittleEndian::read_u32(&bytes[place..])
 }
@@ -32,7 +32,7 @@ pub fn u32_at(bytes: &[u8], place: usize) -> u32
 /// The number of one byte at a place, in two's complement.
 pub fn i8_at(bytes: &[u8], place: usize) -> i8
     requires { place + 1 ≤ length bytes.now }
-    ensures { result ≡ i8_at place bytes.now }
+    ensures { result ≡ i8_at bytes.now place }
 {
     u8_at(bytes, place).cast_signed()
 }
@@ -40,7 +40,7 @@ pub fn i8_at(bytes: &[u8], place: usize) -> i8
 /// The number of two bytes at a place, in two's complement.
 pub fn i16_at(bytes: &[u8], place: usize) -> i16
     requires { place + 2 ≤ length bytes.now }
-    ensures { result ≡ i16_at place bytes.now }
+    ensures { result ≡ i16_at bytes.now place }
 {
     LittleEndian::read_i16(&bytes[place..])
 }
@@ -48,7 +48,7 @@ pub fn i16_at(bytes: &[u8], place: usize) -> i16
 /// The number of four bytes at a place, in two's complement.
 pub fn i32_at(bytes: &[u8], place: usize) -> i32
     requires { place + 4 ≤ length bytes.now }
-    ensures { result ≡ i32_at place bytes.now }
+    ensures { result ≡ i32_at bytes.now place }
 {
     LittleEndian::read_i32(&bytes[place..])
 }

@@ -13,7 +13,7 @@ given E gives f id number none value parses = go (one_text f id) refl
   where
     go : (o : Option Text) → one_text f id ≡ o → GivesNumber (rows_of f) id number
     go None is = let bad : Some number ≡ None = none is in cc
-    go (Some text) is = (text, sym (one_text-rows f id) ∙ is, (parses text (value text is)).1)
+    go (Some text) is = record { text = text; is_given = sym (one_text-rows f id) ∙ is; reads = (parses text (value text is)).1 }
 
 kept : (fits : Bool) (number : ℕ) (fact : ℕ → Type 0) → fact number → IfSome (then_some fits number) fact
 kept true number fact holds = holds

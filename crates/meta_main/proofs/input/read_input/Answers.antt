@@ -11,4 +11,4 @@ both (Some x) (Some y) None bs cs p q = absurd q
 both (Some x) (Some y) (Some z) bs cs p q = p ∙ ap (λ l. bs ++ l) q ∙ sym (append_assoc bs cs z)
 
 pub returns-then-is_err-clause-front : goal.returns-then-is_err-clause-front
-returns-then-is_err-clause-front g c = (_, both _ _ _ _ _ c.loop-piece.invariant c.in-Ok.ensures.bytes.0)
+returns-then-is_err-clause-front g c = record { front = _; consumed = both _ _ _ _ _ c.loop-piece.invariant c.in-Ok.ensures.bytes.0 }
