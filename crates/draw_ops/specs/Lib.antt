@@ -23,3 +23,8 @@ pub mod RecordContent
 pub mod RecordOf
 pub mod Reading
 pub mod Fields
+pub mod KindTable
+pub mod PointLists
+pub mod Modes
+pub mod PenRecords
+pub mod BrushRecords

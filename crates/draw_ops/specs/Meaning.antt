@@ -7,6 +7,7 @@ use Rattle.draw_ops.specs.Operation.{Operation}
 use Rattle.draw_ops.specs.Records.{Framing, Record}
 use Rattle.draw_ops.specs.Results.{result_map}
 use Rattle.draw_ops.specs.declared.fault.Fault.{Fault}
+use Rattle.draw_ops.specs.declared.note.Note.{Note}
 use Rattle.draw_ops.specs.declared.note.Note.TheVariants.{AfterEnd}
 
 -- an operation, and what is to be noted with it: for each kind 1, or else 0
@@ -32,6 +33,14 @@ step_meant is_last behind number meant = record { number = number; operation = m
 abbrev pub step_of : Framing → Meaning → List ℕ → ℕ → Record → Result StepValue Fault
 step_of f meaning behind number r = result_map (step_meant (r.kind == f.end_kind) behind number) (meaning number r)
 
+-- an operation of which one kind is to be noted
+abbrev pub noting : Note → Operation → MeantValue
+noting note operation = record { operation = operation; notes = noted no_notes note }
+
 -- an operation of which nothing is to be noted
 abbrev pub unnoted : Operation → MeantValue
 unnoted operation = record { operation = operation; notes = no_notes }
+
+-- an operation of which nothing is to be noted, made of a value that may be a fault
+abbrev pub plain : {T : Type 0} → (T → Operation) → Result T Fault → Result MeantValue Fault
+plain make value = result_map (λ x. unnoted (make x)) value

@@ -6,6 +6,11 @@ abbrev pub result_map : {T U E : Type 0} → (T → U) → Result T E → Result
 result_map f (Ok x) = Ok (f x)
 result_map f (Err e) = Err e
 
+-- the value, or this error where there is none
+abbrev pub value_or : {T E : Type 0} → E → Option T → Result T E
+value_or error None = Err error
+value_or error (Some x) = Ok x
+
 -- an error in front, if there is one, and else the result
 abbrev pub result_unless : {T E : Type 0} → Option E → Result T E → Result T E
 result_unless None result = result

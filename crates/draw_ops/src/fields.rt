@@ -2,11 +2,11 @@
 
 ghost use Rattle.std.specs.Prelude.{◌≡◌, ◌+◌, ◌≤◌, IfErr, length};
 ghost use Rattle.draw_ops.specs.Fault.{IsInRecord};
-ghost use Rattle.draw_ops.specs.Fields.{is_rgb, rgb_at, yx_at};
+ghost use Rattle.draw_ops.specs.Fields.{box_at, is_rgb, rgb_at, turned_box_at, xy_at, yx_at};
 
 use crate::fault::Fault;
-use mapping::{Colour, Point};
-use point_views::{i16_at, u8_at};
+use mapping::{Colour, Point, Rect};
+use point_views::{i16_at, i32_at, u8_at};
 
 /// The colour whose red stands at a place ([MS-WMF] 2.2.2.8), or `PaletteColour` where its type, the byte
 /// behind its blue, is neither 0 nor 2.
@@ -33,6 +33,43 @@ pub fn yx_at(bytes: &[u8], place: usize) -> Point
     Point {
         x: i32::from(i16_at(bytes, place + 2)),
         y: i32::from(i16_at(bytes, place)),
+    }
+}
+
+/// The point at a place, of which EMF's records have x before y, in 32 bits each.
+pub fn xy_at(bytes: &[u8], place: usize) -> Point
+    requires { place + 8 ≤ length bytes.now }
+    ensures { result ≡ xy_at bytes.now place }
+{
+    Point {
+        x: i32_at(bytes, place),
+        y: i32_at(bytes, place + 4),
+    }
+}
+
+/// The box at a place, of which EMF's records have left, top, right and bottom, in 32 bits each.
+pub fn box_at(bytes: &[u8], place: usize) -> Rect
+    requires { place + 16 ≤ length bytes.now }
+    ensures { result ≡ box_at bytes.now place }
+{
+    Rect {
+        l: i32_at(bytes, place),
+        t: i32_at(bytes, place + 4),
+        r: i32_at(bytes, place + 8),
+        b: i32_at(bytes, place + 12),
+    }
+}
+
+/// The box at a place, of which WMF's records have bottom, right, top and left, in 16 bits each.
+pub fn turned_box_at(bytes: &[u8], place: usize) -> Rect
+    requires { place + 8 ≤ length bytes.now }
+    ensures { result ≡ turned_box_at bytes.now place }
+{
+    Rect {
+        l: i32::from(i16_at(bytes, place + 6)),
+        t: i32::from(i16_at(bytes, place + 4)),
+        r: i32::from(i16_at(bytes, place + 2)),
+        b: i32::from(i16_at(bytes, place)),
     }
 }
 

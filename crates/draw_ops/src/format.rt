@@ -2,13 +2,14 @@
 
 ghost use Rattle.std.specs.Prelude.{◌≡◌, ◌≤◌, IfErr, length};
 ghost use Rattle.draw_ops.specs.Fault.{IsInRecord};
-ghost use Rattle.draw_ops.specs.Meaning.{Meaning, unnoted};
+ghost use Rattle.draw_ops.specs.Meaning.{Meaning, noting, unnoted};
 ghost use Rattle.draw_ops.specs.OperationOf.{operation_of};
 ghost use Rattle.draw_ops.specs.RecordOf.{meant_of, record_of};
 ghost use Rattle.draw_ops.specs.Records.{Framing, may_be_size, kind_of, size_of};
 ghost use Rattle.draw_ops.specs.Results.{result_map};
 
 use crate::fault::Fault;
+use crate::note::Note;
 use crate::note_set::NoteSet;
 use crate::operation::Op;
 
@@ -27,6 +28,16 @@ pub struct Meant<'a> {
 }
 
 impl<'a> Meant<'a> {
+    /// An operation of which one kind is to be noted.
+    pub fn noting(note: Note, op: Op<'a>) -> Meant<'a>
+        ensures { meant_of result ≡ noting note (operation_of op.entry) }
+    {
+        Meant {
+            op,
+            notes: NoteSet::none().with(note),
+        }
+    }
+
     /// An operation of which nothing is to be noted.
     pub fn unnoted(op: Op<'a>) -> Meant<'a>
         ensures { meant_of result ≡ unnoted (operation_of op.entry) }

@@ -21,36 +21,46 @@
 //!   the steps of each source, or gives its fault.
 #![tactic(auto)]
 
+mod brush_records;
 mod counting;
 mod fault;
 mod fields;
 mod format;
+mod framing;
 mod hatch;
 mod laws;
 mod listed;
+mod modes;
 mod note;
 mod note_set;
 mod notes;
 mod objects;
 mod operation;
+mod pen_records;
+mod point_lists;
 mod raster_op;
 mod record_ops;
 mod settings;
 mod source;
 mod step;
 
+pub use brush_records::brush_meant;
 pub use counting::count_steps;
 pub use fault::Fault;
-pub use fields::{rgb_at, yx_at};
+pub use fields::{box_at, rgb_at, turned_box_at, xy_at, yx_at};
 pub use format::{Format, Meant, RawRecord};
+pub use framing::first_record;
 pub use hatch::Hatch;
 pub use laws::{content_law, records_law};
 pub use listed::Listed;
+pub use modes::{background_mode_meant, fill_mode_meant, map_mode_meant, raster_op_meant};
 pub use note::Note;
 pub use note_set::NoteSet;
 pub use notes::Notes;
 pub use objects::{Brush, Handle, Object, Pen, Tile};
 pub use operation::{Op, RectangleEdges, SavedState};
+pub use pen_records::{PenStyle, pen_meant};
+pub use point_lists::{counts_at, points_at};
 pub use raster_op::RasterOp;
 pub use record_ops::RecordOps;
 pub use settings::{BackgroundMode, FillMode};

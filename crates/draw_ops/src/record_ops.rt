@@ -1,27 +1,23 @@
 //! The steps of a file's records, one at a time, in any format.
 
-ghost use Rattle.std.specs.Prelude.{◌≡◌, ◌<◌, ◌≤◌, length, IfErr, IfOk, OnOk};
+ghost use Rattle.std.specs.Prelude.{◌≡◌, ◌<◌, ◌≤◌, length, IfErr, OnOk};
 ghost use Rattle.draw_ops.specs.Fault.{IsInRecord};
 ghost use Rattle.draw_ops.specs.Meaning.{end_notes};
 ghost use Rattle.draw_ops.specs.NoteSet.{notes_in};
 ghost use Rattle.draw_ops.specs.Reading.{front_step};
 ghost use Rattle.draw_ops.specs.RecordContent.{IsContent};
-ghost use Rattle.draw_ops.specs.RecordOf.{record_of};
-ghost use Rattle.draw_ops.specs.Records.{framing_fault, front_of, record_limit, size_of};
+ghost use Rattle.draw_ops.specs.Records.{record_limit, size_of};
 ghost use Rattle.draw_ops.specs.Results.{result_map};
 ghost use Rattle.draw_ops.specs.StepOf.{step_value_of};
-ghost use Rattle.std.specs.Result.{result_err};
 
 use crate::fault::Fault;
-use crate::format::{Format, RawRecord};
+use crate::format::Format;
+use crate::framing::first_record;
 use crate::note::Note;
 use crate::note_set::NoteSet;
 use crate::source::{HasContent, OpSource};
 use crate::step::Step;
 use std::marker::{Model, PhantomData};
-
-/// How many records a file may have, the end record included.
-const RECORD_LIMIT: u32 = 1048576;
 
 /// How far a source has come.
 #[derive(Clone, Copy, Debug, PartialEq, Eq)]
@@ -108,7 +104,7 @@ fn step<F: Format>(bytes: &[u8], number: u32) -> Result<Step<'_>, Fault>
     ensures below_limit { OnOk result (number < record_limit) }
     ensures in_record { IfErr result IsInRecord }
 {
-    let front = front::<F>(bytes, number)?;
+    let front = first_record::<F>(bytes, number)?;
     let meant = F::read(number, front)?;
     let behind = &bytes[front.bytes.len()..];
     Ok(Step {
@@ -127,34 +123,4 @@ fn with_end(notes: NoteSet, is_last: bool, behind: &[u8]) -> NoteSet
     } else {
         notes
     }
-}
-
-/// The record in front of the bytes, which has this number in the file, or the first fault of its framing.
-#[tactic(auto, unfolding(crate::specs::Records::record_limit))]
-fn front<F: Format>(bytes: &[u8], number: u32) -> Result<RawRecord<'_>, Fault>
-    ensures fault { framing_fault F.framing number bytes.entry.now ≡ result_err result }
-    ensures front { IfOk result (λ r. record_of r ≡ front_of F.framing bytes.entry.now) }
-    ensures size { IfOk result (λ r. length r.bytes.now ≡ size_of F.framing bytes.entry.now) }
-    ensures head { OnOk result (F.framing.head_length ≤ length bytes.entry.now) }
-    ensures within { OnOk result (size_of F.framing bytes.entry.now ≤ length bytes.entry.now) }
-    ensures below_limit { OnOk result (number < record_limit) }
-    ensures in_record { IfErr result IsInRecord }
-{
-    if number >= RECORD_LIMIT {
-        return Err(Fault::TooManyRecords);
-    }
-    if bytes.len() < F::head_length() {
-        return Err(Fault::NoEnd);
-    }
-    let size = F::size(bytes);
-    if !F::may_be_size(size) {
-        return Err(Fault::ShortRecord);
-    }
-    if bytes.len() < size {
-        return Err(Fault::PastEnd);
-    }
-    Ok(RawRecord {
-        kind: F::kind(bytes),
-        bytes: &bytes[..size],
-    })
 }

@@ -2,7 +2,7 @@
 use Rattle.std.specs.Prelude.{ℤ, pos, unsigned_abs}
 use Rattle.mapping.specs.Plane.{AxisNumbers, MapNumbers, plane_coordinate}
 use Rattle.mapping.specs.declared.geometry.Point.{Point}
-use Rattle.mapping.specs.declared.map_mode.MapMode.TheVariants.{Anisotropic}
+use Rattle.mapping.specs.declared.map_mode.MapMode.TheVariants.{Anisotropic, Text}
 use Rattle.mapping.specs.declared.page_map.PageAxis.{PageAxis}
 use Rattle.mapping.specs.declared.page_map.PageMap.{PageMap}
 
@@ -41,3 +41,21 @@ placeable_map corner sides = record {
   x = placeable_axis corner.x sides.x;
   y = placeable_axis corner.y sides.y;
 }
+
+-- the map of a plain WMF file whose window has these sides: that of a placeable file whose box has its corner at 0
+abbrev pub plain_map : Point → MapNumbers
+plain_map sides = placeable_map (record { x = pos 0; y = pos 0 }) sides
+
+-- an axis that scales nothing: a page coordinate is one of the device, seen from the frame's corner
+abbrev pub unscaled_axis : ℤ → AxisNumbers
+unscaled_axis corner = record {
+  window_origin = pos 0;
+  window_extent = pos 1;
+  viewport_origin = pos 0;
+  viewport_extent = pos 1;
+  corner = corner;
+}
+
+-- the map of an EMF file whose bounds have this corner
+abbrev pub unscaled_map : Point → MapNumbers
+unscaled_map corner = record { mode = Text; x = unscaled_axis corner.x; y = unscaled_axis corner.y }

@@ -28,7 +28,7 @@ pub struct PageAxis {
 }
 
 impl PageAxis {
-    ghost use Rattle.mapping.specs.PageMap.{axis_coordinate, axis_numbers, placeable_axis};
+    ghost use Rattle.mapping.specs.PageMap.{axis_coordinate, axis_numbers, placeable_axis, unscaled_axis};
 
     /// The axis on which a placeable file starts: its box's side is the window, and the frame's
     /// side the viewport.
@@ -43,6 +43,19 @@ impl PageAxis {
             viewport_origin: 0,
             viewport_extent: extent.abs(),
             corner: 0,
+        }
+    }
+
+    /// An axis on which a page coordinate is one of the device, seen from the frame's corner.
+    fn unscaled(corner: i32) -> PageAxis
+        ensures { axis_numbers result ≡ unscaled_axis corner }
+    {
+        PageAxis {
+            window_origin: 0,
+            window_extent: 1,
+            viewport_origin: 0,
+            viewport_extent: 1,
+            corner,
         }
     }
 
@@ -121,7 +134,7 @@ pub struct PageMap {
 
 impl PageMap {
     ghost use Rattle.mapping.specs.Plane.{IsOnPlane, is_on_plane, plane_point};
-    ghost use Rattle.mapping.specs.PageMap.{map_numbers, placeable_map};
+    ghost use Rattle.mapping.specs.PageMap.{map_numbers, placeable_map, plain_map, unscaled_map};
 
     /// The map on which a placeable file starts ([MS-WMF] 2.3.2.3), whose box has this corner and
     /// these sides, negative where the right or the bottom comes first.
@@ -136,6 +149,30 @@ impl PageMap {
             mode: MapMode::Anisotropic,
             x: PageAxis::placeable(corner.x, sides.x),
             y: PageAxis::placeable(corner.y, sides.y),
+        }
+    }
+
+    /// The map on which a plain WMF file starts whose window has these sides ([MS-WMF] 2.3.5.30),
+    /// negative where x grows to the left or y upwards.
+    pub fn plain(sides: Point) -> PageMap
+        requires wide { sides.x ≢ pos 0 }
+        requires width_can_be_turned { unsigned_abs sides.x < 2 ^ 31 }
+        requires high { sides.y ≢ pos 0 }
+        requires height_can_be_turned { unsigned_abs sides.y < 2 ^ 31 }
+        ensures { map_numbers result ≡ plain_map sides }
+    {
+        PageMap::placeable(Point { x: 0, y: 0 }, sides)
+    }
+
+    /// The map on which an EMF file starts ([MS-EMF] 2.2.9) whose bounds have this corner: a page
+    /// coordinate is one of the device.
+    pub fn unscaled(corner: Point) -> PageMap
+        ensures { map_numbers result ≡ unscaled_map corner }
+    {
+        PageMap {
+            mode: MapMode::Text,
+            x: PageAxis::unscaled(corner.x),
+            y: PageAxis::unscaled(corner.y),
         }
     }
 

@@ -1,6 +1,6 @@
 //! Lists of counts, read in place: how many points each of several lists has.
 
-ghost use Rattle.std.specs.Prelude.{◌≡◌, ◌+◌, ◌*◌, ◌%◌, ◌^◌, ◌<◌, ◌≤◌, ◌↔◌, [], length, take, drop, sum, IsTrue, IsSome, IfSome, Some, slice_get};
+ghost use Rattle.std.specs.Prelude.{◌≡◌, ◌+◌, ◌*◌, ◌%◌, ◌^◌, ◌<◌, ◌≤◌, ◌↔◌, [], length, take, drop, sum, IsTrue, IsSome, IfSome, Some, SomeIff, slice_get};
 ghost use Rattle.point_views.specs.Numbers.{number_size};
 
 use crate::numbers::{NumberWidth, unsigned_at};
@@ -100,19 +100,20 @@ impl<'a> Counts<'a> {
         }
     }
 
-    /// Whether the counts add up to the total. It stops at the first count that goes past it.
-    pub(crate) fn adds_up_to(self, total: usize) -> bool
-        ensures { IsTrue result ↔ (sum (counts_of self.entry) ≡ total) }
+    /// The sum of the counts: none exactly where it is above `most`. It stops at the first count that
+    /// goes past it.
+    pub fn sum_within(self, most: usize) -> Option<usize>
+        ensures { SomeIff result (sum (counts_of self.entry) ≤ most) (sum (counts_of self.entry)) }
     {
-        let mut left = total;
+        let mut left = most;
         for i in 0..self.len() {
             let count = self.get(i) as usize;
             if left < count {
-                return false;
+                return None;
             }
             left -= count;
         }
-        left == 0
+        Some(most - left)
     }
 
     /// The sum of the first `k` counts.

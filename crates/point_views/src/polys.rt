@@ -49,7 +49,7 @@ impl<'a> Polys<'a> {
         ensures lengths { IfSome result (λ polys. map length (lists_of polys) ≡ counts_of counts.entry) }
         ensures joined { IfSome result (λ polys. flat_map (λ list. list) (lists_of polys) ≡ points_of points.entry) }
     {
-        if !counts.adds_up_to(points.len()) {
+        if counts.sum_within(points.len()) != Some(points.len()) {
             return None;
         }
         Some(Polys::Parted(PartedPoints { counts, points }))

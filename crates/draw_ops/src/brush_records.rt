@@ -1,0 +1,64 @@
+//! What a record means that makes a brush.
+
+ghost use Rattle.std.specs.Prelude.{◌≡◌, IfErr};
+ghost use Rattle.draw_ops.specs.BrushRecords.{brush_meant, brush_of};
+ghost use Rattle.draw_ops.specs.Fault.{IsInRecord};
+ghost use Rattle.draw_ops.specs.Objects.{brush_value_of, index_of};
+ghost use Rattle.draw_ops.specs.RecordOf.{meant_of};
+ghost use Rattle.draw_ops.specs.Results.{result_map};
+
+use crate::fault::Fault;
+use crate::format::Meant;
+use crate::hatch::Hatch;
+use crate::objects::{Brush, Handle, Object};
+use crate::operation::Op;
+use mapping::Colour;
+
+// The styles ([MS-WMF] 2.1.1.4).
+const BS_SOLID: u32 = 0;
+
+const BS_NULL: u32 = 1;
+
+const BS_HATCHED: u32 = 2;
+
+/// A brush of a style, a colour and a hatch, made at an index or at the lowest free one. A style or a
+/// hatch that isn't played is `BadValue`. Only a hatched brush has its hatch looked at, and of a null one
+/// not even the colour is.
+pub fn brush_meant<'a>(
+    at: Option<Handle>,
+    style: u32,
+    colour: Result<Colour, Fault>,
+    hatch: u32,
+) -> Result<Meant<'a>, Fault>
+    requires { IfErr colour IsInRecord }
+    ensures value { brush_meant (index_of at) style colour hatch ≡ result_map meant_of result }
+    ensures in_record { IfErr result IsInRecord }
+{
+    let brush = brush(style, colour, hatch)?;
+    Ok(Meant::unnoted(Op::Create {
+        at,
+        object: Object::Brush(brush),
+    }))
+}
+
+/// The brush itself, or its first fault.
+fn brush<'a>(style: u32, colour: Result<Colour, Fault>, hatch: u32) -> Result<Brush<'a>, Fault>
+    requires { IfErr colour IsInRecord }
+    ensures value { brush_of style colour hatch ≡ result_map brush_value_of result }
+    ensures in_record { IfErr result IsInRecord }
+{
+    if style == BS_SOLID {
+        return Ok(Brush::Solid(colour?));
+    }
+    if style == BS_NULL {
+        return Ok(Brush::Null);
+    }
+    if style != BS_HATCHED {
+        return Err(Fault::BadValue);
+    }
+    let colour = colour?;
+    match Hatch::from_code(hatch) {
+        Some(hatch) => Ok(Brush::Hatched { hatch, colour }),
+        None => Err(Fault::BadValue),
+    }
+}

@@ -1,0 +1,22 @@
+//! What EMF records mean ([MS-EMF] 2.3), read in place.
+//!
+//! # What is promised
+//!
+//! - Over any bytes a source gives what their records mean, in order, and then none or their first fault
+//!   (`EmfOps::new` and `next_op`, by `IsContent` of `emf_framing` and `emf_meaning`).
+//! - Each record means one operation with its notes, or its first fault (`Emf`, by `emf_record`).
+//! - What is done with a type is said once, and the types that the standard lacks are those that no row
+//!   has (`kinds_law`).
+//! - No call takes memory: points, counts and lists are parts of the file.
+#![tactic(auto)]
+
+mod drawing_records;
+mod emf;
+mod kind;
+mod object_records;
+mod state_records;
+mod transform_records;
+mod types;
+
+pub use emf::{Emf, EmfOps};
+pub use kind::{EmfKind, kinds_law};

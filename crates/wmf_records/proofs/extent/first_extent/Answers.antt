@@ -1,0 +1,29 @@
+-- The first extent of what is left is told, or looked for behind the first record.
+use Rattle.std.proofs.Common.{◌≡◌, ◌-◌, arith, refl, rules}
+use Rattle.draw_ops.specs.Framed.{framed_of}
+use Rattle.draw_ops.specs.RecordOf.{record_of}
+use Rattle.draw_ops.specs.Records.{record_limit}
+use Rattle.wmf_records.proofs.ExtentLemmas.{ended, found, onward}
+use Rattle.wmf_records.proofs.extent.first_extent.Goals as goal
+
+pub loop-front-init : goal.loop-front-init
+unfolding framed_of
+loop-front-init c = let all : record_limit - 0 ≡ record_limit = omega arith in record { within = omega arith; left = rw all refl }
+
+pub returns-then-is_some : goal.returns-then-is_some
+returns-then-is_some c =
+    found c.loop-front.number c.loop-front.rest.now (record_of c.in-Ok.front) c.extent_in-extent.result _ c.in-Ok.ensures.below_limit c.in-Ok.ensures.fault c.in-Ok.ensures.front c.loop-front.invariant.left c.extent_in-extent.ensures (search rules)
+
+pub returns-then-front-eq-META_EOF : goal.returns-then-front-eq-META_EOF
+returns-then-front-eq-META_EOF c =
+    ended c.loop-front.number c.loop-front.rest.now (record_of c.in-Ok.front) c.extent_in-extent.result _ c.in-Ok.ensures.below_limit c.in-Ok.ensures.fault c.in-Ok.ensures.front c.loop-front.invariant.left c.extent_in-extent.ensures (search rules) c.if-front-eq-META_EOF.true
+
+pub overflow_add-number : goal.overflow_add-number
+unfolding record_limit
+overflow_add-number c = search rules
+
+pub loop-front-preserved : goal.loop-front-preserved
+loop-front-preserved c = record {
+  within = omega (arith, c.in-Ok.ensures.below_limit);
+  left = onward c.loop-front.number c.loop-front.rest.now (record_of c.in-Ok.front) c.extent_in-extent.result _ c.in-Ok.ensures.below_limit c.in-Ok.ensures.fault c.in-Ok.ensures.front c.loop-front.invariant.left c.extent_in-extent.ensures _ (search rules) c.if-front-eq-META_EOF.false c.in-Ok.ensures.size;
+}

@@ -1,0 +1,9 @@
+-- A function that no arm names is in no row.
+use Rattle.std.proofs.Common.{arith, sym}
+use Rattle.draw_ops.specs.KindTable.{IsAbsent, row_of_absent}
+use Rattle.wmf_records.specs.Kinds.{wmf_kinds}
+use Rattle.wmf_records.proofs.kind.kind_of.Goals as goal
+
+pub returns-in_default : goal.returns-in_default
+returns-in_default c =
+    let absent : IsAbsent c.args.function wmf_kinds = omega arith in sym (row_of_absent c.args.function wmf_kinds absent)

@@ -1,0 +1,46 @@
+//! The extent by which a plain WMF file tells its size.
+
+ghost use Rattle.std.specs.Prelude.{◌≡◌, ◌≤◌, length};
+ghost use Rattle.draw_ops.specs.RecordOf.{record_of};
+ghost use Rattle.wmf_records.specs.FirstExtent.{extent_in, first_extent};
+
+use crate::functions::{META_EOF, META_SETWINDOWEXT};
+use crate::wmf::Wmf;
+use draw_ops::{RawRecord, first_record};
+use point_views::i16_at;
+
+/// The x and y of the first META_SETWINDOWEXT ([MS-WMF] 2.3.5.30) that has both and neither of them 0, up
+/// to the end record or the first fault of framing: none exactly where there is none. Of other records
+/// the heads alone are looked at.
+pub fn first_extent(bytes: &[u8]) -> Option<(i16, i16)>
+    ensures { result ≡ first_extent bytes.now }
+{
+    let mut rest = bytes;
+    let mut number = 0;
+    loop {
+        let Ok(front) = first_record::<Wmf>(rest, number) else {
+            return None;
+        };
+        let extent = extent_in(&front);
+        if extent.is_some() {
+            return extent;
+        }
+        if front.kind == META_EOF {
+            return None;
+        }
+        rest = &rest[front.bytes.len()..];
+        number += 1;
+    }
+}
+
+/// The x and y of META_SETWINDOWEXT, where the record is one and has both, and neither is 0.
+fn extent_in(front: &RawRecord<'_>) -> Option<(i16, i16)>
+    ensures { result ≡ extent_in (record_of front.now) }
+{
+    if front.kind != META_SETWINDOWEXT || front.bytes.len() < 10 {
+        return None;
+    }
+    let y = i16_at(front.bytes, 6);
+    let x = i16_at(front.bytes, 8);
+    if y == 0 || x == 0 { None } else { Some((x, y)) }
+}

@@ -1,0 +1,23 @@
+//! What WMF records mean ([MS-WMF] 2.3), read in place.
+//!
+//! # What is promised
+//!
+//! - Over any bytes a source gives what their records mean, in order, and then none or their first fault
+//!   (`WmfOps::new` and `next_op`, by `IsContent` of `wmf_framing` and `wmf_meaning`).
+//! - Each record means one operation with its notes, or its first fault (`Wmf`, by `wmf_record`).
+//! - What is done with a function is said once (`kinds_law`).
+//! - The first usable extent of a file's window is the first of its records' (`first_extent`).
+//! - No call takes memory: points, counts and lists are parts of the file.
+#![tactic(auto)]
+
+mod drawing_records;
+mod extent;
+mod functions;
+mod kind;
+mod object_records;
+mod state_records;
+mod wmf;
+
+pub use extent::first_extent;
+pub use kind::{WmfKind, kinds_law};
+pub use wmf::{Wmf, WmfOps};

@@ -1,0 +1,107 @@
+//! The records of WMF: how they are framed, and what each means.
+
+ghost use Rattle.std.specs.Prelude.{◌≡◌, IfErr};
+ghost use Rattle.draw_ops.specs.Fault.{IsInRecord};
+ghost use Rattle.draw_ops.specs.RecordOf.{meant_of};
+ghost use Rattle.draw_ops.specs.Results.{result_map};
+ghost use Rattle.wmf_records.specs.Framing.{wmf_framing};
+ghost use Rattle.wmf_records.specs.Wmf.{wmf_meaning, wmf_record};
+
+use crate::drawing_records::{line_to, poly_polygon, polygon, polyline, rectangle, set_pixel};
+use crate::functions::META_EOF;
+use crate::kind::{WmfKind, kind_of};
+use crate::object_records::{create_brush_indirect, create_pen_indirect, created};
+use crate::object_records::{delete_object, select_object, select_palette};
+use crate::state_records::{exclude_clip_rect, intersect_clip_rect, move_to};
+use crate::state_records::{offset_viewport_org, offset_window_org, restore_dc};
+use crate::state_records::{set_bk_color, set_bk_mode, set_layout, set_map_mode};
+use crate::state_records::{set_poly_fill_mode, set_rop2, set_viewport_ext};
+use crate::state_records::{set_viewport_org, set_window_ext, set_window_org};
+use draw_ops::{Fault, Format, Meant, Note, Object, Op, RawRecord, RecordOps};
+use point_views::{u16_at, u32_at};
+
+/// The bytes of a record's head: the size in words of two bytes, and the function.
+const HEAD_LENGTH: usize = 6;
+
+/// The records of WMF.
+#[derive(Clone, Copy, Debug, PartialEq, Eq)]
+pub struct Wmf;
+
+/// A source over the bytes behind a file's headers.
+pub type WmfOps<'a> = RecordOps<'a, Wmf>;
+
+impl Format for Wmf {
+    ghost framing = { wmf_framing };
+
+    ghost meaning = { wmf_meaning };
+
+    fn head_length() -> usize {
+        HEAD_LENGTH
+    }
+
+    fn size(bytes: &[u8]) -> usize {
+        2 * u32_at(bytes, 0) as usize
+    }
+
+    fn may_be_size(size: usize) -> bool {
+        HEAD_LENGTH <= size && size % 2 == 0
+    }
+
+    fn kind(bytes: &[u8]) -> u32 {
+        u32::from(u16_at(bytes, 4))
+    }
+
+    fn end_kind() -> u32 {
+        META_EOF
+    }
+
+    fn read(_number: u32, front: RawRecord<'_>) -> Result<Meant<'_>, Fault> {
+        match kind_of(front.kind) {
+            Some(kind) => record(kind, front.kind, front.bytes),
+            None => Err(Fault::UnknownRecord(front.kind)),
+        }
+    }
+}
+
+/// What a record of this kind means, or its first fault.
+#[tactic(auto, unfolding(crate::specs::Wmf::wmf_record))]
+fn record(kind: WmfKind, function: u32, bytes: &[u8]) -> Result<Meant<'_>, Fault>
+    ensures value { wmf_record kind function bytes.entry.now ≡ result_map meant_of result }
+    ensures in_record { IfErr result IsInRecord }
+{
+    match kind {
+        WmfKind::Eof => Ok(Meant::unnoted(Op::NoEffect)),
+        WmfKind::LineTo => line_to(bytes),
+        WmfKind::Polyline => polyline(bytes),
+        WmfKind::Polygon => polygon(bytes),
+        WmfKind::PolyPolygon => poly_polygon(bytes),
+        WmfKind::Rectangle => rectangle(bytes),
+        WmfKind::SetPixel => set_pixel(bytes),
+        WmfKind::CreateBrushIndirect => create_brush_indirect(bytes),
+        WmfKind::CreateFontIndirect => created(Object::Font),
+        WmfKind::CreatePalette => created(Object::Palette),
+        WmfKind::CreatePenIndirect => create_pen_indirect(bytes),
+        WmfKind::DeleteObject => delete_object(bytes),
+        WmfKind::SelectObject => select_object(bytes),
+        WmfKind::SelectPalette => select_palette(bytes),
+        WmfKind::ExcludeClipRect => exclude_clip_rect(bytes),
+        WmfKind::IntersectClipRect => intersect_clip_rect(bytes),
+        WmfKind::MoveTo => move_to(bytes),
+        WmfKind::OffsetViewportOrg => offset_viewport_org(bytes),
+        WmfKind::OffsetWindowOrg => offset_window_org(bytes),
+        WmfKind::RestoreDc => restore_dc(bytes),
+        WmfKind::SaveDc => Ok(Meant::unnoted(Op::Save)),
+        WmfKind::SetBkColor => set_bk_color(bytes),
+        WmfKind::SetBkMode => set_bk_mode(bytes),
+        WmfKind::SetLayout => set_layout(bytes),
+        WmfKind::SetMapMode => set_map_mode(bytes),
+        WmfKind::SetPolyFillMode => set_poly_fill_mode(bytes),
+        WmfKind::SetRop2 => set_rop2(bytes),
+        WmfKind::SetViewportExt => set_viewport_ext(bytes),
+        WmfKind::SetViewportOrg => set_viewport_org(bytes),
+        WmfKind::SetWindowExt => set_window_ext(bytes),
+        WmfKind::SetWindowOrg => set_window_org(bytes),
+        WmfKind::Skipped => Ok(Meant::noting(Note::Skipped, Op::NoEffect)),
+        WmfKind::Refused => Err(Fault::Unsupported(function)),
+    }
+}
