@@ -33,6 +33,9 @@ SIDE = 20
 # The largest side of a frame.
 FRAME_LIMIT = 1 << 28
 
+# How far from its corner a point of the plane may lie.
+PLANE_LIMIT = 1 << 30
+
 # No file has more records, the end record included.
 RECORD_LIMIT = 1048576
 
@@ -393,6 +396,25 @@ class EmfHeader(HeaderTest):
         for start, end in sides:
             for bounds in [(start, 0, end, 3), (0, start, 3, end), (start, start, end, end)]:
                 self.check(program, self.bounded((0, 0), bounds), NO_FRAME, bounds)
+
+    @for_each_program
+    def test_points_are_on_the_plane_by_their_distance_from_the_corner(self, program):
+        # The frame is four times as long as the surface, so that only the plane has this limit.
+        low, high = -0x80000000, 0x7FFFFFFF
+        reach = 4 * SIDE - 1
+        for corner in (0, low, high - reach):
+            bounds = (corner, corner, corner + reach, corner + reach)
+            for distance in (-PLANE_LIMIT - 1, -PLANE_LIMIT, PLANE_LIMIT, PLANE_LIMIT + 1):
+                far = corner + distance
+                if low <= far <= high:
+                    wanted = shown({}, SIDE, SIDE)
+                    if abs(distance) > PLANE_LIMIT:
+                        wanted = refused("OffPlane", 1)
+                    for point in [(far, corner), (corner, far)]:
+                        self.check(program, self.bounded(point, bounds), wanted, point, bounds)
+        for start, far in [(low, high), (high - reach, low)]:
+            bounds = (start, 0, start + reach, reach)
+            self.check(program, self.bounded((far, 0), bounds), refused("OffPlane", 1), bounds)
 
     @for_each_program
     def test_short_then_bad_then_past_the_end_then_no_frame(self, program):

@@ -1,6 +1,6 @@
 //! The extent by which a plain WMF file tells its size.
 
-ghost use Rattle.std.specs.Prelude.{◌≡◌, ◌≤◌, length};
+ghost use Rattle.std.specs.Prelude.{◌≡◌, ◌≢◌, pos, IfSome};
 ghost use Rattle.draw_ops.specs.RecordOf.{record_of};
 ghost use Rattle.wmf_records.specs.FirstExtent.{extent_in, first_extent};
 
@@ -13,7 +13,9 @@ use point_views::i16_at;
 /// to the end record or the first fault of framing: none exactly where there is none. Of other records
 /// the heads alone are looked at.
 pub fn first_extent(bytes: &[u8]) -> Option<(i16, i16)>
-    ensures { result ≡ first_extent bytes.now }
+    ensures value { result ≡ first_extent bytes.now }
+    ensures wide { IfSome result (λ extent. extent.0 ≢ pos 0) }
+    ensures high { IfSome result (λ extent. extent.1 ≢ pos 0) }
 {
     let mut rest = bytes;
     let mut number = 0;
@@ -35,7 +37,9 @@ pub fn first_extent(bytes: &[u8]) -> Option<(i16, i16)>
 
 /// The x and y of META_SETWINDOWEXT, where the record is one and has both, and neither is 0.
 fn extent_in(front: &RawRecord<'_>) -> Option<(i16, i16)>
-    ensures { result ≡ extent_in (record_of front.now) }
+    ensures value { result ≡ extent_in (record_of front.now) }
+    ensures wide { IfSome result (λ extent. extent.0 ≢ pos 0) }
+    ensures high { IfSome result (λ extent. extent.1 ≢ pos 0) }
 {
     if front.kind != META_SETWINDOWEXT || front.bytes.len() < 10 {
         return None;

@@ -10,13 +10,13 @@ pub loop-front-init : goal.loop-front-init
 unfolding framed_of
 loop-front-init c = let all : record_limit - 0 ≡ record_limit = omega arith in record { within = omega arith; left = rw all refl }
 
-pub returns-then-is_some : goal.returns-then-is_some
-returns-then-is_some c =
-    found c.loop-front.number c.loop-front.rest.now (record_of c.in-Ok.front) c.extent_in-extent.result _ c.in-Ok.ensures.below_limit c.in-Ok.ensures.fault c.in-Ok.ensures.front c.loop-front.invariant.left c.extent_in-extent.ensures (search rules)
+pub returns-then-is_some-clause-value : goal.returns-then-is_some-clause-value
+returns-then-is_some-clause-value c =
+    found c.loop-front.number c.loop-front.rest.now (record_of c.in-Ok.front) c.extent_in-extent.result _ c.in-Ok.ensures.below_limit c.in-Ok.ensures.fault c.in-Ok.ensures.front c.loop-front.invariant.left c.extent_in-extent.ensures.value (search rules)
 
-pub returns-then-front-eq-META_EOF : goal.returns-then-front-eq-META_EOF
-returns-then-front-eq-META_EOF c =
-    ended c.loop-front.number c.loop-front.rest.now (record_of c.in-Ok.front) c.extent_in-extent.result _ c.in-Ok.ensures.below_limit c.in-Ok.ensures.fault c.in-Ok.ensures.front c.loop-front.invariant.left c.extent_in-extent.ensures (search rules) c.if-front-eq-META_EOF.true
+pub returns-then-front-eq-META_EOF-clause-value : goal.returns-then-front-eq-META_EOF-clause-value
+returns-then-front-eq-META_EOF-clause-value c =
+    ended c.loop-front.number c.loop-front.rest.now (record_of c.in-Ok.front) c.extent_in-extent.result _ c.in-Ok.ensures.below_limit c.in-Ok.ensures.fault c.in-Ok.ensures.front c.loop-front.invariant.left c.extent_in-extent.ensures.value (search rules) c.if-front-eq-META_EOF.true
 
 pub overflow_add-number : goal.overflow_add-number
 unfolding record_limit
@@ -25,5 +25,5 @@ overflow_add-number c = search rules
 pub loop-front-preserved : goal.loop-front-preserved
 loop-front-preserved c = record {
   within = omega (arith, c.in-Ok.ensures.below_limit);
-  left = onward c.loop-front.number c.loop-front.rest.now (record_of c.in-Ok.front) c.extent_in-extent.result _ c.in-Ok.ensures.below_limit c.in-Ok.ensures.fault c.in-Ok.ensures.front c.loop-front.invariant.left c.extent_in-extent.ensures _ (search rules) c.if-front-eq-META_EOF.false c.in-Ok.ensures.size;
+  left = onward c.loop-front.number c.loop-front.rest.now (record_of c.in-Ok.front) c.extent_in-extent.result _ c.in-Ok.ensures.below_limit c.in-Ok.ensures.fault c.in-Ok.ensures.front c.loop-front.invariant.left c.extent_in-extent.ensures.value _ (search rules) c.if-front-eq-META_EOF.false c.in-Ok.ensures.size;
 }

@@ -1,0 +1,16 @@
+-- The value of an opened file of the code.
+use Rattle.std.specs.Prelude.{ℕ, Option, Some, None}
+use Rattle.mapping.specs.PageMap.{map_numbers}
+use Rattle.draw_ops.specs.NoteSet.{notes_in}
+use Rattle.meta_headers.specs.Headers.{OpenedValue}
+use Rattle.meta_headers.specs.declared.opened.Opened.{Opened}
+
+abbrev pub opened_of : Opened → OpenedValue
+opened_of o = record {
+  format = o.format;
+  frame_width = o.frame.width;
+  frame_height = o.frame.height;
+  map = map_numbers o.start_map;
+  handles = o.handles;
+  notes = notes_in o.notes;
+}

@@ -1,0 +1,8 @@
+-- What a source over a file of some format has left.
+use Rattle.draw_ops.specs.Content.{Content}
+use Rattle.meta_headers.specs.declared.source.Source.{Source}
+use Rattle.meta_headers.specs.declared.source.Source.TheVariants.{Wmf, Emf}
+
+abbrev pub source_content : Source → Content
+source_content (Wmf ops) = ops
+source_content (Emf ops) = ops

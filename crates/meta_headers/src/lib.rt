@@ -1,0 +1,23 @@
+//! Opening a metafile: its format, its frame, its start, and its records.
+//!
+//! # What is promised
+//!
+//! - A file is opened as its first bytes say, or refused by the first fault of its headers (`open_file`, by
+//!   `opened`).
+//! - An opened file's source has what its records mean, from record 0 on (`Opened::source`, by
+//!   `HasContentOf`).
+//! - No call takes memory: the records are a part of the file.
+#![tactic(auto)]
+
+mod emf_header;
+mod notes_where;
+mod open;
+mod opened;
+mod placeable_header;
+mod plain_header;
+mod source;
+mod standard_header;
+
+pub use open::open_file;
+pub use opened::{FileFormat, Opened};
+pub use source::Source;

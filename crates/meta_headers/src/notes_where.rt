@@ -1,0 +1,14 @@
+//! Notes on a condition.
+
+ghost use Rattle.std.specs.Prelude.{◌≡◌};
+ghost use Rattle.draw_ops.specs.NoteSet.{notes_in};
+ghost use Rattle.meta_headers.specs.Headers.{noted_where};
+
+use draw_ops::{Note, NoteSet};
+
+/// The notes, and one kind more where something holds.
+pub(crate) fn noted_where(holds: bool, note: Note, notes: NoteSet) -> NoteSet
+    ensures { notes_in result ≡ noted_where holds note (notes_in notes) }
+{
+    if holds { notes.with(note) } else { notes }
+}

@@ -1,0 +1,30 @@
+//! The source of an opened file's steps, whatever its format.
+
+use draw_ops::{Fault, HasContent, OpSource, Step};
+use emf_records::EmfOps;
+use wmf_records::WmfOps;
+
+/// A source over the records of a file.
+#[derive(Debug, Drop)]
+pub enum Source<'a> {
+    /// Those of a placeable or a plain WMF file.
+    Wmf(WmfOps<'a>),
+    /// Those of an EMF file.
+    Emf(EmfOps<'a>),
+}
+
+impl<'a> HasContent for Source<'a> {
+    ghost use Rattle.meta_headers.specs.SourceContent.{source_content};
+
+    ghost content = { source_content };
+}
+
+impl<'a> OpSource<'a> for Source<'a> {
+    /// The next record's step, none behind the end record, or the fault at which the records break.
+    fn next_op(&mut self) -> Result<Option<Step<'a>>, Fault> {
+        match self {
+            Source::Wmf(ops) => ops.next_op(),
+            Source::Emf(ops) => ops.next_op(),
+        }
+    }
+}
