@@ -312,6 +312,7 @@ def wmf_points():
     """A count with a sign, and points behind it."""
 
     def counted(count, there):
+        """A count, and so many points."""
         return {"count": u16(count), "points": points(i16, there)}
 
     return [
@@ -326,6 +327,7 @@ def wmf_point_lists():
     """A count of lists, a count of points for each, all without a sign, and the points."""
 
     def parted(counts, there, lists=None):
+        """A count of lists (or another), their counts, and so many points."""
         told = len(counts) if lists is None else lists
         return {"lists": u16(told), "counts": u16(*counts), "points": points(i16, there)}
 
@@ -346,6 +348,7 @@ def emf_points(signed):
     """A count, and points behind it. A product of the count and a point's size may wrap at 2^32."""
 
     def counted(count, there):
+        """A count, and so many points."""
         return {"count": u32(count), "points": points(signed, there)}
 
     wrap = (1 << 32) // len(points(signed, 1))
@@ -363,6 +366,7 @@ def emf_point_lists(signed):
     to the total. Their sum, and products with a count's and a point's size, may wrap at 2^32."""
 
     def parted(counts, total, there, lists=None):
+        """A count of lists (or another), a total, the lists' counts, and so many points."""
         told = len(counts) if lists is None else lists
         told_points = {"counts": u32(*counts), "points": points(signed, there)}
         return {"lists": u32(told), "total": u32(total)} | told_points

@@ -87,6 +87,8 @@ class Records(unittest.TestCase):
 
 
 class Parameters(Records):
+    """Each kind of record that is read, with what the table says of its parameters."""
+
     @for_each_program
     def test_each_record_with_its_parameters(self, program):
         for form in FORMATS:
@@ -134,6 +136,8 @@ class Parameters(Records):
 
 
 class Numbers(Records):
+    """Functions and types, and which of them are read, without effect, refused or unknown."""
+
     def test_the_table_has_every_number_once(self):
         listed = {
             form.name: [

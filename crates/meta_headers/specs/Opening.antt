@@ -19,7 +19,7 @@ use Rattle.wmf_records.specs.Framing.{wmf_framing}
 use Rattle.wmf_records.specs.Wmf.{wmf_meaning}
 
 -- a file that is too long, one of the three formats by how it begins, or none
-abbrev pub opened : List ℕ → Result OpenedValue Fault
+unfoldable pub opened : List ℕ → Result OpenedValue Fault
 opened file =
     if is_too_long file then Err TooLong
     else (if is_placeable file then placeable_file file

@@ -18,6 +18,7 @@ const FILE_LIMIT: usize = 67108864;
 
 /// Opens a file, or tells the first fault of its headers: `TooLong`, `NotMetafile`, `ShortHeader`,
 /// `BadHeader` or `NoFrame`.
+#[tactic(auto, unfolding(crate::specs::Opening::opened))]
 pub fn open_file(file: &[u8]) -> Result<Opened<'_>, Fault>
     ensures opened { opened file.entry.now ≡ result_map opened_of result }
     ensures records { IfOk result (λ o. o.records.now ≡ record_bytes o.format file.entry.now) }

@@ -4,7 +4,7 @@ use Rattle.std.specs.Io.KnownBytes.{Appends}
 use Rattle.draw_ops.specs.declared.fault.Fault.{Fault}
 use Rattle.mapping.specs.Image.{Image}
 use Rattle.canvas.specs.Ppm.{AppendsFront, ppm_text}
-use Rattle.player.specs.Opening.{opened}
+use Rattle.meta_headers.specs.Opening.{opened}
 use Rattle.player.specs.Refusal.{refusal_text}
 use Rattle.player.specs.Run.{Refused, Run, shown, white}
 use Rattle.player.specs.declared.refusal.Refusal.{Refusal}

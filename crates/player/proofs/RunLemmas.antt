@@ -9,7 +9,9 @@ use Rattle.mapping.specs.Surface.{Surface}
 use Rattle.player.specs.Apply.{drawn, image_after}
 use Rattle.player.specs.Next.{next}
 use Rattle.player.specs.OperationFault.{fault_of}
-use Rattle.player.specs.Opening.{FileFormat, Opened, framing_of, meaning_of, opened, record_bytes, surface_for}
+use Rattle.meta_headers.specs.Headers.{OpenedValue}
+use Rattle.meta_headers.specs.Opening.{framing_of, meaning_of, opened, record_bytes, surface_for}
+use Rattle.meta_headers.specs.declared.opened.FileFormat.{FileFormat}
 use Rattle.player.specs.State.{State, start_of}
 use Rattle.player.specs.Stop.{Stop, stop_of, stopped}
 use Rattle.player.specs.Writes.{writes_of, writes_after}
@@ -20,7 +22,7 @@ one_file_content : ContentIsOne → (format : FileFormat) (file : List ℕ) → 
 one_file_content one format file = one (framing_of format) (meaning_of format) (record_bytes format file)
 
 -- how a run ends, by what opening answers
-abbrev RunIfOpened : Result Opened Fault → List ℕ → ℕ → ℕ → Image → Outcome → Type 0
+abbrev RunIfOpened : Result OpenedValue Fault → List ℕ → ℕ → ℕ → Image → Outcome → Type 0
 RunIfOpened o file width height image (shown after) = ShowsIfOpened o file width height image after
 RunIfOpened o file width height image (refused number fault) = RefusedIfOpened o file width height number fault
 
@@ -37,7 +39,7 @@ same_stop : (stop : Option Stop) (at other : Stop) → stop ≡ Some at → stop
 same_stop stop at other a o = cc
 
 -- where the one content of a file stops is where the run does
-module _ (one : ContentIsOne) (o : Opened) (file : List ℕ) (width height : ℕ) (image : Image) where
+module _ (one : ContentIsOne) (o : OpenedValue) (file : List ℕ) (width height : ℕ) (image : Image) where
   abbrev the_one : ExactlyOne (IsFileContent o.format file)
   the_one = one_file_content one o.format file
 
@@ -74,7 +76,7 @@ module _ (one : ContentIsOne) (o : Opened) (file : List ℕ) (width height : ℕ
     only = λ other h. only_stopped other at e h;
   }
 
-by_opening : ContentIsOne → (o : Result Opened Fault) (file : List ℕ) (width height : ℕ) (image : Image) → ExactlyOne (RunIfOpened o file width height image)
+by_opening : ContentIsOne → (o : Result OpenedValue Fault) (file : List ℕ) (width height : ℕ) (image : Image) → ExactlyOne (RunIfOpened o file width height image)
 by_opening one (Err fault) file width height image = record {
   value = refused None fault;
   holds = record { in_none = refl; same = refl };
@@ -104,7 +106,7 @@ run_ends one file width height image =
 pub refused_over_any : RefusedOverAnyImage
 refused_over_any file width height image other number fault h = h
 
-by_writes : ContentIsOne → (o : Result Opened Fault) (file : List ℕ) (width height : ℕ) (image after : Image) → ShowsIfOpened o file width height image after → ExactlyOne (WritesIfOpened o file width height)
+by_writes : ContentIsOne → (o : Result OpenedValue Fault) (file : List ℕ) (width height : ℕ) (image after : Image) → ShowsIfOpened o file width height image after → ExactlyOne (WritesIfOpened o file width height)
 by_writes one (Err fault) file width height image after h = absurd h
 by_writes one (Ok o) file width height image after h =
     let content = one_file_content one o.format file in

@@ -19,8 +19,9 @@ use Rattle.player.specs.Clip.{Clip, in_clip}
 use Rattle.player.specs.Mixing.{mixed_colour}
 use Rattle.player.specs.State.{State, start_state}
 use Rattle.player.specs.Stop.{stop_at, stop_of}
-use Rattle.player.specs.Wmf.{wmf_framing, wmf_meaning, wmf_record}
 use Rattle.player.specs.Writes.{writes_after}
+use Rattle.wmf_records.specs.Framing.{wmf_framing}
+use Rattle.wmf_records.specs.Wmf.{wmf_meaning, wmf_record}
 
 abbrev red : Colour
 red = record { r = 255; g = 0; b = 0 }

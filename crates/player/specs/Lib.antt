@@ -1,6 +1,3 @@
-pub mod Wmf
-pub mod Opening
-pub mod OpenedFile
 pub mod Clip
 pub mod Path
 pub mod State

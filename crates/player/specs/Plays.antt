@@ -2,14 +2,12 @@
 use Rattle.std.specs.Prelude.{◌≡◌, ℕ, ◌+◌, List, Some, None, IsOk}
 use Rattle.mapping.specs.Surface.{Surface}
 use Rattle.draw_ops.specs.Content.{Content}
-use Rattle.draw_ops.specs.Meaning.{Meaning}
 use Rattle.draw_ops.specs.Operation.{Operation}
-use Rattle.draw_ops.specs.RecordContent.{IsContent}
-use Rattle.draw_ops.specs.Records.{Framing}
 use Rattle.draw_ops.specs.declared.fault.Fault.TheVariants.{OutOfMemory}
 use Rattle.canvas.specs.CanvasState.{CanvasState, image_of}
 use Rattle.player.specs.Apply.{drawn, image_after}
-use Rattle.player.specs.Opening.{opened}
+use Rattle.meta_headers.specs.Opening.{HasContentOf, opened}
+use Rattle.meta_headers.specs.declared.opened.FileFormat.{FileFormat}
 use Rattle.player.specs.Run.{Outcome, Refused, Run, Writes}
 use Rattle.player.specs.State.{State}
 use Rattle.player.specs.Stop.{Stop, stop_of}
@@ -64,14 +62,14 @@ pub record StopsBy (content : Content) (state : State) (s : Surface) (r : Refusa
   pub number : r.number ≡ Some stop.number
   pub fault : r.fault ≡ stop.fault
 
--- all records were played
-pub record PlaysRecords (f : Framing) (meaning : Meaning) (records : List ℕ) (state : State) (s : Surface) (old new : CanvasState) : Type 0 where
+-- all records of a file in some format were played
+pub record PlaysRecords (format : FileFormat) (records : List ℕ) (state : State) (s : Surface) (old new : CanvasState) : Type 0 where
   pub content : Content
-  pub of_records : IsContent f meaning records content
+  pub of_records : HasContentOf format records content
   pub plays : Plays content state s old new
 
--- the records have a content that stops so
-pub record StopsRecordsBy (f : Framing) (meaning : Meaning) (records : List ℕ) (state : State) (s : Surface) (r : Refusal) : Type 0 where
+-- the records of a file in some format have a content that stops so
+pub record StopsRecordsBy (format : FileFormat) (records : List ℕ) (state : State) (s : Surface) (r : Refusal) : Type 0 where
   pub content : Content
-  pub of_records : IsContent f meaning records content
+  pub of_records : HasContentOf format records content
   pub stops : StopsBy content state s r

@@ -5,16 +5,17 @@ use Rattle.mapping.specs.Image.{Image, blank}
 use Rattle.draw_ops.specs.declared.fault.Fault.{Fault}
 use Rattle.draw_ops.specs.Content.{Content}
 use Rattle.draw_ops.specs.ExactlyOne.{ExactlyOne}
-use Rattle.draw_ops.specs.RecordContent.{IsContent}
 use Rattle.player.specs.Apply.{image_after}
-use Rattle.player.specs.Opening.{FileFormat, Opened, framing_of, meaning_of, opened, record_bytes, surface_for}
+use Rattle.meta_headers.specs.Headers.{OpenedValue}
+use Rattle.meta_headers.specs.Opening.{HasContentOf, opened, record_bytes, surface_for}
+use Rattle.meta_headers.specs.declared.opened.FileFormat.{FileFormat}
 use Rattle.player.specs.State.{start_of}
 use Rattle.player.specs.Stop.{stop_at, stop_of}
 use Rattle.player.specs.Writes.{writes_after}
 
 -- the content of an opened file's records, by its format
 abbrev pub IsFileContent : FileFormat → List ℕ → Content → Type 0
-IsFileContent format file content = IsContent (framing_of format) (meaning_of format) (record_bytes format file) content
+IsFileContent format file content = HasContentOf format (record_bytes format file) content
 
 -- opening has this fault, which lies in no record
 pub record IsOpeningFault (opening : Fault) (number : Option ℕ) (fault : Fault) : Type 0 where
@@ -22,13 +23,13 @@ pub record IsOpeningFault (opening : Fault) (number : Option ℕ) (fault : Fault
   pub same : fault ≡ opening
 
 -- the records of an opened file have a content that stops by this fault, in the record with this number
-pub record OpenedStops (o : Opened) (file : List ℕ) (width height number : ℕ) (fault : Fault) : Type 0 where
+pub record OpenedStops (o : OpenedValue) (file : List ℕ) (width height number : ℕ) (fault : Fault) : Type 0 where
   pub content : Content
   pub of_file : IsFileContent o.format file content
   pub stops : stop_of content (start_of o) (surface_for o width height) ≡ Some (stop_at number fault)
 
 -- refused by the fault of opening, or where the records stop
-abbrev pub RefusedIfOpened : Result Opened Fault → List ℕ → ℕ → ℕ → Option ℕ → Fault → Type 0
+abbrev pub RefusedIfOpened : Result OpenedValue Fault → List ℕ → ℕ → ℕ → Option ℕ → Fault → Type 0
 RefusedIfOpened (Err opening) file width height number fault = IsOpeningFault opening number fault
 RefusedIfOpened (Ok o) file width height None fault = ⊥
 RefusedIfOpened (Ok o) file width height (Some number) fault = OpenedStops o file width height number fault
@@ -38,14 +39,14 @@ abbrev pub Refused : List ℕ → ℕ → ℕ → Option ℕ → Fault → Type 
 Refused file width height number fault = RefusedIfOpened (opened file) file width height number fault
 
 -- the records of an opened file have a content that doesn't stop, and after its steps the image is this
-pub record OpenedShows (o : Opened) (file : List ℕ) (width height : ℕ) (image after : Image) : Type 0 where
+pub record OpenedShows (o : OpenedValue) (file : List ℕ) (width height : ℕ) (image after : Image) : Type 0 where
   pub content : Content
   pub of_file : IsFileContent o.format file content
   pub unstopped : stop_of content (start_of o) (surface_for o width height) ≡ None
   pub shows : after ≡ image_after content.steps (start_of o) (surface_for o width height) image
 
 -- only an opened file shows an image
-abbrev pub ShowsIfOpened : Result Opened Fault → List ℕ → ℕ → ℕ → Image → Image → Type 0
+abbrev pub ShowsIfOpened : Result OpenedValue Fault → List ℕ → ℕ → ℕ → Image → Image → Type 0
 ShowsIfOpened (Err opening) file width height image after = ⊥
 ShowsIfOpened (Ok o) file width height image after = OpenedShows o file width height image after
 
@@ -65,14 +66,14 @@ abbrev pub white : ℕ → ℕ → Image
 white width height = blank width height white_colour
 
 -- the records of an opened file have a content that doesn't stop, and whose steps write so many pixels
-pub record OpenedWrites (o : Opened) (file : List ℕ) (width height writes : ℕ) : Type 0 where
+pub record OpenedWrites (o : OpenedValue) (file : List ℕ) (width height writes : ℕ) : Type 0 where
   pub content : Content
   pub of_file : IsFileContent o.format file content
   pub unstopped : stop_of content (start_of o) (surface_for o width height) ≡ None
   pub count : writes ≡ writes_after content.steps (start_of o) (surface_for o width height)
 
 -- only an opened file has writes
-abbrev pub WritesIfOpened : Result Opened Fault → List ℕ → ℕ → ℕ → ℕ → Type 0
+abbrev pub WritesIfOpened : Result OpenedValue Fault → List ℕ → ℕ → ℕ → ℕ → Type 0
 WritesIfOpened (Err opening) file width height writes = ⊥
 WritesIfOpened (Ok o) file width height writes = OpenedWrites o file width height writes
 

@@ -13,8 +13,8 @@ use Rattle.draw_ops.specs.declared.settings.BackgroundMode.TheVariants.{Opaque}
 use Rattle.draw_ops.specs.declared.settings.FillMode.{FillMode}
 use Rattle.draw_ops.specs.declared.settings.FillMode.TheVariants.{Alternate}
 use Rattle.draw_ops.specs.Objects.{BrushValue, ObjectValue, solid_brush}
+use Rattle.meta_headers.specs.Headers.{OpenedValue}
 use Rattle.player.specs.Clip.{Clip, unclipped}
-use Rattle.player.specs.Opening.{Opened}
 use Rattle.player.specs.Path.{Path}
 
 -- an object in use, and its index, if it isn't a stock object
@@ -76,5 +76,5 @@ abbrev pub start_state : MapNumbers → Option ℕ → State
 start_state map handles = record { dc = start_dc map; slots = []; table_kind = table_kind_of handles; saved = []; path = None }
 
 -- the state before the first record of an opened file
-abbrev pub start_of : Opened → State
+abbrev pub start_of : OpenedValue → State
 start_of o = start_state o.map o.handles

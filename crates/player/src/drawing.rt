@@ -31,7 +31,7 @@ pub(crate) fn draw(op: Op<'_>, on: &PlacedMap, canvas: &mut Canvas) -> Result<()
     match op {
         Op::NoEffect => Ok(()),
         Op::Pixel { point, colour } => dot(point, colour, on, canvas),
-        // Nothing that this player's source gives: no record means such an operation yet.
+        // Not played yet: so it is refused, by the definition too.
         _ => Err(Fault::Unsupported(0)),
     }
 }

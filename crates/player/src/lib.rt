@@ -13,13 +13,11 @@
 
 mod drawing;
 mod laws;
-mod opening;
 mod placed_map;
 mod play;
 mod refusal;
 #[cfg(test)]
 mod tests;
-mod wmf;
 
 pub use laws::run_law;
 pub use play::{play_file, play_on};

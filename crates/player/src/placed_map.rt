@@ -17,6 +17,8 @@ use mapping::{PageMap, Place, Point};
 pub(crate) struct PlacedMap {
     /// The page map, which no record changes so far.
     pub(crate) map: PageMap,
+    /// In EMF, how many object indexes the file may use.
+    pub(crate) handles: Option<u16>,
     /// The surface, which stays the same for a whole run.
     pub(crate) place: Place,
 }

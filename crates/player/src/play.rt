@@ -6,22 +6,20 @@ ghost use Rattle.mapping.specs.PlaceOf.{surface_of};
 ghost use Rattle.canvas.specs.CanvasState.{image_of};
 ghost use Rattle.draw_ops.specs.Fault.{IsInRecord};
 ghost use Rattle.draw_ops.specs.Records.{record_limit};
-ghost use Rattle.player.specs.OpenedFile.{opened_of};
-ghost use Rattle.player.specs.Opening.{surface_for};
+ghost use Rattle.meta_headers.specs.OpenedOf.{opened_of};
+ghost use Rattle.meta_headers.specs.Opening.{surface_for};
 ghost use Rattle.player.specs.Playing.{state_of};
 ghost use Rattle.player.specs.Plays.{IsWhole, Plays, PlaysRecords, RefusedOver, RunOver, SameRows, StopsBy, StopsRecordsBy, WantsMemory, WritesOver};
 ghost use Rattle.player.specs.Run.{Refused, Run, Writes, shown, white};
 ghost use Rattle.player.specs.State.{start_of};
-ghost use Rattle.player.specs.Wmf.{wmf_framing, wmf_meaning};
 
 use crate::drawing::draw;
-use crate::opening::{OpenedFile, open};
 use crate::placed_map::PlacedMap;
 use crate::refusal::Refusal;
-use crate::wmf::WmfOps;
 use canvas::Canvas;
 use draw_ops::{Fault, OpSource};
 use mapping::{Colour, Place};
+use meta_headers::{Opened, open_file};
 use std::alloc::Global;
 
 /// Plays a file on a white surface of `width` by `height` pixels. The canvas shows the image that the
@@ -39,7 +37,7 @@ pub fn play_file(alloc: Global, file: &[u8], width: u32, height: u32) -> Result<
     ensures memory { IfErr result (λ r. r.fault ≡ Fault.OutOfMemory → WantsMemory file.now r) }
     ensures record { IfErr result (λ r. IsSome r.number ↔ IsInRecord r.fault) }
 {
-    let opened = match open(file) {
+    let opened = match open_file(file) {
         Ok(opened) => opened,
         Err(fault) => return Err(Refusal::of_file(fault)),
     };
@@ -47,8 +45,10 @@ pub fn play_file(alloc: Global, file: &[u8], width: u32, height: u32) -> Result<
         return Err(Refusal::of_file(Fault::OutOfMemory));
     };
     let on = start(&opened, &canvas);
-    play_records(opened.records, &on, &mut canvas)?;
-    Ok(canvas)
+    match play_records(&opened, &on, &mut canvas) {
+        Ok(()) => Ok(canvas),
+        Err(refusal) => Err(refusal),
+    }
 }
 
 /// Plays a file on a canvas that holds a whole surface, over what it shows, and tells how many pixels
@@ -64,18 +64,20 @@ pub fn play_on(file: &[u8], canvas: &mut Canvas) -> Result<u64, Refusal>
     ensures record { IfErr result (λ r. IsSome r.number ↔ IsInRecord r.fault) }
     ensures rows { SameRows canvas.old canvas.new }
 {
-    let metafile = match open(file) {
+    let metafile = match open_file(file) {
         Ok(opened) => opened,
         Err(fault) => return Err(Refusal::of_file(fault)),
     };
     let before = canvas.writes();
     let on = start(&metafile, canvas);
-    play_records(metafile.records, &on, canvas)?;
-    Ok(canvas.writes() - before)
+    match play_records(&metafile, &on, canvas) {
+        Ok(()) => Ok(canvas.writes() - before),
+        Err(refusal) => Err(refusal),
+    }
 }
 
 /// The start map of an opened file, placed on the surface that a canvas holds.
-fn start(opened: &OpenedFile<'_>, canvas: &Canvas) -> PlacedMap
+fn start(opened: &Opened<'_>, canvas: &Canvas) -> PlacedMap
     requires { canvas.now.first ≡ 0 }
     ensures state { state_of result ≡ start_of (opened_of opened.now) }
     ensures surface { surface_of result.place ≡ surface_for (opened_of opened.now) canvas.now.width canvas.now.rows }
@@ -83,22 +85,23 @@ fn start(opened: &OpenedFile<'_>, canvas: &Canvas) -> PlacedMap
 {
     PlacedMap {
         map: opened.start_map,
+        handles: opened.handles,
         place: Place::new(&opened.frame, canvas.width(), canvas.rows()),
     }
 }
 
-/// Plays records, or tells the first fault with its record.
-fn play_records(records: &[u8], on: &PlacedMap, canvas: &mut Canvas) -> Result<(), Refusal>
+/// Plays an opened file's records, or tells the first fault with its record.
+fn play_records(opened: &Opened<'_>, on: &PlacedMap, canvas: &mut Canvas) -> Result<(), Refusal>
     requires whole { IsWhole canvas.old (surface_of on.now.place) }
     requires countable { canvas.old.writes ≤ 2 ^ 63 }
     ensures played { OnOk result
-        (PlaysRecords wmf_framing wmf_meaning records.now (state_of on.now) (surface_of on.now.place) canvas.old canvas.new) }
+        (PlaysRecords opened.now.format opened.now.records.now (state_of on.now) (surface_of on.now.place) canvas.old canvas.new) }
     ensures refusal { IfErr result
-        (StopsRecordsBy wmf_framing wmf_meaning records.now (state_of on.now) (surface_of on.now.place)) }
+        (StopsRecordsBy opened.now.format opened.now.records.now (state_of on.now) (surface_of on.now.place)) }
     ensures record { IfErr result (λ r. IsSome r.number ↔ IsInRecord r.fault) }
     ensures rows { SameRows canvas.old canvas.new }
 {
-    play_steps(&mut WmfOps::new(records), on, canvas)
+    play_steps(&mut opened.source(), on, canvas)
 }
 
 /// Plays the steps that are left of a source, or tells the first fault with its record.

@@ -1,9 +1,9 @@
 //! The steps of WMF records, with their numbers and notes.
 
-use crate::wmf::WmfOps;
 use draw_ops::{Fault, Note, NoteSet, Op, OpSource, Step};
 use mapping::{Colour, Point};
 use std::test::Fail;
+use wmf_records::WmfOps;
 
 /// META_SETPIXEL of red at (2, 1), and META_EOF.
 const PIXEL_AND_END: [u8; 20] = [
