@@ -2,7 +2,9 @@
 
 mod canvases;
 mod codes;
+mod emf_records;
 mod faults;
+mod headers;
 mod lists_of_points;
 mod notes;
 mod places;

@@ -1,1 +1,2 @@
 pub mod ExtentLemmas
+pub mod WorkedRows

@@ -76,13 +76,21 @@ fn a_dot_moves_with_the_surface(rt: HostRuntime) -> Result<(), Fail> {
 }
 
 #[test]
-fn a_dot_lands_on_each_side_up_to_8192(rt: HostRuntime) -> Result<(), Fail> {
-    // Column 2 of 4 begins at half of the width, and row 1 at a quarter of the height.
-    for (side, column, row) in [(1, 0, 0), (8191, 4095, 2047), (8192, 4096, 2048)] {
-        let wide = play_file(rt.alloc(), &DOT, side, 1)?;
-        assert_eq!(rt; colour(&wide, column, 0), Some(RED), "{side}");
-        let high = play_file(rt.alloc(), &DOT, 1, side)?;
-        assert_eq!(rt; colour(&high, 0, row), Some(RED), "{side}");
+fn a_dot_lands_on_each_width_up_to_8192(rt: HostRuntime) -> Result<(), Fail> {
+    // Column 2 of 4 begins at half of the width.
+    for (width, column) in [(1, 0), (8191, 4095), (8192, 4096)] {
+        let wide = play_file(rt.alloc(), &DOT, width, 1)?;
+        assert_eq!(rt; colour(&wide, column, 0), Some(RED), "{width}");
+    }
+    Ok(())
+}
+
+#[test]
+fn a_dot_lands_on_each_height_up_to_8192(rt: HostRuntime) -> Result<(), Fail> {
+    // Row 1 of 4 begins at a quarter of the height.
+    for (height, row) in [(1, 0), (8191, 2047), (8192, 2048)] {
+        let high = play_file(rt.alloc(), &DOT, 1, height)?;
+        assert_eq!(rt; colour(&high, 0, row), Some(RED), "{height}");
     }
     Ok(())
 }

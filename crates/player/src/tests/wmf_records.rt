@@ -1,7 +1,7 @@
 //! The steps of WMF records, with their numbers and notes.
 
-use draw_ops::{Fault, Note, NoteSet, Op, OpSource, Step};
-use mapping::{Colour, Point};
+use draw_ops::{Fault, Note, NoteSet, Object, Op, OpSource, Pen, Step};
+use mapping::{Colour, MapMode, Point};
 use std::test::Fail;
 use wmf_records::WmfOps;
 
@@ -69,5 +69,45 @@ fn a_fault_comes_again_at_each_call(rt: HostRuntime) -> Result<(), Fail> {
 fn no_bytes_have_no_end(rt: HostRuntime) -> Result<(), Fail> {
     let empty: [u8; 0] = [];
     assert_eq!(rt; WmfOps::new(&empty).next_op().err(), Some(Fault::NoEnd));
+    Ok(())
+}
+
+/// The step of record 0.
+fn first(op: Op<'_>, notes: NoteSet) -> Step<'_> {
+    Step {
+        number: 0,
+        op,
+        notes,
+    }
+}
+
+#[test]
+fn a_wide_dashed_pen_has_two_notes(rt: HostRuntime) -> Result<(), Fail> {
+    // Size in words, function, style, width, colour.
+    let pen = [8, 0, 0, 0, 0xfa, 2, 1, 0, 2, 0, 0, 0, 0, 0, 255, 0];
+    let colour = Colour { r: 0, g: 0, b: 255 };
+    let op = Op::Create {
+        at: None,
+        object: Object::Pen(Pen::Solid { colour }),
+    };
+    let notes = NoteSet::none().with(Note::WidePen).with(Note::DashedPen);
+    assert!(rt; WmfOps::new(&pen).next_op()? == Some(first(op, notes)));
+    Ok(())
+}
+
+#[test]
+fn an_escape_is_skipped_and_noted(rt: HostRuntime) -> Result<(), Fail> {
+    let escape = [3, 0, 0, 0, 0x26, 6];
+    let notes = NoteSet::none().with(Note::Skipped);
+    assert!(rt; WmfOps::new(&escape).next_op()? == Some(first(Op::NoEffect, notes)));
+    Ok(())
+}
+
+#[test]
+fn the_isotropic_mode_is_noted(rt: HostRuntime) -> Result<(), Fail> {
+    let mode = [4, 0, 0, 0, 3, 1, 7, 0];
+    let notes = NoteSet::none().with(Note::Isotropic);
+    let op = Op::SetMapMode(MapMode::Isotropic);
+    assert!(rt; WmfOps::new(&mode).next_op()? == Some(first(op, notes)));
     Ok(())
 }
