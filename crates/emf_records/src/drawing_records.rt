@@ -91,7 +91,12 @@ fn point_lists(width: NumberWidth, bytes: &[u8]) -> Result<Polys<'_>, Fault>
     if bytes.len() < 32 {
         return Err(Fault::BadParams);
     }
-    match lists_at(width, u32_at(bytes, 24) as usize, u32_at(bytes, 28) as usize, bytes) {
+    match lists_at(
+        width,
+        u32_at(bytes, 24) as usize,
+        u32_at(bytes, 28) as usize,
+        bytes,
+    ) {
         Some(lists) => Ok(lists),
         None => Err(Fault::BadParams),
     }

@@ -7,16 +7,19 @@ ghost use Rattle.draw_ops.specs.Results.{result_map};
 ghost use Rattle.emf_records.specs.Emf.{emf_meaning, emf_record, header_record};
 ghost use Rattle.emf_records.specs.Framing.{emf_framing};
 
-use crate::drawing_records::{line_to, poly_polygon, poly_polyline, polygon, polyline};
-use crate::drawing_records::{polyline_to, rectangle, set_pixel_v};
+use crate::drawing_records::{
+    line_to, poly_polygon, poly_polyline, polygon, polyline, polyline_to, rectangle, set_pixel_v,
+};
 use crate::kind::{EmfKind, kind_of};
-use crate::object_records::{create, create_brush_indirect, create_pen, delete_object};
-use crate::object_records::{ext_create_pen, select_object, select_palette};
-use crate::state_records::{comment, exclude_clip_rect, ext_select_clip_rgn};
-use crate::state_records::{intersect_clip_rect, move_to_ex, restore_dc, set_bk_color};
-use crate::state_records::{set_bk_mode, set_layout, set_map_mode, set_poly_fill_mode};
-use crate::state_records::{set_rop2, set_viewport_ext_ex, set_viewport_org_ex};
-use crate::state_records::{set_window_ext_ex, set_window_org_ex};
+use crate::object_records::{
+    create, create_brush_indirect, create_pen, delete_object, ext_create_pen, select_object,
+    select_palette,
+};
+use crate::state_records::{
+    comment, exclude_clip_rect, ext_select_clip_rgn, intersect_clip_rect, move_to_ex, restore_dc,
+    set_bk_color, set_bk_mode, set_layout, set_map_mode, set_poly_fill_mode, set_rop2,
+    set_viewport_ext_ex, set_viewport_org_ex, set_window_ext_ex, set_window_org_ex,
+};
 use crate::transform_records::{modify_world_transform, set_world_transform};
 use crate::types::{EMR_EOF, EMR_HEADER};
 use draw_ops::{Fault, Format, Meant, Note, Object, Op, RawRecord, RecordOps};
@@ -79,12 +82,7 @@ fn header<'a>(number: u32) -> Result<Meant<'a>, Fault>
 
 /// What a record of this kind means, or its first fault.
 #[tactic(auto, unfolding(crate::specs::Emf::emf_record))]
-fn record(
-    kind: EmfKind,
-    number: u32,
-    record_type: u32,
-    bytes: &[u8],
-) -> Result<Meant<'_>, Fault>
+fn record(kind: EmfKind, number: u32, record_type: u32, bytes: &[u8]) -> Result<Meant<'_>, Fault>
     ensures value { emf_record kind number record_type bytes.entry.now ≡ result_map meant_of result }
     ensures in_record { IfErr result IsInRecord }
 {

@@ -9,8 +9,10 @@ ghost use Rattle.emf_records.specs.StateRecords.{comment, exclude_clip_rect, ext
 ghost use Rattle.emf_records.specs.StateRecords.{restore_dc, set_bk_color, set_bk_mode, set_layout, set_map_mode_record, set_poly_fill_mode, set_rop2};
 
 use crate::types::{EMR_EXTSELECTCLIPRGN, EMR_SETLAYOUT};
-use draw_ops::{Fault, Meant, Note, Op, SavedState, box_at, rgb_at, xy_at};
-use draw_ops::{background_mode_meant, fill_mode_meant, map_mode_meant, raster_op_meant};
+use draw_ops::{
+    Fault, Meant, Note, Op, SavedState, background_mode_meant, box_at, fill_mode_meant,
+    map_mode_meant, raster_op_meant, rgb_at, xy_at,
+};
 use mapping::Point;
 use point_views::{i32_at, u32_at};
 

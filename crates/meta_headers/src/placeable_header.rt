@@ -114,7 +114,11 @@ fn notes(file: &[u8]) -> NoteSet
     requires { 40 ≤ length file.now }
     ensures { notes_in result ≡ placeable_notes file.now }
 {
-    let notes = noted_where(has_other_checksum(file), Note::PlaceableChecksum, NoteSet::none());
+    let notes = noted_where(
+        has_other_checksum(file),
+        Note::PlaceableChecksum,
+        NoteSet::none(),
+    );
     let notes = noted_where(has_other_fields(file), Note::PlaceableFields, notes);
     noted_where(has_other_size(file, HEADER_PLACE), Note::SizeField, notes)
 }

@@ -12,7 +12,9 @@ ghost use Rattle.wmf_records.specs.DrawingRecords.{counted_points, line_to_recor
 ghost use Rattle.wmf_records.specs.DrawingRecords.{points_for, poly_polygon_record, polygon_record, polyline_record, rectangle_record, set_pixel};
 ghost use Rattle.point_views.specs.Numbers.{i16_at};
 
-use draw_ops::{Fault, Meant, Op, RectangleEdges, counts_at, points_at, rgb_at, turned_box_at, yx_at};
+use draw_ops::{
+    Fault, Meant, Op, RectangleEdges, counts_at, points_at, rgb_at, turned_box_at, yx_at,
+};
 use point_views::{Counts, NumberWidth, Points, Polys, i16_at, u16_at};
 
 /// META_LINETO (2.3.3.10): y, x.

@@ -10,8 +10,10 @@ ghost use Rattle.wmf_records.specs.StateRecords.{exclude_clip_rect, intersect_cl
 ghost use Rattle.wmf_records.specs.StateRecords.{set_bk_color, set_bk_mode, set_layout, set_map_mode_record, set_poly_fill_mode, set_rop2};
 
 use crate::functions::META_SETLAYOUT;
-use draw_ops::{Fault, Meant, Note, Op, SavedState, rgb_at, turned_box_at, yx_at};
-use draw_ops::{background_mode_meant, fill_mode_meant, map_mode_meant, raster_op_meant};
+use draw_ops::{
+    Fault, Meant, Note, Op, SavedState, background_mode_meant, fill_mode_meant, map_mode_meant,
+    raster_op_meant, rgb_at, turned_box_at, yx_at,
+};
 use mapping::Point;
 use point_views::{i16_at, u16_at};
 

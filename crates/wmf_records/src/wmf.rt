@@ -10,13 +10,15 @@ ghost use Rattle.wmf_records.specs.Wmf.{wmf_meaning, wmf_record};
 use crate::drawing_records::{line_to, poly_polygon, polygon, polyline, rectangle, set_pixel};
 use crate::functions::META_EOF;
 use crate::kind::{WmfKind, kind_of};
-use crate::object_records::{create_brush_indirect, create_pen_indirect, created};
-use crate::object_records::{delete_object, select_object, select_palette};
-use crate::state_records::{exclude_clip_rect, intersect_clip_rect, move_to};
-use crate::state_records::{offset_viewport_org, offset_window_org, restore_dc};
-use crate::state_records::{set_bk_color, set_bk_mode, set_layout, set_map_mode};
-use crate::state_records::{set_poly_fill_mode, set_rop2, set_viewport_ext};
-use crate::state_records::{set_viewport_org, set_window_ext, set_window_org};
+use crate::object_records::{
+    create_brush_indirect, create_pen_indirect, created, delete_object, select_object,
+    select_palette,
+};
+use crate::state_records::{
+    exclude_clip_rect, intersect_clip_rect, move_to, offset_viewport_org, offset_window_org,
+    restore_dc, set_bk_color, set_bk_mode, set_layout, set_map_mode, set_poly_fill_mode, set_rop2,
+    set_viewport_ext, set_viewport_org, set_window_ext, set_window_org,
+};
 use draw_ops::{Fault, Format, Meant, Note, Object, Op, RawRecord, RecordOps};
 use point_views::{u16_at, u32_at};
 

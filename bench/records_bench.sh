@@ -1,0 +1,124 @@
+#!/bin/sh
+# What it costs to read records: the best time of nine runs of `count_steps` over 1,000,000 small records of each
+# format, in periodic and in random order, in nanoseconds a record (goals: 25 and 40), beside a loop that only adds up
+# the sizes in the heads. It makes a repository under /tmp with copies of the crates that it needs and a program, and
+# proves and builds that.
+#
+#   bench/records_bench.sh [FOLDER]     FOLDER is kept; with none, one under /tmp is made and removed
+set -eu
+here=$(cd "$(dirname "$0")/.." && pwd)
+if [ $# -gt 0 ]; then
+    folder=$1
+    mkdir -p "$folder"
+else
+    folder=$(mktemp -d /tmp/records_bench.XXXXXX)
+    trap 'rm -rf "$folder"' EXIT
+fi
+
+mkdir -p "$folder/crates/records_bench/src"
+for crate in mapping point_views draw_ops wmf_records emf_records; do
+    mkdir -p "$folder/crates/$crate"
+    for part in src specs proofs; do
+        rm -rf "$folder/crates/$crate/$part"
+        cp -R "$here/crates/$crate/$part" "$folder/crates/$crate/$part"
+    done
+done
+printf 'Handles allowed: none.\n' > "$folder/HANDLES"
+cat > "$folder/crates.txt" <<'TEXT'
+mapping:
+point_views: byteorder mapping
+draw_ops: point_views mapping
+wmf_records: draw_ops point_views mapping
+emf_records: draw_ops point_views mapping
+records_bench: wmf_records emf_records draw_ops point_views mapping
+TEXT
+
+cat > "$folder/crates/records_bench/src/main.rt" <<'TEXT'
+//! Counts the steps of a file of records, given on standard input.
+#![tactic(auto)]
+
+use std::io::{self, Read};
+use std::time::Instant;
+
+use draw_ops::{Op, count_steps};
+use emf_records::EmfOps;
+use point_views::u32_at;
+use wmf_records::WmfOps;
+
+const RUNS: usize = 9;
+
+/// The steps of a file of WMF, or 0 where it has a fault.
+#[inline(never)]
+#[tactic(auto, unfolding(draw_ops::specs::Records::record_limit))]
+fn steps_of_wmf(bytes: &[u8]) -> u64 {
+    match count_steps(&mut WmfOps::new(bytes)) {
+        Ok(steps) => steps,
+        Err(_) => 0,
+    }
+}
+
+/// The steps of a file of EMF, or 0 where it has a fault.
+#[inline(never)]
+#[tactic(auto, unfolding(draw_ops::specs::Records::record_limit))]
+fn steps_of_emf(bytes: &[u8]) -> u64 {
+    match count_steps(&mut EmfOps::new(bytes)) {
+        Ok(steps) => steps,
+        Err(_) => 0,
+    }
+}
+
+/// How many heads of 8 bytes a file has, one after another, each with a size at a place: the limit.
+#[inline(never)]
+fn heads(bytes: &[u8], is_emf: bool) -> u64 {
+    let mut rest = bytes;
+    let mut count: u64 = 0;
+    for _ in 0..1048576 {
+        if rest.len() < 8 {
+            return count;
+        }
+        let size = if is_emf { u32_at(rest, 4) as usize } else { 2 * u32_at(rest, 0) as usize };
+        if size > rest.len() {
+            return count;
+        }
+        rest = &rest[size..];
+        count = count.wrapping_add(1);
+    }
+    count
+}
+
+fn main(rt: HostRuntime) -> io::Result<()> {
+    let mut bytes = Vec::new(rt.alloc());
+    let mut input = rt.stdin();
+    input.read_to_end(&mut bytes)?;
+    // EMF's first type here is below 256, and WMF's first size too: its function isn't.
+    let is_emf = bytes.len() > 6 && bytes[5] == 0;
+    let mut best_steps = u128::MAX;
+    let mut best_heads = u128::MAX;
+    let mut steps = 0;
+    for _ in 0..RUNS {
+        let start = Instant::now(&rt)?;
+        steps = if is_emf { steps_of_emf(&bytes) } else { steps_of_wmf(&bytes) };
+        best_steps = best_steps.min(start.elapsed(&rt)?.as_nanos());
+        let start = Instant::now(&rt)?;
+        let count = heads(&bytes, is_emf);
+        best_heads = best_heads.min(start.elapsed(&rt)?.as_nanos());
+        if count == 0 {
+            println!(rt; "no heads")?;
+        }
+    }
+    let op = size_of::<Op<'static>>();
+    println!(rt; "steps={steps} ns={best_steps} heads={best_heads} op={op}")?;
+    Ok(())
+}
+TEXT
+python3 "$here/bench/make_records.py" wmf periodic 5 "$folder/few.wmf"
+(cd "$folder/crates/records_bench" && rt run < "$folder/few.wmf" > "$folder/build.log" 2>&1) || { tail -n 20 "$folder/build.log"; exit 1; }
+for form in wmf emf; do
+    for order in periodic random; do
+        python3 "$here/bench/make_records.py" $form $order 1000000 "$folder/many.$form"
+        printf '%s %s: ' $form $order
+        "$folder/crates/records_bench/out/records_bench" < "$folder/many.$form" |
+            sed 's/.*steps=\([0-9]*\) ns=\([0-9]*\) heads=\([0-9]*\) op=\([0-9]*\).*/\1 \2 \3 \4/' |
+            awk '{ printf "%d steps, %.1f ns a record, heads alone %.1f ns, an Op of %d bytes\n", $1, $2 / $1, $3 / $1, $4 }'
+    done
+done
