@@ -4,9 +4,11 @@ A refusal may lead to `OutOfMemory`, or to the very answer of ample memory where
 without what it was refused; to nothing else, and to no half of an image.
 """
 
+import itertools
 import os
 import pathlib
 import re
+import struct
 import subprocess
 import tempfile
 import unittest
@@ -17,11 +19,20 @@ OUT_OF_MEMORY = Answer(4, b"", b"metaplay: OutOfMemory\n")
 
 WHEEL = SAMPLES / "wheel.wmf"
 
+SMALL_EMF = SAMPLES / "small.emf"
+
+# A file of EMF without a drawing: a header of 88 bytes and an end of 20.
+NIL_EMF = (SAMPLES / "nil.emf").read_bytes()
+
+# EMR_SETPIXELV of red at (0, 0): type, size, x, y, colour.
+EMF_PIXEL = struct.pack("<IIiiI", 15, 20, 0, 0, 255)
+
 # Command lines with their standard input.
 LINES = [
     (["show", "stdin", "4", "4"], DOT),
     (["show", WHEEL, "64", "64"], b""),
     (["show", "stdin", "4", "4"], DOT[:54]),
+    (["show", SMALL_EMF, "4", "4"], b""),
     (["show", "/no/such/file", "4", "4"], b""),
     (["show", b"\xff", "4", "4"], b""),
     (["show", "stdin", "0", "4"], b""),
@@ -84,11 +95,11 @@ class RefusedGrowth(unittest.TestCase):
 
     def test_records_and_pixels_take_no_memory(self):
         # Files of one length, with one pixel and with 1,001, and surfaces of 16 pixels and of 90,000.
-        pixel, end = DOT[40:54], DOT[54:]
-        few = DOT + pixel * 1000
-        many = DOT[:40] + pixel * 1001 + end
-        for program in PROGRAMS:
-            with self.subTest(program=program.name):
+        parts = [(DOT[:40], DOT[40:54], DOT[54:]), (NIL_EMF[:88], EMF_PIXEL, NIL_EMF[88:])]
+        for program, (header, pixel, end) in itertools.product(PROGRAMS, parts):
+            few = header + pixel + end + pixel * 1000
+            many = header + pixel * 1001 + end
+            with self.subTest(program=program.name, pixel=pixel):
                 calls = self.calls_for_memory(program, ["4", "4"], few)
                 self.assertEqual(self.calls_for_memory(program, ["4", "4"], many), calls)
                 self.assertEqual(self.calls_for_memory(program, ["300", "300"], few), calls)
