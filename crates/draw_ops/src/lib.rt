@@ -14,6 +14,9 @@
 //! - A source gives its steps in order, each once, and then none or one fault, which lies in a record,
 //!   and the same again at each call after that (`OpSource::next_op`, by `Gives`). `Listed` is such a
 //!   source.
+//! - What both formats share of records is read here: points, boxes, colours and lists (`rgb_at`, `xy_at`,
+//!   `points_at` and their like), what sets a mode (`map_mode_meant` and its like), and what makes a pen or
+//!   a brush (`pen_meant`, `brush_meant`).
 //! - A source over a file's records has what those records mean, whatever their format
 //!   (`RecordOps::new`, by `IsContent`).
 //! - Bytes are records in one way, and have one content (`records_law`, `content_law`).
