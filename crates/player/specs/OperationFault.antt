@@ -1,8 +1,10 @@
 -- The fault of an operation, in two parts: what it meets in the state, and where its points land on a surface.
-use Rattle.std.specs.Prelude.{if◌then◌else◌, List, [], ◌++◌, Option, Some, None}
+use Rattle.std.specs.Prelude.{Bool, ◌&&◌, if◌then◌else◌, List, [], ◌++◌, Option, Some, None}
 use Rattle.std.specs.List.{list_all}
 use Rattle.std.specs.Option.{option_or}
+use Rattle.std.specs.Ordering.{int_eq}
 use Rattle.mapping.specs.declared.geometry.Point.{Point}
+use Rattle.mapping.specs.Plane.{MapNumbers}
 use Rattle.mapping.specs.Surface.{Surface, lands_within_limits}
 use Rattle.draw_ops.specs.declared.fault.Fault.{Fault}
 use Rattle.draw_ops.specs.declared.fault.Fault.TheVariants.{OffPlane, Unsupported}
@@ -13,6 +15,10 @@ use Rattle.player.specs.State.{State}
 -- an operation that isn't played yet is unsupported
 abbrev unplayed : Option Fault
 unplayed = Some (Unsupported 0)
+
+-- the window has this extent already, so that setting it is without effect
+abbrev pub has_window_extent : MapNumbers → Point → Bool
+has_window_extent map extent = int_eq extent.x map.x.window_extent && int_eq extent.y map.y.window_extent
 
 -- the fault that doesn't depend on the surface
 abbrev pub plain_fault : Operation → State → Option Fault
@@ -25,7 +31,7 @@ plain_fault (set_raster_op op) state = unplayed
 plain_fault (set_fill_mode mode) state = unplayed
 plain_fault (set_background_colour colour) state = unplayed
 plain_fault (set_window_origin origin) state = unplayed
-plain_fault (set_window_extent extent) state = unplayed
+plain_fault (set_window_extent extent) state = if has_window_extent state.dc.map extent then None else unplayed
 plain_fault (set_viewport_origin origin) state = unplayed
 plain_fault (set_viewport_extent extent) state = unplayed
 plain_fault (offset_window_origin offset) state = unplayed

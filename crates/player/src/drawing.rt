@@ -7,7 +7,7 @@ ghost use Rattle.draw_ops.specs.Operation.{pixel};
 ghost use Rattle.draw_ops.specs.OperationOf.{operation_of};
 ghost use Rattle.player.specs.Dot.{dots, dotted, indexes_of};
 ghost use Rattle.mapping.specs.PlaceOf.{surface_of};
-ghost use Rattle.player.specs.OperationFault.{fault_of};
+ghost use Rattle.player.specs.OperationFault.{fault_of, has_window_extent};
 ghost use Rattle.player.specs.Playing.{state_of};
 ghost use Rattle.player.specs.Plays.{Draws, IsWhole, SameRows};
 
@@ -31,9 +31,17 @@ pub(crate) fn draw(op: Op<'_>, on: &PlacedMap, canvas: &mut Canvas) -> Result<()
     match op {
         Op::NoEffect => Ok(()),
         Op::Pixel { point, colour } => dot(point, colour, on, canvas),
+        Op::SetWindowExtent(extent) if has_window_extent(on, extent) => Ok(()),
         // Not played yet: so it is refused, by the definition too.
         _ => Err(Fault::Unsupported(0)),
     }
+}
+
+/// Whether the window has this extent already: a plain WMF file starts with the one that its record sets.
+fn has_window_extent(on: &PlacedMap, extent: Point) -> bool
+    ensures { result ≡ has_window_extent (state_of on.now).dc.map extent }
+{
+    extent.x == on.map.x.window_extent && extent.y == on.map.y.window_extent
 }
 
 /// Draws a pixel, or tells that it doesn't land.
