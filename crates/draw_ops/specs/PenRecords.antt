@@ -1,7 +1,7 @@
 -- What a record means that makes a pen.
-use Rattle.std.specs.Prelude.{ℕ, ◌%◌, Bool, true, false, ◌==◌, List, [], ◌∷◌, Option, Some, None, find, Result, Ok, Err}
-use Rattle.std.specs.Option.{option_map}
+use Rattle.std.specs.Prelude.{ℕ, ◌%◌, Bool, true, false, List, [], ◌∷◌, Option, Some, None, Result, Ok, Err}
 use Rattle.mapping.specs.declared.geometry.Colour.{Colour}
+use Rattle.draw_ops.specs.KindTable.{row_of}
 use Rattle.draw_ops.specs.Meaning.{MeantValue}
 use Rattle.draw_ops.specs.NoteCounts.{no_notes}
 use Rattle.draw_ops.specs.NoteKinds.{noted}
@@ -20,9 +20,9 @@ use Rattle.draw_ops.specs.declared.pen_records.PenStyle.TheVariants.{Solid, Dash
 abbrev pub pen_styles : List (ℕ × PenStyle)
 pen_styles = (0, Solid) ∷ (1, Dashed) ∷ (2, Dashed) ∷ (3, Dashed) ∷ (4, Dashed) ∷ (5, Null) ∷ (6, Solid) ∷ (7, Dashed) ∷ (8, Dashed) ∷ []
 
--- the style of a number
+-- the style with this number
 abbrev pub pen_style_of : ℕ → Option PenStyle
-pen_style_of number = option_map (λ row. row.1) (find (λ row. row.0 == number % 16) pen_styles)
+pen_style_of code = row_of pen_styles (code % 16)
 
 -- the pen of a style: a dashed one is played as solid, and the colour of one that draws nothing isn't looked at
 abbrev pub pen_of : PenStyle → Result Colour Fault → Result Pen Fault
@@ -30,11 +30,12 @@ pen_of Null colour = Ok NullPen
 pen_of Solid colour = result_map SolidPen colour
 pen_of Dashed colour = result_map SolidPen colour
 
--- what is noted of a pen that draws: that it is wide, and that it is dashed
+-- a wide pen is noted
 abbrev wide_notes : Bool → List ℕ
 wide_notes false = no_notes
 wide_notes true = noted no_notes WidePen
 
+-- what is noted of a pen that draws: that it is wide, and that it is dashed
 abbrev pub pen_notes : PenStyle → Bool → List ℕ
 pen_notes Null is_wide = no_notes
 pen_notes Solid is_wide = wide_notes is_wide

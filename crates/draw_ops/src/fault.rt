@@ -18,7 +18,7 @@ pub enum Fault {
     ShortHeader,
     /// A header has a type, a size or a version that the standard does not allow.
     BadHeader,
-    /// No picture frame can be told: a side is 0, or too long.
+    /// No picture frame can be told: a side is 0 or too long, or no record of a plain WMF file gives one.
     NoFrame,
     // The certificate: its bytes.
     /// The certificate begins with other bytes than a certificate does.

@@ -15,7 +15,7 @@ const RECORD_LIMIT: u32 = 1048576;
 /// The record in front of the bytes, which has this number in the file, or the first fault of its framing:
 /// `TooManyRecords`, `NoEnd`, `ShortRecord` or `PastEnd`.
 #[tactic(auto, unfolding(crate::specs::Records::record_limit))]
-pub fn first_record<F: Format>(bytes: &[u8], number: u32) -> Result<RawRecord<'_>, Fault>
+pub fn first_record<F: Format>(number: u32, bytes: &[u8]) -> Result<RawRecord<'_>, Fault>
     ensures fault { framing_fault F.framing number bytes.entry.now ≡ result_err result }
     ensures front { IfOk result (λ r. record_of r ≡ front_of F.framing bytes.entry.now) }
     ensures size { IfOk result (λ r. length r.bytes.now ≡ size_of F.framing bytes.entry.now) }

@@ -28,11 +28,11 @@ pub enum PenStyle {
 }
 
 impl PenStyle {
-    /// The style of a number, by its low four bits: none exactly where the standard has none.
-    pub fn from_number(number: u32) -> Option<PenStyle>
-        ensures { result ≡ pen_style_of number }
+    /// The style with this number, by its low four bits: none exactly where the standard has none.
+    pub fn from_code(code: u32) -> Option<PenStyle>
+        ensures { result ≡ pen_style_of code }
     {
-        match number % 16 {
+        match code % 16 {
             0 => Some(PenStyle::Solid),
             1 => Some(PenStyle::Dashed),
             2 => Some(PenStyle::Dashed),

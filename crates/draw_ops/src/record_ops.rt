@@ -77,7 +77,7 @@ impl<'a, F: Format> OpSource<'a> for RecordOps<'a, F> {
         match self.reading {
             Reading::Ended => Ok(None),
             Reading::Failed(fault) => Err(fault),
-            Reading::Records => match step::<F>(self.rest, self.number) {
+            Reading::Records => match step::<F>(self.number, self.rest) {
                 Err(fault) => {
                     self.reading = Reading::Failed(fault);
                     Err(fault)
@@ -97,14 +97,14 @@ impl<'a, F: Format> OpSource<'a> for RecordOps<'a, F> {
 }
 
 /// The step of the record in front of the bytes, which has this number in the file, or its first fault.
-fn step<F: Format>(bytes: &[u8], number: u32) -> Result<Step<'_>, Fault>
+fn step<F: Format>(number: u32, bytes: &[u8]) -> Result<Step<'_>, Fault>
     ensures value { front_step F.framing F.meaning number bytes.entry.now ≡ result_map step_value_of result }
     ensures head { OnOk result (F.framing.head_length ≤ length bytes.entry.now) }
     ensures within { OnOk result (size_of F.framing bytes.entry.now ≤ length bytes.entry.now) }
     ensures below_limit { OnOk result (number < record_limit) }
     ensures in_record { IfErr result IsInRecord }
 {
-    let front = first_record::<F>(bytes, number)?;
+    let front = first_record::<F>(number, bytes)?;
     let meant = F::read(number, front)?;
     let behind = &bytes[front.bytes.len()..];
     Ok(Step {

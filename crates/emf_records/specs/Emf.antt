@@ -9,20 +9,20 @@ use Rattle.draw_ops.specs.declared.fault.Fault.{Fault}
 use Rattle.draw_ops.specs.declared.fault.Fault.TheVariants.{UnknownRecord, Unsupported}
 use Rattle.draw_ops.specs.declared.note.Note.TheVariants.{Skipped as NoteSkipped}
 use Rattle.emf_records.specs.DrawingRecords.{line_to_record, poly_polygon_record, poly_polyline_record, polygon_record, polyline_record, polyline_to_record, rectangle_record, set_pixel_v}
-use Rattle.emf_records.specs.Kinds.{emf_kind_of}
+use Rattle.emf_records.specs.Kinds.{emf_entry_of}
 use Rattle.emf_records.specs.ObjectRecords.{create_brush_indirect, create_pen, create_record, ext_create_pen, index_record}
 use Rattle.emf_records.specs.StateRecords.{comment, exclude_clip_rect, ext_select_clip_rgn, intersect_clip_rect, point_record, restore_dc, set_bk_color, set_bk_mode, set_layout, set_map_mode_record, set_poly_fill_mode, set_rop2}
 use Rattle.emf_records.specs.TransformRecords.{modify_world_transform, set_world_transform}
-use Rattle.emf_records.specs.declared.kind.EmfKind.{EmfKind}
-use Rattle.emf_records.specs.declared.kind.EmfKind.TheVariants.{ExcludeClipRect, IntersectClipRect, ExtSelectClipRgn, Comment, Header, Eof, Polygon, Polyline, PolylineTo, PolyPolyline, PolyPolygon, SetPixelV, Rectangle, LineTo, FillPath, StrokeAndFillPath, StrokePath, Polygon16, Polyline16, PolylineTo16, PolyPolyline16, PolyPolygon16, SelectObject, CreatePen, CreateBrushIndirect, DeleteObject, SelectPalette, CreatePalette, ExtCreateFontIndirectW, ExtCreatePen, BeginPath, EndPath, CloseFigure, AbortPath, SetWindowExtEx, SetWindowOrgEx, SetViewportExtEx, SetViewportOrgEx, SetMapMode, SetBkMode, SetPolyFillMode, SetRop2, SetBkColor, MoveToEx, SaveDc, RestoreDc, SetLayout, SetWorldTransform, ModifyWorldTransform, Skipped, Refused}
+use Rattle.emf_records.specs.declared.entry.EmfEntry.{EmfEntry}
+use Rattle.emf_records.specs.declared.entry.EmfEntry.TheVariants.{ExcludeClipRect, IntersectClipRect, ExtSelectClipRgn, Comment, Header, Eof, Polygon, Polyline, PolylineTo, PolyPolyline, PolyPolygon, SetPixelV, Rectangle, LineTo, FillPath, StrokeAndFillPath, StrokePath, Polygon16, Polyline16, PolylineTo16, PolyPolyline16, PolyPolygon16, SelectObject, CreatePen, CreateBrushIndirect, DeleteObject, SelectPalette, CreatePalette, ExtCreateFontIndirectW, ExtCreatePen, BeginPath, EndPath, CloseFigure, AbortPath, SetWindowExtEx, SetWindowOrgEx, SetViewportExtEx, SetViewportOrgEx, SetMapMode, SetBkMode, SetPolyFillMode, SetRop2, SetBkColor, MoveToEx, SaveDc, RestoreDc, SetLayout, SetWorldTransform, ModifyWorldTransform, Skipped, Refused}
 
 -- EMR_HEADER is without effect as the file's first record, and isn't played behind it
 abbrev pub header_record : ℕ → Result MeantValue Fault
 header_record zero = Ok (unnoted no_effect)
 header_record (suc n) = Err (Unsupported 1)
 
--- what a record of each kind means, by its number in the file, its type and its bytes
-unfoldable pub emf_record : EmfKind → ℕ → ℕ → List ℕ → Result MeantValue Fault
+-- what a record with each entry means, by its number in the file, its type and its bytes
+unfoldable pub emf_record : EmfEntry → ℕ → ℕ → List ℕ → Result MeantValue Fault
 emf_record ExcludeClipRect number record_type bytes = exclude_clip_rect bytes
 emf_record IntersectClipRect number record_type bytes = intersect_clip_rect bytes
 emf_record ExtSelectClipRgn number record_type bytes = ext_select_clip_rgn bytes
@@ -76,10 +76,10 @@ emf_record Skipped number record_type bytes = Ok (noting NoteSkipped no_effect)
 emf_record Refused number record_type bytes = Err (Unsupported record_type)
 
 -- a type that the standard doesn't have is unknown
-abbrev pub emf_record_if : Option EmfKind → ℕ → Record → Result MeantValue Fault
+abbrev pub emf_record_if : Option EmfEntry → ℕ → Record → Result MeantValue Fault
 emf_record_if None number r = Err (UnknownRecord r.kind)
-emf_record_if (Some kind) number r = emf_record kind number r.kind r.bytes
+emf_record_if (Some entry) number r = emf_record entry number r.kind r.bytes
 
 -- by the record's type, and of a header by where it stands
 abbrev pub emf_meaning : Meaning
-emf_meaning number r = emf_record_if (emf_kind_of r.kind) number r
+emf_meaning number r = emf_record_if (emf_entry_of r.kind) number r

@@ -1,19 +1,20 @@
 -- Which records of EMF are played, which are skipped, and which are refused, by their types ([MS-EMF] 2.1.1).
 use Rattle.std.specs.Prelude.{ℕ, List, [], ◌∷◌, ◌++◌, map, Option}
 use Rattle.draw_ops.specs.KindTable.{row_of}
-use Rattle.emf_records.specs.declared.kind.EmfKind.{EmfKind}
-use Rattle.emf_records.specs.declared.kind.EmfKind.TheVariants.{ExcludeClipRect, IntersectClipRect, ExtSelectClipRgn, Comment, Header, Eof, Polygon, Polyline, PolylineTo, PolyPolyline, PolyPolygon, SetPixelV, Rectangle, LineTo, FillPath, StrokeAndFillPath, StrokePath, Polygon16, Polyline16, PolylineTo16, PolyPolyline16, PolyPolygon16, SelectObject, CreatePen, CreateBrushIndirect, DeleteObject, SelectPalette, CreatePalette, ExtCreateFontIndirectW, ExtCreatePen, BeginPath, EndPath, CloseFigure, AbortPath, SetWindowExtEx, SetWindowOrgEx, SetViewportExtEx, SetViewportOrgEx, SetMapMode, SetBkMode, SetPolyFillMode, SetRop2, SetBkColor, MoveToEx, SaveDc, RestoreDc, SetLayout, SetWorldTransform, ModifyWorldTransform, Skipped, Refused}
+use Rattle.emf_records.specs.declared.entry.EmfEntry.{EmfEntry}
+use Rattle.emf_records.specs.declared.entry.EmfEntry.TheVariants.{ExcludeClipRect, IntersectClipRect, ExtSelectClipRgn, Comment, Header, Eof, Polygon, Polyline, PolylineTo, PolyPolyline, PolyPolygon, SetPixelV, Rectangle, LineTo, FillPath, StrokeAndFillPath, StrokePath, Polygon16, Polyline16, PolylineTo16, PolyPolyline16, PolyPolygon16, SelectObject, CreatePen, CreateBrushIndirect, DeleteObject, SelectPalette, CreatePalette, ExtCreateFontIndirectW, ExtCreatePen, BeginPath, EndPath, CloseFigure, AbortPath, SetWindowExtEx, SetWindowOrgEx, SetViewportExtEx, SetViewportOrgEx, SetMapMode, SetBkMode, SetPolyFillMode, SetRop2, SetBkColor, MoveToEx, SaveDc, RestoreDc, SetLayout, SetWorldTransform, ModifyWorldTransform, Skipped, Refused}
 
--- the records whose effect, or whether they have one, hangs on a condition
-abbrev pub emf_conditional : List (ℕ × EmfKind)
+-- the records that are without effect on a condition
+abbrev pub emf_conditional : List (ℕ × EmfEntry)
 emf_conditional =
-    (75, ExtSelectClipRgn) ∷ (70, Comment) ∷ (1, Header) ∷ (115, SetLayout) ∷ (35, SetWorldTransform) ∷ (36, ModifyWorldTransform) ∷ []
+    (115, SetLayout) ∷ (35, SetWorldTransform) ∷ (36, ModifyWorldTransform) ∷ []
 
--- the other records that are played
-abbrev pub emf_played : List (ℕ × EmfKind)
+-- the records that are played; a comment is read to see what is noted of it
+abbrev pub emf_played : List (ℕ × EmfEntry)
 emf_played =
-    (29, ExcludeClipRect) ∷ (30, IntersectClipRect) ∷
-    (14, Eof) ∷
+    (29, ExcludeClipRect) ∷ (30, IntersectClipRect) ∷ (75, ExtSelectClipRgn) ∷
+    (70, Comment) ∷
+    (1, Header) ∷ (14, Eof) ∷
     (3, Polygon) ∷ (4, Polyline) ∷ (6, PolylineTo) ∷ (7, PolyPolyline) ∷ (8, PolyPolygon) ∷ (15, SetPixelV) ∷ (43, Rectangle) ∷
     (54, LineTo) ∷ (62, FillPath) ∷ (63, StrokeAndFillPath) ∷ (64, StrokePath) ∷ (86, Polygon16) ∷ (87, Polyline16) ∷ (89, PolylineTo16) ∷
     (90, PolyPolyline16) ∷ (91, PolyPolygon16) ∷
@@ -39,7 +40,7 @@ emf_refused =
     2 ∷ 5 ∷ 26 ∷ 28 ∷ 31 ∷ 32 ∷ 41 ∷ 42 ∷ 44 ∷ 45 ∷ 46 ∷ 47 ∷ 53 ∷ 55 ∷ 56 ∷ 65 ∷ 66 ∷ 67 ∷ 71 ∷ 72 ∷ 73 ∷ 74 ∷ 78 ∷ 79 ∷ 80 ∷ 83 ∷ 84 ∷ 85 ∷ 88 ∷ 92 ∷ 93 ∷ 96 ∷ 97 ∷ 99 ∷ 100 ∷ 101 ∷ 102 ∷ 103 ∷ 104 ∷ 108 ∷ 111 ∷ 112 ∷ 113 ∷ 114 ∷ 116 ∷ 118 ∷ 121 ∷ 122 ∷ []
 
 -- what is done with the records of each type
-abbrev pub emf_kinds : List (ℕ × EmfKind)
+abbrev pub emf_kinds : List (ℕ × EmfEntry)
 emf_kinds =
     emf_played ++ emf_conditional ++ map (λ record_type. (record_type, Skipped)) emf_skipped
     ++ map (λ record_type. (record_type, Refused)) (emf_bitmaps ++ emf_refused)
@@ -49,5 +50,5 @@ abbrev pub emf_types : List ℕ
 emf_types = map (λ row. row.0) emf_kinds
 
 -- what is done with a record of this type
-abbrev pub emf_kind_of : ℕ → Option EmfKind
-emf_kind_of record_type = row_of emf_kinds record_type
+abbrev pub emf_entry_of : ℕ → Option EmfEntry
+emf_entry_of record_type = row_of emf_kinds record_type

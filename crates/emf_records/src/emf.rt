@@ -10,7 +10,7 @@ ghost use Rattle.emf_records.specs.Framing.{emf_framing};
 use crate::drawing_records::{
     line_to, poly_polygon, poly_polyline, polygon, polyline, polyline_to, rectangle, set_pixel_v,
 };
-use crate::kind::{EmfKind, kind_of};
+use crate::entry::{EmfEntry, entry_of};
 use crate::object_records::{
     create, create_brush_indirect, create_pen, delete_object, ext_create_pen, select_object,
     select_palette,
@@ -61,8 +61,8 @@ impl Format for Emf {
     }
 
     fn read(number: u32, front: RawRecord<'_>) -> Result<Meant<'_>, Fault> {
-        match kind_of(front.kind) {
-            Some(kind) => record(kind, number, front.kind, front.bytes),
+        match entry_of(front.kind) {
+            Some(entry) => record(entry, number, front.kind, front.bytes),
             None => Err(Fault::UnknownRecord(front.kind)),
         }
     }
@@ -80,63 +80,63 @@ fn header<'a>(number: u32) -> Result<Meant<'a>, Fault>
     }
 }
 
-/// What a record of this kind means, or its first fault.
+/// What a record with this entry means, or its first fault.
 #[tactic(auto, unfolding(crate::specs::Emf::emf_record))]
-fn record(kind: EmfKind, number: u32, record_type: u32, bytes: &[u8]) -> Result<Meant<'_>, Fault>
-    ensures value { emf_record kind number record_type bytes.entry.now ≡ result_map meant_of result }
+fn record(entry: EmfEntry, number: u32, record_type: u32, bytes: &[u8]) -> Result<Meant<'_>, Fault>
+    ensures value { emf_record entry number record_type bytes.entry.now ≡ result_map meant_of result }
     ensures in_record { IfErr result IsInRecord }
 {
-    match kind {
-        EmfKind::ExcludeClipRect => exclude_clip_rect(bytes),
-        EmfKind::IntersectClipRect => intersect_clip_rect(bytes),
-        EmfKind::ExtSelectClipRgn => ext_select_clip_rgn(bytes),
-        EmfKind::Comment => comment(bytes),
-        EmfKind::Header => header(number),
-        EmfKind::Eof => Ok(Meant::unnoted(Op::NoEffect)),
-        EmfKind::Polygon => polygon(NumberWidth::Long, bytes),
-        EmfKind::Polyline => polyline(NumberWidth::Long, bytes),
-        EmfKind::PolylineTo => polyline_to(NumberWidth::Long, bytes),
-        EmfKind::PolyPolyline => poly_polyline(NumberWidth::Long, bytes),
-        EmfKind::PolyPolygon => poly_polygon(NumberWidth::Long, bytes),
-        EmfKind::SetPixelV => set_pixel_v(bytes),
-        EmfKind::Rectangle => rectangle(bytes),
-        EmfKind::LineTo => line_to(bytes),
-        EmfKind::FillPath => Ok(Meant::unnoted(Op::FillPath)),
-        EmfKind::StrokeAndFillPath => Ok(Meant::unnoted(Op::StrokeAndFillPath)),
-        EmfKind::StrokePath => Ok(Meant::unnoted(Op::StrokePath)),
-        EmfKind::Polygon16 => polygon(NumberWidth::Short, bytes),
-        EmfKind::Polyline16 => polyline(NumberWidth::Short, bytes),
-        EmfKind::PolylineTo16 => polyline_to(NumberWidth::Short, bytes),
-        EmfKind::PolyPolyline16 => poly_polyline(NumberWidth::Short, bytes),
-        EmfKind::PolyPolygon16 => poly_polygon(NumberWidth::Short, bytes),
-        EmfKind::SelectObject => select_object(bytes),
-        EmfKind::CreatePen => create_pen(bytes),
-        EmfKind::CreateBrushIndirect => create_brush_indirect(bytes),
-        EmfKind::DeleteObject => delete_object(bytes),
-        EmfKind::SelectPalette => select_palette(bytes),
-        EmfKind::CreatePalette => create(Object::Palette, bytes),
-        EmfKind::ExtCreateFontIndirectW => create(Object::Font, bytes),
-        EmfKind::ExtCreatePen => ext_create_pen(bytes),
-        EmfKind::BeginPath => Ok(Meant::unnoted(Op::BeginPath)),
-        EmfKind::EndPath => Ok(Meant::unnoted(Op::EndPath)),
-        EmfKind::CloseFigure => Ok(Meant::unnoted(Op::CloseFigure)),
-        EmfKind::AbortPath => Ok(Meant::unnoted(Op::AbortPath)),
-        EmfKind::SetWindowExtEx => set_window_ext_ex(bytes),
-        EmfKind::SetWindowOrgEx => set_window_org_ex(bytes),
-        EmfKind::SetViewportExtEx => set_viewport_ext_ex(bytes),
-        EmfKind::SetViewportOrgEx => set_viewport_org_ex(bytes),
-        EmfKind::SetMapMode => set_map_mode(bytes),
-        EmfKind::SetBkMode => set_bk_mode(bytes),
-        EmfKind::SetPolyFillMode => set_poly_fill_mode(bytes),
-        EmfKind::SetRop2 => set_rop2(bytes),
-        EmfKind::SetBkColor => set_bk_color(bytes),
-        EmfKind::MoveToEx => move_to_ex(bytes),
-        EmfKind::SaveDc => Ok(Meant::unnoted(Op::Save)),
-        EmfKind::RestoreDc => restore_dc(bytes),
-        EmfKind::SetLayout => set_layout(bytes),
-        EmfKind::SetWorldTransform => set_world_transform(bytes),
-        EmfKind::ModifyWorldTransform => modify_world_transform(bytes),
-        EmfKind::Skipped => Ok(Meant::noting(Note::Skipped, Op::NoEffect)),
-        EmfKind::Refused => Err(Fault::Unsupported(record_type)),
+    match entry {
+        EmfEntry::ExcludeClipRect => exclude_clip_rect(bytes),
+        EmfEntry::IntersectClipRect => intersect_clip_rect(bytes),
+        EmfEntry::ExtSelectClipRgn => ext_select_clip_rgn(bytes),
+        EmfEntry::Comment => comment(bytes),
+        EmfEntry::Header => header(number),
+        EmfEntry::Eof => Ok(Meant::unnoted(Op::NoEffect)),
+        EmfEntry::Polygon => polygon(NumberWidth::Long, bytes),
+        EmfEntry::Polyline => polyline(NumberWidth::Long, bytes),
+        EmfEntry::PolylineTo => polyline_to(NumberWidth::Long, bytes),
+        EmfEntry::PolyPolyline => poly_polyline(NumberWidth::Long, bytes),
+        EmfEntry::PolyPolygon => poly_polygon(NumberWidth::Long, bytes),
+        EmfEntry::SetPixelV => set_pixel_v(bytes),
+        EmfEntry::Rectangle => rectangle(bytes),
+        EmfEntry::LineTo => line_to(bytes),
+        EmfEntry::FillPath => Ok(Meant::unnoted(Op::FillPath)),
+        EmfEntry::StrokeAndFillPath => Ok(Meant::unnoted(Op::StrokeAndFillPath)),
+        EmfEntry::StrokePath => Ok(Meant::unnoted(Op::StrokePath)),
+        EmfEntry::Polygon16 => polygon(NumberWidth::Short, bytes),
+        EmfEntry::Polyline16 => polyline(NumberWidth::Short, bytes),
+        EmfEntry::PolylineTo16 => polyline_to(NumberWidth::Short, bytes),
+        EmfEntry::PolyPolyline16 => poly_polyline(NumberWidth::Short, bytes),
+        EmfEntry::PolyPolygon16 => poly_polygon(NumberWidth::Short, bytes),
+        EmfEntry::SelectObject => select_object(bytes),
+        EmfEntry::CreatePen => create_pen(bytes),
+        EmfEntry::CreateBrushIndirect => create_brush_indirect(bytes),
+        EmfEntry::DeleteObject => delete_object(bytes),
+        EmfEntry::SelectPalette => select_palette(bytes),
+        EmfEntry::CreatePalette => create(Object::Palette, bytes),
+        EmfEntry::ExtCreateFontIndirectW => create(Object::Font, bytes),
+        EmfEntry::ExtCreatePen => ext_create_pen(bytes),
+        EmfEntry::BeginPath => Ok(Meant::unnoted(Op::BeginPath)),
+        EmfEntry::EndPath => Ok(Meant::unnoted(Op::EndPath)),
+        EmfEntry::CloseFigure => Ok(Meant::unnoted(Op::CloseFigure)),
+        EmfEntry::AbortPath => Ok(Meant::unnoted(Op::AbortPath)),
+        EmfEntry::SetWindowExtEx => set_window_ext_ex(bytes),
+        EmfEntry::SetWindowOrgEx => set_window_org_ex(bytes),
+        EmfEntry::SetViewportExtEx => set_viewport_ext_ex(bytes),
+        EmfEntry::SetViewportOrgEx => set_viewport_org_ex(bytes),
+        EmfEntry::SetMapMode => set_map_mode(bytes),
+        EmfEntry::SetBkMode => set_bk_mode(bytes),
+        EmfEntry::SetPolyFillMode => set_poly_fill_mode(bytes),
+        EmfEntry::SetRop2 => set_rop2(bytes),
+        EmfEntry::SetBkColor => set_bk_color(bytes),
+        EmfEntry::MoveToEx => move_to_ex(bytes),
+        EmfEntry::SaveDc => Ok(Meant::unnoted(Op::Save)),
+        EmfEntry::RestoreDc => restore_dc(bytes),
+        EmfEntry::SetLayout => set_layout(bytes),
+        EmfEntry::SetWorldTransform => set_world_transform(bytes),
+        EmfEntry::ModifyWorldTransform => modify_world_transform(bytes),
+        EmfEntry::Skipped => Ok(Meant::noting(Note::Skipped, Op::NoEffect)),
+        EmfEntry::Refused => Err(Fault::Unsupported(record_type)),
     }
 }

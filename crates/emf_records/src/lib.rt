@@ -7,16 +7,16 @@
 //! - Each record means one operation with its notes, or its first fault (`Emf`, by `emf_record`).
 //! - What is done with a type is said once, and the types that the standard lacks are those that no row
 //!   has (`kinds_law`).
-//! - No call takes memory: points, counts and lists are parts of the file.
+//! - No call is handed an allocator: points, counts and lists are parts of the file.
 #![tactic(auto)]
 
 mod drawing_records;
 mod emf;
-mod kind;
+mod entry;
 mod object_records;
 mod state_records;
 mod transform_records;
 mod types;
 
 pub use emf::{Emf, EmfOps};
-pub use kind::{EmfKind, kinds_law};
+pub use entry::kinds_law;

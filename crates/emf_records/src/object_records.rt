@@ -72,7 +72,7 @@ pub(crate) fn create_pen(bytes: &[u8]) -> Result<Meant<'_>, Fault>
         return Err(Fault::BadParams);
     }
     let at = Some(Handle(u32_at(bytes, 8)));
-    let style = PenStyle::from_number(u32_at(bytes, 12));
+    let style = PenStyle::from_code(u32_at(bytes, 12));
     let colour = rgb_at(bytes, 24);
     pen_meant(at, style, is_wide(bytes, 16), colour)
 }
@@ -110,7 +110,7 @@ pub(crate) fn ext_create_pen(bytes: &[u8]) -> Result<Meant<'_>, Fault>
         return Err(Fault::BadParams);
     }
     let at = Handle(u32_at(bytes, 8));
-    let style = PenStyle::from_number(u32_at(bytes, 28));
+    let style = PenStyle::from_code(u32_at(bytes, 28));
     let brush_style = u32_at(bytes, 36);
     let colour = rgb_at(bytes, 40);
     ext_pen_meant(at, style, brush_style, colour)

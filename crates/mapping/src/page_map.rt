@@ -70,7 +70,8 @@ impl PageAxis {
     }
 
     /// A distance on the page, scaled from the window's extent to the viewport's and rounded down.
-    /// The map of a placeable file whose box isn't turned scales nothing, and then nothing is divided.
+    /// A map whose extents are the same on the axis, as at the start of every file that isn't turned,
+    /// scales nothing, and then nothing is divided.
     fn scaled(&self, distance: i128) -> i128
         requires { unsigned_abs distance ≤ 2 ^ 65 }
         ensures value { result ≡ floor_div (distance *ℤ self.now.viewport_extent) self.now.window_extent }

@@ -1,14 +1,14 @@
 -- The definitions on worked values.
-use Rattle.std.proofs.Common.{◌≡◌, ℕ, pos, negsuc, List, [], ◌∷◌, ◌++◌, replicate, Some, None, Ok, Err, refl}
+use Rattle.std.proofs.Common.{◌≡◌, ℕ, pos, negsuc, List, [], ◌∷◌, ◌++◌, replicate, Some, None, Ok, Err, true, false, refl}
 use Rattle.mapping.specs.PageMap.{placeable_map, plain_map, unscaled_map}
 use Rattle.draw_ops.specs.NoteCounts.{no_notes}
 use Rattle.draw_ops.specs.NoteKinds.{noted}
 use Rattle.draw_ops.specs.declared.fault.Fault.TheVariants.{NoFrame, NotMetafile, ShortHeader}
 use Rattle.draw_ops.specs.declared.note.Note.TheVariants.{PlaceableChecksum, SizeField}
-use Rattle.meta_headers.specs.EmfHeader.{bounds_side, emf_file}
-use Rattle.meta_headers.specs.Headers.{file_limit}
+use Rattle.meta_headers.specs.EmfHeader.{bounds_side, emf_file, has_other_bytes}
+use Rattle.meta_headers.specs.Headers.{file_limit, has_other_size}
 use Rattle.meta_headers.specs.Opening.{opened}
-use Rattle.meta_headers.specs.PlaceableHeader.{placeable_file}
+use Rattle.meta_headers.specs.PlaceableHeader.{has_other_fields, placeable_file}
 use Rattle.meta_headers.specs.PlainHeader.{plain_with}
 use Rattle.meta_headers.specs.declared.opened.FileFormat.TheVariants.{Placeable, Plain, Emf}
 
@@ -97,3 +97,37 @@ empty = refl
 key_alone : opened (0xd7 ∷ 0xcd ∷ 0xc6 ∷ 0x9a ∷ []) ≡ Err ShortHeader
 unfolding opened file_limit
 key_alone = refl
+
+-- a header of 18 bytes and an end of 6 are 12 words
+abbrev plain_header : ℕ → List ℕ
+plain_header words = 1 ∷ 0 ∷ 9 ∷ 0 ∷ 0 ∷ 3 ∷ words ∷ 0 ∷ 0 ∷ 0 ∷ 0 ∷ 0 ∷ 0 ∷ 0 ∷ 0 ∷ 0 ∷ 0 ∷ 0 ∷ 3 ∷ 0 ∷ 0 ∷ 0 ∷ 0 ∷ 0 ∷ []
+
+same_size : has_other_size (plain_header 12) 0 ≡ false
+same_size = refl
+
+other_size : has_other_size (plain_header 24) 0 ≡ true
+other_size = refl
+
+-- the smallest EMF file has its size, and not with a byte more
+same_bytes : has_other_bytes nil_emf ≡ false
+same_bytes = refl
+
+other_bytes : has_other_bytes (nil_emf ++ 0 ∷ []) ≡ true
+other_bytes = refl
+
+-- a handle that isn't 0, and a reserved field that isn't
+handle : has_other_fields (replicate 4 0 ++ 1 ∷ 0 ∷ [] ++ replicate 14 0) ≡ true
+handle = refl
+
+reserved : has_other_fields (replicate 19 0 ++ 1 ∷ []) ≡ true
+reserved = refl
+
+neither : has_other_fields (replicate 20 0) ≡ false
+neither = refl
+
+-- the start of a plain file of 4 by 3 whose x grows to the left, and of an EMF file whose bounds begin at (5, 6)
+left_extents : (plain_map (record { x = negsuc 3; y = pos 3 })).x ≡ record { window_origin = pos 0; window_extent = negsuc 3; viewport_origin = pos 0; viewport_extent = pos 4; corner = pos 0 }
+left_extents = refl
+
+corner_6 : (unscaled_map (record { x = pos 5; y = pos 6 })).y ≡ record { window_origin = pos 0; window_extent = pos 1; viewport_origin = pos 0; viewport_extent = pos 1; corner = pos 6 }
+corner_6 = refl

@@ -44,7 +44,7 @@ opened_emf file = record {
   frame_height = bounds_height file;
   map = unscaled_map (xy_at file 8);
   handles = Some (number_at file 56 2);
-  notes = noted_where (has_other_bytes file) SizeField no_notes;
+  notes = noted_where (has_other_bytes file) no_notes SizeField;
 }
 
 -- a header may have this size

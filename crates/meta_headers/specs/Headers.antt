@@ -41,6 +41,6 @@ abbrev pub has_other_size : List ℕ → ℕ → Bool
 has_other_size file place = not (2 * number_at file (place + 6) 4 == length (drop place file))
 
 -- a kind of note where something holds
-abbrev pub noted_where : Bool → Note → List ℕ → List ℕ
-noted_where false note notes = notes
-noted_where true note notes = noted notes note
+abbrev pub noted_where : Bool → List ℕ → Note → List ℕ
+noted_where false notes note = notes
+noted_where true notes note = noted notes note

@@ -38,8 +38,8 @@ has_other_fields file = not (number_at file 4 2 == 0) || not (number_at file 16 
 -- what is noted of both headers
 abbrev pub placeable_notes : List ℕ → List ℕ
 placeable_notes file =
-    noted_where (has_other_size file 22) SizeField
-    (noted_where (has_other_fields file) PlaceableFields (noted_where (has_other_checksum file) PlaceableChecksum no_notes))
+    noted_where (has_other_size file 22)
+    (noted_where (has_other_fields file) (noted_where (has_other_checksum file) no_notes PlaceableChecksum) PlaceableFields) SizeField
 
 -- the frame is as large as the box, and the box is the window at the start
 abbrev pub opened_placeable : List ℕ → OpenedValue

@@ -22,7 +22,7 @@ opened_plain file extent = record {
   frame_height = unsigned_abs extent.1;
   map = plain_map (record { x = extent.0; y = extent.1 });
   handles = None;
-  notes = noted_where (has_other_size file 0) SizeField no_notes;
+  notes = noted_where (has_other_size file 0) no_notes SizeField;
 }
 
 -- without a usable extent the file's size isn't known

@@ -56,7 +56,7 @@ pub(crate) fn open_emf(file: &[u8]) -> Result<Opened<'_>, Fault>
         frame,
         start_map: PageMap::unscaled(xy_at(file, 8)),
         handles: Some(u16_at(file, 56)),
-        notes: noted_where(has_other_bytes(file), Note::SizeField, NoteSet::none()),
+        notes: noted_where(has_other_bytes(file), NoteSet::none(), Note::SizeField),
         records: file,
     })
 }

@@ -6,7 +6,7 @@
 //!   `opened`).
 //! - An opened file's source has what its records mean, from record 0 on (`Opened::source`, by
 //!   `HasContentOf`).
-//! - No call takes memory: the records are a part of the file.
+//! - No call is handed an allocator: the records are a part of the file.
 #![tactic(auto)]
 
 mod emf_header;

@@ -7,8 +7,8 @@ ghost use Rattle.meta_headers.specs.Headers.{noted_where};
 use draw_ops::{Note, NoteSet};
 
 /// The notes, and one kind more where something holds.
-pub(crate) fn noted_where(holds: bool, note: Note, notes: NoteSet) -> NoteSet
-    ensures { notes_in result ≡ noted_where holds note (notes_in notes) }
+pub(crate) fn noted_where(holds: bool, notes: NoteSet, note: Note) -> NoteSet
+    ensures { notes_in result ≡ noted_where holds (notes_in notes) note }
 {
     if holds { notes.with(note) } else { notes }
 }

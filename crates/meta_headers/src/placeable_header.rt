@@ -116,11 +116,11 @@ fn notes(file: &[u8]) -> NoteSet
 {
     let notes = noted_where(
         has_other_checksum(file),
-        Note::PlaceableChecksum,
         NoteSet::none(),
+        Note::PlaceableChecksum,
     );
-    let notes = noted_where(has_other_fields(file), Note::PlaceableFields, notes);
-    noted_where(has_other_size(file, HEADER_PLACE), Note::SizeField, notes)
+    let notes = noted_where(has_other_fields(file), notes, Note::PlaceableFields);
+    noted_where(has_other_size(file, HEADER_PLACE), notes, Note::SizeField)
 }
 
 /// Whether the checksum isn't that of the ten words before it.

@@ -50,7 +50,7 @@ pub(crate) fn open_plain(file: &[u8]) -> Result<Opened<'_>, Fault>
         frame,
         start_map: PageMap::plain(sides),
         handles: None,
-        notes: noted_where(has_other_size(file, 0), Note::SizeField, NoteSet::none()),
+        notes: noted_where(has_other_size(file, 0), NoteSet::none(), Note::SizeField),
         records,
     })
 }

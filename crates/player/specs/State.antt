@@ -71,7 +71,7 @@ start_dc map = record {
   clip = unclipped;
 }
 
--- the state before the first record of a file that starts with this map
+-- the state before the first record of a file that starts with this map, and may use so many object indexes, if it says so
 abbrev pub start_state : MapNumbers → Option ℕ → State
 start_state map handles = record { dc = start_dc map; slots = []; table_kind = table_kind_of handles; saved = []; path = None }
 

@@ -12,7 +12,7 @@ ghost use Rattle.player.specs.OperationFault.{off_plane_fault};
 use draw_ops::Fault;
 use mapping::{PageMap, Place, Point};
 
-/// A page map, and the surface on which its plane is shown.
+/// The start of a file, placed: its page map, its count of object indexes, and the surface.
 #[derive(Clone, Copy, Debug, PartialEq, Eq)]
 pub(crate) struct PlacedMap {
     /// The page map, which no record changes so far.

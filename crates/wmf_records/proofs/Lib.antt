@@ -1,2 +1,3 @@
 pub mod ExtentLemmas
 pub mod WorkedRows
+pub mod WorkedKinds

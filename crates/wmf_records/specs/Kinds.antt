@@ -1,15 +1,15 @@
 -- Which records of WMF are played, which are skipped, and which are refused, by their functions ([MS-WMF] 2.1.1.1).
 use Rattle.std.specs.Prelude.{ℕ, List, [], ◌∷◌, ◌++◌, map, Option}
 use Rattle.draw_ops.specs.KindTable.{row_of}
-use Rattle.wmf_records.specs.declared.kind.WmfKind.{WmfKind}
-use Rattle.wmf_records.specs.declared.kind.WmfKind.TheVariants.{Eof, LineTo, Polyline, Polygon, PolyPolygon, Rectangle, SetPixel, CreateBrushIndirect, CreateFontIndirect, CreatePalette, CreatePenIndirect, DeleteObject, SelectObject, SelectPalette, ExcludeClipRect, IntersectClipRect, MoveTo, OffsetViewportOrg, OffsetWindowOrg, RestoreDc, SaveDc, SetBkColor, SetBkMode, SetLayout, SetMapMode, SetPolyFillMode, SetRop2, SetViewportExt, SetViewportOrg, SetWindowExt, SetWindowOrg, Skipped, Refused}
+use Rattle.wmf_records.specs.declared.entry.WmfEntry.{WmfEntry}
+use Rattle.wmf_records.specs.declared.entry.WmfEntry.TheVariants.{Eof, LineTo, Polyline, Polygon, PolyPolygon, Rectangle, SetPixel, CreateBrushIndirect, CreateFontIndirect, CreatePalette, CreatePenIndirect, DeleteObject, SelectObject, SelectPalette, ExcludeClipRect, IntersectClipRect, MoveTo, OffsetViewportOrg, OffsetWindowOrg, RestoreDc, SaveDc, SetBkColor, SetBkMode, SetLayout, SetMapMode, SetPolyFillMode, SetRop2, SetViewportExt, SetViewportOrg, SetWindowExt, SetWindowOrg, Skipped, Refused}
 
 -- the record that is without effect on a condition
-abbrev pub wmf_conditional : List (ℕ × WmfKind)
+abbrev pub wmf_conditional : List (ℕ × WmfEntry)
 wmf_conditional = (0x0149, SetLayout) ∷ []
 
 -- the records that are played
-abbrev pub wmf_played : List (ℕ × WmfKind)
+abbrev pub wmf_played : List (ℕ × WmfEntry)
 wmf_played =
     (0x0000, Eof) ∷
     (0x0213, LineTo) ∷ (0x0325, Polyline) ∷ (0x0324, Polygon) ∷ (0x0538, PolyPolygon) ∷ (0x041b, Rectangle) ∷ (0x041f, SetPixel) ∷
@@ -29,7 +29,7 @@ abbrev pub wmf_refused : List ℕ
 wmf_refused = 0x0220 ∷ 0x0228 ∷ 0x0410 ∷ 0x0412 ∷ 0x0418 ∷ 0x0419 ∷ 0x0429 ∷ 0x0521 ∷ 0x0548 ∷ 0x061c ∷ 0x0817 ∷ 0x081a ∷ 0x0830 ∷ 0x0922 ∷ 0x0a32 ∷ 0x0b23 ∷ 0x0d33 ∷ 0x012a ∷ 0x012b ∷ 0x012c ∷ 0x01f9 ∷ 0x06ff ∷ []
 
 -- what is done with the records of each function
-abbrev pub wmf_kinds : List (ℕ × WmfKind)
+abbrev pub wmf_kinds : List (ℕ × WmfEntry)
 wmf_kinds =
     wmf_played ++ wmf_conditional ++ map (λ function. (function, Skipped)) wmf_skipped
     ++ map (λ function. (function, Refused)) (wmf_bitmaps ++ wmf_refused)
@@ -39,5 +39,5 @@ abbrev pub wmf_functions : List ℕ
 wmf_functions = map (λ row. row.0) wmf_kinds
 
 -- what is done with a record of this function
-abbrev pub wmf_kind_of : ℕ → Option WmfKind
-wmf_kind_of function = row_of wmf_kinds function
+abbrev pub wmf_entry_of : ℕ → Option WmfEntry
+wmf_entry_of function = row_of wmf_kinds function

@@ -8,14 +8,14 @@ use Rattle.draw_ops.specs.declared.fault.Fault.{Fault}
 use Rattle.draw_ops.specs.declared.fault.Fault.TheVariants.{UnknownRecord, Unsupported}
 use Rattle.draw_ops.specs.declared.note.Note.TheVariants.{Skipped as NoteSkipped}
 use Rattle.wmf_records.specs.DrawingRecords.{line_to_record, poly_polygon_record, polygon_record, polyline_record, rectangle_record, set_pixel}
-use Rattle.wmf_records.specs.Kinds.{wmf_kind_of}
+use Rattle.wmf_records.specs.Kinds.{wmf_entry_of}
 use Rattle.wmf_records.specs.ObjectRecords.{create_brush_indirect, create_pen_indirect, created, index_record}
 use Rattle.wmf_records.specs.StateRecords.{exclude_clip_rect, intersect_clip_rect, point_record, restore_dc, set_bk_color, set_bk_mode, set_layout, set_map_mode_record, set_poly_fill_mode, set_rop2}
-use Rattle.wmf_records.specs.declared.kind.WmfKind.{WmfKind}
-use Rattle.wmf_records.specs.declared.kind.WmfKind.TheVariants.{Eof, LineTo, Polyline, Polygon, PolyPolygon, Rectangle, SetPixel, CreateBrushIndirect, CreateFontIndirect, CreatePalette, CreatePenIndirect, DeleteObject, SelectObject, SelectPalette, ExcludeClipRect, IntersectClipRect, MoveTo, OffsetViewportOrg, OffsetWindowOrg, RestoreDc, SaveDc, SetBkColor, SetBkMode, SetLayout, SetMapMode, SetPolyFillMode, SetRop2, SetViewportExt, SetViewportOrg, SetWindowExt, SetWindowOrg, Skipped, Refused}
+use Rattle.wmf_records.specs.declared.entry.WmfEntry.{WmfEntry}
+use Rattle.wmf_records.specs.declared.entry.WmfEntry.TheVariants.{Eof, LineTo, Polyline, Polygon, PolyPolygon, Rectangle, SetPixel, CreateBrushIndirect, CreateFontIndirect, CreatePalette, CreatePenIndirect, DeleteObject, SelectObject, SelectPalette, ExcludeClipRect, IntersectClipRect, MoveTo, OffsetViewportOrg, OffsetWindowOrg, RestoreDc, SaveDc, SetBkColor, SetBkMode, SetLayout, SetMapMode, SetPolyFillMode, SetRop2, SetViewportExt, SetViewportOrg, SetWindowExt, SetWindowOrg, Skipped, Refused}
 
--- what a record of each kind means, by its function and its bytes
-unfoldable pub wmf_record : WmfKind → ℕ → List ℕ → Result MeantValue Fault
+-- what a record with each entry means, by its function and its bytes
+unfoldable pub wmf_record : WmfEntry → ℕ → List ℕ → Result MeantValue Fault
 wmf_record Eof function bytes = Ok (unnoted no_effect)
 wmf_record LineTo function bytes = line_to_record bytes
 wmf_record Polyline function bytes = polyline_record bytes
@@ -51,10 +51,10 @@ wmf_record Skipped function bytes = Ok (noting NoteSkipped no_effect)
 wmf_record Refused function bytes = Err (Unsupported function)
 
 -- a function that the standard doesn't have is unknown
-abbrev pub wmf_record_if : Option WmfKind → Record → Result MeantValue Fault
+abbrev pub wmf_record_if : Option WmfEntry → Record → Result MeantValue Fault
 wmf_record_if None r = Err (UnknownRecord r.kind)
-wmf_record_if (Some kind) r = wmf_record kind r.kind r.bytes
+wmf_record_if (Some entry) r = wmf_record entry r.kind r.bytes
 
 -- by the record's function, wherever it stands in the file
 abbrev pub wmf_meaning : Meaning
-wmf_meaning number r = wmf_record_if (wmf_kind_of r.kind) r
+wmf_meaning number r = wmf_record_if (wmf_entry_of r.kind) r

@@ -20,7 +20,7 @@ pub fn first_extent(bytes: &[u8]) -> Option<(i16, i16)>
     let mut rest = bytes;
     let mut number = 0;
     loop {
-        let Ok(front) = first_record::<Wmf>(rest, number) else {
+        let Ok(front) = first_record::<Wmf>(number, rest) else {
             return None;
         };
         let extent = extent_in(&front);

@@ -7,17 +7,17 @@
 //! - Each record means one operation with its notes, or its first fault (`Wmf`, by `wmf_record`).
 //! - What is done with a function is said once (`kinds_law`).
 //! - The first usable extent of a file's window is the first of its records' (`first_extent`).
-//! - No call takes memory: points, counts and lists are parts of the file.
+//! - No call is handed an allocator: points, counts and lists are parts of the file.
 #![tactic(auto)]
 
 mod drawing_records;
+mod entry;
 mod extent;
 mod functions;
-mod kind;
 mod object_records;
 mod state_records;
 mod wmf;
 
+pub use entry::kinds_law;
 pub use extent::first_extent;
-pub use kind::{WmfKind, kinds_law};
 pub use wmf::{Wmf, WmfOps};

@@ -34,7 +34,7 @@ pub(crate) fn create_pen_indirect(bytes: &[u8]) -> Result<Meant<'_>, Fault>
     if bytes.len() < 16 {
         return Err(Fault::BadParams);
     }
-    let style = PenStyle::from_number(u32::from(u16_at(bytes, 6)));
+    let style = PenStyle::from_code(u32::from(u16_at(bytes, 6)));
     let colour = rgb_at(bytes, 12);
     pen_meant(None, style, is_wide(bytes, 8), colour)
 }

@@ -9,7 +9,7 @@ ghost use Rattle.wmf_records.specs.Wmf.{wmf_meaning, wmf_record};
 
 use crate::drawing_records::{line_to, poly_polygon, polygon, polyline, rectangle, set_pixel};
 use crate::functions::META_EOF;
-use crate::kind::{WmfKind, kind_of};
+use crate::entry::{WmfEntry, entry_of};
 use crate::object_records::{
     create_brush_indirect, create_pen_indirect, created, delete_object, select_object,
     select_palette,
@@ -58,52 +58,52 @@ impl Format for Wmf {
     }
 
     fn read(_number: u32, front: RawRecord<'_>) -> Result<Meant<'_>, Fault> {
-        match kind_of(front.kind) {
-            Some(kind) => record(kind, front.kind, front.bytes),
+        match entry_of(front.kind) {
+            Some(entry) => record(entry, front.kind, front.bytes),
             None => Err(Fault::UnknownRecord(front.kind)),
         }
     }
 }
 
-/// What a record of this kind means, or its first fault.
+/// What a record with this entry means, or its first fault.
 #[tactic(auto, unfolding(crate::specs::Wmf::wmf_record))]
-fn record(kind: WmfKind, function: u32, bytes: &[u8]) -> Result<Meant<'_>, Fault>
-    ensures value { wmf_record kind function bytes.entry.now ≡ result_map meant_of result }
+fn record(entry: WmfEntry, function: u32, bytes: &[u8]) -> Result<Meant<'_>, Fault>
+    ensures value { wmf_record entry function bytes.entry.now ≡ result_map meant_of result }
     ensures in_record { IfErr result IsInRecord }
 {
-    match kind {
-        WmfKind::Eof => Ok(Meant::unnoted(Op::NoEffect)),
-        WmfKind::LineTo => line_to(bytes),
-        WmfKind::Polyline => polyline(bytes),
-        WmfKind::Polygon => polygon(bytes),
-        WmfKind::PolyPolygon => poly_polygon(bytes),
-        WmfKind::Rectangle => rectangle(bytes),
-        WmfKind::SetPixel => set_pixel(bytes),
-        WmfKind::CreateBrushIndirect => create_brush_indirect(bytes),
-        WmfKind::CreateFontIndirect => created(Object::Font),
-        WmfKind::CreatePalette => created(Object::Palette),
-        WmfKind::CreatePenIndirect => create_pen_indirect(bytes),
-        WmfKind::DeleteObject => delete_object(bytes),
-        WmfKind::SelectObject => select_object(bytes),
-        WmfKind::SelectPalette => select_palette(bytes),
-        WmfKind::ExcludeClipRect => exclude_clip_rect(bytes),
-        WmfKind::IntersectClipRect => intersect_clip_rect(bytes),
-        WmfKind::MoveTo => move_to(bytes),
-        WmfKind::OffsetViewportOrg => offset_viewport_org(bytes),
-        WmfKind::OffsetWindowOrg => offset_window_org(bytes),
-        WmfKind::RestoreDc => restore_dc(bytes),
-        WmfKind::SaveDc => Ok(Meant::unnoted(Op::Save)),
-        WmfKind::SetBkColor => set_bk_color(bytes),
-        WmfKind::SetBkMode => set_bk_mode(bytes),
-        WmfKind::SetLayout => set_layout(bytes),
-        WmfKind::SetMapMode => set_map_mode(bytes),
-        WmfKind::SetPolyFillMode => set_poly_fill_mode(bytes),
-        WmfKind::SetRop2 => set_rop2(bytes),
-        WmfKind::SetViewportExt => set_viewport_ext(bytes),
-        WmfKind::SetViewportOrg => set_viewport_org(bytes),
-        WmfKind::SetWindowExt => set_window_ext(bytes),
-        WmfKind::SetWindowOrg => set_window_org(bytes),
-        WmfKind::Skipped => Ok(Meant::noting(Note::Skipped, Op::NoEffect)),
-        WmfKind::Refused => Err(Fault::Unsupported(function)),
+    match entry {
+        WmfEntry::Eof => Ok(Meant::unnoted(Op::NoEffect)),
+        WmfEntry::LineTo => line_to(bytes),
+        WmfEntry::Polyline => polyline(bytes),
+        WmfEntry::Polygon => polygon(bytes),
+        WmfEntry::PolyPolygon => poly_polygon(bytes),
+        WmfEntry::Rectangle => rectangle(bytes),
+        WmfEntry::SetPixel => set_pixel(bytes),
+        WmfEntry::CreateBrushIndirect => create_brush_indirect(bytes),
+        WmfEntry::CreateFontIndirect => created(Object::Font),
+        WmfEntry::CreatePalette => created(Object::Palette),
+        WmfEntry::CreatePenIndirect => create_pen_indirect(bytes),
+        WmfEntry::DeleteObject => delete_object(bytes),
+        WmfEntry::SelectObject => select_object(bytes),
+        WmfEntry::SelectPalette => select_palette(bytes),
+        WmfEntry::ExcludeClipRect => exclude_clip_rect(bytes),
+        WmfEntry::IntersectClipRect => intersect_clip_rect(bytes),
+        WmfEntry::MoveTo => move_to(bytes),
+        WmfEntry::OffsetViewportOrg => offset_viewport_org(bytes),
+        WmfEntry::OffsetWindowOrg => offset_window_org(bytes),
+        WmfEntry::RestoreDc => restore_dc(bytes),
+        WmfEntry::SaveDc => Ok(Meant::unnoted(Op::Save)),
+        WmfEntry::SetBkColor => set_bk_color(bytes),
+        WmfEntry::SetBkMode => set_bk_mode(bytes),
+        WmfEntry::SetLayout => set_layout(bytes),
+        WmfEntry::SetMapMode => set_map_mode(bytes),
+        WmfEntry::SetPolyFillMode => set_poly_fill_mode(bytes),
+        WmfEntry::SetRop2 => set_rop2(bytes),
+        WmfEntry::SetViewportExt => set_viewport_ext(bytes),
+        WmfEntry::SetViewportOrg => set_viewport_org(bytes),
+        WmfEntry::SetWindowExt => set_window_ext(bytes),
+        WmfEntry::SetWindowOrg => set_window_org(bytes),
+        WmfEntry::Skipped => Ok(Meant::noting(Note::Skipped, Op::NoEffect)),
+        WmfEntry::Refused => Err(Fault::Unsupported(function)),
     }
 }

@@ -2,7 +2,7 @@
 use Rattle.std.proofs.Common.{arith, sym}
 use Rattle.draw_ops.specs.KindTable.{IsAbsent, row_of_absent}
 use Rattle.wmf_records.specs.Kinds.{wmf_kinds}
-use Rattle.wmf_records.proofs.kind.kind_of.Goals as goal
+use Rattle.wmf_records.proofs.entry.entry_of.Goals as goal
 
 pub returns-in_default : goal.returns-in_default
 returns-in_default c =
