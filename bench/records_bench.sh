@@ -90,7 +90,8 @@ fn main(rt: HostRuntime) -> io::Result<()> {
     let mut bytes = Vec::new(rt.alloc());
     let mut input = rt.stdin();
     input.read_to_end(&mut bytes)?;
-    // EMF's first type here is below 256, and WMF's first size too: its function isn't.
+    // The byte at 5 is the high one of WMF's first function, which isn't 0, and one of EMF's first size, which is below
+    // 256.
     let is_emf = bytes.len() > 6 && bytes[5] == 0;
     let mut best_steps = u128::MAX;
     let mut best_heads = u128::MAX;

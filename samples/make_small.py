@@ -2,10 +2,8 @@
 """Makes three small metafiles beside this script: small.wmf and small.emf, of the same four pixels,
 and nil.emf, which draws nothing.
 
-At 4 by 4 small.emf shows a red, a green, a blue and a black pixel from corner to corner; nil.emf is
-white at any size. small.wmf is a plain WMF, whose frame is as large as its window extent: while
-window extents aren't played, `metaplay show` refuses it with `Unsupported 0 at record 0`, and from
-then on it shows what small.emf shows.
+At 4 by 4 small.wmf and small.emf show a red, a green, a blue and a black pixel from corner to corner;
+nil.emf is white at any size. small.wmf is a plain WMF, whose frame is as large as its window extent.
 """
 import pathlib
 import struct

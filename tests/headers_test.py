@@ -66,6 +66,10 @@ def pixel_at(x, y):
     return shown({(x, y): RED} if on_surface else {}, SIDE, SIDE)
 
 
+# Nothing drawn.
+WHITE = shown({}, SIDE, SIDE)
+
+
 def in_box(coordinate, start, end):
     """Where a coordinate lands on a surface that shows a box: its distance from the box's start,
     counted as the box runs and rounded down, scaled to the surface and rounded down."""
@@ -156,9 +160,6 @@ class PlainHeader(HeaderTest):
     """META_HEADER, [MS-WMF] 2.3.2.2, and the window's extent that gives a plain file its frame: the
     first META_SETWINDOWEXT that has both its numbers, and neither of them 0."""
 
-    # Interim: an extent isn't played, so a file that opens is refused at its first one.
-    OPENED = refused("Unsupported 0", 0)
-
     def dot(self, **changes):
         """A plain file with a frame, and fields of its header changed."""
         records = [window_extent(4, 4), wmf_pixel(2, 1, RED), WMF_END]
@@ -170,7 +171,7 @@ class PlainHeader(HeaderTest):
 
     @for_each_program
     def test_the_first_words_tell_the_format(self, program):
-        self.check_fields(program, self.dot, self.OPENED, {"type": [u16(1), u16(2)]})
+        self.check_fields(program, self.dot, pixel_at(10, 5), {"type": [u16(1), u16(2)]})
         fields = {
             "type": map(u16, (0, 3, 0x0101, 0x0102, 0xFFFF)),
             "header_size": map(u16, (0, 8, 10, 0x0109, 0xFFFF)),
@@ -180,7 +181,7 @@ class PlainHeader(HeaderTest):
     @for_each_program
     def test_there_are_two_versions(self, program):
         good = map(u16, (0x0100, 0x0300))
-        self.check_fields(program, self.dot, self.OPENED, {"version": good})
+        self.check_fields(program, self.dot, pixel_at(10, 5), {"version": good})
         bad = map(u16, (0, 1, 3, 0x00FF, 0x0101, 0x0200, 0x02FF, 0x0301, 0x0400))
         self.check_fields(program, self.dot, BAD_HEADER, {"version": bad})
 
@@ -189,7 +190,7 @@ class PlainHeader(HeaderTest):
         halves = [u16(0), u16(1), u16(0xFFFF)]
         words = [u32(0), u32(1), u32(0xFFFFFFFF)]
         fields = {"size": words, "objects": halves, "largest": words, "members": halves}
-        self.check_fields(program, self.dot, self.OPENED, fields)
+        self.check_fields(program, self.dot, pixel_at(10, 5), fields)
 
     @for_each_program
     def test_a_short_header_comes_before_a_bad_one_and_that_before_no_frame(self, program):
@@ -204,7 +205,9 @@ class PlainHeader(HeaderTest):
     def test_an_extent_without_a_0_is_the_frame(self, program):
         low, high = -32768, 32767
         for extent in [(1, 1), (-1, 1), (1, -1), (4, 4), (256, 256), (low, high), (high, low)]:
-            self.check_records(program, [window_extent(*extent), WMF_END], self.OPENED)
+            wanted = pixel_at(in_box(2, 0, extent[0]), in_box(1, 0, extent[1]))
+            records = [window_extent(*extent), wmf_pixel(2, 1, RED), WMF_END]
+            self.check_records(program, records, wanted)
 
     @for_each_program
     def test_an_extent_with_a_0_is_passed_over(self, program):
@@ -212,7 +215,9 @@ class PlainHeader(HeaderTest):
             without = window_extent(*extent)
             self.check_records(program, [without, WMF_END], NO_FRAME)
             self.check_records(program, [without, without, WMF_END], NO_FRAME)
-            self.check_records(program, [without, window_extent(4, 4), WMF_END], self.OPENED)
+            # Interim: it opens, and an extent that isn't the window's isn't played.
+            opened = refused("Unsupported 0", 0)
+            self.check_records(program, [without, window_extent(4, 4), WMF_END], opened)
 
     @for_each_program
     def test_an_extent_without_both_its_numbers_is_passed_over(self, program):
@@ -223,7 +228,7 @@ class PlainHeader(HeaderTest):
             self.check_records(program, [short, behind, WMF_END], NO_FRAME)
             opened = [short, behind, window_extent(4, 4), WMF_END]
             self.check_records(program, opened, refused("BadParams", 0))
-        self.check_records(program, [wmf_record(0x020C, i16(4, 4, 0)), WMF_END], self.OPENED)
+        self.check_records(program, [wmf_record(0x020C, i16(4, 4, 0)), WMF_END], WHITE)
 
     @for_each_program
     def test_no_other_record_gives_a_frame(self, program):
@@ -233,8 +238,8 @@ class PlainHeader(HeaderTest):
     @for_each_program
     def test_records_before_the_extent_are_not_read(self, program):
         for front, wanted in [
-            (wmf_pixel(2, 1, RED), refused("Unsupported 0", 1)),
-            (wmf_record(0x0626, i16(4, 4)), refused("Unsupported 0", 1)),
+            (wmf_pixel(2, 1, RED), pixel_at(10, 5)),
+            (wmf_record(0x0626, i16(4, 4)), WHITE),
             (wmf_record(0x0999), refused("UnknownRecord 2457", 0)),
             (wmf_record(0x0A32), refused("Unsupported 2610", 0)),
             (wmf_record(0x041F), refused("BadParams", 0)),
@@ -253,8 +258,8 @@ class PlainHeader(HeaderTest):
         extent = window_extent(4, 4)
         for size in (0, 2, 8, 9, 1 << 31, (1 << 31) + 3, (1 << 32) - 1):
             self.check_records(program, [wmf_record(0x0626, size=size), extent], NO_FRAME)
-        opened = refused("Unsupported 0", 1)
-        self.check_records(program, [wmf_record(0x0626, size=3), extent], opened)
+        opened = [wmf_record(0x0626, size=3), extent]
+        self.check_records(program, opened, refused("NoEnd", 2))
 
     @for_each_program
     def test_a_broken_extent_is_not_seen(self, program):
@@ -262,14 +267,13 @@ class PlainHeader(HeaderTest):
             self.check_records(program, [wmf_record(0x020C, i16(4, 4), size=size)], NO_FRAME)
         for length in range(1, 10):
             self.check_records(program, [window_extent(4, 4)[:length]], NO_FRAME)
-        self.check_records(program, [window_extent(4, 4)], self.OPENED)
+        self.check_records(program, [window_extent(4, 4)], refused("NoEnd", 1))
 
     @for_each_program
     def test_an_extent_is_seen_up_to_the_last_record_that_a_file_may_have(self, program):
         skipped = wmf_record(0x0626) * (RECORD_LIMIT - 1)
         extent = window_extent(4, 4)
-        last = refused("Unsupported 0", RECORD_LIMIT - 1)
-        self.check_records(program, [skipped, extent], last)
+        self.check_records(program, [skipped, extent], refused("TooManyRecords", RECORD_LIMIT))
         self.check_records(program, [skipped, wmf_record(0x0626), extent], NO_FRAME)
 
 
@@ -442,10 +446,12 @@ class OtherFiles(HeaderTest):
                 self.assertEqual(answer(program, ["show", file.name, "4", "4"]), wanted, length)
 
     @for_each_program
-    def test_the_samples_of_emf_are_shown(self, program):
+    def test_the_samples_are_shown(self, program):
         corners = {(0, 0): RED, (1, 1): (0, 255, 0), (2, 2): BLUE, (3, 3): (0, 0, 0)}
         small = answer(program, ["show", SAMPLES / "small.emf", "4", "4"])
         self.assertEqual(small, shown(corners))
+        plain = answer(program, ["show", SAMPLES / "small.wmf", "4", "4"])
+        self.assertEqual(plain, shown(corners))
         nil = answer(program, ["show", SAMPLES / "nil.emf", "2", "2"])
         self.assertEqual(nil, shown({}, 2, 2))
 
@@ -474,9 +480,6 @@ class Layout(NamedTuple):
             return SHORT_HEADER
         if self.framing is not None and length < self.ends()[self.framing]:
             return NO_FRAME
-        if self.framing is not None:
-            # Interim: the extent that gives the frame isn't played.
-            return refused("Unsupported 0", self.framing)
         whole = sum(end <= length for end in self.ends())
         begin = self.header + sum(self.records[:whole])
         fault = "NoEnd" if length < begin + self.head else "PastEnd"
@@ -518,7 +521,7 @@ class CutShort(HeaderTest):
 
     @for_each_program
     def test_the_whole_files_are_shown(self, program):
-        for given, _ in (PLACEABLE, ENHANCED, SMALLEST):
+        for given, _ in (PLACEABLE, PLAIN, ENHANCED, SMALLEST):
             self.check(program, given, pixel_at(10, 5))
         self.check(program, NIL[0], shown({}, SIDE, SIDE))
 
@@ -550,11 +553,11 @@ class CutShort(HeaderTest):
 
     @for_each_program
     def test_a_plain_file_cut_behind_its_extent(self, program):
-        # Interim: the extent's record is the first that is refused, wherever the cut is.
         for place in range(10):
             records = [PIXEL] * place + [window_extent(4, 4), PIXEL]
             given = plain_file(records)[: -place - 1]
-            self.check(program, given, refused("Unsupported 0", place), place)
+            fault = "PastEnd" if 14 - place - 1 >= 6 else "NoEnd"
+            self.check(program, given, refused(fault, place + 1), place)
 
 
 if __name__ == "__main__":

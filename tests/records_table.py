@@ -433,7 +433,8 @@ WMF_KINDS = [
         numbers("colour", colour, COLOURS),
     ),
     Kind(0x020B, "META_SETWINDOWORG", EFFECT, POINT),
-    Kind(0x020C, "META_SETWINDOWEXT", EFFECT, POINT),
+    # Setting the extent that the window has is without effect: here that of the box.
+    Kind(0x020C, "META_SETWINDOWEXT", EFFECT, POINT, [({"x": i16(4), "y": i16(4)}, {})]),
     Kind(0x020D, "META_SETVIEWPORTORG", EFFECT, POINT),
     Kind(0x020E, "META_SETVIEWPORTEXT", EFFECT, POINT),
     Kind(0x020F, "META_OFFSETWINDOWORG", EFFECT, POINT),
@@ -619,7 +620,8 @@ EMF_KINDS = [
     Kind(6, "EMR_POLYLINETO", EFFECT, ONE_LIST, emf_points(i32)),
     Kind(7, "EMR_POLYPOLYLINE", EFFECT, LISTS, emf_point_lists(i32)),
     Kind(8, "EMR_POLYPOLYGON", EFFECT, LISTS, emf_point_lists(i32)),
-    Kind(9, "EMR_SETWINDOWEXTEX", EFFECT, LONG_POINT),
+    # An EMF file starts with extents of 1.
+    Kind(9, "EMR_SETWINDOWEXTEX", EFFECT, LONG_POINT, [({"x": i32(1), "y": i32(1)}, {})]),
     Kind(10, "EMR_SETWINDOWORGEX", EFFECT, LONG_POINT),
     Kind(11, "EMR_SETVIEWPORTEXTEX", EFFECT, LONG_POINT),
     Kind(12, "EMR_SETVIEWPORTORGEX", EFFECT, LONG_POINT),

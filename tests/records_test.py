@@ -305,9 +305,10 @@ class Framing(unittest.TestCase):
     def test_plain_files_are_framed_as_placeable_ones(self, program):
         extent = window_extent(4, 4)
         for records, wanted in [
-            # Interim: an extent isn't played.
-            ([extent, WMF_END], refused("Unsupported 0", 0)),
-            ([wmf_pixel(1, 1, RED), extent, WMF_END], refused("Unsupported 0", 1)),
+            ([extent, WMF_END], shown({})),
+            ([wmf_pixel(1, 1, RED), extent, WMF_END], shown({(1, 1): RED})),
+            # Interim: another extent than the window's isn't played.
+            ([extent, window_extent(4, 5), WMF_END], refused("Unsupported 0", 1)),
             ([wmf_record(0x0999), extent, WMF_END], refused("UnknownRecord 2457", 0)),
             ([wmf_record(0x0626), wmf_record(0x0A32), extent], refused("Unsupported 2610", 1)),
             ([wmf_record(0x041F), extent], refused("BadParams", 0)),

@@ -17,7 +17,7 @@ pub enum Note {
     AfterEnd,
     /// A pen with dashes draws unbroken lines.
     DashedPen,
-    /// A pen wider than a pixel draws lines of one pixel.
+    /// A pen wider than a unit draws lines of one pixel.
     WidePen,
     /// An isotropic map is played as it is set, and no extent is adjusted.
     Isotropic,

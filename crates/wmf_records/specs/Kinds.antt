@@ -20,7 +20,7 @@ wmf_played =
 abbrev pub wmf_skipped : List ℕ
 wmf_skipped = 0x0035 ∷ 0x0037 ∷ 0x0105 ∷ 0x0107 ∷ 0x0108 ∷ 0x0139 ∷ 0x0209 ∷ 0x020a ∷ 0x012e ∷ 0x0231 ∷ 0x0436 ∷ 0x0626 ∷ []
 
--- the records that bring bitmaps, which are refused until bitmaps are read
+-- the records that bring bitmaps, or paint as those do, which are refused until bitmaps are read
 abbrev pub wmf_bitmaps : List ℕ
 wmf_bitmaps = 0x0142 ∷ 0x061d ∷ 0x0940 ∷ 0x0b41 ∷ 0x0f43 ∷ []
 

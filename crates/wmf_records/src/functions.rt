@@ -91,7 +91,8 @@ pub(crate) const META_ANIMATEPALETTE: u32 = 0x0436;
 
 pub(crate) const META_ESCAPE: u32 = 0x0626;
 
-// Records with bitmaps, 2.3.1, and META_DIBCREATEPATTERNBRUSH, 2.3.4.8: refused until bitmaps are read.
+// Records that bring bitmaps or mix them by ternary raster operations, 2.3.1, 2.3.3.12 and 2.3.4.8: refused until
+// bitmaps are read.
 pub(crate) const META_DIBCREATEPATTERNBRUSH: u32 = 0x0142;
 
 pub(crate) const META_PATBLT: u32 = 0x061d;
