@@ -2,7 +2,6 @@
 
 mod canvases;
 mod codes;
-mod emf_records;
 mod faults;
 mod headers;
 mod lists_of_points;
@@ -10,5 +9,6 @@ mod notes;
 mod places;
 mod playing;
 mod playing_on;
+mod records_of_emf;
+mod records_of_wmf;
 mod sources;
-mod wmf_records;
