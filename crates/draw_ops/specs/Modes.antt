@@ -1,5 +1,5 @@
 -- What a record means that sets a mode, by the mode's number.
-use Rattle.std.specs.Prelude.{ℕ, ◌&&◌, nat_le, if◌then◌else◌, List, Result, Ok, Err}
+use Rattle.std.specs.Prelude.{ℕ, ◌&&◌, nat_le, if◌then◌else◌, Result, Err}
 use Rattle.mapping.specs.MapMode.{map_mode_of}
 use Rattle.mapping.specs.declared.map_mode.MapMode.{MapMode}
 use Rattle.mapping.specs.declared.map_mode.MapMode.TheVariants.{Text, Isotropic, Anisotropic}

@@ -1,5 +1,5 @@
 -- Lists of points in a record.
-use Rattle.std.specs.Prelude.{ℕ, ◌*◌, nat_le, if◌then◌else◌, ◌==◌, List, length, drop, sum, Option, Some, None, Result, Err}
+use Rattle.std.specs.Prelude.{ℕ, ◌*◌, nat_le, if◌then◌else◌, ◌==◌, List, length, drop, sum, Option, Some, None}
 use Rattle.mapping.specs.declared.geometry.Point.{Point}
 use Rattle.point_views.specs.Counts.{counts_in}
 use Rattle.point_views.specs.Numbers.{number_size, point_size}

@@ -1,5 +1,5 @@
 -- Opening an EMF file: EMR_HEADER, [MS-EMF] 2.3.4.2, which is also its first record.
-use Rattle.std.specs.Prelude.{ℕ, zero, suc, ℤ, pos, negsuc, ◌+ℤ◌, ◌-ℤ◌, ◌%◌, Bool, ◌&&◌, ◌||◌, not, ◌==◌, nat_lt, nat_le, if◌then◌else◌, List, length, Some, Result, Ok, Err}
+use Rattle.std.specs.Prelude.{ℕ, zero, suc, ℤ, pos, negsuc, ◌+ℤ◌, ◌-ℤ◌, ◌%◌, Bool, ◌&&◌, not, ◌==◌, nat_lt, nat_le, if◌then◌else◌, List, length, Some, Result, Ok, Err}
 use Rattle.mapping.specs.Limits.{is_frame_side}
 use Rattle.mapping.specs.PageMap.{unscaled_map}
 use Rattle.point_views.specs.Numbers.{number_at, i32_at}

@@ -1,5 +1,4 @@
 -- The value of an opened file of the code.
-use Rattle.std.specs.Prelude.{ℕ, Option, Some, None}
 use Rattle.mapping.specs.PageMap.{map_numbers}
 use Rattle.draw_ops.specs.NoteSet.{notes_in}
 use Rattle.meta_headers.specs.Headers.{OpenedValue}

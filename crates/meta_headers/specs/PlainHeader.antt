@@ -1,7 +1,6 @@
 -- Opening a plain WMF file: META_HEADER, [MS-WMF] 2.3.2.2, of 18 bytes.
 use Rattle.std.specs.Prelude.{ℕ, ℤ, unsigned_abs, Bool, ◌&&◌, not, nat_lt, nat_le, if◌then◌else◌, List, length, drop, Option, Some, None, Result, Ok, Err}
 use Rattle.mapping.specs.PageMap.{plain_map}
-use Rattle.mapping.specs.declared.geometry.Point.{Point}
 use Rattle.draw_ops.specs.NoteCounts.{no_notes}
 use Rattle.draw_ops.specs.declared.fault.Fault.{Fault}
 use Rattle.draw_ops.specs.declared.fault.Fault.TheVariants.{ShortHeader, BadHeader, NoFrame}

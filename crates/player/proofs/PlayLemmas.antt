@@ -1,5 +1,5 @@
 -- What is said of an opened file's records is said of the file.
-use Rattle.std.proofs.Common.{◌≡◌, ℕ, ◌+◌, ◌-◌, ◌↔◌, arith, refl, true, false, List, IsSome, Option, Some, Result, Ok, sym, ap, subst, ◌∙◌}
+use Rattle.std.proofs.Common.{◌≡◌, ℕ, ◌+◌, ◌-◌, ◌↔◌, arith, refl, true, false, List, IsSome, Some, Result, Ok, sym, ap, subst, ◌∙◌}
 use Rattle.draw_ops.specs.Fault.{IsInRecord}
 use Rattle.draw_ops.specs.declared.fault.Fault.{Fault}
 use Rattle.draw_ops.specs.declared.fault.Fault.TheVariants.{OutOfMemory}

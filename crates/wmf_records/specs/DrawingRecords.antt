@@ -1,10 +1,7 @@
 -- What drawing records mean ([MS-WMF] 2.3.3).
 use Rattle.std.specs.Prelude.{ℕ, ◌+◌, ◌*◌, ℤ, pos, negsuc, List, [], ◌∷◌, sum, Option, Some, None, Result, Ok}
-use Rattle.std.specs.Option.{option_map}
-use Rattle.mapping.specs.declared.geometry.Colour.{Colour}
 use Rattle.mapping.specs.declared.geometry.Point.{Point}
 use Rattle.point_views.specs.Numbers.{number_at, i16_at}
-use Rattle.point_views.specs.Split.{split_by}
 use Rattle.point_views.specs.declared.numbers.NumberWidth.TheVariants.{Short}
 use Rattle.draw_ops.specs.Fields.{needs_bytes, rgb_at, turned_box_at, yx_at}
 use Rattle.draw_ops.specs.Meaning.{MeantValue, plain, unnoted}

@@ -8,8 +8,8 @@ ghost use Rattle.wmf_records.specs.Framing.{wmf_framing};
 ghost use Rattle.wmf_records.specs.Wmf.{wmf_meaning, wmf_record};
 
 use crate::drawing_records::{line_to, poly_polygon, polygon, polyline, rectangle, set_pixel};
-use crate::functions::META_EOF;
 use crate::entry::{WmfEntry, entry_of};
+use crate::functions::META_EOF;
 use crate::object_records::{
     create_brush_indirect, create_pen_indirect, created, delete_object, select_object,
     select_palette,
