@@ -21,12 +21,15 @@ line_to_record bytes = needs_bytes 16 bytes (Ok (unnoted (line_to (xy_at bytes 8
 abbrev pub point_list : NumberWidth → List ℕ → Result (List Point) Fault
 point_list width bytes = needs_bytes 28 bytes (value_or BadParams (points_at width (number_at bytes 24 4) bytes 28))
 
+-- EMR_POLYGON draws its points as one list
 abbrev pub polygon_record : NumberWidth → List ℕ → Result MeantValue Fault
 polygon_record width bytes = plain (λ points. polygon (points ∷ [])) (point_list width bytes)
 
+-- EMR_POLYLINE draws its points as one list
 abbrev pub polyline_record : NumberWidth → List ℕ → Result MeantValue Fault
 polyline_record width bytes = plain (λ points. polyline (points ∷ [])) (point_list width bytes)
 
+-- EMR_POLYLINETO goes on to its points
 abbrev pub polyline_to_record : NumberWidth → List ℕ → Result MeantValue Fault
 polyline_to_record width bytes = plain polyline_to (point_list width bytes)
 
@@ -39,9 +42,11 @@ lists_at width lists total bytes = lists_by (counts_at Long lists bytes 32) (poi
 abbrev pub point_lists : NumberWidth → List ℕ → Result (List (List Point)) Fault
 point_lists width bytes = needs_bytes 32 bytes (value_or BadParams (lists_at width (number_at bytes 24 4) (number_at bytes 28 4) bytes))
 
+-- EMR_POLYPOLYGON draws its lists together
 abbrev pub poly_polygon_record : NumberWidth → List ℕ → Result MeantValue Fault
 poly_polygon_record width bytes = plain polygon (point_lists width bytes)
 
+-- EMR_POLYPOLYLINE draws each of its lists
 abbrev pub poly_polyline_record : NumberWidth → List ℕ → Result MeantValue Fault
 poly_polyline_record width bytes = plain polyline (point_lists width bytes)
 

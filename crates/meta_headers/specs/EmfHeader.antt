@@ -25,10 +25,11 @@ at_least_1 (negsuc n) = 1
 abbrev pub bounds_side : ℤ → ℤ → ℕ
 bounds_side first last = at_least_1 (last -ℤ first +ℤ pos 1)
 
--- the frame's sides: the bounds have left, top, right and bottom
+-- the frame's width, by the bounds, which have left, top, right and bottom: from left to right
 abbrev pub bounds_width : List ℕ → ℕ
 bounds_width file = bounds_side (i32_at file 8) (i32_at file 16)
 
+-- and its height, from top to bottom
 abbrev pub bounds_height : List ℕ → ℕ
 bounds_height file = bounds_side (i32_at file 12) (i32_at file 20)
 

@@ -4,6 +4,7 @@ use Rattle.draw_ops.specs.NoteSet.{notes_in}
 use Rattle.meta_headers.specs.Headers.{OpenedValue}
 use Rattle.meta_headers.specs.declared.opened.Opened.{Opened}
 
+-- its parts, each by its value
 abbrev pub opened_of : Opened → OpenedValue
 opened_of o = record {
   format = o.format;

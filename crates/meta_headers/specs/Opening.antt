@@ -26,12 +26,13 @@ opened file =
     else (if is_emf file then emf_file file
     else (if is_plain file then plain_file file else Err NotMetafile)))
 
--- how the records of a format are framed, and what each means
+-- how the records of a format are framed
 abbrev pub framing_of : FileFormat → Framing
 framing_of Placeable = wmf_framing
 framing_of Plain = wmf_framing
 framing_of Emf = emf_framing
 
+-- and what each record of a format means
 abbrev pub meaning_of : FileFormat → Meaning
 meaning_of Placeable = wmf_meaning
 meaning_of Plain = wmf_meaning

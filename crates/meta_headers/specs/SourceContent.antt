@@ -3,6 +3,7 @@ use Rattle.draw_ops.specs.Content.{Content}
 use Rattle.meta_headers.specs.declared.source.Source.{Source}
 use Rattle.meta_headers.specs.declared.source.Source.TheVariants.{Wmf, Emf}
 
+-- that of the format it has
 abbrev pub source_content : Source → Content
 source_content (Wmf ops) = ops
 source_content (Emf ops) = ops

@@ -25,9 +25,11 @@ counted_points (negsuc n) bytes = None
 abbrev pub point_list : List ℕ → Result (List Point) Fault
 point_list bytes = needs_bytes 8 bytes (value_or BadParams (counted_points (i16_at bytes 6) bytes))
 
+-- META_POLYLINE draws its points as one list
 abbrev pub polyline_record : List ℕ → Result MeantValue Fault
 polyline_record bytes = plain (λ points. polyline (points ∷ [])) (point_list bytes)
 
+-- META_POLYGON draws its points as one list
 abbrev pub polygon_record : List ℕ → Result MeantValue Fault
 polygon_record bytes = plain (λ points. polygon (points ∷ [])) (point_list bytes)
 

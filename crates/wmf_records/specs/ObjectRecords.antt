@@ -26,5 +26,6 @@ created object = unnoted (create None object)
 abbrev pub index_in : List ℕ → Result ℕ Fault
 index_in bytes = needs_bytes 8 bytes (Ok (number_at bytes 6 2))
 
+-- each of them makes its operation of the index
 abbrev pub index_record : (ℕ → Operation) → List ℕ → Result MeantValue Fault
 index_record make bytes = plain make (index_in bytes)

@@ -14,6 +14,7 @@ use Rattle.draw_ops.specs.declared.note.Note.TheVariants.{Skipped as NoteSkipped
 abbrev pub exclude_clip_rect : List ℕ → Result MeantValue Fault
 exclude_clip_rect bytes = needs_bytes 14 bytes (Ok (unnoted (exclude_clip (turned_box_at bytes 6))))
 
+-- the same, kept in place of cut out
 abbrev pub intersect_clip_rect : List ℕ → Result MeantValue Fault
 intersect_clip_rect bytes = needs_bytes 14 bytes (Ok (unnoted (intersect_clip (turned_box_at bytes 6))))
 
@@ -21,6 +22,7 @@ intersect_clip_rect bytes = needs_bytes 14 bytes (Ok (unnoted (intersect_clip (t
 abbrev pub point_in : List ℕ → Result Point Fault
 point_in bytes = needs_bytes 10 bytes (Ok (yx_at bytes 6))
 
+-- each of them makes its operation of the point
 abbrev pub point_record : (Point → Operation) → List ℕ → Result MeantValue Fault
 point_record make bytes = plain make (point_in bytes)
 
@@ -36,12 +38,15 @@ set_bk_color bytes = needs_bytes 10 bytes (plain set_background_colour (rgb_at b
 abbrev pub set_bk_mode : List ℕ → Result MeantValue Fault
 set_bk_mode bytes = needs_bytes 8 bytes (background_mode_meant (number_at bytes 6 2))
 
+-- the same of the map mode
 abbrev pub set_map_mode_record : List ℕ → Result MeantValue Fault
 set_map_mode_record bytes = needs_bytes 8 bytes (map_mode_meant (number_at bytes 6 2))
 
+-- the same of the fill mode
 abbrev pub set_poly_fill_mode : List ℕ → Result MeantValue Fault
 set_poly_fill_mode bytes = needs_bytes 8 bytes (fill_mode_meant (number_at bytes 6 2))
 
+-- the same of the binary raster operation
 abbrev pub set_rop2 : List ℕ → Result MeantValue Fault
 set_rop2 bytes = needs_bytes 8 bytes (raster_op_meant (number_at bytes 6 2))
 
