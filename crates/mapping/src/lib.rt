@@ -8,6 +8,8 @@
 //!   (`PageMap::plane`, by `plane_coordinate`; `floor_division_law` says what floor means).
 //! - A point leaves the plane, or doesn't fit a surface, exactly where a limit says so
 //!   (`PageMap::plane`, `Place::fits`).
+//! - The maps at the start of a placeable, a plain WMF and an EMF file are those that their headers define
+//!   (`PageMap::placeable`, `plain`, `unscaled`).
 //! - Each test of a limit holds exactly where the limit does (`limits_law`).
 //!
 //! Nothing here is made for memory to be taken: the values are numbers. No contract says so, and a test

@@ -11,6 +11,7 @@
 //! - A view is refused exactly where bytes are missing (`Points::new16`, `Points::new32`,
 //!   `Counts::new16`, `Counts::new32`), or where the counts don't add up to the number of points
 //!   (`Polys::new`).
+//! - `Counts::sum_within` is the counts' sum, and none exactly where it is above a limit.
 //!
 //! A view is a slice of the file and a few numbers, so no point is copied and no memory is taken; no
 //! contract says so.
