@@ -1,0 +1,49 @@
+-- A table's objects: a finite map from index to object.
+use Rattle.std.specs.Prelude.{◌≡◌, ⊤, ℕ, suc, ◌<◌, ◌≤◌, ◌==◌, Bool, if◌then◌else◌, List, [], ◌∷◌, Option, None, IsSome, is_some}
+use Rattle.std.specs.BTreeMap.{insert_entry}
+use Rattle.std.specs.Map.{lookup, remove_entry}
+use Rattle.std.specs.Ordering.{nat_cmp}
+use Rattle.draw_ops.specs.Objects.{ObjectValue}
+
+-- the objects with their indexes, in the order of these, and each index once
+abbrev pub Slots : Type 0
+Slots = List (ℕ × ObjectValue)
+
+-- the indexes are in order, each once, and none is below k
+abbrev pub IsInOrderFrom : ℕ → Slots → Type 0
+IsInOrderFrom k [] = ⊤
+IsInOrderFrom k (slot ∷ slots) = (k ≤ slot.0) × IsInOrderFrom (suc slot.0) slots
+
+-- the indexes are in order, each once
+abbrev pub IsInOrder : Slots → Type 0
+IsInOrder slots = IsInOrderFrom 0 slots
+
+-- the object at an index, if there is one
+abbrev pub object_at : ℕ → Slots → Option ObjectValue
+object_at index slots = lookup (λ k. index == k) slots
+
+-- an object has this index
+abbrev pub is_taken : ℕ → Slots → Bool
+is_taken index slots = is_some (object_at index slots)
+
+-- with this object at an index that was free
+abbrev pub with_object : ℕ → ObjectValue → Slots → Slots
+with_object index object slots = insert_entry nat_cmp slots index object
+
+-- without the object at an index
+abbrev pub without_object : ℕ → Slots → Slots
+without_object index slots = remove_entry (λ k. index == k) slots
+
+-- the least number, from k on, that the indexes leave out: they are in order, and none is below k
+abbrev pub left_out_from : ℕ → Slots → ℕ
+left_out_from k [] = k
+left_out_from k (slot ∷ slots) = if slot.0 == k then left_out_from (suc k) slots else k
+
+-- the least index that is free
+abbrev pub lowest_free : Slots → ℕ
+lowest_free slots = left_out_from 0 slots
+
+-- the index is free, and each below it is taken
+pub record IsLowestFree (index : ℕ) (slots : Slots) : Type 0 where
+  pub free : object_at index slots ≡ None
+  pub taken_below : (other : ℕ) → other < index → IsSome (object_at other slots)

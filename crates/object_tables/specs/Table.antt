@@ -1,0 +1,61 @@
+-- How objects come into a table and leave it.
+use Rattle.std.specs.Prelude.{◌≡◌, ℕ, ◌≤◌, nat_le, nat_lt, Bool, ◌&&◌, if◌then◌else◌, length, Option, Some, None, ◌⊎◌}
+use Rattle.std.specs.Option.{unwrap_or}
+use Rattle.draw_ops.specs.Objects.{ObjectValue}
+use Rattle.draw_ops.specs.declared.fault.Fault.{Fault}
+use Rattle.draw_ops.specs.declared.fault.Fault.TheVariants.{HandleTaken, NoSuchHandle, OutOfMemory, TableFull}
+use Rattle.object_tables.specs.Slots.{IsInOrder, IsLowestFree, Slots, is_taken, lowest_free, with_object}
+
+-- Which index a new object gets: the least that is free, whatever its record says (WMF), or the one that its record gives, from 1 up
+-- to below this limit (EMF).
+pub data TableKind : Type 0 where
+  by_lowest_free : TableKind
+  by_given_index : ℕ → TableKind
+
+-- how many objects a table by the lowest free index has at most
+abbrev pub slot_limit : ℕ
+slot_limit = 1024
+
+-- an index that EMF records may give: 0 is that of the file itself ([MS-EMF] 3.1.1.1)
+abbrev pub may_be_given : ℕ → ℕ → Bool
+may_be_given limit index = nat_le 1 index && nat_lt index limit
+
+-- the fault of making an object at the index that its record gives, where indexes are below a limit
+abbrev given_fault : ℕ → Option ℕ → Slots → Option Fault
+given_fault limit None slots = Some NoSuchHandle
+given_fault limit (Some index) slots =
+    if may_be_given limit index then (if is_taken index slots then Some HandleTaken else None) else Some NoSuchHandle
+
+-- the fault of making an object
+abbrev pub create_fault : TableKind → Option ℕ → Slots → Option Fault
+create_fault by_lowest_free at slots = if nat_lt (length slots) slot_limit then None else Some TableFull
+create_fault (by_given_index limit) at slots = given_fault limit at slots
+
+-- the index of a new object
+abbrev pub created_index : TableKind → Option ℕ → Slots → ℕ
+created_index by_lowest_free at slots = lowest_free slots
+created_index (by_given_index limit) at slots = unwrap_or at 0
+
+-- an object was made: nothing speaks against it, and it is at its index
+pub record HasCreated (kind : TableKind) (at : Option ℕ) (object : ObjectValue) (old : Slots) (made : ℕ) (new : Slots) : Type 0 where
+  pub no_fault : create_fault kind at old ≡ None
+  pub index : made ≡ created_index kind at old
+  pub slots : new ≡ with_object (created_index kind at old) object old
+
+-- memory for an object was refused, though nothing else speaks against it: there is no room at its index
+pub record WantsSlot (kind : TableKind) (at : Option ℕ) (slots : Slots) (room : ℕ) (fault : Fault) : Type 0 where
+  pub no_fault : create_fault kind at slots ≡ None
+  pub no_room : room ≤ created_index kind at slots
+  pub memory : fault ≡ OutOfMemory
+
+-- an object isn't made: by the first fault, or for want of memory
+abbrev pub RefusesCreate : TableKind → Option ℕ → Slots → ℕ → Fault → Type 0
+RefusesCreate kind at slots room fault = create_fault kind at slots ≡ Some fault ⊎ WantsSlot kind at slots room fault
+
+-- the fault of taking an object out
+abbrev pub remove_fault : ℕ → Slots → Option Fault
+remove_fault index slots = if is_taken index slots then None else Some NoSuchHandle
+
+-- the least free index of slots in order is free, and each below it is taken
+abbrev pub LowestFreeIsLeast : Type 0
+LowestFreeIsLeast = (slots : Slots) → IsInOrder slots → IsLowestFree (lowest_free slots) slots

@@ -1,0 +1,78 @@
+//! The table of EMF: an object gets the index that its record gives.
+
+ghost use Rattle.std.specs.Prelude.{◌≡◌, []};
+ghost use Rattle.object_tables.specs.Table.{by_given_index};
+
+use crate::store::Store;
+use crate::table::{Contents, Table};
+use draw_ops::{Fault, Handle, Object};
+use std::alloc::Global;
+use std::marker::Model;
+
+/// A table in which a new object gets the index that its record gives ([MS-EMF] 3.1.1.1), from 1 up to
+/// below the count of indexes that the file's header gives.
+#[derive(Debug, Drop)]
+pub struct Given<'a> {
+    store: Store<'a>,
+    handles: u16,
+}
+
+impl<'a> Model for Given<'a> {
+    ghost use Rattle.object_tables.specs.Given.{GivenState};
+
+    ghost Value = { GivenState };
+
+    ghost view = { λ table. record { slots = table.store.slots; room = table.store.room; handles = table.handles } };
+}
+
+impl<'a> Given<'a> {
+    /// A table without objects, whose indexes are below `handles`. No memory is taken.
+    pub fn new(alloc: Global, handles: u16) -> Given<'a>
+        ensures slots { result.slots ≡ [] }
+        ensures handles { result.handles ≡ handles }
+    {
+        Given {
+            store: Store::new(alloc),
+            handles,
+        }
+    }
+}
+
+impl<'a> Contents for Given<'a> {
+    ghost slots = { λ table. table.slots };
+
+    ghost kind = { λ table. by_given_index table.handles };
+
+    ghost room = { λ table. table.room };
+}
+
+impl<'a> Table<'a> for Given<'a> {
+    fn create(&mut self, at: Option<Handle>, object: Object<'a>) -> Result<Handle, Fault> {
+        let Some(handle) = at else {
+            return Err(Fault::NoSuchHandle);
+        };
+        if handle.0 == 0 || handle.0 >= u32::from(self.handles) {
+            return Err(Fault::NoSuchHandle);
+        }
+        if self.store.is_taken(handle) {
+            return Err(Fault::HandleTaken);
+        }
+        self.store.put(handle.0, object)
+    }
+
+    fn get(&self, handle: Handle) -> Result<Object<'a>, Fault> {
+        self.store.get(handle)
+    }
+
+    fn remove(&mut self, handle: Handle) -> Result<(), Fault> {
+        self.store.remove(handle)
+    }
+
+    fn clear(&mut self) {
+        self.store.clear();
+    }
+
+    fn reserve(&mut self, slots: usize) -> Result<(), Fault> {
+        self.store.reserve(slots)
+    }
+}

@@ -1,0 +1,77 @@
+//! The table of WMF: an object gets the least free index.
+
+ghost use Rattle.std.specs.Prelude.{◌≡◌, []};
+ghost use Rattle.object_tables.specs.Table.{by_lowest_free};
+
+use crate::store::Store;
+use crate::table::{Contents, Table};
+use draw_ops::{Fault, Handle, Object};
+use std::alloc::Global;
+use std::marker::Model;
+
+/// How many objects there are at most.
+const SLOT_LIMIT: usize = 1024;
+
+/// A table in which a new object gets the least free index ([MS-WMF] 3.1.4.1), whatever its record
+/// says: at most 1,024 objects at a time.
+#[derive(Debug, Drop)]
+pub struct LowestFree<'a> {
+    store: Store<'a>,
+}
+
+impl<'a> Model for LowestFree<'a> {
+    ghost use Rattle.object_tables.specs.Store.{StoreState};
+    ghost use Rattle.std.specs.Prelude.{◌≤◌};
+    ghost use Rattle.object_tables.specs.Table.{slot_limit};
+
+    ghost Value = { StoreState };
+
+    ghost view = { λ table. table.store };
+
+    ghost invariant = { λ table. table.store.places ≤ slot_limit };
+}
+
+impl<'a> LowestFree<'a> {
+    /// A table without objects. No memory is taken.
+    pub fn new(alloc: Global) -> LowestFree<'a>
+        ensures { result.slots ≡ [] }
+    {
+        LowestFree {
+            store: Store::new(alloc),
+        }
+    }
+}
+
+impl<'a> Contents for LowestFree<'a> {
+    ghost slots = { λ table. table.slots };
+
+    ghost kind = { λ table. by_lowest_free };
+
+    ghost room = { λ table. table.room };
+}
+
+impl<'a> Table<'a> for LowestFree<'a> {
+    fn create(&mut self, at: Option<Handle>, object: Object<'a>) -> Result<Handle, Fault> {
+        let index = self.store.lowest_free();
+        if index >= SLOT_LIMIT {
+            return Err(Fault::TableFull);
+        }
+        self.store.put(index as u32, object)
+    }
+
+    fn get(&self, handle: Handle) -> Result<Object<'a>, Fault> {
+        self.store.get(handle)
+    }
+
+    fn remove(&mut self, handle: Handle) -> Result<(), Fault> {
+        self.store.remove(handle)
+    }
+
+    fn clear(&mut self) {
+        self.store.clear();
+    }
+
+    fn reserve(&mut self, slots: usize) -> Result<(), Fault> {
+        self.store.reserve(slots)
+    }
+}
