@@ -1,3 +1,4 @@
 pub mod FloorLemmas
 pub mod LimitLemmas
+pub mod PlacingLemmas
 pub mod WorkedRows

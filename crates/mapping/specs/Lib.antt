@@ -8,3 +8,5 @@ pub mod PageMap
 pub mod Image
 pub mod Colours
 pub mod PlaceOf
+pub mod MapSettings
+pub mod PlacingLaws

@@ -10,7 +10,15 @@
 //!   (`PageMap::plane`, `Place::fits`).
 //! - The maps at the start of a placeable, a plain WMF and an EMF file are those that their headers define
 //!   (`PageMap::placeable`, `plain`, `unscaled`).
+//! - A record that sets the mode, an origin or an extent, or moves an origin, leaves the map that its rule
+//!   says, and the very same map where it is refused (`PageMap::set_mode`, `set_window_origin`,
+//!   `set_viewport_origin`, `set_window_extent`, `set_viewport_extent`, `offset_window_origin`,
+//!   `offset_viewport_origin`).
+//! - An extent is refused exactly where it is to be set and is 0 on an axis, and a moved origin exactly where
+//!   a coordinate of it isn't a number of 32 bits (the clauses `test` of the same).
 //! - Each test of a limit holds exactly where the limit does (`limits_law`).
+//! - Placing keeps the order of coordinates, and a point that lands within the limits on a surface does so on
+//!   each that is no larger and shows a frame of the same sides (`placing_law`).
 //!
 //! Nothing here is made for memory to be taken: the values are numbers. No contract says so, and a test
 //! over the built program counts its calls for memory.
@@ -19,13 +27,16 @@
 mod floor;
 mod geometry;
 mod limits;
+mod map_error;
 mod map_mode;
+mod map_settings;
 mod page_map;
 mod place;
 
 pub use floor::floor_division_law;
 pub use geometry::{Colour, Frame, Point, Rect};
 pub use limits::{MAX_FRAME_SIDE, MAX_SURFACE_SIDE, limits_law};
+pub use map_error::{OffPlane, ZeroExtent};
 pub use map_mode::MapMode;
 pub use page_map::{PageAxis, PageMap};
-pub use place::Place;
+pub use place::{Place, placing_law};

@@ -3,6 +3,7 @@
 ghost use Rattle.std.specs.Prelude.{◌≡◌, ◌≤◌, ◌↔◌, IsTrue, SomeIff, is_some};
 ghost use Rattle.mapping.specs.Limits.{IsSurfaceSide, is_within, place_limit, surface_side_limit};
 ghost use Rattle.mapping.specs.Surface.{placed, FitsPlace, IsPlaceCoordinate, fits_place, placed_point};
+ghost use Rattle.mapping.specs.PlacingLaws.{PlacingLaws};
 
 use crate::geometry::{Frame, Point};
 use crate::limits::PLACE_LIMIT;
@@ -107,3 +108,9 @@ fn axis_at(coordinate: i32, surface_side: u32, frame_side: u32) -> i32
 {
     scaled(coordinate, surface_side, frame_side) as i32
 }
+
+/// The law of places: placing keeps the order of coordinates, and a point that lands within the
+/// limits on a surface does so on each that is no larger and shows a frame of the same sides.
+pub fn placing_law()
+    ensures { PlacingLaws }
+{}
