@@ -1,6 +1,6 @@
 //! What a table of objects is to its callers.
 
-ghost use Rattle.std.specs.Prelude.{◌≡◌, ◌≤◌, [], IfOk, IfErr, OnOk, OnErr};
+ghost use Rattle.std.specs.Prelude.{◌≡◌, ◌<◌, ◌≤◌, ◌^◌, [], IfOk, IfErr, OnOk, OnErr};
 ghost use Rattle.std.specs.Result.{result_err};
 ghost use Rattle.draw_ops.specs.Objects.{index_of, object_value_of};
 ghost use Rattle.draw_ops.specs.Results.{result_map, value_or};
@@ -31,6 +31,7 @@ pub trait Table<'a>: Contents {
     fn create(&mut self, at: Option<Handle>, object: Object<'a>) -> Result<Handle, Fault>
         ensures created { IfOk result
             (λ h. HasCreated (Self.kind self.old) (index_of at) (object_value_of object.entry) (Self.slots self.old) h.0 (Self.slots self.new)) }
+        ensures short { IfOk result (λ h. h.0 < 2 ^ 16) }
         ensures refused { IfErr result
             (RefusesCreate (Self.kind self.old) (index_of at) (Self.slots self.old) (Self.room self.old)) }
         ensures kept { OnErr result (Self.slots self.new ≡ Self.slots self.old) }

@@ -1,0 +1,61 @@
+-- Being off the plane, of several points and on several surfaces.
+use Rattle.std.proofs.Common.{◌≡◌, ◌≢◌, Bool, true, false, cond, ◌&&◌, List, [], ◌∷◌, Option, Some, None, refl, sym}
+use Rattle.std.proofs.lemmas.Bool.{and_from, and_parts}
+use Rattle.std.specs.List.{list_all}
+use Rattle.std.specs.Option.{option_or}
+use Rattle.mapping.specs.declared.geometry.Point.{Point}
+use Rattle.mapping.specs.PlacingLaws.{IsNoLarger, PlacingLaws, ShowsFrame}
+use Rattle.mapping.specs.Surface.{Surface, lands_within_limits}
+use Rattle.draw_ops.specs.declared.fault.Fault.{Fault}
+use Rattle.draw_ops.specs.declared.fault.Fault.TheVariants.{OffPlane}
+use Rattle.dc_stack.specs.FaultLaws.{FaultLaws}
+use Rattle.dc_stack.specs.OperationFault.{off_plane_fault, plain_fault, plane_points}
+
+-- off the plane where a test fails
+abbrev off_unless : Bool → Option Fault
+off_unless test = cond test None (Some OffPlane)
+
+first_fails : (a b : Bool) (fault : Fault) → Some fault ≡ off_unless (a && true) → Some fault ≡ off_unless (a && b)
+first_fails true b fault h = cc
+first_fails false b fault h = h
+
+second_fails : (a b : Bool) (fault : Fault) → None ≡ off_unless (a && true) → Some fault ≡ off_unless (b && true) → Some fault ≡ off_unless (a && (b && true))
+second_fails true b fault h k = k
+second_fails false b fault h k = cc
+
+module _ (p q : Point) (s : Surface) (fault : Fault) where
+  -- the first of two points is off the plane
+  pub first_off : Some fault ≡ off_plane_fault (p ∷ []) s → Some fault ≡ off_plane_fault (p ∷ q ∷ []) s
+  first_off h = first_fails (lands_within_limits p s) (lands_within_limits q s && true) fault h
+
+  -- the second alone is
+  pub second_off : None ≡ off_plane_fault (p ∷ []) s → Some fault ≡ off_plane_fault (q ∷ []) s → Some fault ≡ off_plane_fault (p ∷ q ∷ []) s
+  second_off h k = second_fails (lands_within_limits p s) (lands_within_limits q s) fault h k
+
+-- no other fault comes of points
+off_is_off_plane : (test : Bool) (fault : Fault) → off_unless test ≡ Some fault → fault ≡ OffPlane
+off_is_off_plane true fault h = cc
+off_is_off_plane false fault h = cc
+
+other_fault : (plain : Option Fault) (test other : Bool) (fault : Fault) → fault ≢ OffPlane → option_or plain (off_unless test) ≡ Some fault → option_or plain (off_unless other) ≡ Some fault
+other_fault (Some g) test other fault ne h = h
+other_fault None test other fault ne h = absurd (ne (off_is_off_plane test fault h))
+
+no_fault : (plain : Option Fault) (test other : Bool) → (test ≡ true → other ≡ true) → option_or plain (off_unless test) ≡ None → option_or plain (off_unless other) ≡ None
+no_fault (Some g) test other passes h = cc
+no_fault None true other passes h = rw (passes refl) refl
+no_fault None false other passes h = cc
+
+-- points that land on a surface do so on a smaller one
+all_on_smaller : PlacingLaws → (smaller larger : Surface) → ShowsFrame larger → IsNoLarger smaller larger → (points : List Point) → list_all (λ p. lands_within_limits p larger) points ≡ true → list_all (λ p. lands_within_limits p smaller) points ≡ true
+all_on_smaller laws smaller larger shows no_larger [] h = refl
+all_on_smaller laws smaller larger shows no_larger (p ∷ ps) h =
+    let parts = and_parts (lands_within_limits p larger) (list_all (λ q. lands_within_limits q larger) ps) h in
+    and_from (lands_within_limits p smaller) (list_all (λ q. lands_within_limits q smaller) ps)
+    (laws.lands_on_smaller p smaller larger shows no_larger parts.0) (all_on_smaller laws smaller larger shows no_larger ps parts.1)
+
+pub fault_laws : PlacingLaws → FaultLaws
+fault_laws laws = record {
+  only_off_plane = λ operation state s other fault ne h. other_fault (plain_fault operation state) (list_all (λ p. lands_within_limits p s) (plane_points operation state)) (list_all (λ p. lands_within_limits p other) (plane_points operation state)) fault ne h;
+  none_on_smaller = λ operation state smaller larger shows no_larger h. no_fault (plain_fault operation state) (list_all (λ p. lands_within_limits p larger) (plane_points operation state)) (list_all (λ p. lands_within_limits p smaller) (plane_points operation state)) (all_on_smaller laws smaller larger shows no_larger (plane_points operation state)) h;
+}

@@ -1,0 +1,3 @@
+pub mod BoxLemmas
+pub mod FaultLemmas
+pub mod SavedLemmas

@@ -1,0 +1,13 @@
+use Rattle.mapping.specs.PlaceOf.{surface_of}
+use Rattle.mapping.specs.PlacingLaws.{ShowsFrame}
+use Rattle.dc_stack.proofs.BoxLemmas.{keeps_placed}
+use Rattle.dc_stack.proofs.machine.Machine.intersect_clip.Goals as goal
+
+pub invariant_of-self : goal.invariant_of-self
+invariant_of-self g c =
+    let place = c.self.inside.place in
+    let shows : ShowsFrame (surface_of place) = record { wide = place.frame.wide; high = place.frame.high } in
+    record {
+      now = keeps_placed c.placing_law.ensures (surface_of place) shows c.self.inside.dc.clip c.keep.new.self c.in-Ok.landed c.keep.ensures.placed c.keep.ensures.plane c.in-Ok.ensures.placed c.self.invariant.now;
+      saved = c.self.invariant.saved;
+    }

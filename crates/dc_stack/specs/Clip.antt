@@ -1,0 +1,80 @@
+-- The clip: which pixels drawings may write.
+use Rattle.std.specs.Prelude.{ℕ, ℤ, pos, Bool, true, ◌&&◌, not, int_le, int_lt, List, [], ◌∷◌, ◌++◌, map, Option, Some, None}
+use Rattle.std.specs.Int.{int_max, int_min}
+use Rattle.std.specs.List.{list_any}
+use Rattle.std.specs.Option.{option_map}
+use Rattle.mapping.specs.declared.geometry.Point.{Point}
+use Rattle.mapping.specs.declared.geometry.Rect.{Rect}
+use Rattle.mapping.specs.Surface.{Surface, placed}
+
+-- one kept box or none, and the boxes that are cut out, in the order in which they were
+pub record ClipValue : Type 0 where
+  pub kept : Option Rect
+  pub cuts : List Rect
+
+-- nothing is clipped
+abbrev pub unclipped : ClipValue
+unclipped = record { kept = None; cuts = [] }
+
+-- how many boxes are cut out at most at a time
+abbrev pub cut_limit : ℕ
+cut_limit = 16
+
+-- the box between two corners, whichever of them comes first
+abbrev pub box_between : Point → Point → Rect
+box_between p q = record { l = int_min p.x q.x; t = int_min p.y q.y; r = int_max p.x q.x; b = int_max p.y q.y }
+
+-- what two boxes have in common: where they have nothing, it has no pixel
+abbrev pub narrowed : Rect → Rect → Rect
+narrowed first second = record {
+  l = int_max first.l second.l;
+  t = int_max first.t second.t;
+  r = int_min first.r second.r;
+  b = int_min first.b second.b;
+}
+
+-- a box, within what is kept already
+abbrev pub within_kept : Option Rect → Rect → Rect
+within_kept None box = box
+within_kept (Some kept) box = narrowed kept box
+
+-- the clip that keeps what a box has of it
+abbrev pub with_kept : Rect → ClipValue → ClipValue
+with_kept box clip = record { kept = Some (within_kept clip.kept box); cuts = clip.cuts }
+
+-- the clip from which a box is cut out
+abbrev pub with_cut : Rect → ClipValue → ClipValue
+with_cut box clip = record { kept = clip.kept; cuts = clip.cuts ++ box ∷ [] }
+
+-- where a box of the plane lands on a surface
+abbrev pub placed_box : Surface → Rect → Rect
+placed_box s box = record {
+  l = placed box.l s.width s.frame_width;
+  t = placed box.t s.height s.frame_height;
+  r = placed box.r s.width s.frame_width;
+  b = placed box.b s.height s.frame_height;
+}
+
+-- where the boxes of a clip land on a surface
+abbrev pub placed_clip : Surface → ClipValue → ClipValue
+placed_clip s clip = record { kept = option_map (placed_box s) clip.kept; cuts = map (placed_box s) clip.cuts }
+
+-- the number is at or past the first, and before the second
+abbrev pub is_from_to : ℤ → ℤ → ℕ → Bool
+is_from_to from to n = int_le from (pos n) && int_lt (pos n) to
+
+-- a box of a surface has the pixel: from its left and top on, up to before its right and bottom
+abbrev pub in_box : Rect → ℕ → ℕ → Bool
+in_box box x y = is_from_to box.l box.r x && is_from_to box.t box.b y
+
+abbrev pub in_kept : Option Rect → ℕ → ℕ → Bool
+in_kept None x y = true
+in_kept (Some box) x y = in_box box x y
+
+-- the pixel is in the kept box of a surface, if there is one, and in no box that is cut out
+abbrev pub in_boxes : ClipValue → ℕ → ℕ → Bool
+in_boxes clip x y = in_kept clip.kept x y && not (list_any (λ box. in_box box x y) clip.cuts)
+
+-- the clip has the surface's pixel (x, y)
+abbrev pub in_clip : ClipValue → Surface → ℕ → ℕ → Bool
+in_clip clip s x y = in_boxes (placed_clip s clip) x y

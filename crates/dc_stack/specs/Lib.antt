@@ -1,0 +1,14 @@
+pub mod Clip
+pub mod Path
+pub mod State
+pub mod StockObjects
+pub mod Selecting
+pub mod SavedStates
+pub mod Drawing
+pub mod OperationFault
+pub mod Modes
+pub mod Next
+pub mod Needs
+pub mod FaultLaws
+pub mod Values
+pub mod MachineState

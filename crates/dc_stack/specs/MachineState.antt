@@ -1,0 +1,95 @@
+-- What a machine is to its callers.
+use Rattle.std.specs.Prelude.{◌≡◌, ◌⊎◌, ℕ, ◌≤◌, length, Option, Some, None, IfSome, Result, Ok, Err}
+use Rattle.std.specs.Option.{option_map}
+use Rattle.mapping.specs.Surface.{Surface, placed_point}
+use Rattle.draw_ops.specs.Objects.{ObjectValue}
+use Rattle.draw_ops.specs.Operation.{Operation, create, save}
+use Rattle.draw_ops.specs.declared.fault.Fault.{Fault}
+use Rattle.draw_ops.specs.declared.fault.Fault.TheVariants.{OutOfMemory}
+use Rattle.object_tables.specs.Table.{created_index}
+use Rattle.dc_stack.specs.Drawing.{Drawing, dot, drawing_of, tools_of}
+use Rattle.dc_stack.specs.Needs.{greater_needs, needs_of}
+use Rattle.dc_stack.specs.Next.{next}
+use Rattle.dc_stack.specs.OperationFault.{fault_of}
+use Rattle.dc_stack.specs.State.{DcValue, State}
+use Rattle.dc_stack.specs.declared.draw.Draw.{Draw}
+use Rattle.dc_stack.specs.declared.needs.Needs.{Needs}
+
+-- for how many saved states there is room, and below which index objects have theirs
+pub record Room : Type 0 where
+  pub depth : ℕ
+  pub slots : ℕ
+
+-- the state that is played, the surface that it is played on, the greatest needs so far, and the room
+pub record MachineState : Type 0 where
+  pub state : State
+  pub surface : Surface
+  pub needs : Needs
+  pub room : Room
+
+-- the surface is the same, and there is as much room or more
+pub record GoesOn (old new : MachineState) : Type 0 where
+  pub surface : new.surface ≡ old.surface
+  pub depth : old.room.depth ≤ new.room.depth
+  pub slots : old.room.slots ≤ new.room.slots
+
+-- the machine is what it was, but that it may have more room
+pub record IsUnchanged (old new : MachineState) : Type 0 where
+  pub state : new.state ≡ old.state
+  pub needs : new.needs ≡ old.needs
+
+-- an operation was played: it has no fault, and the state is the next
+pub record HasStepped (operation : Operation) (old new : MachineState) : Type 0 where
+  pub no_fault : fault_of operation old.state old.surface ≡ None
+  pub state : new.state ≡ next operation old.state
+  pub needs : new.needs ≡ greater_needs old.needs (needs_of operation old.state)
+
+-- the drawing of a draw, with the tools of the moment
+abbrev drawing_with : DcValue → Draw → Drawing
+drawing_with dc draw = record { mark = dot draw.point draw.colour; tools = tools_of dc }
+
+-- what is to be drawn is the operation's drawing, with the tools that the new state has still
+abbrev pub IsDrawingOf : Operation → MachineState → MachineState → Option Draw → Type 0
+IsDrawingOf operation old new draw = option_map (drawing_with new.state.dc) draw ≡ drawing_of operation old.state
+
+-- it tells where its point lands
+abbrev pub IsPlacedDraw : Surface → Draw → Type 0
+IsPlacedDraw s draw = draw.placed ≡ placed_point draw.point s
+
+-- a save finds no room for one more state
+pub record LacksDepth (operation : Operation) (m : MachineState) : Type 0 where
+  pub saves : operation ≡ save
+  pub full : m.room.depth ≤ length m.state.saved
+
+-- a new object finds no room at its index
+pub record LacksSlot (operation : Operation) (m : MachineState) : Type 0 where
+  pub at : Option ℕ
+  pub object : ObjectValue
+  pub creates : operation ≡ create at object
+  pub full : m.room.slots ≤ created_index m.state.table_kind at m.state.slots
+
+-- memory was refused, though the operation has no fault: there was no room for it
+pub record WantsRoom (operation : Operation) (m : MachineState) (fault : Fault) : Type 0 where
+  pub no_fault : fault_of operation m.state m.surface ≡ None
+  pub memory : fault ≡ OutOfMemory
+  pub lacks : LacksDepth operation m ⊎ LacksSlot operation m
+
+-- an operation is refused: by its fault, or for want of memory
+abbrev pub RefusesStep : Operation → MachineState → Fault → Type 0
+RefusesStep operation m fault = fault_of operation m.state m.surface ≡ Some fault ⊎ WantsRoom operation m fault
+
+-- an operation was played: the state is the next, and what it draws is told
+pub record HasPlayed (operation : Operation) (old new : MachineState) (draw : Option Draw) : Type 0 where
+  pub stepped : HasStepped operation old new
+  pub drawn : IsDrawingOf operation old new draw
+  pub placed : IfSome draw (IsPlacedDraw old.surface)
+
+-- an operation was refused: nothing has changed
+pub record HasRefused (operation : Operation) (old new : MachineState) (fault : Fault) : Type 0 where
+  pub refused : RefusesStep operation old fault
+  pub kept : IsUnchanged old new
+
+-- an operation was played or refused
+abbrev pub Plays : Operation → MachineState → Result (Option Draw) Fault → MachineState → Type 0
+Plays operation old (Ok draw) new = HasPlayed operation old new draw
+Plays operation old (Err fault) new = HasRefused operation old new fault

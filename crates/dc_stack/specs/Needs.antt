@@ -1,0 +1,79 @@
+-- What a run needs room for: the most saved states at a time, the greatest index of an object, and the most points of one drawing and
+-- pieces of a path.
+use Rattle.std.specs.Prelude.{ℕ, suc, List, length, max, Option, Some, None}
+use Rattle.mapping.specs.declared.geometry.Point.{Point}
+use Rattle.draw_ops.specs.Operation.{Operation, no_effect, save, restore, set_background_mode, set_map_mode, set_raster_op, set_fill_mode, set_background_colour, set_window_origin, set_window_extent, set_viewport_origin, set_viewport_extent, offset_window_origin, offset_viewport_origin, exclude_clip, intersect_clip, remove_clip, move_to, line_to, pixel, rectangle, polyline, polygon, polyline_to, create, select, select_palette, delete, begin_path, end_path, close_figure, abort_path, fill_path, stroke_path, stroke_and_fill_path}
+use Rattle.object_tables.specs.Table.{created_index}
+use Rattle.dc_stack.specs.Drawing.{Drawing, Mark, dot, drawing_of}
+use Rattle.dc_stack.specs.State.{State}
+use Rattle.dc_stack.specs.declared.needs.Needs.{Needs}
+
+-- nothing is needed
+abbrev pub no_needs : Needs
+no_needs = record { depth = 0; slots = 0; edges = 0; pieces = 0 }
+
+-- of each the greater
+abbrev pub greater_needs : Needs → Needs → Needs
+greater_needs a b = record { depth = max a.depth b.depth; slots = max a.slots b.slots; edges = max a.edges b.edges; pieces = max a.pieces b.pieces }
+
+-- how many saved states there are after a save
+abbrev pub depth_needed : ℕ → Needs
+depth_needed depth = record { depth = depth; slots = 0; edges = 0; pieces = 0 }
+
+-- how many slots reach to the index of a new object
+abbrev pub slots_needed : ℕ → Needs
+slots_needed index = record { depth = 0; slots = suc index; edges = 0; pieces = 0 }
+
+-- a dot has no edges
+abbrev mark_edges : Mark → ℕ
+mark_edges (dot point colour) = 0
+
+abbrev drawing_edges : Option Drawing → ℕ
+drawing_edges None = 0
+drawing_edges (Some drawing) = mark_edges drawing.mark
+
+-- how many edges a drawing has, if there is one
+abbrev edges_needed : Operation → State → Needs
+edges_needed operation state = record { depth = 0; slots = 0; edges = drawing_edges (drawing_of operation state); pieces = 0 }
+
+-- those of an operation that isn't played yet, and is refused (`plain_fault`)
+abbrev unplayed : Needs
+unplayed = no_needs
+
+-- what one operation needs
+abbrev pub needs_of : Operation → State → Needs
+needs_of no_effect state = no_needs
+needs_of save state = depth_needed (suc (length state.saved))
+needs_of (restore which) state = no_needs
+needs_of (set_background_mode mode) state = no_needs
+needs_of (set_map_mode mode) state = no_needs
+needs_of (set_raster_op op) state = no_needs
+needs_of (set_fill_mode mode) state = no_needs
+needs_of (set_background_colour colour) state = no_needs
+needs_of (set_window_origin origin) state = no_needs
+needs_of (set_window_extent extent) state = no_needs
+needs_of (set_viewport_origin origin) state = no_needs
+needs_of (set_viewport_extent extent) state = no_needs
+needs_of (offset_window_origin offset) state = no_needs
+needs_of (offset_viewport_origin offset) state = no_needs
+needs_of (exclude_clip corners) state = no_needs
+needs_of (intersect_clip corners) state = no_needs
+needs_of remove_clip state = no_needs
+needs_of (move_to point) state = no_needs
+needs_of (line_to point) state = unplayed
+needs_of (pixel point colour) state = edges_needed (pixel point colour) state
+needs_of (rectangle corners edges) state = unplayed
+needs_of (polyline lists) state = unplayed
+needs_of (polygon lists) state = unplayed
+needs_of (polyline_to points) state = unplayed
+needs_of (create at object) state = slots_needed (created_index state.table_kind at state.slots)
+needs_of (select index) state = no_needs
+needs_of (select_palette index) state = no_needs
+needs_of (delete index) state = no_needs
+needs_of begin_path state = unplayed
+needs_of end_path state = unplayed
+needs_of close_figure state = unplayed
+needs_of abort_path state = unplayed
+needs_of fill_path state = unplayed
+needs_of stroke_path state = unplayed
+needs_of stroke_and_fill_path state = unplayed

@@ -1,0 +1,40 @@
+-- Saving the state, and taking a saved one back ([MS-WMF] 2.3.5.10, [MS-EMF] 2.3.11.14).
+use Rattle.std.specs.Prelude.{ℕ, zero, suc, ◌-◌, ℤ, pos, negsuc, if◌then◌else◌, nat_lt, List, [], ◌∷◌, ◌++◌, length, take, Option, Some, None, slice_index_or}
+use Rattle.draw_ops.specs.declared.fault.Fault.{Fault}
+use Rattle.draw_ops.specs.declared.fault.Fault.TheVariants.{DepthLimit, NoSavedState}
+use Rattle.dc_stack.specs.State.{State}
+
+-- how many states are saved at most at a time
+abbrev pub depth_limit : ℕ
+depth_limit = 256
+
+-- there is room for one more
+abbrev pub save_fault : State → Option Fault
+save_fault state = if nat_lt (length state.saved) depth_limit then None else Some DepthLimit
+
+-- the state with a copy of what drawings depend on saved, the newest last
+abbrev pub after_saving : State → State
+after_saving state = record { dc = state.dc; slots = state.slots; table_kind = state.table_kind; saved = state.saved ++ state.dc ∷ []; path = state.path }
+
+-- The place, of so many saved states, that a number names: a number above 0 counts from the oldest, which is 1, and one below 0 from
+-- the newest, which is -1.
+abbrev pub saved_place : ℤ → ℕ → Option ℕ
+saved_place (pos zero) count = None
+saved_place (pos (suc n)) count = if nat_lt n count then Some n else None
+saved_place (negsuc n) count = if nat_lt n count then Some (count - suc n) else None
+
+-- no saved state has the place
+abbrev pub restore_fault : Option ℕ → Option Fault
+restore_fault None = Some NoSavedState
+restore_fault (Some place) = None
+
+-- the saved state at a place comes back, and it and all saved after it leave the list: objects and path stay as they are
+abbrev pub after_restoring : Option ℕ → State → State
+after_restoring None state = state
+after_restoring (Some place) state = record {
+  dc = slice_index_or state.saved place state.dc;
+  slots = state.slots;
+  table_kind = state.table_kind;
+  saved = take place state.saved;
+  path = state.path;
+}

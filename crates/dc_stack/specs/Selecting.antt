@@ -1,0 +1,62 @@
+-- Selecting objects, and which are held.
+use Rattle.std.specs.Prelude.{ℕ, Bool, false, ◌||◌, ◌==◌, if◌then◌else◌, List, ◌∷◌, Option, Some, None}
+use Rattle.std.specs.List.{list_any}
+use Rattle.draw_ops.specs.declared.fault.Fault.{Fault}
+use Rattle.draw_ops.specs.declared.fault.Fault.TheVariants.{HeldObject, NoSuchHandle, WrongKind}
+use Rattle.draw_ops.specs.Objects.{ObjectValue, brush_object, font_object, palette_object, pen_object}
+use Rattle.object_tables.specs.Slots.{Slots, is_taken, object_at}
+use Rattle.dc_stack.specs.State.{DcValue, Selections, State}
+use Rattle.dc_stack.specs.StockObjects.{is_stock_index, stock_object}
+
+-- the object that an index names: a stock object, or one of the table
+abbrev pub named_object : ℕ → Slots → Option ObjectValue
+named_object index slots = if is_stock_index index then stock_object index else object_at index slots
+
+-- the index that is kept of a selected object: none of a stock object
+abbrev pub own_index : ℕ → Option ℕ
+own_index index = if is_stock_index index then None else Some index
+
+-- pens, brushes and fonts are selected by SELECTOBJECT
+abbrev pub object_fault : Option ObjectValue → Option Fault
+object_fault None = Some NoSuchHandle
+object_fault (Some (pen_object pen)) = None
+object_fault (Some (brush_object brush)) = None
+object_fault (Some font_object) = None
+object_fault (Some palette_object) = Some WrongKind
+
+-- palettes by SELECTPALETTE
+abbrev pub palette_fault : Option ObjectValue → Option Fault
+palette_fault None = Some NoSuchHandle
+palette_fault (Some (pen_object pen)) = Some WrongKind
+palette_fault (Some (brush_object brush)) = Some WrongKind
+palette_fault (Some font_object) = Some WrongKind
+palette_fault (Some palette_object) = None
+
+-- the objects in use after one is selected, in the place of its kind
+abbrev pub with_object_selected : Option ℕ → ObjectValue → Selections → Selections
+with_object_selected index (pen_object pen) s = record { pen = record { object = pen; index = index }; brush = s.brush; font = s.font; palette = s.palette }
+with_object_selected index (brush_object brush) s = record { pen = s.pen; brush = record { object = brush; index = index }; font = s.font; palette = s.palette }
+with_object_selected index font_object s = record { pen = s.pen; brush = s.brush; font = index; palette = s.palette }
+with_object_selected index palette_object s = record { pen = s.pen; brush = s.brush; font = s.font; palette = index }
+
+-- after the object that an index names is selected
+abbrev pub after_selecting : ℕ → Option ObjectValue → Selections → Selections
+after_selecting index None s = s
+after_selecting index (Some object) s = with_object_selected (own_index index) object s
+
+-- a kept index is this one
+abbrev pub is_index_of : ℕ → Option ℕ → Bool
+is_index_of index None = false
+is_index_of index (Some kept) = kept == index
+
+-- an object in use has this index
+abbrev pub selects : ℕ → Selections → Bool
+selects index s = is_index_of index s.pen.index || is_index_of index s.brush.index || is_index_of index s.font || is_index_of index s.palette
+
+-- an index is held if the state or any saved state has it selected
+abbrev pub is_held : ℕ → State → Bool
+is_held index state = list_any (λ (dc : DcValue). selects index dc.selected) (state.dc ∷ state.saved)
+
+-- an object is deleted where the table has it, and nothing holds it
+abbrev pub delete_fault : ℕ → State → Option Fault
+delete_fault index state = if is_taken index state.slots then (if is_held index state then Some HeldObject else None) else Some NoSuchHandle

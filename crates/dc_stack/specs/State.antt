@@ -1,0 +1,111 @@
+-- The playing state ([MS-WMF] 3.1.5, [MS-EMF] 3.1.1).
+use Rattle.std.specs.Prelude.{ℕ, pos, List, [], Option, Some, None}
+use Rattle.mapping.specs.declared.geometry.Point.{Point}
+use Rattle.mapping.specs.Colours.{black_colour, white_colour}
+use Rattle.mapping.specs.Plane.{MapNumbers}
+use Rattle.draw_ops.specs.declared.objects.Pen.{Pen}
+use Rattle.draw_ops.specs.declared.objects.Pen.TheVariants.{Solid}
+use Rattle.draw_ops.specs.declared.raster_op.RasterOp.TheVariants.{CopyPen}
+use Rattle.draw_ops.specs.declared.settings.BackgroundMode.TheVariants.{Opaque}
+use Rattle.draw_ops.specs.declared.settings.FillMode.TheVariants.{Alternate}
+use Rattle.draw_ops.specs.Objects.{BrushValue, solid_brush}
+use Rattle.meta_headers.specs.Headers.{OpenedValue}
+use Rattle.object_tables.specs.Slots.{Slots}
+use Rattle.object_tables.specs.Table.{TableKind, by_given_index, by_lowest_free}
+use Rattle.dc_stack.specs.Clip.{ClipValue, unclipped}
+use Rattle.dc_stack.specs.Path.{Path}
+use Rattle.dc_stack.specs.declared.modes.Modes.{Modes}
+
+-- an object in use, and its index, if it isn't a stock object
+pub record Selection (A : Type 0) : Type 0 where
+  pub object : A
+  pub index : Option ℕ
+
+-- the objects in use: of font and palette the index alone, since nothing is drawn with them
+pub record Selections : Type 0 where
+  pub pen : Selection Pen
+  pub brush : Selection BrushValue
+  pub font : Option ℕ
+  pub palette : Option ℕ
+
+-- What drawings depend on, and saving copies: the objects in use, modes and colours, the page map, the position in page units, and
+-- the clip.
+pub record DcValue : Type 0 where
+  pub selected : Selections
+  pub modes : Modes
+  pub map : MapNumbers
+  pub position : Point
+  pub clip : ClipValue
+
+-- The whole state: what saving copies, and beside it the objects by their indexes and how new ones get theirs, the states saved, the
+-- oldest first, and the path, if there is one.
+pub record State : Type 0 where
+  pub dc : DcValue
+  pub slots : Slots
+  pub table_kind : TableKind
+  pub saved : List DcValue
+  pub path : Option Path
+
+-- a black pen, a white brush, the stock font and the default palette
+abbrev pub stock_selections : Selections
+stock_selections = record {
+  pen = record { object = Solid black_colour; index = None };
+  brush = record { object = solid_brush white_colour; index = None };
+  font = None;
+  palette = None;
+}
+
+-- gaps are painted white, pens and brushes copied, and every other part filled
+abbrev pub start_modes : Modes
+start_modes = record { background_mode = Opaque; background_colour = white_colour; raster_op = CopyPen; fill_mode = Alternate }
+
+-- what drawings depend on before the first record of a file that starts with this map
+abbrev pub start_dc : MapNumbers → DcValue
+start_dc map = record {
+  selected = stock_selections;
+  modes = start_modes;
+  map = map;
+  position = record { x = pos 0; y = pos 0 };
+  clip = unclipped;
+}
+
+-- the state before the first record of a file that starts with this map, and whose objects get their indexes so
+abbrev pub start_state : MapNumbers → TableKind → State
+start_state map kind = record { dc = start_dc map; slots = []; table_kind = kind; saved = []; path = None }
+
+-- objects get the least free index, unless the file says how many indexes there are
+abbrev pub table_kind_of : Option ℕ → TableKind
+table_kind_of None = by_lowest_free
+table_kind_of (Some handles) = by_given_index handles
+
+-- the state before the first record of an opened file
+abbrev pub start_of : OpenedValue → State
+start_of o = start_state o.map (table_kind_of o.handles)
+
+-- the state with other things that drawings depend on
+abbrev pub with_dc : DcValue → State → State
+with_dc dc state = record { dc = dc; slots = state.slots; table_kind = state.table_kind; saved = state.saved; path = state.path }
+
+-- the state with other objects in its table
+abbrev pub with_slots : Slots → State → State
+with_slots slots state = record { dc = state.dc; slots = slots; table_kind = state.table_kind; saved = state.saved; path = state.path }
+
+-- the state with other objects in use
+abbrev pub with_selected : Selections → State → State
+with_selected selected state = with_dc (record { selected = selected; modes = state.dc.modes; map = state.dc.map; position = state.dc.position; clip = state.dc.clip }) state
+
+-- the state with other modes
+abbrev pub with_modes : Modes → State → State
+with_modes modes state = with_dc (record { selected = state.dc.selected; modes = modes; map = state.dc.map; position = state.dc.position; clip = state.dc.clip }) state
+
+-- the state with another page map
+abbrev pub with_map : MapNumbers → State → State
+with_map map state = with_dc (record { selected = state.dc.selected; modes = state.dc.modes; map = map; position = state.dc.position; clip = state.dc.clip }) state
+
+-- the state with the position here
+abbrev pub with_position : Point → State → State
+with_position position state = with_dc (record { selected = state.dc.selected; modes = state.dc.modes; map = state.dc.map; position = position; clip = state.dc.clip }) state
+
+-- the state with another clip
+abbrev pub with_clip : ClipValue → State → State
+with_clip clip state = with_dc (record { selected = state.dc.selected; modes = state.dc.modes; map = state.dc.map; position = state.dc.position; clip = clip }) state

@@ -1,0 +1,171 @@
+//! The clip: which pixels drawings may write.
+
+ghost use Rattle.std.specs.Prelude.{◌≡◌, ◌<◌, length, nat_lt, take};
+ghost use Rattle.std.specs.Int.{int_max, int_min};
+ghost use Rattle.std.specs.List.{list_any};
+ghost use Rattle.dc_stack.specs.Clip.{box_between, cut_limit, in_box, in_boxes, in_kept, is_from_to, narrowed, unclipped, with_cut, with_kept};
+
+use mapping::{Point, Rect};
+
+/// How many boxes are cut out at most at a time.
+const CUT_LIMIT: usize = 16;
+
+/// A box of the plane, with its corners in order, and where it lands on the surface that is played on:
+/// from its left and top on, up to before its right and bottom.
+#[derive(Clone, Copy, Debug, PartialEq, Eq)]
+pub struct ClipBox {
+    pub plane: Rect,
+    pub placed: Rect,
+}
+
+/// One kept box or none, and up to sixteen boxes that are cut out of it.
+#[derive(Clone, Copy, Debug, PartialEq, Eq)]
+pub struct Clip {
+    pub kept: Option<ClipBox>,
+    /// The boxes that are cut out, the first `count` of these.
+    pub cuts: [ClipBox; CUT_LIMIT],
+    pub count: usize,
+}
+
+impl Clip {
+    ghost use Rattle.dc_stack.specs.Values.{clip_value, placed_value};
+
+    /// The clip that clips nothing.
+    pub(crate) fn none() -> Clip
+        ensures plane { clip_value result ≡ unclipped }
+        ensures placed { placed_value result ≡ unclipped }
+    {
+        let nothing = Rect {
+            l: 0,
+            t: 0,
+            r: 0,
+            b: 0,
+        };
+        let unused = ClipBox {
+            plane: nothing,
+            placed: nothing,
+        };
+        Clip {
+            kept: None,
+            cuts: [unused; CUT_LIMIT],
+            count: 0,
+        }
+    }
+
+    /// Whether one box more may be cut out.
+    pub(crate) fn may_be_cut(&self) -> bool
+        ensures test { result ≡ nat_lt (length (clip_value self.now).cuts) cut_limit }
+        ensures place { result ≡ nat_lt self.now.count cut_limit }
+    {
+        self.count < CUT_LIMIT
+    }
+
+    /// Keeps what a box has of the clip.
+    pub(crate) fn keep(&mut self, kept: ClipBox)
+        ensures plane { clip_value self.new ≡ with_kept kept.plane (clip_value self.old) }
+        ensures placed { placed_value self.new ≡ with_kept kept.placed (placed_value self.old) }
+    {
+        self.kept = Some(match self.kept {
+            None => kept,
+            Some(before) => ClipBox {
+                plane: common(before.plane, kept.plane),
+                placed: common(before.placed, kept.placed),
+            },
+        });
+    }
+
+    /// Cuts a box out.
+    pub(crate) fn cut(&mut self, cut: ClipBox)
+        requires { self.old.count < cut_limit }
+        ensures plane { clip_value self.new ≡ with_cut cut.plane (clip_value self.old) }
+        ensures placed { placed_value self.new ≡ with_cut cut.placed (placed_value self.old) }
+    {
+        self.cuts[self.count] = cut;
+        self.count += 1;
+    }
+
+    /// Whether drawings may write the pixel `(x, y)` of the surface.
+    pub fn has(&self, x: u32, y: u32) -> bool
+        ensures { result ≡ in_boxes (placed_value self.now) x y }
+    {
+        self.keeps(x, y) && !self.cuts_out(x, y)
+    }
+
+    /// Whether the kept box has the pixel, if there is one.
+    fn keeps(&self, x: u32, y: u32) -> bool
+        ensures { result ≡ in_kept (placed_value self.now).kept x y }
+    {
+        match self.kept {
+            None => true,
+            Some(kept) => contains(kept.placed, x, y),
+        }
+    }
+
+    /// Whether a box that is cut out has the pixel.
+    fn cuts_out(&self, x: u32, y: u32) -> bool
+        ensures { result ≡ list_any (λ cut. in_box cut x y) (placed_value self.now).cuts }
+    {
+        any_contains(&self.cuts, self.count, x, y)
+    }
+}
+
+/// What two boxes have in common.
+fn common(first: Rect, second: Rect) -> Rect
+    ensures { result ≡ narrowed first second }
+{
+    let l = greater(first.l, second.l);
+    let t = greater(first.t, second.t);
+    let r = lesser(first.r, second.r);
+    let b = lesser(first.b, second.b);
+    Rect { l, t, r, b }
+}
+
+/// The box between two corners, whichever of them comes first.
+pub(crate) fn between(p: Point, q: Point) -> Rect
+    ensures { result ≡ box_between p q }
+{
+    Rect {
+        l: lesser(p.x, q.x),
+        t: lesser(p.y, q.y),
+        r: greater(p.x, q.x),
+        b: greater(p.y, q.y),
+    }
+}
+
+/// The lesser of two coordinates.
+fn lesser(first: i32, second: i32) -> i32
+    ensures { result ≡ int_min first second }
+{
+    if second < first { second } else { first }
+}
+
+/// The greater of two coordinates.
+fn greater(first: i32, second: i32) -> i32
+    ensures { result ≡ int_max first second }
+{
+    if second < first { first } else { second }
+}
+
+/// Whether a box of the surface has the pixel `(x, y)`.
+fn contains(placed: Rect, x: u32, y: u32) -> bool
+    ensures { result ≡ in_box placed x y }
+{
+    is_from_to(placed.l, placed.r, x) && is_from_to(placed.t, placed.b, y)
+}
+
+/// Whether a column or a row is at or past the first number, and before the second.
+fn is_from_to(from: i32, to: i32, at: u32) -> bool
+    ensures { result ≡ is_from_to from to at }
+{
+    i64::from(from) <= i64::from(at) && i64::from(at) < i64::from(to)
+}
+
+/// Whether one of so many boxes has the pixel `(x, y)`.
+fn any_contains(boxes: &[ClipBox], count: usize, x: u32, y: u32) -> bool
+    ensures { result ≡ list_any (λ cut. in_box cut.placed x y) (take count boxes.now) }
+{
+    boxes
+        .iter()
+        .take(count)
+        .any(|cut| contains(cut.placed, x, y))
+}

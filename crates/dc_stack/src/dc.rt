@@ -1,0 +1,40 @@
+//! What drawings depend on, and saving copies.
+
+ghost use Rattle.std.specs.Prelude.{◌≡◌};
+ghost use Rattle.mapping.specs.PageMap.{map_numbers};
+ghost use Rattle.dc_stack.specs.State.{start_dc};
+
+use crate::clip::Clip;
+use crate::modes::{Modes, start};
+use crate::selected::Selected;
+use mapping::{PageMap, Point};
+
+/// What drawings depend on, and SAVEDC copies: the objects in use, modes and colours, the page map, the
+/// position in page units, and the clip.
+#[derive(Clone, Copy, Debug, PartialEq, Eq)]
+pub struct Dc<'a> {
+    pub selected: Selected<'a>,
+    pub modes: Modes,
+    pub map: PageMap,
+    pub position: Point,
+    pub clip: Clip,
+}
+
+impl<'a> Dc<'a> {
+    ghost use Rattle.dc_stack.specs.Clip.{unclipped};
+    ghost use Rattle.dc_stack.specs.Values.{dc_value, placed_value};
+
+    /// What drawings depend on before the first record of a file that starts with this map.
+    pub(crate) fn start(map: PageMap) -> Dc<'a>
+        ensures value { dc_value result ≡ start_dc (map_numbers map) }
+        ensures placed { placed_value result.clip ≡ unclipped }
+    {
+        Dc {
+            selected: Selected::stock(),
+            modes: start(),
+            map,
+            position: Point { x: 0, y: 0 },
+            clip: Clip::none(),
+        }
+    }
+}

@@ -1,0 +1,13 @@
+//! How faults depend on the surface.
+
+ghost use Rattle.dc_stack.specs.FaultLaws.{FaultLaws};
+
+use mapping::placing_law;
+
+/// Another fault than being off the plane is the same on each surface, and an operation without a fault
+/// on a surface has none on each that is no larger.
+pub fn fault_law()
+    ensures { FaultLaws }
+{
+    placing_law();
+}

@@ -1,0 +1,36 @@
+//! The playing state: objects in use and held, saved states, settings, page map and clip.
+//!
+//! # What is promised
+//!
+//! - A machine starts as its file does, with no object and no saved state (`Machine::new`, `restart`).
+//! - Each step has the first fault that the definition says, and then nothing has changed, or leaves the
+//!   next state (`Machine::step`, by `fault_of` and `next`).
+//! - What a step draws is the operation's drawing, with the tools of its moment (`Machine::step`, `dc`).
+//! - Memory is refused only where there is no room, which no call makes smaller (`Machine::step`,
+//!   `reserve`).
+//! - The needs are the greatest of all steps since the start (`Machine::needs`).
+//! - The clip has a pixel exactly where the definition says so (`Clip::has`).
+//! - Only being off the plane depends on the surface, and an operation without a fault on a surface has
+//!   none on a smaller one (`fault_law`).
+#![tactic(auto)]
+
+mod clip;
+mod dc;
+mod draw;
+mod laws;
+mod machine;
+mod modes;
+mod needs;
+mod placing;
+mod saved;
+mod selected;
+mod stock;
+
+pub use clip::{Clip, ClipBox};
+pub use dc::Dc;
+pub use draw::Draw;
+pub use laws::fault_law;
+pub use machine::Machine;
+pub use modes::Modes;
+pub use needs::Needs;
+pub use selected::Selected;

@@ -1,0 +1,28 @@
+//! How what follows is drawn: modes and colours.
+
+ghost use Rattle.std.specs.Prelude.{◌≡◌};
+ghost use Rattle.dc_stack.specs.State.{start_modes};
+
+use draw_ops::{BackgroundMode, FillMode, RasterOp};
+use mapping::Colour;
+
+/// The settings that say how what follows is drawn. The background is that of hatched brushes alone.
+#[derive(Clone, Copy, Debug, PartialEq, Eq)]
+pub struct Modes {
+    pub background_mode: BackgroundMode,
+    pub background_colour: Colour,
+    pub raster_op: RasterOp,
+    pub fill_mode: FillMode,
+}
+
+/// The settings before the first record.
+pub(crate) fn start() -> Modes
+    ensures { result ≡ start_modes }
+{
+    Modes {
+        background_mode: BackgroundMode::Opaque,
+        background_colour: Colour::WHITE,
+        raster_op: RasterOp::CopyPen,
+        fill_mode: FillMode::Alternate,
+    }
+}

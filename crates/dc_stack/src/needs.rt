@@ -1,0 +1,44 @@
+//! What a run needs room for.
+
+ghost use Rattle.std.specs.Prelude.{◌≡◌, ◌<◌, ◌^◌};
+
+/// What a run needs room for, each the greatest that came: saved states at a time, slots of objects (the
+/// greatest index that was made, and 1), points of one drawing, and pieces of a path at a time.
+#[derive(Clone, Copy, Debug, PartialEq, Eq)]
+pub struct Needs {
+    pub depth: u32,
+    pub slots: u32,
+    pub edges: u32,
+    pub pieces: u32,
+}
+
+impl Needs {
+    ghost use Rattle.dc_stack.specs.Needs.{depth_needed, greater_needs, no_needs, slots_needed};
+
+    /// Nothing is needed.
+    pub(crate) fn none() -> Needs
+        ensures { result ≡ no_needs }
+    {
+        Needs {
+            depth: 0,
+            slots: 0,
+            edges: 0,
+            pieces: 0,
+        }
+    }
+
+    /// Raises how many saved states there are at a time to this, if it is more.
+    pub(crate) fn raise_depth(&mut self, depth: u32)
+        ensures { self.new ≡ greater_needs self.old (depth_needed depth) }
+    {
+        self.depth = self.depth.max(depth);
+    }
+
+    /// Raises how many slots there are so that this index has one.
+    pub(crate) fn raise_slots(&mut self, index: u32)
+        requires { index < 2 ^ 16 }
+        ensures { self.new ≡ greater_needs self.old (slots_needed index) }
+    {
+        self.slots = self.slots.max(index + 1);
+    }
+}

@@ -1,0 +1,79 @@
+//! The objects in use.
+
+ghost use Rattle.std.specs.Prelude.{◌≡◌, None};
+ghost use Rattle.draw_ops.specs.Objects.{index_of, object_value_of};
+ghost use Rattle.dc_stack.specs.Selecting.{is_index_of, selects, with_object_selected};
+ghost use Rattle.dc_stack.specs.State.{stock_selections};
+
+use draw_ops::{Brush, Handle, Object, Pen};
+use mapping::Colour;
+
+/// The objects in use, each with its index, if it isn't a stock object. Nothing is drawn with the font
+/// and the palette: of them the index alone is kept.
+#[derive(Clone, Copy, Debug, PartialEq, Eq)]
+pub struct Selected<'a> {
+    pub pen: Pen,
+    pub pen_handle: Option<Handle>,
+    pub brush: Brush<'a>,
+    pub brush_handle: Option<Handle>,
+    pub font: Option<Handle>,
+    pub palette: Option<Handle>,
+}
+
+impl<'a> Selected<'a> {
+    ghost use Rattle.dc_stack.specs.Values.{selections_value};
+
+    /// The stock objects with which each file starts.
+    pub(crate) fn stock() -> Selected<'a>
+        ensures { selections_value result ≡ stock_selections }
+    {
+        Selected {
+            pen: Pen::Solid {
+                colour: Colour { r: 0, g: 0, b: 0 },
+            },
+            pen_handle: None,
+            brush: Brush::Solid(Colour::WHITE),
+            brush_handle: None,
+            font: None,
+            palette: None,
+        }
+    }
+
+    /// Puts an object in use, in the place of its kind.
+    pub(crate) fn select(&mut self, handle: Option<Handle>, object: Object<'a>)
+        ensures { selections_value self.new ≡ with_object_selected (index_of handle) (object_value_of object.entry) (selections_value self.old) }
+    {
+        match object {
+            Object::Pen(pen) => {
+                self.pen = pen;
+                self.pen_handle = handle;
+            }
+            Object::Brush(brush) => {
+                self.brush = brush;
+                self.brush_handle = handle;
+            }
+            Object::Font => self.font = handle,
+            Object::Palette => self.palette = handle,
+        }
+    }
+
+    /// Whether one of the objects has this index.
+    pub(crate) fn has(&self, handle: Handle) -> bool
+        ensures { result ≡ selects handle.0 (selections_value self.now) }
+    {
+        is_of(handle, self.pen_handle)
+            || is_of(handle, self.brush_handle)
+            || is_of(handle, self.font)
+            || is_of(handle, self.palette)
+    }
+}
+
+/// Whether a kept index is this one.
+fn is_of(handle: Handle, kept: Option<Handle>) -> bool
+    ensures { result ≡ is_index_of handle.0 (index_of kept) }
+{
+    match kept {
+        None => false,
+        Some(kept) => kept.0 == handle.0,
+    }
+}

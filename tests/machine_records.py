@@ -1,0 +1,226 @@
+"""The records that change what later ones are played with, by names that both formats share, and
+what the built programs answer to files of them.
+
+Tests write them as scripts. `pen 0; select 0; 2x save; keep 1 1 3 3; pixel 2 2` makes a pen,
+selects it, saves the state twice, keeps a box of the clip, and draws a red pixel: five kinds of
+records, each with its numbers, the third twice.
+"""
+
+import re
+import unittest
+from collections.abc import Callable
+from typing import NamedTuple
+
+from built import answer
+from records_table import (
+    BLUE,
+    EMF_END,
+    RED,
+    WMF_END,
+    colour,
+    emf_file,
+    emf_pixel,
+    emf_record,
+    i16,
+    i32,
+    placeable_file,
+    refused,
+    shown,
+    u16,
+    u32,
+    wmf_pixel,
+    wmf_record,
+)
+
+# The side of the frame and of the surface where a test tells no other: a point of the plane is then
+# a pixel.
+SIDE = 16
+
+# How many indexes an EMF has, that of 0 included, where a test tells no other number.
+HANDLES = 16
+
+
+class Form(NamedTuple):
+    """A format: how one record of it is written, its records by their names in scripts (a number,
+    and how the numbers behind the name become parameters), its pixel, its files of records with a
+    frame and a count of handles, and the number of their first record."""
+
+    name: str
+    record: Callable
+    named: dict[str, tuple[int, Callable]]
+    pixel: Callable
+    file: Callable
+    first: int
+
+    def step(self, name, *numbers):
+        """The bytes of a record, or of the pixels of `paint`."""
+        if name == "pixel":
+            return self.pixel(*numbers, RED)
+        if name == "blue":
+            return self.pixel(*numbers, BLUE)
+        if name == "paint":
+            return self.paint()
+        number, parameters = self.named[name]
+        return self.record(number, parameters(*numbers))
+
+    def paint(self):
+        """Red pixels at all page points round the surface, wherever its origin is moved."""
+        places = range(-SIDE // 2, SIDE)
+        return b"".join(self.pixel(x, y, RED) for y in places for x in places)
+
+    def records(self, script):
+        """The records that a script tells, in order."""
+        told = []
+        for step in filter(None, map(str.strip, script.split(";"))):
+            times, name, numbers = re.fullmatch(r"(?:(\d+)x )?([a-z_]+)(.*)", step).groups()
+            record = self.step(name, *(int(number, 0) for number in numbers.split()))
+            told += [record] * int(times or 1)
+        return told
+
+
+# WMF. Creates take the lowest free index: the one behind their names is for the reader.
+
+WMF_OBJECTS = {
+    "pen": (0x02FA, u16(0) + i16(1, 0) + colour()),
+    "brush": (0x02FC, u16(0) + colour() + u16(0)),
+    "font": (0x02FB, b""),
+    "palette": (0x00F7, b""),
+}
+
+
+def wmf_object(parameters):
+    """A create's parameters, whatever its index."""
+    return lambda index: parameters
+
+
+def wmf_point(x, y):
+    """A point, y first."""
+    return i16(y, x)
+
+
+def wmf_box(left, top, right, bottom):
+    """A box from its last edge to its first."""
+    return i16(bottom, right, top, left)
+
+
+def wmf_frame(records, frame, handles):
+    """A placeable file whose box is a square at the origin; it counts no handles."""
+    return placeable_file([*records, WMF_END], right=i16(frame), bottom=i16(frame))
+
+
+WMF = Form(
+    name="WMF",
+    record=wmf_record,
+    named={name: (number, wmf_object(rest)) for name, (number, rest) in WMF_OBJECTS.items()}
+    | {
+        "select": (0x012D, u16),
+        "delete": (0x01F0, u16),
+        "select_palette": (0x0234, u16),
+        "save": (0x001E, i16),
+        "restore": (0x0127, i16),
+        "map_mode": (0x0103, u16),
+        "window_origin": (0x020B, wmf_point),
+        "window_extent": (0x020C, wmf_point),
+        "viewport_origin": (0x020D, wmf_point),
+        "viewport_extent": (0x020E, wmf_point),
+        "offset_window": (0x020F, wmf_point),
+        "offset_viewport": (0x0211, wmf_point),
+        "move": (0x0214, wmf_point),
+        "cut": (0x0415, wmf_box),
+        "keep": (0x0416, wmf_box),
+    },
+    pixel=wmf_pixel,
+    file=wmf_frame,
+    first=0,
+)
+
+
+# EMF. Objects are counted from 0 as in WMF, though their least index is 1; `select_at 1` selects the
+# object that `select 0` does, and so with each record that tells an index.
+
+EMF_INDEXED = {
+    "pen": (38, u32(0) + i32(1, 0) + colour()),
+    "brush": (39, u32(0) + colour() + u32(0)),
+    "font": (82, b""),
+    "palette": (49, b""),
+    "long_pen": (95, u32(0, 0, 0, 0, 0, 1, 0) + colour() + u32(0, 0)),
+    "select": (37, b""),
+    "delete": (40, b""),
+    "select_palette": (48, b""),
+}
+
+
+def emf_indexed(rest, lowest):
+    """An index, counted from the lowest, and the other parameters."""
+    return lambda index: u32(lowest + index) + rest
+
+
+def emf_region():
+    """No region, and the mode that copies: the clip is taken away."""
+    return u32(0, 5)
+
+
+def emf_frame(records, frame, handles):
+    """An EMF whose bounds are a square at the origin, with a count of handles."""
+    ends = {"right": i32(frame - 1), "bottom": i32(frame - 1)}
+    return emf_file([*records, EMF_END], handles=u16(handles), **ends)
+
+
+EMF = Form(
+    name="EMF",
+    record=emf_record,
+    named={name: (kind, emf_indexed(rest, 1)) for name, (kind, rest) in EMF_INDEXED.items()}
+    | {f"{name}_at": (kind, emf_indexed(rest, 0)) for name, (kind, rest) in EMF_INDEXED.items()}
+    | {
+        "save": (33, i32),
+        "restore": (34, i32),
+        "map_mode": (17, u32),
+        "window_extent": (9, i32),
+        "window_origin": (10, i32),
+        "viewport_extent": (11, i32),
+        "viewport_origin": (12, i32),
+        "move": (27, i32),
+        "cut": (29, i32),
+        "keep": (30, i32),
+        "unclip": (75, emf_region),
+    },
+    pixel=emf_pixel,
+    file=emf_frame,
+    first=1,
+)
+
+FORMS = [WMF, EMF]
+
+
+def picture(rows):
+    """The answer that shows rows of pixels, apart by white space: `#` is red, and `.` white."""
+    rows = rows.split()
+    drawn = {(x, y): RED for y, row in enumerate(rows) for x, mark in enumerate(row) if mark == "#"}
+    return shown(drawn, len(rows[0]), len(rows))
+
+
+def pixels(places, rgb=RED):
+    """The answer that shows pixels of one colour at these places."""
+    return shown(dict.fromkeys(places, rgb), SIDE, SIDE)
+
+
+class StateTest(unittest.TestCase):
+    """What a program answers to files whose records scripts tell."""
+
+    def answer(self, program, form, script, frame=SIDE, surface=(SIDE, SIDE), handles=HANDLES):
+        """The program's answer to a file of these records on a surface."""
+        given = form.file(form.records(script), frame, handles)
+        return answer(program, ["show", "stdin", *map(str, surface)], given)
+
+    def check(self, program, form, script, wanted, **file):
+        """The program's answer is the wanted one."""
+        with self.subTest(form=form.name, script=script, **file):
+            self.assertEqual(self.answer(program, form, script, **file), wanted)
+
+    def check_cases(self, program, form, cases, **file):
+        """Of each case's records, which draw nothing, the last has the case's fault; where it has
+        none, all are accepted."""
+        for script, fault in cases:
+            last = form.first + len(form.records(script)) - 1
+            wanted = pixels([]) if fault is None else refused(fault, last)
+            self.check(program, form, script, wanted, **file)
