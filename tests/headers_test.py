@@ -215,9 +215,11 @@ class PlainHeader(HeaderTest):
             without = window_extent(*extent)
             self.check_records(program, [without, WMF_END], NO_FRAME)
             self.check_records(program, [without, without, WMF_END], NO_FRAME)
-            # Interim: it opens, and an extent that isn't the window's isn't played.
-            opened = refused("Unsupported 0", 0)
-            self.check_records(program, [without, window_extent(4, 4), WMF_END], opened)
+            # It opens by the next, and then such an extent is refused where extents count.
+            records = [without, window_extent(4, 4), wmf_pixel(2, 1, RED), WMF_END]
+            self.check_records(program, records, refused("ZeroExtent", 0))
+            mode_of_text = wmf_record(0x0103, u16(1))
+            self.check_records(program, [mode_of_text, *records], pixel_at(10, 5))
 
     @for_each_program
     def test_an_extent_without_both_its_numbers_is_passed_over(self, program):

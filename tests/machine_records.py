@@ -135,8 +135,8 @@ WMF = Form(
 )
 
 
-# EMF. Objects are counted from 0 as in WMF, though their least index is 1; `select_at 1` selects the
-# object that `select 0` does, and so with each record that tells an index.
+# EMF. Objects are counted from 0 as in WMF, though their least index is 1; `select_at 1` selects
+# the object that `select 0` does, and so with each record that tells an index.
 
 EMF_INDEXED = {
     "pen": (38, u32(0) + i32(1, 0) + colour()),
@@ -199,9 +199,9 @@ def picture(rows):
     return shown(drawn, len(rows[0]), len(rows))
 
 
-def pixels(places, rgb=RED):
-    """The answer that shows pixels of one colour at these places."""
-    return shown(dict.fromkeys(places, rgb), SIDE, SIDE)
+def pixels(places):
+    """The answer that shows red pixels at these places."""
+    return shown(dict.fromkeys(places, RED), SIDE, SIDE)
 
 
 class StateTest(unittest.TestCase):
@@ -224,3 +224,14 @@ class StateTest(unittest.TestCase):
             last = form.first + len(form.records(script)) - 1
             wanted = pixels([]) if fault is None else refused(fault, last)
             self.check(program, form, script, wanted, **file)
+
+
+class PictureTest(StateTest):
+    """What a program answers to files that draw red pixels everywhere."""
+
+    def check_pictures(self, program, forms, pictures, frame=6, surface=(6, 6)):
+        """Behind records, red pixels everywhere show the picture that the clip lets through."""
+        for form in forms:
+            for records, rows in pictures.items():
+                file = {"frame": frame, "surface": surface}
+                self.check(program, form, f"{records}; paint", picture(rows), **file)

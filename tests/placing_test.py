@@ -61,6 +61,12 @@ class OffPlane(StateTest):
             ]
             self.check_cases(program, form, cases, frame=32767)
 
+    @for_each_program
+    def test_a_position_has_no_limit(self, program):
+        self.check(program, WMF, f"{FAR}; move 32767 -32768; pixel 0 0", pixels([(0, 0)]))
+        self.check(program, EMF, f"{FAR}; move 32767 -32768; pixel 0 0", pixels([(0, 0)]))
+        self.check(program, EMF, "move 2147483647 -2147483648; pixel 1 2", pixels([(1, 2)]))
+
     def far_cornered(self, corner, records):
         """An EMF with its bounds' corner far from the origin."""
         ends = {"left": i32(corner), "top": i32(corner)}

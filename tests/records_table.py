@@ -1,8 +1,9 @@
 """The records of both formats, [MS-WMF] 2.3 and [MS-EMF] 2.3, written as data for the tests alone,
 and files made of them.
 
-What a record leads to, its outcome, is one of three: the pixels that it draws, by their places
-(none, where it has no effect), and the file goes on; a fault's text; or `ENDS`, the file's end.
+What a record leads to, its outcome, is one of four: the pixels that it draws, by their places
+(none, where it has no effect), and the file goes on; `Behind`, where it changes what later records
+are played with; a fault's text; or `ENDS`, the file's end.
 """
 
 import functools
@@ -15,8 +16,22 @@ from built import Answer
 
 ENDS = None
 
-# Interim: an operation with an effect other than a pixel is refused until it is played.
-EFFECT = "Unsupported 0"
+
+class Behind(NamedTuple):
+    """Where a pixel that stands behind the record, at (3,3) of the page, is drawn: in a place, or
+    nowhere."""
+
+    place: tuple[int, int] | None
+
+
+# The pixel behind is drawn as it would be without the record.
+ACCEPTED = Behind((3, 3))
+
+# The pixel behind isn't drawn.
+HIDDEN = Behind(None)
+
+# Interim: lines, polygons, rectangles and paths are refused until they are played.
+UNPLAYED = "Unsupported 0"
 
 
 # Numbers, with the least byte first.
@@ -158,7 +173,8 @@ def placeable_file(records, /, **changes):
 
 
 def emf_header(records, extension):
-    """EMR_HEADER ([MS-EMF] 2.3.4.2) of a file with these records, with the bounds (0,0,3,3)."""
+    """EMR_HEADER ([MS-EMF] 2.3.4.2) of a file with these records, with the bounds (0,0,3,3) and one
+    index for objects beside that of 0."""
     size = 88 + len(extension)
     return {
         "type": u32(1),
@@ -172,7 +188,7 @@ def emf_header(records, extension):
         "version": u32(0x00010000),
         "bytes": u32(size + sum(map(len, records))),
         "records": u32(1 + len(records)),
-        "handles": u16(1),
+        "handles": u16(2),
         "reserved": u16(0),
         "description": u32(0, 0),
         "palette_entries": u32(0),
@@ -219,30 +235,31 @@ def far(number, good):
 
 
 # A colour is of type 0 or 2: a byte each of red, green and blue.
-COLOURS = {EFFECT: [0, 2], "PaletteColour": [1, 3, 0x80, 0xFF]}
+COLOURS = {ACCEPTED: [0, 2], "PaletteColour": [1, 3, 0x80, 0xFF]}
 
 
 def background_modes(number):
     """MixMode, [MS-WMF] 2.1.1.20."""
-    return numbers("mode", number, {EFFECT: [1, 2], "BadValue": [0, 3, *far(number, 1)]})
+    return numbers("mode", number, {ACCEPTED: [1, 2], "BadValue": [0, 3, *far(number, 1)]})
 
 
 def fill_modes(number):
     """PolyFillMode, [MS-WMF] 2.1.1.25."""
-    return numbers("mode", number, {EFFECT: [1, 2], "BadValue": [0, 3, *far(number, 2)]})
+    return numbers("mode", number, {ACCEPTED: [1, 2], "BadValue": [0, 3, *far(number, 2)]})
 
 
 def map_modes(number):
-    """MapMode, [MS-WMF] 2.1.1.16, of which 2 to 6 count in units of length."""
+    """MapMode, [MS-WMF] 2.1.1.16, of which 2 to 6 count in units of length. In the others the page
+    of these files lands on itself: where extents count, those of window and viewport are alike."""
     bad = [0, 9, *far(number, 8), *far(number, 2)]
-    outcomes = {EFFECT: [1, 7, 8], "MetricMode": [2, 3, 4, 5, 6], "BadValue": bad}
+    outcomes = {ACCEPTED: [1, 7, 8], "MetricMode": [2, 3, 4, 5, 6], "BadValue": bad}
     return numbers("mode", number, outcomes)
 
 
 def raster_operations(number):
     """BinaryRasterOperation, [MS-WMF] 2.1.1.2."""
     good = list(range(1, 17))
-    return numbers("operation", number, {EFFECT: good, "BadValue": [0, 17, *far(number, 13)]})
+    return numbers("operation", number, {ACCEPTED: good, "BadValue": [0, 17, *far(number, 13)]})
 
 
 def pens(number, signed):
@@ -251,12 +268,12 @@ def pens(number, signed):
     largest = 0xFFFF if number is u16 else 0xFFFFFFFF
     lowest = -(largest // 2) - 1
     return [
-        *numbers("style", number, {EFFECT: [*range(9), largest - 15, largest - 7]}),
+        *numbers("style", number, {ACCEPTED: [*range(9), largest - 15, largest - 7]}),
         *numbers("style", number, {"BadValue": [*range(9, 16), largest - 6, largest]}),
-        *numbers("width", signed, {EFFECT: [0, 1, 2, -1, lowest]}),
+        *numbers("width", signed, {ACCEPTED: [0, 1, 2, -1, lowest]}),
         *numbers("colour", colour, COLOURS),
-        ({"style": number(5), "colour": PALETTE}, EFFECT),
-        ({"style": number(0x15), "colour": PALETTE}, EFFECT),
+        ({"style": number(5), "colour": PALETTE}, ACCEPTED),
+        ({"style": number(0x15), "colour": PALETTE}, ACCEPTED),
         ({"style": number(8), "colour": PALETTE}, "PaletteColour"),
         ({"style": number(9), "colour": PALETTE}, "BadValue"),
     ]
@@ -267,11 +284,11 @@ def brushes(number):
     only a hatched one has its hatch read (HatchStyle, [MS-WMF] 2.1.1.12)."""
     hatched = {"style": number(2)}
     return [
-        *numbers("style", number, {EFFECT: [0, 1, 2], "BadValue": [3, 4, 9, *far(number, 0)]}),
+        *numbers("style", number, {ACCEPTED: [0, 1, 2], "BadValue": [3, 4, 9, *far(number, 0)]}),
         *numbers("colour", colour, COLOURS),
-        ({"style": number(1), "colour": PALETTE, "hatch": number(6)}, EFFECT),
-        ({"style": number(0), "hatch": number(6)}, EFFECT),
-        *[(hatched | {"hatch": number(hatch)}, EFFECT) for hatch in range(6)],
+        ({"style": number(1), "colour": PALETTE, "hatch": number(6)}, ACCEPTED),
+        ({"style": number(0), "hatch": number(6)}, ACCEPTED),
+        *[(hatched | {"hatch": number(hatch)}, ACCEPTED) for hatch in range(6)],
         *[(hatched | {"hatch": number(hatch)}, "BadValue") for hatch in [6, *far(number, 5)]],
         (hatched | {"colour": PALETTE}, "PaletteColour"),
         (hatched | {"colour": PALETTE, "hatch": number(6)}, "PaletteColour"),
@@ -303,6 +320,30 @@ def far_pixels():
     ]
 
 
+def extents():
+    """Where extents count, as in the WMF files here, none is 0."""
+    zero = i16(0)
+    return [
+        ({"x": i16(4), "y": i16(4)}, ACCEPTED),
+        ({"x": i16(-4), "y": i16(4)}, HIDDEN),
+        ({"x": i16(4), "y": i16(-4)}, HIDDEN),
+        *[(zeros, "ZeroExtent") for zeros in ({"x": zero}, {"y": zero}, {"x": zero, "y": zero})],
+    ]
+
+
+def boxes(signed, held, beside):
+    """Changes of a box from (3,2) to (5,4): those by which it still holds (3,3), in whatever order
+    its corners are, and those by which (3,3) lies beside it."""
+    outer = {"left": 2, "top": 3, "right": 4, "bottom": 5}
+    inner = {"left": 4, "top": 4, "right": 3, "bottom": 3}
+    return [
+        *[({edge: signed(place)}, held) for edge, place in outer.items()],
+        *[({edge: signed(place)}, beside) for edge, place in inner.items()],
+        ({"left": signed(5), "right": signed(3)}, held),
+        ({"top": signed(4), "bottom": signed(2)}, held),
+    ]
+
+
 def points(signed, count):
     """Points in their two numbers."""
     return signed(*[1, 2] * count)
@@ -316,7 +357,7 @@ def wmf_points():
         return {"count": u16(count), "points": points(i16, there)}
 
     return [
-        *[(counted(count, count), EFFECT) for count in (1, 3, 0x7FFF)],
+        *[(counted(count, count), UNPLAYED) for count in (1, 3, 0x7FFF)],
         *[(counted(count, count - 1), "BadParams") for count in (1, 4, 0x4000, 0x7FFF)],
         *[(counted(count, 0), "BadParams") for count in (0x4000, 0x7FFF, 0x8000, 0xFFFF)],
         *[(counted(count, count), "BadParams") for count in (0x8000, 0xFFFF)],
@@ -334,8 +375,8 @@ def wmf_point_lists():
     good = [[0], [3], [1, 2], [0, 3, 0], [0xFFFF]]
     wrapping = [0xFFFF] * 0x4000 + [0x4000]
     return [
-        *[(parted(counts, sum(counts)), EFFECT) for counts in good],
-        (parted([0] * 0xFFFF, 0), EFFECT),
+        *[(parted(counts, sum(counts)), UNPLAYED) for counts in good],
+        (parted([0] * 0xFFFF, 0), UNPLAYED),
         *[(parted(counts, sum(counts) - 1), "BadParams") for counts in ([3], [1, 2], [0xFFFF])],
         (parted([0xFFFF, 1], 0), "BadParams"),
         (parted(wrapping, 0), "BadParams"),
@@ -353,7 +394,7 @@ def emf_points(signed):
 
     wrap = (1 << 32) // len(points(signed, 1))
     return [
-        *[(counted(count, count), EFFECT) for count in (1, 3, 70000)],
+        *[(counted(count, count), UNPLAYED) for count in (1, 3, 70000)],
         *[(counted(count, count - 1), "BadParams") for count in (1, 4, 70000)],
         *[(counted(count, 1), "BadParams") for count in (0x10001, 1 << 31, (1 << 32) - 1)],
         (counted(wrap, 0), "BadParams"),
@@ -374,7 +415,7 @@ def emf_point_lists(signed):
     wrap = (1 << 32) // len(points(signed, 1))
     good = [[0], [3], [1, 2], [0, 3, 0], [0] * 70000, [70000]]
     return [
-        *[(parted(counts, sum(counts), sum(counts)), EFFECT) for counts in good],
+        *[(parted(counts, sum(counts), sum(counts)), UNPLAYED) for counts in good],
         *[(parted(counts, 3, 3), "BadParams") for counts in ([], [2], [4], [1, 1], [1, 3])],
         *[(parted([1, 2], total, 4), "BadParams") for total in (2, 4)],
         (parted([1, 2], 3, 2), "BadParams"),
@@ -393,29 +434,33 @@ def emf_point_lists(signed):
 
 POINT = {"y": i16(1), "x": i16(2)}
 
-BOX = {"bottom": i16(3), "right": i16(4), "top": i16(1), "left": i16(2)}
+# The pixel behind, at (3,3) of the page, lands on (2,1) where this is added to it.
+BACK = {"y": i16(-2), "x": i16(-1)}
+
+# A box that holds (3,3).
+BOX = {"bottom": i16(4), "right": i16(5), "top": i16(2), "left": i16(3)}
 
 WMF_KINDS = [
     Kind(0x0000, "META_EOF", ENDS),
-    Kind(0x001E, "META_SAVEDC", EFFECT),
-    Kind(0x00F7, "META_CREATEPALETTE", EFFECT),
-    Kind(0x0102, "META_SETBKMODE", EFFECT, {"mode": u16(2)}, background_modes(u16)),
-    Kind(0x0103, "META_SETMAPMODE", EFFECT, {"mode": u16(8)}, map_modes(u16)),
-    Kind(0x0104, "META_SETROP2", EFFECT, {"operation": u16(13)}, raster_operations(u16)),
-    Kind(0x0106, "META_SETPOLYFILLMODE", EFFECT, {"mode": u16(1)}, fill_modes(u16)),
+    Kind(0x001E, "META_SAVEDC", ACCEPTED),
+    Kind(0x00F7, "META_CREATEPALETTE", ACCEPTED),
+    Kind(0x0102, "META_SETBKMODE", ACCEPTED, {"mode": u16(2)}, background_modes(u16)),
+    Kind(0x0103, "META_SETMAPMODE", ACCEPTED, {"mode": u16(8)}, map_modes(u16)),
+    Kind(0x0104, "META_SETROP2", ACCEPTED, {"operation": u16(13)}, raster_operations(u16)),
+    Kind(0x0106, "META_SETPOLYFILLMODE", ACCEPTED, {"mode": u16(1)}, fill_modes(u16)),
     Kind(
         0x0127,
         "META_RESTOREDC",
-        EFFECT,
+        "NoSavedState",
         {"saved": i16(-1)},
-        numbers("saved", i16, {EFFECT: [0, 1, -32768, 32767]}),
+        numbers("saved", i16, {"NoSavedState": [0, 1, -32768, 32767]}),
     ),
     Kind(
         0x012D,
         "META_SELECTOBJECT",
-        EFFECT,
+        "NoSuchHandle",
         {"index": u16(0)},
-        numbers("index", u16, {EFFECT: [1023, 0xFFFF]}),
+        numbers("index", u16, {"NoSuchHandle": [1023, 0x8000, 0xFFFF]}),
     ),
     Kind(
         0x0149,
@@ -424,49 +469,50 @@ WMF_KINDS = [
         {"layout": u16(0)},
         numbers("layout", u16, {"Unsupported 329": [1, 8, *far(u16, 0)]}),
     ),
-    Kind(0x01F0, "META_DELETEOBJECT", EFFECT, {"index": u16(0)}),
+    Kind(0x01F0, "META_DELETEOBJECT", "NoSuchHandle", {"index": u16(0)}),
     Kind(
         0x0201,
         "META_SETBKCOLOR",
-        EFFECT,
+        ACCEPTED,
         {"colour": colour()},
         numbers("colour", colour, COLOURS),
     ),
-    Kind(0x020B, "META_SETWINDOWORG", EFFECT, POINT),
-    # Setting the extent that the window has is without effect: here that of the box.
-    Kind(0x020C, "META_SETWINDOWEXT", EFFECT, POINT, [({"x": i16(4), "y": i16(4)}, {})]),
-    Kind(0x020D, "META_SETVIEWPORTORG", EFFECT, POINT),
-    Kind(0x020E, "META_SETVIEWPORTEXT", EFFECT, POINT),
-    Kind(0x020F, "META_OFFSETWINDOWORG", EFFECT, POINT),
-    Kind(0x0211, "META_OFFSETVIEWPORTORG", EFFECT, POINT),
-    Kind(0x0213, "META_LINETO", EFFECT, POINT),
-    Kind(0x0214, "META_MOVETO", EFFECT, POINT),
-    Kind(0x0234, "META_SELECTPALETTE", EFFECT, {"index": u16(0)}),
+    Kind(0x020B, "META_SETWINDOWORG", Behind((1, 2)), POINT),
+    # The extents of window and viewport are those of the box, 4 and 4: 3 times 4/6 is 2, and 3
+    # times 4/12 is 1; 3 times 3/4 is 2, and 3 times 2/4 is 1.
+    Kind(0x020C, "META_SETWINDOWEXT", Behind((2, 1)), {"y": i16(12), "x": i16(6)}, extents()),
+    Kind(0x020D, "META_SETVIEWPORTORG", Behind((2, 1)), BACK),
+    Kind(0x020E, "META_SETVIEWPORTEXT", Behind((2, 1)), {"y": i16(2), "x": i16(3)}, extents()),
+    Kind(0x020F, "META_OFFSETWINDOWORG", Behind((1, 2)), POINT),
+    Kind(0x0211, "META_OFFSETVIEWPORTORG", Behind((2, 1)), BACK),
+    Kind(0x0213, "META_LINETO", UNPLAYED, POINT),
+    Kind(0x0214, "META_MOVETO", ACCEPTED, POINT),
+    Kind(0x0234, "META_SELECTPALETTE", "NoSuchHandle", {"index": u16(0)}),
     Kind(
         0x02FA,
         "META_CREATEPENINDIRECT",
-        EFFECT,
+        ACCEPTED,
         {"style": u16(0), "width": i16(1), "height": i16(-1), "colour": colour()},
         pens(u16, i16),
     ),
-    Kind(0x02FB, "META_CREATEFONTINDIRECT", EFFECT),
+    Kind(0x02FB, "META_CREATEFONTINDIRECT", ACCEPTED),
     Kind(
         0x02FC,
         "META_CREATEBRUSHINDIRECT",
-        EFFECT,
+        ACCEPTED,
         {"style": u16(0), "colour": colour(), "hatch": u16(0)},
         brushes(u16),
     ),
-    Kind(0x0324, "META_POLYGON", EFFECT, {"count": i16(0), "points": b""}, wmf_points()),
-    Kind(0x0325, "META_POLYLINE", EFFECT, {"count": i16(0), "points": b""}, wmf_points()),
-    Kind(0x0415, "META_EXCLUDECLIPRECT", EFFECT, BOX),
-    Kind(0x0416, "META_INTERSECTCLIPRECT", EFFECT, BOX),
-    Kind(0x041B, "META_RECTANGLE", EFFECT, BOX),
+    Kind(0x0324, "META_POLYGON", UNPLAYED, {"count": i16(0), "points": b""}, wmf_points()),
+    Kind(0x0325, "META_POLYLINE", UNPLAYED, {"count": i16(0), "points": b""}, wmf_points()),
+    Kind(0x0415, "META_EXCLUDECLIPRECT", HIDDEN, BOX, boxes(i16, HIDDEN, ACCEPTED)),
+    Kind(0x0416, "META_INTERSECTCLIPRECT", ACCEPTED, BOX, boxes(i16, ACCEPTED, HIDDEN)),
+    Kind(0x041B, "META_RECTANGLE", UNPLAYED, BOX),
     Kind(0x041F, "META_SETPIXEL", {(2, 1): RED}, {"colour": colour()} | POINT, pixels(i16)),
     Kind(
         0x0538,
         "META_POLYPOLYGON",
-        EFFECT,
+        UNPLAYED,
         {"lists": u16(0), "counts": b"", "points": b""},
         wmf_point_lists(),
     ),
@@ -533,9 +579,37 @@ LISTS = BOUNDS | {"lists": u32(0), "total": u32(0), "counts": b"", "points": b""
 
 LONG_POINT = {"x": i32(2), "y": i32(1)}
 
-LONG_BOX = {"left": i32(2), "top": i32(1), "right": i32(4), "bottom": i32(3)}
+LONG_BACK = {"x": i32(-1), "y": i32(-2)}
+
+LONG_BOX = {"left": i32(3), "top": i32(2), "right": i32(5), "bottom": i32(4)}
 
 INDEX = {"index": u32(1)}
+
+
+def indexes():
+    """The index of a new object is above 0 and below the header's count of handles, here 2."""
+    return numbers("index", u32, {"NoSuchHandle": [0, 2, *far(u32, 1)]})
+
+
+def created(bad, fault):
+    """A new object's index, which is looked at once its values are: some are bad."""
+    return [*indexes(), (bad | {"index": u32(0)}, fault), (bad | {"index": u32(2)}, fault)]
+
+
+def selected(stock, wrong):
+    """Indexes where no object was made: those of stock objects of the right kind and of the wrong
+    one, and others."""
+    return [
+        *numbers("index", u32, {ACCEPTED: [0x80000000 + number for number in stock]}),
+        *numbers("index", u32, {"WrongKind": [0x80000000 + number for number in wrong]}),
+        *numbers("index", u32, {"NoSuchHandle": [0, 2, 0x80000009, 0x80000014, 0xFFFFFFFF]}),
+    ]
+
+
+def long_extents():
+    """Extents of any numbers."""
+    return [({"x": i32(x), "y": i32(y)}, ACCEPTED) for x in (0, -1, 7) for y in (0, -1, 7)]
+
 
 IDENTITY = (0x3F800000, 0, 0, 0x3F800000, 0, 0)
 
@@ -586,13 +660,13 @@ def long_pens():
     unread = ["bitmap_at", "bitmap_size", "bits_at", "bits_size", "width", "hatch", "entries"]
     null, null_brush = {"style": u32(5)}, {"brush_style": u32(1)}
     return [
-        *[({field: u32(0xFFFFFFFF)}, EFFECT) for field in unread],
-        *numbers("style", u32, {EFFECT: [*range(9), 0x10000, 0xFFFFFFF0, 0xFFFFFFF8]}),
+        *[({field: u32(0xFFFFFFFF)}, ACCEPTED) for field in unread],
+        *numbers("style", u32, {ACCEPTED: [*range(9), 0x10000, 0xFFFFFFF0, 0xFFFFFFF8]}),
         *numbers("style", u32, {"BadValue": [*range(9, 16), 0x10009, 0xFFFFFFFF]}),
-        *numbers("brush_style", u32, {EFFECT: [0, 1], "Unsupported 95": [2, 3, *far(u32, 0)]}),
+        *numbers("brush_style", u32, {ACCEPTED: [0, 1], "Unsupported 95": [2, 3, *far(u32, 0)]}),
         *numbers("colour", colour, COLOURS),
-        (null | {"colour": PALETTE}, EFFECT),
-        (null_brush | {"colour": PALETTE}, EFFECT),
+        (null | {"colour": PALETTE}, ACCEPTED),
+        (null_brush | {"colour": PALETTE}, ACCEPTED),
         (null | {"brush_style": u32(2)}, "Unsupported 95"),
         ({"brush_style": u32(2), "colour": PALETTE}, "Unsupported 95"),
         ({"style": u32(9), "brush_style": u32(2), "colour": PALETTE}, "BadValue"),
@@ -615,16 +689,16 @@ LONG_PEN = INDEX | {
 }
 
 EMF_KINDS = [
-    Kind(3, "EMR_POLYGON", EFFECT, ONE_LIST, emf_points(i32)),
-    Kind(4, "EMR_POLYLINE", EFFECT, ONE_LIST, emf_points(i32)),
-    Kind(6, "EMR_POLYLINETO", EFFECT, ONE_LIST, emf_points(i32)),
-    Kind(7, "EMR_POLYPOLYLINE", EFFECT, LISTS, emf_point_lists(i32)),
-    Kind(8, "EMR_POLYPOLYGON", EFFECT, LISTS, emf_point_lists(i32)),
-    # An EMF file starts with extents of 1.
-    Kind(9, "EMR_SETWINDOWEXTEX", EFFECT, LONG_POINT, [({"x": i32(1), "y": i32(1)}, {})]),
-    Kind(10, "EMR_SETWINDOWORGEX", EFFECT, LONG_POINT),
-    Kind(11, "EMR_SETVIEWPORTEXTEX", EFFECT, LONG_POINT),
-    Kind(12, "EMR_SETVIEWPORTORGEX", EFFECT, LONG_POINT),
+    Kind(3, "EMR_POLYGON", UNPLAYED, ONE_LIST, emf_points(i32)),
+    Kind(4, "EMR_POLYLINE", UNPLAYED, ONE_LIST, emf_points(i32)),
+    Kind(6, "EMR_POLYLINETO", UNPLAYED, ONE_LIST, emf_points(i32)),
+    Kind(7, "EMR_POLYPOLYLINE", UNPLAYED, LISTS, emf_point_lists(i32)),
+    Kind(8, "EMR_POLYPOLYGON", UNPLAYED, LISTS, emf_point_lists(i32)),
+    # In the mode that an EMF starts in, extents have no effect.
+    Kind(9, "EMR_SETWINDOWEXTEX", ACCEPTED, LONG_POINT, long_extents()),
+    Kind(10, "EMR_SETWINDOWORGEX", Behind((1, 2)), LONG_POINT),
+    Kind(11, "EMR_SETVIEWPORTEXTEX", ACCEPTED, LONG_POINT, long_extents()),
+    Kind(12, "EMR_SETVIEWPORTORGEX", Behind((2, 1)), LONG_BACK),
     Kind(14, "EMR_EOF", ENDS),
     Kind(
         15,
@@ -633,21 +707,21 @@ EMF_KINDS = [
         LONG_POINT | {"colour": colour()},
         [*pixels(i32), *far_pixels()],
     ),
-    Kind(17, "EMR_SETMAPMODE", EFFECT, {"mode": u32(8)}, map_modes(u32)),
-    Kind(18, "EMR_SETBKMODE", EFFECT, {"mode": u32(2)}, background_modes(u32)),
-    Kind(19, "EMR_SETPOLYFILLMODE", EFFECT, {"mode": u32(1)}, fill_modes(u32)),
-    Kind(20, "EMR_SETROP2", EFFECT, {"operation": u32(13)}, raster_operations(u32)),
-    Kind(25, "EMR_SETBKCOLOR", EFFECT, {"colour": colour()}, numbers("colour", colour, COLOURS)),
-    Kind(27, "EMR_MOVETOEX", EFFECT, LONG_POINT),
-    Kind(29, "EMR_EXCLUDECLIPRECT", EFFECT, LONG_BOX),
-    Kind(30, "EMR_INTERSECTCLIPRECT", EFFECT, LONG_BOX),
-    Kind(33, "EMR_SAVEDC", EFFECT),
+    Kind(17, "EMR_SETMAPMODE", ACCEPTED, {"mode": u32(8)}, map_modes(u32)),
+    Kind(18, "EMR_SETBKMODE", ACCEPTED, {"mode": u32(2)}, background_modes(u32)),
+    Kind(19, "EMR_SETPOLYFILLMODE", ACCEPTED, {"mode": u32(1)}, fill_modes(u32)),
+    Kind(20, "EMR_SETROP2", ACCEPTED, {"operation": u32(13)}, raster_operations(u32)),
+    Kind(25, "EMR_SETBKCOLOR", ACCEPTED, {"colour": colour()}, numbers("colour", colour, COLOURS)),
+    Kind(27, "EMR_MOVETOEX", ACCEPTED, LONG_POINT),
+    Kind(29, "EMR_EXCLUDECLIPRECT", HIDDEN, LONG_BOX, boxes(i32, HIDDEN, ACCEPTED)),
+    Kind(30, "EMR_INTERSECTCLIPRECT", ACCEPTED, LONG_BOX, boxes(i32, ACCEPTED, HIDDEN)),
+    Kind(33, "EMR_SAVEDC", ACCEPTED),
     Kind(
         34,
         "EMR_RESTOREDC",
-        EFFECT,
+        "NoSavedState",
         {"saved": i32(-1)},
-        numbers("saved", i32, {EFFECT: [0, 1, -0x80000000, 0x7FFFFFFF]}),
+        numbers("saved", i32, {"NoSavedState": [0, 1, -0x80000000, 0x7FFFFFFF]}),
     ),
     Kind(35, "EMR_SETWORLDTRANSFORM", {}, {"transform": transform()}, world_transforms()),
     Kind(
@@ -657,47 +731,47 @@ EMF_KINDS = [
         {"transform": transform(), "mode": u32(4)},
         world_changes(),
     ),
-    Kind(
-        37,
-        "EMR_SELECTOBJECT",
-        EFFECT,
-        INDEX,
-        numbers("index", u32, {EFFECT: [0, 0x80000000, 0x80000009, 0xFFFFFFFF]}),
-    ),
+    Kind(37, "EMR_SELECTOBJECT", "NoSuchHandle", INDEX, selected([0, 8, 0x13], [0xF])),
     Kind(
         38,
         "EMR_CREATEPEN",
-        EFFECT,
+        ACCEPTED,
         INDEX | {"style": u32(0), "width": i32(1), "height": i32(-1), "colour": colour()},
-        pens(u32, i32),
+        [*pens(u32, i32), *created({"style": u32(9)}, "BadValue")],
     ),
     Kind(
         39,
         "EMR_CREATEBRUSHINDIRECT",
-        EFFECT,
+        ACCEPTED,
         INDEX | {"style": u32(0), "colour": colour(), "hatch": u32(0)},
-        brushes(u32),
+        [*brushes(u32), *created({"colour": PALETTE}, "PaletteColour")],
     ),
-    Kind(40, "EMR_DELETEOBJECT", EFFECT, INDEX),
-    Kind(43, "EMR_RECTANGLE", EFFECT, LONG_BOX),
-    Kind(48, "EMR_SELECTPALETTE", EFFECT, INDEX),
-    Kind(49, "EMR_CREATEPALETTE", EFFECT, INDEX),
-    Kind(54, "EMR_LINETO", EFFECT, LONG_POINT),
-    Kind(59, "EMR_BEGINPATH", EFFECT),
-    Kind(60, "EMR_ENDPATH", EFFECT),
-    Kind(61, "EMR_CLOSEFIGURE", EFFECT),
-    Kind(62, "EMR_FILLPATH", EFFECT),
-    Kind(63, "EMR_STROKEANDFILLPATH", EFFECT),
-    Kind(64, "EMR_STROKEPATH", EFFECT),
-    Kind(68, "EMR_ABORTPATH", EFFECT),
-    Kind(75, "EMR_EXTSELECTCLIPRGN", EFFECT, {"size": u32(0), "mode": u32(5)}, clip_regions()),
-    Kind(82, "EMR_EXTCREATEFONTINDIRECTW", EFFECT, INDEX),
-    Kind(86, "EMR_POLYGON16", EFFECT, ONE_LIST, emf_points(i16)),
-    Kind(87, "EMR_POLYLINE16", EFFECT, ONE_LIST, emf_points(i16)),
-    Kind(89, "EMR_POLYLINETO16", EFFECT, ONE_LIST, emf_points(i16)),
-    Kind(90, "EMR_POLYPOLYLINE16", EFFECT, LISTS, emf_point_lists(i16)),
-    Kind(91, "EMR_POLYPOLYGON16", EFFECT, LISTS, emf_point_lists(i16)),
-    Kind(95, "EMR_EXTCREATEPEN", EFFECT, LONG_PEN, long_pens()),
+    Kind(40, "EMR_DELETEOBJECT", "NoSuchHandle", INDEX, selected([], [])),
+    Kind(43, "EMR_RECTANGLE", UNPLAYED, LONG_BOX),
+    Kind(48, "EMR_SELECTPALETTE", "NoSuchHandle", INDEX, selected([0xF], [0, 8, 0x13])),
+    Kind(49, "EMR_CREATEPALETTE", ACCEPTED, INDEX, indexes()),
+    Kind(54, "EMR_LINETO", UNPLAYED, LONG_POINT),
+    Kind(59, "EMR_BEGINPATH", UNPLAYED),
+    Kind(60, "EMR_ENDPATH", UNPLAYED),
+    Kind(61, "EMR_CLOSEFIGURE", UNPLAYED),
+    Kind(62, "EMR_FILLPATH", UNPLAYED),
+    Kind(63, "EMR_STROKEANDFILLPATH", UNPLAYED),
+    Kind(64, "EMR_STROKEPATH", UNPLAYED),
+    Kind(68, "EMR_ABORTPATH", UNPLAYED),
+    Kind(75, "EMR_EXTSELECTCLIPRGN", ACCEPTED, {"size": u32(0), "mode": u32(5)}, clip_regions()),
+    Kind(82, "EMR_EXTCREATEFONTINDIRECTW", ACCEPTED, INDEX, indexes()),
+    Kind(86, "EMR_POLYGON16", UNPLAYED, ONE_LIST, emf_points(i16)),
+    Kind(87, "EMR_POLYLINE16", UNPLAYED, ONE_LIST, emf_points(i16)),
+    Kind(89, "EMR_POLYLINETO16", UNPLAYED, ONE_LIST, emf_points(i16)),
+    Kind(90, "EMR_POLYPOLYLINE16", UNPLAYED, LISTS, emf_point_lists(i16)),
+    Kind(91, "EMR_POLYPOLYGON16", UNPLAYED, LISTS, emf_point_lists(i16)),
+    Kind(
+        95,
+        "EMR_EXTCREATEPEN",
+        ACCEPTED,
+        LONG_PEN,
+        [*long_pens(), *created({"brush_style": u32(2)}, "Unsupported 95")],
+    ),
     Kind(
         115,
         "EMR_SETLAYOUT",

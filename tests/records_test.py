@@ -15,6 +15,7 @@ from records_table import (
     RED,
     WMF,
     WMF_END,
+    Behind,
     colour,
     emf_file,
     emf_pixel,
@@ -56,6 +57,9 @@ def answer_for(form, outcome):
         return shown({(0, 0): BLUE})
     if isinstance(outcome, str):
         return refused(outcome, form.first + 1)
+    if isinstance(outcome, Behind):
+        places = [(0, 0)] if outcome.place is None else [(0, 0), outcome.place]
+        return shown(dict.fromkeys(places, BLUE))
     return shown({(0, 0): BLUE} | outcome | {(3, 3): BLUE})
 
 
@@ -307,8 +311,7 @@ class Framing(unittest.TestCase):
         for records, wanted in [
             ([extent, WMF_END], shown({})),
             ([wmf_pixel(1, 1, RED), extent, WMF_END], shown({(1, 1): RED})),
-            # Interim: another extent than the window's isn't played.
-            ([extent, window_extent(4, 5), WMF_END], refused("Unsupported 0", 1)),
+            ([extent, window_extent(8, 2), wmf_pixel(2, 1, RED), WMF_END], shown({(1, 2): RED})),
             ([wmf_record(0x0999), extent, WMF_END], refused("UnknownRecord 2457", 0)),
             ([wmf_record(0x0626), wmf_record(0x0A32), extent], refused("Unsupported 2610", 1)),
             ([wmf_record(0x041F), extent], refused("BadParams", 0)),

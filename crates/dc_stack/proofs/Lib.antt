@@ -1,3 +1,4 @@
 pub mod BoxLemmas
 pub mod FaultLemmas
 pub mod SavedLemmas
+pub mod RoomLemmas

@@ -6,11 +6,12 @@ use Rattle.draw_ops.specs.Objects.{ObjectValue}
 use Rattle.draw_ops.specs.Operation.{Operation, create, save}
 use Rattle.draw_ops.specs.declared.fault.Fault.{Fault}
 use Rattle.draw_ops.specs.declared.fault.Fault.TheVariants.{OutOfMemory}
-use Rattle.object_tables.specs.Table.{created_index}
+use Rattle.object_tables.specs.Table.{created_index, index_bound}
 use Rattle.dc_stack.specs.Drawing.{Drawing, dot, drawing_of, tools_of}
 use Rattle.dc_stack.specs.Needs.{greater_needs, needs_of}
 use Rattle.dc_stack.specs.Next.{next}
 use Rattle.dc_stack.specs.OperationFault.{fault_of}
+use Rattle.dc_stack.specs.SavedStates.{depth_limit}
 use Rattle.dc_stack.specs.State.{DcValue, State}
 use Rattle.dc_stack.specs.declared.draw.Draw.{Draw}
 use Rattle.dc_stack.specs.declared.needs.Needs.{Needs}
@@ -27,8 +28,9 @@ pub record MachineState : Type 0 where
   pub needs : Needs
   pub room : Room
 
--- the surface is the same, and there is as much room or more
+-- the surface and the kind of table are the same, and there is as much room or more
 pub record GoesOn (old new : MachineState) : Type 0 where
+  pub kind : new.state.table_kind ≡ old.state.table_kind
   pub surface : new.surface ≡ old.surface
   pub depth : old.room.depth ≤ new.room.depth
   pub slots : old.room.slots ≤ new.room.slots
@@ -45,7 +47,7 @@ pub record HasStepped (operation : Operation) (old new : MachineState) : Type 0 
   pub needs : new.needs ≡ greater_needs old.needs (needs_of operation old.state)
 
 -- the drawing of a draw, with the tools of the moment
-abbrev drawing_with : DcValue → Draw → Drawing
+abbrev pub drawing_with : DcValue → Draw → Drawing
 drawing_with dc draw = record { mark = dot draw.point draw.colour; tools = tools_of dc }
 
 -- what is to be drawn is the operation's drawing, with the tools that the new state has still
@@ -73,6 +75,15 @@ pub record WantsRoom (operation : Operation) (m : MachineState) (fault : Fault) 
   pub no_fault : fault_of operation m.state m.surface ≡ None
   pub memory : fault ≡ OutOfMemory
   pub lacks : LacksDepth operation m ⊎ LacksSlot operation m
+
+-- there is room for as many saved states as there may be, and for each index
+pub record HasFullRoom (m : MachineState) : Type 0 where
+  pub depth : depth_limit ≤ m.room.depth
+  pub slots : index_bound m.state.table_kind ≤ m.room.slots
+
+-- and then no operation wants more
+abbrev pub FullRoomIsEnough : Type 0
+FullRoomIsEnough = (operation : Operation) (m : MachineState) (fault : Fault) → HasFullRoom m → WantsRoom operation m fault → ⊥
 
 -- an operation is refused: by its fault, or for want of memory
 abbrev pub RefusesStep : Operation → MachineState → Fault → Type 0

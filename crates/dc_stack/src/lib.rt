@@ -7,7 +7,7 @@
 //!   next state (`Machine::step`, by `fault_of` and `next`).
 //! - What a step draws is the operation's drawing, with the tools of its moment (`Machine::step`, `dc`).
 //! - Memory is refused only where there is no room, which no call makes smaller (`Machine::step`,
-//!   `reserve`).
+//!   `reserve`; `room_law` says what room is enough for any file).
 //! - The needs are the greatest of all steps since the start (`Machine::needs`).
 //! - The clip has a pixel exactly where the definition says so (`Clip::has`).
 //! - Only being off the plane depends on the surface, and an operation without a fault on a surface has
@@ -29,7 +29,7 @@ mod stock;
 pub use clip::{Clip, ClipBox};
 pub use dc::Dc;
 pub use draw::Draw;
-pub use laws::fault_law;
+pub use laws::{fault_law, room_law};
 pub use machine::Machine;
 pub use modes::Modes;
 pub use needs::Needs;

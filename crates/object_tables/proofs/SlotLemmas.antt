@@ -1,8 +1,10 @@
 -- The least free index of slots in order.
-use Rattle.std.proofs.Common.{◌≡◌, ℕ, suc, ◌<◌, ◌≤◌, [], ◌∷◌, inl, inr, None, IsSome, refl, sym, ap, ◌∙◌, subst, arith}
-use Rattle.std.proofs.lemmas.Bool.{eq-eqb, ne_eqb, cases_eq}
-use Rattle.object_tables.specs.Slots.{IsInOrderFrom, Slots, left_out_from, object_at}
-use Rattle.object_tables.specs.Table.{LowestFreeIsLeast}
+use Rattle.std.proofs.Common.{◌≡◌, ℕ, suc, ◌+◌, ◌<◌, ◌≤◌, Bool, true, false, cond, nat_le, nat_lt, List, [], ◌∷◌, length, inl, inr, Option, Some, None, IsSome, refl, sym, ap, ◌∙◌, subst, arith}
+use Rattle.std.proofs.lemmas.Bool.{and_parts, ltb-true, eq-eqb, ne_eqb, cases_eq}
+use Rattle.draw_ops.specs.declared.fault.Fault.{Fault}
+use Rattle.draw_ops.specs.declared.fault.Fault.TheVariants.{HandleTaken, NoSuchHandle, TableFull}
+use Rattle.object_tables.specs.Slots.{IsInOrderFrom, Slots, is_taken, left_out_from, object_at}
+use Rattle.object_tables.specs.Table.{CreatedIndexIsBelowBound, LowestFreeIsLeast, by_given_index, by_lowest_free, may_be_given, slot_limit}
 
 -- an index below all of them has no object
 pub none_before : (k i : ℕ) (slots : Slots) → IsInOrderFrom k slots → i < k → object_at i slots ≡ None
@@ -60,3 +62,30 @@ lowest_free_is_least slots h = record {
   free = left_out_is_free 0 slots h;
   taken_below = λ i b. taken_below 0 slots h i (omega arith) b;
 }
+
+-- there are as many indexes below the least that is left out as objects, or fewer
+left_out_within : (k : ℕ) (slots : Slots) → left_out_from k slots ≤ k + length slots
+left_out_within k [] = omega arith
+left_out_within k (slot ∷ slots) = elim (cases_eq slot.0 k) [
+  | inl e ↦ let rest = left_out_within (suc k) slots in rw (eq-eqb slot.0 k e) (omega arith)
+  | inr ne ↦ rw (ne_eqb slot.0 k ne) (omega arith)
+]
+
+-- what a test lets through
+passed : (a b : Bool) (first second : Fault) → cond a (cond b (Some first) None) (Some second) ≡ None → a ≡ true
+passed true b first second h = refl
+passed false b first second h = cc
+
+few_enough : (few : Bool) → cond few None (Some TableFull) ≡ None → few ≡ true
+few_enough true h = refl
+few_enough false h = cc
+
+pub created_index_is_below_bound : CreatedIndexIsBelowBound
+created_index_is_below_bound by_lowest_free at slots h =
+    let few = ltb-true (length slots) slot_limit (few_enough (nat_lt (length slots) slot_limit) h) in
+    let within = left_out_within 0 slots in
+    omega (arith, few, within)
+created_index_is_below_bound (by_given_index limit) None slots h = cc
+created_index_is_below_bound (by_given_index limit) (Some index) slots h =
+    let given = passed (may_be_given limit index) (is_taken index slots) HandleTaken NoSuchHandle h in
+    ltb-true index limit (and_parts (nat_le 1 index) (nat_lt index limit) given).1

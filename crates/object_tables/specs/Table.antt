@@ -1,5 +1,5 @@
 -- How objects come into a table and leave it.
-use Rattle.std.specs.Prelude.{◌≡◌, ℕ, ◌≤◌, nat_le, nat_lt, Bool, ◌&&◌, if◌then◌else◌, length, Option, Some, None, ◌⊎◌}
+use Rattle.std.specs.Prelude.{◌≡◌, ℕ, ◌<◌, ◌≤◌, nat_le, nat_lt, Bool, ◌&&◌, if◌then◌else◌, length, Option, Some, None, ◌⊎◌}
 use Rattle.std.specs.Option.{unwrap_or}
 use Rattle.draw_ops.specs.Objects.{ObjectValue}
 use Rattle.draw_ops.specs.declared.fault.Fault.{Fault}
@@ -36,6 +36,11 @@ abbrev pub created_index : TableKind → Option ℕ → Slots → ℕ
 created_index by_lowest_free at slots = lowest_free slots
 created_index (by_given_index limit) at slots = unwrap_or at 0
 
+-- the indexes of a table are below this one
+abbrev pub index_bound : TableKind → ℕ
+index_bound by_lowest_free = slot_limit
+index_bound (by_given_index limit) = limit
+
 -- an object was made: nothing speaks against it, and it is at its index
 pub record HasCreated (kind : TableKind) (at : Option ℕ) (object : ObjectValue) (old : Slots) (made : ℕ) (new : Slots) : Type 0 where
   pub no_fault : create_fault kind at old ≡ None
@@ -59,3 +64,7 @@ remove_fault index slots = if is_taken index slots then None else Some NoSuchHan
 -- the least free index of slots in order is free, and each below it is taken
 abbrev pub LowestFreeIsLeast : Type 0
 LowestFreeIsLeast = (slots : Slots) → IsInOrder slots → IsLowestFree (lowest_free slots) slots
+
+-- an index that a new object gets is below the table's bound
+abbrev pub CreatedIndexIsBelowBound : Type 0
+CreatedIndexIsBelowBound = (kind : TableKind) (at : Option ℕ) (slots : Slots) → create_fault kind at slots ≡ None → created_index kind at slots < index_bound kind

@@ -9,7 +9,8 @@
 //!   (`Table::get`, `Table::remove`).
 //! - After a refusal the objects are what they were. Memory is refused only where an index lies
 //!   past the room, which no call makes smaller (`Table::create`, `Table::reserve`).
-//! - The least free index is free, and each below it is taken (`lowest_free_law`).
+//! - The least free index is free, and each below it is taken (`lowest_free_law`); the index of a new
+//!   object is below the table's bound (`created_index_law`).
 #![tactic(auto)]
 
 mod given;
@@ -19,6 +20,6 @@ mod store;
 mod table;
 
 pub use given::Given;
-pub use laws::lowest_free_law;
+pub use laws::{created_index_law, lowest_free_law};
 pub use lowest_free::LowestFree;
 pub use table::{Contents, Table};
