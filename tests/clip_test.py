@@ -19,7 +19,7 @@ class Boxes(PictureTest):
         self.check_pictures(program, FORMS, {"": ALL})
 
     @for_each_program
-    def test_worked_example(self, program):
+    def test_a_pixel_that_is_cut_out_later_stays(self, program):
         script = "keep 1 1 3 3; pixel 2 2; pixel 3 3; cut 2 2 3 3; blue 2 2"
         for form in FORMS:
             self.check(program, form, script, pixels([(2, 2)]))
@@ -149,7 +149,7 @@ class Cuts(PictureTest):
     """At most sixteen cuts at a time."""
 
     @for_each_program
-    def test_worked_example(self, program):
+    def test_a_restore_gives_sixteen_cuts_again(self, program):
         self.check(program, WMF, "save; 17x cut 1 1 2 2", refused("TooManyCuts", 17))
         self.check(program, WMF, "save; 16x cut 1 1 2 2; restore -1; cut 1 1 2 2", pixels([]))
 

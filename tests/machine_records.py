@@ -42,13 +42,14 @@ HANDLES = 16
 
 class Form(NamedTuple):
     """A format: how one record of it is written, its records by their names in scripts (a number,
-    and how the numbers behind the name become parameters), its pixel, its files of records with a
-    frame and a count of handles, and the number of their first record."""
+    and how the numbers behind the name become parameters), its pixel, its end, its files of records
+    with a frame and a count of handles, and the number of their first record."""
 
     name: str
     record: Callable
     named: dict[str, tuple[int, Callable]]
     pixel: Callable
+    end: bytes
     file: Callable
     first: int
 
@@ -130,6 +131,7 @@ WMF = Form(
         "keep": (0x0416, wmf_box),
     },
     pixel=wmf_pixel,
+    end=WMF_END,
     file=wmf_frame,
     first=0,
 )
@@ -185,6 +187,7 @@ EMF = Form(
         "unclip": (75, emf_region),
     },
     pixel=emf_pixel,
+    end=EMF_END,
     file=emf_frame,
     first=1,
 )
@@ -214,7 +217,7 @@ class StateTest(unittest.TestCase):
 
     def check(self, program, form, script, wanted, **file):
         """The program's answer is the wanted one."""
-        with self.subTest(form=form.name, script=script, **file):
+        with self.subTest(form=form.name, script=script[:200], **file):
             self.assertEqual(self.answer(program, form, script, **file), wanted)
 
     def check_cases(self, program, form, cases, **file):

@@ -124,6 +124,12 @@ class EmfIndexes(StateTest):
                 self.check_cases(program, EMF, cases)
 
     @for_each_program
+    def test_all_indexes_may_be_taken(self, program):
+        taken = "; ".join(f"pen_at {index}" for index in range(1, 65535))
+        cases = [(f"{taken}; select_at 65534", None), (f"{taken}; pen_at 65534", "HandleTaken")]
+        self.check_cases(program, EMF, cases, handles=65535)
+
+    @for_each_program
     def test_a_create_makes_no_object_at_another_index(self, program):
         for index in (0, 1, 4, 6, 15):
             for record in ("select_at", "select_palette_at", "delete_at"):
@@ -151,6 +157,7 @@ class Selecting(StateTest):
                 for script in (
                     f"{record} 0",
                     f"pen 0; {record} 1",
+                    f"pen 0; select 0; {record} 1",
                     f"pen 0; delete 0; {record} 0",
                     f"palette 0; delete 0; {record} 0",
                     f"2x pen 0; delete 0; {record} 0" if form is WMF else f"pen 1; {record} 0",
@@ -224,7 +231,7 @@ class Holding(StateTest):
     """An object that is selected, in the state or in a saved one, isn't deleted."""
 
     @for_each_program
-    def test_worked_example(self, program):
+    def test_a_saved_state_holds_a_pen_and_then_the_state_does(self, program):
         front = "2x pen 0; select 0; save; select 1"
         self.check(program, WMF, f"{front}; delete 0", refused("HeldObject", 5))
         restored = f"{front}; restore -1"
@@ -248,6 +255,17 @@ class Holding(StateTest):
             ]
             for form in FORMS:
                 self.check_cases(program, form, cases)
+
+    @for_each_program
+    def test_both_records_of_emf_that_make_a_pen_make_one_kind(self, program):
+        for first, second in [("pen", "long_pen"), ("long_pen", "pen")]:
+            two = f"{first} 0; {second} 1; select 0"
+            cases = [
+                (f"{two}; delete 0", "HeldObject"),
+                (f"{two}; select 1; delete 0", None),
+                (f"{two}; select 1; delete 1", "HeldObject"),
+            ]
+            self.check_cases(program, EMF, cases)
 
     @for_each_program
     def test_an_object_of_another_kind_takes_no_place(self, program):

@@ -217,7 +217,7 @@ class Modes(StateTest):
         )
 
     @for_each_program
-    def test_worked_example_of_an_extent_of_0(self, program):
+    def test_an_extent_of_0_on_one_axis(self, program):
         self.check(program, WMF, "window_extent 0 4", refused("ZeroExtent", 0))
         self.check(program, WMF, "map_mode 1; window_extent 0 4", pixels([]))
 

@@ -8,12 +8,13 @@ import itertools
 import os
 import pathlib
 import re
-import struct
 import subprocess
 import tempfile
 import unittest
 
 from built import CRATES, DOT, DOT_IMAGE, PROGRAMS, SAMPLES, Answer, answer
+from machine_records import EMF, FORMS, HANDLES, SIDE, WMF, pixels
+from records_table import refused
 
 OUT_OF_MEMORY = Answer(4, b"", b"metaplay: OutOfMemory\n")
 
@@ -21,11 +22,37 @@ WHEEL = SAMPLES / "wheel.wmf"
 
 SMALL_EMF = SAMPLES / "small.emf"
 
-# A file of EMF without a drawing: a header of 88 bytes and an end of 20.
-NIL_EMF = (SAMPLES / "nil.emf").read_bytes()
+NO_PIXELS = pixels([])
 
-# EMR_SETPIXELV of red at (0, 0): type, size, x, y, colour.
-EMF_PIXEL = struct.pack("<IIiiI", 15, 20, 0, 0, 255)
+# A state with all cuts that it may have, saved often, and an object that it holds.
+HELD_OFTEN = "pen 0; select 0; 16x cut 0 0 1 1; 100x save"
+
+# Objects and saved states, for which the program takes memory as it goes: their format, and the
+# answer where memory is ample.
+STATE_SCRIPTS = [
+    (WMF, "pen 0", NO_PIXELS),
+    (WMF, "1024x pen 0", NO_PIXELS),
+    (WMF, "1025x brush 0", refused("TableFull", 1024)),
+    (WMF, "300x palette 0; delete 9; font 0; delete 0; pen 0; select 0", NO_PIXELS),
+    (EMF, "pen_at 1", NO_PIXELS),
+    (EMF, "brush_at 65534", NO_PIXELS),
+    (EMF, "; ".join(f"font {nth}" for nth in range(300)), NO_PIXELS),
+    (EMF, "; ".join(f"pen {nth}" for nth in reversed(range(300))), NO_PIXELS),
+    (EMF, "; ".join(f"palette_at {(1 << power) - 1}" for power in range(1, 16)), NO_PIXELS),
+    *[(form, "save; restore -1", NO_PIXELS) for form in FORMS],
+    *[(form, "256x save; restore 1; 256x save", NO_PIXELS) for form in FORMS],
+    (WMF, "257x save", refused("DepthLimit", 256)),
+    (WMF, f"{HELD_OFTEN}; 100x pen 1; delete 0", refused("HeldObject", 218)),
+    (EMF, f"{HELD_OFTEN}; pen 99; delete 0", refused("HeldObject", 120)),
+]
+
+
+def state_file(form, script):
+    """A file of these records, which counts as many handles as there may be."""
+    return form.file(form.records(script), SIDE, 0xFFFF)
+
+
+SHOW = ["show", "stdin", str(SIDE), str(SIDE)]
 
 # Command lines with their standard input.
 LINES = [
@@ -41,6 +68,19 @@ LINES = [
     ([], b""),
     (["--help"], b""),
     (["show", "--help"], b""),
+    *[(SHOW, state_file(form, script)) for form, script, _ in STATE_SCRIPTS],
+]
+
+# Records of which a thousand more take no more memory than one.
+REPEATED = [
+    "pixel 0 0",
+    "move 3 4",
+    "map_mode 8; window_extent 3 3; viewport_origin 1 1",
+    "keep 0 0 4 4",
+    "pen 0; delete 0",
+    "save; restore -1",
+    "save; cut 1 1 2 2; restore 1",
+    "save; save; save; restore -2; restore -1",
 ]
 
 
@@ -86,20 +126,23 @@ class RefusedGrowth(unittest.TestCase):
     def test_the_program_answers_in_full_where_nothing_is_refused(self):
         for program in PROGRAMS:
             self.assertEqual(answer(program, *LINES[0]), Answer(0, DOT_IMAGE, b""))
-            refused = Answer(1, b"", b"metaplay: NoEnd at record 1\n")
-            self.assertEqual(answer(program, *LINES[2]), refused)
+            self.assertEqual(answer(program, *LINES[2]), refused("NoEnd", 1))
+            for form, script, wanted in STATE_SCRIPTS:
+                with self.subTest(program=program.name, form=form.name, script=script):
+                    self.assertEqual(answer(program, SHOW, state_file(form, script)), wanted)
 
     def calls_for_memory(self, program, sides, given):
         """How many calls for memory the program makes to show a file."""
         return sum(1 for _ in self.under_refusals(program, ["show", "stdin", *sides], given))
 
     def test_records_and_pixels_take_no_memory(self):
-        # Files of one length, with one pixel and with 1,001, and surfaces of 16 pixels and of 90,000.
-        parts = [(DOT[:40], DOT[40:54], DOT[54:]), (NIL_EMF[:88], EMF_PIXEL, NIL_EMF[88:])]
-        for program, (header, pixel, end) in itertools.product(PROGRAMS, parts):
-            few = header + pixel + end + pixel * 1000
-            many = header + pixel * 1001 + end
-            with self.subTest(program=program.name, pixel=pixel):
+        # Files of one length, with a thousand records before the end or behind it, and surfaces of
+        # 16 pixels and of 90,000.
+        for program, form, script in itertools.product(PROGRAMS, FORMS, REPEATED):
+            once, more = form.records(script), 1000 * form.records(script)
+            few = form.file([*once, form.end, *more], SIDE, HANDLES)
+            many = form.file([*once, *more, form.end], SIDE, HANDLES)
+            with self.subTest(program=program.name, form=form.name, script=script):
                 calls = self.calls_for_memory(program, ["4", "4"], few)
                 self.assertEqual(self.calls_for_memory(program, ["4", "4"], many), calls)
                 self.assertEqual(self.calls_for_memory(program, ["300", "300"], few), calls)

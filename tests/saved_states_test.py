@@ -12,7 +12,7 @@ class Depth(StateTest):
     """At most 256 states are saved at a time."""
 
     @for_each_program
-    def test_worked_example(self, program):
+    def test_256_states_are_saved_and_not_one_more(self, program):
         self.check(program, WMF, "256x save", pixels([]))
         self.check(program, WMF, "257x save", refused("DepthLimit", 256))
         self.check(program, EMF, "256x save", pixels([]))
@@ -41,7 +41,7 @@ class NoSavedState(StateTest):
     newest."""
 
     @for_each_program
-    def test_worked_example(self, program):
+    def test_nothing_saved_and_the_number_0(self, program):
         self.check(program, WMF, "restore -1", refused("NoSavedState", 0))
         self.check(program, WMF, "save; restore 0", refused("NoSavedState", 1))
 

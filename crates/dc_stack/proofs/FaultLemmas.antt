@@ -9,6 +9,7 @@ use Rattle.mapping.specs.Surface.{Surface, lands_within_limits}
 use Rattle.draw_ops.specs.declared.fault.Fault.{Fault}
 use Rattle.draw_ops.specs.declared.fault.Fault.TheVariants.{OffPlane}
 use Rattle.dc_stack.specs.FaultLaws.{FaultLaws}
+use Rattle.dc_stack.proofs.InRecordLemmas.{fault_in_record}
 use Rattle.dc_stack.specs.OperationFault.{off_plane_fault, plain_fault, plane_points}
 
 -- off the plane where a test fails
@@ -56,6 +57,7 @@ all_on_smaller laws smaller larger shows no_larger (p ∷ ps) h =
 
 pub fault_laws : PlacingLaws → FaultLaws
 fault_laws laws = record {
+  in_record = fault_in_record;
   only_off_plane = λ operation state s other fault ne h. other_fault (plain_fault operation state) (list_all (λ p. lands_within_limits p s) (plane_points operation state)) (list_all (λ p. lands_within_limits p other) (plane_points operation state)) fault ne h;
   none_on_smaller = λ operation state smaller larger shows no_larger h. no_fault (plain_fault operation state) (list_all (λ p. lands_within_limits p larger) (plane_points operation state)) (list_all (λ p. lands_within_limits p smaller) (plane_points operation state)) (all_on_smaller laws smaller larger shows no_larger (plane_points operation state)) h;
 }

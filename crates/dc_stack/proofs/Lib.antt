@@ -2,3 +2,4 @@ pub mod BoxLemmas
 pub mod FaultLemmas
 pub mod SavedLemmas
 pub mod RoomLemmas
+pub mod InRecordLemmas

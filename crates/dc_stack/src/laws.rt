@@ -6,8 +6,8 @@ ghost use Rattle.dc_stack.specs.MachineState.{FullRoomIsEnough};
 use mapping::placing_law;
 use object_tables::created_index_law;
 
-/// Another fault than being off the plane is the same on each surface, and an operation without a fault
-/// on a surface has none on each that is no larger.
+/// Each fault of an operation lies in its record. Another fault than being off the plane is the same on
+/// each surface, and an operation without a fault on a surface has none on each that is no larger.
 pub fn fault_law()
     ensures { FaultLaws }
 {

@@ -6,15 +6,15 @@ use Rattle.std.proofs.lemmas.Nat.{mul-add-lt, div-mul-add, mod-mul-add, div-add-
 use Rattle.mapping.specs.declared.geometry.Colour.{Colour}
 use Rattle.mapping.specs.declared.geometry.Point.{Point}
 use Rattle.player.specs.Apply.{map_indexed, apply}
-use Rattle.player.specs.Writes.{count_indexes, writes_of_layers}
+use Rattle.player.specs.Writes.{count_indexes, writes_of_layers, writes_pixel}
 use Rattle.mapping.specs.Surface.{Surface, is_index, placed_point}
 use Rattle.mapping.specs.Image.{Image}
-use Rattle.player.specs.Clip.{unclipped}
+use Rattle.dc_stack.specs.Clip.{ClipValue, in_boxes, placed_clip}
 use Rattle.player.specs.Layer.{Layer}
 use Rattle.player.specs.Mixing.{copied}
 use Rattle.player.specs.Paint.{solid}
 use Rattle.player.specs.Shape.{pixel_under}
-use Rattle.player.specs.Dot.{dots, dotted, is_at_index, naturals, indexes_of}
+use Rattle.player.specs.Dot.{dots, dotted, is_dotted, naturals, indexes_of}
 
 -- what is the same at each place gives the same colours
 pub same_map : (f g : ℕ → Colour → Colour) → ((k : ℕ) (c : Colour) → f k c ≡ g k c) → (k : ℕ) (cs : List Colour) → map_indexed f k cs ≡ map_indexed g k cs
@@ -56,9 +56,6 @@ one_count p m k (suc j) (suc n) at within passes others =
     rw (here, one_count p m (suc k) j n (omega arith) (omega arith) passes (λ i ne a b. others i ne (omega arith) (omega arith))) refl
 
 -- a point that lands on a pixel of the surface lands at that pixel's place alone
-lands_there : (x y width : ℕ) → x < width → eqb x ((y * width + x) % width) && eqb y ((y * width + x) / width) ≡ true
-lands_there x y width b = rw (mod-mul-add y width x b, div-mul-add y width x b, eq-eqb x x refl, eq-eqb y y refl) refl
-
 lands_else : (x y width i : ℕ) → i ≢ y * width + x → eqb x (i % width) && eqb y (i / width) ≡ false
 lands_else x y width i ne = elim (cases_eq x (i % width)) [
   | inr h ↦ rw (ne_eqb x (i % width) h) refl
@@ -85,12 +82,19 @@ nowhere (pos x) (pos y) e width i = absurd (none-some _ (sym e))
 nowhere (pos x) (negsuc y) e width i = and_right _ _ refl
 nowhere (negsuc x) y e width i = refl
 
-module _ (point : Point) (outside : indexes_of point ≡ None) where
-  pub dotted_nowhere : (v : Colour) (width : ℕ) (cs : List Colour) → dotted point v width cs ≡ cs
-  dotted_nowhere v width cs = no_colour (is_at_index point width) v 0 cs (λ i a b. nowhere point.x point.y outside width i)
+-- under a clip it does neither
+under_clip : (kept there : Bool) → there ≡ false → kept && there ≡ false
+under_clip kept there e = and_right kept there e
 
-  pub dots_nowhere : (width height : ℕ) → dots point width height ≡ 0
-  dots_nowhere width height = no_count (is_at_index point width) 0 (height * width) (λ i a b. nowhere point.x point.y outside width i)
+module _ (point : Point) (clip : ClipValue) (outside : indexes_of point ≡ None) where
+  none_dotted : (width i : ℕ) → is_dotted point clip width i ≡ false
+  none_dotted width i = under_clip _ _ (nowhere point.x point.y outside width i)
+
+  pub dotted_nowhere : (v : Colour) (width : ℕ) (cs : List Colour) → dotted point clip v width cs ≡ cs
+  dotted_nowhere v width cs = no_colour (is_dotted point clip width) v 0 cs (λ i a b. none_dotted width i)
+
+  pub dots_nowhere : (width height : ℕ) → dots point clip width height ≡ 0
+  dots_nowhere width height = no_count (is_dotted point clip width) 0 (height * width) (λ i a b. none_dotted width i)
 
 -- a point with a column and a row
 pixel_parts : (x y : ℤ) (m n : ℕ) → naturals x y ≡ Some (m, n) → (x ≡ pos m) × (y ≡ pos n)
@@ -99,47 +103,76 @@ pixel_parts (pos x) (pos y) m n e =
 pixel_parts (pos x) (negsuc y) m n e = absurd (none-some _ e)
 pixel_parts (negsuc x) y m n e = absurd (none-some _ e)
 
-module _ (point : Point) (v : Colour) (x y width height : ℕ) (cs : List Colour) (under : indexes_of point ≡ Some (x, y)) (whole : length cs ≡ height * width) where
+-- where the clip doesn't have the point's pixel
+clipped_away : (clip : ClipValue) (x y c r : ℕ) → in_boxes clip x y ≡ false → in_boxes clip c r && (eqb x c && eqb y r) ≡ false
+clipped_away clip x y c r h = elim (cases_eq x c) [
+  | inr ne ↦ and_right (in_boxes clip c r) (eqb x c && eqb y r) (rw (ne_eqb x c ne) refl)
+  | inl column ↦ elim (cases_eq y r) [
+    | inr ne ↦ and_right (in_boxes clip c r) (eqb x c && eqb y r) (and_right (eqb x c) (eqb y r) (ne_eqb y r ne))
+    | inl row ↦ rw (← column, ← row, h) refl
+  ]
+]
+
+module _ (point : Point) (clip : ClipValue) (v : Colour) (x y width height : ℕ) (cs : List Colour) (under : indexes_of point ≡ Some (x, y)) (whole : length cs ≡ height * width) where
+  -- the test at each index, by the column and the row
+  dotted_as : (i : ℕ) → is_dotted point clip width i ≡ in_boxes clip (i % width) (i / width) && (eqb x (i % width) && eqb y (i / width))
+  dotted_as i = let parts = pixel_parts point.x point.y x y under in rw (parts.0, parts.1) refl
+
   -- a point outside the surface changes nothing
-  pub dotted_outside : (x < width → y < height → ⊥) → dotted point v width cs ≡ cs
-  dotted_outside out =
-      let parts = pixel_parts point.x point.y x y under in
-      rw (parts.0, parts.1) (no_colour _ v 0 cs (λ i a b. lands_outside x y width height i (omega arith) out))
+  none_outside : (x < width → y < height → ⊥) → (i : ℕ) → i < height * width → is_dotted point clip width i ≡ false
+  none_outside out i b = dotted_as i ∙ and_right _ _ (lands_outside x y width height i b out)
 
-  pub dots_outside : (x < width → y < height → ⊥) → dots point width height ≡ 0
-  dots_outside out =
-      let parts = pixel_parts point.x point.y x y under in
-      rw (parts.0, parts.1) (no_count _ 0 (height * width) (λ i a b. lands_outside x y width height i (omega arith) out))
+  pub dotted_outside : (x < width → y < height → ⊥) → dotted point clip v width cs ≡ cs
+  dotted_outside out = no_colour (is_dotted point clip width) v 0 cs (λ i a b. none_outside out i (omega arith))
 
-  -- a point of the surface changes its pixel
-  pub dotted_at : x < width → y < height → dotted point v width cs ≡ set cs (y * width + x) v
-  dotted_at column row =
-      let parts = pixel_parts point.x point.y x y under in
+  pub dots_outside : (x < width → y < height → ⊥) → dots point clip width height ≡ 0
+  dots_outside out = no_count (is_dotted point clip width) 0 (height * width) (λ i a b. none_outside out i (omega arith))
+
+  -- nor does one that the clip doesn't have
+  none_clipped : in_boxes clip x y ≡ false → (i : ℕ) → is_dotted point clip width i ≡ false
+  none_clipped h i = dotted_as i ∙ clipped_away clip x y (i % width) (i / width) h
+
+  pub dotted_clipped : in_boxes clip x y ≡ false → dotted point clip v width cs ≡ cs
+  dotted_clipped h = no_colour (is_dotted point clip width) v 0 cs (λ i a b. none_clipped h i)
+
+  pub dots_clipped : in_boxes clip x y ≡ false → dots point clip width height ≡ 0
+  dots_clipped h = no_count (is_dotted point clip width) 0 (height * width) (λ i a b. none_clipped h i)
+
+  -- a point of the surface that the clip has changes its pixel
+  one_here : x < width → in_boxes clip x y ≡ true → is_dotted point clip width (y * width + x) ≡ true
+  one_here column h = dotted_as (y * width + x) ∙ rw (mod-mul-add y width x column, div-mul-add y width x column, h, eq-eqb x x refl, eq-eqb y y refl) refl
+
+  none_else : (i : ℕ) → i ≢ y * width + x → is_dotted point clip width i ≡ false
+  none_else i ne = dotted_as i ∙ and_right _ _ (lands_else x y width i ne)
+
+  pub dotted_at : x < width → y < height → in_boxes clip x y ≡ true → dotted point clip v width cs ≡ set cs (y * width + x) v
+  dotted_at column row h =
       let within = mul-add-lt y width x height row column in
-      rw (parts.0, parts.1)
-      (one_colour _ v (y * width + x) 0 (y * width + x) cs (omega arith) (omega arith) (lands_there x y width column) (λ i ne a b. lands_else x y width i ne))
+      one_colour (is_dotted point clip width) v (y * width + x) 0 (y * width + x) cs (omega arith) (omega arith) (one_here column h) (λ i ne a b. none_else i ne)
 
-  pub dots_at : x < width → y < height → dots point width height ≡ 1
-  dots_at column row =
-      let parts = pixel_parts point.x point.y x y under in
+  pub dots_at : x < width → y < height → in_boxes clip x y ≡ true → dots point clip width height ≡ 1
+  dots_at column row h =
       let within = mul-add-lt y width x height row column in
-      rw (parts.0, parts.1)
-      (one_count _ (y * width + x) 0 (y * width + x) (height * width) (omega arith) (omega arith) (lands_there x y width column) (λ i ne a b. lands_else x y width i ne))
+      one_count (is_dotted point clip width) (y * width + x) 0 (y * width + x) (height * width) (omega arith) (omega arith) (one_here column h) (λ i ne a b. none_else i ne)
 
--- the layer of a dot where nothing is clipped
-abbrev pub dot_layer : Point → Colour → Layer
-dot_layer there v = record { shape = pixel_under there; paint = solid v; mixing = copied; clip = unclipped }
+-- the layer of a dot under a clip
+abbrev pub dot_layer : Point → Colour → ClipValue → Layer
+dot_layer there v clip = record { shape = pixel_under there; paint = solid v; mixing = copied; clip = clip }
 
--- a layer of one pixel, with paint everywhere and nothing clipped, changes that pixel
-and_true : (b : Bool) → b && true ≡ b
+-- what a layer of paint everywhere writes
+and_true : (a : Bool) → a && true ≡ a
 and_true true = refl
 and_true false = refl
 
-pub dotted_layer : (there placed : Point) (v : Colour) (s : Surface) (image : Image) (width : ℕ) → placed ≡ placed_point there s → width ≡ s.width → dotted placed v width image.colours ≡ (apply (dot_layer there v) s image).colours
-dotted_layer there placed v s image width p w =
-    rw (p, w) (same_map _ _ (λ k old. rw (and_true (is_at_index (placed_point there s) s.width k)) refl) 0 image.colours)
+module _ (there placed : Point) (v : Colour) (clip boxes : ClipValue) (s : Surface) (lands : placed ≡ placed_point there s) (lie : boxes ≡ placed_clip s clip) where
+  -- the layer writes the pixel at an index exactly where it is dotted
+  written : (k : ℕ) → writes_pixel (dot_layer there v clip) s (k % s.width) (k / s.width) ≡ is_dotted (placed_point there s) (placed_clip s clip) s.width k
+  written k = and_true (is_dotted (placed_point there s) (placed_clip s clip) s.width k)
 
--- and writes as many
-pub dots_layer : (there placed : Point) (v : Colour) (s : Surface) (width height : ℕ) → placed ≡ placed_point there s → width ≡ s.width → height ≡ s.height → dots placed width height ≡ writes_of_layers (dot_layer there v ∷ []) s
-dots_layer there placed v s width height p w h =
-    rw (p, w, h) (same_count (is_at_index (placed_point there s) s.width) _ (λ k. sym (and_true _)) 0 (s.height * s.width) ∙ sym (add-zero _))
+  pub dotted_layer : (image : Image) (width : ℕ) → width ≡ s.width → dotted placed boxes v width image.colours ≡ (apply (dot_layer there v clip) s image).colours
+  dotted_layer image width w = rw (lands, lie, w) (same_map _ _ (λ k old. rw (written k) refl) 0 image.colours)
+
+  -- and writes as many
+  pub dots_layer : (width height : ℕ) → width ≡ s.width → height ≡ s.height → dots placed boxes width height ≡ writes_of_layers (dot_layer there v clip ∷ []) s
+  dots_layer width height w h =
+      rw (lands, lie, w, h) (same_count (is_dotted (placed_point there s) (placed_clip s clip) s.width) _ (λ k. sym (written k)) 0 (s.height * s.width) ∙ sym (add-zero _))

@@ -1,4 +1,4 @@
 pub mod DotLemmas
 pub mod RunLemmas
-pub mod PlayLemmas
 pub mod WorkedRows
+pub mod StepLemmas

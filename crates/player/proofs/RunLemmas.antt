@@ -1,20 +1,17 @@
 -- A run ends in one way.
-use Rattle.std.proofs.Common.{◌≡◌, ℕ, suc, ◌+◌, length, add-one, arith, List, Option, Some, None, Result, Ok, Err, refl, sym, ap, ◌∙◌}
+use Rattle.std.proofs.Common.{◌≡◌, ℕ, List, Option, Some, None, Result, Ok, Err, refl, sym, ap, ◌∙◌}
 use Rattle.draw_ops.specs.declared.fault.Fault.{Fault}
-use Rattle.draw_ops.specs.Content.{Content, StepValue, with_step}
+use Rattle.draw_ops.specs.Content.{Content}
 use Rattle.draw_ops.specs.ExactlyOne.{ExactlyOne}
 use Rattle.draw_ops.specs.RecordContent.{ContentIsOne}
 use Rattle.mapping.specs.Image.{Image}
-use Rattle.mapping.specs.Surface.{Surface}
-use Rattle.player.specs.Apply.{drawn, image_after}
-use Rattle.player.specs.Next.{next}
-use Rattle.player.specs.OperationFault.{fault_of}
+use Rattle.player.specs.Apply.{image_after}
 use Rattle.meta_headers.specs.Headers.{OpenedValue}
 use Rattle.meta_headers.specs.Opening.{framing_of, meaning_of, opened, record_bytes, surface_for}
 use Rattle.meta_headers.specs.declared.opened.FileFormat.{FileFormat}
-use Rattle.player.specs.State.{State, start_of}
-use Rattle.player.specs.Stop.{Stop, stop_of, stopped}
-use Rattle.player.specs.Writes.{writes_of, writes_after}
+use Rattle.dc_stack.specs.State.{start_of}
+use Rattle.player.specs.Stop.{Stop, stop_of}
+use Rattle.player.specs.Writes.{writes_after}
 use Rattle.player.specs.Run.{Outcome, shown, refused, IsFileContent, RefusedIfOpened, ShowsIfOpened, WritesIfOpened, Run, RunEndsInOneWay, RefusedOverAnyImage, WritesAreOne}
 
 -- a file of any format has one content
@@ -119,19 +116,3 @@ by_writes one (Ok o) file width height image after h =
 
 pub writes_are_one : ContentIsOne → WritesAreOne
 writes_are_one one file width height image after h = by_writes one (opened file) file width height image after h
-
--- one step without a fault: where the run stops, its image and its writes
-pub one_stop : (old new : Content) (step : StepValue) (number : ℕ) (state : State) (s : Surface) → old ≡ with_step step new → fault_of step.operation state s ≡ None → stopped old.steps old.fault number state s ≡ stopped new.steps new.fault (number + 1) (next step.operation state) s
-one_stop old new step number state s e f = rw (e, f, add-one) refl
-
-pub one_image : (old new : Content) (step : StepValue) (state : State) (s : Surface) (image after : Image) → old ≡ with_step step new → after ≡ drawn step.operation state s image → image_after old.steps state s image ≡ image_after new.steps (next step.operation state) s after
-one_image old new step state s image after e a = rw (e, a) refl
-
-pub one_write : (old new : Content) (step : StepValue) (state : State) (s : Surface) (writes after total : ℕ) → old ≡ with_step step new → after ≡ writes + writes_of step.operation state s → total ≡ writes + writes_after old.steps state s → total ≡ after + writes_after new.steps (next step.operation state) s
-one_write old new step state s writes after total e a t =
-    let first : writes_after old.steps state s ≡ writes_of step.operation state s + writes_after new.steps (next step.operation state) s = rw e refl in
-    omega arith
-
--- one step is one less to come
-pub one_less : (old new : Content) (step : StepValue) → old ≡ with_step step new → length old.steps ≡ suc (length new.steps)
-one_less old new step e = ap (λ (c : Content). length c.steps) e

@@ -15,9 +15,10 @@ use Rattle.draw_ops.specs.declared.fault.Fault.TheVariants.{PaletteColour}
 use Rattle.draw_ops.specs.declared.note.Note.TheVariants.{AfterEnd}
 use Rattle.draw_ops.specs.declared.raster_op.RasterOp.TheVariants.{CopyPen, Not, XorPen}
 use Rattle.player.specs.Apply.{image_after}
-use Rattle.player.specs.Clip.{Clip, in_clip}
+use Rattle.dc_stack.specs.Clip.{ClipValue, in_clip}
 use Rattle.player.specs.Mixing.{mixed_colour}
-use Rattle.player.specs.State.{State, start_state}
+use Rattle.object_tables.specs.Table.{by_lowest_free}
+use Rattle.dc_stack.specs.State.{State, start_state}
 use Rattle.player.specs.Stop.{stop_at, stop_of}
 use Rattle.player.specs.Writes.{writes_after}
 use Rattle.wmf_records.specs.Framing.{wmf_framing}
@@ -56,7 +57,7 @@ palette_dot = refl
 
 -- the box (0, 0, 4, 4), shown on a surface of 2 by 2
 abbrev start : State
-start = start_state (placeable_map (record { x = pos 0; y = pos 0 }) (record { x = pos 4; y = pos 4 })) None
+start = start_state (placeable_map (record { x = pos 0; y = pos 0 }) (record { x = pos 4; y = pos 4 })) by_lowest_free
 
 abbrev two_by_two : Surface
 two_by_two = record { width = 2; height = 2; frame_width = 4; frame_height = 4 }
@@ -73,7 +74,7 @@ stops_behind_a_step : stop_of (record { steps = record { number = 0; operation =
 stops_behind_a_step = refl
 
 -- a kept box of the left half and a cut of its upper half, at 2 by 2
-abbrev left_below : Clip
+abbrev left_below : ClipValue
 left_below = record { kept = Some (record { l = pos 0; t = pos 0; r = pos 2; b = pos 4 }); cuts = record { l = pos 0; t = pos 0; r = pos 4; b = pos 2 } ∷ [] }
 
 clip_cuts_above : in_clip left_below two_by_two 0 0 ≡ false

@@ -7,9 +7,9 @@ use Rattle.draw_ops.specs.Content.{StepValue}
 use Rattle.draw_ops.specs.Operation.{Operation}
 use Rattle.player.specs.Layer.{Layer, layers_drawn}
 use Rattle.player.specs.Mixing.{Mixing, mixed}
-use Rattle.player.specs.Next.{next}
+use Rattle.dc_stack.specs.Next.{next}
 use Rattle.player.specs.Paint.{paint_at}
-use Rattle.player.specs.State.{State}
+use Rattle.dc_stack.specs.State.{State}
 use Rattle.player.specs.Writes.{writes_pixel}
 
 -- each colour, the first at index k, by what f makes of its index and itself

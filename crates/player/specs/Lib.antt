@@ -1,9 +1,3 @@
-pub mod Clip
-pub mod Path
-pub mod State
-pub mod Drawing
-pub mod OperationFault
-pub mod Next
 pub mod Shape
 pub mod Paint
 pub mod Mixing
@@ -12,7 +6,6 @@ pub mod Writes
 pub mod Apply
 pub mod Stop
 pub mod Run
-pub mod Playing
 pub mod Plays
 pub mod Dot
 pub mod Refusal

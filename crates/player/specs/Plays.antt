@@ -1,36 +1,29 @@
 -- What playing does to a canvas.
-use Rattle.std.specs.Prelude.{◌≡◌, ℕ, ◌+◌, List, Some, None, IsOk}
+use Rattle.std.specs.Prelude.{◌≡◌, ℕ, ◌+◌, List, Option, Some, None, IsOk}
 use Rattle.mapping.specs.Surface.{Surface}
 use Rattle.draw_ops.specs.Content.{Content}
-use Rattle.draw_ops.specs.Operation.{Operation}
 use Rattle.draw_ops.specs.declared.fault.Fault.TheVariants.{OutOfMemory}
 use Rattle.canvas.specs.CanvasState.{CanvasState, image_of}
-use Rattle.player.specs.Apply.{drawn, image_after}
-use Rattle.meta_headers.specs.Opening.{HasContentOf, opened}
+use Rattle.player.specs.Apply.{apply_all, image_after}
+use Rattle.meta_headers.specs.Opening.{HasContentOf, opened, surface_for}
 use Rattle.meta_headers.specs.declared.opened.FileFormat.{FileFormat}
-use Rattle.player.specs.Run.{Outcome, Refused, Run, Writes}
-use Rattle.player.specs.State.{State}
+use Rattle.dc_stack.specs.Drawing.{Drawing}
+use Rattle.player.specs.Layer.{layers_if_drawn}
+use Rattle.meta_headers.specs.Headers.{OpenedValue}
+use Rattle.dc_stack.specs.State.{State, start_of}
 use Rattle.player.specs.Stop.{Stop, stop_of}
-use Rattle.player.specs.Writes.{writes_after, writes_of}
+use Rattle.player.specs.Writes.{writes_after, writes_of_layers}
 use Rattle.player.specs.declared.refusal.Refusal.{Refusal}
 
--- the run of a file over what a canvas shows ends so
-abbrev pub RunOver : List ℕ → CanvasState → Outcome → Type 0
-RunOver file canvas outcome = Run file canvas.width canvas.rows (image_of canvas) outcome
-
--- the run of a file at the size of a canvas is refused so
-abbrev pub RefusedOver : List ℕ → CanvasState → Refusal → Type 0
-RefusedOver file canvas r = Refused file canvas.width canvas.rows r.number r.fault
-
--- the run of a file at the size of a canvas writes so many pixels
-abbrev pub WritesOver : List ℕ → CanvasState → ℕ → Type 0
-WritesOver file canvas writes = Writes file canvas.width canvas.rows writes
-
--- the file opens, and memory was refused: no record is told
-pub record WantsMemory (file : List ℕ) (r : Refusal) : Type 0 where
-  pub opens : IsOk (opened file)
+-- memory was refused: no record is told
+pub record IsWantOfMemory (r : Refusal) : Type 0 where
   pub number : r.number ≡ None
   pub fault : r.fault ≡ OutOfMemory
+
+-- the file opens, and memory was refused
+pub record WantsMemory (file : List ℕ) (r : Refusal) : Type 0 where
+  pub opens : IsOk (opened file)
+  pub wants : IsWantOfMemory r
 
 -- the canvas holds a whole surface
 pub record IsWhole (canvas : CanvasState) (s : Surface) : Type 0 where
@@ -44,10 +37,10 @@ pub record SameRows (old new : CanvasState) : Type 0 where
   pub first : new.first ≡ old.first
   pub rows : new.rows ≡ old.rows
 
--- the operation was drawn: its layers on the image, and its pixels on the count
-pub record Draws (operation : Operation) (state : State) (s : Surface) (old new : CanvasState) : Type 0 where
-  pub image : image_of new ≡ drawn operation state s (image_of old)
-  pub writes : new.writes ≡ old.writes + writes_of operation state s
+-- a drawing was drawn, if there is one: its layers on the image, and its pixels on the count
+pub record DrawsDrawing (drawing : Option Drawing) (s : Surface) (old new : CanvasState) : Type 0 where
+  pub image : image_of new ≡ apply_all (layers_if_drawn drawing) s (image_of old)
+  pub writes : new.writes ≡ old.writes + writes_of_layers (layers_if_drawn drawing) s
 
 -- all steps of the content were drawn, and none has a fault
 pub record Plays (content : Content) (state : State) (s : Surface) (old new : CanvasState) : Type 0 where
@@ -73,3 +66,11 @@ pub record StopsRecordsBy (format : FileFormat) (records : List ℕ) (state : St
   pub content : Content
   pub of_records : HasContentOf format records content
   pub stops : StopsBy content state s r
+
+-- all records of an opened file were played from their start on
+abbrev pub PlaysOpened : OpenedValue → List ℕ → CanvasState → CanvasState → Type 0
+PlaysOpened o records old new = PlaysRecords o.format records (start_of o) (surface_for o old.width old.rows) old new
+
+-- the records of an opened file stop so, played from their start on
+abbrev pub StopsOpenedBy : OpenedValue → List ℕ → CanvasState → Refusal → Type 0
+StopsOpenedBy o records canvas r = StopsRecordsBy o.format records (start_of o) (surface_for o canvas.width canvas.rows) r

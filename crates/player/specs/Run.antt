@@ -9,7 +9,7 @@ use Rattle.player.specs.Apply.{image_after}
 use Rattle.meta_headers.specs.Headers.{OpenedValue}
 use Rattle.meta_headers.specs.Opening.{HasContentOf, opened, record_bytes, surface_for}
 use Rattle.meta_headers.specs.declared.opened.FileFormat.{FileFormat}
-use Rattle.player.specs.State.{start_of}
+use Rattle.dc_stack.specs.State.{start_of}
 use Rattle.player.specs.Stop.{stop_at, stop_of}
 use Rattle.player.specs.Writes.{writes_after}
 

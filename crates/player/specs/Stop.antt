@@ -3,9 +3,9 @@ use Rattle.std.specs.Prelude.{ℕ, suc, List, [], ◌∷◌, Option, Some, None,
 use Rattle.mapping.specs.Surface.{Surface}
 use Rattle.draw_ops.specs.Content.{Content, StepValue}
 use Rattle.draw_ops.specs.declared.fault.Fault.{Fault}
-use Rattle.player.specs.Next.{next}
-use Rattle.player.specs.OperationFault.{fault_of}
-use Rattle.player.specs.State.{State}
+use Rattle.dc_stack.specs.Next.{next}
+use Rattle.dc_stack.specs.OperationFault.{fault_of}
+use Rattle.dc_stack.specs.State.{State}
 
 -- a record's number in the file, and its fault
 pub record Stop : Type 0 where

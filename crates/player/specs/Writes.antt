@@ -3,12 +3,12 @@ use Rattle.std.specs.Prelude.{ℕ, zero, suc, ◌+◌, ◌*◌, ◌/◌, ◌%◌
 use Rattle.mapping.specs.Surface.{Surface}
 use Rattle.draw_ops.specs.Content.{StepValue}
 use Rattle.draw_ops.specs.Operation.{Operation}
-use Rattle.player.specs.Clip.{in_clip}
+use Rattle.dc_stack.specs.Clip.{in_clip}
 use Rattle.player.specs.Layer.{Layer, layers_drawn}
-use Rattle.player.specs.Next.{next}
+use Rattle.dc_stack.specs.Next.{next}
 use Rattle.player.specs.Paint.{paint_at}
 use Rattle.player.specs.Shape.{in_shape}
-use Rattle.player.specs.State.{State}
+use Rattle.dc_stack.specs.State.{State}
 
 -- how many of n indexes, from k on, pass the test
 abbrev pub count_indexes : (ℕ → Bool) → ℕ → ℕ → ℕ

@@ -3,21 +3,21 @@
 //! # What is promised
 //!
 //! - A played file leaves the image that its records define, and the canvas counts the pixels
-//!   written (`play_file`, over white, and `play_on`, over what a canvas shows, by `Run` and `Writes`).
-//! - A refused file has that fault first, in that record (`play_file`, `play_on`, by `Refused`), or it opens
-//!   and memory for its canvas was refused (`play_file`, by `WantsMemory`).
-//! - Playing on a canvas that is there is never refused for memory (`play_on`).
+//!   written (`play_file`, over white, by `Run` and `Writes`; `play_on`, from any state and over what a
+//!   canvas shows, by `PlaysRecords`).
+//! - A refused file has that fault first, in that record (`play_file`, by `Refused`; `play_on`, by
+//!   `StopsRecordsBy`), or it opens and memory for its canvas or its machine was refused (`play_file`,
+//!   by `WantsMemory`).
+//! - Playing on a machine with full room and a canvas that is there is never refused for memory
+//!   (`play_on`).
 //! - A run ends in one way, and whether it is refused doesn't depend on the image that it starts
 //!   from (`run_law`).
 #![tactic(auto)]
 
 mod drawing;
 mod laws;
-mod placed_map;
 mod play;
 mod refusal;
-#[cfg(test)]
-mod tests;
 
 pub use laws::run_law;
 pub use play::{play_file, play_on};

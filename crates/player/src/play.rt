@@ -1,26 +1,31 @@
-//! Playing a file: its records' steps in order, on a canvas.
+//! Playing a file: its records' steps in order, on a machine and a canvas.
 
 ghost use Rattle.std.specs.Prelude.{◌≡◌, ◌+◌, ◌≤◌, ◌↔◌, ◌⊎◌, ◌^◌, IsSome, IfOk, IfErr, OnOk, length};
 ghost use Rattle.mapping.specs.Limits.{IsSurfaceSide};
-ghost use Rattle.mapping.specs.PlaceOf.{surface_of};
 ghost use Rattle.canvas.specs.CanvasState.{image_of};
 ghost use Rattle.draw_ops.specs.Fault.{IsInRecord};
 ghost use Rattle.draw_ops.specs.Records.{record_limit};
 ghost use Rattle.meta_headers.specs.OpenedOf.{opened_of};
-ghost use Rattle.meta_headers.specs.Opening.{surface_for};
-ghost use Rattle.player.specs.Playing.{state_of};
-ghost use Rattle.player.specs.Plays.{IsWhole, Plays, PlaysRecords, RefusedOver, RunOver, SameRows, StopsBy, StopsRecordsBy, WantsMemory, WritesOver};
+ghost use Rattle.dc_stack.specs.MachineState.{HasFullRoom};
+ghost use Rattle.object_tables.specs.Table.{index_bound};
+ghost use Rattle.dc_stack.specs.State.{table_kind_of};
+ghost use Rattle.player.specs.Plays.{IsWantOfMemory, IsWhole, Plays, PlaysOpened, PlaysRecords, SameRows, StopsBy, StopsOpenedBy, StopsRecordsBy, WantsMemory};
 ghost use Rattle.player.specs.Run.{Refused, Run, Writes, shown, white};
-ghost use Rattle.player.specs.State.{start_of};
 
 use crate::drawing::draw;
-use crate::placed_map::PlacedMap;
 use crate::refusal::Refusal;
 use canvas::Canvas;
+use dc_stack::{Machine, fault_law, room_law};
 use draw_ops::{Fault, OpSource};
 use mapping::{Colour, Place};
 use meta_headers::{Opened, open_file};
+use object_tables::{Given, LowestFree, Table};
 use std::alloc::Global;
+
+/// For how many saved states, and for the objects of which indexes, a file may ask: then no record
+/// wants memory.
+const FULL_DEPTH: usize = 256;
+const FULL_SLOTS: usize = 1024;
 
 /// Plays a file on a white surface of `width` by `height` pixels. The canvas shows the image that the
 /// file's records define, and counts the pixels written.
@@ -44,80 +49,104 @@ pub fn play_file(alloc: Global, file: &[u8], width: u32, height: u32) -> Result<
     let Ok(mut canvas) = Canvas::new(alloc, width, height, Colour::WHITE) else {
         return Err(Refusal::of_file(Fault::OutOfMemory));
     };
-    let on = start(&opened, &canvas);
-    match play_records(&opened, &on, &mut canvas) {
+    match play_opened(alloc, &opened, &mut canvas) {
         Ok(()) => Ok(canvas),
         Err(refusal) => Err(refusal),
     }
 }
 
-/// Plays a file on a canvas that holds a whole surface, over what it shows, and tells how many pixels
-/// were written. The refusal is the first fault of the file with its record: no memory is wanted. After a
-/// refusal the canvas may show what was drawn before the fault.
-pub fn play_on(file: &[u8], canvas: &mut Canvas) -> Result<u64, Refusal>
+/// Plays an opened file's records from their start on, with a table of its format's kind.
+fn play_opened(alloc: Global, opened: &Opened<'_>, canvas: &mut Canvas) -> Result<(), Refusal>
     requires whole { canvas.old.first ≡ 0 }
     requires countable { canvas.old.writes ≤ 2 ^ 63 }
-    ensures image { OnOk result (RunOver file.now canvas.old (shown (image_of canvas.new))) }
-    ensures writes { IfOk result (WritesOver file.now canvas.old) }
-    ensures count { IfOk result (λ writes. canvas.new.writes ≡ canvas.old.writes + writes) }
-    ensures refusal { IfErr result (RefusedOver file.now canvas.old) }
+    ensures played { OnOk result (PlaysOpened (opened_of opened.now) opened.now.records.now canvas.old canvas.new) }
+    ensures refusal { IfErr result (λ r. IsWantOfMemory r ⊎ StopsOpenedBy (opened_of opened.now) opened.now.records.now canvas.old r) }
+    ensures memory { IfErr result (λ r. r.fault ≡ Fault.OutOfMemory → IsWantOfMemory r) }
     ensures record { IfErr result (λ r. IsSome r.number ↔ IsInRecord r.fault) }
     ensures rows { SameRows canvas.old canvas.new }
 {
-    let metafile = match open_file(file) {
-        Ok(opened) => opened,
-        Err(fault) => return Err(Refusal::of_file(fault)),
-    };
+    match opened.handles {
+        Some(handles) => {
+            let table = Given::new(alloc, handles);
+            play_with(alloc, opened, table, usize::from(handles), canvas)
+        }
+        None => play_with(alloc, opened, LowestFree::new(alloc), FULL_SLOTS, canvas),
+    }
+}
+
+/// Plays an opened file's records from their start on, with this table, whose indexes are below `slots`.
+fn play_with<'a, T: Table<'a>>(
+    alloc: Global,
+    opened: &Opened<'a>,
+    table: T,
+    slots: usize,
+    canvas: &mut Canvas,
+) -> Result<(), Refusal>
+    requires kind { T.kind table ≡ table_kind_of (opened_of opened.now).handles }
+    requires bound { index_bound (T.kind table) ≤ slots }
+    requires whole { canvas.old.first ≡ 0 }
+    requires countable { canvas.old.writes ≤ 2 ^ 63 }
+    ensures played { OnOk result (PlaysOpened (opened_of opened.now) opened.now.records.now canvas.old canvas.new) }
+    ensures refusal { IfErr result (λ r. IsWantOfMemory r ⊎ StopsOpenedBy (opened_of opened.now) opened.now.records.now canvas.old r) }
+    ensures memory { IfErr result (λ r. r.fault ≡ Fault.OutOfMemory → IsWantOfMemory r) }
+    ensures record { IfErr result (λ r. IsSome r.number ↔ IsInRecord r.fault) }
+    ensures rows { SameRows canvas.old canvas.new }
+{
+    let place = Place::new(&opened.frame, canvas.width(), canvas.rows());
+    let mut machine = Machine::new(alloc, opened, place, table);
+    if machine.reserve(FULL_DEPTH, slots, 0).is_err() {
+        return Err(Refusal::of_file(Fault::OutOfMemory));
+    }
+    match play_on(opened, &mut machine, canvas) {
+        Ok(_) => Ok(()),
+        Err(refusal) => Err(refusal),
+    }
+}
+
+/// Plays an opened file's records on a machine that has room for any file, and on a canvas that holds
+/// the machine's surface, over what it shows, and tells how many pixels were written. The refusal is the
+/// first fault of the records: no memory is wanted. After a refusal the canvas may show what was drawn
+/// before the fault, and the machine is where the fault lies.
+pub fn play_on<'a, T: Table<'a>>(
+    opened: &Opened<'a>,
+    machine: &mut Machine<'a, T>,
+    canvas: &mut Canvas,
+) -> Result<u64, Refusal>
+    requires whole { IsWhole canvas.old machine.old.surface }
+    requires room { HasFullRoom machine.old }
+    requires countable { canvas.old.writes ≤ 2 ^ 63 }
+    ensures played { OnOk result
+        (PlaysRecords opened.now.format opened.now.records.now machine.old.state machine.old.surface canvas.old canvas.new) }
+    ensures count { IfOk result (λ writes. canvas.new.writes ≡ canvas.old.writes + writes) }
+    ensures refusal { IfErr result
+        (StopsRecordsBy opened.now.format opened.now.records.now machine.old.state machine.old.surface) }
+    ensures record { IfErr result (λ r. IsSome r.number ↔ IsInRecord r.fault) }
+    ensures rows { SameRows canvas.old canvas.new }
+{
     let before = canvas.writes();
-    let on = start(&metafile, canvas);
-    match play_records(&metafile, &on, canvas) {
+    match play_steps(&mut opened.source(), machine, canvas) {
         Ok(()) => Ok(canvas.writes() - before),
         Err(refusal) => Err(refusal),
     }
 }
 
-/// The start map of an opened file, placed on the surface that a canvas holds.
-fn start(opened: &Opened<'_>, canvas: &Canvas) -> PlacedMap
-    requires { canvas.now.first ≡ 0 }
-    ensures state { state_of result ≡ start_of (opened_of opened.now) }
-    ensures surface { surface_of result.place ≡ surface_for (opened_of opened.now) canvas.now.width canvas.now.rows }
-    ensures whole { IsWhole canvas.now (surface_of result.place) }
-{
-    PlacedMap {
-        map: opened.start_map,
-        handles: opened.handles,
-        place: Place::new(&opened.frame, canvas.width(), canvas.rows()),
-    }
-}
-
-/// Plays an opened file's records, or tells the first fault with its record.
-fn play_records(opened: &Opened<'_>, on: &PlacedMap, canvas: &mut Canvas) -> Result<(), Refusal>
-    requires whole { IsWhole canvas.old (surface_of on.now.place) }
-    requires countable { canvas.old.writes ≤ 2 ^ 63 }
-    ensures played { OnOk result
-        (PlaysRecords opened.now.format opened.now.records.now (state_of on.now) (surface_of on.now.place) canvas.old canvas.new) }
-    ensures refusal { IfErr result
-        (StopsRecordsBy opened.now.format opened.now.records.now (state_of on.now) (surface_of on.now.place)) }
-    ensures record { IfErr result (λ r. IsSome r.number ↔ IsInRecord r.fault) }
-    ensures rows { SameRows canvas.old canvas.new }
-{
-    play_steps(&mut opened.source(), on, canvas)
-}
-
 /// Plays the steps that are left of a source, or tells the first fault with its record.
-fn play_steps<'a, S: OpSource<'a>>(
+fn play_steps<'a, S: OpSource<'a>, T: Table<'a>>(
     source: &mut S,
-    on: &PlacedMap,
+    machine: &mut Machine<'a, T>,
     canvas: &mut Canvas,
 ) -> Result<(), Refusal>
     requires short { length (S.content source.old).steps ≤ record_limit }
-    requires whole { IsWhole canvas.old (surface_of on.now.place) }
+    requires whole { IsWhole canvas.old machine.old.surface }
+    requires room { HasFullRoom machine.old }
     requires countable { canvas.old.writes ≤ 2 ^ 63 }
-    ensures played { OnOk result (Plays (S.content source.old) (state_of on.now) (surface_of on.now.place) canvas.old canvas.new) }
-    ensures refusal { IfErr result (StopsBy (S.content source.old) (state_of on.now) (surface_of on.now.place)) }
+    ensures played { OnOk result (Plays (S.content source.old) machine.old.state machine.old.surface canvas.old canvas.new) }
+    ensures refusal { IfErr result (StopsBy (S.content source.old) machine.old.state machine.old.surface) }
     ensures record { IfErr result (λ r. IsSome r.number ↔ IsInRecord r.fault) }
     ensures rows { SameRows canvas.old canvas.new }
 {
+    room_law();
+    fault_law();
     let mut before: u32 = 0;
     loop {
         let step = match source.next_op() {
@@ -125,9 +154,11 @@ fn play_steps<'a, S: OpSource<'a>>(
             Ok(None) => return Ok(()),
             Err(fault) => return Err(Refusal::at(before, fault)),
         };
-        if let Err(fault) = draw(step.op, on, canvas) {
-            return Err(Refusal::at(step.number, fault));
-        }
+        let drawn = match machine.step(step.op) {
+            Ok(drawn) => drawn,
+            Err(fault) => return Err(Refusal::at(step.number, fault)),
+        };
+        draw(drawn, machine, canvas);
         before += 1;
     }
 }

@@ -16,7 +16,7 @@ told_as old new text told same reports = subst (λ (t : List ℕ). Reports old n
 pub returns-in-Err-clause-refused : goal.returns-in-Err-clause-refused
 returns-in-Err-clause-refused g c = λ status.
     elim c.in-Err.ensures.refusal [
-      | inl memory ↦ absurd (c.refuse.ensures.only_file status memory.fault)
+      | inl memory ↦ absurd (c.refuse.ensures.only_file status memory.wants.fault)
       | inr run ↦ record { number = c.in-Err.refusal.number; fault = c.in-Err.refusal.fault; run = run }
     ]
 
@@ -26,5 +26,5 @@ returns-in-Err-clause-memory_opens g c = λ status. (c.in-Err.ensures.memory (c.
 pub returns-in-Err-clause-memory_line : goal.returns-in-Err-clause-memory_line
 returns-in-Err-clause-memory_line g c = λ status.
     let memory = c.refuse.ensures.only_memory status in
-    let text = memory_text _ _ (c.in-Err.ensures.memory memory).number memory in
+    let text = memory_text _ _ (c.in-Err.ensures.memory memory).wants.number memory in
     told_as _ _ _ _ text c.refuse.ensures.line

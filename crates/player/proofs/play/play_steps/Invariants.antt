@@ -1,9 +1,8 @@
 use Rattle.std.proofs.Common.{◌≡◌, ◌+◌, ◌*◌, ◌≤◌, length}
 use Rattle.canvas.specs.CanvasState.{image_of}
-use Rattle.mapping.specs.PlaceOf.{surface_of}
 use Rattle.draw_ops.specs.Records.{record_limit}
+use Rattle.dc_stack.specs.MachineState.{HasFullRoom}
 use Rattle.player.specs.Apply.{image_after}
-use Rattle.player.specs.Playing.{state_of}
 use Rattle.player.specs.Plays.{IsWhole, SameRows}
 use Rattle.player.specs.Stop.{stopped}
 use Rattle.player.specs.Writes.{writes_after}
@@ -13,16 +12,17 @@ use Rattle.player.proofs.play.play_steps.Given as goal
 abbrev pub invariant-loop-step : goal.invariant-loop-step
 invariant-loop-step g l =
     let content = g.S.HasContent.content in
-    let state = state_of l.on in
-    let surface = surface_of l.on.place in
+    let start = l.fn.machine.surface in
     record {
       short : l.before + length (content l.source).steps ≤ record_limit;
       few : l.canvas.writes ≤ l.fn.canvas.writes + 134217728 * l.before;
-      whole : IsWhole l.canvas surface;
+      same_surface : l.machine.surface ≡ start;
+      room : HasFullRoom l.machine;
+      whole : IsWhole l.canvas start;
       rows : SameRows l.fn.canvas l.canvas;
-      stops : stopped (content l.fn.source).steps (content l.fn.source).fault 0 state surface ≡ stopped (content l.source).steps (content l.source).fault l.before state surface;
-      image : image_after (content l.fn.source).steps state surface (image_of l.fn.canvas) ≡ image_after (content l.source).steps state surface (image_of l.canvas);
-      writes : l.fn.canvas.writes + writes_after (content l.fn.source).steps state surface ≡ l.canvas.writes + writes_after (content l.source).steps state surface;
+      stops : stopped (content l.fn.source).steps (content l.fn.source).fault 0 l.fn.machine.state start ≡ stopped (content l.source).steps (content l.source).fault l.before l.machine.state start;
+      image : image_after (content l.fn.source).steps l.fn.machine.state start (image_of l.fn.canvas) ≡ image_after (content l.source).steps l.machine.state start (image_of l.canvas);
+      writes : l.fn.canvas.writes + writes_after (content l.fn.source).steps l.fn.machine.state start ≡ l.canvas.writes + writes_after (content l.source).steps l.machine.state start;
     }
 
 abbrev pub decreases-loop-step : goal.decreases-loop-step
