@@ -9,3 +9,4 @@ pub mod Run
 pub mod Plays
 pub mod Dot
 pub mod Refusal
+pub mod FileTable

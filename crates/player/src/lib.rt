@@ -15,6 +15,7 @@
 #![tactic(auto)]
 
 mod drawing;
+mod file_table;
 mod laws;
 mod play;
 mod refusal;

@@ -7,25 +7,22 @@ ghost use Rattle.draw_ops.specs.Fault.{IsInRecord};
 ghost use Rattle.draw_ops.specs.Records.{record_limit};
 ghost use Rattle.meta_headers.specs.OpenedOf.{opened_of};
 ghost use Rattle.dc_stack.specs.MachineState.{HasFullRoom};
-ghost use Rattle.object_tables.specs.Table.{index_bound};
-ghost use Rattle.dc_stack.specs.State.{table_kind_of};
 ghost use Rattle.player.specs.Plays.{IsWantOfMemory, IsWhole, Plays, PlaysOpened, PlaysRecords, SameRows, StopsBy, StopsOpenedBy, StopsRecordsBy, WantsMemory};
 ghost use Rattle.player.specs.Run.{Refused, Run, Writes, shown, white};
 
 use crate::drawing::draw;
+use crate::file_table::{FileTable, full_slots};
 use crate::refusal::Refusal;
 use canvas::Canvas;
 use dc_stack::{Machine, fault_law, room_law};
 use draw_ops::{Fault, OpSource};
 use mapping::{Colour, Place};
 use meta_headers::{Opened, open_file};
-use object_tables::{Given, LowestFree, Table};
+use object_tables::Table;
 use std::alloc::Global;
 
-/// For how many saved states, and for the objects of which indexes, a file may ask: then no record
-/// wants memory.
+/// For how many saved states a file may ask at a time.
 const FULL_DEPTH: usize = 256;
-const FULL_SLOTS: usize = 1024;
 
 /// Plays a file on a white surface of `width` by `height` pixels. The canvas shows the image that the
 /// file's records define, and counts the pixels written.
@@ -55,7 +52,7 @@ pub fn play_file(alloc: Global, file: &[u8], width: u32, height: u32) -> Result<
     }
 }
 
-/// Plays an opened file's records from their start on, with a table of its format's kind.
+/// Plays an opened file's records from their start on, on a machine with full room.
 fn play_opened(alloc: Global, opened: &Opened<'_>, canvas: &mut Canvas) -> Result<(), Refusal>
     requires whole { canvas.old.first ≡ 0 }
     requires countable { canvas.old.writes ≤ 2 ^ 63 }
@@ -65,35 +62,10 @@ fn play_opened(alloc: Global, opened: &Opened<'_>, canvas: &mut Canvas) -> Resul
     ensures record { IfErr result (λ r. IsSome r.number ↔ IsInRecord r.fault) }
     ensures rows { SameRows canvas.old canvas.new }
 {
-    match opened.handles {
-        Some(handles) => {
-            let table = Given::new(alloc, handles);
-            play_with(alloc, opened, table, usize::from(handles), canvas)
-        }
-        None => play_with(alloc, opened, LowestFree::new(alloc), FULL_SLOTS, canvas),
-    }
-}
-
-/// Plays an opened file's records from their start on, with this table, whose indexes are below `slots`.
-fn play_with<'a, T: Table<'a>>(
-    alloc: Global,
-    opened: &Opened<'a>,
-    table: T,
-    slots: usize,
-    canvas: &mut Canvas,
-) -> Result<(), Refusal>
-    requires kind { T.kind table ≡ table_kind_of (opened_of opened.now).handles }
-    requires bound { index_bound (T.kind table) ≤ slots }
-    requires whole { canvas.old.first ≡ 0 }
-    requires countable { canvas.old.writes ≤ 2 ^ 63 }
-    ensures played { OnOk result (PlaysOpened (opened_of opened.now) opened.now.records.now canvas.old canvas.new) }
-    ensures refusal { IfErr result (λ r. IsWantOfMemory r ⊎ StopsOpenedBy (opened_of opened.now) opened.now.records.now canvas.old r) }
-    ensures memory { IfErr result (λ r. r.fault ≡ Fault.OutOfMemory → IsWantOfMemory r) }
-    ensures record { IfErr result (λ r. IsSome r.number ↔ IsInRecord r.fault) }
-    ensures rows { SameRows canvas.old canvas.new }
-{
     let place = Place::new(&opened.frame, canvas.width(), canvas.rows());
+    let table = FileTable::new(alloc, opened.handles);
     let mut machine = Machine::new(alloc, opened, place, table);
+    let slots = full_slots(opened.handles);
     if machine.reserve(FULL_DEPTH, slots, 0).is_err() {
         return Err(Refusal::of_file(Fault::OutOfMemory));
     }

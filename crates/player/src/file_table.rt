@@ -1,0 +1,84 @@
+//! The table of a file's objects, of its format's kind.
+
+ghost use Rattle.std.specs.Prelude.{◌≡◌, ◌≤◌};
+ghost use Rattle.draw_ops.specs.Objects.{index_of};
+ghost use Rattle.object_tables.specs.Slots.{Slots};
+ghost use Rattle.object_tables.specs.Table.{TableKind, index_bound};
+ghost use Rattle.dc_stack.specs.State.{table_kind_of};
+ghost use Rattle.player.specs.FileTable.{kind_of, room_of, slots_of};
+
+use draw_ops::{Fault, Handle, Object};
+use object_tables::{Contents, Given, LowestFree, Table};
+use std::alloc::Global;
+
+/// The objects of a file. One type for all formats lets what reads and plays a record be compiled as one.
+#[derive(Drop)]
+pub(crate) enum FileTable<'a> {
+    LowestFree(LowestFree<'a>),
+    Given(Given<'a>),
+}
+
+impl<'a> FileTable<'a> {
+    /// The table of a file that may use so many indexes, if it says so.
+    pub(crate) fn new(alloc: Global, handles: Option<u16>) -> FileTable<'a>
+        ensures { kind_of result ≡ table_kind_of handles }
+    {
+        match handles {
+            None => FileTable::LowestFree(LowestFree::new(alloc)),
+            Some(handles) => FileTable::Given(Given::new(alloc, handles)),
+        }
+    }
+}
+
+/// For how many objects a file with so many indexes may ask.
+pub(crate) fn full_slots(handles: Option<u16>) -> usize
+    ensures { index_bound (table_kind_of handles) ≤ result }
+{
+    match handles {
+        None => 1024,
+        Some(handles) => usize::from(handles),
+    }
+}
+
+impl<'a> Contents for FileTable<'a> {
+    ghost slots = { slots_of };
+    ghost kind = { kind_of };
+    ghost room = { room_of };
+}
+
+impl<'a> Table<'a> for FileTable<'a> {
+    fn create(&mut self, at: Option<Handle>, object: Object<'a>) -> Result<Handle, Fault> {
+        match self {
+            FileTable::LowestFree(table) => table.create(at, object),
+            FileTable::Given(table) => table.create(at, object),
+        }
+    }
+
+    fn get(&self, handle: Handle) -> Result<Object<'a>, Fault> {
+        match self {
+            FileTable::LowestFree(table) => table.get(handle),
+            FileTable::Given(table) => table.get(handle),
+        }
+    }
+
+    fn remove(&mut self, handle: Handle) -> Result<(), Fault> {
+        match self {
+            FileTable::LowestFree(table) => table.remove(handle),
+            FileTable::Given(table) => table.remove(handle),
+        }
+    }
+
+    fn clear(&mut self) {
+        match self {
+            FileTable::LowestFree(table) => table.clear(),
+            FileTable::Given(table) => table.clear(),
+        }
+    }
+
+    fn reserve(&mut self, slots: usize) -> Result<(), Fault> {
+        match self {
+            FileTable::LowestFree(table) => table.reserve(slots),
+            FileTable::Given(table) => table.reserve(slots),
+        }
+    }
+}
