@@ -1,36 +1,31 @@
 //! The machine: the playing state, and what one operation does to it.
 
 ghost use Rattle.std.specs.Prelude.{◌≡◌, ◌≤◌, ◌<◌, [], None, IfErr, IfOk, IfSome, OnErr, OnOk, length};
-ghost use Rattle.std.specs.List.{list_any};
-ghost use Rattle.std.specs.Option.{option_map};
 ghost use Rattle.mapping.specs.PageMap.{map_numbers};
 ghost use Rattle.mapping.specs.PlaceOf.{surface_of};
-ghost use Rattle.draw_ops.specs.Operation.{create, delete, exclude_clip, intersect_clip, offset_viewport_origin, offset_window_origin, pixel, restore, save, select, select_palette, set_viewport_extent, set_window_extent};
-ghost use Rattle.draw_ops.specs.Objects.{index_of, object_value_of};
+ghost use Rattle.draw_ops.specs.Operation.{pixel};
 ghost use Rattle.draw_ops.specs.OperationOf.{operation_of};
 ghost use Rattle.draw_ops.specs.declared.fault.Fault.TheVariants.{OutOfMemory};
 ghost use Rattle.dc_stack.specs.MachineState.{GoesOn, HasStepped, IsDrawingOf, IsPlacedDraw, IsUnchanged, Plays, RefusesStep};
 ghost use Rattle.dc_stack.specs.Needs.{no_needs};
-ghost use Rattle.dc_stack.specs.Selecting.{is_held, named_object, selects};
 ghost use Rattle.dc_stack.specs.State.{start_state};
-ghost use Rattle.dc_stack.specs.Values.{dc_value};
 
-use crate::clip::Clip;
+mod clipping;
+mod objects;
+mod page_mapping;
+mod saving;
+mod settings;
+
 use crate::dc::Dc;
 use crate::draw::Draw;
 use crate::needs::Needs;
-use crate::placing::{land, land_box};
-use crate::saved::place_of;
-use crate::stock::{is_stock, own_handle, stock_object};
-use draw_ops::{Fault, Handle, Object, Op, SavedState};
-use mapping::{Colour, Place, Point, Rect, placing_law};
+use crate::placing::land;
+use draw_ops::{Fault, Op};
+use mapping::{Colour, Place, Point};
 use meta_headers::Opened;
 use object_tables::{Contents, Table};
 use std::alloc::Global;
 use std::marker::{Model, PhantomData};
-
-/// How many states are saved at most at a time.
-const DEPTH_LIMIT: usize = 256;
 
 /// The playing state of a file on a surface. It starts as the file does, and each record's operation
 /// is a step. The objects are those of a table, which says how a new one gets its index.
@@ -127,53 +122,27 @@ impl<'a, T: Table<'a>> Machine<'a, T> {
             Op::NoEffect => Ok(None),
             Op::Save => self.save(),
             Op::Restore(which) => self.restore(which),
-            Op::SetBackgroundMode(mode) => {
-                self.dc.modes.background_mode = mode;
-                Ok(None)
-            }
-            Op::SetRasterOp(raster_op) => {
-                self.dc.modes.raster_op = raster_op;
-                Ok(None)
-            }
-            Op::SetFillMode(mode) => {
-                self.dc.modes.fill_mode = mode;
-                Ok(None)
-            }
-            Op::SetBackgroundColour(colour) => {
-                self.dc.modes.background_colour = colour;
-                Ok(None)
-            }
-            Op::SetMapMode(mode) => {
-                self.dc.map.set_mode(mode);
-                Ok(None)
-            }
-            Op::SetWindowOrigin(origin) => {
-                self.dc.map.set_window_origin(origin);
-                Ok(None)
-            }
-            Op::SetViewportOrigin(origin) => {
-                self.dc.map.set_viewport_origin(origin);
-                Ok(None)
-            }
+            Op::SetBackgroundMode(mode) => self.set_background_mode(mode),
+            Op::SetMapMode(mode) => self.set_map_mode(mode),
+            Op::SetRasterOp(raster_op) => self.set_raster_op(raster_op),
+            Op::SetFillMode(mode) => self.set_fill_mode(mode),
+            Op::SetBackgroundColour(colour) => self.set_background_colour(colour),
+            Op::SetWindowOrigin(origin) => self.set_window_origin(origin),
             Op::SetWindowExtent(extent) => self.set_window_extent(extent),
+            Op::SetViewportOrigin(origin) => self.set_viewport_origin(origin),
             Op::SetViewportExtent(extent) => self.set_viewport_extent(extent),
             Op::OffsetWindowOrigin(offset) => self.offset_window_origin(offset),
             Op::OffsetViewportOrigin(offset) => self.offset_viewport_origin(offset),
             Op::ExcludeClip(corners) => self.exclude_clip(corners),
             Op::IntersectClip(corners) => self.intersect_clip(corners),
-            Op::RemoveClip => {
-                self.dc.clip = Clip::none();
-                Ok(None)
-            }
-            Op::MoveTo(point) => {
-                self.dc.position = point;
-                Ok(None)
-            }
+            Op::RemoveClip => self.remove_clip(),
+            Op::MoveTo(point) => self.move_to(point),
             Op::Pixel { point, colour } => self.pixel(point, colour),
             Op::Create { at, object } => self.create(at, object),
             Op::Select(handle) => self.select(handle),
             Op::SelectPalette(handle) => self.select_palette(handle),
             Op::Delete(handle) => self.delete(handle),
+            // Not played yet: so it is refused, by the definition too.
             Op::LineTo(_)
             | Op::Rectangle { .. }
             | Op::Polyline(_)
@@ -204,112 +173,6 @@ impl<'a, T: Table<'a>> Machine<'a, T> {
         self.needs
     }
 
-    /// Saves a copy of what drawings depend on.
-    fn save(&mut self) -> Result<Option<Draw>, Fault>
-        ensures plays { Plays save self.old result self.new }
-        ensures goes_on { GoesOn self.old self.new }
-    {
-        if self.saved.len() >= DEPTH_LIMIT {
-            return Err(Fault::DepthLimit);
-        }
-        match self.saved.push(self.dc) {
-            Ok(()) => {
-                self.needs.raise_depth(self.saved.len() as u32);
-                Ok(None)
-            }
-            Err(_) => Err(Fault::OutOfMemory),
-        }
-    }
-
-    /// Takes a saved state back.
-    fn restore(&mut self, which: SavedState) -> Result<Option<Draw>, Fault>
-        ensures plays { Plays (restore which.0) self.old result self.new }
-        ensures goes_on { GoesOn self.old self.new }
-    {
-        let Some(place) = place_of(which, self.saved.len()) else {
-            return Err(Fault::NoSavedState);
-        };
-        self.dc = self.saved[place];
-        self.saved.truncate(place);
-        Ok(None)
-    }
-
-    /// Sets the window's extent.
-    fn set_window_extent(&mut self, extent: Point) -> Result<Option<Draw>, Fault>
-        ensures plays { Plays (set_window_extent extent) self.old result self.new }
-        ensures goes_on { GoesOn self.old self.new }
-    {
-        match self.dc.map.set_window_extent(extent) {
-            Ok(()) => Ok(None),
-            Err(_) => Err(Fault::ZeroExtent),
-        }
-    }
-
-    /// Sets the viewport's extent.
-    fn set_viewport_extent(&mut self, extent: Point) -> Result<Option<Draw>, Fault>
-        ensures plays { Plays (set_viewport_extent extent) self.old result self.new }
-        ensures goes_on { GoesOn self.old self.new }
-    {
-        match self.dc.map.set_viewport_extent(extent) {
-            Ok(()) => Ok(None),
-            Err(_) => Err(Fault::ZeroExtent),
-        }
-    }
-
-    /// Moves the window's origin.
-    fn offset_window_origin(&mut self, offset: Point) -> Result<Option<Draw>, Fault>
-        ensures plays { Plays (offset_window_origin offset) self.old result self.new }
-        ensures goes_on { GoesOn self.old self.new }
-    {
-        match self.dc.map.offset_window_origin(offset) {
-            Ok(()) => Ok(None),
-            Err(_) => Err(Fault::OffPlane),
-        }
-    }
-
-    /// Moves the viewport's origin.
-    fn offset_viewport_origin(&mut self, offset: Point) -> Result<Option<Draw>, Fault>
-        ensures plays { Plays (offset_viewport_origin offset) self.old result self.new }
-        ensures goes_on { GoesOn self.old self.new }
-    {
-        match self.dc.map.offset_viewport_origin(offset) {
-            Ok(()) => Ok(None),
-            Err(_) => Err(Fault::OffPlane),
-        }
-    }
-
-    /// Cuts a box of the page out of the clip.
-    fn exclude_clip(&mut self, corners: Rect) -> Result<Option<Draw>, Fault>
-        ensures plays { Plays (exclude_clip corners) self.old result self.new }
-        ensures goes_on { GoesOn self.old self.new }
-    {
-        if !self.dc.clip.may_be_cut() {
-            return Err(Fault::TooManyCuts);
-        }
-        match land_box(&self.dc.map, self.place, corners) {
-            Ok(landed) => {
-                self.dc.clip.cut(landed);
-                Ok(None)
-            }
-            Err(fault) => Err(fault),
-        }
-    }
-
-    /// Keeps what a box of the page has of the clip.
-    fn intersect_clip(&mut self, corners: Rect) -> Result<Option<Draw>, Fault>
-        ensures plays { Plays (intersect_clip corners) self.old result self.new }
-        ensures goes_on { GoesOn self.old self.new }
-    {
-        match land_box(&self.dc.map, self.place, corners) {
-            Ok(landed) => {
-                placing_law();
-                self.dc.clip.keep(landed);
-                Ok(None)
-            }
-            Err(fault) => Err(fault),
-        }
-    }
-
     /// Draws a pixel.
     fn pixel(&self, point: Point, colour: Colour) -> Result<Option<Draw>, Fault>
         ensures { Plays (pixel point colour) self.now result self.now }
@@ -323,92 +186,4 @@ impl<'a, T: Table<'a>> Machine<'a, T> {
             Err(fault) => Err(fault),
         }
     }
-
-    /// Adds an object to the table.
-    fn create(&mut self, at: Option<Handle>, object: Object<'a>) -> Result<Option<Draw>, Fault>
-        ensures plays { Plays (create (index_of at) (object_value_of object.entry)) self.old result self.new }
-        ensures goes_on { GoesOn self.old self.new }
-    {
-        match self.table.create(at, object) {
-            Ok(handle) => {
-                self.needs.raise_slots(handle.0);
-                Ok(None)
-            }
-            Err(fault) => Err(fault),
-        }
-    }
-
-    /// Puts a pen, a brush or a font in use.
-    fn select(&mut self, handle: Handle) -> Result<Option<Draw>, Fault>
-        ensures plays { Plays (select handle.0) self.old result self.new }
-        ensures goes_on { GoesOn self.old self.new }
-    {
-        match self.named(handle) {
-            None => Err(Fault::NoSuchHandle),
-            Some(Object::Palette) => Err(Fault::WrongKind),
-            Some(object) => {
-                self.dc.selected.select(own_handle(handle), object);
-                Ok(None)
-            }
-        }
-    }
-
-    /// Puts a palette in use.
-    fn select_palette(&mut self, handle: Handle) -> Result<Option<Draw>, Fault>
-        ensures plays { Plays (select_palette handle.0) self.old result self.new }
-        ensures goes_on { GoesOn self.old self.new }
-    {
-        match self.named(handle) {
-            None => Err(Fault::NoSuchHandle),
-            Some(Object::Palette) => {
-                self.dc.selected.select(own_handle(handle), Object::Palette);
-                Ok(None)
-            }
-            Some(_) => Err(Fault::WrongKind),
-        }
-    }
-
-    /// Takes an object that nothing holds out of the table.
-    fn delete(&mut self, handle: Handle) -> Result<Option<Draw>, Fault>
-        ensures plays { Plays (delete handle.0) self.old result self.new }
-        ensures goes_on { GoesOn self.old self.new }
-    {
-        if self.table.get(handle).is_err() {
-            return Err(Fault::NoSuchHandle);
-        }
-        if self.is_held(handle) {
-            return Err(Fault::HeldObject);
-        }
-        match self.table.remove(handle) {
-            Ok(()) => Ok(None),
-            Err(fault) => Err(fault),
-        }
-    }
-
-    /// The object that an index names: a stock object, or one of the table.
-    fn named(&self, handle: Handle) -> Option<Object<'a>>
-        ensures { option_map object_value_of result ≡ named_object handle.0 self.now.state.slots }
-    {
-        if is_stock(handle) {
-            return stock_object(handle);
-        }
-        match self.table.get(handle) {
-            Ok(object) => Some(object),
-            Err(_) => None,
-        }
-    }
-
-    /// Whether the state or any saved state has an index selected.
-    fn is_held(&self, handle: Handle) -> bool
-        ensures { result ≡ is_held handle.0 self.now.state }
-    {
-        self.dc.selected.has(handle) || any_has(self.saved.as_slice(), handle)
-    }
-}
-
-/// Whether one of the saved states has an index selected.
-fn any_has(saved: &[Dc<'_>], handle: Handle) -> bool
-    ensures { result ≡ list_any (λ dc. selects handle.0 (dc_value dc).selected) saved.now }
-{
-    saved.iter().any(|dc| dc.selected.has(handle))
 }

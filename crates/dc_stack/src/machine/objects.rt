@@ -1,0 +1,111 @@
+//! Steps that make, select and delete objects.
+
+ghost use Rattle.std.specs.Prelude.{◌≡◌};
+ghost use Rattle.std.specs.List.{list_any};
+ghost use Rattle.std.specs.Option.{option_map};
+ghost use Rattle.draw_ops.specs.Objects.{index_of, object_value_of};
+ghost use Rattle.draw_ops.specs.Operation.{create, delete, select, select_palette};
+ghost use Rattle.dc_stack.specs.MachineState.{GoesOn, Plays};
+ghost use Rattle.dc_stack.specs.Selecting.{is_held, named_object, selects};
+ghost use Rattle.dc_stack.specs.Values.{dc_value};
+
+use crate::dc::Dc;
+use crate::draw::Draw;
+use crate::machine::Machine;
+use crate::stock::{is_stock, own_handle, stock_object};
+use draw_ops::{Fault, Handle, Object};
+use object_tables::Table;
+
+impl<'a, T: Table<'a>> Machine<'a, T> {
+    /// Adds an object to the table.
+    pub(super) fn create(
+        &mut self,
+        at: Option<Handle>,
+        object: Object<'a>,
+    ) -> Result<Option<Draw>, Fault>
+        ensures plays { Plays (create (index_of at) (object_value_of object.entry)) self.old result self.new }
+        ensures goes_on { GoesOn self.old self.new }
+    {
+        match self.table.create(at, object) {
+            Ok(handle) => {
+                self.needs.raise_slots(handle.0);
+                Ok(None)
+            }
+            Err(fault) => Err(fault),
+        }
+    }
+
+    /// Puts a pen, a brush or a font in use.
+    pub(super) fn select(&mut self, handle: Handle) -> Result<Option<Draw>, Fault>
+        ensures plays { Plays (select handle.0) self.old result self.new }
+        ensures goes_on { GoesOn self.old self.new }
+    {
+        match self.named(handle) {
+            None => Err(Fault::NoSuchHandle),
+            Some(Object::Palette) => Err(Fault::WrongKind),
+            Some(object) => {
+                self.dc.selected.select(own_handle(handle), object);
+                Ok(None)
+            }
+        }
+    }
+
+    /// Puts a palette in use.
+    pub(super) fn select_palette(&mut self, handle: Handle) -> Result<Option<Draw>, Fault>
+        ensures plays { Plays (select_palette handle.0) self.old result self.new }
+        ensures goes_on { GoesOn self.old self.new }
+    {
+        match self.named(handle) {
+            None => Err(Fault::NoSuchHandle),
+            Some(Object::Palette) => {
+                self.dc.selected.select(own_handle(handle), Object::Palette);
+                Ok(None)
+            }
+            Some(_) => Err(Fault::WrongKind),
+        }
+    }
+
+    /// Takes an object that nothing holds out of the table.
+    pub(super) fn delete(&mut self, handle: Handle) -> Result<Option<Draw>, Fault>
+        ensures plays { Plays (delete handle.0) self.old result self.new }
+        ensures goes_on { GoesOn self.old self.new }
+    {
+        if self.table.get(handle).is_err() {
+            return Err(Fault::NoSuchHandle);
+        }
+        if self.is_held(handle) {
+            return Err(Fault::HeldObject);
+        }
+        match self.table.remove(handle) {
+            Ok(()) => Ok(None),
+            Err(fault) => Err(fault),
+        }
+    }
+
+    /// The object that an index names: a stock object, or one of the table.
+    fn named(&self, handle: Handle) -> Option<Object<'a>>
+        ensures { option_map object_value_of result ≡ named_object handle.0 self.now.state.slots }
+    {
+        if is_stock(handle) {
+            return stock_object(handle);
+        }
+        match self.table.get(handle) {
+            Ok(object) => Some(object),
+            Err(_) => None,
+        }
+    }
+
+    /// Whether the state or any saved state has an index selected.
+    fn is_held(&self, handle: Handle) -> bool
+        ensures { result ≡ is_held handle.0 self.now.state }
+    {
+        self.dc.selected.has(handle) || any_has(self.saved.as_slice(), handle)
+    }
+}
+
+/// Whether one of the saved states has an index selected.
+fn any_has(saved: &[Dc<'_>], handle: Handle) -> bool
+    ensures { result ≡ list_any (λ dc. selects handle.0 (dc_value dc).selected) saved.now }
+{
+    saved.iter().any(|dc| dc.selected.has(handle))
+}

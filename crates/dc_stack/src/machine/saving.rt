@@ -1,0 +1,45 @@
+//! Steps that save the state, and take a saved one back.
+
+ghost use Rattle.draw_ops.specs.Operation.{restore, save};
+ghost use Rattle.dc_stack.specs.MachineState.{GoesOn, Plays};
+
+use crate::draw::Draw;
+use crate::machine::Machine;
+use crate::saved::place_of;
+use draw_ops::{Fault, SavedState};
+use object_tables::Table;
+
+/// How many states are saved at most at a time.
+const DEPTH_LIMIT: usize = 256;
+
+impl<'a, T: Table<'a>> Machine<'a, T> {
+    /// Saves a copy of what drawings depend on.
+    pub(super) fn save(&mut self) -> Result<Option<Draw>, Fault>
+        ensures plays { Plays save self.old result self.new }
+        ensures goes_on { GoesOn self.old self.new }
+    {
+        if self.saved.len() >= DEPTH_LIMIT {
+            return Err(Fault::DepthLimit);
+        }
+        match self.saved.push(self.dc) {
+            Ok(()) => {
+                self.needs.raise_depth(self.saved.len() as u32);
+                Ok(None)
+            }
+            Err(_) => Err(Fault::OutOfMemory),
+        }
+    }
+
+    /// Takes a saved state back.
+    pub(super) fn restore(&mut self, which: SavedState) -> Result<Option<Draw>, Fault>
+        ensures plays { Plays (restore which.0) self.old result self.new }
+        ensures goes_on { GoesOn self.old self.new }
+    {
+        let Some(place) = place_of(which, self.saved.len()) else {
+            return Err(Fault::NoSavedState);
+        };
+        self.dc = self.saved[place];
+        self.saved.truncate(place);
+        Ok(None)
+    }
+}

@@ -1,0 +1,60 @@
+//! Steps that set how what follows is drawn, and where it begins.
+
+ghost use Rattle.draw_ops.specs.Operation.{move_to, set_background_colour, set_background_mode, set_fill_mode, set_raster_op};
+ghost use Rattle.dc_stack.specs.MachineState.{GoesOn, Plays};
+
+use crate::draw::Draw;
+use crate::machine::Machine;
+use draw_ops::{BackgroundMode, Fault, FillMode, RasterOp};
+use mapping::{Colour, Point};
+use object_tables::Table;
+
+impl<'a, T: Table<'a>> Machine<'a, T> {
+    /// Sets how the gaps of a hatch are painted.
+    pub(super) fn set_background_mode(
+        &mut self,
+        mode: BackgroundMode,
+    ) -> Result<Option<Draw>, Fault>
+        ensures plays { Plays (set_background_mode mode) self.old result self.new }
+        ensures goes_on { GoesOn self.old self.new }
+    {
+        self.dc.modes.background_mode = mode;
+        Ok(None)
+    }
+
+    /// Sets the colour of the gaps of a hatch.
+    pub(super) fn set_background_colour(&mut self, colour: Colour) -> Result<Option<Draw>, Fault>
+        ensures plays { Plays (set_background_colour colour) self.old result self.new }
+        ensures goes_on { GoesOn self.old self.new }
+    {
+        self.dc.modes.background_colour = colour;
+        Ok(None)
+    }
+
+    /// Sets how colours join what is there.
+    pub(super) fn set_raster_op(&mut self, raster_op: RasterOp) -> Result<Option<Draw>, Fault>
+        ensures plays { Plays (set_raster_op raster_op) self.old result self.new }
+        ensures goes_on { GoesOn self.old self.new }
+    {
+        self.dc.modes.raster_op = raster_op;
+        Ok(None)
+    }
+
+    /// Sets which parts polygons fill.
+    pub(super) fn set_fill_mode(&mut self, mode: FillMode) -> Result<Option<Draw>, Fault>
+        ensures plays { Plays (set_fill_mode mode) self.old result self.new }
+        ensures goes_on { GoesOn self.old self.new }
+    {
+        self.dc.modes.fill_mode = mode;
+        Ok(None)
+    }
+
+    /// Makes a point the current one.
+    pub(super) fn move_to(&mut self, point: Point) -> Result<Option<Draw>, Fault>
+        ensures plays { Plays (move_to point) self.old result self.new }
+        ensures goes_on { GoesOn self.old self.new }
+    {
+        self.dc.position = point;
+        Ok(None)
+    }
+}
