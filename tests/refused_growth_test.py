@@ -132,8 +132,11 @@ class RefusedGrowth(unittest.TestCase):
                     self.assertEqual(answer(program, SHOW, state_file(form, script)), wanted)
 
     def calls_for_memory(self, program, sides, given):
-        """How many calls for memory the program makes to show a file."""
-        return sum(1 for _ in self.under_refusals(program, ["show", "stdin", *sides], given))
+        """How many calls for memory the program makes to show a file, which unlike a pipe is read in
+        pieces of one size."""
+        file = self.mark.with_name("shown")
+        file.write_bytes(given)
+        return sum(1 for _ in self.under_refusals(program, ["show", str(file), *sides]))
 
     def test_records_and_pixels_take_no_memory(self):
         # Files of one length, with a thousand records before the end or behind it, and surfaces of

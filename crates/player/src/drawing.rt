@@ -14,7 +14,11 @@ use object_tables::Table;
 
 /// Draws what a step of the machine draws, if it draws, with the tools of its moment. The count of
 /// writes has room for two layers of a surface of 2^26 pixels.
-pub(crate) fn draw<'a, T: Table<'a>>(step: Option<Draw>, machine: &Machine<'a, T>, canvas: &mut Canvas)
+pub(crate) fn draw<'a, T: Table<'a>>(
+    step: Option<Draw>,
+    machine: &Machine<'a, T>,
+    canvas: &mut Canvas,
+)
     requires whole { IsWhole canvas.old machine.now.surface }
     requires countable { canvas.old.writes + 2 ^ 27 < 2 ^ 64 }
     requires placed { IfSome step (IsPlacedDraw machine.now.surface) }

@@ -42,7 +42,9 @@ pub(crate) fn full_slots(handles: Option<u16>) -> usize
 
 impl<'a> Contents for FileTable<'a> {
     ghost slots = { slots_of };
+
     ghost kind = { kind_of };
+
     ghost room = { room_of };
 }
 

@@ -19,6 +19,8 @@ mod file_table;
 mod laws;
 mod play;
 mod refusal;
+#[cfg(test)]
+mod tests;
 
 pub use laws::run_law;
 pub use play::{play_file, play_on};

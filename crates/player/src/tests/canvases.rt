@@ -1,0 +1,245 @@
+//! Texts byte by byte, and writers that are slow or fail.
+
+use canvas::{Canvas, OutOfMemory, WriteFault};
+use mapping::Colour;
+use std::io;
+use std::io::{ErrorKind, Write};
+use std::test::Fail;
+
+const RED: Colour = Colour { r: 255, g: 0, b: 0 };
+
+/// A writer that takes a few bytes a call, is interrupted at every other call, and fails after a
+/// number of bytes.
+#[derive(Drop)]
+struct Slow {
+    taken: Vec<u8>,
+    a_call: usize,
+    most: usize,
+    rested: bool,
+}
+
+impl Slow {
+    fn new(taken: Vec<u8>, a_call: usize, most: usize) -> Slow {
+        Slow {
+            taken,
+            a_call,
+            most,
+            rested: false,
+        }
+    }
+}
+
+impl Write for Slow {
+    fn write(&mut self, buf: &[u8]) -> io::Result<usize> {
+        self.rested = !self.rested;
+        if self.rested {
+            return Err(io::Error::from(ErrorKind::Interrupted));
+        }
+        let room = self.most.saturating_sub(self.taken.len());
+        if room == 0 {
+            return Err(io::Error::from(ErrorKind::StorageFull));
+        }
+        let count = buf.len().min(self.a_call).min(room);
+        self.taken.extend_from_slice(&buf[..count])?;
+        Ok(count)
+    }
+
+    fn flush(&mut self) -> io::Result<()> {
+        Ok(())
+    }
+}
+
+/// A writer that notes how many bytes each call brings.
+#[derive(Drop)]
+struct Pieces {
+    lengths: Vec<usize>,
+}
+
+impl Write for Pieces {
+    fn write(&mut self, buf: &[u8]) -> io::Result<usize> {
+        self.lengths.push(buf.len())?;
+        Ok(buf.len())
+    }
+
+    fn flush(&mut self) -> io::Result<()> {
+        Ok(())
+    }
+}
+
+#[test]
+fn one_pixel_as_text(rt: HostRuntime) -> Result<(), Fail> {
+    let canvas = Canvas::new(rt.alloc(), 1, 1, Colour { r: 1, g: 2, b: 255 })?;
+    let mut out = Vec::new(rt.alloc());
+    canvas.write_ppm(&mut out)?;
+    assert_eq!(rt; out.as_slice(), b"P6\n1 1\n255\n\x01\x02\xff".as_slice());
+    Ok(())
+}
+
+#[test]
+fn two_pixels_as_text(rt: HostRuntime) -> Result<(), Fail> {
+    let mut canvas = Canvas::new(rt.alloc(), 2, 1, Colour::WHITE)?;
+    assert!(rt; canvas.has_pixel(1, 0) && canvas.writes() < 1000);
+    canvas.put(1, 0, RED);
+    let mut out = Vec::new(rt.alloc());
+    canvas.write_ppm(&mut out)?;
+    assert_eq!(rt;
+        out.as_slice(),
+        b"P6\n2 1\n255\n\xff\xff\xff\xff\x00\x00".as_slice()
+    );
+    Ok(())
+}
+
+#[test]
+fn a_write_changes_one_pixel_and_counts_once(rt: HostRuntime) -> Result<(), Fail> {
+    let mut canvas = Canvas::new(rt.alloc(), 3, 2, Colour::WHITE)?;
+    assert_eq!(rt; canvas.writes(), 0);
+    for (x, y) in [(2, 1), (0, 1), (2, 1)] {
+        assert!(rt; canvas.has_pixel(x, y) && canvas.writes() < 1000);
+        canvas.put(x, y, RED);
+    }
+    assert_eq!(rt; canvas.writes(), 3);
+    for (x, y, want) in [
+        (0, 0, Colour::WHITE),
+        (2, 0, Colour::WHITE),
+        (0, 1, RED),
+        (1, 1, Colour::WHITE),
+        (2, 1, RED),
+    ] {
+        assert!(rt; canvas.has_pixel(x, y));
+        assert_eq!(rt; canvas.colour(x, y), want, "at ({x}, {y})");
+    }
+    assert!(rt; !canvas.has_pixel(3, 0) && !canvas.has_pixel(0, 2));
+    assert_eq!(rt; (canvas.width(), canvas.first(), canvas.rows()), (3, 0, 2));
+    Ok(())
+}
+
+#[test]
+fn a_slow_writer_gets_the_same_text(rt: HostRuntime) -> Result<(), Fail> {
+    let canvas = Canvas::new(rt.alloc(), 7, 3, RED)?;
+    let mut whole = Vec::new(rt.alloc());
+    canvas.write_ppm(&mut whole)?;
+    assert_eq!(rt; whole.len(), 11 + 63);
+    for a_call in [1, 2, 5] {
+        let mut slow = Slow::new(Vec::new(rt.alloc()), a_call, 1000);
+        canvas.write_ppm(&mut slow)?;
+        assert_eq!(rt;
+            slow.taken.as_slice(),
+            whole.as_slice(),
+            "{a_call} bytes a call"
+        );
+    }
+    Ok(())
+}
+
+#[test]
+fn a_writer_that_fails_has_a_front_of_the_text(rt: HostRuntime) -> Result<(), Fail> {
+    let canvas = Canvas::new(rt.alloc(), 2, 2, RED)?;
+    let mut whole = Vec::new(rt.alloc());
+    canvas.write_ppm(&mut whole)?;
+    assert_eq!(rt; whole.len(), 23);
+    for most in 0..23 {
+        let mut slow = Slow::new(Vec::new(rt.alloc()), 4, most);
+        assert_eq!(rt;
+            canvas.write_ppm(&mut slow),
+            Err(WriteFault),
+            "at {most} bytes"
+        );
+        assert_eq!(rt; slow.taken.len(), most);
+        assert!(rt; whole.starts_with(slow.taken.as_slice()));
+    }
+    // One that takes no byte, and doesn't fail, is a fault too.
+    let mut idle = Slow::new(Vec::new(rt.alloc()), 0, 1000);
+    assert_eq!(rt; canvas.write_ppm(&mut idle), Err(WriteFault));
+    Ok(())
+}
+
+#[test]
+fn a_large_text_goes_out_in_large_pieces(rt: HostRuntime) -> Result<(), Fail> {
+    let canvas = Canvas::new(rt.alloc(), 1, 8192, RED)?;
+    let mut pieces = Pieces {
+        lengths: Vec::new(rt.alloc()),
+    };
+    canvas.write_ppm(&mut pieces)?;
+    // The header "P6\n1 8192\n255\n" goes with the first 4,096 pixels.
+    assert_eq!(rt; pieces.lengths.as_slice(), [14 + 12288, 12288].as_slice());
+    Ok(())
+}
+
+#[test]
+fn a_text_ends_with_its_last_pixel(rt: HostRuntime) -> Result<(), Fail> {
+    // Around the 4,096 pixels of a piece: the header has 14 bytes, and each pixel 3.
+    let sizes: [(u32, &[usize]); 3] = [
+        (4095, &[14 + 12285]),
+        (4096, &[14 + 12288]),
+        (4097, &[14 + 12288, 3]),
+    ];
+    for (width, lengths) in sizes {
+        let mut canvas = Canvas::new(rt.alloc(), width, 1, Colour::WHITE)?;
+        assert!(rt; canvas.has_pixel(width - 1, 0) && canvas.writes() < 1000);
+        canvas.put(width - 1, 0, RED);
+        let mut pieces = Pieces {
+            lengths: Vec::new(rt.alloc()),
+        };
+        canvas.write_ppm(&mut pieces)?;
+        assert_eq!(rt; pieces.lengths.as_slice(), lengths, "{width} pixels");
+        let mut text = Vec::new(rt.alloc());
+        canvas.write_ppm(&mut text)?;
+        let end = b"\xff\xff\xff\xff\x00\x00".as_slice();
+        assert!(rt; text.as_slice().ends_with(end), "{width} pixels");
+    }
+    Ok(())
+}
+
+#[test]
+fn a_canvas_has_each_side_up_to_8192(rt: HostRuntime) -> Result<(), Fail> {
+    for side in [1, 8191, 8192] {
+        let wide = Canvas::new(rt.alloc(), side, 1, RED)?;
+        assert!(rt;
+            wide.has_pixel(side - 1, 0) && !wide.has_pixel(side, 0),
+            "{side}"
+        );
+        assert_eq!(rt; wide.colour(side - 1, 0), RED, "{side}");
+        let high = Canvas::new(rt.alloc(), 1, side, RED)?;
+        assert!(rt;
+            high.has_pixel(0, side - 1) && !high.has_pixel(0, side),
+            "{side}"
+        );
+        assert_eq!(rt; high.colour(0, side - 1), RED, "{side}");
+    }
+    Ok(())
+}
+
+#[test]
+fn the_faults_show_their_names(rt: HostRuntime) -> Result<(), Fail> {
+    let memory = format!(in rt.alloc(); "{OutOfMemory}")?;
+    assert_eq!(rt; memory.as_str(), "OutOfMemory");
+    let writer = format!(in rt.alloc(); "{WriteFault}")?;
+    assert_eq!(rt; writer.as_str(), "WriteFault");
+    Ok(())
+}
+
+#[test]
+fn a_large_piece_goes_out_byte_by_byte(rt: HostRuntime) -> Result<(), Fail> {
+    let canvas = Canvas::new(rt.alloc(), 100, 41, RED)?;
+    let mut out = Slow::new(Vec::new(rt.alloc()), 1, usize::MAX);
+    canvas.write_ppm(&mut out)?;
+    // The header has 14 bytes, and each of 4,100 pixels 3.
+    assert_eq!(rt; out.taken.len(), 12314);
+    Ok(())
+}
+
+// Run once more for each growth refused in turn, by tests/refused_growth_test.py.
+#[test]
+fn a_canvas_under_refused_growth(rt: HostRuntime) -> Result<(), Fail> {
+    match Canvas::new(rt.alloc(), 2, 3, RED) {
+        Ok(canvas) => {
+            for (x, y) in [(0, 0), (1, 0), (0, 1), (1, 1), (0, 2), (1, 2)] {
+                assert!(rt; canvas.has_pixel(x, y), "{x} {y}");
+                assert_eq!(rt; canvas.colour(x, y), RED, "{x} {y}");
+            }
+            assert_eq!(rt; canvas.writes(), 0);
+        }
+        Err(error) => assert_eq!(rt; error, OutOfMemory),
+    }
+    Ok(())
+}

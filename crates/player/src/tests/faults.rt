@@ -1,0 +1,41 @@
+//! What faults show to users.
+
+use draw_ops::Fault;
+use std::test::Fail;
+
+#[test]
+fn a_fault_shows_its_name_and_the_record_that_it_speaks_of(rt: HostRuntime) -> Result<(), Fail> {
+    for (fault, code, name, text) in [
+        (Fault::TooLong, 1, "TooLong", "TooLong"),
+        (
+            Fault::UnknownRecord(2457),
+            14,
+            "UnknownRecord",
+            "UnknownRecord 2457",
+        ),
+        (
+            Fault::Unsupported(2610),
+            15,
+            "Unsupported",
+            "Unsupported 2610",
+        ),
+        (Fault::HeldObject, 27, "HeldObject", "HeldObject"),
+        (Fault::BoxTooSmall, 39, "BoxTooSmall", "BoxTooSmall"),
+        (
+            Fault::BudgetTooSmall,
+            41,
+            "BudgetTooSmall",
+            "BudgetTooSmall",
+        ),
+        (Fault::OutOfMemory, 45, "OutOfMemory", "OutOfMemory"),
+    ] {
+        assert_eq!(rt; fault.code(), code);
+        assert_eq!(rt; fault.name(), name);
+        let shown = format!(in rt.alloc(); "{fault}")?;
+        assert_eq!(rt; shown.as_str(), text);
+    }
+    assert_eq!(rt; Fault::Unsupported(2610).number(), Some(2610));
+    assert_eq!(rt; Fault::UnknownRecord(0).number(), Some(0));
+    assert_eq!(rt; Fault::NoEnd.number(), None);
+    Ok(())
+}

@@ -1,0 +1,66 @@
+//! What opening a file tells, and what it notes.
+
+use crate::tests::playing::{DOT, changed};
+use draw_ops::{Note, NoteSet};
+use mapping::Frame;
+use meta_headers::{FileFormat, open_file};
+use std::test::Fail;
+
+/// The smallest EMF file without a drawing: its bounds are (0, 0, -1, -1).
+pub(crate) const NIL_EMF: [u8; 108] = [
+    // EMR_HEADER: type, size, bounds, frame.
+    1, 0, 0, 0, 88, 0, 0, 0, //
+    0, 0, 0, 0, 0, 0, 0, 0, 255, 255, 255, 255, 255, 255, 255, 255, //
+    0, 0, 0, 0, 0, 0, 0, 0, 0, 0, 0, 0, 0, 0, 0, 0, //
+    // Signature, version, bytes, records, handles, reserved.
+    0x20, 0x45, 0x4d, 0x46, 0, 0, 1, 0, 108, 0, 0, 0, 2, 0, 0, 0, 1, 0, 0, 0, //
+    // Description, palette entries, device, millimetres.
+    0, 0, 0, 0, 0, 0, 0, 0, 0, 0, 0, 0, 0, 0, 0, 0, 0, 0, 0, 0, 0, 0, 0, 0, 0, 0, 0, 0, //
+    // EMR_EOF.
+    14, 0, 0, 0, 20, 0, 0, 0, 0, 0, 0, 0, 16, 0, 0, 0, 20, 0, 0, 0,
+];
+
+#[test]
+fn a_placeable_file_has_its_box_for_a_frame(rt: HostRuntime) -> Result<(), Fail> {
+    let opened = open_file(&DOT)?;
+    assert_eq!(rt; opened.format, FileFormat::Placeable);
+    assert_eq!(rt; Some(opened.frame), Frame::new(4, 4));
+    assert_eq!(rt; opened.handles, None);
+    assert_eq!(rt; opened.notes, NoteSet::none());
+    Ok(())
+}
+
+#[test]
+fn an_emf_file_has_its_bounds_for_a_frame(rt: HostRuntime) -> Result<(), Fail> {
+    let opened = open_file(&NIL_EMF)?;
+    assert_eq!(rt; opened.format, FileFormat::Emf);
+    assert_eq!(rt; Some(opened.frame), Frame::new(1, 1));
+    assert_eq!(rt; opened.handles, Some(1));
+    assert_eq!(rt; opened.notes, NoteSet::none());
+    Ok(())
+}
+
+#[test]
+fn another_checksum_is_noted(rt: HostRuntime) -> Result<(), Fail> {
+    let file = changed(rt.alloc(), 20, &[0x70])?;
+    let noted = NoteSet::none().with(Note::PlaceableChecksum);
+    assert_eq!(rt; open_file(file.as_slice())?.notes, noted);
+    Ok(())
+}
+
+#[test]
+fn a_reserved_field_is_noted(rt: HostRuntime) -> Result<(), Fail> {
+    // Both words are 1, so the checksum is as it was.
+    let file = changed(rt.alloc(), 16, &[1, 0, 1, 0])?;
+    let noted = NoteSet::none().with(Note::PlaceableFields);
+    assert_eq!(rt; open_file(file.as_slice())?.notes, noted);
+    Ok(())
+}
+
+#[test]
+fn another_size_is_noted(rt: HostRuntime) -> Result<(), Fail> {
+    let file = changed(rt.alloc(), 28, &[0x14])?;
+    let noted = NoteSet::none().with(Note::SizeField);
+    assert_eq!(rt; open_file(file.as_slice())?.notes, noted);
+    Ok(())
+}

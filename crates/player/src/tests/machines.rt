@@ -1,0 +1,125 @@
+//! Machines: what a step draws and needs, a new start, and refused growth.
+
+use crate::tests::playing::{DOT, RED};
+use dc_stack::{Draw, Machine, Needs};
+use draw_ops::{Fault, FillMode, Handle, Object, Op, SavedState};
+use mapping::{Place, Point, Rect};
+use meta_headers::{Opened, open_file};
+use object_tables::LowestFree;
+use std::alloc::Global;
+use std::test::Fail;
+
+/// A machine at the start of a file, at 2 by 2.
+fn machine<'a>(alloc: Global, opened: &Opened<'a>) -> Machine<'a, LowestFree<'a>> {
+    let place = Place::new(&opened.frame, 2, 2);
+    Machine::new(alloc, opened, place, LowestFree::new(alloc))
+}
+
+const PIXEL: Op<'static> = Op::Pixel {
+    point: Point { x: 3, y: -1 },
+    colour: RED,
+};
+
+const FONT: Op<'static> = Op::Create {
+    at: None,
+    object: Object::Font,
+};
+
+#[test]
+fn a_pixel_is_drawn_where_it_lands(rt: HostRuntime) -> Result<(), Fail> {
+    let opened = open_file(&DOT)?;
+    let mut machine = machine(rt.alloc(), &opened);
+    let drawn = Draw {
+        point: Point { x: 3, y: -1 },
+        placed: Point { x: 1, y: -1 },
+        colour: RED,
+    };
+    assert_eq!(rt; machine.step(PIXEL), Ok(Some(drawn)));
+    let left = Rect {
+        l: 2,
+        t: 4,
+        r: 0,
+        b: 0,
+    };
+    assert_eq!(rt; machine.step(Op::IntersectClip(left)), Ok(None));
+    let clip = &machine.dc().clip;
+    assert!(rt; clip.has(0, 0) && clip.has(0, 1) && !clip.has(1, 0));
+    assert_eq!(rt; machine.step(Op::BeginPath), Err(Fault::Unsupported(0)));
+    Ok(())
+}
+
+#[test]
+fn needs_are_the_greatest_since_the_start(rt: HostRuntime) -> Result<(), Fail> {
+    let opened = open_file(&DOT)?;
+    let mut machine = machine(rt.alloc(), &opened);
+    let none = machine.needs();
+    for op in [
+        FONT,
+        FONT,
+        Op::Save,
+        Op::Save,
+        Op::Restore(SavedState(1)),
+        Op::Delete(Handle(0)),
+        FONT,
+        PIXEL,
+    ] {
+        machine.step(op)?;
+    }
+    let needs = Needs {
+        depth: 2,
+        slots: 2,
+        edges: 0,
+        pieces: 0,
+    };
+    assert_eq!(rt; machine.needs(), needs);
+    machine.step(Op::SetFillMode(FillMode::Winding))?;
+    machine.restart(&opened);
+    assert_eq!(rt; machine.needs(), none);
+    assert_eq!(rt; machine.dc().modes.fill_mode, FillMode::Alternate);
+    assert_eq!(rt;
+        machine.step(Op::Select(Handle(0))),
+        Err(Fault::NoSuchHandle)
+    );
+    assert_eq!(rt;
+        machine.step(Op::Restore(SavedState(-1))),
+        Err(Fault::NoSavedState)
+    );
+    Ok(())
+}
+
+// Run once more for each growth refused in turn, by tests/refused_growth_test.py: after a refusal
+// the step is as it was before.
+#[test]
+fn steps_under_refused_growth(rt: HostRuntime) -> Result<(), Fail> {
+    let opened = open_file(&DOT)?;
+    let mut machine = machine(rt.alloc(), &opened);
+    for count in 1..100 {
+        for op in [FONT, Op::Save] {
+            let before = machine.needs();
+            if let Err(fault) = machine.step(op) {
+                assert_eq!(rt; fault, Fault::OutOfMemory);
+                assert_eq!(rt; machine.needs(), before);
+                assert_eq!(rt; machine.step(op), Ok(None));
+            }
+        }
+        let needs = machine.needs();
+        assert!(rt; needs.depth == count && needs.slots == count);
+    }
+    Ok(())
+}
+
+// Run once more for each growth refused in turn, by tests/refused_growth_test.py.
+#[test]
+fn reserved_steps_under_refused_growth(rt: HostRuntime) -> Result<(), Fail> {
+    let opened = open_file(&DOT)?;
+    let mut machine = machine(rt.alloc(), &opened);
+    if let Err(fault) = machine.reserve(100, 100, 0) {
+        assert_eq!(rt; fault, Fault::OutOfMemory);
+        machine.reserve(100, 100, 0)?;
+    }
+    for _ in 0..100 {
+        assert_eq!(rt; machine.step(FONT), Ok(None));
+        assert_eq!(rt; machine.step(Op::Save), Ok(None));
+    }
+    Ok(())
+}

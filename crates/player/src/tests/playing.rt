@@ -1,0 +1,312 @@
+//! Worked files, whole and broken, with the answers by hand.
+
+use crate::play::play_file;
+use crate::refusal::Refusal;
+use canvas::Canvas;
+use draw_ops::Fault;
+use mapping::Colour;
+use std::alloc::{AllocError, Global};
+use std::test::Fail;
+
+/// A placeable file with the box (0,0,4,4), a red pixel at (2,1), and an end.
+pub(crate) const DOT: [u8; 60] = [
+    // META_PLACEABLE: key, handle, box, inch, reserved, checksum.
+    0xd7, 0xcd, 0xc6, 0x9a, 0, 0, 0, 0, 0, 0, 4, 0, 4, 0, 0x60, 0, 0, 0, 0, 0, 0x71, 0x57,
+    // META_HEADER: type, header size, version, size, objects, largest record, members.
+    1, 0, 9, 0, 0, 3, 0x13, 0, 0, 0, 0, 0, 7, 0, 0, 0, 0, 0,
+    // META_SETPIXEL: size in words, function, colour, y, x.
+    7, 0, 0, 0, 0x1f, 4, 255, 0, 0, 0, 1, 0, 2, 0,
+    // META_EOF.
+    3, 0, 0, 0, 0, 0,
+];
+
+pub(crate) const RED: Colour = Colour { r: 255, g: 0, b: 0 };
+
+pub(crate) const BLUE: Colour = Colour { r: 0, g: 0, b: 255 };
+
+/// `DOT` with other bytes from a place on.
+pub(crate) fn changed(alloc: Global, place: usize, bytes: &[u8]) -> Result<Vec<u8>, AllocError> {
+    let mut file = Vec::new(alloc);
+    for (k, byte) in DOT.iter().enumerate() {
+        let new = k.checked_sub(place).and_then(|offset| bytes.get(offset));
+        file.push(*new.unwrap_or(byte))?;
+    }
+    Ok(file)
+}
+
+/// The headers of `DOT` and these records.
+fn with_records(alloc: Global, records: &[u8]) -> Result<Vec<u8>, AllocError> {
+    let mut file = Vec::from_slice(alloc, &DOT[..40])?;
+    file.extend_from_slice(records)?;
+    Ok(file)
+}
+
+pub(crate) fn colour(canvas: &Canvas, x: u32, y: u32) -> Option<Colour> {
+    canvas.has_pixel(x, y).then(|| canvas.colour(x, y))
+}
+
+#[test]
+fn a_dot_is_one_red_pixel(rt: HostRuntime) -> Result<(), Fail> {
+    let canvas = play_file(rt.alloc(), &DOT, 4, 4)?;
+    assert_eq!(rt; canvas.writes(), 1);
+    let mut text = Vec::new(rt.alloc());
+    canvas.write_ppm(&mut text)?;
+    assert_eq!(rt; text.len(), 59);
+    for (k, byte) in text.as_slice().iter().enumerate() {
+        if k >= 11 {
+            assert_eq!(rt; *byte, if k == 30 || k == 31 { 0 } else { 255 }, "at {k}");
+        }
+    }
+    Ok(())
+}
+
+#[test]
+fn a_dot_moves_with_the_surface(rt: HostRuntime) -> Result<(), Fail> {
+    let canvas = play_file(rt.alloc(), &DOT, 2, 2)?;
+    assert_eq!(rt; canvas.writes(), 1);
+    for (x, y, want) in [
+        (0, 0, Colour::WHITE),
+        (1, 0, RED),
+        (0, 1, Colour::WHITE),
+        (1, 1, Colour::WHITE),
+    ] {
+        assert_eq!(rt; colour(&canvas, x, y), Some(want), "at ({x}, {y})");
+    }
+    Ok(())
+}
+
+#[test]
+fn a_dot_lands_on_each_width_up_to_8192(rt: HostRuntime) -> Result<(), Fail> {
+    // Column 2 of 4 begins at half of the width.
+    for (width, column) in [(1, 0), (8191, 4095), (8192, 4096)] {
+        let wide = play_file(rt.alloc(), &DOT, width, 1)?;
+        assert_eq!(rt; colour(&wide, column, 0), Some(RED), "{width}");
+    }
+    Ok(())
+}
+
+#[test]
+fn a_dot_lands_on_each_height_up_to_8192(rt: HostRuntime) -> Result<(), Fail> {
+    // Row 1 of 4 begins at a quarter of the height.
+    for (height, row) in [(1, 0), (8191, 2047), (8192, 2048)] {
+        let high = play_file(rt.alloc(), &DOT, 1, height)?;
+        assert_eq!(rt; colour(&high, 0, row), Some(RED), "{height}");
+    }
+    Ok(())
+}
+
+#[test]
+fn each_front_of_a_file_has_its_fault(rt: HostRuntime) -> Result<(), Fail> {
+    for (from, to, number, fault) in [
+        (0, 4, None, Fault::NotMetafile),
+        (4, 40, None, Fault::ShortHeader),
+        (40, 46, Some(0), Fault::NoEnd),
+        (46, 54, Some(0), Fault::PastEnd),
+        (54, 60, Some(1), Fault::NoEnd),
+    ] {
+        for length in from..to {
+            let front = DOT.get(..length).ok_or("a front")?;
+            let refusal = play_file(rt.alloc(), front, 4, 4).err();
+            assert_eq!(rt; refusal, Some(Refusal { number, fault }), "{length} bytes");
+        }
+    }
+    Ok(())
+}
+
+#[test]
+fn each_change_of_a_file_has_its_fault(rt: HostRuntime) -> Result<(), Fail> {
+    let none: Option<u32> = None;
+    let changes: [(usize, &[u8], Option<u32>, Fault); 16] = [
+        (0, b"\xd6", none, Fault::NotMetafile),
+        (22, b"\x03", none, Fault::BadHeader),
+        (23, b"\x01", none, Fault::BadHeader),
+        (24, b"\x08", none, Fault::BadHeader),
+        (26, b"\x01", none, Fault::BadHeader),
+        (27, b"\x02", none, Fault::BadHeader),
+        (10, b"\x00", none, Fault::NoFrame),
+        (12, b"\x00", none, Fault::NoFrame),
+        (40, b"\x00", Some(0), Fault::ShortRecord),
+        (40, b"\x02", Some(0), Fault::ShortRecord),
+        (40, b"\x0b", Some(0), Fault::PastEnd),
+        (40, b"\xff\xff\xff\xff", Some(0), Fault::PastEnd),
+        (40, b"\x06", Some(0), Fault::BadParams),
+        (44, b"\x32\x0a", Some(0), Fault::Unsupported(2610)),
+        (49, b"\x01", Some(0), Fault::PaletteColour),
+        (54, b"\x02", Some(1), Fault::ShortRecord),
+    ];
+    for (place, bytes, number, fault) in changes {
+        let file = changed(rt.alloc(), place, bytes)?;
+        let refusal = play_file(rt.alloc(), file.as_slice(), 4, 4).err();
+        assert_eq!(rt; refusal, Some(Refusal { number, fault }), "at {place}");
+    }
+    Ok(())
+}
+
+#[test]
+fn what_the_standard_allows_is_played(rt: HostRuntime) -> Result<(), Fail> {
+    // A memory or a disk file, either version, the other type of colour, and bytes that aren't read.
+    let changes: [(usize, &[u8]); 5] = [
+        (22, b"\x02"),
+        (26, b"\x00\x01"),
+        (49, b"\x02"),
+        (20, b"\x00\x00"),
+        (32, b"\xff\xff\xff\xff"),
+    ];
+    for (place, bytes) in changes {
+        let file = changed(rt.alloc(), place, bytes)?;
+        let canvas = play_file(rt.alloc(), file.as_slice(), 4, 4)?;
+        assert_eq!(rt; colour(&canvas, 2, 1), Some(RED), "at {place}");
+    }
+    Ok(())
+}
+
+#[test]
+fn a_pixel_off_the_surface_is_not_written(rt: HostRuntime) -> Result<(), Fail> {
+    // y, then x: beyond the right, the bottom, the left and the top.
+    let places: [&[u8]; 4] = [
+        b"\x01\x00\x04\x00",
+        b"\x04\x00\x02\x00",
+        b"\x01\x00\xff\xff",
+        b"\xff\xff\x02\x00",
+    ];
+    for place in places {
+        let file = changed(rt.alloc(), 50, place)?;
+        let canvas = play_file(rt.alloc(), file.as_slice(), 4, 4)?;
+        assert_eq!(rt; canvas.writes(), 0);
+        for y in 0..4 {
+            for x in 0..4 {
+                assert_eq!(rt; colour(&canvas, x, y), Some(Colour::WHITE), "at ({x}, {y})");
+            }
+        }
+    }
+    Ok(())
+}
+
+#[test]
+fn the_later_of_two_writes_wins_and_both_count(rt: HostRuntime) -> Result<(), Fail> {
+    let file = with_records(
+        rt.alloc(),
+        b"\x07\x00\x00\x00\x1f\x04\xff\x00\x00\x00\x01\x00\x02\x00\
+          \x07\x00\x00\x00\x1f\x04\x00\x00\xff\x00\x01\x00\x02\x00\
+          \x03\x00\x00\x00\x00\x00",
+    )?;
+    let canvas = play_file(rt.alloc(), file.as_slice(), 4, 4)?;
+    assert_eq!(rt; canvas.writes(), 2);
+    assert_eq!(rt; colour(&canvas, 2, 1), Some(BLUE));
+    Ok(())
+}
+
+#[test]
+fn bytes_behind_the_end_are_not_read(rt: HostRuntime) -> Result<(), Fail> {
+    let file = with_records(rt.alloc(), b"\x03\x00\x00\x00\x00\x00\xff\xff\xff")?;
+    let canvas = play_file(rt.alloc(), file.as_slice(), 4, 4)?;
+    assert_eq!(rt; canvas.writes(), 0);
+    Ok(())
+}
+
+#[test]
+fn a_box_with_turned_sides_mirrors(rt: HostRuntime) -> Result<(), Fail> {
+    // Left 4, top 4, right 0, bottom 0: x = 2 lands in column 2, and y = 1 in row 3.
+    let file = changed(rt.alloc(), 6, b"\x04\x00\x04\x00\x00\x00\x00\x00")?;
+    let canvas = play_file(rt.alloc(), file.as_slice(), 4, 4)?;
+    assert_eq!(rt; canvas.writes(), 1);
+    assert_eq!(rt; colour(&canvas, 2, 3), Some(RED));
+    Ok(())
+}
+
+#[test]
+fn a_point_far_outside_is_off_the_plane(rt: HostRuntime) -> Result<(), Fail> {
+    // The box (-32768, 0, -32767, 1) is one unit wide; x = 32767 is 65,535 units from its left, and
+    // 65,535 times 8,192 is above 2^28. On a surface of 4,096 it fits.
+    let mut file = changed(rt.alloc(), 6, b"\x00\x80\x00\x00\x01\x80\x01\x00")?;
+    file.truncate(40);
+    file.extend_from_slice(
+        b"\x07\x00\x00\x00\x1f\x04\xff\x00\x00\x00\x00\x00\xff\x7f\x03\x00\x00\x00\x00\x00",
+    )?;
+    let refusal = play_file(rt.alloc(), file.as_slice(), 8192, 1).err();
+    let off_plane = Refusal {
+        number: Some(0),
+        fault: Fault::OffPlane,
+    };
+    assert_eq!(rt; refusal, Some(off_plane));
+    let canvas = play_file(rt.alloc(), file.as_slice(), 4096, 1)?;
+    assert_eq!(rt; canvas.writes(), 0);
+    Ok(())
+}
+
+#[test]
+fn a_file_has_at_most_1048576_records(rt: HostRuntime) -> Result<(), Fail> {
+    let pixel = b"\x07\x00\x00\x00\x1f\x04\xff\x00\x00\x00\x01\x00\x02\x00";
+    let mut file = with_records(rt.alloc(), b"")?;
+    for _ in 0..1048575 {
+        file.extend_from_slice(pixel)?;
+    }
+    let pixels = file.len();
+    file.extend_from_slice(b"\x03\x00\x00\x00\x00\x00")?;
+    let canvas = play_file(rt.alloc(), file.as_slice(), 4, 4)?;
+    assert_eq!(rt; canvas.writes(), 1048575);
+    // One pixel more, and the end record is at place 1,048,576.
+    file.truncate(pixels);
+    file.extend_from_slice(pixel)?;
+    file.extend_from_slice(b"\x03\x00\x00\x00\x00\x00")?;
+    let too_many = Refusal {
+        number: Some(1048576),
+        fault: Fault::TooManyRecords,
+    };
+    let refusal = play_file(rt.alloc(), file.as_slice(), 4, 4).err();
+    assert_eq!(rt; refusal, Some(too_many));
+    Ok(())
+}
+
+#[test]
+fn a_file_has_at_most_67108864_bytes(rt: HostRuntime) -> Result<(), Fail> {
+    let mut file = Vec::from_slice(rt.alloc(), &DOT)?;
+    file.resize(67108864, 0)?;
+    let canvas = play_file(rt.alloc(), file.as_slice(), 4, 4)?;
+    assert_eq!(rt; canvas.writes(), 1);
+    file.push(0)?;
+    let too_long = Refusal {
+        number: None,
+        fault: Fault::TooLong,
+    };
+    let refusal = play_file(rt.alloc(), file.as_slice(), 4, 4).err();
+    assert_eq!(rt; refusal, Some(too_long));
+    Ok(())
+}
+
+#[test]
+fn a_refusal_shows_its_record(rt: HostRuntime) -> Result<(), Fail> {
+    for (number, fault, text) in [
+        (None, Fault::NotMetafile, "NotMetafile"),
+        (Some(0), Fault::PastEnd, "PastEnd at record 0"),
+        (
+            Some(3),
+            Fault::Unsupported(2610),
+            "Unsupported 2610 at record 3",
+        ),
+    ] {
+        let refusal = Refusal { number, fault };
+        let shown = format!(in rt.alloc(); "{refusal}")?;
+        assert_eq!(rt; shown.as_str(), text);
+    }
+    Ok(())
+}
+
+// Run once more for each growth refused in turn, by tests/refused_growth_test.py.
+#[test]
+fn a_dot_under_refused_growth(rt: HostRuntime) -> Result<(), Fail> {
+    match play_file(rt.alloc(), &DOT, 4, 4) {
+        Ok(canvas) => {
+            assert_eq!(rt; canvas.writes(), 1);
+            assert_eq!(rt; colour(&canvas, 2, 1), Some(RED));
+        }
+        Err(refusal) => {
+            let want = Refusal {
+                number: None,
+                fault: Fault::OutOfMemory,
+            };
+            assert_eq!(rt; refusal, want);
+        }
+    }
+    Ok(())
+}

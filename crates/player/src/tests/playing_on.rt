@@ -1,0 +1,60 @@
+//! Worked files over what a canvas shows already, on a machine with full room.
+
+use crate::play::play_on;
+use crate::refusal::Refusal;
+use crate::tests::playing::{BLUE, DOT, RED, changed, colour};
+use canvas::Canvas;
+use dc_stack::Machine;
+use draw_ops::Fault;
+use mapping::Place;
+use meta_headers::open_file;
+use object_tables::LowestFree;
+use std::alloc::Global;
+use std::test::Fail;
+
+/// Plays a WMF file on a canvas that counts few writes so far and holds a whole surface.
+fn play_over(
+    alloc: Global,
+    file: &[u8],
+    canvas: &mut Canvas,
+) -> Result<Result<u64, Refusal>, Fail> {
+    let opened = open_file(file)?;
+    let place = Place::new(&opened.frame, canvas.width(), canvas.rows());
+    let mut machine = Machine::new(alloc, &opened, place, LowestFree::new(alloc));
+    machine.reserve(256, 1024, 0)?;
+    if canvas.first() != 0 || canvas.writes() > 1000 {
+        return Err("the canvas of a test is whole and new".into());
+    }
+    Ok(play_on(&opened, &mut machine, canvas))
+}
+
+#[test]
+fn a_dot_leaves_the_rest_and_counts_on(rt: HostRuntime) -> Result<(), Fail> {
+    let mut canvas = Canvas::new(rt.alloc(), 4, 4, BLUE)?;
+    for played in 1..4 {
+        assert_eq!(rt; play_over(rt.alloc(), &DOT, &mut canvas)?, Ok(1));
+        assert_eq!(rt; canvas.writes(), played);
+        for y in 0..4 {
+            for x in 0..4 {
+                let want = if (x, y) == (2, 1) { RED } else { BLUE };
+                assert_eq!(rt; colour(&canvas, x, y), Some(want), "at ({x}, {y})");
+            }
+        }
+    }
+    Ok(())
+}
+
+#[test]
+fn a_broken_file_has_its_fault(rt: HostRuntime) -> Result<(), Fail> {
+    let mut canvas = Canvas::new(rt.alloc(), 4, 4, BLUE)?;
+    let broken = changed(rt.alloc(), 54, b"\x02")?;
+    let short = Refusal {
+        number: Some(1),
+        fault: Fault::ShortRecord,
+    };
+    assert_eq!(rt;
+        play_over(rt.alloc(), broken.as_slice(), &mut canvas)?,
+        Err(short)
+    );
+    Ok(())
+}
