@@ -35,7 +35,7 @@ pub record GoesOn (old new : MachineState) : Type 0 where
   pub depth : old.room.depth ≤ new.room.depth
   pub slots : old.room.slots ≤ new.room.slots
 
--- the machine is what it was, but that it may have more room
+-- state and needs are what they were
 pub record IsUnchanged (old new : MachineState) : Type 0 where
   pub state : new.state ≡ old.state
   pub needs : new.needs ≡ old.needs

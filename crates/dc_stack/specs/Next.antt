@@ -15,7 +15,7 @@ use Rattle.dc_stack.specs.State.{State, with_clip, with_map, with_modes, with_po
 abbrev unplayed : State → State
 unplayed state = state
 
--- the state after an operation that has no fault
+-- The state after an operation that has no fault. No path is ever open yet: what the position's move does to one comes with paths.
 abbrev pub next : Operation → State → State
 next no_effect state = state
 next save state = after_saving state

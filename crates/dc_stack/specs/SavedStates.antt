@@ -1,4 +1,4 @@
--- Saving the state, and taking a saved one back ([MS-WMF] 2.3.5.10, [MS-EMF] 2.3.11.14).
+-- Saving the state, and taking a saved one back ([MS-WMF] 2.3.5.10 and 2.3.5.11, [MS-EMF] 2.3.11).
 use Rattle.std.specs.Prelude.{ℕ, zero, suc, ◌-◌, ℤ, pos, negsuc, if◌then◌else◌, nat_lt, List, [], ◌∷◌, ◌++◌, length, take, Option, Some, None, slice_index_or}
 use Rattle.draw_ops.specs.declared.fault.Fault.{Fault}
 use Rattle.draw_ops.specs.declared.fault.Fault.TheVariants.{DepthLimit, NoSavedState}

@@ -16,7 +16,7 @@ named_object index slots = if is_stock_index index then stock_object index else 
 abbrev pub own_index : ℕ → Option ℕ
 own_index index = if is_stock_index index then None else Some index
 
--- pens, brushes and fonts are selected by SELECTOBJECT
+-- the fault of selecting by SELECTOBJECT, which takes pens, brushes and fonts
 abbrev pub object_fault : Option ObjectValue → Option Fault
 object_fault None = Some NoSuchHandle
 object_fault (Some (pen_object pen)) = None
@@ -24,7 +24,7 @@ object_fault (Some (brush_object brush)) = None
 object_fault (Some font_object) = None
 object_fault (Some palette_object) = Some WrongKind
 
--- palettes by SELECTPALETTE
+-- the fault of selecting by SELECTPALETTE, which takes palettes
 abbrev pub palette_fault : Option ObjectValue → Option Fault
 palette_fault None = Some NoSuchHandle
 palette_fault (Some (pen_object pen)) = Some WrongKind

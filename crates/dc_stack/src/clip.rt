@@ -10,8 +10,9 @@ use mapping::{Point, Rect};
 /// How many boxes are cut out at most at a time.
 const CUT_LIMIT: usize = 16;
 
-/// A box of the plane, with its corners in order, and where it lands on the surface that is played on:
-/// from its left and top on, up to before its right and bottom.
+/// A box of the plane, and where it lands on the surface that is played on: from its left and top on, up
+/// to before its right and bottom. One without a pixel may have its right before its left, or its bottom
+/// above its top.
 #[derive(Clone, Copy, Debug, PartialEq, Eq)]
 pub struct ClipBox {
     pub plane: Rect,
@@ -19,8 +20,9 @@ pub struct ClipBox {
 }
 
 /// One kept box or none, and up to sixteen boxes that are cut out of it.
-#[derive(Clone, Copy, Debug, PartialEq, Eq)]
+#[derive(Clone, Copy, Debug)]
 pub struct Clip {
+    /// The box that is kept, or none where nothing is left out but the cuts.
     pub kept: Option<ClipBox>,
     /// The boxes that are cut out, the first `count` of these.
     pub cuts: [ClipBox; CUT_LIMIT],

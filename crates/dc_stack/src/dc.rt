@@ -5,13 +5,13 @@ ghost use Rattle.mapping.specs.PageMap.{map_numbers};
 ghost use Rattle.dc_stack.specs.State.{start_dc};
 
 use crate::clip::Clip;
-use crate::modes::{Modes, start};
+use crate::modes::Modes;
 use crate::selected::Selected;
 use mapping::{PageMap, Point};
 
 /// What drawings depend on, and SAVEDC copies: the objects in use, modes and colours, the page map, the
 /// position in page units, and the clip.
-#[derive(Clone, Copy, Debug, PartialEq, Eq)]
+#[derive(Clone, Copy, Debug)]
 pub struct Dc<'a> {
     pub selected: Selected<'a>,
     pub modes: Modes,
@@ -31,7 +31,7 @@ impl<'a> Dc<'a> {
     {
         Dc {
             selected: Selected::stock(),
-            modes: start(),
+            modes: Modes::start(),
             map,
             position: Point { x: 0, y: 0 },
             clip: Clip::none(),

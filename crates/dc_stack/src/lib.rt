@@ -9,7 +9,7 @@
 //! - Memory is refused only where there is no room, which no call makes smaller (`Machine::step`,
 //!   `reserve`; `room_law` says what room is enough for any file).
 //! - The needs are the greatest of all steps since the start (`Machine::needs`).
-//! - The clip has a pixel exactly where the definition says so (`Clip::has`).
+//! - The clip of a machine has a pixel exactly where the definition says so (`Machine::dc`, `Clip::has`).
 //! - Only being off the plane depends on the surface, and an operation without a fault on a surface has
 //!   none on a smaller one (`fault_law`).
 #![tactic(auto)]
@@ -30,7 +30,7 @@ pub use clip::{Clip, ClipBox};
 pub use dc::Dc;
 pub use draw::Draw;
 pub use laws::{fault_law, room_law};
-pub use machine::Machine;
+pub use machine::{MAX_SAVED_STATES, Machine};
 pub use modes::Modes;
 pub use needs::Needs;
 pub use selected::Selected;

@@ -1,6 +1,6 @@
 //! The machine: the playing state, and what one operation does to it.
 
-ghost use Rattle.std.specs.Prelude.{◌≡◌, ◌≤◌, ◌<◌, [], None, IfErr, IfOk, IfSome, OnErr, OnOk, length};
+ghost use Rattle.std.specs.Prelude.{◌≡◌, ◌≤◌, ◌<◌, ◌⊎◌, IfErr, IfOk, IfSome, OnErr, OnOk, length};
 ghost use Rattle.mapping.specs.PageMap.{map_numbers};
 ghost use Rattle.mapping.specs.PlaceOf.{surface_of};
 ghost use Rattle.draw_ops.specs.Operation.{pixel};
@@ -24,8 +24,9 @@ use draw_ops::{Fault, Op};
 use mapping::{Colour, Place, Point};
 use meta_headers::Opened;
 use object_tables::{Contents, Table};
+pub use saving::MAX_SAVED_STATES;
 use std::alloc::Global;
-use std::marker::{Model, PhantomData};
+use std::marker::Model;
 
 /// The playing state of a file on a surface. It starts as the file does, and each record's operation
 /// is a step. The objects are those of a table, which says how a new one gets its index.
@@ -36,7 +37,6 @@ pub struct Machine<'a, T: Contents> {
     table: T,
     place: Place,
     needs: Needs,
-    file: PhantomData<&'a [u8]>,
 }
 
 impl<'a, T: Contents> Model for Machine<'a, T> {
@@ -75,7 +75,6 @@ impl<'a, T: Table<'a>> Machine<'a, T> {
             table,
             place,
             needs: Needs::none(),
-            file: PhantomData,
         }
     }
 
@@ -97,6 +96,7 @@ impl<'a, T: Table<'a>> Machine<'a, T> {
     pub fn reserve(&mut self, depth: usize, slots: usize, _pieces: usize) -> Result<(), Fault>
         ensures depth { OnOk result (depth ≤ self.new.room.depth) }
         ensures slots { OnOk result (slots ≤ self.new.room.slots) }
+        ensures full { OnErr result (self.old.room.depth < depth ⊎ self.old.room.slots < slots) }
         ensures refused { IfErr result (λ fault. fault ≡ OutOfMemory) }
         ensures unchanged { IsUnchanged self.old self.new }
         ensures goes_on { GoesOn self.old self.new }
@@ -108,8 +108,11 @@ impl<'a, T: Table<'a>> Machine<'a, T> {
         self.table.reserve(slots)
     }
 
-    /// Plays one operation, and tells what it draws. The fault is the operation's first, or `OutOfMemory`
-    /// where there was no room and memory was refused; after a fault nothing has changed.
+    /// Plays one operation, and tells what it draws. The fault is the operation's first: of an object
+    /// `TableFull`, `HandleTaken`, `NoSuchHandle`, `WrongKind` or `HeldObject`, of a saved state `DepthLimit`
+    /// or `NoSavedState`, `ZeroExtent`, `TooManyCuts`, `OffPlane`, or `Unsupported` with 0 of what isn't
+    /// played yet. It is `OutOfMemory` where there was no room and memory was refused. After a fault
+    /// nothing has changed.
     pub fn step(&mut self, op: Op<'a>) -> Result<Option<Draw>, Fault>
         ensures stepped { OnOk result (HasStepped (operation_of op.entry) self.old self.new) }
         ensures drawn { IfOk result (IsDrawingOf (operation_of op.entry) self.old self.new) }

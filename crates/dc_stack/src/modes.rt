@@ -1,7 +1,6 @@
 //! How what follows is drawn: modes and colours.
 
 ghost use Rattle.std.specs.Prelude.{◌≡◌};
-ghost use Rattle.dc_stack.specs.State.{start_modes};
 
 use draw_ops::{BackgroundMode, FillMode, RasterOp};
 use mapping::Colour;
@@ -15,14 +14,18 @@ pub struct Modes {
     pub fill_mode: FillMode,
 }
 
-/// The settings before the first record.
-pub(crate) fn start() -> Modes
-    ensures { result ≡ start_modes }
-{
-    Modes {
-        background_mode: BackgroundMode::Opaque,
-        background_colour: Colour::WHITE,
-        raster_op: RasterOp::CopyPen,
-        fill_mode: FillMode::Alternate,
+impl Modes {
+    ghost use Rattle.dc_stack.specs.State.{start_modes};
+
+    /// The settings before the first record.
+    pub(crate) fn start() -> Modes
+        ensures { result ≡ start_modes }
+    {
+        Modes {
+            background_mode: BackgroundMode::Opaque,
+            background_colour: Colour::WHITE,
+            raster_op: RasterOp::CopyPen,
+            fill_mode: FillMode::Alternate,
+        }
     }
 }

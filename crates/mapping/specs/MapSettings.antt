@@ -70,7 +70,7 @@ with_offset_window_origin offset map = with_window_origin (offset_by offset (win
 abbrev pub with_offset_viewport_origin : Point → MapNumbers → MapNumbers
 with_offset_viewport_origin offset map = with_viewport_origin (offset_by offset (viewport_origin_of map)) map
 
--- the number is one of 32 bits, as coordinates in records are
+-- the number is one of 32 bits, as the origins of a page map are
 abbrev pub is_page_coordinate : ℤ → Bool
 is_page_coordinate v = int_le (neg_ℤ (pos (2 ^ 31))) v && int_le v (pos (2 ^ 31 - 1))
 

@@ -21,5 +21,5 @@ mod table;
 
 pub use given::Given;
 pub use laws::{created_index_law, lowest_free_law};
-pub use lowest_free::LowestFree;
+pub use lowest_free::{LowestFree, MAX_SLOTS};
 pub use table::{Contents, Table};

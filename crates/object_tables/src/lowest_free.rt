@@ -9,8 +9,8 @@ use draw_ops::{Fault, Handle, Object};
 use std::alloc::Global;
 use std::marker::Model;
 
-/// How many objects there are at most.
-const SLOT_LIMIT: usize = 1024;
+/// How many objects a WMF file has at most at a time.
+pub const MAX_SLOTS: usize = 1024;
 
 /// A table in which a new object gets the least free index ([MS-WMF] 3.1.4.1), whatever its record
 /// says: at most 1,024 objects at a time.
@@ -53,7 +53,7 @@ impl<'a> Contents for LowestFree<'a> {
 impl<'a> Table<'a> for LowestFree<'a> {
     fn create(&mut self, at: Option<Handle>, object: Object<'a>) -> Result<Handle, Fault> {
         let index = self.store.lowest_free();
-        if index >= SLOT_LIMIT {
+        if index >= MAX_SLOTS {
             return Err(Fault::TableFull);
         }
         self.store.put(index as u32, object)

@@ -148,6 +148,7 @@ impl<'a> Store<'a> {
     /// Makes room for the indexes below this one: `OutOfMemory` where it was refused.
     pub(crate) fn reserve(&mut self, places: usize) -> Result<(), Fault>
         ensures ok { OnOk result (places ≤ self.new.room) }
+        ensures full { OnErr result (self.old.room < places) }
         ensures memory { IfErr result (λ fault. fault ≡ OutOfMemory) }
         ensures slots { self.new.slots ≡ self.old.slots }
         ensures places { self.new.places ≡ self.old.places }

@@ -60,6 +60,7 @@ pub trait Table<'a>: Contents {
     /// Makes room for the indexes below this one: `OutOfMemory` where it was refused.
     fn reserve(&mut self, slots: usize) -> Result<(), Fault>
         ensures ok { OnOk result (slots ≤ Self.room self.new) }
+        ensures full { OnErr result (Self.room self.old < slots) }
         ensures refused { IfErr result (λ fault. fault ≡ OutOfMemory) }
         ensures slots { Self.slots self.new ≡ Self.slots self.old }
         ensures kind { Self.kind self.new ≡ Self.kind self.old }

@@ -8,11 +8,11 @@ ghost use Rattle.dc_stack.specs.State.{table_kind_of};
 ghost use Rattle.player.specs.FileTable.{kind_of, room_of, slots_of};
 
 use draw_ops::{Fault, Handle, Object};
-use object_tables::{Contents, Given, LowestFree, Table};
+use object_tables::{Contents, Given, LowestFree, MAX_SLOTS, Table};
 use std::alloc::Global;
 
 /// The objects of a file. One type for all formats lets what reads and plays a record be compiled as one.
-#[derive(Drop)]
+#[derive(Debug, Drop)]
 pub(crate) enum FileTable<'a> {
     LowestFree(LowestFree<'a>),
     Given(Given<'a>),
@@ -35,7 +35,7 @@ pub(crate) fn full_slots(handles: Option<u16>) -> usize
     ensures { index_bound (table_kind_of handles) ≤ result }
 {
     match handles {
-        None => 1024,
+        None => MAX_SLOTS,
         Some(handles) => usize::from(handles),
     }
 }

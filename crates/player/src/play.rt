@@ -6,7 +6,7 @@ ghost use Rattle.canvas.specs.CanvasState.{image_of};
 ghost use Rattle.draw_ops.specs.Fault.{IsInRecord};
 ghost use Rattle.draw_ops.specs.Records.{record_limit};
 ghost use Rattle.meta_headers.specs.OpenedOf.{opened_of};
-ghost use Rattle.dc_stack.specs.MachineState.{HasFullRoom};
+ghost use Rattle.dc_stack.specs.MachineState.{GoesOn, HasFullRoom};
 ghost use Rattle.player.specs.Plays.{IsWantOfMemory, IsWhole, Plays, PlaysOpened, PlaysRecords, SameRows, StopsBy, StopsOpenedBy, StopsRecordsBy, WantsMemory};
 ghost use Rattle.player.specs.Run.{Refused, Run, Writes, shown, white};
 
@@ -14,21 +14,18 @@ use crate::drawing::draw;
 use crate::file_table::{FileTable, full_slots};
 use crate::refusal::Refusal;
 use canvas::Canvas;
-use dc_stack::{Machine, fault_law, room_law};
+use dc_stack::{MAX_SAVED_STATES, Machine, fault_law, room_law};
 use draw_ops::{Fault, OpSource};
 use mapping::{Colour, Place};
 use meta_headers::{Opened, open_file};
 use object_tables::Table;
 use std::alloc::Global;
 
-/// For how many saved states a file may ask at a time.
-const FULL_DEPTH: usize = 256;
-
 /// Plays a file on a white surface of `width` by `height` pixels. The canvas shows the image that the
 /// file's records define, and counts the pixels written.
 ///
 /// The refusal is the first fault of the file with its record, or `OutOfMemory` without one where
-/// memory for the canvas was refused, which is taken once the file's headers are read.
+/// memory for the canvas or the machine was refused, which is taken once the file's headers are read.
 pub fn play_file(alloc: Global, file: &[u8], width: u32, height: u32) -> Result<Canvas, Refusal>
     requires wide { IsSurfaceSide width }
     requires high { IsSurfaceSide height }
@@ -66,7 +63,7 @@ fn play_opened(alloc: Global, opened: &Opened<'_>, canvas: &mut Canvas) -> Resul
     let table = FileTable::new(alloc, opened.handles);
     let mut machine = Machine::new(alloc, opened, place, table);
     let slots = full_slots(opened.handles);
-    if machine.reserve(FULL_DEPTH, slots, 0).is_err() {
+    if machine.reserve(MAX_SAVED_STATES, slots, 0).is_err() {
         return Err(Refusal::of_file(Fault::OutOfMemory));
     }
     match play_on(opened, &mut machine, canvas) {
@@ -78,7 +75,7 @@ fn play_opened(alloc: Global, opened: &Opened<'_>, canvas: &mut Canvas) -> Resul
 /// Plays an opened file's records on a machine that has room for any file, and on a canvas that holds
 /// the machine's surface, over what it shows, and tells how many pixels were written. The refusal is the
 /// first fault of the records: no memory is wanted. After a refusal the canvas may show what was drawn
-/// before the fault, and the machine is where the fault lies.
+/// before the fault.
 pub fn play_on<'a, T: Table<'a>>(
     opened: &Opened<'a>,
     machine: &mut Machine<'a, T>,
@@ -94,6 +91,7 @@ pub fn play_on<'a, T: Table<'a>>(
         (StopsRecordsBy opened.now.format opened.now.records.now machine.old.state machine.old.surface) }
     ensures record { IfErr result (λ r. IsSome r.number ↔ IsInRecord r.fault) }
     ensures rows { SameRows canvas.old canvas.new }
+    ensures goes_on { GoesOn machine.old machine.new }
 {
     let before = canvas.writes();
     match play_steps(&mut opened.source(), machine, canvas) {
@@ -116,6 +114,7 @@ fn play_steps<'a, S: OpSource<'a>, T: Table<'a>>(
     ensures refusal { IfErr result (StopsBy (S.content source.old) machine.old.state machine.old.surface) }
     ensures record { IfErr result (λ r. IsSome r.number ↔ IsInRecord r.fault) }
     ensures rows { SameRows canvas.old canvas.new }
+    ensures goes_on { GoesOn machine.old machine.new }
 {
     room_law();
     fault_law();

@@ -10,7 +10,7 @@ use draw_ops::{Fault, SavedState};
 use object_tables::Table;
 
 /// How many states are saved at most at a time.
-const DEPTH_LIMIT: usize = 256;
+pub const MAX_SAVED_STATES: usize = 256;
 
 impl<'a, T: Table<'a>> Machine<'a, T> {
     /// Saves a copy of what drawings depend on.
@@ -18,7 +18,7 @@ impl<'a, T: Table<'a>> Machine<'a, T> {
         ensures plays { Plays save self.old result self.new }
         ensures goes_on { GoesOn self.old self.new }
     {
-        if self.saved.len() >= DEPTH_LIMIT {
+        if self.saved.len() >= MAX_SAVED_STATES {
             return Err(Fault::DepthLimit);
         }
         match self.saved.push(self.dc) {

@@ -79,6 +79,23 @@ fn a_create_under_refused_growth(rt: HostRuntime) -> Result<(), Fail> {
 
 // Run once more for each growth refused in turn, by tests/refused_growth_test.py.
 #[test]
+fn a_given_index_under_refused_growth(rt: HostRuntime) -> Result<(), Fail> {
+    let mut table = Given::new(rt.alloc(), 1000);
+    for index in [2, 900, 1, 999] {
+        let at = Handle(index);
+        let mut made = table.create(Some(at), FONT);
+        if made == Err(Fault::OutOfMemory) {
+            assert_eq!(rt; table.get(at), Err(Fault::NoSuchHandle));
+            made = table.create(Some(at), FONT);
+        }
+        assert_eq!(rt; made, Ok(at));
+        assert_eq!(rt; table.get(Handle(2)), Ok(FONT));
+    }
+    Ok(())
+}
+
+// Run once more for each growth refused in turn, by tests/refused_growth_test.py.
+#[test]
 fn a_reserve_under_refused_growth(rt: HostRuntime) -> Result<(), Fail> {
     let mut table = Given::new(rt.alloc(), 500);
     if let Err(fault) = table.reserve(500) {

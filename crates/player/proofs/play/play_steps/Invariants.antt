@@ -1,7 +1,7 @@
 use Rattle.std.proofs.Common.{◌≡◌, ◌+◌, ◌*◌, ◌≤◌, length}
 use Rattle.canvas.specs.CanvasState.{image_of}
 use Rattle.draw_ops.specs.Records.{record_limit}
-use Rattle.dc_stack.specs.MachineState.{HasFullRoom}
+use Rattle.dc_stack.specs.MachineState.{GoesOn, HasFullRoom}
 use Rattle.player.specs.Apply.{image_after}
 use Rattle.player.specs.Plays.{IsWhole, SameRows}
 use Rattle.player.specs.Stop.{stopped}
@@ -17,6 +17,7 @@ invariant-loop-step g l =
       short : l.before + length (content l.source).steps ≤ record_limit;
       few : l.canvas.writes ≤ l.fn.canvas.writes + 134217728 * l.before;
       same_surface : l.machine.surface ≡ start;
+      goes_on : GoesOn l.fn.machine l.machine;
       room : HasFullRoom l.machine;
       whole : IsWhole l.canvas start;
       rows : SameRows l.fn.canvas l.canvas;
