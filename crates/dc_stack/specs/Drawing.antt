@@ -23,7 +23,12 @@ pub record Tools : Type 0 where
 
 -- the tools of the moment
 abbrev pub tools_of : DcValue → Tools
-tools_of dc = record { pen = dc.selected.pen.object; brush = dc.selected.brush.object; modes = dc.modes; clip = dc.clip }
+tools_of dc = record {
+  pen = dc.selected.pen.object;
+  brush = dc.selected.brush.object;
+  modes = dc.modes;
+  clip = dc.clip;
+}
 
 -- a drawing: its mark, and the tools of its moment
 pub record Drawing : Type 0 where
@@ -55,7 +60,10 @@ drawing_of (intersect_clip corners) state = None
 drawing_of remove_clip state = None
 drawing_of (move_to point) state = None
 drawing_of (line_to point) state = unplayed
-drawing_of (pixel point colour) state = Some (record { mark = dot (plane_point state.dc.map point.x point.y) colour; tools = tools_of state.dc })
+drawing_of (pixel point colour) state = Some (record {
+  mark = dot (plane_point state.dc.map point.x point.y) colour;
+  tools = tools_of state.dc;
+})
 drawing_of (rectangle corners edges) state = unplayed
 drawing_of (polyline lists) state = unplayed
 drawing_of (polygon lists) state = unplayed

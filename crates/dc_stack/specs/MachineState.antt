@@ -83,7 +83,9 @@ pub record HasFullRoom (m : MachineState) : Type 0 where
 
 -- and then no operation wants more
 abbrev pub FullRoomIsEnough : Type 0
-FullRoomIsEnough = (operation : Operation) (m : MachineState) (fault : Fault) → HasFullRoom m → WantsRoom operation m fault → ⊥
+FullRoomIsEnough =
+    (operation : Operation) (m : MachineState) (fault : Fault)
+    → HasFullRoom m → WantsRoom operation m fault → ⊥
 
 -- an operation is refused: by its fault, or for want of memory
 abbrev pub RefusesStep : Operation → MachineState → Fault → Type 0

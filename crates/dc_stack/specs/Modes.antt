@@ -7,16 +7,36 @@ use Rattle.dc_stack.specs.declared.modes.Modes.{Modes}
 
 -- with another background mode
 abbrev pub with_background_mode : BackgroundMode → Modes → Modes
-with_background_mode mode m = record { background_mode = mode; background_colour = m.background_colour; raster_op = m.raster_op; fill_mode = m.fill_mode }
+with_background_mode mode m = record {
+  background_mode = mode;
+  background_colour = m.background_colour;
+  raster_op = m.raster_op;
+  fill_mode = m.fill_mode;
+}
 
 -- with another background colour
 abbrev pub with_background_colour : Colour → Modes → Modes
-with_background_colour colour m = record { background_mode = m.background_mode; background_colour = colour; raster_op = m.raster_op; fill_mode = m.fill_mode }
+with_background_colour colour m = record {
+  background_mode = m.background_mode;
+  background_colour = colour;
+  raster_op = m.raster_op;
+  fill_mode = m.fill_mode;
+}
 
 -- with another raster operation
 abbrev pub with_raster_op : RasterOp → Modes → Modes
-with_raster_op op m = record { background_mode = m.background_mode; background_colour = m.background_colour; raster_op = op; fill_mode = m.fill_mode }
+with_raster_op op m = record {
+  background_mode = m.background_mode;
+  background_colour = m.background_colour;
+  raster_op = op;
+  fill_mode = m.fill_mode;
+}
 
 -- with another fill mode
 abbrev pub with_fill_mode : FillMode → Modes → Modes
-with_fill_mode mode m = record { background_mode = m.background_mode; background_colour = m.background_colour; raster_op = m.raster_op; fill_mode = mode }
+with_fill_mode mode m = record {
+  background_mode = m.background_mode;
+  background_colour = m.background_colour;
+  raster_op = m.raster_op;
+  fill_mode = mode;
+}

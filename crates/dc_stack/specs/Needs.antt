@@ -14,7 +14,12 @@ no_needs = record { depth = 0; slots = 0; edges = 0; pieces = 0 }
 
 -- of each the greater
 abbrev pub greater_needs : Needs → Needs → Needs
-greater_needs a b = record { depth = max a.depth b.depth; slots = max a.slots b.slots; edges = max a.edges b.edges; pieces = max a.pieces b.pieces }
+greater_needs a b = record {
+  depth = max a.depth b.depth;
+  slots = max a.slots b.slots;
+  edges = max a.edges b.edges;
+  pieces = max a.pieces b.pieces;
+}
 
 -- how many saved states there are after a save
 abbrev pub depth_needed : ℕ → Needs
@@ -34,7 +39,12 @@ drawing_edges (Some drawing) = mark_edges drawing.mark
 
 -- how many edges a drawing has, if there is one
 abbrev edges_needed : Operation → State → Needs
-edges_needed operation state = record { depth = 0; slots = 0; edges = drawing_edges (drawing_of operation state); pieces = 0 }
+edges_needed operation state = record {
+  depth = 0;
+  slots = 0;
+  edges = drawing_edges (drawing_of operation state);
+  pieces = 0;
+}
 
 -- those of an operation that isn't played yet, and is refused (`plain_fault`)
 abbrev unplayed : Needs

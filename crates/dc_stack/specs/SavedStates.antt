@@ -14,7 +14,13 @@ save_fault state = if nat_lt (length state.saved) depth_limit then None else Som
 
 -- the state with a copy of what drawings depend on saved, the newest last
 abbrev pub after_saving : State → State
-after_saving state = record { dc = state.dc; slots = state.slots; table_kind = state.table_kind; saved = state.saved ++ state.dc ∷ []; path = state.path }
+after_saving state = record {
+  dc = state.dc;
+  slots = state.slots;
+  table_kind = state.table_kind;
+  saved = state.saved ++ state.dc ∷ [];
+  path = state.path;
+}
 
 -- The place, of so many saved states, that a number names: a number above 0 counts from the oldest, which is 1, and one below 0 from
 -- the newest, which is -1.

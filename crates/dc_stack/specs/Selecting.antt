@@ -34,8 +34,18 @@ palette_fault (Some palette_object) = None
 
 -- the objects in use after one is selected, in the place of its kind
 abbrev pub with_object_selected : Option ℕ → ObjectValue → Selections → Selections
-with_object_selected index (pen_object pen) s = record { pen = record { object = pen; index = index }; brush = s.brush; font = s.font; palette = s.palette }
-with_object_selected index (brush_object brush) s = record { pen = s.pen; brush = record { object = brush; index = index }; font = s.font; palette = s.palette }
+with_object_selected index (pen_object pen) s = record {
+  pen = record { object = pen; index = index };
+  brush = s.brush;
+  font = s.font;
+  palette = s.palette;
+}
+with_object_selected index (brush_object brush) s = record {
+  pen = s.pen;
+  brush = record { object = brush; index = index };
+  font = s.font;
+  palette = s.palette;
+}
 with_object_selected index font_object s = record { pen = s.pen; brush = s.brush; font = index; palette = s.palette }
 with_object_selected index palette_object s = record { pen = s.pen; brush = s.brush; font = s.font; palette = index }
 

@@ -57,7 +57,12 @@ stock_selections = record {
 
 -- gaps are painted white, pens and brushes copied, and every other part filled
 abbrev pub start_modes : Modes
-start_modes = record { background_mode = Opaque; background_colour = white_colour; raster_op = CopyPen; fill_mode = Alternate }
+start_modes = record {
+  background_mode = Opaque;
+  background_colour = white_colour;
+  raster_op = CopyPen;
+  fill_mode = Alternate;
+}
 
 -- what drawings depend on before the first record of a file that starts with this map
 abbrev pub start_dc : MapNumbers → DcValue
@@ -84,28 +89,70 @@ start_of o = start_state o.map (table_kind_of o.handles)
 
 -- the state with other things that drawings depend on
 abbrev pub with_dc : DcValue → State → State
-with_dc dc state = record { dc = dc; slots = state.slots; table_kind = state.table_kind; saved = state.saved; path = state.path }
+with_dc dc state = record {
+  dc = dc;
+  slots = state.slots;
+  table_kind = state.table_kind;
+  saved = state.saved;
+  path = state.path;
+}
 
 -- the state with other objects in its table
 abbrev pub with_slots : Slots → State → State
-with_slots slots state = record { dc = state.dc; slots = slots; table_kind = state.table_kind; saved = state.saved; path = state.path }
+with_slots slots state = record {
+  dc = state.dc;
+  slots = slots;
+  table_kind = state.table_kind;
+  saved = state.saved;
+  path = state.path;
+}
 
 -- the state with other objects in use
 abbrev pub with_selected : Selections → State → State
-with_selected selected state = with_dc (record { selected = selected; modes = state.dc.modes; map = state.dc.map; position = state.dc.position; clip = state.dc.clip }) state
+with_selected selected state = with_dc (record {
+  selected = selected;
+  modes = state.dc.modes;
+  map = state.dc.map;
+  position = state.dc.position;
+  clip = state.dc.clip;
+}) state
 
 -- the state with other modes
 abbrev pub with_modes : Modes → State → State
-with_modes modes state = with_dc (record { selected = state.dc.selected; modes = modes; map = state.dc.map; position = state.dc.position; clip = state.dc.clip }) state
+with_modes modes state = with_dc (record {
+  selected = state.dc.selected;
+  modes = modes;
+  map = state.dc.map;
+  position = state.dc.position;
+  clip = state.dc.clip;
+}) state
 
 -- the state with another page map
 abbrev pub with_map : MapNumbers → State → State
-with_map map state = with_dc (record { selected = state.dc.selected; modes = state.dc.modes; map = map; position = state.dc.position; clip = state.dc.clip }) state
+with_map map state = with_dc (record {
+  selected = state.dc.selected;
+  modes = state.dc.modes;
+  map = map;
+  position = state.dc.position;
+  clip = state.dc.clip;
+}) state
 
 -- the state with the position here
 abbrev pub with_position : Point → State → State
-with_position position state = with_dc (record { selected = state.dc.selected; modes = state.dc.modes; map = state.dc.map; position = position; clip = state.dc.clip }) state
+with_position position state = with_dc (record {
+  selected = state.dc.selected;
+  modes = state.dc.modes;
+  map = state.dc.map;
+  position = position;
+  clip = state.dc.clip;
+}) state
 
 -- the state with another clip
 abbrev pub with_clip : ClipValue → State → State
-with_clip clip state = with_dc (record { selected = state.dc.selected; modes = state.dc.modes; map = state.dc.map; position = state.dc.position; clip = clip }) state
+with_clip clip state = with_dc (record {
+  selected = state.dc.selected;
+  modes = state.dc.modes;
+  map = state.dc.map;
+  position = state.dc.position;
+  clip = clip;
+}) state

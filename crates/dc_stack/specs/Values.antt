@@ -18,11 +18,17 @@ cuts_of clip = take clip.count clip.cuts
 
 -- the clip, by its boxes of the plane
 abbrev pub clip_value : Clip → ClipValue
-clip_value clip = record { kept = option_map (λ (box : ClipBox). box.plane) clip.kept; cuts = map (λ (box : ClipBox). box.plane) (cuts_of clip) }
+clip_value clip = record {
+  kept = option_map (λ (box : ClipBox). box.plane) clip.kept;
+  cuts = map (λ (box : ClipBox). box.plane) (cuts_of clip);
+}
 
 -- the same by its boxes of the surface
 abbrev pub placed_value : Clip → ClipValue
-placed_value clip = record { kept = option_map (λ (box : ClipBox). box.placed) clip.kept; cuts = map (λ (box : ClipBox). box.placed) (cuts_of clip) }
+placed_value clip = record {
+  kept = option_map (λ (box : ClipBox). box.placed) clip.kept;
+  cuts = map (λ (box : ClipBox). box.placed) (cuts_of clip);
+}
 
 -- the boxes of the surface are where those of the plane land
 abbrev pub IsPlacedOn : Surface → Clip → Type 0

@@ -8,11 +8,23 @@ use Rattle.mapping.specs.declared.map_mode.MapMode.TheVariants.{Text, Isotropic,
 
 -- an axis with another window, and the same corner
 abbrev pub with_window : ℤ → ℤ → AxisNumbers → AxisNumbers
-with_window origin extent n = record { window_origin = origin; window_extent = extent; viewport_origin = n.viewport_origin; viewport_extent = n.viewport_extent; corner = n.corner }
+with_window origin extent n = record {
+  window_origin = origin;
+  window_extent = extent;
+  viewport_origin = n.viewport_origin;
+  viewport_extent = n.viewport_extent;
+  corner = n.corner;
+}
 
 -- an axis with another viewport, and the same corner
 abbrev pub with_viewport : ℤ → ℤ → AxisNumbers → AxisNumbers
-with_viewport origin extent n = record { window_origin = n.window_origin; window_extent = n.window_extent; viewport_origin = origin; viewport_extent = extent; corner = n.corner }
+with_viewport origin extent n = record {
+  window_origin = n.window_origin;
+  window_extent = n.window_extent;
+  viewport_origin = origin;
+  viewport_extent = extent;
+  corner = n.corner;
+}
 
 -- an axis with both extents 1, and the same origins
 abbrev pub with_unit_extents : AxisNumbers → AxisNumbers
@@ -37,20 +49,36 @@ sets_zero_extent extent map = may_set_extents map.mode && (int_eq extent.x (pos 
 -- the map with this window extent, where the mode lets it be set
 abbrev pub with_window_extent : Point → MapNumbers → MapNumbers
 with_window_extent extent map =
-    if may_set_extents map.mode then record { mode = map.mode; x = with_window map.x.window_origin extent.x map.x; y = with_window map.y.window_origin extent.y map.y } else map
+    if may_set_extents map.mode then record {
+      mode = map.mode;
+      x = with_window map.x.window_origin extent.x map.x;
+      y = with_window map.y.window_origin extent.y map.y;
+    } else map
 
 -- the map with this viewport extent, where the mode lets it be set
 abbrev pub with_viewport_extent : Point → MapNumbers → MapNumbers
 with_viewport_extent extent map =
-    if may_set_extents map.mode then record { mode = map.mode; x = with_viewport map.x.viewport_origin extent.x map.x; y = with_viewport map.y.viewport_origin extent.y map.y } else map
+    if may_set_extents map.mode then record {
+      mode = map.mode;
+      x = with_viewport map.x.viewport_origin extent.x map.x;
+      y = with_viewport map.y.viewport_origin extent.y map.y;
+    } else map
 
 -- the map with its window's origin here
 abbrev pub with_window_origin : Point → MapNumbers → MapNumbers
-with_window_origin origin map = record { mode = map.mode; x = with_window origin.x map.x.window_extent map.x; y = with_window origin.y map.y.window_extent map.y }
+with_window_origin origin map = record {
+  mode = map.mode;
+  x = with_window origin.x map.x.window_extent map.x;
+  y = with_window origin.y map.y.window_extent map.y;
+}
 
 -- the map with its viewport's origin here
 abbrev pub with_viewport_origin : Point → MapNumbers → MapNumbers
-with_viewport_origin origin map = record { mode = map.mode; x = with_viewport origin.x map.x.viewport_extent map.x; y = with_viewport origin.y map.y.viewport_extent map.y }
+with_viewport_origin origin map = record {
+  mode = map.mode;
+  x = with_viewport origin.x map.x.viewport_extent map.x;
+  y = with_viewport origin.y map.y.viewport_extent map.y;
+}
 
 -- the origin of the window, and of the viewport
 abbrev pub window_origin_of : MapNumbers → Point

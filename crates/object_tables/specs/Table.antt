@@ -67,4 +67,6 @@ LowestFreeIsLeast = (slots : Slots) → IsInOrder slots → IsLowestFree (lowest
 
 -- an index that a new object gets is below the table's bound
 abbrev pub CreatedIndexIsBelowBound : Type 0
-CreatedIndexIsBelowBound = (kind : TableKind) (at : Option ℕ) (slots : Slots) → create_fault kind at slots ≡ None → created_index kind at slots < index_bound kind
+CreatedIndexIsBelowBound =
+    (kind : TableKind) (at : Option ℕ) (slots : Slots)
+    → create_fault kind at slots ≡ None → created_index kind at slots < index_bound kind
