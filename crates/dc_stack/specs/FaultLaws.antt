@@ -13,11 +13,11 @@ use Rattle.dc_stack.specs.State.{State}
 -- without a fault on a surface has none on each that is no larger.
 pub record FaultLaws : Type 0 where
   pub in_record :
-    (operation : Operation) (state : State) (s : Surface) (fault : Fault)
-    → fault_of operation state s ≡ Some fault → IsInRecord fault
+      (operation : Operation) (state : State) (s : Surface) (fault : Fault)
+      → fault_of operation state s ≡ Some fault → IsInRecord fault
   pub only_off_plane :
-    (operation : Operation) (state : State) (s other : Surface) (fault : Fault)
-    → fault ≢ OffPlane → fault_of operation state s ≡ Some fault → fault_of operation state other ≡ Some fault
+      (operation : Operation) (state : State) (s other : Surface) (fault : Fault)
+      → fault ≢ OffPlane → fault_of operation state s ≡ Some fault → fault_of operation state other ≡ Some fault
   pub none_on_smaller :
-    (operation : Operation) (state : State) (smaller larger : Surface) → ShowsFrame larger → IsNoLarger smaller larger
-    → fault_of operation state larger ≡ None → fault_of operation state smaller ≡ None
+      (operation : Operation) (state : State) (smaller larger : Surface) → ShowsFrame larger → IsNoLarger smaller larger
+      → fault_of operation state larger ≡ None → fault_of operation state smaller ≡ None

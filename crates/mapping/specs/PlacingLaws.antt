@@ -19,8 +19,8 @@ pub record ShowsFrame (s : Surface) : Type 0 where
 -- Placing keeps the order of coordinates, and a point that lands within the limits on a surface does so on each that is no larger.
 pub record PlacingLaws : Type 0 where
   pub keeps_order :
-    (side frame_side : ℕ) (v w : ℤ) → IsFrameSide frame_side → v ≤ℤ w
-    → placed v side frame_side ≤ℤ placed w side frame_side
+      (side frame_side : ℕ) (v w : ℤ) → IsFrameSide frame_side → v ≤ℤ w
+      → placed v side frame_side ≤ℤ placed w side frame_side
   pub lands_on_smaller :
-    (point : Point) (smaller larger : Surface) → ShowsFrame larger → IsNoLarger smaller larger
-    → IsTrue (lands_within_limits point larger) → IsTrue (lands_within_limits point smaller)
+      (point : Point) (smaller larger : Surface) → ShowsFrame larger → IsNoLarger smaller larger
+      → IsTrue (lands_within_limits point larger) → IsTrue (lands_within_limits point smaller)
