@@ -1,5 +1,5 @@
 -- Each fault of an operation lies in its record.
-use Rattle.std.proofs.Common.{◌≡◌, ℕ, Bool, true, false, cond, nat_lt, length, List, Option, Some, None, refl}
+use Rattle.std.proofs.Common.{◌≡◌, ℕ, Bool, true, false, cond, nat_lt, length, Option, Some, None, refl}
 use Rattle.std.proofs.lemmas.Option.{same_Some}
 use Rattle.std.specs.Option.{option_or}
 use Rattle.std.specs.List.{list_all}
@@ -15,7 +15,7 @@ use Rattle.object_tables.specs.Table.{TableKind, by_given_index, by_lowest_free,
 use Rattle.dc_stack.specs.Clip.{cut_limit}
 use Rattle.dc_stack.specs.OperationFault.{fault_of, plain_fault, plane_points}
 use Rattle.dc_stack.specs.SavedStates.{depth_limit, restore_fault, saved_place}
-use Rattle.dc_stack.specs.Selecting.{delete_fault, is_held, named_object, object_fault, palette_fault}
+use Rattle.dc_stack.specs.Selecting.{is_held, named_object, object_fault, palette_fault}
 use Rattle.dc_stack.specs.State.{State}
 
 -- a fault that lies in a record, or none

@@ -1,13 +1,11 @@
 -- Full room is enough.
-use Rattle.std.proofs.Common.{◌≡◌, ℕ, Bool, true, false, cond, nat_lt, length, Option, Some, None, inl, inr, arith, refl, subst}
+use Rattle.std.proofs.Common.{◌≡◌, Bool, true, false, cond, length, Option, Some, None, inl, inr, arith, refl}
 use Rattle.std.proofs.lemmas.Bool.{ltb-true}
 use Rattle.std.specs.Option.{option_or}
-use Rattle.draw_ops.specs.Operation.{Operation}
 use Rattle.draw_ops.specs.declared.fault.Fault.{Fault}
 use Rattle.draw_ops.specs.declared.fault.Fault.TheVariants.{DepthLimit}
 use Rattle.object_tables.specs.Table.{CreatedIndexIsBelowBound, create_fault}
-use Rattle.dc_stack.specs.MachineState.{FullRoomIsEnough, MachineState}
-use Rattle.dc_stack.specs.OperationFault.{fault_of}
+use Rattle.dc_stack.specs.MachineState.{FullRoomIsEnough}
 use Rattle.dc_stack.specs.SavedStates.{depth_limit}
 
 -- the first of two faults is absent where both are

@@ -1,5 +1,5 @@
 -- Saving the state, and taking a saved one back ([MS-WMF] 2.3.5.10 and 2.3.5.11, [MS-EMF] 2.3.11).
-use Rattle.std.specs.Prelude.{ℕ, zero, suc, ◌-◌, ℤ, pos, negsuc, if◌then◌else◌, nat_lt, List, [], ◌∷◌, ◌++◌, length, take, Option, Some, None, slice_index_or}
+use Rattle.std.specs.Prelude.{ℕ, zero, suc, ◌-◌, ℤ, pos, negsuc, if◌then◌else◌, nat_lt, [], ◌∷◌, ◌++◌, length, take, Option, Some, None, slice_index_or}
 use Rattle.draw_ops.specs.declared.fault.Fault.{Fault}
 use Rattle.draw_ops.specs.declared.fault.Fault.TheVariants.{DepthLimit, NoSavedState}
 use Rattle.dc_stack.specs.State.{State}

@@ -1,5 +1,5 @@
 -- The values of what the code keeps of a state.
-use Rattle.std.specs.Prelude.{◌≡◌, List, map, take, Option}
+use Rattle.std.specs.Prelude.{◌≡◌, List, map, take}
 use Rattle.std.specs.List.{All}
 use Rattle.std.specs.Option.{option_map}
 use Rattle.mapping.specs.PageMap.{map_numbers}
