@@ -21,6 +21,11 @@ pub record HasPixel (canvas : CanvasState) (x y : ℕ) : Type 0 where
   pub from_first : canvas.first ≤ y
   pub to_last : y < canvas.first + canvas.rows
 
+-- the canvas holds the surface's row y
+pub record HasRow (canvas : CanvasState) (y : ℕ) : Type 0 where
+  pub from_first : canvas.first ≤ y
+  pub to_last : y < canvas.first + canvas.rows
+
 -- where the colour of pixel (x, y) stands in the list of colours
 abbrev pub colour_index : CanvasState → ℕ → ℕ → ℕ
 colour_index canvas x y = (y - canvas.first) * canvas.width + x

@@ -4,6 +4,8 @@ ghost use Rattle.std.specs.Prelude.{◌≡◌, ◌+◌, ◌*◌, ◌<◌, ◌≤
 ghost use Rattle.std.specs.Io.KnownBytes.{Appends};
 ghost use Rattle.mapping.specs.Limits.{IsSurfaceSide, surface_side_limit};
 ghost use Rattle.canvas.specs.CanvasState.{HasPixel, image_of, colour_index, unwritten};
+ghost use Rattle.canvas.specs.Writing.{Repaints, is_at};
+ghost use Rattle.canvas.specs.WritingLaws.{IsWhole};
 ghost use Rattle.canvas.specs.Ppm.{AppendsFront, ppm_text};
 
 use crate::canvas_error::{OutOfMemory, WriteFault};
@@ -21,11 +23,11 @@ use std::marker::Model;
 /// - There is one colour for each pixel held.
 #[derive(Debug, Drop)]
 pub struct Canvas {
-    colours: Vec<Colour>,
-    width: u32,
-    first: u32,
+    pub(crate) colours: Vec<Colour>,
+    pub(crate) width: u32,
+    pub(crate) first: u32,
     rows: u32,
-    writes: u64,
+    pub(crate) writes: u64,
 }
 
 impl Model for Canvas {
@@ -70,6 +72,7 @@ impl Canvas {
     pub fn width(&self) -> u32
         ensures width { result ≡ self.now.width }
         ensures side { IsSurfaceSide self.now.width }
+        ensures whole { IsWhole self.now }
     {
         self.width
     }
@@ -116,6 +119,7 @@ impl Canvas {
     pub fn put(&mut self, x: u32, y: u32, colour: Colour)
         requires pixel { HasPixel self.old x y }
         requires countable { self.old.writes + 1 < 2 ^ 64 }
+        ensures repaints { Repaints (is_at x y) (λ column row old. colour) self.old self.new }
         ensures pixel { self.new.colours ≡ slice_set self.old.colours (colour_index self.old x y) colour }
         ensures count { self.new.writes ≡ self.old.writes + 1 }
         ensures width { self.new.width ≡ self.old.width }
@@ -149,10 +153,10 @@ fn pixels(rows: u32, width: u32) -> usize
 }
 
 /// The place of a column in a row, counted from the first row.
-fn place(width: u32, row: u32, column: u32) -> usize
+pub(crate) fn place(width: u32, row: u32, column: u32) -> usize
     requires width { width ≤ surface_side_limit }
     requires row { row < surface_side_limit }
-    requires column { column < width }
+    requires column { column ≤ width }
     ensures { result ≡ row * width + column }
 {
     row as usize * width as usize + column as usize

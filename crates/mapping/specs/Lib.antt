@@ -10,3 +10,5 @@ pub mod Colours
 pub mod PlaceOf
 pub mod MapSettings
 pub mod PlacingLaws
+pub mod Pixels
+pub mod Mixes

@@ -19,6 +19,8 @@
 //! - Each test of a limit holds exactly where the limit does (`limits_law`).
 //! - Placing keeps the order of coordinates, and a point that lands within the limits on a surface does so on
 //!   each that is no larger and shows a frame of the same sides (`placing_law`).
+//! - A mix keeps, drops and flips the bits of a colour that it says, and no other (`Mix::apply`, by
+//!   `mixed_by`), and one of them makes a given colour of every colour (`Mix::copy`).
 //!
 //! Nothing here is made for memory to be taken: the values are numbers. No contract says so, and a test
 //! over the built program counts its calls for memory.
@@ -30,6 +32,7 @@ mod limits;
 mod map_error;
 mod map_mode;
 mod map_settings;
+mod mix;
 mod page_map;
 mod place;
 
@@ -38,5 +41,6 @@ pub use geometry::{Colour, Frame, Point, Rect};
 pub use limits::{MAX_FRAME_SIDE, MAX_SURFACE_SIDE, limits_law};
 pub use map_error::{OffPlane, ZeroExtent};
 pub use map_mode::MapMode;
+pub use mix::Mix;
 pub use page_map::{PageAxis, PageMap};
 pub use place::{Place, placing_law};

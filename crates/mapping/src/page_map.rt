@@ -64,9 +64,24 @@ impl PageAxis {
         ensures value { let there = axis_coordinate self.now coordinate in SomeIff result (IsPlaneCoordinate there) there }
         ensures test { is_some result ≡ is_within plane_limit (axis_coordinate self.now coordinate) }
     {
+        on_plane(self.coordinate(coordinate))
+    }
+
+    /// The plane coordinate of a page coordinate that doesn't leave the plane.
+    fn at(&self, coordinate: i32) -> i32
+        requires { IsPlaneCoordinate (axis_coordinate self.now coordinate) }
+        ensures { result ≡ axis_coordinate self.now coordinate }
+    {
+        plane_number(self.coordinate(i64::from(coordinate)))
+    }
+
+    /// Where a page coordinate would lie on an endless plane.
+    fn coordinate(&self, coordinate: i64) -> i128
+        ensures { result ≡ axis_coordinate self.now coordinate }
+    {
         let distance = distance(coordinate, self.window_origin);
         let scaled = self.scaled(distance);
-        on_plane(moved(scaled, self.viewport_origin, self.corner))
+        moved(scaled, self.viewport_origin, self.corner)
     }
 
     /// A distance on the page, scaled from the window's extent to the viewport's and rounded down.
@@ -109,6 +124,15 @@ fn moved(scaled: i128, origin: i32, corner: i32) -> i128
     ensures { result ≡ scaled +ℤ origin -ℤ corner }
 {
     scaled + i128::from(origin) - i128::from(corner)
+}
+
+/// The number of a plane coordinate.
+#[tactic(auto, unfolding(crate::specs::Limits::plane_limit))]
+fn plane_number(coordinate: i128) -> i32
+    requires { IsPlaneCoordinate coordinate }
+    ensures { result ≡ coordinate }
+{
+    coordinate as i32
 }
 
 /// The number as a plane coordinate, or none where it is outside the plane.
@@ -190,5 +214,16 @@ impl PageMap {
             return None;
         };
         Some(Point { x, y })
+    }
+
+    /// The plane point of a page point that doesn't leave the plane.
+    pub fn at(&self, point: Point) -> Point
+        requires { IsOnPlane (plane_point (map_numbers self.now) point.x point.y) }
+        ensures { result ≡ plane_point (map_numbers self.now) point.x point.y }
+    {
+        Point {
+            x: self.x.at(point.x),
+            y: self.y.at(point.y),
+        }
     }
 }

@@ -1,6 +1,6 @@
 //! Lists of points, read in place.
 
-ghost use Rattle.std.specs.Prelude.{◌≡◌, ◌+◌, ◌*◌, ◌%◌, ◌<◌, ◌≤◌, ◌↔◌, [], length, drop, IsTrue, IsSome, IfSome, Some, slice_get, slice_range};
+ghost use Rattle.std.specs.Prelude.{◌≡◌, ◌+◌, ◌*◌, ◌%◌, ◌<◌, ◌≤◌, ◌↔◌, [], ◌∷◌, length, drop, IsTrue, IsSome, IsNone, IfSome, Some, slice_get, slice_range};
 ghost use Rattle.point_views.specs.Numbers.{point_size, first_point};
 
 use crate::numbers::{NumberWidth, signed_at};
@@ -102,6 +102,17 @@ impl<'a> Points<'a> {
             bytes: &self.bytes[self.place(from)..self.place(to)],
             width: self.width,
         }
+    }
+
+    /// The first point, and the points after it: none exactly where there is no point.
+    pub fn split_first(self) -> Option<(Point, Points<'a>)>
+        ensures none { IsNone result ↔ (points_of self.entry ≡ []) }
+        ensures points { IfSome result (λ split. points_of self.entry ≡ split.0 ∷ points_of split.1) }
+    {
+        if self.is_empty() {
+            return None;
+        }
+        Some((self.get(0), self.part(1, self.len())))
     }
 
     /// The place of a point's first byte, or the end of the bytes.

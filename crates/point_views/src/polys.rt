@@ -75,6 +75,17 @@ impl<'a> Polys<'a> {
         }
     }
 
+    /// All points, one list's after another's.
+    #[tactic(auto, using(crate::proofs::SplitLemmas::wholes))]
+    pub fn points(self) -> Points<'a>
+        ensures { points_of result ≡ flat_map (λ list. list) (lists_of self.entry) }
+    {
+        match self {
+            Polys::One(points) => points,
+            Polys::Parted(parted) => parted.points,
+        }
+    }
+
     /// The list at an index. It adds up the counts before that one: to go through the lists in order,
     /// use `lists` or `split_first`.
     pub fn get(self, k: usize) -> Points<'a>

@@ -1,0 +1,47 @@
+-- How calls that write are put together.
+use Rattle.std.specs.Prelude.{◌≡◌, ℕ, ◌+◌, ◌-◌, ◌*◌, ◌≤◌, Bool, true, false, ◌&&◌, ◌||◌, length}
+use Rattle.mapping.specs.declared.geometry.Colour.{Colour}
+use Rattle.canvas.specs.CanvasState.{CanvasState, HasPixel, HasRow}
+use Rattle.canvas.specs.Writing.{Repaints, in_span}
+
+-- a canvas has columns, and a colour for each pixel held
+pub record IsWhole (canvas : CanvasState) : Type 0 where
+  pub wide : 1 ≤ canvas.width
+  pub whole : length canvas.colours ≡ canvas.rows * canvas.width
+
+-- no pixel held passes the test
+abbrev pub PassesNone : CanvasState → (ℕ → ℕ → Bool) → Type 0
+PassesNone canvas test = (x y : ℕ) → HasPixel canvas x y → test x y ≡ false
+
+-- two tests agree on each pixel held
+abbrev pub SameTest : CanvasState → (ℕ → ℕ → Bool) → (ℕ → ℕ → Bool) → Type 0
+SameTest canvas t u = (x y : ℕ) → HasPixel canvas x y → t x y ≡ u x y
+
+-- two functions make the same of each pixel held that passes the test
+abbrev pub SameWhere : CanvasState → (ℕ → ℕ → Bool) → (f g : ℕ → ℕ → Colour → Colour) → Type 0
+SameWhere canvas test f g = (x y : ℕ) (old : Colour) → HasPixel canvas x y → test x y ≡ true → f x y old ≡ g x y old
+
+-- Where no pixel passes nothing is done. What is written goes by the pixels held alone. Two writes that share no
+-- pixel are one, a span is counted once a column, each pixel is counted at most once a write, and a canvas stays
+-- whole.
+pub record WritingLaws : Type 0 where
+  pub none :
+      (t : ℕ → ℕ → Bool) (f : ℕ → ℕ → Colour → Colour) (canvas : CanvasState) → IsWhole canvas
+      → PassesNone canvas t → Repaints t f canvas canvas
+  pub same :
+      (t u : ℕ → ℕ → Bool) (f g : ℕ → ℕ → Colour → Colour) (old new : CanvasState) → IsWhole old
+      → SameTest old t u → SameWhere old t f g → Repaints t f old new → Repaints u g old new
+  pub both :
+      (t u : ℕ → ℕ → Bool) (f : ℕ → ℕ → Colour → Colour) (old between new : CanvasState) → IsWhole old
+      → PassesNone old (λ x y. t x y && u x y) → Repaints t f old between → Repaints u f between new
+      → Repaints (λ x y. t x y || u x y) f old new
+  pub span :
+      (y from to : ℕ) (f : ℕ → ℕ → Colour → Colour) (old new : CanvasState) → IsWhole old
+      → HasRow old y → from ≤ to → to ≤ old.width → Repaints (in_span y from to) f old new
+      → new.writes ≡ old.writes + (to - from)
+  pub bounded :
+      (t : ℕ → ℕ → Bool) (f : ℕ → ℕ → Colour → Colour) (old new : CanvasState) → Repaints t f old new
+      → new.writes ≤ old.writes + old.rows * old.width
+  pub stays_whole :
+      (t : ℕ → ℕ → Bool) (f : ℕ → ℕ → Colour → Colour) (old new : CanvasState) → Repaints t f old new
+      → IsWhole old → IsWhole new

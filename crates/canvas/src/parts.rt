@@ -1,0 +1,141 @@
+//! What is done to the colours of a part of a row.
+
+ghost use Rattle.std.specs.Prelude.{◌≡◌, ℕ, ◌+◌, ◌%◌, ◌<◌, ◌≤◌, ◌==◌, length, slice_index_or, if◌then◌else◌};
+ghost use Rattle.std.specs.Int.{bit_at};
+ghost use Rattle.mapping.specs.declared.geometry.Colour.{Colour};
+ghost use Rattle.mapping.specs.Mixes.{mixed_by};
+ghost use Rattle.mapping.specs.Pixels.{count_indexes, is_cell};
+
+use mapping::{Colour, Mix};
+
+/// How many colours repeat.
+const PERIOD: usize = 8;
+
+/// Fills the part, whose first colour stands in this column, with the colours of the pattern, each at its
+/// column modulo 8.
+pub(crate) fn fill_with_pattern(part: &mut [Colour], column: u32, pattern: &[Colour; 8])
+    ensures { (k : ℕ) (d : Colour) → k < length part.old → slice_index_or part.new k d ≡ slice_index_or pattern.now ((column + k) % 8) d }
+{
+    if part.len() <= PERIOD {
+        fill_few(part, column, pattern);
+    } else {
+        repeat(part, &turned_pattern(pattern, column));
+    }
+}
+
+/// The same for at most 8 colours.
+fn fill_few(part: &mut [Colour], column: u32, pattern: &[Colour; 8])
+    requires { length part.old ≤ 8 }
+    ensures { (k : ℕ) (d : Colour) → k < length part.old → slice_index_or part.new k d ≡ slice_index_or pattern.now ((column + k) % 8) d }
+{
+    for k in 0..part.len() {
+        part[k] = pattern[turned(column, k)];
+    }
+}
+
+/// The pattern, turned to begin in this column.
+fn turned_pattern(pattern: &[Colour; 8], column: u32) -> [Colour; 8]
+    ensures { (k : ℕ) (d : Colour) → k < 8 → slice_index_or result k d ≡ slice_index_or pattern.now ((column + k) % 8) d }
+{
+    let mut colours = *pattern;
+    for k in 0..PERIOD {
+        colours[k] = pattern[turned(column, k)];
+    }
+    colours
+}
+
+/// Fills the part with one colour.
+pub(crate) fn fill_with(part: &mut [Colour], colour: Colour)
+    ensures { (k : ℕ) (d : Colour) → k < length part.old → slice_index_or part.new k d ≡ colour }
+{
+    repeat(part, &[colour; 8]);
+}
+
+/// Fills the part with these eight colours, again and again. All but the last few go in by copies of eight,
+/// whose size the compiler knows, which is cheaper than a colour at a time and than copies of any size.
+fn repeat(part: &mut [Colour], colours: &[Colour; 8])
+    ensures { (k : ℕ) (d : Colour) → k < length part.old → slice_index_or part.new k d ≡ slice_index_or colours.now (k % 8) d }
+{
+    let filled = repeat_whole(part, colours);
+    for k in filled..part.len() {
+        part[k] = colours[k & 7];
+    }
+}
+
+/// Fills as much of the part as whole copies of the colours take, and tells how many that is.
+fn repeat_whole(part: &mut [Colour], colours: &[Colour; 8]) -> usize
+    ensures within { result ≤ length part.old }
+    ensures colours { (k : ℕ) (d : Colour) → k < result → slice_index_or part.new k d ≡ slice_index_or colours.now (k % 8) d }
+{
+    let mut filled = 0;
+    while filled + PERIOD <= part.len() {
+        copy_at(part, filled, colours);
+        filled += PERIOD;
+    }
+    filled
+}
+
+/// Copies the colours to this place of the part.
+fn copy_at(part: &mut [Colour], at: usize, colours: &[Colour; 8])
+    requires { at + 8 ≤ length part.old }
+    ensures before { (k : ℕ) (d : Colour) → k < at → slice_index_or part.new k d ≡ slice_index_or part.old k d }
+    ensures here { (k : ℕ) (d : Colour) → k < 8 → slice_index_or part.new (at + k) d ≡ slice_index_or colours.now k d }
+{
+    part[at..at + PERIOD].copy_from_slice(colours);
+}
+
+/// Changes each colour by the mix.
+pub(crate) fn mix_all(part: &mut [Colour], mix: Mix)
+    ensures { (k : ℕ) (d : Colour) → k < length part.old → slice_index_or part.new k d ≡ mixed_by mix (slice_index_or part.old k d) }
+{
+    for colour in part.iter_mut() {
+        *colour = mix.apply(*colour);
+    }
+}
+
+/// Changes the colours by the mix whose column has its bit set in `cells`, and tells how many they are. The
+/// part's first colour stands in this column.
+pub(crate) fn mix_cells_of(part: &mut [Colour], column: u32, cells: u8, mix: Mix) -> usize
+    ensures colours { (k : ℕ) (d : Colour) → k < length part.old → slice_index_or part.new k d ≡ (if is_cell cells (column + k) then mixed_by mix (slice_index_or part.old k d) else slice_index_or part.old k d) }
+    ensures count { result ≡ count_indexes (λ k. is_cell cells (column + k)) 0 (length part.old) }
+    ensures most { result ≤ length part.old }
+{
+    let mut count = 0;
+    for offset in 0..PERIOD {
+        if has_bit(cells, turned(column, offset)) {
+            count += mix_each_eighth(part, offset, mix);
+        }
+    }
+    count
+}
+
+/// Changes each eighth colour by the mix, from this one on, and tells how many they are.
+fn mix_each_eighth(part: &mut [Colour], offset: usize, mix: Mix) -> usize
+    requires { offset < 8 }
+    ensures colours { (k : ℕ) (d : Colour) → k < length part.old → slice_index_or part.new k d ≡ (if k % 8 == offset then mixed_by mix (slice_index_or part.old k d) else slice_index_or part.old k d) }
+    ensures count { result ≡ count_indexes (λ k. k % 8 == offset) 0 (length part.old) }
+{
+    let mut at = offset;
+    while at < part.len() {
+        part[at] = mix.apply(part[at]);
+        at += PERIOD;
+    }
+    (part.len() + 7 - offset) / PERIOD
+}
+
+/// The place in a pattern of the column so many behind this one.
+fn turned(column: u32, offset: usize) -> usize
+    requires { offset < 8 }
+    ensures place { result ≡ (column + offset) % 8 }
+    ensures below { result < 8 }
+{
+    (column as usize + offset) & 7
+}
+
+/// Whether this bit of the cells is 1.
+fn has_bit(cells: u8, place: usize) -> bool
+    requires { place < 8 }
+    ensures { result ≡ (bit_at cells place == 1) }
+{
+    cells >> place & 1 == 1
+}

@@ -1,0 +1,100 @@
+//! Calls that write the pixels of a row.
+
+ghost use Rattle.std.specs.Prelude.{◌≡◌, ◌+◌, ◌-◌, ◌%◌, ◌<◌, ◌≤◌, ◌^◌, length, slice_index_or};
+ghost use Rattle.mapping.specs.Mixes.{mixed_by};
+ghost use Rattle.canvas.specs.CanvasState.{HasPixel, HasRow};
+ghost use Rattle.canvas.specs.Writing.{Repaints, in_cells, in_span, is_at};
+
+use crate::parts::{fill_with, fill_with_pattern, mix_all, mix_cells_of};
+use crate::surface::{Canvas, place};
+use mapping::{Colour, Mix};
+
+impl Canvas {
+    /// Writes the pixels of row `y` in the columns from `x_from` up to and without `x_to` in one colour.
+    pub fn put_span(&mut self, x_from: u32, x_to: u32, y: u32, colour: Colour)
+        requires columns { x_from ≤ x_to }
+        requires width { x_to ≤ self.old.width }
+        requires row { HasRow self.old y }
+        requires countable { self.old.writes + (x_to - x_from) < 2 ^ 64 }
+        ensures pixels { Repaints (in_span y x_from x_to) (λ column row old. colour) self.old self.new }
+        ensures count { self.new.writes ≡ self.old.writes + (x_to - x_from) }
+    {
+        let start = place(self.width, y - self.first, x_from);
+        let end = start + (x_to - x_from) as usize;
+        fill_with(&mut self.colours[start..end], colour);
+        self.writes += u64::from(x_to - x_from);
+    }
+
+    /// Writes the pixels of row `y` in the columns from `x_from` up to and without `x_to`, each in the
+    /// colour of the pattern at its column modulo 8.
+    pub fn put_pattern(&mut self, x_from: u32, x_to: u32, y: u32, pattern: &[Colour; 8])
+        requires columns { x_from ≤ x_to }
+        requires width { x_to ≤ self.old.width }
+        requires row { HasRow self.old y }
+        requires countable { self.old.writes + (x_to - x_from) < 2 ^ 64 }
+        ensures pixels { Repaints (in_span y x_from x_to) (λ column row old. slice_index_or pattern.now (column % 8) old) self.old self.new }
+        ensures count { self.new.writes ≡ self.old.writes + (x_to - x_from) }
+    {
+        let start = place(self.width, y - self.first, x_from);
+        let end = start + (x_to - x_from) as usize;
+        fill_with_pattern(&mut self.colours[start..end], x_from, pattern);
+        self.writes += u64::from(x_to - x_from);
+    }
+
+    /// Writes these colours into row `y`, the first in column `x_from`.
+    pub fn put_row(&mut self, x_from: u32, y: u32, inks: &[Colour])
+        requires width { x_from + length inks.now ≤ self.old.width }
+        requires row { HasRow self.old y }
+        requires countable { self.old.writes + length inks.now < 2 ^ 64 }
+        ensures pixels { Repaints (in_span y x_from (x_from + length inks.now)) (λ column row old. slice_index_or inks.now (column - x_from) old) self.old self.new }
+        ensures count { self.new.writes ≡ self.old.writes + length inks.now }
+    {
+        let start = place(self.width, y - self.first, x_from);
+        let end = start + inks.len();
+        self.colours[start..end].copy_from_slice(inks);
+        self.writes += inks.len() as u64;
+    }
+
+    /// Changes the pixels of row `y` in the columns from `x_from` up to and without `x_to`, each by the mix.
+    pub fn mix_span(&mut self, x_from: u32, x_to: u32, y: u32, mix: Mix)
+        requires columns { x_from ≤ x_to }
+        requires width { x_to ≤ self.old.width }
+        requires row { HasRow self.old y }
+        requires countable { self.old.writes + (x_to - x_from) < 2 ^ 64 }
+        ensures pixels { Repaints (in_span y x_from x_to) (λ column row old. mixed_by mix old) self.old self.new }
+        ensures count { self.new.writes ≡ self.old.writes + (x_to - x_from) }
+    {
+        let start = place(self.width, y - self.first, x_from);
+        let end = start + (x_to - x_from) as usize;
+        mix_all(&mut self.colours[start..end], mix);
+        self.writes += u64::from(x_to - x_from);
+    }
+
+    /// Changes those pixels of row `y` in the columns from `x_from` up to and without `x_to` whose column
+    /// has its bit, the column modulo 8, set in `cells`, each by the mix.
+    pub fn mix_cells(&mut self, x_from: u32, x_to: u32, y: u32, cells: u8, mix: Mix)
+        requires columns { x_from ≤ x_to }
+        requires width { x_to ≤ self.old.width }
+        requires row { HasRow self.old y }
+        requires countable { self.old.writes + (x_to - x_from) < 2 ^ 64 }
+        ensures pixels { Repaints (in_cells y x_from x_to cells) (λ column row old. mixed_by mix old) self.old self.new }
+        ensures count { self.new.writes ≤ self.old.writes + (x_to - x_from) }
+    {
+        let start = place(self.width, y - self.first, x_from);
+        let end = start + (x_to - x_from) as usize;
+        let count = mix_cells_of(&mut self.colours[start..end], x_from, cells, mix);
+        self.writes += count as u64;
+    }
+
+    /// Changes the surface's pixel `(x, y)` by the mix.
+    pub fn mix(&mut self, x: u32, y: u32, mix: Mix)
+        requires pixel { HasPixel self.old x y }
+        requires countable { self.old.writes + 1 < 2 ^ 64 }
+        ensures pixel { Repaints (is_at x y) (λ column row old. mixed_by mix old) self.old self.new }
+        ensures count { self.new.writes ≡ self.old.writes + 1 }
+    {
+        let place = place(self.width, y - self.first, x);
+        self.colours[place] = mix.apply(self.colours[place]);
+        self.writes += 1;
+    }
+}

@@ -1,0 +1,4 @@
+pub mod BitLemmas
+pub mod HatchLemmas
+pub mod WorkedOperations
+pub mod WorkedPaints

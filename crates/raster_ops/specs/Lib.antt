@@ -1,0 +1,4 @@
+pub mod RasterOps
+pub mod Hatches
+pub mod Paints
+pub mod BrushRows

@@ -1,0 +1,14 @@
+-- What both spans have.
+use Rattle.span_fill.specs.Courses.{step_of}
+use Rattle.span_fill.proofs.clip.clipped.Goals as goal
+
+pub returns-clause-exact : goal.returns-clause-exact
+returns-clause-exact c = λ a b on.
+    let both = c.common.ensures.both (step_of c.args.course a) in
+    let along = c.steps_along.ensures.exact a b on in
+    let across = c.steps_across.ensures.exact a b on in
+    let columns = c.ordered.ensures.same a in
+    let rows = c.ordered-2.ensures.same b in (
+      λ h. let parts = both.0 h in (columns.0 (along.0 parts.0), rows.0 (across.0 parts.1)),
+      λ h. both.1 (along.1 (columns.1 h.0), across.1 (rows.1 h.1)),
+    )

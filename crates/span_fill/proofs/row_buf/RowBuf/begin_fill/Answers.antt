@@ -1,0 +1,49 @@
+-- The edges are those of the outline's lines.
+use Rattle.std.proofs.Common.{◌≡◌, ◌≤◌, List, length, map, ap, subst, sym, ◌∙◌, arith}
+use Rattle.std.specs.List.{All}
+use Rattle.span_fill.specs.Edges.{IsEdge, crossing_of}
+use Rattle.span_fill.specs.RowState.{RowState}
+use Rattle.span_fill.specs.declared.edge.Edge.{Edge}
+use Rattle.span_fill.proofs.RowLemmas.{filling_begins, listed_edges}
+use Rattle.span_fill.proofs.row_buf.RowBuf.begin_fill.Goals as goal
+
+pub admit-self-inside-requires-clause-edges : goal.admit-self-inside-requires-clause-edges
+admit-self-inside-requires-clause-edges g c =
+    let collected = rw c.as_slice.ensures.value at c.collect_edges.ensures.edges in
+    let listed = listed_edges c.args.y c.copy_lines.new.lines.items c.collect_edges.new.edges.items c.sort_edges.new.edges.items c.copy_lines.ensures.near collected c.sort_edges.ensures.permutation in
+    subst (λ (es : List Edge). All IsEdge es) (sym c.as_slice-2.ensures.value) listed
+
+pub invariant_of-self : goal.invariant_of-self
+invariant_of-self g c =
+    let collected = rw c.as_slice.ensures.value at c.collect_edges.ensures.edges in
+    let admitted = rw (c.as_slice-2.ensures.value, c.clear-2.ensures.items) at c.admit-self-inside.ensures.active in
+    let left = rw c.as_slice-2.ensures.value at c.admit-self-inside.ensures.left in
+    let room : c.self.inside.room ≡ c.args.self.now.room = ap (λ (s : RowState). s.room) c.self.view_is in
+    let lines : length c.copy_lines.new.lines.items ≡ length (g.O.Outline.lines c.args.outline.now) = ap (λ xs. length xs) c.copy_lines.ensures.lines in
+    let asked : length (g.O.Outline.lines c.args.outline.now) ≤ c.args.self.now.room = c.requires.count in
+    let count : length c.copy_lines.new.lines.items ≤ c.self.inside.room = omega (arith, room, lines, asked) in
+    let given = ap (λ xs. length xs) c.as_slice.ensures.value in
+    let edges = ap (λ xs. length xs) c.as_slice-2.ensures.value in
+    record {
+      room = record {
+        limit = c.self.invariant.room.limit;
+        lines = omega arith;
+        edges = omega arith;
+        active = omega arith;
+        crossings = omega arith;
+        spans = λ h. omega (arith, c.self.invariant.room.spans h);
+      };
+      count = count;
+      near = c.copy_lines.ensures.near;
+      filling = λ h. filling_begins c.args.y c.self.inside.room c.copy_lines.new.lines.items c.collect_edges.new.edges.items c.sort_edges.new.edges.items c.admit-self-inside.result c.admit-self-inside.new.active.items c.sort_active.new.active.items c.tell.new.crossings.items c.copy_lines.ensures.near c.requires.row collected c.sort_edges.ensures.permutation c.sort_edges.ensures.sorted admitted left (omega (arith, edges, c.admit-self-inside.ensures.within)) c.sort_active.ensures.permutation c.sort_active.ensures.sorted (omega (arith, edges, count, given, c.admit-self-inside.ensures.length, c.collect_edges.ensures.length)) (c.tell.ensures.crossings ∙ ap (map crossing_of) c.as_slice-3.ensures.value);
+    }
+
+pub sort_active-requires : goal.sort_active-requires
+sort_active-requires g c =
+    let room : c.self.inside.room ≡ c.args.self.now.room = ap (λ (s : RowState). s.room) c.self.view_is in
+    let lines : length c.copy_lines.new.lines.items ≡ length (g.O.Outline.lines c.args.outline.now) = ap (λ xs. length xs) c.copy_lines.ensures.lines in
+    let asked : length (g.O.Outline.lines c.args.outline.now) ≤ c.args.self.now.room = c.requires.count in
+    let count : length c.copy_lines.new.lines.items ≤ c.self.inside.room = omega (arith, room, lines, asked) in
+    let given = ap (λ xs. length xs) c.as_slice.ensures.value in
+    let edges = ap (λ xs. length xs) c.as_slice-2.ensures.value in
+    omega (arith, edges, count, given, c.admit-self-inside.ensures.length, c.collect_edges.ensures.length, c.self.invariant.room.limit)

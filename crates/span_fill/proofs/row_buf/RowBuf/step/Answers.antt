@@ -1,0 +1,42 @@
+-- The edges that cross the next row.
+use Rattle.std.proofs.Common.{◌+◌, ◌<◌, length, map, ap, subst, sym, ◌∙◌, arith, refl}
+use Rattle.span_fill.specs.RowState.{IsFillingWork, RowState}
+use Rattle.span_fill.specs.Edges.{crossing_of}
+use Rattle.span_fill.proofs.FillLemmas.{all_can_move, edges_near}
+use Rattle.span_fill.proofs.RowLemmas.{filling_steps}
+use Rattle.span_fill.proofs.row_buf.RowBuf.step.Goals as goal
+
+pub advance-requires : goal.advance-requires
+advance-requires c =
+    let work = subst (λ (s : RowState). IsFillingWork s.work) (sym c.self.view_is) c.requires.filling in
+    let filling = c.self.invariant.filling work in
+    all_can_move c.self.inside.next _ c.self.inside.active.items (edges_near 0 c.self.inside.lines.items c.self.invariant.near) filling.row filling.crosses
+
+pub invariant_of-self : goal.invariant_of-self
+invariant_of-self c =
+    let next : c.self.inside.next < 8192 = subst (λ (s : RowState). s.next < 8192) (sym c.self.view_is) c.requires.next in
+    record {
+      room = record {
+        limit = c.self.invariant.room.limit;
+        lines = c.self.invariant.room.lines;
+        edges = c.self.invariant.room.edges;
+        active = omega arith;
+        crossings = omega arith;
+        spans = c.self.invariant.room.spans;
+      };
+      count = c.self.invariant.count;
+      near = c.self.invariant.near;
+      filling = λ work.
+          let filling = c.self.invariant.filling work in
+          let admitted = rw c.as_slice.ensures.value at c.admit-self-inside.ensures.active in
+          let left = rw c.as_slice.ensures.value at c.admit-self-inside.ensures.left in
+          let edges = ap (λ xs. length xs) c.as_slice.ensures.value in
+          filling_steps c.self.inside.next (c.self.inside.next + 1) c.self.inside.room c.self.inside.lines.items c.self.inside.edges.items c.self.inside.begun c.admit-self-inside.result c.self.inside.active.items c.advance.new.active.items c.admit-self-inside.new.active.items c.sort_active.new.active.items c.self.inside.crossings.items c.tell.new.crossings.items refl next c.self.invariant.near filling c.advance.ensures.edges admitted left (omega (arith, edges, c.admit-self-inside.ensures.within)) c.sort_active.ensures.permutation c.sort_active.ensures.sorted (omega (arith, edges, filling.count, c.admit-self-inside.ensures.length)) (c.tell.ensures.crossings ∙ ap (map crossing_of) c.as_slice-2.ensures.value);
+    }
+
+pub sort_active-requires : goal.sort_active-requires
+sort_active-requires c =
+    let work = subst (λ (s : RowState). IsFillingWork s.work) (sym c.self.view_is) c.requires.filling in
+    let filling = c.self.invariant.filling work in
+    let edges = ap (λ xs. length xs) c.as_slice.ensures.value in
+    omega (arith, edges, filling.count, c.advance.ensures.length, c.admit-self-inside.ensures.length, c.self.invariant.room.limit)

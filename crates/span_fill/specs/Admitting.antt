@@ -1,0 +1,17 @@
+-- Edges that begin, in the order of their first rows.
+use Rattle.std.specs.Prelude.{◌≡◌, ℕ, ◌+◌, ◌<◌, true, false, List, [], ◌∷◌, drop, length, filter}
+use Rattle.span_fill.specs.Edges.{IsEdge, begins_behind, begins_by}
+use Rattle.span_fill.specs.declared.edge.Edge.{Edge}
+
+-- this edge is the next, and begins at row y or above it
+pub record Begins (y : ℕ) (edges : List Edge) (next : ℕ) (edge : Edge) : Type 0 where
+  pub within : next < length edges
+  pub first : drop next edges ≡ edge ∷ drop (next + 1) edges
+  pub begins : begins_by y edge ≡ true
+  pub waits : begins_behind y edge ≡ false
+  pub is_edge : IsEdge edge
+
+-- all of the edges begin behind row y
+pub record NoneBegins (y : ℕ) (edges : List Edge) : Type 0 where
+  pub none : filter (begins_by y) edges ≡ []
+  pub others : filter (begins_behind y) edges ≡ edges

@@ -1,0 +1,17 @@
+pub mod Lines
+pub mod Fill
+pub mod Strokes
+pub mod Spans
+pub mod Crossings
+pub mod Sweep
+pub mod Edges
+pub mod Admitting
+pub mod RowState
+pub mod RowFields
+pub mod Insertion
+pub mod Axis
+pub mod Walks
+pub mod Courses
+pub mod Clips
+pub mod Steps
+pub mod StepsInside

@@ -1,0 +1,53 @@
+-- What is true of the fields of every row buffer.
+use Rattle.std.specs.Prelude.{◌≡◌, ℕ, ◌+◌, ◌-◌, ◌^◌, ◌≤◌, List, drop, length, map, filter, vec_capacity}
+use Rattle.std.specs.List.{All}
+use Rattle.std.specs.List.Sorted.{IsNonDecreasingBy, IsPermutation}
+use Rattle.span_fill.specs.Edges.{IsEdge, active_edges, begins_behind, crossing_of, edges_from, first_row}
+use Rattle.span_fill.specs.Lines.{HasNearEnds}
+use Rattle.span_fill.specs.RowState.{IsFillingWork, RowState, RowWork, filling, idle, stroking}
+use Rattle.span_fill.specs.declared.crossing.Crossing.{Crossing}
+use Rattle.span_fill.specs.declared.edge.ActiveEdge.{ActiveEdge}
+use Rattle.span_fill.specs.declared.edge.Edge.{Edge}
+use Rattle.span_fill.specs.declared.fill_rule.FillRule.{FillRule}
+use Rattle.span_fill.specs.declared.line.Line.{Line}
+use Rattle.span_fill.specs.declared.row_buf.RowBuf.TheInside.{Inside}
+use Rattle.span_fill.specs.declared.row_buf.Work.{Work}
+use Rattle.span_fill.specs.declared.row_buf.Work.TheVariants.{Filling, Idle, Stroking}
+
+-- the work, with its rule
+abbrev pub row_work : Work → FillRule → RowWork
+row_work Idle rule = idle
+row_work Filling rule = filling rule
+row_work Stroking rule = stroking
+
+-- what callers see of the fields
+abbrev pub row_state : Inside → RowState
+row_state a = record { lines = a.lines.items; work = row_work a.work a.rule; next = a.next; spans = a.spans.items; room = a.room }
+
+-- there is memory for so many lines
+pub record HasRoom (a : Inside) : Type 0 where
+  pub limit : a.room ≤ 2 ^ 20
+  pub lines : a.room ≤ vec_capacity a.lines
+  pub edges : a.room ≤ vec_capacity a.edges
+  pub active : a.room ≤ vec_capacity a.active
+  pub crossings : a.room ≤ vec_capacity a.crossings
+  pub spans : 1 ≤ a.room → a.room + 2 ≤ vec_capacity a.spans
+
+-- the edges of the lines: those that cross row y, in the order of their columns, and those that wait, in the order of their rows
+pub record IsFilling (lines : List Line) (y room : ℕ) (edges : List Edge) (begun : ℕ) (active : List ActiveEdge) (crossings : List Crossing) : Type 0 where
+  pub row : y ≤ 8192
+  pub are_edges : All IsEdge edges
+  pub ordered : IsNonDecreasingBy first_row edges
+  pub within : begun ≤ length edges
+  pub waits : IsPermutation (filter (begins_behind y) (edges_from 0 lines)) (drop begun edges)
+  pub crosses : IsPermutation (active_edges y (edges_from 0 lines)) active
+  pub sorted : IsNonDecreasingBy (λ edge. edge.column) active
+  pub count : length active + (length edges - begun) ≤ room
+  pub told : crossings ≡ map crossing_of active
+
+-- the buffer has memory for its lines, and its edges are where its work is
+pub record IsRowBuf (a : Inside) : Type 0 where
+  pub room : HasRoom a
+  pub count : length a.lines.items ≤ a.room
+  pub near : All HasNearEnds a.lines.items
+  pub filling : IsFillingWork (row_work a.work a.rule) → IsFilling a.lines.items a.next a.room a.edges.items a.begun a.active.items a.crossings.items

@@ -1,0 +1,54 @@
+-- What a row buffer is to its callers.
+use Rattle.std.specs.Prelude.{◌≡◌, ℕ, List, []}
+use Rattle.span_fill.specs.Fill.{in_fill}
+use Rattle.span_fill.specs.Spans.{AreRow}
+use Rattle.span_fill.specs.declared.fill_rule.FillRule.{FillRule}
+use Rattle.span_fill.specs.declared.line.Line.{Line}
+use Rattle.span_fill.specs.declared.span.Span.{Span}
+
+-- what a row buffer is at: nothing, the inside of its lines, or the lines themselves
+pub data RowWork : Type 0 where
+  idle : RowWork
+  filling : FillRule → RowWork
+  stroking : RowWork
+
+-- the lines, what is done with them, which row is next, the spans of the row before, and how many lines it has memory for
+pub record RowState : Type 0 where
+  pub lines : List Line
+  pub work : RowWork
+  pub next : ℕ
+  pub spans : List Span
+  pub room : ℕ
+
+-- the inside of the lines is being filled
+abbrev pub IsFillingWork : RowWork → Type 0
+IsFillingWork idle = ⊥
+IsFillingWork (filling rule) = Unit {0}
+IsFillingWork stroking = ⊥
+
+-- the spans are what the row has within the interval
+abbrev pub FillsRow : RowWork → List Line → ℕ → Span → List Span → Type 0
+FillsRow idle lines y interval spans = ⊥
+FillsRow (filling rule) lines y interval spans = AreRow (λ x. in_fill rule lines x y) interval spans
+FillsRow stroking lines y interval spans = ⊥
+
+-- the buffer goes on with its work
+pub record GoesOn (old new : RowState) : Type 0 where
+  pub lines : new.lines ≡ old.lines
+  pub work : new.work ≡ old.work
+  pub room : new.room ≡ old.room
+
+-- nothing but the room differs
+pub record DiffersInRoom (old new : RowState) : Type 0 where
+  pub lines : new.lines ≡ old.lines
+  pub work : new.work ≡ old.work
+  pub next : new.next ≡ old.next
+  pub spans : new.spans ≡ old.spans
+
+-- a fill of these lines begins at row y
+pub record BeginsFill (rule : FillRule) (given : List Line) (y size : ℕ) (new : RowState) : Type 0 where
+  pub lines : new.lines ≡ given
+  pub work : new.work ≡ filling rule
+  pub next : new.next ≡ y
+  pub spans : new.spans ≡ []
+  pub room : new.room ≡ size

@@ -1,0 +1,51 @@
+-- A row's spans from the edges that cross it, in the order of the columns that they cross.
+use Rattle.std.specs.Prelude.{ℕ, ◌+◌, ◌≤◌, Bool, ◌&&◌, ◌==◌, not, nat_le, nat_lt, max, min, if◌then◌else◌, List, [], ◌∷◌, ◌++◌}
+use Rattle.span_fill.specs.Fill.{is_inside}
+use Rattle.span_fill.specs.declared.edge.ActiveEdge.{ActiveEdge}
+use Rattle.span_fill.specs.declared.fill_rule.FillRule.{FillRule}
+use Rattle.span_fill.specs.declared.span.Span.{Span}
+
+-- how many of the edges that run downwards cross the row at column x or before
+abbrev pub downwards_at : List ActiveEdge → ℕ → ℕ
+downwards_at [] x = 0
+downwards_at (edge ∷ edges) x = (if edge.is_down && nat_le edge.column x then 1 else 0) + downwards_at edges x
+
+-- the same of those that run upwards
+abbrev pub upwards_at : List ActiveEdge → ℕ → ℕ
+upwards_at [] x = 0
+upwards_at (edge ∷ edges) x = (if not edge.is_down && nat_le edge.column x then 1 else 0) + upwards_at edges x
+
+-- no edge crosses before this column
+abbrev pub AreFrom : ℕ → List ActiveEdge → Type 0
+AreFrom column [] = Unit
+AreFrom column (edge ∷ edges) = (column ≤ edge.column) × AreFrom column edges
+
+-- no edge crosses before one that is in front of it
+abbrev pub AreSorted : List ActiveEdge → Type 0
+AreSorted [] = Unit
+AreSorted (edge ∷ edges) = AreFrom edge.column edges × AreSorted edges
+
+-- the run as a list, empty if it has no column
+abbrev pub run_spans : Span → List Span
+run_spans run = if nat_lt run.from run.to then run ∷ [] else []
+
+-- the columns are inside, and there are some
+abbrev pub is_part : Bool → ℕ → ℕ → Bool
+is_part inside from to = inside && nat_lt from to
+
+-- the run, with the columns if they are inside: longer, or begun anew
+abbrev pub longer_run : Bool → Span → ℕ → ℕ → Span
+longer_run inside run from to =
+    if is_part inside from to then record { from = if run.to == from then run.from else from; to = to } else run
+
+-- what these columns end: the run, if they begin another
+abbrev pub ended_spans : Bool → Span → ℕ → ℕ → List Span
+ended_spans inside run from to = if is_part inside from to && not (run.to == from) then run_spans run else []
+
+-- the spans from column `at` on, where so many edges were crossed and a run isn't ended yet
+abbrev pub swept : FillRule → ℕ → List ActiveEdge → ℕ → ℕ → ℕ → Span → List Span
+swept rule end [] at downs ups run =
+    ended_spans (is_inside rule downs ups) run at end ++ run_spans (longer_run (is_inside rule downs ups) run at end)
+swept rule end (edge ∷ edges) at downs ups run =
+    ended_spans (is_inside rule downs ups) run at (max at (min edge.column end))
+    ++ swept rule end edges (max at (min edge.column end)) (downs + (if edge.is_down then 1 else 0)) (ups + (if not edge.is_down then 1 else 0)) (longer_run (is_inside rule downs ups) run at (max at (min edge.column end)))

@@ -1,0 +1,90 @@
+//! The edges that cross a row: those that go on to the next one, and those that begin at it.
+
+ghost use Rattle.std.specs.Prelude.{◌≡◌, ◌+◌, ◌-◌, ◌≤◌, ◌<◌, ◌++◌, length, map, drop, filter, MatchOption, vec_len, vec_capacity};
+ghost use Rattle.std.specs.List.{All};
+ghost use Rattle.std.specs.List.Sorted.{IsNonDecreasingBy, IsPermutation};
+ghost use Rattle.span_fill.specs.Admitting.{Begins, NoneBegins};
+ghost use Rattle.span_fill.specs.Edges.{CanMove, IsEdge, active_at, begins_behind, begins_by, crossing_of, first_row, goes_to, moved};
+
+use crate::crossing::Crossing;
+use crate::edge::{ActiveEdge, Edge};
+
+/// The edges in the order of the rows where they begin.
+pub(crate) fn sort_edges(edges: &mut Vec<Edge>)
+    ensures permutation { IsPermutation edges.old.items edges.new.items }
+    ensures sorted { IsNonDecreasingBy first_row edges.new.items }
+    ensures length { vec_len edges.new ≡ vec_len edges.old }
+    ensures room { vec_capacity edges.new ≡ vec_capacity edges.old }
+{
+    edges.sort_unstable_by_key(|edge| edge.first_row());
+}
+
+/// The edges that still cross the next row, there.
+pub(crate) fn advance(active: &mut Vec<ActiveEdge>, row: u32)
+    requires { All CanMove active.old.items }
+    ensures edges { active.new.items ≡ map moved (filter (goes_to row) active.old.items) }
+    ensures length { vec_len active.new ≤ vec_len active.old }
+    ensures room { vec_capacity active.new ≡ vec_capacity active.old }
+{
+    let mut kept = 0;
+    for place in 0..active.len() {
+        let edge = active[place];
+        if row < edge.bottom {
+            active[kept] = edge.moved();
+            kept += 1;
+        }
+    }
+    active.truncate(kept);
+}
+
+/// Those of the edges that begin at the row or above it, where they cross it, behind those that are
+/// there. The edges from `begun` on are still to begin; the result is which of them are so then.
+pub(crate) fn admit(active: &mut Vec<ActiveEdge>, edges: &[Edge], begun: usize, row: u32) -> usize
+    requires edges { All IsEdge edges.now }
+    requires sorted { IsNonDecreasingBy first_row edges.now }
+    requires begun { begun ≤ length edges.now }
+    requires row { row ≤ 8192 }
+    requires room { vec_len active.old + (length edges.now - begun) ≤ vec_capacity active.old }
+    ensures active { active.new.items
+        ≡ active.old.items ++ map (active_at row) (filter (begins_by row) (drop begun edges.now)) }
+    ensures left { drop result edges.now ≡ filter (begins_behind row) (drop begun edges.now) }
+    ensures within { result ≤ length edges.now }
+    ensures length { vec_len active.new + (length edges.now - result) ≤ vec_len active.old + (length edges.now - begun) }
+    ensures room { vec_capacity active.new ≡ vec_capacity active.old }
+{
+    let mut next = begun;
+    while let Some(edge) = beginning(edges, next, row) {
+        active.push_reserved(edge.active_at(row));
+        next += 1;
+    }
+    next
+}
+
+/// The next edge, if it begins at the row or above it.
+fn beginning(edges: &[Edge], next: usize, row: u32) -> Option<Edge>
+    requires edges { All IsEdge edges.now }
+    requires sorted { IsNonDecreasingBy first_row edges.now }
+    ensures { MatchOption result (NoneBegins row (drop next edges.now)) (λ edge. Begins row edges.now next edge) }
+{
+    if next >= edges.len() {
+        return None;
+    }
+    let edge = edges[next];
+    if edge.first_row() <= row {
+        Some(edge)
+    } else {
+        None
+    }
+}
+
+/// Where the edges cross their row.
+pub(crate) fn tell(crossings: &mut Vec<Crossing>, active: &[ActiveEdge])
+    requires { length active.now ≤ vec_capacity crossings.old }
+    ensures crossings { crossings.new.items ≡ map crossing_of active.now }
+    ensures room { vec_capacity crossings.new ≡ vec_capacity crossings.old }
+{
+    crossings.clear();
+    for edge in active {
+        crossings.push_reserved(edge.crossing());
+    }
+}

@@ -1,0 +1,8 @@
+//! What the definitions of pixels mean.
+
+ghost use Rattle.span_fill.specs.Strokes.{OnePixelForEachStep};
+
+/// The law of lines: a line has one pixel for each step along its longer axis, and no further one.
+pub fn line_law()
+    ensures { OnePixelForEachStep }
+{}

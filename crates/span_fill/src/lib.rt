@@ -1,0 +1,48 @@
+//! Which pixels polygons and lines have.
+//!
+//! # What is promised
+//!
+//! - The spans of a row hold a pixel exactly where it is inside of the polygons by an inequality of whole
+//!   numbers, for that pixel alone; they are sorted, at least one pixel apart and within the interval
+//!   (`RowBuf::next_fill`, `fill_row`, by `FillsRow`).
+//! - Where lines cross the next row is told as the quotient and the rest of the definition's own numbers
+//!   (`RowBuf::crossings`, by `crossings_of`).
+//! - Within its room a row buffer wants no memory, and after a refusal it is what it was (`RowBuf::reserve`).
+//! - A line's pixels within a region are given in order, each once, and no other (`Steps::new`, `Steps::next`).
+//! - A line has one pixel for each step along its longer axis (`line_law`).
+#![tactic(auto)]
+
+mod active_edges;
+mod axes;
+mod clip;
+mod course;
+mod crossing;
+mod crossing_moves;
+mod division;
+mod edge;
+mod edge_list;
+mod edge_start;
+mod fill_rule;
+mod insertion;
+mod laws;
+mod line;
+mod outline;
+mod pixel;
+mod product;
+mod row_buf;
+mod row_error;
+mod span;
+mod steps;
+mod sweep;
+mod walk;
+
+pub use crossing::Crossing;
+pub use fill_rule::FillRule;
+pub use laws::line_law;
+pub use line::Line;
+pub use outline::Outline;
+pub use pixel::Pixel;
+pub use row_buf::RowBuf;
+pub use row_error::OutOfMemory;
+pub use span::{Region, Span};
+pub use steps::Steps;

@@ -1,0 +1,8 @@
+//! A pixel.
+
+/// The pixel in column `x` of row `y`, both from 0.
+#[derive(Clone, Copy, Debug, PartialEq, Eq)]
+pub struct Pixel {
+    pub x: u32,
+    pub y: u32,
+}

@@ -1,0 +1,227 @@
+//! A buffer that gives the spans of an outline's rows, one row after another.
+
+ghost use Rattle.std.specs.Prelude.{◌≡◌, ◌+◌, ◌<◌, ◌≤◌, ◌^◌, [], length, OnOk, OnErr, vec_capacity};
+ghost use Rattle.std.specs.List.Sorted.{IsPermutation};
+ghost use Rattle.span_fill.specs.Crossings.{crossings_of};
+ghost use Rattle.span_fill.specs.RowState.{BeginsFill, DiffersInRoom, FillsRow, GoesOn, IsFillingWork, filling, idle};
+
+use crate::active_edges::{admit, advance, sort_edges, tell};
+use crate::crossing::Crossing;
+use crate::edge::{ActiveEdge, Edge};
+use crate::edge_list::collect_edges;
+use crate::fill_rule::FillRule;
+use crate::insertion::sort_active;
+use crate::line::Line;
+use crate::outline::{Outline, copy_lines};
+use crate::row_error::OutOfMemory;
+use crate::span::Span;
+use crate::sweep::sweep;
+use std::alloc::Global;
+use std::marker::Model;
+
+/// What is done with the lines.
+#[derive(Clone, Copy, Debug)]
+enum Work {
+    Idle,
+    Filling,
+    Stroking,
+}
+
+/// The lines of an outline, and the spans that they give row by row: of the pixels inside.
+///
+/// Each line is divided once, at the row where it begins; from there on its crossing moves by additions.
+///
+/// # Guarantees
+///
+/// - Within its room no call but `reserve` wants memory.
+#[derive(Debug, Drop)]
+pub struct RowBuf {
+    lines: Vec<Line>,
+    /// The edges that end behind the first row, in the order of the rows where they begin.
+    edges: Vec<Edge>,
+    /// How many of them have begun.
+    begun: usize,
+    /// Those that cross the next row, in the order of the columns where they do.
+    active: Vec<ActiveEdge>,
+    crossings: Vec<Crossing>,
+    spans: Vec<Span>,
+    work: Work,
+    rule: FillRule,
+    next: u32,
+    room: usize,
+}
+
+impl Model for RowBuf {
+    ghost use Rattle.span_fill.specs.RowState.{RowState};
+
+    ghost Value = { RowState };
+
+    ghost use Rattle.span_fill.specs.RowFields.{row_state, IsRowBuf};
+
+    ghost view = { row_state };
+
+    ghost invariant = { IsRowBuf };
+}
+
+impl RowBuf {
+    /// A buffer with nothing begun and room for no line. It takes no memory yet.
+    pub fn new(alloc: Global) -> RowBuf
+        ensures lines { result.lines ≡ [] }
+        ensures work { result.work ≡ idle }
+        ensures spans { result.spans ≡ [] }
+        ensures room { result.room ≡ 0 }
+    {
+        RowBuf {
+            lines: Vec::new(alloc),
+            edges: Vec::new(alloc),
+            begun: 0,
+            active: Vec::new(alloc),
+            crossings: Vec::new(alloc),
+            spans: Vec::new(alloc),
+            work: Work::Idle,
+            rule: FillRule::EvenOdd,
+            next: 0,
+            room: 0,
+        }
+    }
+
+    /// Memory for outlines of so many lines, at most 2^20: `OutOfMemory` where it was refused, and then
+    /// the buffer is what it was.
+    pub fn reserve(&mut self, lines: usize) -> Result<(), OutOfMemory>
+        requires { lines ≤ 2 ^ 20 }
+        ensures ok { OnOk result (lines ≤ self.new.room) }
+        ensures err { OnErr result (self.old.room < lines) }
+        ensures unchanged { OnErr result (self.new ≡ self.old) }
+        ensures same { DiffersInRoom self.old self.new }
+        ensures kept { self.old.room ≤ self.new.room }
+    {
+        if lines <= self.room {
+            return Ok(());
+        }
+        grow(&mut self.lines, lines)?;
+        grow(&mut self.edges, lines)?;
+        grow(&mut self.active, lines)?;
+        grow(&mut self.crossings, lines)?;
+        grow(&mut self.spans, lines + 2)?;
+        self.room = lines;
+        Ok(())
+    }
+
+    /// Begins with the pixels inside of the outline, at row `y`. All lines of the outline are taken.
+    pub fn begin_fill<O: Outline>(&mut self, outline: &mut O, rule: FillRule, y: u32)
+        requires count { length (O.lines outline.old) ≤ self.old.room }
+        requires row { y ≤ 8192 }
+        ensures { BeginsFill rule (O.lines outline.old) y self.old.room self.new }
+    {
+        copy_lines(outline, &mut self.lines);
+        self.spans.clear();
+        self.work = Work::Filling;
+        self.rule = rule;
+        self.next = y;
+        collect_edges(&mut self.edges, self.lines.as_slice(), y);
+        sort_edges(&mut self.edges);
+        self.active.clear();
+        self.begun = admit(&mut self.active, self.edges.as_slice(), 0, y);
+        sort_active(&mut self.active);
+        tell(&mut self.crossings, self.active.as_slice());
+    }
+
+    /// The spans of the next row within the interval.
+    pub fn next_fill(&mut self, interval: Span)
+        requires filling { IsFillingWork self.old.work }
+        requires next { self.old.next < 8192 }
+        requires interval { interval.to ≤ 8192 }
+        ensures spans { FillsRow self.old.work self.old.lines self.old.next interval self.new.spans }
+        ensures next { self.new.next ≡ self.old.next + 1 }
+        ensures same { GoesOn self.old self.new }
+    {
+        self.sweep_row(interval);
+        self.step();
+    }
+
+    /// The spans of one row: a begin and its first row.
+    pub fn fill_row<O: Outline>(&mut self, outline: &mut O, rule: FillRule, y: u32, interval: Span)
+        requires count { length (O.lines outline.old) ≤ self.old.room }
+        requires row { y < 8192 }
+        requires interval { interval.to ≤ 8192 }
+        ensures work { self.new.work ≡ filling rule }
+        ensures lines { self.new.lines ≡ O.lines outline.old }
+        ensures spans { FillsRow (filling rule) (O.lines outline.old) y interval self.new.spans }
+        ensures next { self.new.next ≡ y + 1 }
+        ensures room { self.new.room ≡ self.old.room }
+    {
+        self.begin_fill(outline, rule, y);
+        self.next_fill(interval);
+    }
+
+    /// The spans of the row before the next, in order, at least one pixel apart.
+    pub fn spans(&self) -> &[Span]
+        ensures { result.now ≡ self.now.spans }
+    {
+        self.spans.as_slice()
+    }
+
+    /// Where the lines cross the middle of the next row: each line once that has it between its ends, and
+    /// no other, in no order.
+    pub fn crossings(&self) -> &[Crossing]
+        requires { IsFillingWork self.now.work }
+        ensures { IsPermutation result.now (crossings_of self.now.lines self.now.next) }
+    {
+        self.crossings.as_slice()
+    }
+
+    /// The spans of the next row within the interval, which stays the next.
+    fn sweep_row(&mut self, interval: Span)
+        requires filling { IsFillingWork self.old.work }
+        requires interval { interval.to ≤ 8192 }
+        ensures spans { FillsRow self.old.work self.old.lines self.old.next interval self.new.spans }
+        ensures next { self.new.next ≡ self.old.next }
+        ensures same { GoesOn self.old self.new }
+    {
+        self.spans.clear();
+        if self.active.is_empty() {
+            return;
+        }
+        if interval.from < interval.to {
+            sweep(self.rule, self.active.as_slice(), interval, &mut self.spans);
+        }
+    }
+
+    /// On to the next row.
+    fn step(&mut self)
+        requires filling { IsFillingWork self.old.work }
+        requires next { self.old.next < 8192 }
+        ensures spans { self.new.spans ≡ self.old.spans }
+        ensures next { self.new.next ≡ self.old.next + 1 }
+        ensures same { GoesOn self.old self.new }
+    {
+        self.next += 1;
+        advance(&mut self.active, self.next);
+        self.begun = admit(
+            &mut self.active,
+            self.edges.as_slice(),
+            self.begun,
+            self.next,
+        );
+        sort_active(&mut self.active);
+        tell(&mut self.crossings, self.active.as_slice());
+    }
+}
+
+/// Memory for so many elements.
+fn grow<T>(elements: &mut Vec<T>, count: usize) -> Result<(), OutOfMemory>
+    requires { count ≤ 2 ^ 21 }
+    ensures ok { OnOk result (count ≤ vec_capacity elements.new) }
+    ensures items { elements.new.items ≡ elements.old.items }
+    ensures kept { vec_capacity elements.old ≤ vec_capacity elements.new }
+{
+    let there = elements.len();
+    if there < count {
+        match elements.reserve(count - there) {
+            Ok(()) => Ok(()),
+            Err(_) => Err(OutOfMemory),
+        }
+    } else {
+        Ok(())
+    }
+}

@@ -1,0 +1,91 @@
+//! A row's spans from the edges that cross it.
+
+ghost use Rattle.std.specs.Prelude.{◌≡◌, ◌+◌, ◌≤◌, ◌<◌, ◌^◌, ◌++◌, length, max, min, if◌then◌else◌, vec_len, vec_capacity};
+ghost use Rattle.span_fill.specs.Fill.{is_inside};
+ghost use Rattle.span_fill.specs.Sweep.{is_part, longer_run, ended_spans, run_spans, swept};
+
+use crate::edge::ActiveEdge;
+use crate::fill_rule::FillRule;
+use crate::span::Span;
+
+/// The spans of a row within the interval, behind those that are there: from one edge to the next, in the
+/// order of their columns, with the count of those to the left.
+pub(crate) fn sweep(rule: FillRule, edges: &[ActiveEdge], interval: Span, spans: &mut Vec<Span>)
+    requires count { length edges.now ≤ 2 ^ 20 }
+    requires room { vec_len spans.old + length edges.now + 2 ≤ vec_capacity spans.old }
+    ensures spans { spans.new.items
+        ≡ spans.old.items
+        ++ swept rule interval.to edges.now interval.from 0 0 (record { from = interval.from; to = interval.from }) }
+    ensures room { vec_capacity spans.new ≡ vec_capacity spans.old }
+{
+    let mut at = interval.from;
+    let mut run = Span { from: at, to: at };
+    let mut downs: u32 = 0;
+    let mut ups: u32 = 0;
+    for edge in edges {
+        let column = column_behind(at, edge.column, interval.to);
+        run = put_part(spans, run, at, column, is_inside_at(rule, downs, ups));
+        at = column;
+        downs = counted(downs, edge.is_down);
+        ups = counted(ups, !edge.is_down);
+    }
+    run = put_part(spans, run, at, interval.to, is_inside_at(rule, downs, ups));
+    put_run(spans, run);
+}
+
+/// The column within the rest of the interval.
+fn column_behind(at: u32, column: u32, end: u32) -> u32
+    ensures { result ≡ max at (min column end) }
+{
+    at.max(column.min(end))
+}
+
+/// One more where the edge counts.
+fn counted(count: u32, counts: bool) -> u32
+    requires { count < 2 ^ 20 }
+    ensures { result ≡ count + (if counts then 1 else 0) }
+{
+    count + u32::from(counts)
+}
+
+/// Whether a pixel with so many edges to its left is inside.
+fn is_inside_at(rule: FillRule, downs: u32, ups: u32) -> bool
+    requires { downs + ups < 2 ^ 32 }
+    ensures { result ≡ is_inside rule downs ups }
+{
+    match rule {
+        FillRule::EvenOdd => (downs + ups) % 2 == 1,
+        FillRule::NonZero => downs != ups,
+    }
+}
+
+/// The run with the columns from `from` up to before `to`, if they are inside. A run that they don't
+/// adjoin is a span.
+fn put_part(spans: &mut Vec<Span>, run: Span, from: u32, to: u32, inside: bool) -> Span
+    requires { vec_len spans.old < vec_capacity spans.old }
+    ensures run { result ≡ longer_run inside run from to }
+    ensures spans { spans.new.items ≡ spans.old.items ++ ended_spans inside run from to }
+    ensures length { vec_len spans.new ≤ vec_len spans.old + 1 }
+    ensures room { vec_capacity spans.new ≡ vec_capacity spans.old }
+{
+    if !inside || from >= to {
+        return run;
+    }
+    if run.to == from {
+        return Span { from: run.from, to };
+    }
+    put_run(spans, run);
+    Span { from, to }
+}
+
+/// The run is a span, if it has columns.
+fn put_run(spans: &mut Vec<Span>, run: Span)
+    requires { vec_len spans.old < vec_capacity spans.old }
+    ensures spans { spans.new.items ≡ spans.old.items ++ run_spans run }
+    ensures length { vec_len spans.new ≤ vec_len spans.old + 1 }
+    ensures room { vec_capacity spans.new ≡ vec_capacity spans.old }
+{
+    if run.from < run.to {
+        spans.push_reserved(run);
+    }
+}
