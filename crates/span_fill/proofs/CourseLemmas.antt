@@ -35,7 +35,7 @@ offset_from long short step dividend across rest some low high is whole not_nega
     }
 
 -- a near coordinate, in plain numbers
-near_place : (v : ℤ) → IsNear v → IsPlace v
+pub near_place : (v : ℤ) → IsNear v → IsPlace v
 unfolding place_limit
 near_place v h = let low = h.low in let high = h.high in record { low = omega (arith, ints, low); high = omega (arith, ints, high) }
 

@@ -1,5 +1,17 @@
 pub mod Products
 pub mod FloorLemmas
+pub mod StepLemmas
+pub mod LineLaw
+pub mod WalkLemmas
+pub mod CourseLemmas
+pub mod ClipLemmas
+pub mod StepsLemmas
+pub mod WorkedLines
+pub mod CutLemmas
+pub mod StripLemmas
+pub mod HullLemmas
+pub mod StripExact
+pub mod StrokeLemmas
 pub mod SweepLemmas
 pub mod EdgeLemmas
 pub mod Reordering
@@ -8,10 +20,6 @@ pub mod FillLemmas
 pub mod RowLemmas
 mod WorkedFills
 pub mod InsertionLemmas
-pub mod StepLemmas
-pub mod LineLaw
-pub mod WalkLemmas
-pub mod CourseLemmas
-pub mod ClipLemmas
-pub mod StepsLemmas
-pub mod WorkedLines
+pub mod JoiningLemmas
+pub mod StrokingLemmas
+pub mod StripStart

@@ -10,16 +10,16 @@ use Rattle.span_fill.specs.declared.edge.ActiveEdge.{ActiveEdge}
 use Rattle.span_fill.specs.declared.fill_rule.FillRule.{FillRule}
 use Rattle.span_fill.specs.declared.span.Span.{Span}
 
-in_spans-append : (xs ys : List Span) (x : ℕ) → in_spans (xs ++ ys) x ≡ (in_spans xs x || in_spans ys x)
+pub in_spans-append : (xs ys : List Span) (x : ℕ) → in_spans (xs ++ ys) x ≡ (in_spans xs x || in_spans ys x)
 in_spans-append [] ys x = refl
 in_spans-append (s ∷ xs) ys x = let e = in_spans-append xs ys x in grind (arith, e)
 
 -- a run as a list has what it has
-in_run : (run : Span) (x : ℕ) → in_spans (run_spans run) x ≡ in_span run x
+pub in_run : (run : Span) (x : ℕ) → in_spans (run_spans run) x ≡ in_span run x
 in_run run x = grind (arith, nat_tests)
 
 -- what columns end, and the run after them, have what the run had, and the columns if they are inside
-in_part : (inside : Bool) (run : Span) (from to x : ℕ) → run.from ≤ run.to → run.to ≤ from → (in_spans (ended_spans inside run from to) x || in_span (longer_run inside run from to) x) ≡ (in_span run x || (is_part inside from to && (nat_le from x && nat_lt x to)))
+pub in_part : (inside : Bool) (run : Span) (from to x : ℕ) → run.from ≤ run.to → run.to ≤ from → (in_spans (ended_spans inside run from to) x || in_span (longer_run inside run from to) x) ≡ (in_span run x || (is_part inside from to && (nat_le from x && nat_lt x to)))
 in_part inside run from to x h k = grind (arith, nat_tests)
 
 -- behind the last edge, all columns up to the end are inside or none is
@@ -30,7 +30,7 @@ last_part inside run at end x h k l =
     let e = in_part inside run at end x h k in
     a ∙ ap (λ t. in_spans (ended_spans inside run at end) x || t) b ∙ e ∙ grind (arith, nat_tests)
 
-regroup : (p q r : Bool) → (p || (q || r)) ≡ ((p || q) || r)
+pub regroup : (p q r : Bool) → (p || (q || r)) ≡ ((p || q) || r)
 regroup true q r = refl
 regroup false q r = refl
 
@@ -53,7 +53,7 @@ next_part inside later whole run at column x others h k l rest before behind =
     a ∙ ap (λ t. in_spans (ended_spans inside run at column) x || t) rest ∙ regroup (in_spans (ended_spans inside run at column) x) (in_span (longer_run inside run at column) x) (nat_le column x && later) ∙ ap (λ t. t || (nat_le column x && later)) e ∙ split_at inside later whole run at column x k l before behind
 
 -- a run stays in order, and within what is behind it
-longer_order : (inside : Bool) (run : Span) (from to : ℕ) → run.from ≤ run.to → run.to ≤ from → from ≤ to → ((longer_run inside run from to).from ≤ (longer_run inside run from to).to) × ((longer_run inside run from to).to ≤ to)
+pub longer_order : (inside : Bool) (run : Span) (from to : ℕ) → run.from ≤ run.to → run.to ≤ from → from ≤ to → ((longer_run inside run from to).from ≤ (longer_run inside run from to).to) × ((longer_run inside run from to).to ≤ to)
 longer_order inside run from to h k l = (grind (arith, nat_tests), grind (arith, nat_tests))
 
 -- no edge crosses before its column
@@ -97,7 +97,7 @@ run_apart run first end spans h k l a =
       | inr g ↦ let t : nat_lt run.from run.to ≡ false = le-ltb _ _ g in rw t (apart_lower run.from first end spans (omega arith) a)
     ]
 
-part_apart : (inside : Bool) (run : Span) (from to end : ℕ) (others : List Span) → run.from ≤ run.to → run.to ≤ from → from ≤ to → to ≤ end → AreApart (longer_run inside run from to).from end others → AreApart run.from end (ended_spans inside run from to ++ others)
+pub part_apart : (inside : Bool) (run : Span) (from to end : ℕ) (others : List Span) → run.from ≤ run.to → run.to ≤ from → from ≤ to → to ≤ end → AreApart (longer_run inside run from to).from end others → AreApart run.from end (ended_spans inside run from to ++ others)
 part_apart inside run from to end others h k l m a =
     elim (cases_Bool (is_part inside from to)) [
       | inr p ↦ rw p (rw p at a)
@@ -107,7 +107,7 @@ part_apart inside run from to end others h k l m a =
       ]
     ]
 
-last_apart : (run : Span) (end : ℕ) → run.from ≤ run.to → run.to ≤ end → AreApart run.from end (run_spans run)
+pub last_apart : (run : Span) (end : ℕ) → run.from ≤ run.to → run.to ≤ end → AreApart run.from end (run_spans run)
 last_apart run end h k =
     elim (cases_lt run.from run.to) [
       | inl g ↦ let t : nat_lt run.from run.to ≡ true = lt-ltb _ _ g in rw t (omega arith, g, k, tt)

@@ -1,10 +1,12 @@
 -- What is true of the fields of every row buffer.
-use Rattle.std.specs.Prelude.{◌≡◌, ℕ, ◌+◌, ◌-◌, ◌^◌, ◌≤◌, List, drop, length, map, filter, vec_capacity}
+use Rattle.std.specs.Prelude.{◌≡◌, ℕ, ◌+◌, ◌-◌, ◌^◌, ◌<◌, ◌≤◌, ℤ, List, drop, length, map, filter, vec_capacity}
 use Rattle.std.specs.List.{All}
 use Rattle.std.specs.List.Sorted.{IsNonDecreasingBy, IsPermutation}
 use Rattle.span_fill.specs.Edges.{IsEdge, active_edges, begins_behind, crossing_of, edges_from, first_row}
 use Rattle.span_fill.specs.Lines.{HasNearEnds}
-use Rattle.span_fill.specs.RowState.{IsFillingWork, RowState, RowWork, filling, idle, stroking}
+use Rattle.span_fill.specs.RowState.{IsFillingWork, IsStrokingWork, RowState, RowWork, filling, idle, stroking}
+use Rattle.span_fill.specs.StrokeRows.{lines_have}
+use Rattle.span_fill.specs.Stroking.{AreStrokes, HasStrokeRoom, stroke_count, strokes_have}
 use Rattle.span_fill.specs.declared.crossing.Crossing.{Crossing}
 use Rattle.span_fill.specs.declared.edge.ActiveEdge.{ActiveEdge}
 use Rattle.span_fill.specs.declared.edge.Edge.{Edge}
@@ -12,6 +14,7 @@ use Rattle.span_fill.specs.declared.fill_rule.FillRule.{FillRule}
 use Rattle.span_fill.specs.declared.line.Line.{Line}
 use Rattle.span_fill.specs.declared.row_buf.RowBuf.TheInside.{Inside}
 use Rattle.span_fill.specs.declared.row_buf.Work.{Work}
+use Rattle.span_fill.specs.declared.strokes.Strokes.{Strokes}
 use Rattle.span_fill.specs.declared.row_buf.Work.TheVariants.{Filling, Idle, Stroking}
 
 -- the work, with its rule
@@ -32,6 +35,7 @@ pub record HasRoom (a : Inside) : Type 0 where
   pub active : a.room ≤ vec_capacity a.active
   pub crossings : a.room ≤ vec_capacity a.crossings
   pub spans : 1 ≤ a.room → a.room + 2 ≤ vec_capacity a.spans
+  pub strokes : HasStrokeRoom a.room a.strokes
 
 -- the edges of the lines: those that cross row y, in the order of their columns, and those that wait, in the order of their rows
 pub record IsFilling (lines : List Line) (y room : ℕ) (edges : List Edge) (begun : ℕ) (active : List ActiveEdge) (crossings : List Crossing) : Type 0 where
@@ -45,9 +49,17 @@ pub record IsFilling (lines : List Line) (y room : ℕ) (edges : List Edge) (beg
   pub count : length active + (length edges - begun) ≤ room
   pub told : crossings ≡ map crossing_of active
 
--- the buffer has memory for its lines, and its edges are where its work is
+-- the strips of the lines: those that have row y, and those that wait; their pixels are the lines' in the rows to come
+pub record IsStroking (lines : List Line) (y room : ℕ) (strokes : Strokes) : Type 0 where
+  pub row : y ≤ 8192
+  pub are : AreStrokes y strokes
+  pub have : (x : ℤ) (n : ℕ) → y ≤ n → n < 8192 → strokes_have strokes x n ≡ lines_have lines x n
+  pub count : stroke_count strokes ≤ room
+
+-- the buffer has memory for its lines, and its edges or strips are where its work is
 pub record IsRowBuf (a : Inside) : Type 0 where
   pub room : HasRoom a
   pub count : length a.lines.items ≤ a.room
   pub near : All HasNearEnds a.lines.items
   pub filling : IsFillingWork (row_work a.work a.rule) → IsFilling a.lines.items a.next a.room a.edges.items a.begun a.active.items a.crossings.items
+  pub stroking : IsStrokingWork (row_work a.work a.rule) → IsStroking a.lines.items a.next a.room a.strokes

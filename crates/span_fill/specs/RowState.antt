@@ -2,6 +2,7 @@
 use Rattle.std.specs.Prelude.{◌≡◌, ℕ, List, []}
 use Rattle.span_fill.specs.Fill.{in_fill}
 use Rattle.span_fill.specs.Spans.{AreRow}
+use Rattle.span_fill.specs.Strokes.{in_stroke}
 use Rattle.span_fill.specs.declared.fill_rule.FillRule.{FillRule}
 use Rattle.span_fill.specs.declared.line.Line.{Line}
 use Rattle.span_fill.specs.declared.span.Span.{Span}
@@ -26,11 +27,17 @@ IsFillingWork idle = ⊥
 IsFillingWork (filling rule) = Unit {0}
 IsFillingWork stroking = ⊥
 
+-- the lines themselves are being drawn
+abbrev pub IsStrokingWork : RowWork → Type 0
+IsStrokingWork idle = ⊥
+IsStrokingWork (filling rule) = ⊥
+IsStrokingWork stroking = Unit {0}
+
 -- the spans are what the row has within the interval
 abbrev pub FillsRow : RowWork → List Line → ℕ → Span → List Span → Type 0
 FillsRow idle lines y interval spans = ⊥
 FillsRow (filling rule) lines y interval spans = AreRow (λ x. in_fill rule lines x y) interval spans
-FillsRow stroking lines y interval spans = ⊥
+FillsRow stroking lines y interval spans = AreRow (λ x. in_stroke lines x y) interval spans
 
 -- the buffer goes on with its work
 pub record GoesOn (old new : RowState) : Type 0 where
@@ -49,6 +56,14 @@ pub record DiffersInRoom (old new : RowState) : Type 0 where
 pub record BeginsFill (rule : FillRule) (given : List Line) (y size : ℕ) (new : RowState) : Type 0 where
   pub lines : new.lines ≡ given
   pub work : new.work ≡ filling rule
+  pub next : new.next ≡ y
+  pub spans : new.spans ≡ []
+  pub room : new.room ≡ size
+
+-- the drawing of these lines begins at row y
+pub record BeginsStroke (given : List Line) (y size : ℕ) (new : RowState) : Type 0 where
+  pub lines : new.lines ≡ given
+  pub work : new.work ≡ stroking
   pub next : new.next ≡ y
   pub spans : new.spans ≡ []
   pub room : new.room ≡ size

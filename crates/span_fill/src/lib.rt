@@ -5,6 +5,7 @@
 //! - The spans of a row hold a pixel exactly where it is inside of the polygons by an inequality of whole
 //!   numbers, for that pixel alone; they are sorted, at least one pixel apart and within the interval
 //!   (`RowBuf::next_fill`, `fill_row`, by `FillsRow`).
+//! - So do those of a row of lines, where one of the lines has the pixel (`RowBuf::next_stroke`, `stroke_row`).
 //! - Where lines cross the next row is told as the quotient and the rest of the definition's own numbers
 //!   (`RowBuf::crossings`, by `crossings_of`).
 //! - Within its room a row buffer wants no memory, and after a refusal it is what it was (`RowBuf::reserve`).
@@ -14,25 +15,33 @@
 
 mod active_edges;
 mod axes;
+mod bounds;
 mod clip;
 mod course;
 mod crossing;
 mod crossing_moves;
+mod cut;
 mod division;
 mod edge;
 mod edge_list;
 mod edge_start;
 mod fill_rule;
 mod insertion;
+mod joining;
 mod laws;
 mod line;
+mod memory;
 mod outline;
 mod pixel;
 mod product;
 mod row_buf;
 mod row_error;
+mod slant;
 mod span;
 mod steps;
+mod strip;
+mod stroke_rows;
+mod strokes;
 mod sweep;
 mod walk;
 

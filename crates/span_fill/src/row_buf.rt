@@ -3,7 +3,7 @@
 ghost use Rattle.std.specs.Prelude.{◌≡◌, ◌+◌, ◌<◌, ◌≤◌, ◌^◌, [], length, OnOk, OnErr, vec_capacity};
 ghost use Rattle.std.specs.List.Sorted.{IsPermutation};
 ghost use Rattle.span_fill.specs.Crossings.{crossings_of};
-ghost use Rattle.span_fill.specs.RowState.{BeginsFill, DiffersInRoom, FillsRow, GoesOn, IsFillingWork, filling, idle};
+ghost use Rattle.span_fill.specs.RowState.{BeginsFill, BeginsStroke, DiffersInRoom, FillsRow, GoesOn, IsFillingWork, IsStrokingWork, filling, idle, stroking};
 
 use crate::active_edges::{admit, advance, sort_edges, tell};
 use crate::crossing::Crossing;
@@ -12,9 +12,11 @@ use crate::edge_list::collect_edges;
 use crate::fill_rule::FillRule;
 use crate::insertion::sort_active;
 use crate::line::Line;
+use crate::memory::grow;
 use crate::outline::{Outline, copy_lines};
 use crate::row_error::OutOfMemory;
 use crate::span::Span;
+use crate::strokes::Strokes;
 use crate::sweep::sweep;
 use std::alloc::Global;
 use std::marker::Model;
@@ -27,7 +29,7 @@ enum Work {
     Stroking,
 }
 
-/// The lines of an outline, and the spans that they give row by row: of the pixels inside.
+/// The lines of an outline, and the spans that they give row by row: of the pixels inside, or of their own.
 ///
 /// Each line is divided once, at the row where it begins; from there on its crossing moves by additions.
 ///
@@ -45,6 +47,8 @@ pub struct RowBuf {
     active: Vec<ActiveEdge>,
     crossings: Vec<Crossing>,
     spans: Vec<Span>,
+    /// The lines themselves.
+    strokes: Strokes,
     work: Work,
     rule: FillRule,
     next: u32,
@@ -78,6 +82,7 @@ impl RowBuf {
             active: Vec::new(alloc),
             crossings: Vec::new(alloc),
             spans: Vec::new(alloc),
+            strokes: Strokes::new(alloc),
             work: Work::Idle,
             rule: FillRule::EvenOdd,
             next: 0,
@@ -103,6 +108,7 @@ impl RowBuf {
         grow(&mut self.active, lines)?;
         grow(&mut self.crossings, lines)?;
         grow(&mut self.spans, lines + 2)?;
+        self.strokes.reserve(lines)?;
         self.room = lines;
         Ok(())
     }
@@ -152,6 +158,47 @@ impl RowBuf {
     {
         self.begin_fill(outline, rule, y);
         self.next_fill(interval);
+    }
+
+    /// Begins with the pixels of the outline's lines, at row `y`. All lines of the outline are taken.
+    pub fn begin_stroke<O: Outline>(&mut self, outline: &mut O, y: u32)
+        requires count { length (O.lines outline.old) ≤ self.old.room }
+        requires row { y ≤ 8192 }
+        ensures { BeginsStroke (O.lines outline.old) y self.old.room self.new }
+    {
+        copy_lines(outline, &mut self.lines);
+        self.spans.clear();
+        self.work = Work::Stroking;
+        self.next = y;
+        self.strokes.begin(self.lines.as_slice(), y);
+    }
+
+    /// The spans of the next row within the interval.
+    pub fn next_stroke(&mut self, interval: Span)
+        requires stroking { IsStrokingWork self.old.work }
+        requires next { self.old.next < 8192 }
+        requires interval { interval.to ≤ 8192 }
+        ensures spans { FillsRow self.old.work self.old.lines self.old.next interval self.new.spans }
+        ensures next { self.new.next ≡ self.old.next + 1 }
+        ensures same { GoesOn self.old self.new }
+    {
+        self.strokes.next_row(self.next, interval, &mut self.spans);
+        self.next += 1;
+    }
+
+    /// The spans of one row: a begin and its first row.
+    pub fn stroke_row<O: Outline>(&mut self, outline: &mut O, y: u32, interval: Span)
+        requires count { length (O.lines outline.old) ≤ self.old.room }
+        requires row { y < 8192 }
+        requires interval { interval.to ≤ 8192 }
+        ensures work { self.new.work ≡ stroking }
+        ensures lines { self.new.lines ≡ O.lines outline.old }
+        ensures spans { FillsRow stroking (O.lines outline.old) y interval self.new.spans }
+        ensures next { self.new.next ≡ y + 1 }
+        ensures room { self.new.room ≡ self.old.room }
+    {
+        self.begin_stroke(outline, y);
+        self.next_stroke(interval);
     }
 
     /// The spans of the row before the next, in order, at least one pixel apart.
@@ -205,23 +252,5 @@ impl RowBuf {
         );
         sort_active(&mut self.active);
         tell(&mut self.crossings, self.active.as_slice());
-    }
-}
-
-/// Memory for so many elements.
-fn grow<T>(elements: &mut Vec<T>, count: usize) -> Result<(), OutOfMemory>
-    requires { count ≤ 2 ^ 21 }
-    ensures ok { OnOk result (count ≤ vec_capacity elements.new) }
-    ensures items { elements.new.items ≡ elements.old.items }
-    ensures kept { vec_capacity elements.old ≤ vec_capacity elements.new }
-{
-    let there = elements.len();
-    if there < count {
-        match elements.reserve(count - there) {
-            Ok(()) => Ok(()),
-            Err(_) => Err(OutOfMemory),
-        }
-    } else {
-        Ok(())
     }
 }

@@ -61,7 +61,7 @@ fn is_inside_at(rule: FillRule, downs: u32, ups: u32) -> bool
 
 /// The run with the columns from `from` up to before `to`, if they are inside. A run that they don't
 /// adjoin is a span.
-fn put_part(spans: &mut Vec<Span>, run: Span, from: u32, to: u32, inside: bool) -> Span
+pub(crate) fn put_part(spans: &mut Vec<Span>, run: Span, from: u32, to: u32, inside: bool) -> Span
     requires { vec_len spans.old < vec_capacity spans.old }
     ensures run { result ≡ longer_run inside run from to }
     ensures spans { spans.new.items ≡ spans.old.items ++ ended_spans inside run from to }
@@ -79,7 +79,7 @@ fn put_part(spans: &mut Vec<Span>, run: Span, from: u32, to: u32, inside: bool) 
 }
 
 /// The run is a span, if it has columns.
-fn put_run(spans: &mut Vec<Span>, run: Span)
+pub(crate) fn put_run(spans: &mut Vec<Span>, run: Span)
     requires { vec_len spans.old < vec_capacity spans.old }
     ensures spans { spans.new.items ≡ spans.old.items ++ run_spans run }
     ensures length { vec_len spans.new ≤ vec_len spans.old + 1 }

@@ -32,10 +32,12 @@ invariant_of-self g c =
         active = omega arith;
         crossings = omega arith;
         spans = λ h. omega (arith, c.self.invariant.room.spans h);
+        strokes = c.self.invariant.room.strokes;
       };
       count = count;
       near = c.copy_lines.ensures.near;
       filling = λ h. filling_begins c.args.y c.self.inside.room c.copy_lines.new.lines.items c.collect_edges.new.edges.items c.sort_edges.new.edges.items c.admit-self-inside.result c.admit-self-inside.new.active.items c.sort_active.new.active.items c.tell.new.crossings.items c.copy_lines.ensures.near c.requires.row collected c.sort_edges.ensures.permutation c.sort_edges.ensures.sorted admitted left (omega (arith, edges, c.admit-self-inside.ensures.within)) c.sort_active.ensures.permutation c.sort_active.ensures.sorted (omega (arith, edges, count, given, c.admit-self-inside.ensures.length, c.collect_edges.ensures.length)) (c.tell.ensures.crossings ∙ ap (map crossing_of) c.as_slice-3.ensures.value);
+      stroking = λ h. absurd h;
     }
 
 pub sort_active-requires : goal.sort_active-requires

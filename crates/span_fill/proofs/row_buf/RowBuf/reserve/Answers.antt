@@ -1,6 +1,7 @@
 -- There is more room, and nothing else differs.
 use Rattle.std.proofs.Common.{arith}
 use Rattle.span_fill.proofs.RowLemmas.{filling_grows}
+use Rattle.span_fill.proofs.StrokingLemmas.{stroking_grows}
 use Rattle.span_fill.proofs.row_buf.RowBuf.reserve.Goals as goal
 
 pub invariant_of-self-2 : goal.invariant_of-self-2
@@ -18,8 +19,34 @@ invariant_of-self-2 c =
         active = active;
         crossings = crossings;
         spans = λ h. spans;
+        strokes = c.in_ok-reserve.ensures.ok;
       };
       count = rw c.grow.ensures.items (omega arith);
       near = rw c.grow.ensures.items c.self.invariant.near;
       filling = λ work. rw (c.grow.ensures.items, c.grow-2.ensures.items, c.grow-3.ensures.items, c.grow-4.ensures.items) (filling_grows c.self.inside.next c.self.inside.room c.args.lines c.self.inside.lines.items c.self.inside.edges.items c.self.inside.begun c.self.inside.active.items c.self.inside.crossings.items (omega arith) (c.self.invariant.filling work));
+      stroking = λ work. rw c.grow.ensures.items (stroking_grows c.self.inside.lines.items c.self.inside.next c.self.inside.room c.args.lines c.self.inside.strokes c.reserve.new.self (omega arith) c.reserve.ensures.strokes c.reserve.ensures.have c.reserve.ensures.count (c.self.invariant.stroking work));
+    }
+
+pub invariant_of-self-in_err-reserve : goal.invariant_of-self-in_err-reserve
+invariant_of-self-in_err-reserve c =
+    let there = c.self.invariant.room in
+    let lines_kept = c.grow.ensures.kept in
+    let edges_kept = c.grow-2.ensures.kept in
+    let active_kept = c.grow-3.ensures.kept in
+    let crossings_kept = c.grow-4.ensures.kept in
+    let spans_kept = c.grow-5.ensures.kept in
+    record {
+      room = record {
+        limit = there.limit;
+        lines = omega (arith, there.lines, lines_kept);
+        edges = omega (arith, there.edges, edges_kept);
+        active = omega (arith, there.active, active_kept);
+        crossings = omega (arith, there.crossings, crossings_kept);
+        spans = λ h. omega (arith, there.spans h, spans_kept);
+        strokes = c.reserve.ensures.kept c.self.inside.room there.strokes;
+      };
+      count = rw c.grow.ensures.items c.self.invariant.count;
+      near = rw c.grow.ensures.items c.self.invariant.near;
+      filling = λ work. rw (c.grow.ensures.items, c.grow-2.ensures.items, c.grow-3.ensures.items, c.grow-4.ensures.items) (c.self.invariant.filling work);
+      stroking = λ work. rw c.grow.ensures.items (stroking_grows c.self.inside.lines.items c.self.inside.next c.self.inside.room c.self.inside.room c.self.inside.strokes c.reserve.new.self (omega arith) c.reserve.ensures.strokes c.reserve.ensures.have c.reserve.ensures.count (c.self.invariant.stroking work));
     }

@@ -1,9 +1,12 @@
 -- The edges that cross the next row.
-use Rattle.std.proofs.Common.{◌+◌, ◌<◌, length, map, ap, subst, sym, ◌∙◌, arith, refl}
+use Rattle.std.proofs.Common.{◌+◌, ◌<◌, List, length, map, ap, subst, sym, ◌∙◌, arith, refl}
 use Rattle.span_fill.specs.RowState.{IsFillingWork, RowState}
-use Rattle.span_fill.specs.Edges.{crossing_of}
+use Rattle.span_fill.specs.Edges.{crossing_of, first_row}
+use Rattle.std.specs.List.Sorted.{IsNonDecreasingBy}
+use Rattle.span_fill.specs.declared.edge.Edge.{Edge}
 use Rattle.span_fill.proofs.FillLemmas.{all_can_move, edges_near}
 use Rattle.span_fill.proofs.RowLemmas.{filling_steps}
+use Rattle.span_fill.proofs.StrokingLemmas.{not_both}
 use Rattle.span_fill.proofs.row_buf.RowBuf.step.Goals as goal
 
 pub advance-requires : goal.advance-requires
@@ -23,6 +26,7 @@ invariant_of-self c =
         active = omega arith;
         crossings = omega arith;
         spans = c.self.invariant.room.spans;
+        strokes = c.self.invariant.room.strokes;
       };
       count = c.self.invariant.count;
       near = c.self.invariant.near;
@@ -32,6 +36,7 @@ invariant_of-self c =
           let left = rw c.as_slice.ensures.value at c.admit-self-inside.ensures.left in
           let edges = ap (λ xs. length xs) c.as_slice.ensures.value in
           filling_steps c.self.inside.next (c.self.inside.next + 1) c.self.inside.room c.self.inside.lines.items c.self.inside.edges.items c.self.inside.begun c.admit-self-inside.result c.self.inside.active.items c.advance.new.active.items c.admit-self-inside.new.active.items c.sort_active.new.active.items c.self.inside.crossings.items c.tell.new.crossings.items refl next c.self.invariant.near filling c.advance.ensures.edges admitted left (omega (arith, edges, c.admit-self-inside.ensures.within)) c.sort_active.ensures.permutation c.sort_active.ensures.sorted (omega (arith, edges, filling.count, c.admit-self-inside.ensures.length)) (c.tell.ensures.crossings ∙ ap (map crossing_of) c.as_slice-2.ensures.value);
+      stroking = λ h. absurd (not_both _ (subst (λ (s : RowState). IsFillingWork s.work) (sym c.self.view_is) c.requires.filling) h);
     }
 
 pub sort_active-requires : goal.sort_active-requires
@@ -40,3 +45,9 @@ sort_active-requires c =
     let filling = c.self.invariant.filling work in
     let edges = ap (λ xs. length xs) c.as_slice.ensures.value in
     omega (arith, edges, filling.count, c.advance.ensures.length, c.admit-self-inside.ensures.length, c.self.invariant.room.limit)
+
+pub admit-self-inside-requires-clause-sorted : goal.admit-self-inside-requires-clause-sorted
+admit-self-inside-requires-clause-sorted c =
+    let work = subst (λ (s : RowState). IsFillingWork s.work) (sym c.self.view_is) c.requires.filling in
+    let filling = c.self.invariant.filling work in
+    subst (λ (es : List Edge). IsNonDecreasingBy first_row es) (sym c.as_slice.ensures.value) filling.ordered

@@ -1,0 +1,8 @@
+-- The key is the closure's.
+use Rattle.std.proofs.Common.{rules}
+use Rattle.std.proofs.lemmas.List.Sorted.{IsNonDecreasingBy-from_sort_by_key}
+use Rattle.span_fill.proofs.joining.sort_parts.Goals as goal
+
+pub returns-clause-sorted : goal.returns-clause-sorted
+returns-clause-sorted c =
+    IsNonDecreasingBy-from_sort_by_key (λ part. part.from) _ c.sort_unstable_by_key.ensures.sorted (λ a r q k. search rules)

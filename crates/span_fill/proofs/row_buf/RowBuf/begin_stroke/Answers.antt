@@ -1,0 +1,34 @@
+-- The strips are those of the outline's lines.
+use Rattle.std.proofs.Common.{◌≡◌, ◌≤◌, length, ap, ◌∙◌, arith}
+use Rattle.span_fill.specs.RowState.{RowState}
+use Rattle.span_fill.specs.StrokeRows.{lines_have}
+use Rattle.span_fill.proofs.row_buf.RowBuf.begin_stroke.Goals as goal
+
+pub invariant_of-self : goal.invariant_of-self
+invariant_of-self g c =
+    let there = c.self.invariant.room in
+    let room : c.self.inside.room ≡ c.args.self.now.room = ap (λ (s : RowState). s.room) c.self.view_is in
+    let lines : length c.copy_lines.new.lines.items ≡ length (g.O.Outline.lines c.args.outline.now) = ap (λ xs. length xs) c.copy_lines.ensures.lines in
+    let asked : length (g.O.Outline.lines c.args.outline.now) ≤ c.args.self.now.room = c.requires.count in
+    let count : length c.copy_lines.new.lines.items ≤ c.self.inside.room = omega (arith, room, lines, asked) in
+    let given = ap (λ xs. length xs) c.as_slice.ensures.value in
+    record {
+      room = record {
+        limit = there.limit;
+        lines = omega (arith, there.lines, c.copy_lines.ensures.room);
+        edges = there.edges;
+        active = there.active;
+        crossings = there.crossings;
+        spans = λ h. omega (arith, there.spans h, c.clear.ensures.capacity);
+        strokes = c.begin.ensures.room c.self.inside.room there.strokes;
+      };
+      count = count;
+      near = c.copy_lines.ensures.near;
+      filling = λ h. absurd h;
+      stroking = λ h. record {
+        row = c.requires.row;
+        are = c.begin.ensures.strokes;
+        have = λ x n k m. c.begin.ensures.have x n k m ∙ ap (λ l. lines_have l x n) c.as_slice.ensures.value;
+        count = omega (arith, c.begin.ensures.count, given, count);
+      };
+    }

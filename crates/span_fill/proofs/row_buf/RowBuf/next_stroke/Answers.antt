@@ -1,0 +1,46 @@
+-- The strips' spans are the lines', and the strips go on to the next row.
+use Rattle.std.proofs.Common.{◌<◌, subst, sym, ◌∙◌, arith}
+use Rattle.span_fill.specs.RowState.{FillsRow, IsStrokingWork, RowState}
+use Rattle.span_fill.proofs.StrokingLemmas.{not_both, stroked}
+use Rattle.span_fill.proofs.row_buf.RowBuf.next_stroke.Goals as goal
+
+pub next_row-requires-clause-room : goal.next_row-requires-clause-room
+next_row-requires-clause-room c = λ some.
+    let work = subst (λ (s : RowState). IsStrokingWork s.work) (sym c.self.view_is) c.requires.stroking in
+    let strokes = c.self.invariant.stroking work in
+    let room = c.self.invariant.room.spans (omega (arith, some, strokes.count)) in
+    omega (arith, room, strokes.count)
+
+pub returns-clause-spans : goal.returns-clause-spans
+returns-clause-spans c =
+    let work = subst (λ (s : RowState). IsStrokingWork s.work) (sym c.self.view_is) c.requires.stroking in
+    let next : c.self.inside.next < 8192 = subst (λ (s : RowState). s.next < 8192) (sym c.self.view_is) c.requires.next in
+    subst (λ (s : RowState). FillsRow s.work s.lines s.next c.args.interval c.next_row.new.spans.items) c.self.view_is
+    (stroked c.self.inside.work c.self.inside.rule c.self.inside.next c.self.inside.room c.self.inside.lines.items c.self.inside.strokes c.args.interval c.next_row.new.spans.items work next c.requires.interval (c.self.invariant.stroking work) c.next_row.ensures.spans)
+
+pub invariant_of-self : goal.invariant_of-self
+invariant_of-self c =
+    let work = subst (λ (s : RowState). IsStrokingWork s.work) (sym c.self.view_is) c.requires.stroking in
+    let next : c.self.inside.next < 8192 = subst (λ (s : RowState). s.next < 8192) (sym c.self.view_is) c.requires.next in
+    let there = c.self.invariant.room in
+    let strokes = c.self.invariant.stroking work in
+    record {
+      room = record {
+        limit = there.limit;
+        lines = there.lines;
+        edges = there.edges;
+        active = there.active;
+        crossings = there.crossings;
+        spans = λ h. omega (arith, there.spans h, c.next_row.ensures.spans_room);
+        strokes = c.next_row.ensures.room c.self.inside.room there.strokes;
+      };
+      count = c.self.invariant.count;
+      near = c.self.invariant.near;
+      filling = λ h. absurd (not_both _ h work);
+      stroking = λ h. record {
+        row = omega (arith, next);
+        are = c.next_row.ensures.strokes;
+        have = λ x n k m. c.next_row.ensures.have x n (omega (arith, k)) m ∙ strokes.have x n (omega (arith, k)) m;
+        count = omega (arith, c.next_row.ensures.count, strokes.count);
+      };
+    }

@@ -1,0 +1,25 @@
+-- Columns of several lines, joined to spans.
+use Rattle.std.specs.Prelude.{ℕ, ◌≤◌, true, max, min, List, [], ◌∷◌, ◌++◌}
+use Rattle.span_fill.specs.Sweep.{ended_spans, longer_run, run_spans}
+use Rattle.span_fill.specs.declared.span.Span.{Span}
+
+-- a column, behind a run and within the rest of the interval
+abbrev pub column_behind : Span → ℕ → ℕ → ℕ
+column_behind run column end = max run.to (min column end)
+
+-- the spans of these columns and of a run before them that isn't ended yet
+abbrev pub joined : ℕ → List Span → Span → List Span
+joined end [] run = run_spans run
+joined end (part ∷ parts) run =
+    ended_spans true run (column_behind run part.from end) (column_behind run part.to end)
+    ++ joined end parts (longer_run true run (column_behind run part.from end) (column_behind run part.to end))
+
+-- none of the parts begins before this column
+abbrev pub AreFrom : ℕ → List Span → Type 0
+AreFrom column [] = Unit {0}
+AreFrom column (part ∷ parts) = (column ≤ part.from) × AreFrom column parts
+
+-- none begins before one that is in front of it
+abbrev pub AreInOrder : List Span → Type 0
+AreInOrder [] = Unit {0}
+AreInOrder (part ∷ parts) = AreFrom part.from parts × AreInOrder parts

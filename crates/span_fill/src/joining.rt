@@ -1,0 +1,64 @@
+//! Columns of several lines, joined to spans.
+
+ghost use Rattle.std.specs.Prelude.{◌≡◌, ◌+◌, ◌<◌, ◌≤◌, length, vec_len, vec_capacity};
+ghost use Rattle.std.specs.List.Sorted.{IsNonDecreasingBy, IsPermutation};
+ghost use Rattle.span_fill.specs.Joining.{column_behind, joined};
+ghost use Rattle.span_fill.specs.Spans.{AreRow, in_spans};
+
+use crate::span::Span;
+use crate::sweep::{put_part, put_run};
+
+/// The parts in the order of the columns where they begin.
+pub(crate) fn sort_parts(parts: &mut Vec<Span>)
+    ensures permutation { IsPermutation parts.old.items parts.new.items }
+    ensures sorted { IsNonDecreasingBy (λ part. part.from) parts.new.items }
+    ensures length { vec_len parts.new ≡ vec_len parts.old }
+    ensures room { vec_capacity parts.new ≡ vec_capacity parts.old }
+{
+    parts.sort_unstable_by_key(|part| part.from);
+}
+
+/// What the parts have of an interval, as spans that are at least one pixel apart, in place of those that
+/// are there.
+pub(crate) fn join_within(parts: &[Span], interval: Span, spans: &mut Vec<Span>)
+    requires sorted { IsNonDecreasingBy (λ part. part.from) parts.now }
+    requires room { 1 ≤ length parts.now → length parts.now + 1 ≤ vec_capacity spans.old }
+    ensures spans { AreRow (λ x. in_spans parts.now x) interval spans.new.items }
+    ensures room { vec_capacity spans.new ≡ vec_capacity spans.old }
+{
+    if interval.from >= interval.to {
+        spans.clear();
+        return;
+    }
+    if parts.is_empty() {
+        spans.clear();
+        return;
+    }
+    join(parts, interval, spans);
+}
+
+/// The same where there are parts, and the interval isn't empty.
+fn join(parts: &[Span], interval: Span, spans: &mut Vec<Span>)
+    requires room { length parts.now + 1 ≤ vec_capacity spans.old }
+    ensures spans { spans.new.items ≡ joined interval.to parts.now (record { from = interval.from; to = interval.from }) }
+    ensures room { vec_capacity spans.new ≡ vec_capacity spans.old }
+{
+    spans.clear();
+    let mut run = Span {
+        from: interval.from,
+        to: interval.from,
+    };
+    for part in parts {
+        let from = behind(run, part.from, interval.to);
+        let to = behind(run, part.to, interval.to);
+        run = put_part(spans, run, from, to, true);
+    }
+    put_run(spans, run);
+}
+
+/// A column, behind a run and within the rest of the interval.
+fn behind(run: Span, column: u32, end: u32) -> u32
+    ensures { result ≡ column_behind run column end }
+{
+    run.to.max(column.min(end))
+}
