@@ -5,21 +5,14 @@ import math
 import struct
 import sys
 
+from metafiles import placeable_file, wmf_record
+
 SIDE = 64
 
 
-def placeable(side):
-    """META_PLACEABLE with a square box, its last word the exclusive or of the words before it."""
-    words = struct.pack("<IHhhhhHI", 0x9AC6CDD7, 0, 0, 0, side, side, 96, 0)
-    checksum = 0
-    for (word,) in struct.iter_unpack("<H", words):
-        checksum ^= word
-    return words + struct.pack("<H", checksum)
-
-
 def set_pixel(x, y, red, green, blue):
-    """META_SETPIXEL: the size in words, the function, the colour, y and x."""
-    return struct.pack("<IHBBBBhh", 7, 0x041F, red, green, blue, 0, y, x)
+    """META_SETPIXEL: the colour, y and x."""
+    return wmf_record(0x041F, struct.pack("<BBBBhh", red, green, blue, 0, y, x))
 
 
 def colour(x, y):
@@ -33,15 +26,13 @@ def colour(x, y):
 
 
 def main():
-    records = b"".join(
+    records = [
         set_pixel(x, y, *colour(x, y))
         for y in range(SIDE)
         for x in range(SIDE)
         if colour(x, y)
-    )
-    records += struct.pack("<IH", 3, 0)
-    header = struct.pack("<HHHIHIH", 1, 9, 0x0300, 9 + len(records) // 2, 0, 7, 0)
-    sys.stdout.buffer.write(placeable(SIDE) + header + records)
+    ]
+    sys.stdout.buffer.write(placeable_file(SIDE, SIDE, records))
 
 
 if __name__ == "__main__":

@@ -31,6 +31,7 @@ from records_table import (
     wmf_pixel,
     wmf_record,
 )
+from shape_records import BETWEEN, EMF_SHAPES, WMF_SHAPES, wmf_box, wmf_point
 
 # The side of the frame and of the surface where a test tells no other: a point of the plane is then
 # a pixel.
@@ -74,7 +75,8 @@ class Form(NamedTuple):
         told = []
         for step in filter(None, map(str.strip, script.split(";"))):
             times, name, numbers = re.fullmatch(r"(?:(\d+)x )?([a-z_]+)(.*)", step).groups()
-            record = self.step(name, *(int(number, 0) for number in numbers.split()))
+            words = numbers.split()
+            record = self.step(name, *(word if word == BETWEEN else int(word, 0) for word in words))
             told += [record] * int(times or 1)
         return told
 
@@ -94,16 +96,6 @@ def wmf_object(parameters):
     return lambda index: parameters
 
 
-def wmf_point(x, y):
-    """A point, y first."""
-    return i16(y, x)
-
-
-def wmf_box(left, top, right, bottom):
-    """A box from its last edge to its first."""
-    return i16(bottom, right, top, left)
-
-
 def wmf_frame(records, frame, handles):
     """A placeable file whose box is a square at the origin; it counts no handles."""
     return placeable_file([*records, WMF_END], right=i16(frame), bottom=i16(frame))
@@ -113,6 +105,7 @@ WMF = Form(
     name="WMF",
     record=wmf_record,
     named={name: (number, wmf_object(rest)) for name, (number, rest) in WMF_OBJECTS.items()}
+    | WMF_SHAPES
     | {
         "select": (0x012D, u16),
         "delete": (0x01F0, u16),
@@ -173,6 +166,7 @@ EMF = Form(
     record=emf_record,
     named={name: (kind, emf_indexed(rest, 1)) for name, (kind, rest) in EMF_INDEXED.items()}
     | {f"{name}_at": (kind, emf_indexed(rest, 0)) for name, (kind, rest) in EMF_INDEXED.items()}
+    | EMF_SHAPES
     | {
         "save": (33, i32),
         "restore": (34, i32),

@@ -30,7 +30,7 @@ ACCEPTED = Behind((3, 3))
 # The pixel behind isn't drawn.
 HIDDEN = Behind(None)
 
-# Interim: lines, polygons, rectangles and paths are refused until they are played.
+# Interim: paths are refused until they are played.
 UNPLAYED = "Unsupported 0"
 
 
@@ -68,6 +68,8 @@ def joined(fields, changes):
 RED = (255, 0, 0)
 
 BLUE = (0, 0, 255)
+
+BLACK = (0, 0, 0)
 
 
 def colour(colour_type=0, rgb=RED):
@@ -344,8 +346,16 @@ def boxes(signed, held, beside):
     ]
 
 
+# A line from the page's origin to (2,1), and to (1,2): of its two pixels the second is as near to
+# (1,0), or (0,1), and the one farther down, or to the right, is taken. Its end is left out.
+LINE = {(0, 0): BLACK, (1, 1): BLACK}
+
+# A box from (3,2) down to the right has no other pixels on the surface, and these are on its rim.
+CORNER = {(3, 2): BLACK, (3, 3): BLACK}
+
+
 def points(signed, count):
-    """Points in their two numbers."""
+    """A point in its two numbers, again and again: lines between them have no pixel."""
     return signed(*[1, 2] * count)
 
 
@@ -357,7 +367,7 @@ def wmf_points():
         return {"count": u16(count), "points": points(i16, there)}
 
     return [
-        *[(counted(count, count), UNPLAYED) for count in (1, 3, 0x7FFF)],
+        *[(counted(count, count), {}) for count in (1, 3, 0x7FFF)],
         *[(counted(count, count - 1), "BadParams") for count in (1, 4, 0x4000, 0x7FFF)],
         *[(counted(count, 0), "BadParams") for count in (0x4000, 0x7FFF, 0x8000, 0xFFFF)],
         *[(counted(count, count), "BadParams") for count in (0x8000, 0xFFFF)],
@@ -375,8 +385,8 @@ def wmf_point_lists():
     good = [[0], [3], [1, 2], [0, 3, 0], [0xFFFF]]
     wrapping = [0xFFFF] * 0x4000 + [0x4000]
     return [
-        *[(parted(counts, sum(counts)), UNPLAYED) for counts in good],
-        (parted([0] * 0xFFFF, 0), UNPLAYED),
+        *[(parted(counts, sum(counts)), {}) for counts in good],
+        (parted([0] * 0xFFFF, 0), {}),
         *[(parted(counts, sum(counts) - 1), "BadParams") for counts in ([3], [1, 2], [0xFFFF])],
         (parted([0xFFFF, 1], 0), "BadParams"),
         (parted(wrapping, 0), "BadParams"),
@@ -385,8 +395,9 @@ def wmf_point_lists():
     ]
 
 
-def emf_points(signed):
-    """A count, and points behind it. A product of the count and a point's size may wrap at 2^32."""
+def emf_points(signed, outcome):
+    """A count, and points behind it, with what a list that has points leads to. A product of the
+    count and a point's size may wrap at 2^32."""
 
     def counted(count, there):
         """A count, and so many points."""
@@ -394,7 +405,7 @@ def emf_points(signed):
 
     wrap = (1 << 32) // len(points(signed, 1))
     return [
-        *[(counted(count, count), UNPLAYED) for count in (1, 3, 70000)],
+        *[(counted(count, count), outcome) for count in (1, 3, 70000)],
         *[(counted(count, count - 1), "BadParams") for count in (1, 4, 70000)],
         *[(counted(count, 1), "BadParams") for count in (0x10001, 1 << 31, (1 << 32) - 1)],
         (counted(wrap, 0), "BadParams"),
@@ -415,7 +426,7 @@ def emf_point_lists(signed):
     wrap = (1 << 32) // len(points(signed, 1))
     good = [[0], [3], [1, 2], [0, 3, 0], [0] * 70000, [70000]]
     return [
-        *[(parted(counts, sum(counts), sum(counts)), UNPLAYED) for counts in good],
+        *[(parted(counts, sum(counts), sum(counts)), {}) for counts in good],
         *[(parted(counts, 3, 3), "BadParams") for counts in ([], [2], [4], [1, 1], [1, 3])],
         *[(parted([1, 2], total, 4), "BadParams") for total in (2, 4)],
         (parted([1, 2], 3, 2), "BadParams"),
@@ -485,7 +496,7 @@ WMF_KINDS = [
     Kind(0x020E, "META_SETVIEWPORTEXT", Behind((2, 1)), {"y": i16(2), "x": i16(3)}, extents()),
     Kind(0x020F, "META_OFFSETWINDOWORG", Behind((1, 2)), POINT),
     Kind(0x0211, "META_OFFSETVIEWPORTORG", Behind((2, 1)), BACK),
-    Kind(0x0213, "META_LINETO", UNPLAYED, POINT),
+    Kind(0x0213, "META_LINETO", LINE, POINT),
     Kind(0x0214, "META_MOVETO", ACCEPTED, POINT),
     Kind(0x0234, "META_SELECTPALETTE", "NoSuchHandle", {"index": u16(0)}),
     Kind(
@@ -503,16 +514,16 @@ WMF_KINDS = [
         {"style": u16(0), "colour": colour(), "hatch": u16(0)},
         brushes(u16),
     ),
-    Kind(0x0324, "META_POLYGON", UNPLAYED, {"count": i16(0), "points": b""}, wmf_points()),
-    Kind(0x0325, "META_POLYLINE", UNPLAYED, {"count": i16(0), "points": b""}, wmf_points()),
+    Kind(0x0324, "META_POLYGON", {}, {"count": i16(0), "points": b""}, wmf_points()),
+    Kind(0x0325, "META_POLYLINE", {}, {"count": i16(0), "points": b""}, wmf_points()),
     Kind(0x0415, "META_EXCLUDECLIPRECT", HIDDEN, BOX, boxes(i16, HIDDEN, ACCEPTED)),
     Kind(0x0416, "META_INTERSECTCLIPRECT", ACCEPTED, BOX, boxes(i16, ACCEPTED, HIDDEN)),
-    Kind(0x041B, "META_RECTANGLE", UNPLAYED, BOX),
+    Kind(0x041B, "META_RECTANGLE", CORNER, BOX),
     Kind(0x041F, "META_SETPIXEL", {(2, 1): RED}, {"colour": colour()} | POINT, pixels(i16)),
     Kind(
         0x0538,
         "META_POLYPOLYGON",
-        UNPLAYED,
+        {},
         {"lists": u16(0), "counts": b"", "points": b""},
         wmf_point_lists(),
     ),
@@ -689,11 +700,11 @@ LONG_PEN = INDEX | {
 }
 
 EMF_KINDS = [
-    Kind(3, "EMR_POLYGON", UNPLAYED, ONE_LIST, emf_points(i32)),
-    Kind(4, "EMR_POLYLINE", UNPLAYED, ONE_LIST, emf_points(i32)),
-    Kind(6, "EMR_POLYLINETO", UNPLAYED, ONE_LIST, emf_points(i32)),
-    Kind(7, "EMR_POLYPOLYLINE", UNPLAYED, LISTS, emf_point_lists(i32)),
-    Kind(8, "EMR_POLYPOLYGON", UNPLAYED, LISTS, emf_point_lists(i32)),
+    Kind(3, "EMR_POLYGON", {}, ONE_LIST, emf_points(i32, {})),
+    Kind(4, "EMR_POLYLINE", {}, ONE_LIST, emf_points(i32, {})),
+    Kind(6, "EMR_POLYLINETO", {}, ONE_LIST, emf_points(i32, LINE)),
+    Kind(7, "EMR_POLYPOLYLINE", {}, LISTS, emf_point_lists(i32)),
+    Kind(8, "EMR_POLYPOLYGON", {}, LISTS, emf_point_lists(i32)),
     # In the mode that an EMF starts in, extents have no effect.
     Kind(9, "EMR_SETWINDOWEXTEX", ACCEPTED, LONG_POINT, long_extents()),
     Kind(10, "EMR_SETWINDOWORGEX", Behind((1, 2)), LONG_POINT),
@@ -747,10 +758,10 @@ EMF_KINDS = [
         [*brushes(u32), *created({"colour": PALETTE}, "PaletteColour")],
     ),
     Kind(40, "EMR_DELETEOBJECT", "NoSuchHandle", INDEX, selected([], [])),
-    Kind(43, "EMR_RECTANGLE", UNPLAYED, LONG_BOX),
+    Kind(43, "EMR_RECTANGLE", CORNER, LONG_BOX),
     Kind(48, "EMR_SELECTPALETTE", "NoSuchHandle", INDEX, selected([0xF], [0, 8, 0x13])),
     Kind(49, "EMR_CREATEPALETTE", ACCEPTED, INDEX, indexes()),
-    Kind(54, "EMR_LINETO", UNPLAYED, LONG_POINT),
+    Kind(54, "EMR_LINETO", LINE, LONG_POINT),
     Kind(59, "EMR_BEGINPATH", UNPLAYED),
     Kind(60, "EMR_ENDPATH", UNPLAYED),
     Kind(61, "EMR_CLOSEFIGURE", UNPLAYED),
@@ -760,11 +771,11 @@ EMF_KINDS = [
     Kind(68, "EMR_ABORTPATH", UNPLAYED),
     Kind(75, "EMR_EXTSELECTCLIPRGN", ACCEPTED, {"size": u32(0), "mode": u32(5)}, clip_regions()),
     Kind(82, "EMR_EXTCREATEFONTINDIRECTW", ACCEPTED, INDEX, indexes()),
-    Kind(86, "EMR_POLYGON16", UNPLAYED, ONE_LIST, emf_points(i16)),
-    Kind(87, "EMR_POLYLINE16", UNPLAYED, ONE_LIST, emf_points(i16)),
-    Kind(89, "EMR_POLYLINETO16", UNPLAYED, ONE_LIST, emf_points(i16)),
-    Kind(90, "EMR_POLYPOLYLINE16", UNPLAYED, LISTS, emf_point_lists(i16)),
-    Kind(91, "EMR_POLYPOLYGON16", UNPLAYED, LISTS, emf_point_lists(i16)),
+    Kind(86, "EMR_POLYGON16", {}, ONE_LIST, emf_points(i16, {})),
+    Kind(87, "EMR_POLYLINE16", {}, ONE_LIST, emf_points(i16, {})),
+    Kind(89, "EMR_POLYLINETO16", {}, ONE_LIST, emf_points(i16, LINE)),
+    Kind(90, "EMR_POLYPOLYLINE16", {}, LISTS, emf_point_lists(i16)),
+    Kind(91, "EMR_POLYPOLYGON16", {}, LISTS, emf_point_lists(i16)),
     Kind(
         95,
         "EMR_EXTCREATEPEN",

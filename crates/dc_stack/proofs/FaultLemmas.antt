@@ -1,5 +1,5 @@
--- Being off the plane, of several points and on several surfaces.
-use Rattle.std.proofs.Common.{◌≡◌, ◌≢◌, Bool, true, false, cond, ◌&&◌, List, [], ◌∷◌, Option, Some, None, refl}
+-- Being off the plane, on several surfaces.
+use Rattle.std.proofs.Common.{◌≡◌, ◌≢◌, Bool, true, false, List, [], ◌∷◌, Option, Some, None, refl}
 use Rattle.std.proofs.lemmas.Bool.{and_from, and_parts}
 use Rattle.std.specs.List.{list_all}
 use Rattle.std.specs.Option.{option_or}
@@ -10,28 +10,8 @@ use Rattle.draw_ops.specs.declared.fault.Fault.{Fault}
 use Rattle.draw_ops.specs.declared.fault.Fault.TheVariants.{OffPlane}
 use Rattle.dc_stack.specs.FaultLaws.{FaultLaws}
 use Rattle.dc_stack.proofs.InRecordLemmas.{fault_in_record}
-use Rattle.dc_stack.specs.OperationFault.{off_plane_fault, plain_fault, plane_points}
-
--- off the plane where a test fails
-abbrev off_unless : Bool → Option Fault
-off_unless test = cond test None (Some OffPlane)
-
-first_fails : (a b : Bool) (fault : Fault) → Some fault ≡ off_unless (a && true) → Some fault ≡ off_unless (a && b)
-first_fails true b fault h = cc
-first_fails false b fault h = h
-
-second_fails : (a b : Bool) (fault : Fault) → None ≡ off_unless (a && true) → Some fault ≡ off_unless (b && true) → Some fault ≡ off_unless (a && (b && true))
-second_fails true b fault h k = k
-second_fails false b fault h k = cc
-
-module _ (p q : Point) (s : Surface) (fault : Fault) where
-  -- the first of two points is off the plane
-  pub first_off : Some fault ≡ off_plane_fault (p ∷ []) s → Some fault ≡ off_plane_fault (p ∷ q ∷ []) s
-  first_off h = first_fails (lands_within_limits p s) (lands_within_limits q s && true) fault h
-
-  -- the second alone is
-  pub second_off : None ≡ off_plane_fault (p ∷ []) s → Some fault ≡ off_plane_fault (q ∷ []) s → Some fault ≡ off_plane_fault (p ∷ q ∷ []) s
-  second_off h k = second_fails (lands_within_limits p s) (lands_within_limits q s) fault h k
+use Rattle.dc_stack.proofs.LandingLemmas.{off_unless}
+use Rattle.dc_stack.specs.OperationFault.{plain_fault, plane_points}
 
 -- no other fault comes of points
 off_is_off_plane : (test : Bool) (fault : Fault) → off_unless test ≡ Some fault → fault ≡ OffPlane

@@ -1,5 +1,5 @@
 -- Each fault of an operation lies in its record.
-use Rattle.std.proofs.Common.{◌≡◌, ℕ, Bool, true, false, cond, nat_lt, length, Option, Some, None, refl}
+use Rattle.std.proofs.Common.{◌≡◌, ℕ, Bool, true, false, cond, nat_le, nat_lt, length, Option, Some, None, refl}
 use Rattle.std.proofs.lemmas.Option.{same_Some}
 use Rattle.std.specs.Option.{option_or}
 use Rattle.std.specs.List.{list_all}
@@ -8,12 +8,13 @@ use Rattle.mapping.specs.Surface.{Surface, lands_within_limits}
 use Rattle.draw_ops.specs.Fault.{IsInRecord}
 use Rattle.draw_ops.specs.Objects.{ObjectValue, brush_object, font_object, palette_object, pen_object}
 use Rattle.draw_ops.specs.declared.fault.Fault.{Fault}
-use Rattle.draw_ops.specs.declared.fault.Fault.TheVariants.{DepthLimit, HandleTaken, HeldObject, NoSavedState, NoSuchHandle, OffPlane, TableFull, TooManyCuts, Unsupported, WrongKind, ZeroExtent}
+use Rattle.draw_ops.specs.declared.fault.Fault.TheVariants.{DepthLimit, HandleTaken, HeldObject, NoSavedState, NoSuchHandle, OffPlane, TableFull, TooManyCuts, TooManyEdges, Unsupported, WrongKind, ZeroExtent}
 use Rattle.draw_ops.specs.Operation.{Operation, no_effect, save, restore, set_background_mode, set_map_mode, set_raster_op, set_fill_mode, set_background_colour, set_window_origin, set_window_extent, set_viewport_origin, set_viewport_extent, offset_window_origin, offset_viewport_origin, exclude_clip, intersect_clip, remove_clip, move_to, line_to, pixel, rectangle, polyline, polygon, polyline_to, create, select, select_palette, delete, begin_path, end_path, close_figure, abort_path, fill_path, stroke_path, stroke_and_fill_path}
 use Rattle.object_tables.specs.Slots.{Slots, is_taken}
 use Rattle.object_tables.specs.Table.{TableKind, by_given_index, by_lowest_free, create_fault, may_be_given, slot_limit}
 use Rattle.dc_stack.specs.Clip.{cut_limit}
-use Rattle.dc_stack.specs.OperationFault.{fault_of, plain_fault, plane_points}
+use Rattle.dc_stack.specs.Drawing.{Drawing, drawing_edges, drawing_of, edge_limit}
+use Rattle.dc_stack.specs.OperationFault.{edges_fault, fault_of, plain_fault, plane_points}
 use Rattle.dc_stack.specs.SavedStates.{depth_limit, restore_fault, saved_place}
 use Rattle.dc_stack.specs.Selecting.{is_held, named_object, object_fault, palette_fault}
 use Rattle.dc_stack.specs.State.{State}
@@ -61,6 +62,9 @@ of_create (by_given_index limit) None slots = one NoSuchHandle refl
 of_create (by_given_index limit) (Some index) slots =
     chosen (may_be_given limit index) _ _ (chosen (is_taken index slots) _ _ (one HandleTaken refl) none) (one NoSuchHandle refl)
 
+of_edges : (drawing : Option Drawing) → LiesInRecord (edges_fault drawing)
+of_edges drawing = passes (nat_le (drawing_edges drawing) edge_limit) TooManyEdges refl
+
 -- of each operation
 plain_in_record : (operation : Operation) (state : State) → LiesInRecord (plain_fault operation state)
 plain_in_record no_effect state = none
@@ -81,12 +85,12 @@ plain_in_record (exclude_clip corners) state = passes (nat_lt (length state.dc.c
 plain_in_record (intersect_clip corners) state = none
 plain_in_record remove_clip state = none
 plain_in_record (move_to point) state = none
-plain_in_record (line_to point) state = one (Unsupported 0) refl
+plain_in_record (line_to point) state = none
 plain_in_record (pixel point colour) state = none
-plain_in_record (rectangle corners edges) state = one (Unsupported 0) refl
-plain_in_record (polyline lists) state = one (Unsupported 0) refl
-plain_in_record (polygon lists) state = one (Unsupported 0) refl
-plain_in_record (polyline_to points) state = one (Unsupported 0) refl
+plain_in_record (rectangle corners edges) state = none
+plain_in_record (polyline lists) state = of_edges (drawing_of (polyline lists) state)
+plain_in_record (polygon lists) state = of_edges (drawing_of (polygon lists) state)
+plain_in_record (polyline_to points) state = of_edges (drawing_of (polyline_to points) state)
 plain_in_record (create at object) state = of_create state.table_kind at state.slots
 plain_in_record (select index) state = of_object (named_object index state.slots)
 plain_in_record (select_palette index) state = of_palette (named_object index state.slots)

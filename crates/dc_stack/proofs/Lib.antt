@@ -1,4 +1,7 @@
 pub mod BoxLemmas
+pub mod CoordinateLemmas
+pub mod LandingLemmas
+pub mod ListLemmas
 pub mod FaultLemmas
 pub mod SavedLemmas
 pub mod RoomLemmas
@@ -6,3 +9,4 @@ pub mod InRecordLemmas
 pub mod WorkedStart
 pub mod WorkedRows
 pub mod WorkedClips
+pub mod WorkedDrawings

@@ -1,18 +1,24 @@
 -- What an operation draws, by points of the plane.
-use Rattle.std.specs.Prelude.{List, [], ◌∷◌, Option, Some, None}
+use Rattle.std.specs.Prelude.{ℕ, List, [], ◌∷◌, length, Option, Some, None}
+use Rattle.std.specs.List.{flat_map}
 use Rattle.mapping.specs.declared.geometry.Colour.{Colour}
 use Rattle.mapping.specs.declared.geometry.Point.{Point}
-use Rattle.mapping.specs.Plane.{plane_point}
 use Rattle.draw_ops.specs.declared.objects.Pen.{Pen}
+use Rattle.draw_ops.specs.declared.operation.RectangleEdges.{RectangleEdges}
 use Rattle.draw_ops.specs.Objects.{BrushValue}
 use Rattle.draw_ops.specs.Operation.{Operation, no_effect, save, restore, set_background_mode, set_map_mode, set_raster_op, set_fill_mode, set_background_colour, set_window_origin, set_window_extent, set_viewport_origin, set_viewport_extent, offset_window_origin, offset_viewport_origin, exclude_clip, intersect_clip, remove_clip, move_to, line_to, pixel, rectangle, polyline, polygon, polyline_to, create, select, select_palette, delete, begin_path, end_path, close_figure, abort_path, fill_path, stroke_path, stroke_and_fill_path}
 use Rattle.dc_stack.specs.Clip.{ClipValue}
+use Rattle.dc_stack.specs.Mapped.{left_top, mapped_lists, mapped_point, right_bottom}
 use Rattle.dc_stack.specs.State.{DcValue, State}
 use Rattle.dc_stack.specs.declared.modes.Modes.{Modes}
 
--- what is marked on the plane: a point in a colour
+-- What is marked on the plane: a point in a colour, lines from point to point of each list, polygons, each list one, or the rectangle
+-- between two corners, whichever of them comes first.
 pub data Mark : Type 0 where
   dot : Point → Colour → Mark
+  lines_through : List (List Point) → Mark
+  polygons_of : List (List Point) → Mark
+  rectangle_between : Point → Point → RectangleEdges → Mark
 
 -- what is drawn with: the pen, the brush, the modes, and the clip
 pub record Tools : Type 0 where
@@ -34,6 +40,15 @@ tools_of dc = record {
 pub record Drawing : Type 0 where
   pub mark : Mark
   pub tools : Tools
+
+-- the drawing of a mark, with the tools of the moment
+abbrev pub drawing_now : Mark → State → Option Drawing
+drawing_now mark state = Some (record { mark = mark; tools = tools_of state.dc })
+
+-- lines go on from a point through others, if there are others
+abbrev pub going_on : Point → List Point → List (List Point)
+going_on start [] = []
+going_on start (point ∷ points) = (start ∷ point ∷ points) ∷ []
 
 -- the drawing of an operation that isn't played yet, and is refused (`plain_fault`)
 abbrev unplayed : Option Drawing
@@ -59,15 +74,15 @@ drawing_of (exclude_clip corners) state = None
 drawing_of (intersect_clip corners) state = None
 drawing_of remove_clip state = None
 drawing_of (move_to point) state = None
-drawing_of (line_to point) state = unplayed
-drawing_of (pixel point colour) state = Some (record {
-  mark = dot (plane_point state.dc.map point.x point.y) colour;
-  tools = tools_of state.dc;
-})
-drawing_of (rectangle corners edges) state = unplayed
-drawing_of (polyline lists) state = unplayed
-drawing_of (polygon lists) state = unplayed
-drawing_of (polyline_to points) state = unplayed
+drawing_of (line_to point) state =
+    drawing_now (lines_through (mapped_lists state.dc.map (going_on state.dc.position (point ∷ [])))) state
+drawing_of (pixel point colour) state = drawing_now (dot (mapped_point state.dc.map point) colour) state
+drawing_of (rectangle corners edges) state =
+    drawing_now (rectangle_between (left_top state.dc.map corners) (right_bottom state.dc.map corners) edges) state
+drawing_of (polyline lists) state = drawing_now (lines_through (mapped_lists state.dc.map lists)) state
+drawing_of (polygon lists) state = drawing_now (polygons_of (mapped_lists state.dc.map lists)) state
+drawing_of (polyline_to points) state =
+    drawing_now (lines_through (mapped_lists state.dc.map (going_on state.dc.position points))) state
 drawing_of (create at object) state = None
 drawing_of (select index) state = None
 drawing_of (select_palette index) state = None
@@ -80,10 +95,33 @@ drawing_of fill_path state = unplayed
 drawing_of stroke_path state = unplayed
 drawing_of stroke_and_fill_path state = unplayed
 
--- the points of a mark
+-- the points of some lists, one list's after another's
+abbrev pub joined : List (List Point) → List Point
+joined lists = flat_map (λ list. list) lists
+
+-- the points of a mark: of a rectangle its two corners
 abbrev pub mark_points : Mark → List Point
 mark_points (dot point colour) = point ∷ []
+mark_points (lines_through lists) = joined lists
+mark_points (polygons_of lists) = joined lists
+mark_points (rectangle_between p q edges) = p ∷ q ∷ []
 
 -- the points of a drawing
 abbrev pub drawing_points : Drawing → List Point
 drawing_points drawing = mark_points drawing.mark
+
+-- how many points a mark needs room for: a dot needs none, a rectangle its four corners
+abbrev pub mark_edges : Mark → ℕ
+mark_edges (dot point colour) = 0
+mark_edges (lines_through lists) = length (joined lists)
+mark_edges (polygons_of lists) = length (joined lists)
+mark_edges (rectangle_between p q edges) = 4
+
+-- how many a drawing does, if there is one
+abbrev pub drawing_edges : Option Drawing → ℕ
+drawing_edges None = 0
+drawing_edges (Some drawing) = mark_edges drawing.mark
+
+-- how many there are at most in one drawing
+unfoldable pub edge_limit : ℕ
+edge_limit = 1048576

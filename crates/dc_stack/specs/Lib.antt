@@ -4,6 +4,7 @@ pub mod State
 pub mod StockObjects
 pub mod Selecting
 pub mod SavedStates
+pub mod Mapped
 pub mod Drawing
 pub mod OperationFault
 pub mod Modes
@@ -11,4 +12,8 @@ pub mod Next
 pub mod Needs
 pub mod FaultLaws
 pub mod Values
+pub mod Boxes
+pub mod Placing
+pub mod Draws
+pub mod Projected
 pub mod MachineState

@@ -1,13 +1,14 @@
 -- What a machine is to its callers.
 use Rattle.std.specs.Prelude.{◌≡◌, ◌⊎◌, ℕ, ◌≤◌, length, Option, Some, None, IfSome, Result, Ok, Err}
 use Rattle.std.specs.Option.{option_map}
-use Rattle.mapping.specs.Surface.{Surface, placed_point}
+use Rattle.mapping.specs.Surface.{Surface}
 use Rattle.draw_ops.specs.Objects.{ObjectValue}
 use Rattle.draw_ops.specs.Operation.{Operation, create, save}
 use Rattle.draw_ops.specs.declared.fault.Fault.{Fault}
 use Rattle.draw_ops.specs.declared.fault.Fault.TheVariants.{OutOfMemory}
 use Rattle.object_tables.specs.Table.{created_index, index_bound}
-use Rattle.dc_stack.specs.Drawing.{Drawing, dot, drawing_of, tools_of}
+use Rattle.dc_stack.specs.Drawing.{Drawing, drawing_of, tools_of}
+use Rattle.dc_stack.specs.Draws.{IsPlacedDraw, mark_of}
 use Rattle.dc_stack.specs.Needs.{greater_needs, needs_of}
 use Rattle.dc_stack.specs.Next.{next}
 use Rattle.dc_stack.specs.OperationFault.{fault_of}
@@ -48,15 +49,11 @@ pub record HasStepped (operation : Operation) (old new : MachineState) : Type 0 
 
 -- the drawing of a draw, with the tools of the moment
 abbrev pub drawing_with : DcValue → Draw → Drawing
-drawing_with dc draw = record { mark = dot draw.point draw.colour; tools = tools_of dc }
+drawing_with dc draw = record { mark = mark_of draw; tools = tools_of dc }
 
 -- what is to be drawn is the operation's drawing, with the tools that the new state has still
 abbrev pub IsDrawingOf : Operation → MachineState → MachineState → Option Draw → Type 0
 IsDrawingOf operation old new draw = option_map (drawing_with new.state.dc) draw ≡ drawing_of operation old.state
-
--- it tells where its point lands
-abbrev pub IsPlacedDraw : Surface → Draw → Type 0
-IsPlacedDraw s draw = draw.placed ≡ placed_point draw.point s
 
 -- a save finds no room for one more state
 pub record LacksDepth (operation : Operation) (m : MachineState) : Type 0 where

@@ -1,9 +1,9 @@
 -- What a run needs room for: the most saved states at a time, the slots up to the greatest index of an object, and the most points of
 -- one drawing and pieces of a path.
-use Rattle.std.specs.Prelude.{ℕ, suc, length, max, Option, Some, None}
+use Rattle.std.specs.Prelude.{ℕ, suc, length, max}
 use Rattle.draw_ops.specs.Operation.{Operation, no_effect, save, restore, set_background_mode, set_map_mode, set_raster_op, set_fill_mode, set_background_colour, set_window_origin, set_window_extent, set_viewport_origin, set_viewport_extent, offset_window_origin, offset_viewport_origin, exclude_clip, intersect_clip, remove_clip, move_to, line_to, pixel, rectangle, polyline, polygon, polyline_to, create, select, select_palette, delete, begin_path, end_path, close_figure, abort_path, fill_path, stroke_path, stroke_and_fill_path}
 use Rattle.object_tables.specs.Table.{created_index}
-use Rattle.dc_stack.specs.Drawing.{Drawing, Mark, dot, drawing_of}
+use Rattle.dc_stack.specs.Drawing.{drawing_edges, drawing_of}
 use Rattle.dc_stack.specs.State.{State}
 use Rattle.dc_stack.specs.declared.needs.Needs.{Needs}
 
@@ -28,22 +28,13 @@ depth_needed depth = record { depth = depth; slots = 0; edges = 0; pieces = 0 }
 abbrev pub slots_needed : ℕ → Needs
 slots_needed index = record { depth = 0; slots = suc index; edges = 0; pieces = 0 }
 
--- a dot has no edges
-abbrev mark_edges : Mark → ℕ
-mark_edges (dot point colour) = 0
+-- how many points a drawing has
+abbrev pub points_needed : ℕ → Needs
+points_needed count = record { depth = 0; slots = 0; edges = count; pieces = 0 }
 
-abbrev drawing_edges : Option Drawing → ℕ
-drawing_edges None = 0
-drawing_edges (Some drawing) = mark_edges drawing.mark
-
--- how many edges a drawing has, if there is one
-abbrev edges_needed : Operation → State → Needs
-edges_needed operation state = record {
-  depth = 0;
-  slots = 0;
-  edges = drawing_edges (drawing_of operation state);
-  pieces = 0;
-}
+-- how many the drawing of an operation needs room for, if it draws
+abbrev pub edges_needed : Operation → State → Needs
+edges_needed operation state = points_needed (drawing_edges (drawing_of operation state))
 
 -- those of an operation that isn't played yet, and is refused (`plain_fault`)
 abbrev unplayed : Needs
@@ -69,12 +60,12 @@ needs_of (exclude_clip corners) state = no_needs
 needs_of (intersect_clip corners) state = no_needs
 needs_of remove_clip state = no_needs
 needs_of (move_to point) state = no_needs
-needs_of (line_to point) state = unplayed
+needs_of (line_to point) state = edges_needed (line_to point) state
 needs_of (pixel point colour) state = edges_needed (pixel point colour) state
-needs_of (rectangle corners edges) state = unplayed
-needs_of (polyline lists) state = unplayed
-needs_of (polygon lists) state = unplayed
-needs_of (polyline_to points) state = unplayed
+needs_of (rectangle corners edges) state = edges_needed (rectangle corners edges) state
+needs_of (polyline lists) state = edges_needed (polyline lists) state
+needs_of (polygon lists) state = edges_needed (polygon lists) state
+needs_of (polyline_to points) state = edges_needed (polyline_to points) state
 needs_of (create at object) state = slots_needed (created_index state.table_kind at state.slots)
 needs_of (select index) state = no_needs
 needs_of (select_palette index) state = no_needs

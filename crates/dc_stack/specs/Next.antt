@@ -1,12 +1,13 @@
 -- What an operation does to the playing state.
-use Rattle.std.specs.Prelude.{length}
+use Rattle.std.specs.Prelude.{List, [], ◌∷◌, length}
+use Rattle.mapping.specs.declared.geometry.Point.{Point}
 use Rattle.mapping.specs.MapSettings.{with_mode, with_offset_viewport_origin, with_offset_window_origin, with_viewport_extent, with_viewport_origin, with_window_extent, with_window_origin}
 use Rattle.draw_ops.specs.Operation.{Operation, no_effect, save, restore, set_background_mode, set_map_mode, set_raster_op, set_fill_mode, set_background_colour, set_window_origin, set_window_extent, set_viewport_origin, set_viewport_extent, offset_window_origin, offset_viewport_origin, exclude_clip, intersect_clip, remove_clip, move_to, line_to, pixel, rectangle, polyline, polygon, polyline_to, create, select, select_palette, delete, begin_path, end_path, close_figure, abort_path, fill_path, stroke_path, stroke_and_fill_path}
 use Rattle.object_tables.specs.Slots.{with_object, without_object}
 use Rattle.object_tables.specs.Table.{created_index}
 use Rattle.dc_stack.specs.Clip.{unclipped, with_cut, with_kept}
 use Rattle.dc_stack.specs.Modes.{with_background_colour, with_background_mode, with_fill_mode, with_raster_op}
-use Rattle.dc_stack.specs.OperationFault.{mapped_box}
+use Rattle.dc_stack.specs.Mapped.{mapped_box}
 use Rattle.dc_stack.specs.SavedStates.{after_restoring, after_saving, saved_place}
 use Rattle.dc_stack.specs.Selecting.{after_selecting, named_object}
 use Rattle.dc_stack.specs.State.{State, with_clip, with_map, with_modes, with_position, with_selected, with_slots}
@@ -15,7 +16,13 @@ use Rattle.dc_stack.specs.State.{State, with_clip, with_map, with_modes, with_po
 abbrev unplayed : State → State
 unplayed state = state
 
--- The state after an operation that has no fault. No path is ever open yet: what the position's move does to one comes with paths.
+-- where lines from a point through others end
+abbrev pub end_of : Point → List Point → Point
+end_of start [] = start
+end_of start (point ∷ points) = end_of point points
+
+-- The state after an operation that has no fault. No path is ever open yet: what moves of the position and lines do to one comes with
+-- paths.
 abbrev pub next : Operation → State → State
 next no_effect state = state
 next save state = after_saving state
@@ -35,12 +42,12 @@ next (exclude_clip corners) state = with_clip (with_cut (mapped_box state.dc.map
 next (intersect_clip corners) state = with_clip (with_kept (mapped_box state.dc.map corners) state.dc.clip) state
 next remove_clip state = with_clip unclipped state
 next (move_to point) state = with_position point state
-next (line_to point) state = unplayed state
+next (line_to point) state = with_position point state
 next (pixel point colour) state = state
-next (rectangle corners edges) state = unplayed state
-next (polyline lists) state = unplayed state
-next (polygon lists) state = unplayed state
-next (polyline_to points) state = unplayed state
+next (rectangle corners edges) state = state
+next (polyline lists) state = state
+next (polygon lists) state = state
+next (polyline_to points) state = with_position (end_of state.dc.position points) state
 next (create at object) state = with_slots (with_object (created_index state.table_kind at state.slots) object state.slots) state
 next (select index) state = with_selected (after_selecting index (named_object index state.slots) state.dc.selected) state
 next (select_palette index) state = with_selected (after_selecting index (named_object index state.slots) state.dc.selected) state

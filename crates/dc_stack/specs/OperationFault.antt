@@ -1,18 +1,17 @@
 -- The fault of an operation, in two parts: what it meets in the state, and where its points land on a surface.
-use Rattle.std.specs.Prelude.{if◌then◌else◌, List, [], ◌∷◌, ◌++◌, length, nat_lt, Option, Some, None}
+use Rattle.std.specs.Prelude.{if◌then◌else◌, List, [], ◌++◌, length, nat_le, nat_lt, Option, Some, None}
 use Rattle.std.specs.List.{list_all}
 use Rattle.std.specs.Option.{option_or}
 use Rattle.mapping.specs.declared.geometry.Point.{Point}
-use Rattle.mapping.specs.declared.geometry.Rect.{Rect}
 use Rattle.mapping.specs.MapSettings.{is_page_point, offset_by, sets_zero_extent, viewport_origin_of, window_origin_of}
-use Rattle.mapping.specs.Plane.{MapNumbers, plane_point}
 use Rattle.mapping.specs.Surface.{Surface, lands_within_limits}
 use Rattle.draw_ops.specs.declared.fault.Fault.{Fault}
-use Rattle.draw_ops.specs.declared.fault.Fault.TheVariants.{OffPlane, TooManyCuts, Unsupported, ZeroExtent}
+use Rattle.draw_ops.specs.declared.fault.Fault.TheVariants.{OffPlane, TooManyCuts, TooManyEdges, Unsupported, ZeroExtent}
 use Rattle.draw_ops.specs.Operation.{Operation, no_effect, save, restore, set_background_mode, set_map_mode, set_raster_op, set_fill_mode, set_background_colour, set_window_origin, set_window_extent, set_viewport_origin, set_viewport_extent, offset_window_origin, offset_viewport_origin, exclude_clip, intersect_clip, remove_clip, move_to, line_to, pixel, rectangle, polyline, polygon, polyline_to, create, select, select_palette, delete, begin_path, end_path, close_figure, abort_path, fill_path, stroke_path, stroke_and_fill_path}
 use Rattle.object_tables.specs.Table.{create_fault}
-use Rattle.dc_stack.specs.Clip.{ClipValue, box_between, cut_limit}
-use Rattle.dc_stack.specs.Drawing.{Drawing, drawing_of, drawing_points}
+use Rattle.dc_stack.specs.Clip.{ClipValue, cut_limit}
+use Rattle.dc_stack.specs.Drawing.{Drawing, drawing_edges, drawing_of, drawing_points, edge_limit}
+use Rattle.dc_stack.specs.Mapped.{mapped_corners}
 use Rattle.dc_stack.specs.SavedStates.{restore_fault, save_fault, saved_place}
 use Rattle.dc_stack.specs.Selecting.{delete_fault, named_object, object_fault, palette_fault}
 use Rattle.dc_stack.specs.State.{State}
@@ -32,6 +31,10 @@ origin_fault origin = if is_page_point origin then None else Some OffPlane
 -- one box more is cut out than there may be
 abbrev pub cut_fault : ClipValue → Option Fault
 cut_fault clip = if nat_lt (length clip.cuts) cut_limit then None else Some TooManyCuts
+
+-- a drawing has more points than there may be
+abbrev pub edges_fault : Option Drawing → Option Fault
+edges_fault drawing = if nat_le (drawing_edges drawing) edge_limit then None else Some TooManyEdges
 
 -- the fault that doesn't depend on the surface
 abbrev pub plain_fault : Operation → State → Option Fault
@@ -53,12 +56,12 @@ plain_fault (exclude_clip corners) state = cut_fault state.dc.clip
 plain_fault (intersect_clip corners) state = None
 plain_fault remove_clip state = None
 plain_fault (move_to point) state = None
-plain_fault (line_to point) state = unplayed
+plain_fault (line_to point) state = None
 plain_fault (pixel point colour) state = None
-plain_fault (rectangle corners edges) state = unplayed
-plain_fault (polyline lists) state = unplayed
-plain_fault (polygon lists) state = unplayed
-plain_fault (polyline_to points) state = unplayed
+plain_fault (rectangle corners edges) state = None
+plain_fault (polyline lists) state = edges_fault (drawing_of (polyline lists) state)
+plain_fault (polygon lists) state = edges_fault (drawing_of (polygon lists) state)
+plain_fault (polyline_to points) state = edges_fault (drawing_of (polyline_to points) state)
 plain_fault (create at object) state = create_fault state.table_kind at state.slots
 plain_fault (select index) state = object_fault (named_object index state.slots)
 plain_fault (select_palette index) state = palette_fault (named_object index state.slots)
@@ -75,32 +78,6 @@ plain_fault stroke_and_fill_path state = unplayed
 abbrev points_drawn : Option Drawing → List Point
 points_drawn None = []
 points_drawn (Some drawing) = drawing_points drawing
-
--- those of an operation that isn't played yet
-abbrev unplayed_points : List Point
-unplayed_points = []
-
--- the left top and the right bottom of a box
-abbrev pub left_top_of : Rect → Point
-left_top_of box = record { x = box.l; y = box.t }
-
-abbrev pub right_bottom_of : Rect → Point
-right_bottom_of box = record { x = box.r; y = box.b }
-
--- those of a box of the page, on the plane
-abbrev pub left_top : MapNumbers → Rect → Point
-left_top map box = plane_point map (left_top_of box).x (left_top_of box).y
-
-abbrev pub right_bottom : MapNumbers → Rect → Point
-right_bottom map box = plane_point map (right_bottom_of box).x (right_bottom_of box).y
-
--- a box of the page, on the plane: a turned axis exchanges its sides
-abbrev pub mapped_box : MapNumbers → Rect → Rect
-mapped_box map box = box_between (left_top map box) (right_bottom map box)
-
--- the corners of a box of the page, on the plane
-abbrev pub mapped_corners : MapNumbers → Rect → List Point
-mapped_corners map box = left_top map box ∷ right_bottom map box ∷ []
 
 -- the points of the plane that an operation places and doesn't draw: corners of the clip, and what is added to a path
 abbrev points_kept : Operation → State → List Point
@@ -122,12 +99,12 @@ points_kept (exclude_clip corners) state = mapped_corners state.dc.map corners
 points_kept (intersect_clip corners) state = mapped_corners state.dc.map corners
 points_kept remove_clip state = []
 points_kept (move_to point) state = []
-points_kept (line_to point) state = unplayed_points
+points_kept (line_to point) state = []
 points_kept (pixel point colour) state = []
-points_kept (rectangle corners edges) state = unplayed_points
-points_kept (polyline lists) state = unplayed_points
-points_kept (polygon lists) state = unplayed_points
-points_kept (polyline_to points) state = unplayed_points
+points_kept (rectangle corners edges) state = []
+points_kept (polyline lists) state = []
+points_kept (polygon lists) state = []
+points_kept (polyline_to points) state = []
 points_kept (create at object) state = []
 points_kept (select index) state = []
 points_kept (select_palette index) state = []
@@ -142,11 +119,15 @@ points_kept stroke_and_fill_path state = []
 
 -- the points of the plane that an operation places on the surface
 abbrev pub plane_points : Operation → State → List Point
-plane_points operation state = points_drawn (drawing_of operation state) ++ points_kept operation state
+plane_points operation state = points_kept operation state ++ points_drawn (drawing_of operation state)
 
 -- off the plane, where one of these mapped points isn't one of the plane, or doesn't land within the limits
 abbrev pub off_plane_fault : List Point → Surface → Option Fault
 off_plane_fault points s = if list_all (λ point. lands_within_limits point s) points then None else Some OffPlane
+
+-- more points than one drawing may have, or else points off the plane
+abbrev pub points_fault : List Point → Surface → Option Fault
+points_fault points s = option_or (if nat_le (length points) edge_limit then None else Some TooManyEdges) (off_plane_fault points s)
 
 -- the fault that depends on the surface, and comes last
 abbrev pub place_fault : Operation → State → Surface → Option Fault

@@ -30,7 +30,7 @@ pub struct Clip {
 }
 
 impl Clip {
-    ghost use Rattle.dc_stack.specs.Values.{clip_value, placed_value};
+    ghost use Rattle.dc_stack.specs.Values.{clip_value, cuts_of, placed_value};
 
     /// The clip that clips nothing.
     pub(crate) fn none() -> Clip
@@ -93,6 +93,14 @@ impl Clip {
         self.keeps(x, y) && !self.cuts_out(x, y)
     }
 
+    /// The boxes that are cut out, in the order in which they were.
+    pub fn cut_boxes(&self) -> &[ClipBox]
+        ensures { result.now ≡ cuts_of self.now }
+    {
+        let count = self.count.min(CUT_LIMIT);
+        &self.cuts[..count]
+    }
+
     /// Whether the kept box has the pixel, if there is one.
     fn keeps(&self, x: u32, y: u32) -> bool
         ensures { result ≡ in_kept (placed_value self.now).kept x y }
@@ -135,14 +143,14 @@ pub(crate) fn between(p: Point, q: Point) -> Rect
 }
 
 /// The lesser of two coordinates.
-fn lesser(first: i32, second: i32) -> i32
+pub(crate) fn lesser(first: i32, second: i32) -> i32
     ensures { result ≡ int_min first second }
 {
     if second < first { second } else { first }
 }
 
 /// The greater of two coordinates.
-fn greater(first: i32, second: i32) -> i32
+pub(crate) fn greater(first: i32, second: i32) -> i32
     ensures { result ≡ int_max first second }
 {
     if second < first { first } else { second }

@@ -6,6 +6,8 @@
 //! - Each step has the first fault that the definition says, and then nothing has changed, or leaves the
 //!   next state (`Machine::step`, by `fault_of` and `next`).
 //! - What a step draws is the operation's drawing, with the tools of its moment (`Machine::step`, `dc`).
+//! - All its points land within the limits, each where it is told, and in the bounds that it is told with
+//!   (`Machine::step`, `Projection::at`).
 //! - Memory is refused only where there is no room, which no call makes smaller (`Machine::step`,
 //!   `reserve`; `room_law` says what room is enough for any file).
 //! - The needs are the greatest of all steps since the start (`Machine::needs`).
@@ -22,6 +24,7 @@ mod machine;
 mod modes;
 mod needs;
 mod placing;
+mod projection;
 mod saved;
 mod selected;
 mod stock;
@@ -33,4 +36,6 @@ pub use laws::{fault_law, room_law};
 pub use machine::{MAX_SAVED_STATES, Machine};
 pub use modes::Modes;
 pub use needs::Needs;
+pub use placing::Landing;
+pub use projection::Projection;
 pub use selected::Selected;

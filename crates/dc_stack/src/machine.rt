@@ -3,14 +3,15 @@
 ghost use Rattle.std.specs.Prelude.{◌≡◌, ◌≤◌, ◌<◌, ◌⊎◌, IfErr, IfOk, IfSome, OnErr, OnOk, length};
 ghost use Rattle.mapping.specs.PageMap.{map_numbers};
 ghost use Rattle.mapping.specs.PlaceOf.{surface_of};
-ghost use Rattle.draw_ops.specs.Operation.{pixel};
 ghost use Rattle.draw_ops.specs.OperationOf.{operation_of};
 ghost use Rattle.draw_ops.specs.declared.fault.Fault.TheVariants.{OutOfMemory};
-ghost use Rattle.dc_stack.specs.MachineState.{GoesOn, HasStepped, IsDrawingOf, IsPlacedDraw, IsUnchanged, Plays, RefusesStep};
+ghost use Rattle.dc_stack.specs.MachineState.{GoesOn, HasStepped, IsDrawingOf, IsUnchanged, RefusesStep};
+ghost use Rattle.dc_stack.specs.Draws.{IsPlacedDraw};
 ghost use Rattle.dc_stack.specs.Needs.{no_needs};
 ghost use Rattle.dc_stack.specs.State.{start_state};
 
 mod clipping;
+mod drawing;
 mod objects;
 mod page_mapping;
 mod saving;
@@ -19,9 +20,8 @@ mod settings;
 use crate::dc::Dc;
 use crate::draw::Draw;
 use crate::needs::Needs;
-use crate::placing::land;
 use draw_ops::{Fault, Op};
-use mapping::{Colour, Place, Point};
+use mapping::Place;
 use meta_headers::Opened;
 use object_tables::{Contents, Table};
 pub use saving::MAX_SAVED_STATES;
@@ -110,10 +110,10 @@ impl<'a, T: Table<'a>> Machine<'a, T> {
 
     /// Plays one operation, and tells what it draws. The fault is the operation's first: of an object
     /// `TableFull`, `HandleTaken`, `NoSuchHandle`, `WrongKind` or `HeldObject`, of a saved state `DepthLimit`
-    /// or `NoSavedState`, `ZeroExtent`, `TooManyCuts`, `OffPlane`, or `Unsupported` with 0 of what isn't
-    /// played yet. It is `OutOfMemory` where there was no room and memory was refused. After a fault
-    /// nothing has changed.
-    pub fn step(&mut self, op: Op<'a>) -> Result<Option<Draw>, Fault>
+    /// or `NoSavedState`, `ZeroExtent`, `TooManyCuts`, `TooManyEdges`, `OffPlane`, or `Unsupported` with 0
+    /// of what isn't played yet. It is `OutOfMemory` where there was no room and memory was refused. After
+    /// a fault nothing has changed.
+    pub fn step(&mut self, op: Op<'a>) -> Result<Option<Draw<'a>>, Fault>
         ensures stepped { OnOk result (HasStepped (operation_of op.entry) self.old self.new) }
         ensures drawn { IfOk result (IsDrawingOf (operation_of op.entry) self.old self.new) }
         ensures placed { IfOk result (λ draw. IfSome draw (IsPlacedDraw self.old.surface)) }
@@ -140,18 +140,18 @@ impl<'a, T: Table<'a>> Machine<'a, T> {
             Op::IntersectClip(corners) => self.intersect_clip(corners),
             Op::RemoveClip => self.remove_clip(),
             Op::MoveTo(point) => self.move_to(point),
+            Op::LineTo(point) => self.line_to(point),
             Op::Pixel { point, colour } => self.pixel(point, colour),
+            Op::Rectangle { corners, edges } => self.rectangle(corners, edges),
+            Op::Polyline(lists) => self.polyline(lists),
+            Op::Polygon(lists) => self.polygon(lists),
+            Op::PolylineTo(points) => self.polyline_to(points),
             Op::Create { at, object } => self.create(at, object),
             Op::Select(handle) => self.select(handle),
             Op::SelectPalette(handle) => self.select_palette(handle),
             Op::Delete(handle) => self.delete(handle),
             // Not played yet: so it is refused, by the definition too.
-            Op::LineTo(_)
-            | Op::Rectangle { .. }
-            | Op::Polyline(_)
-            | Op::Polygon(_)
-            | Op::PolylineTo(_)
-            | Op::BeginPath
+            Op::BeginPath
             | Op::EndPath
             | Op::CloseFigure
             | Op::AbortPath
@@ -174,19 +174,5 @@ impl<'a, T: Table<'a>> Machine<'a, T> {
         ensures { result ≡ self.now.needs }
     {
         self.needs
-    }
-
-    /// Draws a pixel.
-    fn pixel(&self, point: Point, colour: Colour) -> Result<Option<Draw>, Fault>
-        ensures { Plays (pixel point colour) self.now result self.now }
-    {
-        match land(&self.dc.map, self.place, point) {
-            Ok(landing) => Ok(Some(Draw {
-                point: landing.plane,
-                placed: landing.placed,
-                colour,
-            })),
-            Err(fault) => Err(fault),
-        }
     }
 }

@@ -13,7 +13,7 @@ pub struct Needs {
 }
 
 impl Needs {
-    ghost use Rattle.dc_stack.specs.Needs.{depth_needed, greater_needs, no_needs, slots_needed};
+    ghost use Rattle.dc_stack.specs.Needs.{depth_needed, greater_needs, no_needs, points_needed, slots_needed};
 
     /// Nothing is needed.
     pub(crate) fn none() -> Needs
@@ -40,5 +40,12 @@ impl Needs {
         ensures { self.new ≡ greater_needs self.old (slots_needed index) }
     {
         self.slots = self.slots.max(index + 1);
+    }
+
+    /// Raises how many points one drawing has to this, if it is more.
+    pub(crate) fn raise_edges(&mut self, edges: u32)
+        ensures { self.new ≡ greater_needs self.old (points_needed edges) }
+    {
+        self.edges = self.edges.max(edges);
     }
 }

@@ -1,28 +1,39 @@
 //! Where page points and boxes land: on the plane by a page map, and from there on a surface.
 
-ghost use Rattle.std.specs.Prelude.{◌≡◌, [], ◌∷◌, IfOk, SomeIff, is_some};
+ghost use Rattle.std.specs.Prelude.{◌≡◌, ◌≤◌, suc, [], ◌∷◌, length, IfOk, SomeIff, is_some};
 ghost use Rattle.std.specs.Result.{result_err};
 ghost use Rattle.mapping.specs.PageMap.{map_numbers};
 ghost use Rattle.mapping.specs.Plane.{IsOnPlane, is_on_plane, plane_point};
 ghost use Rattle.mapping.specs.PlaceOf.{surface_of};
 ghost use Rattle.mapping.specs.Surface.{placed_point};
+ghost use Rattle.point_views.specs.Points.{points_of};
+ghost use Rattle.point_views.specs.Polys.{lists_of};
 ghost use Rattle.dc_stack.specs.Clip.{placed_box};
-ghost use Rattle.dc_stack.specs.OperationFault.{left_top_of, mapped_box, mapped_corners, off_plane_fault, right_bottom_of};
+ghost use Rattle.dc_stack.specs.Drawing.{edge_limit};
+ghost use Rattle.dc_stack.specs.Mapped.{left_top_of, mapped_box, mapped_corners, right_bottom_of};
+ghost use Rattle.dc_stack.specs.OperationFault.{off_plane_fault, points_fault};
+ghost use Rattle.dc_stack.specs.Boxes.{HasAllOf, HasPoint};
+ghost use Rattle.dc_stack.specs.Placing.{HasAllPlaced, IsLandingOf, joined_plane_list, plane_list};
 
-use crate::clip::{ClipBox, between};
+use crate::clip::{ClipBox, between, greater, lesser};
 use draw_ops::Fault;
 use mapping::{PageMap, Place, Point, Rect, placing_law};
+use point_views::{Points, Polys};
+
+/// How many points one drawing has at most.
+const MAX_EDGES: usize = 1_048_576;
 
 /// A point of the plane, and where it lands.
 #[derive(Clone, Copy, Debug, PartialEq, Eq)]
-pub(crate) struct Landing {
-    pub(crate) plane: Point,
-    pub(crate) placed: Point,
+pub struct Landing {
+    pub plane: Point,
+    /// Where it lands on the surface, at most 2^28 from its corner each way.
+    pub placed: Point,
 }
 
 /// Where a page point lands, or `OffPlane` where it leaves the plane or the range of placed coordinates.
 pub(crate) fn land(map: &PageMap, place: Place, point: Point) -> Result<Landing, Fault>
-    ensures fault { result_err result ≡ off_plane_fault (plane_point (map_numbers map.now) point.x point.y ∷ []) (surface_of place) }
+    ensures fault { result_err result ≡ off_plane_fault (plane_list map.now (point ∷ [])) (surface_of place) }
     ensures plane { IfOk result (λ landing. landing.plane ≡ plane_point (map_numbers map.now) point.x point.y) }
     ensures placed { IfOk result (λ landing. landing.placed ≡ placed_point landing.plane (surface_of place)) }
 {
@@ -43,18 +54,139 @@ fn plane_point(map: &PageMap, point: Point) -> Option<Point>
     map.plane(i64::from(point.x), i64::from(point.y))
 }
 
+/// Where two page points land, or `OffPlane` where one of them doesn't.
+pub(crate) fn land_pair(
+    map: &PageMap,
+    place: Place,
+    first: Point,
+    second: Point,
+) -> Result<(Landing, Landing), Fault>
+    ensures fault { result_err result ≡ off_plane_fault (plane_list map.now (first ∷ second ∷ [])) (surface_of place) }
+    ensures first { IfOk result (λ r. IsLandingOf (map_numbers map.now) (surface_of place) first r.0) }
+    ensures second { IfOk result (λ r. IsLandingOf (map_numbers map.now) (surface_of place) second r.1) }
+{
+    let first = match land(map, place, first) {
+        Ok(first) => first,
+        Err(fault) => return Err(fault),
+    };
+    let second = match land(map, place, second) {
+        Ok(second) => second,
+        Err(fault) => return Err(fault),
+    };
+    Ok((first, second))
+}
+
+/// The box around some page points where they land and what an earlier box has, or `OffPlane` where one of
+/// them doesn't land.
+fn land_all(map: &PageMap, place: Place, points: Points<'_>, before: Rect) -> Result<Rect, Fault>
+    ensures fault { result_err result ≡ off_plane_fault (plane_list map.now (points_of points.entry)) (surface_of place) }
+    ensures all { IfOk result (λ bounds. HasAllPlaced bounds place (plane_list map.now (points_of points.entry))) }
+    ensures more { IfOk result (λ bounds. HasAllOf bounds before) }
+{
+    let mut bounds = before;
+    for index in 0..points.len() {
+        match land(map, place, points.get(index)) {
+            Ok(landing) => bounds = grown(bounds, landing.placed),
+            Err(fault) => return Err(fault),
+        }
+    }
+    Ok(bounds)
+}
+
+/// The box that has a point beside what another has.
+fn grown(before: Rect, point: Point) -> Rect
+    ensures point { HasPoint result point }
+    ensures more { HasAllOf result before }
+{
+    let l = lesser(before.l, point.x);
+    let t = lesser(before.t, point.y);
+    let r = greater(before.r, point.x);
+    let b = greater(before.b, point.y);
+    Rect { l, t, r, b }
+}
+
+/// What a drawing of several points is told with: how many they are, and the box around them where they land,
+/// its right and bottom included.
+#[derive(Clone, Copy, Debug)]
+pub(crate) struct Extent {
+    pub(crate) count: u32,
+    pub(crate) bounds: Rect,
+}
+
+/// The box of no point.
+const NOWHERE: Rect = Rect {
+    l: i32::MAX,
+    t: i32::MAX,
+    r: i32::MIN,
+    b: i32::MIN,
+};
+
+/// How many points some lists have and where they land: `TooManyEdges` where they have more than one
+/// drawing may, and then `OffPlane` where one of them doesn't land.
+pub(crate) fn land_lists(map: &PageMap, place: Place, lists: Polys<'_>) -> Result<Extent, Fault>
+    ensures fault { result_err result ≡ points_fault (joined_plane_list map.now (lists_of lists.entry)) (surface_of place) }
+    ensures count { IfOk result (λ e. e.count ≡ length (joined_plane_list map.now (lists_of lists.entry))) }
+    ensures few { IfOk result (λ e. length (joined_plane_list map.now (lists_of lists.entry)) ≤ edge_limit) }
+    ensures bounds { IfOk result (λ e. HasAllPlaced e.bounds place (joined_plane_list map.now (lists_of lists.entry))) }
+{
+    let points = lists.points();
+    if points.len() > MAX_EDGES {
+        return Err(Fault::TooManyEdges);
+    }
+    match land_all(map, place, points, NOWHERE) {
+        Ok(bounds) => Ok(Extent {
+            count: points.len() as u32,
+            bounds,
+        }),
+        Err(fault) => Err(fault),
+    }
+}
+
+/// Where a page point lands from which lines go through others, how many they are together, and where: the
+/// faults are those of lists.
+pub(crate) fn land_through(
+    map: &PageMap,
+    place: Place,
+    start: Point,
+    points: Points<'_>,
+) -> Result<(Landing, Extent), Fault>
+    ensures fault { result_err result ≡ points_fault (plane_list map.now (start ∷ points_of points.entry)) (surface_of place) }
+    ensures from { IfOk result (λ r. IsLandingOf (map_numbers map.now) (surface_of place) start r.0) }
+    ensures count { IfOk result (λ r. r.1.count ≡ suc (length (points_of points.entry))) }
+    ensures bounds { IfOk result (λ r. HasAllPlaced r.1.bounds place (plane_list map.now (start ∷ points_of points.entry))) }
+{
+    if points.len() >= MAX_EDGES {
+        return Err(Fault::TooManyEdges);
+    }
+    let from = match land(map, place, start) {
+        Ok(from) => from,
+        Err(fault) => return Err(fault),
+    };
+    match land_all(map, place, points, grown(NOWHERE, from.placed)) {
+        Ok(bounds) => Ok((
+            from,
+            Extent {
+                count: points.len() as u32 + 1,
+                bounds,
+            },
+        )),
+        Err(fault) => Err(fault),
+    }
+}
+
 /// Where a box of the page lands, its corners put in order, or `OffPlane` where one of them doesn't.
 pub(crate) fn land_box(map: &PageMap, place: Place, corners: Rect) -> Result<ClipBox, Fault>
     ensures fault { result_err result ≡ off_plane_fault (mapped_corners (map_numbers map.now) corners) (surface_of place) }
     ensures plane { IfOk result (λ b. b.plane ≡ mapped_box (map_numbers map.now) corners) }
     ensures placed { IfOk result (λ b. b.placed ≡ placed_box (surface_of place) b.plane) }
 {
-    let first = match land(map, place, left_top_of(corners)) {
-        Ok(first) => first,
-        Err(fault) => return Err(fault),
-    };
-    let second = match land(map, place, right_bottom_of(corners)) {
-        Ok(second) => second,
+    let (first, second) = match land_pair(
+        map,
+        place,
+        left_top_of(corners),
+        right_bottom_of(corners),
+    ) {
+        Ok(landings) => landings,
         Err(fault) => return Err(fault),
     };
     placing_law();
@@ -65,7 +197,7 @@ pub(crate) fn land_box(map: &PageMap, place: Place, corners: Rect) -> Result<Cli
 }
 
 /// The left top of a box.
-fn left_top_of(corners: Rect) -> Point
+pub(crate) fn left_top_of(corners: Rect) -> Point
     ensures { result ≡ left_top_of corners }
 {
     Point {
@@ -75,7 +207,7 @@ fn left_top_of(corners: Rect) -> Point
 }
 
 /// The right bottom of a box.
-fn right_bottom_of(corners: Rect) -> Point
+pub(crate) fn right_bottom_of(corners: Rect) -> Point
     ensures { result ≡ right_bottom_of corners }
 {
     Point {

@@ -16,7 +16,7 @@ use Rattle.draw_ops.specs.declared.note.Note.TheVariants.{AfterEnd}
 use Rattle.draw_ops.specs.declared.raster_op.RasterOp.TheVariants.{CopyPen, Not, XorPen}
 use Rattle.player.specs.Apply.{image_after}
 use Rattle.dc_stack.specs.Clip.{ClipValue, in_clip}
-use Rattle.player.specs.Mixing.{mixed_colour}
+use Rattle.raster_ops.specs.RasterOps.{mixed_colour}
 use Rattle.object_tables.specs.Table.{by_lowest_free}
 use Rattle.dc_stack.specs.State.{State, start_state}
 use Rattle.player.specs.Stop.{stop_at, stop_of}

@@ -1,6 +1,9 @@
 -- What layers do to an image, each pixel by itself.
-use Rattle.std.specs.Prelude.{ℕ, suc, ◌/◌, ◌%◌, if◌then◌else◌, List, [], ◌∷◌, Option, Some, None}
+use Rattle.std.specs.Prelude.{ℕ, List, [], ◌∷◌, Option, Some, None}
+use Rattle.mapping.specs.Pixels.{repainted}
 use Rattle.mapping.specs.declared.geometry.Colour.{Colour}
+use Rattle.draw_ops.specs.declared.raster_op.RasterOp.{RasterOp}
+use Rattle.raster_ops.specs.RasterOps.{mixed_colour}
 use Rattle.mapping.specs.Image.{Image}
 use Rattle.mapping.specs.Surface.{Surface}
 use Rattle.draw_ops.specs.Content.{StepValue}
@@ -12,26 +15,26 @@ use Rattle.player.specs.Paint.{paint_at}
 use Rattle.dc_stack.specs.State.{State}
 use Rattle.player.specs.Writes.{writes_pixel}
 
--- each colour, the first at index k, by what f makes of its index and itself
-abbrev pub map_indexed : (ℕ → Colour → Colour) → ℕ → List Colour → List Colour
-map_indexed f k [] = []
-map_indexed f k (c ∷ cs) = f k c ∷ map_indexed f (suc k) cs
+-- paint joined with the old colour by a raster operation, where there is some
+abbrev pub joined_by : RasterOp → Option Colour → Colour → Colour
+joined_by op None old = old
+joined_by op (Some paint) old = mixed_colour op paint old
 
 -- the paint joined with the old colour, where the paint gives one
 abbrev pub joined : Mixing → Surface → ℕ → ℕ → Option Colour → Colour → Colour
 joined mixing s x y None old = old
 joined mixing s x y (Some paint) old = mixed mixing s x y paint old
 
--- a pixel's colour after the layer
-abbrev pub colour_after : Layer → Surface → ℕ → ℕ → Colour → Colour
-colour_after layer s x y old = if writes_pixel layer s x y then joined layer.mixing s x y (paint_at layer.paint s x y) old else old
+-- what the layer makes of the old colour of a pixel that it writes
+abbrev pub ink_of : Layer → Surface → ℕ → ℕ → Colour → Colour
+ink_of layer s x y old = joined layer.mixing s x y (paint_at layer.paint s x y) old
 
 -- the image after a layer: the pixels that the layer writes, and every other as it was
 abbrev pub apply : Layer → Surface → Image → Image
 apply layer s image = record {
   width = image.width;
   height = image.height;
-  colours = map_indexed (λ k old. colour_after layer s (k % s.width) (k / s.width) old) 0 image.colours;
+  colours = repainted (writes_pixel layer s) (ink_of layer s) s.width 0 image.colours;
 }
 
 -- the image after some layers, one after another

@@ -1,11 +1,14 @@
 -- A drawing is a list of layers.
-use Rattle.std.specs.Prelude.{List, [], ◌∷◌, Option, Some, None}
+use Rattle.std.specs.Prelude.{List, [], ◌∷◌, ◌++◌, Option, Some, None}
 use Rattle.draw_ops.specs.Operation.{Operation}
 use Rattle.dc_stack.specs.Clip.{ClipValue}
-use Rattle.dc_stack.specs.Drawing.{Drawing, Mark, Tools, dot, drawing_of}
-use Rattle.player.specs.Mixing.{Mixing, copied}
-use Rattle.player.specs.Paint.{Paint, solid}
-use Rattle.player.specs.Shape.{Shape, pixel_under}
+use Rattle.dc_stack.specs.Drawing.{Drawing, Mark, Tools, dot, drawing_of, lines_through, polygons_of, rectangle_between}
+use Rattle.draw_ops.specs.Objects.{BrushValue, hatched_brush, null_brush, solid_brush, tile_brush}
+use Rattle.draw_ops.specs.declared.objects.Pen.{Pen}
+use Rattle.draw_ops.specs.declared.objects.Pen.TheVariants.{Null, Solid}
+use Rattle.player.specs.Mixing.{Mixing, binary, copied}
+use Rattle.player.specs.Paint.{Paint, brushed, solid}
+use Rattle.player.specs.Shape.{Shape, inside_polygons, inside_rectangle, on_lines, pixel_under, round_polygons, round_rectangle}
 use Rattle.dc_stack.specs.State.{State}
 
 -- which pixels, in which paint, joined how, within which clip
@@ -15,13 +18,60 @@ pub record Layer : Type 0 where
   pub mixing : Mixing
   pub clip : ClipValue
 
--- a dot is one layer: the pixel on which its point lands, in its colour
-abbrev pub layers_of_mark : Mark → Tools → List Layer
-layers_of_mark (dot point colour) tools = record { shape = pixel_under point; paint = solid colour; mixing = copied; clip = tools.clip } ∷ []
+-- a layer of paint that joins what is there by the raster operation of the moment
+abbrev pub layer_now : Shape → Paint → Tools → Layer
+layer_now shape paint tools = record { shape = shape; paint = paint; mixing = binary tools.modes.raster_op; clip = tools.clip }
 
--- the layers of a drawing, the first drawn first
+abbrev pub stroked_with : Pen → Shape → Tools → List Layer
+stroked_with Null shape tools = []
+stroked_with (Solid colour) shape tools = layer_now shape (solid colour) tools ∷ []
+
+-- what a brush paints, by the background of the moment
+abbrev pub brushed_now : BrushValue → Tools → Paint
+brushed_now brush tools = brushed brush tools.modes.background_mode tools.modes.background_colour
+
+abbrev pub filled_with : BrushValue → Shape → Tools → List Layer
+filled_with null_brush shape tools = []
+filled_with (solid_brush colour) shape tools = layer_now shape (brushed_now (solid_brush colour) tools) tools ∷ []
+filled_with (hatched_brush hatch colour) shape tools = layer_now shape (brushed_now (hatched_brush hatch colour) tools) tools ∷ []
+filled_with (tile_brush picture) shape tools = layer_now shape (brushed_now (tile_brush picture) tools) tools ∷ []
+
+-- a layer that a pen strokes: none where it draws nothing
+abbrev pub stroked : Shape → Tools → List Layer
+stroked shape tools = stroked_with tools.pen shape tools
+
+-- a layer that a brush fills: none where it paints nothing
+abbrev pub filled : Shape → Tools → List Layer
+filled shape tools = filled_with tools.brush shape tools
+
+-- what of a mark is filled
+abbrev pub fills_of : Mark → Tools → List Layer
+fills_of (dot point colour) tools = []
+fills_of (lines_through lists) tools = []
+fills_of (polygons_of lists) tools = filled (inside_polygons tools.modes.fill_mode lists) tools
+fills_of (rectangle_between p q edges) tools = filled (inside_rectangle p q edges) tools
+
+-- its outline, which a pen strokes: a dot has none
+abbrev pub outlines_of : Mark → Tools → List Layer
+outlines_of (dot point colour) tools = []
+outlines_of (lines_through lists) tools = stroked (on_lines lists) tools
+outlines_of (polygons_of lists) tools = stroked (round_polygons lists) tools
+outlines_of (rectangle_between p q edges) tools = stroked (round_rectangle p q edges) tools
+
+-- a dot is a pixel in its own colour, whatever is there
+abbrev pub dots_of : Mark → Tools → List Layer
+dots_of (dot point colour) tools = record { shape = pixel_under point; paint = solid colour; mixing = copied; clip = tools.clip } ∷ []
+dots_of (lines_through lists) tools = []
+dots_of (polygons_of lists) tools = []
+dots_of (rectangle_between p q edges) tools = []
+
+-- what of it is drawn above what is filled: a dot or an outline
+abbrev pub strokes_of : Mark → Tools → List Layer
+strokes_of mark tools = dots_of mark tools ++ outlines_of mark tools
+
+-- the layers of a drawing, the first drawn first: what is filled, and then what is stroked
 abbrev pub layers_of : Drawing → List Layer
-layers_of drawing = layers_of_mark drawing.mark drawing.tools
+layers_of drawing = fills_of drawing.mark drawing.tools ++ strokes_of drawing.mark drawing.tools
 
 -- the layers of a drawing, if there is one
 abbrev pub layers_if_drawn : Option Drawing → List Layer

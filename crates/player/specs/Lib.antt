@@ -1,3 +1,5 @@
+pub mod Outlines
+pub mod Rectangles
 pub mod Shape
 pub mod Paint
 pub mod Mixing
@@ -7,6 +9,15 @@ pub mod Apply
 pub mod Stop
 pub mod Run
 pub mod Plays
-pub mod Dot
+pub mod PlacedLines
+pub mod LinesToCome
+pub mod RowInks
+pub mod Painted
+pub mod Strips
+pub mod LineSteps
 pub mod Refusal
 pub mod FileTable
+pub mod RowsPainted
+pub mod Dots
+pub mod RectangleBoxes
+pub mod Regions

@@ -1,5 +1,5 @@
 -- What playing does to a canvas.
-use Rattle.std.specs.Prelude.{◌≡◌, ℕ, ◌+◌, List, Option, Some, None, IsOk}
+use Rattle.std.specs.Prelude.{◌≡◌, ℕ, ◌+◌, ◌<◌, List, Option, Some, None, IsOk}
 use Rattle.mapping.specs.Surface.{Surface}
 use Rattle.draw_ops.specs.Content.{Content}
 use Rattle.draw_ops.specs.declared.fault.Fault.TheVariants.{OutOfMemory}
@@ -7,8 +7,9 @@ use Rattle.canvas.specs.CanvasState.{CanvasState, image_of}
 use Rattle.player.specs.Apply.{apply_all, image_after}
 use Rattle.meta_headers.specs.Opening.{HasContentOf, opened, surface_for}
 use Rattle.meta_headers.specs.declared.opened.FileFormat.{FileFormat}
-use Rattle.dc_stack.specs.Drawing.{Drawing}
-use Rattle.player.specs.Layer.{layers_if_drawn}
+use Rattle.dc_stack.specs.Drawing.{Drawing, edge_limit}
+use Rattle.span_fill.specs.RowState.{RowState}
+use Rattle.player.specs.Layer.{Layer, layers_if_drawn}
 use Rattle.meta_headers.specs.Headers.{OpenedValue}
 use Rattle.dc_stack.specs.State.{State, start_of}
 use Rattle.player.specs.Stop.{Stop, stop_of}
@@ -25,6 +26,11 @@ pub record WantsMemory (file : List ℕ) (r : Refusal) : Type 0 where
   pub opens : IsOk (opened file)
   pub wants : IsWantOfMemory r
 
+-- memory was refused for the lines of a drawing: there was no room for any drawing
+pub record LacksLines (rows : RowState) (r : Refusal) : Type 0 where
+  pub wants : IsWantOfMemory r
+  pub room : rows.room < edge_limit
+
 -- the canvas holds a whole surface
 pub record IsWhole (canvas : CanvasState) (s : Surface) : Type 0 where
   pub width : canvas.width ≡ s.width
@@ -37,10 +43,14 @@ pub record SameRows (old new : CanvasState) : Type 0 where
   pub first : new.first ≡ old.first
   pub rows : new.rows ≡ old.rows
 
--- a drawing was drawn, if there is one: its layers on the image, and its pixels on the count
-pub record DrawsDrawing (drawing : Option Drawing) (s : Surface) (old new : CanvasState) : Type 0 where
-  pub image : image_of new ≡ apply_all (layers_if_drawn drawing) s (image_of old)
-  pub writes : new.writes ≡ old.writes + writes_of_layers (layers_if_drawn drawing) s
+-- layers were drawn: on the image, and their pixels on the count
+pub record DrawsLayers (layers : List Layer) (s : Surface) (old new : CanvasState) : Type 0 where
+  pub image : image_of new ≡ apply_all layers s (image_of old)
+  pub writes : new.writes ≡ old.writes + writes_of_layers layers s
+
+-- a drawing was drawn, if there is one
+abbrev pub DrawsDrawing : Option Drawing → Surface → CanvasState → CanvasState → Type 0
+DrawsDrawing drawing s old new = DrawsLayers (layers_if_drawn drawing) s old new
 
 -- all steps of the content were drawn, and none has a fault
 pub record Plays (content : Content) (state : State) (s : Surface) (old new : CanvasState) : Type 0 where

@@ -1,12 +1,43 @@
 -- The shape of a layer: which pixels it may write.
-use Rattle.std.specs.Prelude.{ℕ, Bool}
+use Rattle.std.specs.Prelude.{ℕ, Bool, List, map}
 use Rattle.mapping.specs.declared.geometry.Point.{Point}
 use Rattle.mapping.specs.Surface.{Surface, is_pixel, placed_point}
+use Rattle.draw_ops.specs.declared.operation.RectangleEdges.{RectangleEdges}
+use Rattle.draw_ops.specs.declared.settings.FillMode.{FillMode}
+use Rattle.draw_ops.specs.declared.settings.FillMode.TheVariants.{Alternate, Winding}
+use Rattle.dc_stack.specs.Boxes.{placed_list}
+use Rattle.dc_stack.specs.Clip.{in_box}
+use Rattle.span_fill.specs.Fill.{in_fill}
+use Rattle.span_fill.specs.Strokes.{in_stroke}
+use Rattle.span_fill.specs.declared.fill_rule.FillRule.{FillRule}
+use Rattle.span_fill.specs.declared.fill_rule.FillRule.TheVariants.{EvenOdd, NonZero}
+use Rattle.player.specs.Outlines.{closed_lines_of, open_lines_of}
+use Rattle.player.specs.Rectangles.{rectangle_lines, rectangle_on}
 
--- the pixel on which a point of the plane lands
+-- by points of the plane: the pixel on which one lands, what is inside of polygons or of a rectangle, and what is on lines through points,
+-- round polygons, or round a rectangle
 pub data Shape : Type 0 where
   pixel_under : Point → Shape
+  inside_polygons : FillMode → List (List Point) → Shape
+  inside_rectangle : Point → Point → RectangleEdges → Shape
+  on_lines : List (List Point) → Shape
+  round_polygons : List (List Point) → Shape
+  round_rectangle : Point → Point → RectangleEdges → Shape
+
+-- what a fill mode says is inside ([MS-WMF] 2.1.1.25)
+abbrev pub fill_rule_of : FillMode → FillRule
+fill_rule_of Alternate = EvenOdd
+fill_rule_of Winding = NonZero
+
+-- where the points of lists land on a surface
+abbrev pub placed_lists : Surface → List (List Point) → List (List Point)
+placed_lists s lists = map (placed_list s) lists
 
 -- the shape has the pixel (x, y)
 abbrev pub in_shape : Shape → Surface → ℕ → ℕ → Bool
 in_shape (pixel_under point) s x y = is_pixel (placed_point point s) x y
+in_shape (inside_polygons mode lists) s x y = in_fill (fill_rule_of mode) (closed_lines_of (placed_lists s lists)) x y
+in_shape (inside_rectangle p q edges) s x y = in_box (rectangle_on s p q edges) x y
+in_shape (on_lines lists) s x y = in_stroke (open_lines_of (placed_lists s lists)) x y
+in_shape (round_polygons lists) s x y = in_stroke (closed_lines_of (placed_lists s lists)) x y
+in_shape (round_rectangle p q edges) s x y = in_stroke (rectangle_lines (rectangle_on s p q edges)) x y

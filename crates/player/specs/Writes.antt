@@ -1,5 +1,6 @@
 -- Which pixels a layer writes, and how many.
-use Rattle.std.specs.Prelude.{ℕ, zero, suc, ◌+◌, ◌*◌, ◌/◌, ◌%◌, Bool, ◌&&◌, if◌then◌else◌, List, [], ◌∷◌, is_some}
+use Rattle.std.specs.Prelude.{ℕ, ◌+◌, Bool, ◌&&◌, List, [], ◌∷◌, is_some}
+use Rattle.mapping.specs.Pixels.{count_pixels}
 use Rattle.mapping.specs.Surface.{Surface}
 use Rattle.draw_ops.specs.Content.{StepValue}
 use Rattle.draw_ops.specs.Operation.{Operation}
@@ -10,18 +11,13 @@ use Rattle.player.specs.Paint.{paint_at}
 use Rattle.player.specs.Shape.{in_shape}
 use Rattle.dc_stack.specs.State.{State}
 
--- how many of n indexes, from k on, pass the test
-abbrev pub count_indexes : (ℕ → Bool) → ℕ → ℕ → ℕ
-count_indexes test k zero = 0
-count_indexes test k (suc n) = (if test k then 1 else 0) + count_indexes test (suc k) n
-
 -- the layer writes the surface's pixel (x, y): it is in the clip and in the shape, and the paint there isn't nothing
 abbrev pub writes_pixel : Layer → Surface → ℕ → ℕ → Bool
 writes_pixel layer s x y = in_clip layer.clip s x y && in_shape layer.shape s x y && is_some (paint_at layer.paint s x y)
 
 -- how many pixels a layer writes
 abbrev pub writes_of_layer : Layer → Surface → ℕ
-writes_of_layer layer s = count_indexes (λ k. writes_pixel layer s (k % s.width) (k / s.width)) 0 (s.height * s.width)
+writes_of_layer layer s = count_pixels (writes_pixel layer s) s.width 0 s.height
 
 -- a pixel that two layers write counts twice
 abbrev pub writes_of_layers : List Layer → Surface → ℕ

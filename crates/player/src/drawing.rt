@@ -1,62 +1,197 @@
-//! Drawing what a step draws, on a canvas.
+//! Drawing what a step draws, on a canvas: what is filled, and then what is stroked.
 
-ghost use Rattle.std.specs.Prelude.{◌≡◌, ◌+◌, ◌<◌, ◌≤◌, ◌^◌, IfSome};
+ghost use Rattle.std.specs.Prelude.{◌≡◌, ◌+◌, ◌<◌, ◌≤◌, ◌^◌, IfSome, OnErr, OnOk};
 ghost use Rattle.std.specs.Option.{option_map};
-ghost use Rattle.dc_stack.specs.MachineState.{IsPlacedDraw, drawing_with};
-ghost use Rattle.dc_stack.specs.Values.{placed_value};
-ghost use Rattle.player.specs.Dot.{dots, dotted, indexes_of};
-ghost use Rattle.player.specs.Plays.{DrawsDrawing, IsWhole, SameRows};
+ghost use Rattle.dc_stack.specs.Draws.{IsPlacedDraw, mark_of};
+ghost use Rattle.dc_stack.specs.Drawing.{edge_limit, tools_of};
+ghost use Rattle.dc_stack.specs.MachineState.{drawing_with};
+ghost use Rattle.draw_ops.specs.declared.objects.Pen.TheVariants.{Solid};
+ghost use Rattle.player.specs.Layer.{fills_of, outlines_of, strokes_of};
+ghost use Rattle.player.specs.Plays.{DrawsDrawing, DrawsLayers, IsWhole, SameRows};
+ghost use Rattle.player.specs.Shape.{fill_rule_of};
 
-use canvas::Canvas;
-use dc_stack::{Clip, Draw, Machine};
-use mapping::{Colour, Point};
+use crate::dots::put;
+use crate::filling::{fill_box, fill_lines};
+use crate::list_lines::Ends;
+use crate::paint::Paint;
+use crate::placed_lines::PlacedLines;
+use crate::rectangles::rectangle_box;
+use crate::regions::whole_law;
+use crate::stroking::{stroke_box, stroke_line, stroke_lines};
+use canvas::{Canvas, writing_law};
+use dc_stack::{Draw, Machine};
+use draw_ops::{Brush, FillMode, Pen};
+use mapping::Colour;
 use object_tables::Table;
+use span_fill::{FillRule, Line, OutOfMemory, Outline, RowBuf};
 
 /// Draws what a step of the machine draws, if it draws, with the tools of its moment. The count of
-/// writes has room for two layers of a surface of 2^26 pixels.
+/// writes has room for two layers of a surface of 2^26 pixels. Memory may be refused for the lines of a drawing for
+/// which the rows have no room, and then part of it may be drawn; where they have room for any drawing, none is wanted.
 pub(crate) fn draw<'a, T: Table<'a>>(
-    step: Option<Draw>,
+    step: Option<Draw<'a>>,
     machine: &Machine<'a, T>,
+    rows: &mut RowBuf,
     canvas: &mut Canvas,
-)
+) -> Result<(), OutOfMemory>
     requires whole { IsWhole canvas.old machine.now.surface }
-    requires countable { canvas.old.writes + 2 ^ 27 < 2 ^ 64 }
+    requires countable { canvas.old.writes + 2 ^ 28 < 2 ^ 64 }
     requires placed { IfSome step (IsPlacedDraw machine.now.surface) }
-    ensures drawn { DrawsDrawing (option_map (drawing_with machine.now.state.dc) step) machine.now.surface canvas.old canvas.new }
+    ensures drawn { OnOk result (DrawsDrawing (option_map (drawing_with machine.now.state.dc) step.entry) machine.now.surface canvas.old canvas.new) }
+    ensures memory { OnErr result (rows.old.room < edge_limit) }
     ensures rows { SameRows canvas.old canvas.new }
     ensures few { canvas.new.writes ≤ canvas.old.writes + 2 ^ 27 }
+    ensures room { rows.old.room ≤ rows.new.room }
 {
-    if let Some(dot) = step {
-        let clip = &machine.dc().clip;
-        put(dot.placed, dot.colour, clip, canvas);
+    if let Some(drawn) = step {
+        fill(drawn, machine, rows, canvas)?;
+        stroke(drawn, machine, rows, canvas)?;
     }
+    Ok(())
 }
 
-/// Writes the pixel that a placed point is, if the surface and the clip have it.
-fn put(point: Point, colour: Colour, clip: &Clip, canvas: &mut Canvas)
-    requires first { canvas.old.first ≡ 0 }
-    requires countable { canvas.old.writes + 1 < 2 ^ 64 }
-    ensures colours { canvas.new.colours ≡ dotted point (placed_value clip.now) colour canvas.old.width canvas.old.colours }
-    ensures writes { canvas.new.writes ≡ canvas.old.writes + dots point (placed_value clip.now) canvas.old.width canvas.old.rows }
-    ensures few { canvas.new.writes ≤ canvas.old.writes + 1 }
+/// Fills the inside of what a step draws, if it has one and the brush paints.
+fn fill<'a, T: Table<'a>>(
+    drawn: Draw<'a>,
+    machine: &Machine<'a, T>,
+    rows: &mut RowBuf,
+    canvas: &mut Canvas,
+) -> Result<(), OutOfMemory>
+    requires whole { IsWhole canvas.old machine.now.surface }
+    requires countable { canvas.old.writes + 2 ^ 27 < 2 ^ 64 }
+    requires placed { IsPlacedDraw machine.now.surface drawn }
+    ensures drawn { OnOk result (DrawsLayers (fills_of (mark_of drawn.entry) (tools_of machine.now.state.dc)) machine.now.surface canvas.old canvas.new) }
+    ensures memory { OnErr result (rows.old.room < edge_limit) }
     ensures rows { SameRows canvas.old canvas.new }
+    ensures few { canvas.new.writes ≤ canvas.old.writes + 2 ^ 26 }
+    ensures room { rows.old.room ≤ rows.new.room }
 {
-    let Some((x, y)) = indexes(point) else {
-        return;
-    };
-    if !canvas.has_pixel(x, y) {
-        return;
+    writing_law();
+    whole_law(canvas);
+    let dc = machine.dc();
+    if let Brush::Null = dc.selected.brush {
+        return Ok(());
     }
-    if clip.has(x, y) {
-        canvas.put(x, y, colour);
+    let paint = Paint::with(dc.selected.brush, dc);
+    match drawn {
+        Draw::Polygons { lists, by, bounds } => {
+            let outline = PlacedLines::of_lists(by, Ends::Closed, lists);
+            rows.reserve(outline.count())?;
+            let rule = rule_of(dc.modes.fill_mode);
+            fill_lines(canvas, rows, outline, rule, bounds, &paint);
+        }
+        Draw::Rectangle {
+            first,
+            second,
+            edges,
+        } => {
+            let inside = rectangle_box(first.placed, second.placed, edges);
+            fill_box(canvas, inside, &paint);
+        }
+        Draw::Dot { .. } | Draw::Line { .. } | Draw::LinesFrom { .. } | Draw::Polylines { .. } => {}
     }
+    Ok(())
 }
 
-/// The column and the row of a placed point, if neither is negative.
-fn indexes(point: Point) -> Option<(u32, u32)>
-    ensures { result ≡ indexes_of point }
+/// Strokes what a step draws, if the pen draws: a dot is a pixel in its own colour.
+fn stroke<'a, T: Table<'a>>(
+    drawn: Draw<'a>,
+    machine: &Machine<'a, T>,
+    rows: &mut RowBuf,
+    canvas: &mut Canvas,
+) -> Result<(), OutOfMemory>
+    requires whole { IsWhole canvas.old machine.now.surface }
+    requires countable { canvas.old.writes + 2 ^ 27 < 2 ^ 64 }
+    requires placed { IsPlacedDraw machine.now.surface drawn }
+    ensures drawn { OnOk result (DrawsLayers (strokes_of (mark_of drawn.entry) (tools_of machine.now.state.dc)) machine.now.surface canvas.old canvas.new) }
+    ensures memory { OnErr result (rows.old.room < edge_limit) }
+    ensures rows { SameRows canvas.old canvas.new }
+    ensures few { canvas.new.writes ≤ canvas.old.writes + 2 ^ 26 }
+    ensures room { rows.old.room ≤ rows.new.room }
 {
-    let x = u32::try_from(point.x).ok()?;
-    let y = u32::try_from(point.y).ok()?;
-    Some((x, y))
+    writing_law();
+    whole_law(canvas);
+    let dc = machine.dc();
+    if let Draw::Dot { at, colour } = drawn {
+        put(at.placed, colour, &dc.clip, canvas);
+        return Ok(());
+    }
+    let Pen::Solid { colour } = dc.selected.pen else {
+        return Ok(());
+    };
+    stroke_outline(drawn, colour, machine, rows, canvas)
+}
+
+/// Strokes the outline of what a step draws, in the colour of the pen. A dot has none.
+fn stroke_outline<'a, T: Table<'a>>(
+    drawn: Draw<'a>,
+    colour: Colour,
+    machine: &Machine<'a, T>,
+    rows: &mut RowBuf,
+    canvas: &mut Canvas,
+) -> Result<(), OutOfMemory>
+    requires whole { IsWhole canvas.old machine.now.surface }
+    requires countable { canvas.old.writes + 2 ^ 27 < 2 ^ 64 }
+    requires placed { IsPlacedDraw machine.now.surface drawn }
+    requires pen { machine.now.state.dc.selected.pen.object ≡ Solid colour }
+    ensures drawn { OnOk result (DrawsLayers (outlines_of (mark_of drawn.entry) (tools_of machine.now.state.dc)) machine.now.surface canvas.old canvas.new) }
+    ensures memory { OnErr result (rows.old.room < edge_limit) }
+    ensures rows { SameRows canvas.old canvas.new }
+    ensures few { canvas.new.writes ≤ canvas.old.writes + 2 ^ 26 }
+    ensures room { rows.old.room ≤ rows.new.room }
+{
+    writing_law();
+    whole_law(canvas);
+    let dc = machine.dc();
+    let paint = Paint::with(Brush::Solid(colour), dc);
+    match drawn {
+        Draw::Dot { .. } => {}
+        Draw::Line { from, to } => {
+            let line = Line {
+                from: from.placed,
+                to: to.placed,
+            };
+            stroke_line(canvas, line, &paint, colour);
+        }
+        Draw::LinesFrom {
+            from,
+            points,
+            by,
+            bounds,
+        } => {
+            let outline = PlacedLines::from(from.placed, by, points);
+            rows.reserve(outline.count())?;
+            stroke_lines(canvas, rows, outline, bounds, &paint);
+        }
+        Draw::Polylines { lists, by, bounds } => {
+            let outline = PlacedLines::of_lists(by, Ends::Open, lists);
+            rows.reserve(outline.count())?;
+            stroke_lines(canvas, rows, outline, bounds, &paint);
+        }
+        Draw::Polygons { lists, by, bounds } => {
+            let outline = PlacedLines::of_lists(by, Ends::Closed, lists);
+            rows.reserve(outline.count())?;
+            stroke_lines(canvas, rows, outline, bounds, &paint);
+        }
+        Draw::Rectangle {
+            first,
+            second,
+            edges,
+        } => {
+            let inside = rectangle_box(first.placed, second.placed, edges);
+            rows.reserve(4)?;
+            stroke_box(canvas, rows, inside, &paint);
+        }
+    }
+    Ok(())
+}
+
+/// The rule of a fill mode.
+fn rule_of(mode: FillMode) -> FillRule
+    ensures { result ≡ fill_rule_of mode }
+{
+    match mode {
+        FillMode::Alternate => FillRule::EvenOdd,
+        FillMode::Winding => FillRule::NonZero,
+    }
 }

@@ -14,11 +14,22 @@
 //!   from (`run_law`).
 #![tactic(auto)]
 
+mod dots;
 mod drawing;
 mod file_table;
+mod filling;
 mod laws;
+mod line_steps;
+mod list_lines;
+mod paint;
+mod placed_lines;
 mod play;
+mod rectangles;
 mod refusal;
+mod regions;
+mod row_ink;
+mod strips;
+mod stroking;
 #[cfg(test)]
 mod tests;
 

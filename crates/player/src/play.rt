@@ -6,8 +6,9 @@ ghost use Rattle.canvas.specs.CanvasState.{image_of};
 ghost use Rattle.draw_ops.specs.Fault.{IsInRecord};
 ghost use Rattle.draw_ops.specs.Records.{record_limit};
 ghost use Rattle.meta_headers.specs.OpenedOf.{opened_of};
+ghost use Rattle.dc_stack.specs.Drawing.{edge_limit};
 ghost use Rattle.dc_stack.specs.MachineState.{GoesOn, HasFullRoom};
-ghost use Rattle.player.specs.Plays.{IsWantOfMemory, IsWhole, Plays, PlaysOpened, PlaysRecords, SameRows, StopsBy, StopsOpenedBy, StopsRecordsBy, WantsMemory};
+ghost use Rattle.player.specs.Plays.{IsWantOfMemory, IsWhole, LacksLines, Plays, PlaysOpened, PlaysRecords, SameRows, StopsBy, StopsOpenedBy, StopsRecordsBy, WantsMemory};
 ghost use Rattle.player.specs.Run.{Refused, Run, Writes, shown, white};
 
 use crate::drawing::draw;
@@ -19,13 +20,14 @@ use draw_ops::{Fault, OpSource};
 use mapping::{Colour, Place};
 use meta_headers::{Opened, open_file};
 use object_tables::Table;
+use span_fill::RowBuf;
 use std::alloc::Global;
 
 /// Plays a file on a white surface of `width` by `height` pixels. The canvas shows the image that the
 /// file's records define, and counts the pixels written.
 ///
 /// The refusal is the first fault of the file with its record, or `OutOfMemory` without one where
-/// memory for the canvas or the machine was refused, which is taken once the file's headers are read.
+/// memory for the canvas, the machine or a drawing's lines was refused, which is taken once the file's headers are read.
 pub fn play_file(alloc: Global, file: &[u8], width: u32, height: u32) -> Result<Canvas, Refusal>
     requires wide { IsSurfaceSide width }
     requires high { IsSurfaceSide height }
@@ -66,23 +68,26 @@ fn play_opened(alloc: Global, opened: &Opened<'_>, canvas: &mut Canvas) -> Resul
     if machine.reserve(MAX_SAVED_STATES, slots, 0).is_err() {
         return Err(Refusal::of_file(Fault::OutOfMemory));
     }
-    match play_on(opened, &mut machine, canvas) {
+    let mut rows = RowBuf::new(alloc);
+    match play_records(opened, &mut machine, &mut rows, canvas) {
         Ok(_) => Ok(()),
         Err(refusal) => Err(refusal),
     }
 }
 
-/// Plays an opened file's records on a machine that has room for any file, and on a canvas that holds
-/// the machine's surface, over what it shows, and tells how many pixels were written. The refusal is the
-/// first fault of the records: no memory is wanted. After a refusal the canvas may show what was drawn
+/// Plays an opened file's records on a machine that has room for any file, with rows that have room for
+/// any drawing, and on a canvas that holds the machine's surface, over what it shows, and tells how many
+/// pixels were written. The refusal is the first fault of the records: no memory is wanted. After a refusal the canvas may show what was drawn
 /// before the fault.
 pub fn play_on<'a, T: Table<'a>>(
     opened: &Opened<'a>,
     machine: &mut Machine<'a, T>,
+    rows: &mut RowBuf,
     canvas: &mut Canvas,
 ) -> Result<u64, Refusal>
     requires whole { IsWhole canvas.old machine.old.surface }
     requires room { HasFullRoom machine.old }
+    requires lines { edge_limit ≤ rows.old.room }
     requires countable { canvas.old.writes ≤ 2 ^ 63 }
     ensures played { OnOk result
         (PlaysRecords opened.now.format opened.now.records.now machine.old.state machine.old.surface canvas.old canvas.new) }
@@ -92,9 +97,34 @@ pub fn play_on<'a, T: Table<'a>>(
     ensures record { IfErr result (λ r. IsSome r.number ↔ IsInRecord r.fault) }
     ensures rows { SameRows canvas.old canvas.new }
     ensures goes_on { GoesOn machine.old machine.new }
+    ensures lines { rows.old.room ≤ rows.new.room }
+{
+    play_records(opened, machine, rows, canvas)
+}
+
+/// Plays an opened file's records as `play_on` does, with rows that may lack room: a drawing for whose lines
+/// memory was refused is refused, without a record.
+fn play_records<'a, T: Table<'a>>(
+    opened: &Opened<'a>,
+    machine: &mut Machine<'a, T>,
+    rows: &mut RowBuf,
+    canvas: &mut Canvas,
+) -> Result<u64, Refusal>
+    requires whole { IsWhole canvas.old machine.old.surface }
+    requires room { HasFullRoom machine.old }
+    requires countable { canvas.old.writes ≤ 2 ^ 63 }
+    ensures played { OnOk result
+        (PlaysRecords opened.now.format opened.now.records.now machine.old.state machine.old.surface canvas.old canvas.new) }
+    ensures count { IfOk result (λ writes. canvas.new.writes ≡ canvas.old.writes + writes) }
+    ensures refusal { IfErr result
+        (λ r. StopsRecordsBy opened.now.format opened.now.records.now machine.old.state machine.old.surface r ⊎ LacksLines rows.old r) }
+    ensures record { IfErr result (λ r. IsSome r.number ↔ IsInRecord r.fault) }
+    ensures rows { SameRows canvas.old canvas.new }
+    ensures goes_on { GoesOn machine.old machine.new }
+    ensures lines { rows.old.room ≤ rows.new.room }
 {
     let before = canvas.writes();
-    match play_steps(&mut opened.source(), machine, canvas) {
+    match play_steps(&mut opened.source(), machine, rows, canvas) {
         Ok(()) => Ok(canvas.writes() - before),
         Err(refusal) => Err(refusal),
     }
@@ -104,6 +134,7 @@ pub fn play_on<'a, T: Table<'a>>(
 fn play_steps<'a, S: OpSource<'a>, T: Table<'a>>(
     source: &mut S,
     machine: &mut Machine<'a, T>,
+    rows: &mut RowBuf,
     canvas: &mut Canvas,
 ) -> Result<(), Refusal>
     requires short { length (S.content source.old).steps ≤ record_limit }
@@ -111,10 +142,11 @@ fn play_steps<'a, S: OpSource<'a>, T: Table<'a>>(
     requires room { HasFullRoom machine.old }
     requires countable { canvas.old.writes ≤ 2 ^ 63 }
     ensures played { OnOk result (Plays (S.content source.old) machine.old.state machine.old.surface canvas.old canvas.new) }
-    ensures refusal { IfErr result (StopsBy (S.content source.old) machine.old.state machine.old.surface) }
+    ensures refusal { IfErr result (λ r. StopsBy (S.content source.old) machine.old.state machine.old.surface r ⊎ LacksLines rows.old r) }
     ensures record { IfErr result (λ r. IsSome r.number ↔ IsInRecord r.fault) }
     ensures rows { SameRows canvas.old canvas.new }
     ensures goes_on { GoesOn machine.old machine.new }
+    ensures lines { rows.old.room ≤ rows.new.room }
 {
     room_law();
     fault_law();
@@ -129,7 +161,9 @@ fn play_steps<'a, S: OpSource<'a>, T: Table<'a>>(
             Ok(drawn) => drawn,
             Err(fault) => return Err(Refusal::at(step.number, fault)),
         };
-        draw(drawn, machine, canvas);
+        if draw(drawn, machine, rows, canvas).is_err() {
+            return Err(Refusal::of_file(Fault::OutOfMemory));
+        }
         before += 1;
     }
 }

@@ -12,5 +12,6 @@ mod playing;
 mod playing_on;
 mod records_of_emf;
 mod records_of_wmf;
+mod rows;
 mod sources;
 mod tables;

@@ -23,3 +23,4 @@ pub mod InsertionLemmas
 pub mod JoiningLemmas
 pub mod StrokingLemmas
 pub mod StripStart
+pub mod RowLawLemmas

@@ -1,6 +1,7 @@
 pub mod Lines
 pub mod Fill
 pub mod Strokes
+pub mod RowLaws
 pub mod Spans
 pub mod Crossings
 pub mod Axis

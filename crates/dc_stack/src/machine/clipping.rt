@@ -13,7 +13,7 @@ use object_tables::Table;
 
 impl<'a, T: Table<'a>> Machine<'a, T> {
     /// Cuts a box of the page out of the clip.
-    pub(super) fn exclude_clip(&mut self, corners: Rect) -> Result<Option<Draw>, Fault>
+    pub(super) fn exclude_clip(&mut self, corners: Rect) -> Result<Option<Draw<'a>>, Fault>
         ensures plays { Plays (exclude_clip corners) self.old result self.new }
         ensures goes_on { GoesOn self.old self.new }
     {
@@ -30,7 +30,7 @@ impl<'a, T: Table<'a>> Machine<'a, T> {
     }
 
     /// Keeps what a box of the page has of the clip.
-    pub(super) fn intersect_clip(&mut self, corners: Rect) -> Result<Option<Draw>, Fault>
+    pub(super) fn intersect_clip(&mut self, corners: Rect) -> Result<Option<Draw<'a>>, Fault>
         ensures plays { Plays (intersect_clip corners) self.old result self.new }
         ensures goes_on { GoesOn self.old self.new }
     {
@@ -45,7 +45,7 @@ impl<'a, T: Table<'a>> Machine<'a, T> {
     }
 
     /// Clips nothing from here on.
-    pub(super) fn remove_clip(&mut self) -> Result<Option<Draw>, Fault>
+    pub(super) fn remove_clip(&mut self) -> Result<Option<Draw<'a>>, Fault>
         ensures plays { Plays remove_clip self.old result self.new }
         ensures goes_on { GoesOn self.old self.new }
     {

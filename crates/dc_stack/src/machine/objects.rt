@@ -22,7 +22,7 @@ impl<'a, T: Table<'a>> Machine<'a, T> {
         &mut self,
         at: Option<Handle>,
         object: Object<'a>,
-    ) -> Result<Option<Draw>, Fault>
+    ) -> Result<Option<Draw<'a>>, Fault>
         ensures plays { Plays (create (index_of at) (object_value_of object.entry)) self.old result self.new }
         ensures goes_on { GoesOn self.old self.new }
     {
@@ -36,7 +36,7 @@ impl<'a, T: Table<'a>> Machine<'a, T> {
     }
 
     /// Puts a pen, a brush or a font in use.
-    pub(super) fn select(&mut self, handle: Handle) -> Result<Option<Draw>, Fault>
+    pub(super) fn select(&mut self, handle: Handle) -> Result<Option<Draw<'a>>, Fault>
         ensures plays { Plays (select handle.0) self.old result self.new }
         ensures goes_on { GoesOn self.old self.new }
     {
@@ -51,7 +51,7 @@ impl<'a, T: Table<'a>> Machine<'a, T> {
     }
 
     /// Puts a palette in use.
-    pub(super) fn select_palette(&mut self, handle: Handle) -> Result<Option<Draw>, Fault>
+    pub(super) fn select_palette(&mut self, handle: Handle) -> Result<Option<Draw<'a>>, Fault>
         ensures plays { Plays (select_palette handle.0) self.old result self.new }
         ensures goes_on { GoesOn self.old self.new }
     {
@@ -66,7 +66,7 @@ impl<'a, T: Table<'a>> Machine<'a, T> {
     }
 
     /// Takes an object that nothing holds out of the table.
-    pub(super) fn delete(&mut self, handle: Handle) -> Result<Option<Draw>, Fault>
+    pub(super) fn delete(&mut self, handle: Handle) -> Result<Option<Draw<'a>>, Fault>
         ensures plays { Plays (delete handle.0) self.old result self.new }
         ensures goes_on { GoesOn self.old self.new }
     {

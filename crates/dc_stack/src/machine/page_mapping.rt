@@ -11,7 +11,7 @@ use object_tables::Table;
 
 impl<'a, T: Table<'a>> Machine<'a, T> {
     /// Sets the map mode.
-    pub(super) fn set_map_mode(&mut self, mode: MapMode) -> Result<Option<Draw>, Fault>
+    pub(super) fn set_map_mode(&mut self, mode: MapMode) -> Result<Option<Draw<'a>>, Fault>
         ensures plays { Plays (set_map_mode mode) self.old result self.new }
         ensures goes_on { GoesOn self.old self.new }
     {
@@ -20,7 +20,7 @@ impl<'a, T: Table<'a>> Machine<'a, T> {
     }
 
     /// Sets the window's origin.
-    pub(super) fn set_window_origin(&mut self, origin: Point) -> Result<Option<Draw>, Fault>
+    pub(super) fn set_window_origin(&mut self, origin: Point) -> Result<Option<Draw<'a>>, Fault>
         ensures plays { Plays (set_window_origin origin) self.old result self.new }
         ensures goes_on { GoesOn self.old self.new }
     {
@@ -29,7 +29,7 @@ impl<'a, T: Table<'a>> Machine<'a, T> {
     }
 
     /// Sets the viewport's origin.
-    pub(super) fn set_viewport_origin(&mut self, origin: Point) -> Result<Option<Draw>, Fault>
+    pub(super) fn set_viewport_origin(&mut self, origin: Point) -> Result<Option<Draw<'a>>, Fault>
         ensures plays { Plays (set_viewport_origin origin) self.old result self.new }
         ensures goes_on { GoesOn self.old self.new }
     {
@@ -38,7 +38,7 @@ impl<'a, T: Table<'a>> Machine<'a, T> {
     }
 
     /// Sets the window's extent.
-    pub(super) fn set_window_extent(&mut self, extent: Point) -> Result<Option<Draw>, Fault>
+    pub(super) fn set_window_extent(&mut self, extent: Point) -> Result<Option<Draw<'a>>, Fault>
         ensures plays { Plays (set_window_extent extent) self.old result self.new }
         ensures goes_on { GoesOn self.old self.new }
     {
@@ -49,7 +49,7 @@ impl<'a, T: Table<'a>> Machine<'a, T> {
     }
 
     /// Sets the viewport's extent.
-    pub(super) fn set_viewport_extent(&mut self, extent: Point) -> Result<Option<Draw>, Fault>
+    pub(super) fn set_viewport_extent(&mut self, extent: Point) -> Result<Option<Draw<'a>>, Fault>
         ensures plays { Plays (set_viewport_extent extent) self.old result self.new }
         ensures goes_on { GoesOn self.old self.new }
     {
@@ -60,7 +60,7 @@ impl<'a, T: Table<'a>> Machine<'a, T> {
     }
 
     /// Moves the window's origin.
-    pub(super) fn offset_window_origin(&mut self, offset: Point) -> Result<Option<Draw>, Fault>
+    pub(super) fn offset_window_origin(&mut self, offset: Point) -> Result<Option<Draw<'a>>, Fault>
         ensures plays { Plays (offset_window_origin offset) self.old result self.new }
         ensures goes_on { GoesOn self.old self.new }
     {
@@ -71,7 +71,10 @@ impl<'a, T: Table<'a>> Machine<'a, T> {
     }
 
     /// Moves the viewport's origin.
-    pub(super) fn offset_viewport_origin(&mut self, offset: Point) -> Result<Option<Draw>, Fault>
+    pub(super) fn offset_viewport_origin(
+        &mut self,
+        offset: Point,
+    ) -> Result<Option<Draw<'a>>, Fault>
         ensures plays { Plays (offset_viewport_origin offset) self.old result self.new }
         ensures goes_on { GoesOn self.old self.new }
     {

@@ -14,7 +14,7 @@ pub const MAX_SAVED_STATES: usize = 256;
 
 impl<'a, T: Table<'a>> Machine<'a, T> {
     /// Saves a copy of what drawings depend on.
-    pub(super) fn save(&mut self) -> Result<Option<Draw>, Fault>
+    pub(super) fn save(&mut self) -> Result<Option<Draw<'a>>, Fault>
         ensures plays { Plays save self.old result self.new }
         ensures goes_on { GoesOn self.old self.new }
     {
@@ -31,7 +31,7 @@ impl<'a, T: Table<'a>> Machine<'a, T> {
     }
 
     /// Takes a saved state back.
-    pub(super) fn restore(&mut self, which: SavedState) -> Result<Option<Draw>, Fault>
+    pub(super) fn restore(&mut self, which: SavedState) -> Result<Option<Draw<'a>>, Fault>
         ensures plays { Plays (restore which.0) self.old result self.new }
         ensures goes_on { GoesOn self.old self.new }
     {

@@ -14,7 +14,7 @@ impl<'a, T: Table<'a>> Machine<'a, T> {
     pub(super) fn set_background_mode(
         &mut self,
         mode: BackgroundMode,
-    ) -> Result<Option<Draw>, Fault>
+    ) -> Result<Option<Draw<'a>>, Fault>
         ensures plays { Plays (set_background_mode mode) self.old result self.new }
         ensures goes_on { GoesOn self.old self.new }
     {
@@ -23,7 +23,10 @@ impl<'a, T: Table<'a>> Machine<'a, T> {
     }
 
     /// Sets the colour of the gaps of a hatch.
-    pub(super) fn set_background_colour(&mut self, colour: Colour) -> Result<Option<Draw>, Fault>
+    pub(super) fn set_background_colour(
+        &mut self,
+        colour: Colour,
+    ) -> Result<Option<Draw<'a>>, Fault>
         ensures plays { Plays (set_background_colour colour) self.old result self.new }
         ensures goes_on { GoesOn self.old self.new }
     {
@@ -32,7 +35,7 @@ impl<'a, T: Table<'a>> Machine<'a, T> {
     }
 
     /// Sets how colours join what is there.
-    pub(super) fn set_raster_op(&mut self, raster_op: RasterOp) -> Result<Option<Draw>, Fault>
+    pub(super) fn set_raster_op(&mut self, raster_op: RasterOp) -> Result<Option<Draw<'a>>, Fault>
         ensures plays { Plays (set_raster_op raster_op) self.old result self.new }
         ensures goes_on { GoesOn self.old self.new }
     {
@@ -41,7 +44,7 @@ impl<'a, T: Table<'a>> Machine<'a, T> {
     }
 
     /// Sets which parts polygons fill.
-    pub(super) fn set_fill_mode(&mut self, mode: FillMode) -> Result<Option<Draw>, Fault>
+    pub(super) fn set_fill_mode(&mut self, mode: FillMode) -> Result<Option<Draw<'a>>, Fault>
         ensures plays { Plays (set_fill_mode mode) self.old result self.new }
         ensures goes_on { GoesOn self.old self.new }
     {
@@ -50,7 +53,7 @@ impl<'a, T: Table<'a>> Machine<'a, T> {
     }
 
     /// Makes a point the current one.
-    pub(super) fn move_to(&mut self, point: Point) -> Result<Option<Draw>, Fault>
+    pub(super) fn move_to(&mut self, point: Point) -> Result<Option<Draw<'a>>, Fault>
         ensures plays { Plays (move_to point) self.old result self.new }
         ensures goes_on { GoesOn self.old self.new }
     {

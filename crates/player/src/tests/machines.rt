@@ -1,7 +1,7 @@
 //! Machines: what a step draws and needs, a new start, and refused growth.
 
 use crate::tests::playing::{DOT, RED};
-use dc_stack::{Draw, Machine, Needs};
+use dc_stack::{Draw, Landing, Machine, Needs};
 use draw_ops::{Fault, FillMode, Handle, Object, Op, SavedState};
 use mapping::{Place, Point, Rect};
 use meta_headers::{Opened, open_file};
@@ -29,11 +29,11 @@ const FONT: Op<'static> = Op::Create {
 fn a_pixel_is_drawn_where_it_lands(rt: HostRuntime) -> Result<(), Fail> {
     let opened = open_file(&DOT)?;
     let mut machine = machine(rt.alloc(), &opened);
-    let drawn = Draw {
-        point: Point { x: 3, y: -1 },
+    let at = Landing {
+        plane: Point { x: 3, y: -1 },
         placed: Point { x: 1, y: -1 },
-        colour: RED,
     };
+    let drawn = Draw::Dot { at, colour: RED };
     assert_eq!(rt; machine.step(PIXEL), Ok(Some(drawn)));
     let left = Rect {
         l: 2,

@@ -9,6 +9,7 @@ use draw_ops::Fault;
 use mapping::Place;
 use meta_headers::open_file;
 use object_tables::LowestFree;
+use span_fill::RowBuf;
 use std::alloc::Global;
 use std::test::Fail;
 
@@ -22,10 +23,12 @@ fn play_over(
     let place = Place::new(&opened.frame, canvas.width(), canvas.rows());
     let mut machine = Machine::new(alloc, &opened, place, LowestFree::new(alloc));
     machine.reserve(256, 1024, 0)?;
+    let mut rows = RowBuf::new(alloc);
+    rows.reserve(1 << 20)?;
     if canvas.first() != 0 || canvas.writes() > 1000 {
         return Err("the canvas of a test is whole and new".into());
     }
-    Ok(play_on(&opened, &mut machine, canvas))
+    Ok(play_on(&opened, &mut machine, &mut rows, canvas))
 }
 
 #[test]

@@ -1,5 +1,5 @@
 -- A refused step is where the content stops.
-use Rattle.std.proofs.Common.{rules, Ok, ap, ◌∙◌}
+use Rattle.std.proofs.Common.{rules, Ok, ap, inl, ◌∙◌}
 use Rattle.draw_ops.specs.OperationOf.{operation_of}
 use Rattle.draw_ops.specs.Records.{record_limit}
 use Rattle.draw_ops.specs.StepOf.{step_value_of}
@@ -18,7 +18,7 @@ returns-in-Err-step-clause-refusal g c =
     let here = rw loop.invariant.same_surface at fault in
     let content = g.S.HasContent.content in
     let given = begins_with (content loop.source) (content c.next_op.new.self) c.next_op.result step c.next_op.ensures.gives (c.in-Ok-Some.is ∙ ap Ok c.in-Ok-Some.field-0-is) in
-    stops_by (content c.args.source.now) (content loop.source) (step_value_of step) loop.before c.args.machine.now.state loop.machine.state c.args.machine.now.surface c.in-Err-step.fault c.at-in-Err-step.result loop.invariant.stops (content c.next_op.new.self) given here c.at-in-Err-step.ensures.number c.at-in-Err-step.ensures.fault
+    inl (stops_by (content c.args.source.now) (content loop.source) (step_value_of step) loop.before c.args.machine.now.state loop.machine.state c.args.machine.now.surface c.in-Err-step.fault c.at-in-Err-step.result loop.invariant.stops (content c.next_op.new.self) given here c.at-in-Err-step.ensures.number c.at-in-Err-step.ensures.fault)
 
 pub returns-in-Err-step-clause-record : goal.returns-in-Err-step-clause-record
 returns-in-Err-step-clause-record g c =

@@ -19,6 +19,7 @@ invariant-loop-step g l =
       same_surface : l.machine.surface ≡ start;
       goes_on : GoesOn l.fn.machine l.machine;
       room : HasFullRoom l.machine;
+      lines : l.fn.rows.room ≤ l.rows.room;
       whole : IsWhole l.canvas start;
       rows : SameRows l.fn.canvas l.canvas;
       stops : stopped (content l.fn.source).steps (content l.fn.source).fault 0 l.fn.machine.state start ≡ stopped (content l.source).steps (content l.source).fault l.before l.machine.state start;

@@ -1,0 +1,103 @@
+-- Lists of points on the plane: how many points they have, and where lines through them end.
+use Rattle.std.proofs.Common.{◌≡◌, ◌↔◌, ℕ, zero, suc, ◌<◌, ◌≤◌, Bool, true, false, cond, nat_le, List, [], ◌∷◌, ◌++◌, length, Option, Some, None, IsTrue, arith, refl, ap, sym, ◌∙◌}
+use Rattle.std.proofs.lemmas.Bool.{false≢true, le-leb, leb-true, lt-leb}
+use Rattle.std.proofs.lemmas.List.{append-nil, length-map}
+use Rattle.std.proofs.lemmas.Option.{same_Some}
+use Rattle.std.specs.List.{list_all, slice_get}
+use Rattle.std.specs.Option.{option_or}
+use Rattle.mapping.specs.Plane.{MapNumbers}
+use Rattle.mapping.specs.Surface.{Surface, lands_within_limits}
+use Rattle.mapping.specs.declared.geometry.Point.{Point}
+use Rattle.draw_ops.specs.declared.fault.Fault.{Fault}
+use Rattle.draw_ops.specs.declared.fault.Fault.TheVariants.{TooManyEdges}
+use Rattle.dc_stack.specs.Drawing.{edge_limit, going_on, joined}
+use Rattle.dc_stack.specs.Mapped.{mapped_list, mapped_lists, mapped_point}
+use Rattle.dc_stack.specs.Next.{end_of}
+use Rattle.dc_stack.specs.OperationFault.{off_plane_fault, points_fault}
+use Rattle.dc_stack.proofs.LandingLemmas.{all_land}
+
+-- lists are mapped as their points are
+mapped_append : (m : MapNumbers) (ps qs : List Point) → mapped_list m (ps ++ qs) ≡ mapped_list m ps ++ mapped_list m qs
+mapped_append m [] qs = refl
+mapped_append m (p ∷ ps) qs = ap (λ rest. mapped_point m p ∷ rest) (mapped_append m ps qs)
+
+pub mapped_joined : (m : MapNumbers) (lists : List (List Point)) → joined (mapped_lists m lists) ≡ mapped_list m (joined lists)
+mapped_joined m [] = refl
+mapped_joined m (list ∷ lists) = rw (mapped_joined m lists) (sym (mapped_append m list (joined lists)))
+
+-- the points of all lists, on the plane
+pub points_mapped : (m : MapNumbers) (points : List Point) (lists : List (List Point)) → points ≡ joined lists → mapped_list m points ≡ joined (mapped_lists m lists)
+points_mapped m points lists h = ap (mapped_list m) h ∙ sym (mapped_joined m lists)
+
+-- lines that go on through points have these, and the one where they begin
+pub through : (m : MapNumbers) (start : Point) (points : List Point) → 0 < length points → mapped_lists m (going_on start points) ≡ mapped_list m (start ∷ points) ∷ []
+through m start [] h = absurd (omega arith)
+through m start (p ∷ ps) h = refl
+
+pub joined_one : (points : List Point) → joined (points ∷ []) ≡ points
+joined_one points = append-nil points
+
+pub through_joined : (m : MapNumbers) (start : Point) (points : List Point) → 0 < length points → joined (mapped_lists m (going_on start points)) ≡ mapped_list m (start ∷ points)
+through_joined m start points h = ap joined (through m start points h) ∙ joined_one (mapped_list m (start ∷ points))
+
+-- so they have the same fault, and are so many
+pub through_fault : (m : MapNumbers) (start : Point) (points : List Point) (s : Surface) → 0 < length points → points_fault (joined (mapped_lists m (going_on start points))) s ≡ points_fault (mapped_list m (start ∷ points)) s
+through_fault m start points s h = ap (λ ps. points_fault ps s) (through_joined m start points h)
+
+pub through_count : (m : MapNumbers) (start : Point) (points : List Point) → 0 < length points → suc (length points) ≡ length (joined (mapped_lists m (going_on start points)))
+through_count m start points h = sym (ap length (through_joined m start points h) ∙ length-map (start ∷ points) (mapped_point m))
+
+-- more points than one drawing may have, or no more
+module _ (m : MapNumbers) (points : List Point) (s : Surface) (count : ℕ) (counted : count ≡ length points) where
+  pub past_limit : 1048576 < count → Some TooManyEdges ≡ points_fault (mapped_list m points) s
+  unfolding edge_limit
+  past_limit h = rw (lt-leb (length (mapped_list m points)) 1048576 (omega (arith, length-map points (mapped_point m)))) refl
+
+  pub within_limit : count ≤ 1048576 → off_plane_fault (mapped_list m points) s ≡ points_fault (mapped_list m points) s
+  unfolding edge_limit
+  within_limit h = rw (le-leb (length (mapped_list m points)) 1048576 (omega (arith, length-map points (mapped_point m)))) refl
+
+-- as few points as this are never too many
+pub never_too_many : (count : ℕ) → count ≤ 1048576 → count ≤ edge_limit
+unfolding edge_limit
+never_too_many count h = h
+
+-- where points have no fault, they are no more and land
+pub few_points : (points : List Point) (s : Surface) → None ≡ points_fault points s → length points ≤ edge_limit
+few_points points s h = leb-true (length points) edge_limit (first_none (nat_le (length points) edge_limit) h)
+  where
+    first_none : (test : Bool) → None ≡ option_or (cond test None (Some TooManyEdges)) (off_plane_fault points s) → test ≡ true
+    first_none true e = refl
+    first_none false e = cc
+
+pub none_off_plane : (points : List Point) (s : Surface) → None ≡ points_fault points s → None ≡ off_plane_fault points s
+none_off_plane points s h = second_none _ (off_plane_fault points s) h
+  where
+    second_none : (a b : Option Fault) → None ≡ option_or a b → None ≡ b
+    second_none None b e = e
+    second_none (Some f) b e = cc
+
+-- there is a point where a test says that there are some
+pub has_points : (points : List Point) (test : Bool) → IsTrue test ↔ (points ≡ []) → test ≡ false → 0 < length points
+has_points [] test tells h = absurd (false≢true (sym h ∙ tells.1 refl))
+has_points (p ∷ ps) test tells h = omega arith
+
+-- the points of one list land, where they have no fault
+pub one_list_lands : (points : List Point) (s : Surface) → None ≡ points_fault points s → list_all (λ p. lands_within_limits p s) (joined (points ∷ [])) ≡ true
+one_list_lands points s h = rw (joined_one points) (all_land s points (none_off_plane points s h))
+
+-- and there are at most so many in it
+pub one_list_few : (points : List Point) (s : Surface) → None ≡ points_fault points s → length (joined (points ∷ [])) ≤ edge_limit
+one_list_few points s h = rw (joined_one points) (few_points points s h)
+
+-- a point on the plane and others by the same map
+pub same_lines : (m n : MapNumbers) (start : Point) (points : List Point) (p : Point) → p ≡ mapped_point m start → n ≡ m → p ∷ mapped_list n points ≡ mapped_list m (start ∷ points)
+same_lines m n start points p here same = rw (here, same) refl
+
+-- the last point
+pub end_at : (start : Point) (points : List Point) (i : ℕ) (p : Point) → suc i ≡ length points → slice_get points i ≡ Some p → p ≡ end_of start points
+end_at start [] i p last at = cc
+end_at start (q ∷ []) zero p last at = sym (same_Some q p at)
+end_at start (q ∷ []) (suc i) p last at = cc
+end_at start (q ∷ r ∷ rs) zero p last at = absurd (omega arith)
+end_at start (q ∷ r ∷ rs) (suc i) p last at = end_at q (r ∷ rs) i p (omega arith) at

@@ -1,0 +1,25 @@
+-- Boxes around points of a surface.
+use Rattle.std.specs.Prelude.{◌≤ℤ◌, List, map}
+use Rattle.std.specs.List.{All}
+use Rattle.mapping.specs.Surface.{Surface, placed_point}
+use Rattle.mapping.specs.declared.geometry.Point.{Point}
+use Rattle.mapping.specs.declared.geometry.Rect.{Rect}
+
+-- where points of the plane land on a surface
+abbrev pub placed_list : Surface → List Point → List Point
+placed_list s points = map (λ point. placed_point point s) points
+
+-- a box has a point, its right and bottom included
+pub record HasPoint (box : Rect) (point : Point) : Type 0 where
+  pub left : box.l ≤ℤ point.x
+  pub top : box.t ≤ℤ point.y
+  pub right : point.x ≤ℤ box.r
+  pub bottom : point.y ≤ℤ box.b
+
+-- it has all points of a list
+abbrev pub HasAll : Rect → List Point → Type 0
+HasAll box points = All (HasPoint box) points
+
+-- it has what another box has
+abbrev pub HasAllOf : Rect → Rect → Type 0
+HasAllOf box other = (point : Point) → HasPoint other point → HasPoint box point

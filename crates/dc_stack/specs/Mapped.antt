@@ -1,0 +1,40 @@
+-- Points, lists of points and boxes of the page, on the plane.
+use Rattle.std.specs.Prelude.{List, [], ◌∷◌, map}
+use Rattle.mapping.specs.declared.geometry.Point.{Point}
+use Rattle.mapping.specs.declared.geometry.Rect.{Rect}
+use Rattle.mapping.specs.Plane.{MapNumbers, plane_point}
+use Rattle.dc_stack.specs.Clip.{box_between}
+
+-- a point of the page, on the plane
+abbrev pub mapped_point : MapNumbers → Point → Point
+mapped_point m point = plane_point m point.x point.y
+
+-- points of the page, on the plane
+abbrev pub mapped_list : MapNumbers → List Point → List Point
+mapped_list m points = map (mapped_point m) points
+
+-- lists of them
+abbrev pub mapped_lists : MapNumbers → List (List Point) → List (List Point)
+mapped_lists m lists = map (mapped_list m) lists
+
+-- the left top and the right bottom of a box
+abbrev pub left_top_of : Rect → Point
+left_top_of box = record { x = box.l; y = box.t }
+
+abbrev pub right_bottom_of : Rect → Point
+right_bottom_of box = record { x = box.r; y = box.b }
+
+-- those of a box of the page, on the plane
+abbrev pub left_top : MapNumbers → Rect → Point
+left_top m box = mapped_point m (left_top_of box)
+
+abbrev pub right_bottom : MapNumbers → Rect → Point
+right_bottom m box = mapped_point m (right_bottom_of box)
+
+-- a box of the page, on the plane: a turned axis exchanges its sides
+abbrev pub mapped_box : MapNumbers → Rect → Rect
+mapped_box m box = box_between (left_top m box) (right_bottom m box)
+
+-- the corners of a box of the page, on the plane
+abbrev pub mapped_corners : MapNumbers → Rect → List Point
+mapped_corners m box = left_top m box ∷ right_bottom m box ∷ []

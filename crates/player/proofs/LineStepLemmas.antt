@@ -1,0 +1,171 @@
+-- A line is drawn a step at a time.
+use Rattle.std.proofs.Common.{◌≡◌, ℕ, suc, ◌<◌, ◌≤◌, ℤ, pos, Bool, true, false, ◌&&◌, ◌||◌, nat_le, nat_lt, IsTrue, ◌⊎◌, inl, inr, arith, refl, ap, sym, ◌∙◌}
+use Rattle.std.proofs.lemmas.Bool.{and_from, and_parts}
+use Rattle.mapping.specs.declared.geometry.Colour.{Colour}
+use Rattle.mapping.specs.declared.geometry.Point.{Point}
+use Rattle.canvas.specs.CanvasState.{CanvasState}
+use Rattle.canvas.specs.Writing.{Repaints, is_at}
+use Rattle.canvas.specs.WritingLaws.{IsWhole, PassesNone, WritingLaws}
+use Rattle.dc_stack.specs.Clip.{ClipValue, in_boxes, in_kept}
+use Rattle.span_fill.specs.Spans.{in_region, in_span}
+use Rattle.span_fill.specs.Steps.{HasAllSteps, IsStepPixel, StepsState}
+use Rattle.span_fill.specs.Strokes.{OnePixelForEachStep, on_line, step_at}
+use Rattle.span_fill.specs.declared.line.Line.{Line}
+use Rattle.span_fill.specs.declared.pixel.Pixel.{Pixel}
+use Rattle.span_fill.specs.declared.span.Region.{Region}
+use Rattle.player.specs.LineSteps.{is_taken}
+use Rattle.player.proofs.TestLemmas.{nat_lt-from, nat_lt-true, same_test}
+
+-- the number of a column or a row, of a coordinate
+abbrev natural : ℤ → ℕ
+natural (pos n) = n
+natural v = 0
+
+-- a step has one pixel
+one_pixel : OnePixelForEachStep → (line : Line) (a b c d : ℕ) → IsTrue (on_line line (pos a) (pos b)) → IsTrue (on_line line (pos c) (pos d)) → step_at line (pos a) (pos b) ≡ step_at line (pos c) (pos d) → (a ≡ c) × (b ≡ d)
+one_pixel law line a b c d on there at =
+    let step = law.each line (step_at line (pos c) (pos d)) (law.no_other line (pos c) (pos d) there) in
+    let first = step.only (pos a) (pos b) on at in
+    let second = step.only (pos c) (pos d) there refl in
+    let same = sym first ∙ second in
+    (ap (λ (p : Point). natural p.x) same, ap (λ (p : Point). natural p.y) same)
+
+or_left : (a b : Bool) → a ≡ true → (a || b) ≡ true
+or_left true b h = refl
+or_left false b h = cc
+
+or_right : (a b : Bool) → b ≡ true → (a || b) ≡ true
+or_right true b h = refl
+or_right false b h = h
+
+or_cases : (a b : Bool) → (a || b) ≡ true → (a ≡ true) ⊎ (b ≡ true)
+or_cases true b h = inl refl
+or_cases false b h = inr h
+
+is_at_true : (x y column row : ℕ) → is_at x y column row ≡ true → (column ≡ x) × (row ≡ y)
+is_at_true x y column row h = grind (arith)
+
+is_at_from : (x y column row : ℕ) → column ≡ x → row ≡ y → is_at x y column row ≡ true
+is_at_from x y column row h k = grind (arith)
+
+module _ (law : OnePixelForEachStep) (clip : ClipValue) (line : Line) (region : Region) (k : ℕ) (pixel : Pixel) (step : IsStepPixel line region k pixel) where
+  record IsTaken (n x y : ℕ) : Type 0 where
+    pub has : in_boxes clip x y ≡ true
+    pub on : on_line line (pos x) (pos y) ≡ true
+    pub inside : in_region region x y ≡ true
+    pub before : step_at line (pos x) (pos y) < n
+
+  -- what is taken before the next step is what was taken before this one, and this one's pixel, where the clip has it
+  taken_parts : (n x y : ℕ) → is_taken clip line region n x y ≡ true → IsTaken n x y
+  taken_parts n x y h =
+      let a = and_parts (in_boxes clip x y) _ h in
+      let b = and_parts (on_line line (pos x) (pos y)) _ a.1 in
+      let c = and_parts (in_region region x y) (nat_lt (step_at line (pos x) (pos y)) n) b.1 in
+      record { has = a.0; on = b.0; inside = c.0; before = nat_lt-true _ n c.1 }
+
+  taken_from : (n x y : ℕ) → in_boxes clip x y ≡ true → on_line line (pos x) (pos y) ≡ true → in_region region x y ≡ true → step_at line (pos x) (pos y) < n → is_taken clip line region n x y ≡ true
+  taken_from n x y a b c d =
+      and_from (in_boxes clip x y) _ a (and_from (on_line line (pos x) (pos y)) _ b (and_from (in_region region x y) _ c (nat_lt-from _ n d)))
+
+  pub more_is_taken : in_boxes clip pixel.x pixel.y ≡ true → (x y : ℕ) → (is_taken clip line region k x y || is_at pixel.x pixel.y x y) ≡ is_taken clip line region (suc k) x y
+  more_is_taken has x y = same_test _ _
+      (λ h. elim (or_cases (is_taken clip line region k x y) (is_at pixel.x pixel.y x y) h) [
+        | inl before ↦ let p = taken_parts k x y before in let below = p.before in taken_from (suc k) x y p.has p.on p.inside (omega (arith, below))
+        | inr here ↦
+            let at = is_at_true pixel.x pixel.y x y here in
+            rw (at.0, at.1) (taken_from (suc k) pixel.x pixel.y has step.on step.inside (rw step.at (omega arith)))
+      ])
+      (λ h.
+      let p = taken_parts (suc k) x y h in
+      let below = p.before in
+      elim (cases_lt (step_at line (pos x) (pos y)) k below) [
+        | inl before ↦ or_left _ _ (taken_from k x y p.has p.on p.inside before)
+        | inr now ↦
+            let same = one_pixel law line x y pixel.x pixel.y p.on step.on (now ∙ sym step.at) in
+            or_right _ _ (is_at_from pixel.x pixel.y x y same.0 same.1)
+      ])
+    where
+      cases_lt : (n m : ℕ) → n < suc m → (n < m) ⊎ (n ≡ m)
+      cases_lt n m h = grind (arith)
+
+  pub none_is_taken : in_boxes clip pixel.x pixel.y ≡ false → (x y : ℕ) → is_taken clip line region k x y ≡ is_taken clip line region (suc k) x y
+  none_is_taken hidden x y = same_test _ _
+      (λ h. let p = taken_parts k x y h in let below = p.before in taken_from (suc k) x y p.has p.on p.inside (omega (arith, below)))
+      (λ h.
+      let p = taken_parts (suc k) x y h in
+      let below = p.before in
+      elim (cases_lt (step_at line (pos x) (pos y)) k below) [
+        | inl before ↦ taken_from k x y p.has p.on p.inside before
+        | inr now ↦
+            let same = one_pixel law line x y pixel.x pixel.y p.on step.on (now ∙ sym step.at) in
+            absurd (differs (in_boxes clip x y) p.has (rw (same.0, same.1) hidden))
+      ])
+    where
+      cases_lt : (n m : ℕ) → n < suc m → (n < m) ⊎ (n ≡ m)
+      cases_lt n m h = grind (arith)
+
+      differs : (b : Bool) → b ≡ true → b ≡ false → ⊥
+      differs true h e = cc
+      differs false h e = cc
+
+  -- the pixel of a step isn't taken before
+  pub not_before : (x y : ℕ) → (is_taken clip line region k x y && is_at pixel.x pixel.y x y) ≡ false
+  not_before x y = same_test _ _
+      (λ h.
+      let parts = and_parts (is_taken clip line region k x y) (is_at pixel.x pixel.y x y) h in
+      let p = taken_parts k x y parts.0 in
+      let at = is_at_true pixel.x pixel.y x y parts.1 in
+      let below : step_at line (pos pixel.x) (pos pixel.y) < k = rw (← at.0, ← at.1) p.before in
+      absurd (over (rw step.at at below)))
+      (λ e. cc)
+    where
+      over : k < k → ⊥
+      over h = omega (arith, h)
+
+  module _ (laws : WritingLaws) (f : ℕ → ℕ → Colour → Colour) (old now new : CanvasState) (whole : IsWhole old) (so_far : Repaints (is_taken clip line region k) f old now) where
+    pub step_drawn : in_boxes clip pixel.x pixel.y ≡ true → Repaints (is_at pixel.x pixel.y) f now new → Repaints (is_taken clip line region (suc k)) f old new
+    step_drawn has drawn =
+        laws.same (λ x y. is_taken clip line region k x y || is_at pixel.x pixel.y x y) (is_taken clip line region (suc k)) f f old new whole (λ x y held. more_is_taken has x y) (λ x y c held t. refl)
+        (laws.both (is_taken clip line region k) (is_at pixel.x pixel.y) f old now new whole (λ x y held. not_before x y) so_far drawn)
+
+    pub step_hidden : in_boxes clip pixel.x pixel.y ≡ false → Repaints (is_taken clip line region (suc k)) f old now
+    step_hidden hidden =
+        laws.same (is_taken clip line region k) (is_taken clip line region (suc k)) f f old now whole (λ x y held. none_is_taken hidden x y) (λ x y c held t. refl) so_far
+
+-- columns and rows of a region
+pub inside_width : (region : Region) (x y : ℕ) → IsTrue (in_region region x y) → x < region.columns.to
+inside_width region x y h =
+    let a = and_parts (in_span region.columns x) (in_span region.rows y) h in
+    let b = and_parts (nat_le region.columns.from x) (nat_lt x region.columns.to) a.0 in nat_lt-true x region.columns.to b.1
+
+pub inside_height : (region : Region) (x y : ℕ) → IsTrue (in_region region x y) → y < region.rows.to
+inside_height region x y h =
+    let a = and_parts (in_span region.columns x) (in_span region.rows y) h in
+    let b = and_parts (nat_le region.rows.from y) (nat_lt y region.rows.to) a.1 in nat_lt-true y region.rows.to b.1
+
+-- before the first step nothing is taken
+pub none_taken : (clip : ClipValue) (steps : StepsState) (line : Line) → line ≡ steps.line → HasAllSteps steps → (canvas : CanvasState) → PassesNone canvas (is_taken clip line steps.region steps.next)
+none_taken clip steps line same all canvas x y held = same_test _ _
+    (λ h.
+    let a = and_parts (in_boxes clip x y) _ h in
+    let b = and_parts (on_line line (pos x) (pos y)) _ a.1 in
+    let c = and_parts (in_region steps.region x y) (nat_lt (step_at line (pos x) (pos y)) steps.next) b.1 in
+    let late = all.from x y (rw (← same) b.0) c.0 in
+    let early = nat_lt-true _ _ c.1 in
+    absurd (over (step_at line (pos x) (pos y)) steps.next early (rw same late)))
+    (λ e. cc)
+  where
+    over : (a b : ℕ) → a < b → b ≤ a → ⊥
+    over a b h k = omega (arith, h, k)
+
+-- behind the last, all of it is that the clip has, where the region has what the clip keeps
+pub all_taken : (clip : ClipValue) (line : Line) (region : Region) (n : ℕ) (x y : ℕ) → (in_region region x y ≡ in_kept clip.kept x y) → (IsTrue (on_line line (pos x) (pos y)) → IsTrue (in_region region x y) → step_at line (pos x) (pos y) < n) → is_taken clip line region n x y ≡ (in_boxes clip x y && on_line line (pos x) (pos y))
+all_taken clip line region n x y kept all = same_test _ _
+    (λ h.
+    let a = and_parts (in_boxes clip x y) _ h in
+    let b = and_parts (on_line line (pos x) (pos y)) _ a.1 in and_from (in_boxes clip x y) (on_line line (pos x) (pos y)) a.0 b.0)
+    (λ h.
+    let a = and_parts (in_boxes clip x y) (on_line line (pos x) (pos y)) h in
+    let keeps = and_parts (in_kept clip.kept x y) _ a.0 in
+    let inside : in_region region x y ≡ true = kept ∙ keeps.0 in
+    and_from (in_boxes clip x y) _ a.0 (and_from (on_line line (pos x) (pos y)) _ a.1 (and_from (in_region region x y) _ inside (nat_lt-from _ n (all a.1 inside)))))

@@ -1,0 +1,98 @@
+use Rattle.std.proofs.Common.{◌<◌, ◌∙◌, ap, refl, sym, arith, subst, length, List}
+use Rattle.std.specs.List.{All}
+use Rattle.mapping.specs.Surface.{FitsPlace}
+use Rattle.draw_ops.specs.Objects.{brush_value_of}
+use Rattle.dc_stack.specs.State.{DcValue}
+use Rattle.dc_stack.specs.Draws.{lists_on_plane}
+use Rattle.dc_stack.specs.Drawing.{edge_limit, tools_of}
+use Rattle.point_views.specs.Polys.{lists_of}
+use Rattle.span_fill.specs.RowLaws.{LiesBetween}
+use Rattle.span_fill.specs.declared.line.Line.{Line}
+use Rattle.player.specs.Shape.{fill_rule_of, inside_polygons, inside_rectangle}
+use Rattle.player.specs.declared.list_lines.Ends.TheVariants.{Closed}
+use Rattle.player.proofs.CountLemmas.{lines_on_plane_few}
+use Rattle.player.proofs.DrawingLemmas.{brush_drawn, brush_fills, clip_placed, on_err}
+use Rattle.player.proofs.LandingLemmas.{landed_fits, lists_land, two_land}
+use Rattle.player.proofs.OutlineLemmas.{closed_placed, placed_lines_lie}
+use Rattle.player.proofs.drawing.fill.Goals as goal
+
+pub of_lists-outline-requires : goal.of_lists-outline-requires
+of_lists-outline-requires g c =
+    let placed = rw c.in-Polygons.is at c.requires.placed in
+    lists_land c.in-Polygons.by c.args.machine.now.surface placed.places.surface (lists_of c.in-Polygons.lists) placed.within
+
+pub reserve-requires : goal.reserve-requires
+unfolding edge_limit
+reserve-requires g c =
+    let placed = rw c.in-Polygons.is at c.requires.placed in
+    let few = placed.few in
+    let counted = lines_on_plane_few c.in-Polygons.by Closed (lists_of c.in-Polygons.lists) in
+    let count = c.count.ensures in
+    let all = ap (λ (lines : List Line). length lines) c.of_lists-outline.ensures in
+    omega (arith, few, counted, count, all)
+
+pub returns-in_err-reserve-in-Polygons-clause-memory : goal.returns-in_err-reserve-in-Polygons-clause-memory
+returns-in_err-reserve-in-Polygons-clause-memory g c =
+    let placed = rw c.in-Polygons.is at c.requires.placed in
+    let few = placed.few in
+    let counted = lines_on_plane_few c.in-Polygons.by Closed (lists_of c.in-Polygons.lists) in
+    let count = c.count.ensures in
+    let all = ap (λ (lines : List Line). length lines) c.of_lists-outline.ensures in
+    let lacks = c.in_err-reserve-in-Polygons.ensures.err in
+    let lacking : c.args.rows.now.room < edge_limit = omega (arith, few, counted, count, all, lacks) in
+    on_err _ lacking
+
+pub fill_lines-requires-clause-bounds : goal.fill_lines-requires-clause-bounds
+fill_lines-requires-clause-bounds g c =
+    let s = c.args.machine.now.surface in
+    let bounds = c.in-Polygons.bounds in
+    let placed = rw c.in-Polygons.is at c.requires.placed in
+    subst (All (LiesBetween bounds.t bounds.b)) (sym c.of_lists-outline.ensures) (placed_lines_lie c.in-Polygons.by s placed.places.surface bounds Closed (lists_of c.in-Polygons.lists) placed.places.inside)
+
+pub rectangle_box-inside-requires : goal.rectangle_box-inside-requires
+rectangle_box-inside-requires g c =
+    let s = c.args.machine.now.surface in
+    let placed = rw c.in-Rectangle.is at c.requires.placed in
+    let both = two_land s c.in-Rectangle.first.plane c.in-Rectangle.second.plane placed.within in
+    record {
+      first = subst FitsPlace (sym placed.places.0) (landed_fits s c.in-Rectangle.first.plane both.0);
+      second = subst FitsPlace (sym placed.places.1) (landed_fits s c.in-Rectangle.second.plane both.1);
+    }
+
+pub returns-in_ok-reserve-in-Polygons-clause-drawn : goal.returns-in_ok-reserve-in-Polygons-clause-drawn
+returns-in_ok-reserve-in-Polygons-clause-drawn g c =
+    let s = c.args.machine.now.surface in
+    let tools = tools_of c.args.machine.now.state.dc in
+    let by = c.in-Polygons.by in
+    let lists = lists_of c.in-Polygons.lists in
+    let placed = rw c.in-Polygons.is at c.requires.placed in
+    let dc = c.dc-dc.result.now in
+    let paint = c.with-paint.result in
+    let value = c.dc-dc.ensures.value in
+    let modes = c.with-paint.ensures.modes ∙ ap (λ (d : DcValue). d.modes) value in
+    let clip = clip_placed s paint.clip.now dc c.args.machine.now.state.dc c.with-paint.ensures.clip value c.dc-dc.ensures.placed in
+    let brush = ap (λ (d : DcValue). d.selected.brush.object) value in
+    let shape = inside_polygons tools.modes.fill_mode (lists_on_plane by c.in-Polygons.lists) in
+    let lines = c.of_lists-outline.ensures ∙ closed_placed by s placed.places.surface lists in
+    let rule = c.rule_of-rule.ensures ∙ ap (λ (d : DcValue). fill_rule_of d.modes.fill_mode) value in
+    let drawn = brush_drawn c.writing_law.ensures s c.args.canvas.now c.fill_lines.new.canvas c.whole_law.ensures c.requires.whole paint tools modes clip _ shape (ap brush_value_of c.with-paint.ensures.brush ∙ brush) (λ x y. rw (rule, lines) refl) c.fill_lines.ensures.pixels in
+    rw (c.in-Polygons.is, brush_fills dc.selected.brush shape tools c.in_default.not-Null brush) drawn
+
+pub returns-in-Rectangle-clause-drawn : goal.returns-in-Rectangle-clause-drawn
+returns-in-Rectangle-clause-drawn g c =
+    let s = c.args.machine.now.surface in
+    let tools = tools_of c.args.machine.now.state.dc in
+    let first = c.in-Rectangle.first in
+    let second = c.in-Rectangle.second in
+    let edges = c.in-Rectangle.edges in
+    let placed = rw c.in-Rectangle.is at c.requires.placed in
+    let dc = c.dc-dc.result.now in
+    let paint = c.with-paint.result in
+    let value = c.dc-dc.ensures.value in
+    let modes = c.with-paint.ensures.modes ∙ ap (λ (d : DcValue). d.modes) value in
+    let clip = clip_placed s paint.clip.now dc c.args.machine.now.state.dc c.with-paint.ensures.clip value c.dc-dc.ensures.placed in
+    let brush = ap (λ (d : DcValue). d.selected.brush.object) value in
+    let shape = inside_rectangle first.plane second.plane edges in
+    let inside = c.rectangle_box-inside.ensures.value in
+    let drawn = brush_drawn c.writing_law.ensures s c.args.canvas.now c.fill_box.new.canvas c.whole_law.ensures c.requires.whole paint tools modes clip _ shape (ap brush_value_of c.with-paint.ensures.brush ∙ brush) (λ x y. rw (inside, placed.places.0, placed.places.1) refl) c.fill_box.ensures.pixels in
+    rw (c.in-Rectangle.is, brush_fills dc.selected.brush shape tools c.in_default.not-Null brush) drawn

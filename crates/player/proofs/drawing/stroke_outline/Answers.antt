@@ -1,0 +1,248 @@
+use Rattle.std.proofs.Common.{◌≡◌, ◌<◌, ◌∙◌, ap, refl, sym, arith, subst, length, List, [], ◌∷◌}
+use Rattle.std.specs.List.{All}
+use Rattle.mapping.specs.Surface.{FitsPlace, placed_point}
+use Rattle.mapping.specs.declared.geometry.Point.{Point}
+use Rattle.point_views.specs.Points.{points_of}
+use Rattle.point_views.specs.Polys.{lists_of}
+use Rattle.dc_stack.specs.Drawing.{edge_limit, tools_of}
+use Rattle.dc_stack.specs.Draws.{lists_on_plane, points_on_plane}
+use Rattle.dc_stack.specs.State.{DcValue}
+use Rattle.span_fill.specs.Lines.{IsNearPoint}
+use Rattle.span_fill.specs.RowLaws.{LiesBetween}
+use Rattle.span_fill.specs.Strokes.{in_stroke}
+use Rattle.span_fill.specs.declared.line.Line.{Line}
+use Rattle.player.specs.Outlines.{line_from}
+use Rattle.player.specs.Shape.{on_lines, round_polygons, round_rectangle}
+use Rattle.player.specs.declared.list_lines.Ends.TheVariants.{Open, Closed}
+use Rattle.player.proofs.CountLemmas.{from_start_few, lines_on_plane_few}
+use Rattle.player.proofs.DrawingLemmas.{clip_placed, lone_stroke, on_err, pen_drawn, pen_strokes}
+use Rattle.player.proofs.LandingLemmas.{landed_fits, landed_near, lists_land, start_and_list_land, two_land}
+use Rattle.player.proofs.OutlineLemmas.{closed_placed, from_start_lies, from_start_placed, open_placed, placed_lines_lie}
+use Rattle.player.proofs.drawing.stroke_outline.Goals as goal
+
+pub stroke_line-requires-clause-near : goal.stroke_line-requires-clause-near
+stroke_line-requires-clause-near g c =
+    let s = c.args.machine.now.surface in
+    let from = c.in-Line.from in
+    let to = c.in-Line.to in
+    let placed = rw c.in-Line.is at c.requires.placed in
+    let both = two_land s from.plane to.plane placed.within in
+    record {
+      from = subst IsNearPoint (sym placed.places.0) (landed_near s from.plane both.0);
+      to = subst IsNearPoint (sym placed.places.1) (landed_near s to.plane both.1);
+    }
+
+pub from-outline-requires-clause-near : goal.from-outline-requires-clause-near
+from-outline-requires-clause-near g c =
+    let s = c.args.machine.now.surface in
+    let from = c.in-LinesFrom.from in
+    let placed = rw c.in-LinesFrom.is at c.requires.placed in
+    let land = start_and_list_land c.in-LinesFrom.by s placed.places.1.surface from.plane (points_of c.in-LinesFrom.points) placed.within in
+    subst IsNearPoint (sym placed.places.0) land.0
+
+pub from-outline-requires-clause-land : goal.from-outline-requires-clause-land
+from-outline-requires-clause-land g c =
+    let s = c.args.machine.now.surface in
+    let from = c.in-LinesFrom.from in
+    let placed = rw c.in-LinesFrom.is at c.requires.placed in
+    (start_and_list_land c.in-LinesFrom.by s placed.places.1.surface from.plane (points_of c.in-LinesFrom.points) placed.within).1
+
+pub reserve-requires : goal.reserve-requires
+unfolding edge_limit
+reserve-requires g c =
+    let placed = rw c.in-LinesFrom.is at c.requires.placed in
+    let few = placed.few in
+    let counted = from_start_few c.in-LinesFrom.by c.in-LinesFrom.from.placed c.in-LinesFrom.from.plane (points_of c.in-LinesFrom.points) in
+    let count = c.count.ensures in
+    let all = ap (λ (lines : List Line). length lines) c.from-outline.ensures in
+    omega (arith, few, counted, count, all)
+
+pub returns-in_err-reserve-in-LinesFrom-clause-memory : goal.returns-in_err-reserve-in-LinesFrom-clause-memory
+returns-in_err-reserve-in-LinesFrom-clause-memory g c =
+    let placed = rw c.in-LinesFrom.is at c.requires.placed in
+    let few = placed.few in
+    let counted = from_start_few c.in-LinesFrom.by c.in-LinesFrom.from.placed c.in-LinesFrom.from.plane (points_of c.in-LinesFrom.points) in
+    let count = c.count.ensures in
+    let all = ap (λ (lines : List Line). length lines) c.from-outline.ensures in
+    let lacks = c.in_err-reserve-in-LinesFrom.ensures.err in
+    let lacking : c.args.rows.now.room < edge_limit = omega (arith, few, counted, count, all, lacks) in
+    on_err _ lacking
+
+pub stroke_lines-requires-clause-bounds : goal.stroke_lines-requires-clause-bounds
+stroke_lines-requires-clause-bounds g c =
+    let s = c.args.machine.now.surface in
+    let from = c.in-LinesFrom.from in
+    let bounds = c.in-LinesFrom.bounds in
+    let placed = rw c.in-LinesFrom.is at c.requires.placed in
+    let lie = from_start_lies c.in-LinesFrom.by s placed.places.1.surface bounds from.placed from.plane (points_of c.in-LinesFrom.points) placed.places.0 placed.places.1.inside in
+    subst (All (LiesBetween bounds.t bounds.b)) (sym c.from-outline.ensures) lie
+
+pub of_lists-outline-requires : goal.of_lists-outline-requires
+of_lists-outline-requires g c =
+    let placed = rw c.in-Polylines.is at c.requires.placed in
+    lists_land c.in-Polylines.by c.args.machine.now.surface placed.places.surface (lists_of c.in-Polylines.lists) placed.within
+
+pub reserve-requires-in-Polylines : goal.reserve-requires-in-Polylines
+unfolding edge_limit
+reserve-requires-in-Polylines g c =
+    let placed = rw c.in-Polylines.is at c.requires.placed in
+    let few = placed.few in
+    let counted = lines_on_plane_few c.in-Polylines.by Open (lists_of c.in-Polylines.lists) in
+    let count = c.count-in-Polylines.ensures in
+    let all = ap (λ (lines : List Line). length lines) c.of_lists-outline.ensures in
+    omega (arith, few, counted, count, all)
+
+pub returns-in_err-reserve-in-Polylines-clause-memory : goal.returns-in_err-reserve-in-Polylines-clause-memory
+returns-in_err-reserve-in-Polylines-clause-memory g c =
+    let placed = rw c.in-Polylines.is at c.requires.placed in
+    let few = placed.few in
+    let counted = lines_on_plane_few c.in-Polylines.by Open (lists_of c.in-Polylines.lists) in
+    let count = c.count-in-Polylines.ensures in
+    let all = ap (λ (lines : List Line). length lines) c.of_lists-outline.ensures in
+    let lacks = c.in_err-reserve-in-Polylines.ensures.err in
+    let lacking : c.args.rows.now.room < edge_limit = omega (arith, few, counted, count, all, lacks) in
+    on_err _ lacking
+
+pub stroke_lines-requires-in-Polylines-clause-bounds : goal.stroke_lines-requires-in-Polylines-clause-bounds
+stroke_lines-requires-in-Polylines-clause-bounds g c =
+    let bounds = c.in-Polylines.bounds in
+    let placed = rw c.in-Polylines.is at c.requires.placed in
+    let lie = placed_lines_lie c.in-Polylines.by c.args.machine.now.surface placed.places.surface bounds Open (lists_of c.in-Polylines.lists) placed.places.inside in
+    subst (All (LiesBetween bounds.t bounds.b)) (sym c.of_lists-outline.ensures) lie
+
+pub of_lists-outline-requires-in-Polygons : goal.of_lists-outline-requires-in-Polygons
+of_lists-outline-requires-in-Polygons g c =
+    let placed = rw c.in-Polygons.is at c.requires.placed in
+    lists_land c.in-Polygons.by c.args.machine.now.surface placed.places.surface (lists_of c.in-Polygons.lists) placed.within
+
+pub reserve-requires-in-Polygons : goal.reserve-requires-in-Polygons
+unfolding edge_limit
+reserve-requires-in-Polygons g c =
+    let placed = rw c.in-Polygons.is at c.requires.placed in
+    let few = placed.few in
+    let counted = lines_on_plane_few c.in-Polygons.by Closed (lists_of c.in-Polygons.lists) in
+    let count = c.count-in-Polygons.ensures in
+    let all = ap (λ (lines : List Line). length lines) c.of_lists-outline-in-Polygons.ensures in
+    omega (arith, few, counted, count, all)
+
+pub returns-in_err-reserve-in-Polygons-clause-memory : goal.returns-in_err-reserve-in-Polygons-clause-memory
+returns-in_err-reserve-in-Polygons-clause-memory g c =
+    let placed = rw c.in-Polygons.is at c.requires.placed in
+    let few = placed.few in
+    let counted = lines_on_plane_few c.in-Polygons.by Closed (lists_of c.in-Polygons.lists) in
+    let count = c.count-in-Polygons.ensures in
+    let all = ap (λ (lines : List Line). length lines) c.of_lists-outline-in-Polygons.ensures in
+    let lacks = c.in_err-reserve-in-Polygons.ensures.err in
+    let lacking : c.args.rows.now.room < edge_limit = omega (arith, few, counted, count, all, lacks) in
+    on_err _ lacking
+
+pub stroke_lines-requires-in-Polygons-clause-bounds : goal.stroke_lines-requires-in-Polygons-clause-bounds
+stroke_lines-requires-in-Polygons-clause-bounds g c =
+    let bounds = c.in-Polygons.bounds in
+    let placed = rw c.in-Polygons.is at c.requires.placed in
+    let lie = placed_lines_lie c.in-Polygons.by c.args.machine.now.surface placed.places.surface bounds Closed (lists_of c.in-Polygons.lists) placed.places.inside in
+    subst (All (LiesBetween bounds.t bounds.b)) (sym c.of_lists-outline-in-Polygons.ensures) lie
+
+pub rectangle_box-inside-requires-clause-first : goal.rectangle_box-inside-requires-clause-first
+rectangle_box-inside-requires-clause-first g c =
+    let s = c.args.machine.now.surface in
+    let placed = rw c.in-Rectangle.is at c.requires.placed in
+    let both = two_land s c.in-Rectangle.first.plane c.in-Rectangle.second.plane placed.within in
+    subst FitsPlace (sym placed.places.0) (landed_fits s c.in-Rectangle.first.plane both.0)
+
+pub rectangle_box-inside-requires-clause-second : goal.rectangle_box-inside-requires-clause-second
+rectangle_box-inside-requires-clause-second g c =
+    let s = c.args.machine.now.surface in
+    let placed = rw c.in-Rectangle.is at c.requires.placed in
+    let both = two_land s c.in-Rectangle.first.plane c.in-Rectangle.second.plane placed.within in
+    subst FitsPlace (sym placed.places.1) (landed_fits s c.in-Rectangle.second.plane both.1)
+
+pub returns-in-Line-clause-drawn : goal.returns-in-Line-clause-drawn
+returns-in-Line-clause-drawn g c =
+    let s = c.args.machine.now.surface in
+    let state = c.args.machine.now.state.dc in
+    let tools = tools_of state in
+    let placed = rw c.in-Line.is at c.requires.placed in
+    let dc = c.dc-dc.result.now in
+    let paint = c.with-paint.result in
+    let value = c.dc-dc.ensures.value in
+    let modes = c.with-paint.ensures.modes ∙ ap (λ (d : DcValue). d.modes) value in
+    let clip = clip_placed s paint.clip.now dc state c.with-paint.ensures.clip value c.dc-dc.ensures.placed in
+    let from = c.in-Line.from in
+    let to = c.in-Line.to in
+    let line : Line = record { from = from.placed; to = to.placed } in
+    let there : Line = record { from = placed_point from.plane s; to = placed_point to.plane s } in
+    let same : line ≡ there = ap (λ (p : Point). line_from p to.placed) placed.places.0 ∙ ap (λ (p : Point). line_from (placed_point from.plane s) p) placed.places.1 in
+    let shape = on_lines ((from.plane ∷ to.plane ∷ []) ∷ []) in
+    let drawn = pen_drawn c.writing_law.ensures s c.args.canvas.now c.stroke_line.new.canvas c.whole_law.ensures c.requires.whole paint tools modes clip _ shape c.args.colour c.with-paint.ensures.brush (λ x y. lone_stroke line there x y same) c.stroke_line.ensures.pixels in
+    rw (c.in-Line.is, pen_strokes shape tools c.args.colour c.requires.pen) drawn
+
+pub returns-in_ok-reserve-in-LinesFrom-clause-drawn : goal.returns-in_ok-reserve-in-LinesFrom-clause-drawn
+returns-in_ok-reserve-in-LinesFrom-clause-drawn g c =
+    let s = c.args.machine.now.surface in
+    let state = c.args.machine.now.state.dc in
+    let tools = tools_of state in
+    let placed = rw c.in-LinesFrom.is at c.requires.placed in
+    let dc = c.dc-dc.result.now in
+    let paint = c.with-paint.result in
+    let value = c.dc-dc.ensures.value in
+    let modes = c.with-paint.ensures.modes ∙ ap (λ (d : DcValue). d.modes) value in
+    let clip = clip_placed s paint.clip.now dc state c.with-paint.ensures.clip value c.dc-dc.ensures.placed in
+    let by = c.in-LinesFrom.by in
+    let from = c.in-LinesFrom.from in
+    let lines = c.from-outline.ensures ∙ from_start_placed by s placed.places.1.surface from.placed from.plane (points_of c.in-LinesFrom.points) placed.places.0 in
+    let shape = on_lines ((from.plane ∷ points_on_plane by c.in-LinesFrom.points) ∷ []) in
+    let drawn = pen_drawn c.writing_law.ensures s c.args.canvas.now c.stroke_lines.new.canvas c.whole_law.ensures c.requires.whole paint tools modes clip _ shape c.args.colour c.with-paint.ensures.brush (λ x y. ap (λ (list : List Line). in_stroke list x y) lines) c.stroke_lines.ensures.pixels in
+    rw (c.in-LinesFrom.is, pen_strokes shape tools c.args.colour c.requires.pen) drawn
+
+pub returns-in_ok-reserve-in-Polylines-clause-drawn : goal.returns-in_ok-reserve-in-Polylines-clause-drawn
+returns-in_ok-reserve-in-Polylines-clause-drawn g c =
+    let s = c.args.machine.now.surface in
+    let state = c.args.machine.now.state.dc in
+    let tools = tools_of state in
+    let placed = rw c.in-Polylines.is at c.requires.placed in
+    let dc = c.dc-dc.result.now in
+    let paint = c.with-paint.result in
+    let value = c.dc-dc.ensures.value in
+    let modes = c.with-paint.ensures.modes ∙ ap (λ (d : DcValue). d.modes) value in
+    let clip = clip_placed s paint.clip.now dc state c.with-paint.ensures.clip value c.dc-dc.ensures.placed in
+    let by = c.in-Polylines.by in
+    let lines = c.of_lists-outline.ensures ∙ open_placed by s placed.places.surface (lists_of c.in-Polylines.lists) in
+    let shape = on_lines (lists_on_plane by c.in-Polylines.lists) in
+    let drawn = pen_drawn c.writing_law.ensures s c.args.canvas.now c.stroke_lines-in-Polylines.new.canvas c.whole_law.ensures c.requires.whole paint tools modes clip _ shape c.args.colour c.with-paint.ensures.brush (λ x y. ap (λ (list : List Line). in_stroke list x y) lines) c.stroke_lines-in-Polylines.ensures.pixels in
+    rw (c.in-Polylines.is, pen_strokes shape tools c.args.colour c.requires.pen) drawn
+
+pub returns-in_ok-reserve-in-Polygons-clause-drawn : goal.returns-in_ok-reserve-in-Polygons-clause-drawn
+returns-in_ok-reserve-in-Polygons-clause-drawn g c =
+    let s = c.args.machine.now.surface in
+    let state = c.args.machine.now.state.dc in
+    let tools = tools_of state in
+    let placed = rw c.in-Polygons.is at c.requires.placed in
+    let dc = c.dc-dc.result.now in
+    let paint = c.with-paint.result in
+    let value = c.dc-dc.ensures.value in
+    let modes = c.with-paint.ensures.modes ∙ ap (λ (d : DcValue). d.modes) value in
+    let clip = clip_placed s paint.clip.now dc state c.with-paint.ensures.clip value c.dc-dc.ensures.placed in
+    let by = c.in-Polygons.by in
+    let lines = c.of_lists-outline-in-Polygons.ensures ∙ closed_placed by s placed.places.surface (lists_of c.in-Polygons.lists) in
+    let shape = round_polygons (lists_on_plane by c.in-Polygons.lists) in
+    let drawn = pen_drawn c.writing_law.ensures s c.args.canvas.now c.stroke_lines-in-Polygons.new.canvas c.whole_law.ensures c.requires.whole paint tools modes clip _ shape c.args.colour c.with-paint.ensures.brush (λ x y. ap (λ (list : List Line). in_stroke list x y) lines) c.stroke_lines-in-Polygons.ensures.pixels in
+    rw (c.in-Polygons.is, pen_strokes shape tools c.args.colour c.requires.pen) drawn
+
+pub returns-in_ok-reserve-in-Rectangle-clause-drawn : goal.returns-in_ok-reserve-in-Rectangle-clause-drawn
+returns-in_ok-reserve-in-Rectangle-clause-drawn g c =
+    let s = c.args.machine.now.surface in
+    let state = c.args.machine.now.state.dc in
+    let tools = tools_of state in
+    let placed = rw c.in-Rectangle.is at c.requires.placed in
+    let dc = c.dc-dc.result.now in
+    let paint = c.with-paint.result in
+    let value = c.dc-dc.ensures.value in
+    let modes = c.with-paint.ensures.modes ∙ ap (λ (d : DcValue). d.modes) value in
+    let clip = clip_placed s paint.clip.now dc state c.with-paint.ensures.clip value c.dc-dc.ensures.placed in
+    let first = c.in-Rectangle.first in
+    let second = c.in-Rectangle.second in
+    let inside = c.rectangle_box-inside.ensures.value in
+    let shape = round_rectangle first.plane second.plane c.in-Rectangle.edges in
+    let drawn = pen_drawn c.writing_law.ensures s c.args.canvas.now c.stroke_box.new.canvas c.whole_law.ensures c.requires.whole paint tools modes clip _ shape c.args.colour c.with-paint.ensures.brush (λ x y. rw (inside, placed.places.0, placed.places.1) refl) c.stroke_box.ensures.pixels in
+    rw (c.in-Rectangle.is, pen_strokes shape tools c.args.colour c.requires.pen) drawn

@@ -1,0 +1,28 @@
+use Rattle.std.proofs.Common.{◌≡◌, ◌&&◌, true, false, is_some, sym, ◌∙◌}
+use Rattle.std.proofs.lemmas.Bool.{and_parts, true≢false}
+use Rattle.std.proofs.lemmas.List.Elements.{All-same}
+use Rattle.dc_stack.specs.Clip.{in_boxes}
+use Rattle.dc_stack.specs.Values.{placed_value}
+use Rattle.span_fill.specs.RowLaws.{LiesBetween}
+use Rattle.span_fill.specs.Strokes.{in_stroke}
+use Rattle.player.specs.Painted.{colour_of}
+use Rattle.player.specs.Rectangles.{has_inside, rectangle_lines}
+use Rattle.player.proofs.RectangleLemmas.{lines_between, no_stroke}
+use Rattle.player.proofs.RowLemmas.{nothing_painted}
+use Rattle.player.proofs.stroking.stroke_box.Goals as goal
+
+pub returns-then-not-has_inside-clause-pixels : goal.returns-then-not-has_inside-clause-pixels
+returns-then-not-has_inside-clause-pixels c =
+    let paint = c.args.paint.now in
+    let shape = in_stroke (rectangle_lines c.args.inside) in
+    let none : has_inside c.args.inside ≡ false = sym c.if-not-has_inside.ensures in
+    nothing_painted paint shape c.writing_law.ensures c.args.canvas.now c.whole_law.ensures
+    (λ x y held h.
+    let painted = and_parts (in_boxes (placed_value paint.clip.now) x y && shape x y) (is_some (colour_of paint x y)) h in
+    let there = and_parts (in_boxes (placed_value paint.clip.now) x y) (shape x y) painted.0 in
+    true≢false (sym there.1 ∙ no_stroke c.args.inside x y none))
+
+pub stroke_lines-requires-clause-bounds : goal.stroke_lines-requires-clause-bounds
+stroke_lines-requires-clause-bounds c =
+    let some : has_inside c.args.inside ≡ true = sym c.if-not-has_inside.ensures in
+    All-same (LiesBetween c.args.inside.t c.args.inside.b) _ (rectangle_lines c.args.inside) c.box_lines-lines.ensures.lines (lines_between c.args.inside some)

@@ -1,0 +1,52 @@
+//! A lone line, pixel by pixel.
+
+ghost use Rattle.std.specs.Prelude.{◌≡◌, ◌+◌, ◌<◌, ◌≤◌, ◌^◌, ◌&&◌, pos, IfSome};
+ghost use Rattle.mapping.specs.declared.geometry.Colour.{Colour};
+ghost use Rattle.canvas.specs.CanvasState.{HasPixel};
+ghost use Rattle.canvas.specs.Writing.{Repaints, is_at};
+ghost use Rattle.canvas.specs.WritingLaws.{IsWhole};
+ghost use Rattle.dc_stack.specs.Clip.{in_boxes};
+ghost use Rattle.dc_stack.specs.Values.{placed_value};
+ghost use Rattle.mapping.specs.Mixes.{mixed_by};
+ghost use Rattle.span_fill.specs.Lines.{HasNearEnds};
+ghost use Rattle.span_fill.specs.Strokes.{on_line};
+
+use crate::regions::visible;
+use canvas::{Canvas, writing_law};
+use dc_stack::Clip;
+use mapping::{Colour, Mix};
+use span_fill::{Line, Pixel, Steps, line_law};
+
+/// Mixes those pixels of a line that a clip has.
+pub(crate) fn mix_line(canvas: &mut Canvas, line: Line, mix: Mix, clip: &Clip)
+    requires first { canvas.old.first ≡ 0 }
+    requires near { HasNearEnds line }
+    requires countable { canvas.old.writes + 2 ^ 27 < 2 ^ 64 }
+    ensures few { canvas.new.writes ≤ canvas.old.writes + 2 ^ 26 }
+    ensures pixels { Repaints (λ x y. in_boxes (placed_value clip.now) x y && on_line line (pos x) (pos y)) (λ x y old. mixed_by mix old) canvas.old canvas.new }
+{
+    writing_law();
+    line_law();
+    let constant = mix.constant();
+    let mut steps = Steps::new(line, visible(canvas, clip));
+    while let Some(pixel) = steps.next() {
+        if clip.has(pixel.x, pixel.y) {
+            mix_pixel(canvas, pixel, mix, constant);
+        }
+    }
+}
+
+/// Mixes a pixel, whose mix makes this colour of every colour, if it makes one.
+fn mix_pixel(canvas: &mut Canvas, pixel: Pixel, mix: Mix, constant: Option<Colour>)
+    requires whole { IsWhole canvas.old }
+    requires pixel { HasPixel canvas.old pixel.x pixel.y }
+    requires countable { canvas.old.writes + 1 < 2 ^ 64 }
+    requires constant { IfSome constant (λ colour. (old : Colour) → mixed_by mix old ≡ colour) }
+    ensures { Repaints (is_at pixel.x pixel.y) (λ x y old. mixed_by mix old) canvas.old canvas.new }
+{
+    writing_law();
+    match constant {
+        Some(colour) => canvas.put(pixel.x, pixel.y, colour),
+        None => canvas.mix(pixel.x, pixel.y, mix),
+    }
+}

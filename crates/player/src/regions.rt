@@ -1,0 +1,106 @@
+//! The part of a surface that a drawing may write.
+
+ghost use Rattle.std.specs.Prelude.{◌≡◌, ◌≤◌, ◌<◌, ◌*◌, ◌^◌, ◌&&◌, ◌↔◌, ◌+ℤ◌, ◌<ℤ◌, pos, ℕ};
+ghost use Rattle.canvas.specs.WritingLaws.{IsWhole};
+ghost use Rattle.dc_stack.specs.Clip.{in_kept, is_from_to};
+ghost use Rattle.dc_stack.specs.Values.{placed_value};
+ghost use Rattle.player.specs.Regions.{IsOfSide};
+ghost use Rattle.span_fill.specs.Spans.{in_region, in_span};
+
+use canvas::Canvas;
+use dc_stack::Clip;
+use mapping::Rect;
+use span_fill::{Region, Span};
+
+/// The longest side of a surface.
+const MAX_SIDE: i64 = 8192;
+
+/// The law of canvases: each is whole.
+pub(crate) fn whole_law(canvas: &Canvas)
+    ensures { IsWhole canvas.now }
+{
+    canvas.width();
+}
+
+/// The part of a canvas that the kept box of a clip has. A canvas is whole, and has at most 2^26 pixels.
+pub(crate) fn visible(canvas: &Canvas, clip: &Clip) -> Region
+    ensures right { result.columns.to ≤ canvas.now.width }
+    ensures bottom { result.rows.to ≤ canvas.now.rows }
+    ensures columns { IsOfSide result.columns }
+    ensures rows { IsOfSide result.rows }
+    ensures side { canvas.now.width ≤ 8192 }
+    ensures height { canvas.now.rows ≤ 8192 }
+    ensures whole { IsWhole canvas.now }
+    ensures pixels { canvas.now.rows * canvas.now.width ≤ 2 ^ 26 }
+    ensures kept { (x y : ℕ) → x < canvas.now.width → y < canvas.now.rows → in_region result x y ≡ in_kept (placed_value clip.now).kept x y }
+{
+    let surface = Region {
+        columns: Span {
+            from: 0,
+            to: canvas.width(),
+        },
+        rows: Span {
+            from: 0,
+            to: canvas.rows(),
+        },
+    };
+    match clip.kept {
+        None => surface,
+        Some(kept) => common(surface, kept.placed),
+    }
+}
+
+/// What a region has of a box: of its columns those from the left up to before the right, and of its rows
+/// those from the top up to before the bottom.
+pub(crate) fn common(region: Region, inside: Rect) -> Region
+    requires columns { IsOfSide region.columns }
+    requires rows { IsOfSide region.rows }
+    ensures right { result.columns.to ≤ region.columns.to }
+    ensures bottom { result.rows.to ≤ region.rows.to }
+    ensures columns { IsOfSide result.columns }
+    ensures rows { IsOfSide result.rows }
+    ensures has_columns { (n : ℕ) → in_span result.columns n ≡ in_span region.columns n && is_from_to inside.l inside.r n }
+    ensures has_rows { (n : ℕ) → in_span result.rows n ≡ in_span region.rows n && is_from_to inside.t inside.b n }
+{
+    Region {
+        columns: narrowed(region.columns, i64::from(inside.l), i64::from(inside.r)),
+        rows: narrowed(region.rows, i64::from(inside.t), i64::from(inside.b)),
+    }
+}
+
+/// The rows from the top of a box to its bottom, which is included.
+pub(crate) fn rows_between(rows: Span, bounds: Rect) -> Span
+    requires { IsOfSide rows }
+    ensures bottom { result.to ≤ rows.to }
+    ensures rows { IsOfSide result }
+    ensures has_rows { (n : ℕ) → in_span result n ≡ in_span rows n && is_from_to bounds.t (bounds.b +ℤ pos 1) n }
+{
+    narrowed(rows, i64::from(bounds.t), i64::from(bounds.b) + 1)
+}
+
+/// What a span has of the numbers from one on, up to before another.
+fn narrowed(span: Span, from: i64, to: i64) -> Span
+    requires { IsOfSide span }
+    ensures side { IsOfSide result }
+    ensures to { result.to ≤ span.to }
+    ensures numbers { (n : ℕ) → in_span result n ≡ in_span span n && is_from_to from to n }
+{
+    Span {
+        from: span.from.max(clamped(from)),
+        to: span.to.min(clamped(to)),
+    }
+}
+
+/// The number from 0 to 8,192 that is nearest.
+fn clamped(number: i64) -> u32
+    ensures most { result ≤ 8192 }
+    ensures before { (n : ℕ) → n < 8192 → (n < result) ↔ (pos n <ℤ number) }
+{
+    if number <= 0 {
+        0
+    } else if number >= MAX_SIDE {
+        8192
+    } else {
+        number as u32
+    }
+}

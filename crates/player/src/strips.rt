@@ -1,0 +1,151 @@
+//! Parts of a row, painted: what an ink writes of some columns, of them what no box cuts out, and of a
+//! whole row's spans.
+
+ghost use Rattle.std.specs.Prelude.{◌≡◌, ◌+◌, ◌-◌, ◌*◌, ◌<◌, ◌≤◌, ◌^◌, ◌<ℤ◌, ◌↔◌, pos, ◌&&◌, ℕ, [], if◌then◌else◌, map};
+ghost use Rattle.mapping.specs.Mixes.{mixed_by};
+ghost use Rattle.mapping.specs.Pixels.{is_cell};
+ghost use Rattle.canvas.specs.CanvasState.{HasRow};
+ghost use Rattle.canvas.specs.Writing.{Repaints, in_span};
+ghost use Rattle.canvas.specs.WritingLaws.{IsWhole};
+ghost use Rattle.dc_stack.specs.Clip.{in_box, is_from_to};
+ghost use Rattle.dc_stack.specs.declared.clip.ClipBox.{ClipBox};
+ghost use Rattle.span_fill.specs.Spans.{AreApart, in_spans};
+ghost use Rattle.player.specs.RowInks.{inked};
+ghost use Rattle.player.specs.Strips.{is_column, is_painted};
+
+use crate::row_ink::RowInk;
+use canvas::{Canvas, writing_law};
+use dc_stack::ClipBox;
+use mapping::{Mix, Rect};
+use span_fill::Span;
+
+/// Writes what an ink makes of the columns from one on, up to before another, of a row.
+fn put_ink(canvas: &mut Canvas, ink: &RowInk, y: u32, from: u32, to: u32)
+    requires whole { IsWhole canvas.old }
+    requires columns { from ≤ to }
+    requires width { to ≤ canvas.old.width }
+    requires row { HasRow canvas.old y }
+    requires countable { canvas.old.writes + 2 * (to - from) < 2 ^ 64 }
+    ensures pixels { Repaints (is_painted ink.now [] y (is_column from to)) (λ column row old. inked ink.now column old) canvas.old canvas.new }
+    ensures count { canvas.new.writes ≤ canvas.old.writes + (to - from) }
+{
+    writing_law();
+    match *ink {
+        RowInk::Nothing => {}
+        RowInk::Full(colour) => canvas.put_span(from, to, y, colour),
+        RowInk::Pattern(pattern) => canvas.put_pattern(from, to, y, &pattern),
+        RowInk::Mixed(mix) => canvas.mix_span(from, to, y, mix),
+        RowInk::Cells {
+            cells,
+            mix,
+            gaps: None,
+        } => canvas.mix_cells(from, to, y, cells, mix),
+        RowInk::Cells {
+            cells,
+            mix,
+            gaps: Some(gaps),
+        } => put_both(canvas, cells, mix, gaps, y, from, to),
+    }
+}
+
+/// Mixes the cells by one mix and the gaps between them by another.
+fn put_both(canvas: &mut Canvas, cells: u8, mix: Mix, gaps: Mix, y: u32, from: u32, to: u32)
+    requires whole { IsWhole canvas.old }
+    requires columns { from ≤ to }
+    requires width { to ≤ canvas.old.width }
+    requires row { HasRow canvas.old y }
+    requires countable { canvas.old.writes + 2 * (to - from) < 2 ^ 64 }
+    ensures pixels { Repaints (in_span y from to) (λ column row old. if is_cell cells column then mixed_by mix old else mixed_by gaps old) canvas.old canvas.new }
+    ensures count { canvas.new.writes ≤ canvas.old.writes + (to - from) }
+{
+    writing_law();
+    canvas.mix_cells(from, to, y, cells, mix);
+    canvas.mix_cells(from, to, y, !cells, gaps);
+}
+
+/// The columns, of those from one on up to before another, that a box has in a row.
+fn hidden(cut: Rect, y: u32, from: u32, to: u32) -> Span
+    requires columns { from ≤ to }
+    ensures hidden { (x : ℕ) → is_column from to x && in_box cut x y ≡ is_column result.from result.to x }
+    ensures first { from ≤ result.from }
+    ensures order { result.from ≤ result.to }
+    ensures last { result.to ≤ to }
+{
+    if !has_row(cut, y) {
+        return Span { from, to: from };
+    }
+    let first = within(cut.l, from, to);
+    Span {
+        from: first,
+        to: within(cut.r, first, to),
+    }
+}
+
+/// Whether a row is one of a box: from its top on, up to before its bottom.
+fn has_row(cut: Rect, y: u32) -> bool
+    ensures { result ≡ is_from_to cut.t cut.b y }
+{
+    i64::from(cut.t) <= i64::from(y) && i64::from(y) < i64::from(cut.b)
+}
+
+/// The number that is nearest to a coordinate, of those from one on up to another.
+fn within(coordinate: i32, least: u32, most: u32) -> u32
+    requires { least ≤ most }
+    ensures least { least ≤ result }
+    ensures most { result ≤ most }
+    ensures before { (x : ℕ) → least ≤ x → x < most → (x < result) ↔ (pos x <ℤ coordinate) }
+{
+    let wide = i64::from(coordinate);
+    if wide <= i64::from(least) {
+        least
+    } else if i64::from(most) <= wide {
+        most
+    } else {
+        wide as u32
+    }
+}
+
+/// Writes what an ink makes of those columns of a row that no box cuts out.
+pub(crate) fn put_uncut(
+    canvas: &mut Canvas,
+    ink: &RowInk,
+    y: u32,
+    from: u32,
+    to: u32,
+    cuts: &[ClipBox],
+)
+    requires whole { IsWhole canvas.old }
+    requires columns { from ≤ to }
+    requires width { to ≤ canvas.old.width }
+    requires row { HasRow canvas.old y }
+    requires countable { canvas.old.writes + 2 * (to - from) < 2 ^ 64 }
+    ensures pixels { Repaints (is_painted ink.now (map (λ (b : ClipBox). b.placed) cuts.now) y (is_column from to)) (λ column row old. inked ink.now column old) canvas.old canvas.new }
+    ensures count { canvas.new.writes ≤ canvas.old.writes + (to - from) }
+{
+    writing_law();
+    if from == to {
+        return;
+    }
+    let Some((first, rest)) = cuts.split_first() else {
+        put_ink(canvas, ink, y, from, to);
+        return;
+    };
+    let hidden = hidden(first.placed, y, from, to);
+    put_uncut(canvas, ink, y, from, hidden.from, rest);
+    put_uncut(canvas, ink, y, hidden.to, to, rest);
+}
+
+/// Writes what an ink makes of those pixels in the spans of a row that no box cuts out.
+pub(crate) fn put_spans(canvas: &mut Canvas, ink: &RowInk, y: u32, spans: &[Span], cuts: &[ClipBox])
+    requires whole { IsWhole canvas.old }
+    requires spans { AreApart 0 canvas.old.width spans.now }
+    requires row { HasRow canvas.old y }
+    requires countable { canvas.old.writes + 2 * canvas.old.width < 2 ^ 64 }
+    ensures pixels { Repaints (is_painted ink.now (map (λ (b : ClipBox). b.placed) cuts.now) y (in_spans spans.now)) (λ column row old. inked ink.now column old) canvas.old canvas.new }
+    ensures count { canvas.new.writes ≤ canvas.old.writes + canvas.old.width }
+{
+    writing_law();
+    for span in spans {
+        put_uncut(canvas, ink, y, span.from, span.to, cuts);
+    }
+}

@@ -1,0 +1,23 @@
+//! Rows of spans: room for lines, and refused growth.
+
+use span_fill::{OutOfMemory, RowBuf};
+use std::test::Fail;
+
+// Run once more for each growth refused in turn, by tests/refused_growth_test.py: after a refusal the
+// buffer is what it was, and a second call makes the room.
+#[test]
+fn room_is_made_under_refused_growth(rt: HostRuntime) -> Result<(), Fail> {
+    let mut rows = RowBuf::new(rt.alloc());
+    assert_eq!(rt; rows.reserve(0), Ok(()));
+    if rows.reserve(4) == Err(OutOfMemory) {
+        assert!(rt; rows.spans().is_empty());
+        assert_eq!(rt; rows.reserve(4), Ok(()));
+    }
+    assert_eq!(rt; rows.reserve(3), Ok(()));
+    if rows.reserve(1 << 20) == Err(OutOfMemory) {
+        assert!(rt; rows.spans().is_empty());
+        assert_eq!(rt; rows.reserve(1 << 20), Ok(()));
+    }
+    assert_eq!(rt; rows.reserve(1_000_000), Ok(()));
+    Ok(())
+}

@@ -1,0 +1,315 @@
+#!/usr/bin/env python3
+"""Makes four metafiles beside this script, of what pens and brushes draw. Each is made for a surface of 256 by 256.
+
+lines.wmf       a fan of lines in all directions, with twelve pens, and nets of lines in the corners
+polygons.emf    stars, and squares that overlap, filled in ALTERNATE on the left and in WINDING on the right
+hatches.wmf     the six hatches, above in TRANSPARENT and below in OPAQUE, over bands of blue
+raster_ops.emf  the sixteen binary raster operations, 1 to 4 in the first row: with each a brush and a pen draw
+                over an orange and a blue half
+"""
+import colorsys
+import math
+import pathlib
+import struct
+
+from metafiles import emf_file, emf_record, placeable_file, wmf_record
+
+# The side of each picture, in units of its frame: four of them are a pixel where it is shown at 256 by 256.
+SIDE = 1024
+
+# A picture's sides in millimetres, of 96 pixels to an inch.
+MILLIMETRES = round(SIDE / 96 * 25.4)
+
+BLACK, WHITE, GREY = (0, 0, 0), (255, 255, 255), (192, 192, 192)
+
+SOLID, HATCHED = 0, 2
+
+TRANSPARENT, OPAQUE = 1, 2
+
+ALTERNATE, WINDING = 1, 2
+
+COPY_PEN = 13
+
+# Stock objects of EMF, by their indexes.
+NULL_BRUSH, BLACK_PEN, NULL_PEN = 0x80000005, 0x80000007, 0x80000008
+
+
+def colour(rgb):
+    """A colour: red, green and blue, and a byte of 0."""
+    return bytes((*rgb, 0))
+
+
+def points(places):
+    """Points of 16 bits, x before y."""
+    return b"".join(struct.pack("<hh", round(x), round(y)) for x, y in places)
+
+
+def on_circle(centre, radius, turn):
+    """The place on a circle at this part of a turn, counted from the top."""
+    angle = 2 * math.pi * turn
+    return centre[0] + radius * math.sin(angle), centre[1] - radius * math.cos(angle)
+
+
+# Records of WMF.
+
+
+def wmf_pen(rgb):
+    """META_CREATEPENINDIRECT: a solid pen, one pixel wide. It gets the lowest free index."""
+    return wmf_record(0x02FA, struct.pack("<Hhh", SOLID, 1, 0) + colour(rgb))
+
+
+def wmf_brush(rgb, hatch=None):
+    """META_CREATEBRUSHINDIRECT: a solid or a hatched brush. It gets the lowest free index."""
+    style = SOLID if hatch is None else HATCHED
+    return wmf_record(0x02FC, struct.pack("<H4sH", style, colour(rgb), hatch or 0))
+
+
+def wmf_select(index):
+    """META_SELECTOBJECT."""
+    return wmf_record(0x012D, struct.pack("<H", index))
+
+
+def wmf_background(mode):
+    """META_SETBKMODE."""
+    return wmf_record(0x0102, struct.pack("<H", mode))
+
+
+def wmf_background_colour(rgb):
+    """META_SETBKCOLOR."""
+    return wmf_record(0x0201, colour(rgb))
+
+
+def wmf_line(start, end):
+    """META_MOVETO and META_LINETO, y before x."""
+    (x, y), (right, down) = start, end
+    move = wmf_record(0x0214, struct.pack("<hh", round(y), round(x)))
+    return move + wmf_record(0x0213, struct.pack("<hh", round(down), round(right)))
+
+
+def wmf_rectangle(left, top, right, bottom):
+    """META_RECTANGLE, from its last edge to its first; the right and the bottom one don't belong to it."""
+    return wmf_record(0x041B, struct.pack("<4h", bottom, right, top, left))
+
+
+# Records of EMF.
+
+
+def emf_pen(index, rgb):
+    """EMR_CREATEPEN: a solid pen, one pixel wide."""
+    return emf_record(38, struct.pack("<IIii", index, SOLID, 1, 0) + colour(rgb))
+
+
+def emf_brush(index, rgb):
+    """EMR_CREATEBRUSHINDIRECT: a solid brush."""
+    return emf_record(39, struct.pack("<II4sI", index, SOLID, colour(rgb), 0))
+
+
+def emf_select(index):
+    """EMR_SELECTOBJECT."""
+    return emf_record(37, struct.pack("<I", index))
+
+
+def emf_fill_mode(mode):
+    """EMR_SETPOLYFILLMODE."""
+    return emf_record(19, struct.pack("<I", mode))
+
+
+def emf_raster_op(code):
+    """EMR_SETROP2."""
+    return emf_record(20, struct.pack("<I", code))
+
+
+def emf_rectangle(left, top, right, bottom):
+    """EMR_RECTANGLE, to which all four edges belong."""
+    return emf_record(43, struct.pack("<4i", left, top, right, bottom))
+
+
+def bounds(places):
+    """The box of some places, to which all four edges belong."""
+    xs, ys = zip(*places)
+    return struct.pack("<4i", *(round(edge) for edge in (min(xs), min(ys), max(xs), max(ys))))
+
+
+def emf_polyline(places):
+    """EMR_POLYLINE16."""
+    return emf_record(87, bounds(places) + struct.pack("<I", len(places)) + points(places))
+
+
+def emf_polygons(lists):
+    """EMR_POLYPOLYGON16: polygons that are filled together."""
+    places = [place for one in lists for place in one]
+    counts = struct.pack(f"<{len(lists) + 2}I", len(lists), len(places), *map(len, lists))
+    return emf_record(91, bounds(places) + counts + points(places))
+
+
+def emf_polygon(places):
+    """EMR_POLYGON16."""
+    return emf_record(86, bounds(places) + struct.pack("<I", len(places)) + points(places))
+
+
+def emf_picture(records, handles):
+    """A file of a square picture, whose objects have indexes from 1 to before the handles."""
+    edges = (0, 0, SIDE - 1, SIDE - 1)
+    return emf_file(edges, records, handles, (SIDE, SIDE), (MILLIMETRES, MILLIMETRES))
+
+
+# Lines.
+
+FAN_LINES, FAN_PENS = 96, 12
+
+NET_LINES = 14
+
+
+def fan():
+    """Lines outwards from a small circle, with the pens by turns."""
+    centre = (SIDE / 2, SIDE / 2)
+    for line in range(FAN_LINES):
+        turn = line / FAN_LINES
+        yield wmf_select(line * FAN_PENS // FAN_LINES)
+        yield wmf_line(on_circle(centre, 72, turn), on_circle(centre, 480, turn))
+
+
+def net(x, y, right, down):
+    """Lines from the frame's upright edge to its level one at a corner: where one begins far from the corner it
+    ends near to it."""
+    for line in range(1, NET_LINES):
+        begin, end = 20 * (NET_LINES - line), 20 * line
+        yield wmf_line((x, y + down * begin), (x + right * end, y))
+
+
+def lines():
+    """The fan and four nets."""
+    hues = [colorsys.hsv_to_rgb(pen / FAN_PENS, 1, 0.85) for pen in range(FAN_PENS)]
+    records = [wmf_pen([round(255 * part) for part in hue]) for hue in hues]
+    records += [wmf_pen((96, 96, 112)), *fan(), wmf_select(FAN_PENS)]
+    last = SIDE - 1
+    for corner in [(0, 0, 1, 1), (last, 0, -1, 1), (0, last, 1, -1), (last, last, -1, -1)]:
+        records += net(*corner)
+    return placeable_file(SIDE, SIDE, records, objects=FAN_PENS + 1)
+
+
+# Polygons.
+
+
+def star(centre, radius, corners, skipped):
+    """A star whose corners on a circle are joined over so many others."""
+    return [on_circle(centre, radius, corner * skipped / corners % 1) for corner in range(corners)]
+
+
+def square(x, y, side, clockwise=True):
+    """A square from its corner at the left and top, one way round or the other."""
+    places = [(x, y), (x + side, y), (x + side, y + side), (x, y + side)]
+    return places if clockwise else places[::-1]
+
+
+def polygons_of(x):
+    """Stars, and squares that overlap, about an upright line."""
+    yield emf_polygon(star((x, 176), 156, 5, 2))
+    yield emf_polygons([square(x - 220, 356, 130), square(x - 160, 416, 130)])
+    yield emf_polygons([square(x + 30, 356, 130), square(x + 90, 416, 130, clockwise=False)])
+    yield emf_polygon(star((x, 800), 208, 9, 4))
+
+
+def polygons():
+    """The same polygons in both fill modes, on grounds of two colours."""
+    pen, brush, left, right = range(1, 5)
+    colours = {brush: (255, 184, 28), left: (232, 244, 248), right: (244, 238, 228)}
+    records = [emf_pen(pen, (24, 32, 88)), *(emf_brush(index, rgb) for index, rgb in colours.items())]
+    records += [emf_select(NULL_PEN), emf_select(left), emf_rectangle(0, 0, 511, SIDE - 1)]
+    records += [emf_select(right), emf_rectangle(512, 0, SIDE - 1, SIDE - 1)]
+    records += [emf_select(pen), emf_select(brush)]
+    records += [emf_fill_mode(ALTERNATE), *polygons_of(256), emf_fill_mode(WINDING), *polygons_of(768)]
+    return emf_picture(records, handles=5)
+
+
+# Hatches.
+
+HATCH_COLOURS = [(176, 32, 32), (16, 112, 48), (32, 48, 160), (144, 80, 0), (112, 24, 136), (0, 104, 120)]
+
+COLUMNS = 3
+
+
+def hatch_boxes(row):
+    """The boxes of six hatches in two rows of the picture, from this row on."""
+    for hatch in range(len(HATCH_COLOURS)):
+        left, top = 28 + 332 * (hatch % COLUMNS), 24 + 248 * (row + hatch // COLUMNS)
+        yield hatch, (left, top, left + 304, top + 232)
+
+
+def band(row):
+    """A band through the lower part of a row's boxes."""
+    top = 24 + 248 * row
+    return wmf_rectangle(0, top + 124, SIDE, top + 192)
+
+
+def hatches():
+    """The hatches in both background modes, over bands."""
+    hatched = [wmf_brush(rgb, hatch) for hatch, rgb in enumerate(HATCH_COLOURS)]
+    blue, black = len(hatched), len(hatched) + 2
+    records = [*hatched, wmf_brush((176, 208, 240)), wmf_pen((176, 208, 240)), wmf_pen(BLACK)]
+    records += [wmf_select(blue), wmf_select(blue + 1), *map(band, range(4)), wmf_select(black)]
+    records.append(wmf_background_colour((255, 244, 200)))
+    for mode, row in [(TRANSPARENT, 0), (OPAQUE, 2)]:
+        records.append(wmf_background(mode))
+        for hatch, box in hatch_boxes(row):
+            records += [wmf_select(hatch), wmf_rectangle(*box)]
+    return placeable_file(SIDE, SIDE, records, objects=black + 1)
+
+
+# Raster operations.
+
+# Where the pieces of a cell stand in it: two halves of ground, a box that the brush fills, and a line of the pen.
+HALVES = [(16, 16, 127, 239), (128, 16, 239, 239)]
+
+BOX = (48, 48, 207, 159)
+
+ZIGZAG = [(24, 232), (76, 104), (128, 232), (180, 104), (232, 232)]
+
+
+def ground(x, y, brushes):
+    """The two halves of a cell's ground, each with its brush."""
+    for index, (left, top, right, bottom) in zip(brushes, HALVES):
+        yield emf_select(index)
+        yield emf_rectangle(x + left, y + top, x + right, y + bottom)
+
+
+def drawn_with(code, x, y):
+    """A box and a line with the brush and the pen of the moment, by a raster operation."""
+    left, top, right, bottom = BOX
+    yield emf_raster_op(code)
+    yield emf_rectangle(x + left, y + top, x + right, y + bottom)
+    yield emf_polyline([(x + right, y + down) for right, down in ZIGZAG])
+
+
+def raster_ops():
+    """A cell of ground for each operation, and over all of them what the operations draw."""
+    pen, brush, orange, blue = range(1, 5)
+    colours = {brush: (64, 176, 112), orange: (255, 168, 32), blue: (40, 72, 184)}
+    records = [emf_pen(pen, (208, 16, 96)), *(emf_brush(index, rgb) for index, rgb in colours.items())]
+    cells = [(256 * (number % 4), 256 * (number // 4)) for number in range(16)]
+    records += [emf_select(NULL_PEN)]
+    for x, y in cells:
+        records += ground(x, y, (orange, blue))
+    records += [emf_select(pen), emf_select(brush)]
+    for code, (x, y) in enumerate(cells, 1):
+        records += drawn_with(code, x, y)
+    return emf_picture(records, handles=5)
+
+
+PICTURES = {
+    "lines.wmf": lines,
+    "polygons.emf": polygons,
+    "hatches.wmf": hatches,
+    "raster_ops.emf": raster_ops,
+}
+
+
+def main():
+    """Writes the four files."""
+    folder = pathlib.Path(__file__).parent
+    for name, picture in PICTURES.items():
+        (folder / name).write_bytes(picture())
+
+
+if __name__ == "__main__":
+    main()

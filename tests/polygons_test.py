@@ -1,0 +1,230 @@
+"""Polygons ([MS-WMF] 2.3.3.15 and 2.3.3.16, [MS-EMF] 2.3.5) in the built programs: which pixels
+their fills and strokes have.
+
+A pixel is filled where the ray from its middle to the left crosses the polygon's edges: an odd
+number of them, or a number of downward ones other than that of upward ones. A pixel whose middle
+lies on an edge counts as right of it, and an edge has its upper end's row and not its lower end's.
+"""
+
+import unittest
+
+from built import for_each_program
+from machine_records import EMF
+from shape_pictures import (
+    ALTERNATE,
+    BLACK_FILL,
+    BLACK_STROKE,
+    BOTH,
+    INVERT,
+    WINDING,
+    ShapeTest,
+    empty,
+    marked,
+)
+
+TRIANGLE = "0 0 4 0 0 4"
+
+# The fill has 3, 2, 1 and 0 pixels in rows 0 to 3, of which the stroke leaves one.
+TRIANGLE_DRAWN = "#### #o.# #.#. ##.."
+
+# Two squares of 4 by 4 that share one of 2 by 2. The second one goes round as the first does, or the
+# other way.
+SQUARE = "0 0 4 0 4 4 0 4"
+SECOND = "2 2 6 2 6 6 2 6"
+SECOND_BACK = "2 2 2 6 6 6 6 2"
+
+# A star of five corners; its core lies inside twice.
+STAR = "5 0 8 10 0 4 10 4 2 10"
+
+NOTHING = ".... .... .... ...."
+
+
+class Triangles(ShapeTest):
+    """A triangle, its layers, and how its corners are told."""
+
+    @for_each_program
+    def test_the_stroke_is_drawn_above_the_fill(self, program):
+        self.check_drawings(
+            program,
+            {
+                f"{BOTH}; polygon {TRIANGLE}": TRIANGLE_DRAWN,
+                f"polygon {TRIANGLE}": marked(TRIANGLE_DRAWN, "#"),
+            },
+        )
+        # A larger surface shows the corners at (4,0) and (0,4).
+        self.check_drawings(
+            program, {f"{BOTH}; polygon {TRIANGLE}": "##### #o.#. #.#.. ##... #...."}
+        )
+
+    @for_each_program
+    def test_a_null_pen_has_no_stroke_and_a_null_brush_no_fill(self, program):
+        self.check_drawings(
+            program,
+            {
+                f"{BLACK_FILL}; polygon {TRIANGLE}": "###. ##.. #... ....",
+                f"{BLACK_STROKE}; polygon {TRIANGLE}": "#### #..# #.#. ##..",
+                f"{BLACK_STROKE}; null_pen 1; select 1; polygon {TRIANGLE}": NOTHING,
+            },
+        )
+        stock = {
+            "select_at 0x80000008; select_at 0x80000004": "###. ##.. #... ....",
+            "select_at 0x80000005": "#### #..# #.#. ##..",
+            "select_at 0x80000005; select_at 0x80000008": NOTHING,
+        }
+        stock = {f"{front}; polygon {TRIANGLE}": rows for front, rows in stock.items()}
+        self.check_drawings(program, stock, forms=[EMF])
+
+    @for_each_program
+    def test_pen_and_brush_have_their_own_colours(self, program):
+        tools = "solid_pen 0 0x0000FF; solid_brush 1 0xFF0000; select 0; select 1"
+        self.check_drawings(program, {f"{tools}; polygon {TRIANGLE}": "bbbb bo.b b.b. bb.."})
+
+    @for_each_program
+    def test_fill_and_stroke_each_turn_what_is_there(self, program):
+        # The fill is rows of 3, 2 and 1, and the stroke turns its pixels of them back.
+        rows = "...# .#.# ..#. ##.."
+        self.check_drawings(program, {f"{INVERT}; polygon {TRIANGLE}": rows})
+
+    @for_each_program
+    def test_corners_in_any_order_have_the_same_fill(self, program):
+        for corners in ("0 0 4 0 0 4", "4 0 0 4 0 0", "0 4 0 0 4 0", "0 4 4 0 0 0", "0 0 0 4 4 0"):
+            for mode in (ALTERNATE, WINDING):
+                script = f"{mode}; {BLACK_FILL}; polygon {corners}"
+                self.check_drawings(program, {script: "###. ##.. #... ...."})
+
+    @for_each_program
+    def test_a_list_is_closed_and_may_be_told_closed(self, program):
+        stroke = "#### #..# #.#. ##.."
+        for points in (TRIANGLE, f"{TRIANGLE} 0 0", f"0 0 0 0 {TRIANGLE} 0 4 0 4"):
+            pictures = {
+                f"{BLACK_STROKE}; polygon {points}": stroke,
+                f"{BLACK_FILL}; polygon {points}": "###. ##.. #... ....",
+            }
+            self.check_drawings(program, pictures)
+        # A line along the same points isn't closed, and has its last pixel left out.
+        self.check_drawings(program, {f"polyline {TRIANGLE}": "#### ...# ..#. .#.."})
+        self.check_drawings(program, {f"polyline {TRIANGLE} 0 0": stroke})
+
+    @for_each_program
+    def test_short_numbers_of_emf(self, program):
+        pictures = {
+            f"{BOTH}; short_polygon {TRIANGLE}": TRIANGLE_DRAWN,
+            f"{BOTH}; short_polygons {TRIANGLE}": TRIANGLE_DRAWN,
+            f"{BOTH}; short_polygons -1 -1 0 -1 -1 0 | {TRIANGLE}": TRIANGLE_DRAWN,
+        }
+        self.check_drawings(program, pictures, forms=[EMF])
+
+
+STAR_FILL = """
+    .......... .......... ....##.... ....##.... .###..###.
+    ..#....#.. .......... ...####... ..##..##.. ..#....#..
+"""
+
+STAR_WHOLE = """
+    .......... .......... ....##.... ....##.... .########.
+    ..######.. ...####... ...####... ..##..##.. ..#....#..
+"""
+
+
+class Modes(ShapeTest):
+    """The two fill modes, which count edges or add up their ways."""
+
+    @for_each_program
+    def test_a_star(self, program):
+        self.assertEqual((STAR_FILL.count("#"), STAR_WHOLE.count("#")), (22, 32))
+        pictures = {
+            f"{ALTERNATE}; {BLACK_FILL}; polygon {STAR}": STAR_FILL,
+            f"{WINDING}; {BLACK_FILL}; polygon {STAR}": STAR_WHOLE,
+            # An EMF and a WMF begin with the first.
+            f"{BLACK_FILL}; polygon {STAR}": STAR_FILL,
+            # The fill has the mode of its moment.
+            f"{WINDING}; {BLACK_FILL}; polygon {STAR}; {ALTERNATE}": STAR_WHOLE,
+        }
+        self.check_drawings(program, pictures)
+
+    @for_each_program
+    def test_lists_that_overlap(self, program):
+        apart = "####.. ####.. ##..## ##..## ..#### ..####"
+        joined = "####.. ####.. ###### ###### ..#### ..####"
+        for mode, second, rows in [
+            (ALTERNATE, SECOND, apart),
+            (ALTERNATE, SECOND_BACK, apart),
+            (WINDING, SECOND, joined),
+            (WINDING, SECOND_BACK, apart),
+        ]:
+            front = f"{mode}; {BLACK_FILL}"
+            self.check_drawings(
+                program,
+                {
+                    f"{front}; polygons {SQUARE} | {second}": rows,
+                    f"{front}; polygons {second} | {SQUARE}": rows,
+                    # Each by its own record.
+                    f"{front}; polygon {SQUARE}; polygon {second}": joined,
+                },
+            )
+
+    @for_each_program
+    def test_a_list_twice(self, program):
+        square = "####.. ####.. ####.. ####.. ...... ......"
+        for mode, rows in [(ALTERNATE, empty(square)), (WINDING, square)]:
+            front = f"{mode}; {BLACK_FILL}"
+            self.check_drawings(
+                program,
+                {
+                    f"{front}; polygons {SQUARE} | {SQUARE}": rows,
+                    f"{front}; polygon {SQUARE} {SQUARE}": rows,
+                    f"{front}; polygons {SQUARE} | 0 4 4 4 4 0 0 0": empty(square),
+                    f"{front}; polygons {SQUARE} | {SQUARE} | 0 4 4 4 4 0 0 0": square,
+                },
+            )
+
+    @for_each_program
+    def test_the_stroke_of_several_lists_is_one_layer(self, program):
+        rows = "#####.. #...#.. #.##### #.#.#.# #####.# ..#...# ..#####"
+        script = f"polygons {SQUARE} | {SECOND}"
+        for mode in (ALTERNATE, WINDING):
+            pictures = {
+                f"{mode}; {BLACK_STROKE}; {script}": rows,
+                # Where strokes meet, a pixel is turned once.
+                f"{mode}; {BLACK_STROKE}; {INVERT}; {script}": rows,
+            }
+            self.check_drawings(program, pictures)
+
+
+class FewPoints(ShapeTest):
+    """Lists of no point, one and two, and no lists."""
+
+    @for_each_program
+    def test_lists_without_a_pixel(self, program):
+        pictures = {"polygon": NOTHING, "polygon 1 1": NOTHING, "polygon 1 1 1 1 1 1": NOTHING}
+        pictures |= {"polygons": NOTHING, "polygons |": NOTHING, "polygons 1 1 | 2 2": NOTHING}
+        self.check_drawings(
+            program, {f"{BOTH}; {script}": rows for script, rows in pictures.items()}
+        )
+
+    @for_each_program
+    def test_two_points_have_a_line_there_and_back(self, program):
+        for mode in (ALTERNATE, WINDING):
+            self.check_drawings(
+                program,
+                {
+                    f"{mode}; {BOTH}; polygon 0 1 3 1": ".... #### .... ....",
+                    f"{mode}; {BOTH}; polygon 3 1 0 1": ".... #### .... ....",
+                    f"{mode}; {BOTH}; polygon 1 3 1 1": ".... .#.. .#.. .#..",
+                    f"{mode}; {BOTH}; polygon 3 3 1 1": ".... .#.. ..#. ...#",
+                    f"{mode}; {BLACK_FILL}; polygon 3 3 1 1": NOTHING,
+                    f"{mode}; {INVERT}; polygon 3 1 0 1": ".... #### .... ....",
+                },
+            )
+
+    @for_each_program
+    def test_empty_lists_among_others_add_nothing(self, program):
+        for lists in (f"| {TRIANGLE}", f"{TRIANGLE} |", f"| | {TRIANGLE} | 3 3 |"):
+            self.check_drawings(program, {f"{BOTH}; polygons {lists}": TRIANGLE_DRAWN})
+        # The lists aren't one: there is no line between them.
+        pictures = {f"{BOTH}; polygons 0 0 3 0 | 0 2 3 2": "#### .... #### ...."}
+        self.check_drawings(program, pictures)
+
+
+if __name__ == "__main__":
+    unittest.main()

@@ -1,0 +1,238 @@
+"""What scripts of records draw: the playing state and its changes, and the layers of each drawing,
+by the rules of `reference` for each pixel alone. The tests compare the built programs with it.
+
+A script is a list of steps, each a name and its words, as `machine_records.Form` writes them to
+files of [MS-WMF] 2.3 and [MS-EMF] 2.3.
+"""
+
+from typing import NamedTuple
+
+from records_table import BLACK, BLUE, RED
+from reference import (
+    ALTERNATE,
+    HATCHES,
+    Axis,
+    OffPlane,
+    closed,
+    is_filled,
+    is_in_box,
+    is_stroked,
+    mixed,
+    opened,
+)
+from shape_records import lists_of, rgb_of
+
+WHITE = (255, 255, 255)
+
+# MixMode ([MS-WMF] 2.1.1.20), and the raster operation that copies the paint (2.1.1.2).
+OPAQUE = 2
+COPY_PEN = 13
+
+
+class State(NamedTuple):
+    """What later records are played with. A pen is its colour or nothing; a brush is nothing, a
+    colour, or a hatch and a colour."""
+
+    axes: tuple[Axis, Axis]
+    pen: tuple | None = BLACK
+    brush: tuple | None = WHITE
+    hatch: int | None = None
+    back_mode: int = OPAQUE
+    back: tuple = WHITE
+    operation: int = COPY_PEN
+    fill_mode: int = ALTERNATE
+    position: tuple[int, int] = (0, 0)
+    kept: tuple[tuple, ...] = ()
+    cut: tuple[tuple, ...] = ()
+
+    def place(self, point):
+        """The place of a page point."""
+        return tuple(axis.placed(number) for axis, number in zip(self.axes, point, strict=True))
+
+    def box(self, left, top, right, bottom):
+        """The placed corners of a box, put in order."""
+        across, down = zip(self.place((left, top)), self.place((right, bottom)), strict=True)
+        return min(across), min(down), max(across), max(down)
+
+    def is_in_clip(self, x, y):
+        """A pixel of each kept box and of no cut one."""
+        in_kept = all(is_in_box(box, x, y) for box in self.kept)
+        return in_kept and not any(is_in_box(box, x, y) for box in self.cut)
+
+    def brush_at(self, x, y):
+        """The brush's colour at a pixel, or nothing."""
+        if self.hatch is None or HATCHES[self.hatch](x % 8, y % 8):
+            return self.brush
+        return self.back if self.back_mode == OPAQUE else None
+
+
+class Reference:
+    """A white surface, and what steps draw on it. A rectangle of EMF has its last edges too."""
+
+    def __init__(self, axes, inclusive):
+        self.state = State(axes)
+        self.inclusive = inclusive
+        self.saved = []
+        self.objects = {}
+        across, down = axes
+        self.image = {
+            (x, y): WHITE for y in range(down.surface) for x in range(across.surface)
+        }
+
+    def play(self, steps):
+        """Plays steps in order, and answers the image, and which step is refused, if one is, for a
+        coordinate off the plane."""
+        for number, (name, words) in enumerate(steps):
+            try:
+                getattr(self, f"play_{name.removeprefix('short_')}")(*words)
+            except OffPlane:
+                return self.image, number
+        return self.image, None
+
+    def change(self, **changes):
+        """Changes parts of the state."""
+        self.state = self.state._replace(**changes)
+
+    def set_axes(self, part, numbers):
+        """Sets a part of both axes."""
+        pairs = zip(self.state.axes, numbers, strict=True)
+        self.change(axes=tuple(axis._replace(**{part: number}) for axis, number in pairs))
+
+    def layer(self, has, paint_at, plain=False):
+        """Writes each pixel that a shape has, in the clip, where its paint isn't nothing."""
+        state = self.state
+        for (x, y), there in self.image.items():
+            if has(x, y) and state.is_in_clip(x, y):
+                paint = paint_at(x, y)
+                if paint is not None:
+                    drawn = paint if plain else mixed(state.operation, paint, there)
+                    self.image[x, y] = drawn
+
+    def fill(self, has):
+        """A layer of the brush, if it isn't null."""
+        if self.state.brush is not None:
+            self.layer(has, self.state.brush_at)
+
+    def stroke(self, lines):
+        """A layer of the pen, if it isn't null."""
+        if self.state.pen is not None:
+            self.layer(lambda x, y: is_stroked(lines, x, y), lambda x, y: self.state.pen)
+
+    # Drawings.
+
+    def play_pixel(self, x, y, rgb=RED):
+        at = self.state.place((x, y))
+        self.layer(lambda *pixel: pixel == at, lambda *pixel: rgb, plain=True)
+
+    def play_blue(self, x, y):
+        self.play_pixel(x, y, BLUE)
+
+    def play_line(self, x, y):
+        self.stroke([(self.state.place(self.state.position), self.state.place((x, y)))])
+        self.change(position=(x, y))
+
+    def play_polyline_to(self, *numbers):
+        if numbers:
+            points = [self.state.position, *pairs_of(numbers)]
+            self.stroke(opened([self.state.place(point) for point in points]))
+            self.change(position=points[-1])
+
+    def play_polyline(self, *numbers):
+        self.play_polylines(*numbers)
+
+    def play_polylines(self, *words):
+        self.stroke([line for points in self.places_of(words) for line in opened(points)])
+
+    def play_polygon(self, *numbers):
+        self.play_polygons(*numbers)
+
+    def play_polygons(self, *words):
+        edges = [edge for points in self.places_of(words) for edge in closed(points)]
+        self.fill(lambda x, y: is_filled(edges, self.state.fill_mode, x, y))
+        self.stroke(edges)
+
+    def play_rectangle(self, *numbers):
+        left, top, right, bottom = self.state.box(*numbers)
+        right, bottom = right + self.inclusive, bottom + self.inclusive
+        if left == right or top == bottom:
+            return
+        self.fill(lambda x, y: is_in_box((left, top, right, bottom), x, y))
+        ends = [(left, top), (right - 1, top), (right - 1, bottom - 1), (left, bottom - 1)]
+        self.stroke(closed(ends))
+
+    def places_of(self, words):
+        """The places of lists of page points."""
+        lists = map(pairs_of, lists_of(words))
+        return [[self.state.place(point) for point in points] for points in lists]
+
+    # What changes the state.
+
+    def play_move(self, x, y):
+        self.change(position=(x, y))
+
+    def play_solid_pen(self, index, number):
+        self.objects[index] = {"pen": rgb_of(number)}
+
+    def play_null_pen(self, index):
+        self.objects[index] = {"pen": None}
+
+    def play_solid_brush(self, index, number):
+        self.objects[index] = {"brush": rgb_of(number), "hatch": None}
+
+    def play_null_brush(self, index):
+        self.objects[index] = {"brush": None, "hatch": None}
+
+    def play_hatched_brush(self, index, hatch, number):
+        self.objects[index] = {"brush": rgb_of(number), "hatch": hatch}
+
+    def play_select(self, index):
+        self.change(**self.objects[index])
+
+    def play_raster(self, operation):
+        self.change(operation=operation)
+
+    def play_fill_mode(self, mode):
+        self.change(fill_mode=mode)
+
+    def play_back_mode(self, mode):
+        self.change(back_mode=mode)
+
+    def play_back_colour(self, number):
+        self.change(back=rgb_of(number))
+
+    def play_map_mode(self, mode):
+        """Only mode 8, in which extents count, is drawn at random."""
+        assert mode == 8, mode
+
+    def play_window_origin(self, *numbers):
+        self.set_axes("window", numbers)
+
+    def play_window_extent(self, *numbers):
+        self.set_axes("window_extent", numbers)
+
+    def play_viewport_origin(self, *numbers):
+        self.set_axes("viewport", numbers)
+
+    def play_viewport_extent(self, *numbers):
+        self.set_axes("viewport_extent", numbers)
+
+    def play_keep(self, *numbers):
+        self.change(kept=(*self.state.kept, self.state.box(*numbers)))
+
+    def play_cut(self, *numbers):
+        self.change(cut=(*self.state.cut, self.state.box(*numbers)))
+
+    def play_unclip(self):
+        self.change(kept=(), cut=())
+
+    def play_save(self):
+        self.saved.append(self.state)
+
+    def play_restore(self, place):
+        assert place == -1, place
+        self.state = self.saved.pop()
+
+
+def pairs_of(numbers):
+    """Points from numbers."""
+    return list(zip(numbers[::2], numbers[1::2], strict=True))

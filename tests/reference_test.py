@@ -1,0 +1,241 @@
+"""Small files of all kinds of shapes, made at random from a fixed seed, in the built programs: each
+pixel is as the reference decides it by itself."""
+
+import random
+import unittest
+from concurrent.futures import ThreadPoolExecutor
+from functools import cache
+from typing import NamedTuple
+
+from built import Answer, answer, for_each_program
+from machine_records import EMF, WMF, Form
+from records_table import (
+    EMF_END,
+    WMF_END,
+    emf_file,
+    i16,
+    i32,
+    placeable_file,
+    refused,
+    shown,
+    u16,
+)
+from reference import Axis
+from reference_player import Reference
+from shape_records import BETWEEN
+
+# How many files of each format.
+FILES = 200
+
+SEED = 11
+
+# The drawings of both formats, some of them more often than others, and those that EMF has besides.
+SHAPES = ["pixel", "line", "polyline", *["polygon", "polygons", "rectangle"] * 2]
+EMF_SHAPES = [
+    *SHAPES,
+    *["polyline_to", "polylines", "short_polygon", "short_polyline", "short_polyline_to"],
+    *["short_polylines", "short_polygons"],
+]
+
+COLOURS = [0x000000, 0xFF0000, 0x00FF00, 0x0000FF, 0x5A3C96, 0x800001, 0xFFFFFF]
+
+
+class Drawn(NamedTuple):
+    """A file, its records as a script, the sides of its surface, its image by the reference, up to a
+    record that is refused, and the program's answer by that."""
+
+    form: Form
+    script: str
+    given: bytes
+    surface: tuple[int, int]
+    image: dict
+    wanted: Answer
+
+
+class Maker:
+    """Makes files by numbers at random, all of them by a seed."""
+
+    def __init__(self, form, seed):
+        self.form = form
+        self.random = random.Random(seed)
+        self.surface = self.random.randint(2, 12), self.random.randint(1, 12)
+        if self.random.random() < 0.2:
+            # Some have many pixels a row, or many rows.
+            sides = self.random.randint(13, 140), self.random.randint(1, 4)
+            self.surface = self.random.choice([sides, sides[::-1]])
+        self.objects = 0
+        self.depth = 0
+        self.cuts = 0
+
+    def number(self):
+        """A coordinate: mostly near the surface, at times far off."""
+        far = 30000 if self.form is WMF else 90000000
+        reach = self.random.choice([0] * 12 + [3, 3, 40, far])
+        return self.random.randint(-reach, self.random.choice(self.surface) + reach)
+
+    def numbers(self, count):
+        """Coordinates."""
+        return [self.number() for _ in range(count)]
+
+    def points(self):
+        """The numbers of some points, of which the last may be one again, or of none."""
+        points = [self.numbers(2) for _ in range(self.random.randint(0, 7))]
+        if len(points) > 2 and self.random.random() < 0.3:
+            points[-1] = self.random.choice(points)
+        return sum(points, [])
+
+    def shape(self):
+        """A drawing."""
+        name = self.random.choice(SHAPES if self.form is WMF else EMF_SHAPES)
+        if name == "line":
+            moves = [("move", self.numbers(2))] * self.random.randint(0, 1)
+            return [*moves, (name, self.numbers(2))]
+        if name in ("pixel", "rectangle"):
+            return [(name, self.numbers(2 if name == "pixel" else 4))]
+        if not name.endswith("s"):
+            return [(name, self.narrow(name, self.points()))]
+        words = self.points()
+        for _ in range(self.random.randint(0, 2)):
+            words += [BETWEEN, *self.points()]
+        return [(name, self.narrow(name, words))]
+
+    def narrow(self, name, words):
+        """Words that fit two bytes where the record has no more."""
+        if not name.startswith("short_"):
+            return words
+        return [word if word == BETWEEN else max(-32768, min(word, 32767)) for word in words]
+
+    def tool(self):
+        """A pen or a brush, made and selected."""
+        colour = self.random.choice(COLOURS)
+        hatch = self.random.randrange(6)
+        kinds = [
+            *[("solid_pen", [colour])] * 3,
+            *[("solid_brush", [colour])] * 2,
+            *[("hatched_brush", [hatch, colour])] * 4,
+            ("null_pen", []),
+            ("null_brush", []),
+        ]
+        name, words = self.random.choice(kinds)
+        self.objects += 1
+        return [(name, [self.objects - 1, *words]), ("select", [self.objects - 1])]
+
+    def setting(self):
+        """A mode, a colour or an operation."""
+        return [
+            self.random.choice(
+                [
+                    ("raster", [self.random.randint(1, 16)]),
+                    ("fill_mode", [self.random.randint(1, 2)]),
+                    ("back_mode", [self.random.randint(1, 2)]),
+                    ("back_colour", [self.random.choice(COLOURS)]),
+                ]
+            )
+        ]
+
+    def mapping(self):
+        """A part of the page map."""
+        name = self.random.choice(["window", "viewport"])
+        if self.random.random() < 0.5:
+            return [(f"{name}_origin", [self.random.randint(-6, 6), self.random.randint(-6, 6)])]
+        extents = [-3, -1, 1, 2, 3, 4, 5]
+        return [(f"{name}_extent", [self.random.choice(extents), self.random.choice(extents)])]
+
+    def clipping(self):
+        """A box kept or cut, or the clip taken away."""
+        if self.form is EMF and self.random.random() < 0.2:
+            self.cuts = 0
+            return [("unclip", [])]
+        self.cuts += 1
+        name = "cut" if self.random.random() < 0.7 and self.cuts < 12 else "keep"
+        left, top = self.random.randint(-2, 4), self.random.randint(-2, 4)
+        sides = self.random.choice([(1, 1), (2, 3), (5, 2), (9, 9), (12, 7)])
+        return [(name, [left, top, left + sides[0], top + sides[1]])]
+
+    def saving(self):
+        """A state saved, or the last one restored."""
+        if self.depth and self.random.random() < 0.6:
+            self.depth -= 1
+            return [("restore", [-1])]
+        self.depth += 1
+        return [("save", [])]
+
+    def steps(self):
+        """A file's steps."""
+        parts = [self.shape] * 5 + [self.tool] * 4 + [self.setting] * 3
+        parts += [self.clipping, self.mapping, self.saving]
+        made = [("map_mode", [8])] if self.form is EMF else []
+        made += self.tool() + self.tool()
+        for _ in range(self.random.randint(4, 12)):
+            made += self.random.choice(parts)()
+        return made + self.shape() + self.shape()
+
+    def axes_and_file(self, script):
+        """The page map that a file begins with, and its bytes."""
+        records = self.form.records(script)
+        near = [self.random.randint(-3, 3) for _ in range(2)]
+        others = [self.random.randint(1, 14) for _ in range(2)]
+        sides = self.random.choice([self.surface, others])
+        if self.form is EMF:
+            ends = dict(zip(["left", "top"], map(i32, near), strict=True))
+            ends |= {"right": i32(near[0] + sides[0] - 1), "bottom": i32(near[1] + sides[1] - 1)}
+            given = emf_file([*records, EMF_END], handles=u16(64), **ends)
+            maps = [(0, 1, 0, 1, corner) for corner in near]
+        else:
+            extents = [side * self.random.choice([1, 1, 1, -1]) for side in sides]
+            ends = dict(zip(["left", "top"], map(i16, near), strict=True))
+            ends |= {"right": i16(near[0] + extents[0]), "bottom": i16(near[1] + extents[1])}
+            given = placeable_file([*records, WMF_END], **ends)
+            maps = [
+                (origin, extent, 0, side, 0)
+                for origin, extent, side in zip(near, extents, sides, strict=True)
+            ]
+        axes = [Axis(*map_, *ends) for map_, *ends in zip(maps, sides, self.surface, strict=True)]
+        return tuple(axes), given
+
+    def drawn(self):
+        """A file and its image."""
+        steps = self.steps()
+        script = "; ".join(" ".join(map(str, [name, *words])) for name, words in steps)
+        axes, given = self.axes_and_file(script)
+        image, off = Reference(axes, self.form is EMF).play(steps)
+        wanted = shown(image, *self.surface)
+        if off is not None:
+            wanted = refused("OffPlane", self.form.first + off)
+        return Drawn(self.form, script, given, self.surface, image, wanted)
+
+
+@cache
+def all_drawn():
+    """All files and their images, alike in each run."""
+    seeds = range(SEED * 1000, SEED * 1000 + FILES)
+    return [Maker(form, f"{form.name} {seed}").drawn() for form in (WMF, EMF) for seed in seeds]
+
+
+def shown_by(program, drawn):
+    """What a program answers to a file at its surface."""
+    return answer(program, ["show", "stdin", *map(str, drawn.surface)], drawn.given)
+
+
+class Files(unittest.TestCase):
+    """Files of both formats."""
+
+    def test_most_surfaces_show_several_colours(self):
+        # A surface of one colour shows little.
+        plain = [drawn for drawn in all_drawn() if len(set(drawn.image.values())) == 1]
+        self.assertLess(2 * len(plain), len(all_drawn()))
+
+    @for_each_program
+    def test_each_pixel_is_that_of_the_reference(self, program):
+        with ThreadPoolExecutor() as pool:
+            answers = pool.map(lambda drawn: shown_by(program, drawn), all_drawn())
+            wrong = [
+                f"{drawn.form.name} on {drawn.surface}: {drawn.script}"
+                for drawn, answered in zip(all_drawn(), answers, strict=True)
+                if answered != drawn.wanted
+            ]
+        self.assertEqual(wrong[:5], [], f"{len(wrong)} of {2 * FILES} files")
+
+
+if __name__ == "__main__":
+    unittest.main()
