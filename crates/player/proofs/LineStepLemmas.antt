@@ -1,19 +1,24 @@
 -- A line is drawn a step at a time.
-use Rattle.std.proofs.Common.{◌≡◌, ℕ, suc, ◌<◌, ◌≤◌, ℤ, pos, Bool, true, false, ◌&&◌, ◌||◌, nat_le, nat_lt, IsTrue, ◌⊎◌, inl, inr, arith, refl, ap, sym, ◌∙◌}
+use Rattle.std.proofs.Common.{◌≡◌, ℕ, suc, ◌+◌, ◌*◌, ◌^◌, ◌<◌, ◌≤◌, ℤ, pos, Bool, true, false, not, ◌&&◌, ◌||◌, nat_le, nat_lt, IsTrue, List, [], ◌∷◌, length, map, ◌==◌, ◌⊎◌, inl, inr, arith, refl, ap, sym, ◌∙◌}
 use Rattle.std.proofs.lemmas.Bool.{and_from, and_parts}
+use Rattle.std.specs.List.{list_any}
 use Rattle.mapping.specs.declared.geometry.Colour.{Colour}
 use Rattle.mapping.specs.declared.geometry.Point.{Point}
-use Rattle.canvas.specs.CanvasState.{CanvasState}
+use Rattle.mapping.specs.declared.geometry.Rect.{Rect}
+use Rattle.canvas.specs.CanvasState.{CanvasState, HasPixel}
 use Rattle.canvas.specs.Writing.{Repaints, is_at}
 use Rattle.canvas.specs.WritingLaws.{IsWhole, PassesNone, WritingLaws}
-use Rattle.dc_stack.specs.Clip.{ClipValue, in_boxes, in_kept}
+use Rattle.dc_stack.specs.Clip.{ClipValue, in_box, in_boxes, in_kept, unclipped}
+use Rattle.dc_stack.specs.Values.{cuts_of, placed_value}
+use Rattle.dc_stack.specs.declared.clip.Clip.{Clip}
+use Rattle.dc_stack.specs.declared.clip.ClipBox.{ClipBox}
 use Rattle.span_fill.specs.Spans.{in_region, in_span}
-use Rattle.span_fill.specs.Steps.{HasAllSteps, IsStepPixel, StepsState}
+use Rattle.span_fill.specs.Steps.{HasAllSteps, IsSameWay, IsStepPixel, StepsState, TakesStep}
 use Rattle.span_fill.specs.Strokes.{OnePixelForEachStep, on_line, step_at}
 use Rattle.span_fill.specs.declared.line.Line.{Line}
 use Rattle.span_fill.specs.declared.pixel.Pixel.{Pixel}
 use Rattle.span_fill.specs.declared.span.Region.{Region}
-use Rattle.player.specs.LineSteps.{is_taken}
+use Rattle.player.specs.LineSteps.{MayTake, is_taken, is_within}
 use Rattle.player.proofs.TestLemmas.{nat_lt-from, nat_lt-true, same_test}
 
 -- the number of a column or a row, of a coordinate
@@ -123,28 +128,28 @@ module _ (law : OnePixelForEachStep) (clip : ClipValue) (line : Line) (region : 
       over h = omega (arith, h)
 
   module _ (laws : WritingLaws) (f : ℕ → ℕ → Colour → Colour) (old now new : CanvasState) (whole : IsWhole old) (so_far : Repaints (is_taken clip line region k) f old now) where
-    pub step_drawn : in_boxes clip pixel.x pixel.y ≡ true → Repaints (is_at pixel.x pixel.y) f now new → Repaints (is_taken clip line region (suc k)) f old new
+    step_drawn : in_boxes clip pixel.x pixel.y ≡ true → Repaints (is_at pixel.x pixel.y) f now new → Repaints (is_taken clip line region (suc k)) f old new
     step_drawn has drawn =
         laws.same (λ x y. is_taken clip line region k x y || is_at pixel.x pixel.y x y) (is_taken clip line region (suc k)) f f old new whole (λ x y held. more_is_taken has x y) (λ x y c held t. refl)
         (laws.both (is_taken clip line region k) (is_at pixel.x pixel.y) f old now new whole (λ x y held. not_before x y) so_far drawn)
 
-    pub step_hidden : in_boxes clip pixel.x pixel.y ≡ false → Repaints (is_taken clip line region (suc k)) f old now
+    step_hidden : in_boxes clip pixel.x pixel.y ≡ false → Repaints (is_taken clip line region (suc k)) f old now
     step_hidden hidden =
         laws.same (is_taken clip line region k) (is_taken clip line region (suc k)) f f old now whole (λ x y held. none_is_taken hidden x y) (λ x y c held t. refl) so_far
 
 -- columns and rows of a region
-pub inside_width : (region : Region) (x y : ℕ) → IsTrue (in_region region x y) → x < region.columns.to
+inside_width : (region : Region) (x y : ℕ) → IsTrue (in_region region x y) → x < region.columns.to
 inside_width region x y h =
     let a = and_parts (in_span region.columns x) (in_span region.rows y) h in
     let b = and_parts (nat_le region.columns.from x) (nat_lt x region.columns.to) a.0 in nat_lt-true x region.columns.to b.1
 
-pub inside_height : (region : Region) (x y : ℕ) → IsTrue (in_region region x y) → y < region.rows.to
+inside_height : (region : Region) (x y : ℕ) → IsTrue (in_region region x y) → y < region.rows.to
 inside_height region x y h =
     let a = and_parts (in_span region.columns x) (in_span region.rows y) h in
     let b = and_parts (nat_le region.rows.from y) (nat_lt y region.rows.to) a.1 in nat_lt-true y region.rows.to b.1
 
 -- before the first step nothing is taken
-pub none_taken : (clip : ClipValue) (steps : StepsState) (line : Line) → line ≡ steps.line → HasAllSteps steps → (canvas : CanvasState) → PassesNone canvas (is_taken clip line steps.region steps.next)
+none_taken : (clip : ClipValue) (steps : StepsState) (line : Line) → line ≡ steps.line → HasAllSteps steps → (canvas : CanvasState) → PassesNone canvas (is_taken clip line steps.region steps.next)
 none_taken clip steps line same all canvas x y held = same_test _ _
     (λ h.
     let a = and_parts (in_boxes clip x y) _ h in
@@ -158,14 +163,153 @@ none_taken clip steps line same all canvas x y held = same_test _ _
     over : (a b : ℕ) → a < b → b ≤ a → ⊥
     over a b h k = omega (arith, h, k)
 
--- behind the last, all of it is that the clip has, where the region has what the clip keeps
-pub all_taken : (clip : ClipValue) (line : Line) (region : Region) (n : ℕ) (x y : ℕ) → (in_region region x y ≡ in_kept clip.kept x y) → (IsTrue (on_line line (pos x) (pos y)) → IsTrue (in_region region x y) → step_at line (pos x) (pos y) < n) → is_taken clip line region n x y ≡ (in_boxes clip x y && on_line line (pos x) (pos y))
-all_taken clip line region n x y kept all = same_test _ _
+-- behind the last, all of it is that the clip has
+all_taken : (clip : ClipValue) (line : Line) (region : Region) (n : ℕ) (x y : ℕ) → (IsTrue (on_line line (pos x) (pos y)) → IsTrue (in_region region x y) → step_at line (pos x) (pos y) < n) → is_taken clip line region n x y ≡ is_within clip line region x y
+all_taken clip line region n x y all = same_test _ _
     (λ h.
     let a = and_parts (in_boxes clip x y) _ h in
-    let b = and_parts (on_line line (pos x) (pos y)) _ a.1 in and_from (in_boxes clip x y) (on_line line (pos x) (pos y)) a.0 b.0)
+    let b = and_parts (on_line line (pos x) (pos y)) _ a.1 in
+    let c = and_parts (in_region region x y) (nat_lt (step_at line (pos x) (pos y)) n) b.1 in
+    and_from (in_boxes clip x y) _ a.0 (and_from (on_line line (pos x) (pos y)) (in_region region x y) b.0 c.0))
     (λ h.
-    let a = and_parts (in_boxes clip x y) (on_line line (pos x) (pos y)) h in
-    let keeps = and_parts (in_kept clip.kept x y) _ a.0 in
-    let inside : in_region region x y ≡ true = kept ∙ keeps.0 in
-    and_from (in_boxes clip x y) _ a.0 (and_from (on_line line (pos x) (pos y)) _ a.1 (and_from (in_region region x y) _ inside (nat_lt-from _ n (all a.1 inside)))))
+    let a = and_parts (in_boxes clip x y) _ h in
+    let b = and_parts (on_line line (pos x) (pos y)) (in_region region x y) a.1 in
+    and_from (in_boxes clip x y) _ a.0 (and_from (on_line line (pos x) (pos y)) _ b.0 (and_from (in_region region x y) _ b.1 (nat_lt-from _ n (all b.0 b.1)))))
+
+-- the pixels of the steps before those that are left are written
+pub record HasDrawn (clip : ClipValue) (f : ℕ → ℕ → Colour → Colour) (all left : StepsState) (start now : CanvasState) : Type 0 where
+  pub same : IsSameWay all left
+  pub whole : IsWhole now
+  pub drawn : Repaints (is_taken clip all.line all.region left.next) f start now
+
+module _ (laws : WritingLaws) (clip : ClipValue) (f : ℕ → ℕ → Colour → Colour) (all : StepsState) (start : CanvasState) (may : MayTake all start) where
+  -- none is, before the first step
+  pub none_drawn : HasDrawn clip f all all start start
+  none_drawn = record {
+    same = record { line = refl; region = refl; end = refl };
+    whole = may.whole;
+    drawn = laws.none (is_taken clip all.line all.region all.next) f start may.whole (none_taken clip all all.line refl may.all start);
+  }
+
+  module _ (left next : StepsState) (pixel : Pixel) (now : CanvasState) (so_far : HasDrawn clip f all left start now) (step : TakesStep left next pixel) where
+    -- the line and the region are those of the start
+    given_step : IsStepPixel all.line all.region left.next pixel
+    given_step = rw (← so_far.same.line, ← so_far.same.region) step.given
+
+    next_way : IsSameWay all next
+    next_way = record {
+      line = step.same.line ∙ so_far.same.line;
+      region = step.same.region ∙ so_far.same.region;
+      end = step.same.end ∙ so_far.same.end;
+    }
+
+    -- the canvas has the pixel of a step
+    pub has_step : HasPixel now pixel.x pixel.y
+    has_step =
+        let column = inside_width all.region pixel.x pixel.y given_step.inside in
+        let row = inside_height all.region pixel.x pixel.y given_step.inside in
+        let columns = may.columns in
+        let rows = may.rows in
+        let zero = may.first in
+        let width = so_far.drawn.width in
+        let first = so_far.drawn.first in
+        let height = so_far.drawn.rows in
+        record {
+          column = omega (arith, column, columns, width);
+          from_first = omega (arith, zero, first);
+          to_last = omega (arith, row, rows, zero, first, height);
+        }
+
+    -- one more may be counted
+    pub may_count : now.writes + 1 < 2 ^ 64
+    may_count =
+        let bound = laws.bounded _ _ start now so_far.drawn in
+        let countable = may.countable in omega (arith, bound, countable)
+
+    module _ (law : OnePixelForEachStep) where
+      -- one more is written
+      pub one_drawn : (new : CanvasState) → in_boxes clip pixel.x pixel.y ≡ true → Repaints (is_at pixel.x pixel.y) f now new → HasDrawn clip f all next start new
+      one_drawn new has drawn = record {
+        same = next_way;
+        whole = laws.stays_whole _ _ now new drawn so_far.whole;
+        drawn = rw step.next (step_drawn law clip all.line all.region left.next pixel given_step laws f start now new may.whole so_far.drawn has drawn);
+      }
+
+      -- or the clip hasn't it
+      pub none_more : in_boxes clip pixel.x pixel.y ≡ false → HasDrawn clip f all next start now
+      none_more hidden = record {
+        same = next_way;
+        whole = so_far.whole;
+        drawn = rw step.next (step_hidden law clip all.line all.region left.next pixel given_step laws f start now now may.whole so_far.drawn hidden);
+      }
+
+  -- all are, behind the last
+  pub all_drawn : (left : StepsState) (now : CanvasState) → HasDrawn clip f all left start now → left.end ≤ left.next → Repaints (is_within clip all.line all.region) f start now
+  all_drawn left now so_far ended =
+      let same = so_far.same.end in
+      laws.same (is_taken clip all.line all.region left.next) (is_within clip all.line all.region) f f start now may.whole
+      (λ x y held. all_taken clip all.line all.region left.next x y (λ on inside. let early = may.all.to x y on inside in omega (arith, early, ended, same)))
+      (λ x y old held t. refl)
+      so_far.drawn
+
+-- the steps that a region has of a line, where the canvas has the region
+pub may_take : (steps : StepsState) (region : Region) (canvas : CanvasState) → steps.region ≡ region → HasAllSteps steps → IsWhole canvas → canvas.first ≡ 0 → region.columns.to ≤ canvas.width → region.rows.to ≤ canvas.rows → canvas.rows * canvas.width ≤ 2 ^ 26 → canvas.writes + 2 ^ 27 < 2 ^ 64 → MayTake steps canvas
+may_take steps region canvas same all whole first columns rows pixels countable = record {
+  all = all;
+  whole = whole;
+  first = first;
+  columns = rw same columns;
+  rows = rw same rows;
+  countable = omega (arith, pixels, countable);
+}
+
+-- nothing is cut out, where the list of the boxes that are is empty
+pub no_cuts : (clip : Clip) (boxes : List ClipBox) → boxes ≡ cuts_of clip → (length boxes == 0) ≡ true → (placed_value clip).cuts ≡ []
+no_cuts clip [] same empty = ap (λ (b : List ClipBox). map (λ (box : ClipBox). box.placed) b) (sym same)
+no_cuts clip (box ∷ boxes) same empty = absurd (none (length boxes) empty)
+  where
+    number : (n : ℕ) → (n == 0) ≡ true → n ≡ 0
+    number n h = grind (arith)
+
+    none : (n : ℕ) → (suc n == 0) ≡ true → ⊥
+    none n h = let zero = number (suc n) h in omega (arith, zero)
+
+-- where nothing is cut out, the clip has what it keeps
+uncut : (x y : ℕ) (cuts : List Rect) → cuts ≡ [] → not (list_any (λ box. in_box box x y) cuts) ≡ true
+uncut x y [] e = refl
+uncut x y (cut ∷ cuts) e = cc
+
+-- a region that has of the canvas what the clip keeps
+module _ (laws : WritingLaws) (clip : ClipValue) (line : Line) (region : Region) (start : CanvasState) (whole : IsWhole start) (first : start.first ≡ 0) (kept : (x y : ℕ) → x < start.width → y < start.rows → in_region region x y ≡ in_kept clip.kept x y) where
+  kept_there : (x y : ℕ) → HasPixel start x y → in_region region x y ≡ in_kept clip.kept x y
+  kept_there x y held = let last = held.to_last in kept x y held.column (omega (arith, first, last))
+
+  of_clip : (x y : ℕ) → HasPixel start x y → is_within clip line region x y ≡ (in_boxes clip x y && on_line line (pos x) (pos y))
+  of_clip x y held = same_test _ _
+      (λ h.
+      let a = and_parts (in_boxes clip x y) _ h in
+      let b = and_parts (on_line line (pos x) (pos y)) (in_region region x y) a.1 in and_from (in_boxes clip x y) (on_line line (pos x) (pos y)) a.0 b.0)
+      (λ h.
+      let a = and_parts (in_boxes clip x y) (on_line line (pos x) (pos y)) h in
+      let keeps = and_parts (in_kept clip.kept x y) _ a.0 in
+      and_from (in_boxes clip x y) _ a.0 (and_from (on_line line (pos x) (pos y)) (in_region region x y) a.1 (kept_there x y held ∙ keeps.0)))
+
+  of_kept : clip.cuts ≡ [] → (x y : ℕ) → HasPixel start x y → is_within unclipped line region x y ≡ (in_boxes clip x y && on_line line (pos x) (pos y))
+  of_kept none x y held = same_test _ _
+      (λ h.
+      let b = and_parts (on_line line (pos x) (pos y)) (in_region region x y) h in
+      let keeps = sym (kept_there x y held) ∙ b.1 in
+      and_from (in_boxes clip x y) (on_line line (pos x) (pos y)) (and_from (in_kept clip.kept x y) _ keeps (uncut x y clip.cuts none)) b.0)
+      (λ h.
+      let a = and_parts (in_boxes clip x y) (on_line line (pos x) (pos y)) h in
+      let keeps = and_parts (in_kept clip.kept x y) _ a.0 in and_from (on_line line (pos x) (pos y)) (in_region region x y) a.1 (kept_there x y held ∙ keeps.0))
+
+  -- what is drawn within the clip and the region is what the clip has of the line
+  pub clip_drawn : (f : ℕ → ℕ → Colour → Colour) (now : CanvasState) → Repaints (is_within clip line region) f start now → Repaints (λ x y. in_boxes clip x y && on_line line (pos x) (pos y)) f start now
+  clip_drawn f now r =
+      laws.same (is_within clip line region) (λ x y. in_boxes clip x y && on_line line (pos x) (pos y)) f f start now whole of_clip (λ x y old held t. refl) r
+
+  -- so is what is drawn within the region, where nothing is cut out
+  pub kept_drawn : (f g : ℕ → ℕ → Colour → Colour) (now : CanvasState) → clip.cuts ≡ [] → ((x y : ℕ) (old : Colour) → f x y old ≡ g x y old) → Repaints (is_within unclipped line region) f start now → Repaints (λ x y. in_boxes clip x y && on_line line (pos x) (pos y)) g start now
+  kept_drawn f g now none alike r =
+      laws.same (is_within unclipped line region) (λ x y. in_boxes clip x y && on_line line (pos x) (pos y)) f g start now whole (of_kept none) (λ x y old held t. alike x y old) r

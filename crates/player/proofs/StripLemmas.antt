@@ -1,5 +1,6 @@
 -- Parts of a row, painted one after another.
-use Rattle.std.proofs.Common.{◌≡◌, ℕ, zero, suc, ◌+◌, ◌-◌, ◌%◌, ◌<◌, ◌≤◌, ◌^◌, ℤ, pos, ◌<ℤ◌, ◌≤ℤ◌, ◌↔◌, Bool, true, false, not, cond, eqb, leb, ltb, int_le, int_lt, ◌&&◌, ◌||◌, List, [], ◌∷◌, inl, inr, refl, sym, ap, ◌∙◌, arith, w8}
+use Rattle.std.proofs.Common.{◌≡◌, ℕ, zero, suc, ◌+◌, ◌-◌, ◌%◌, ◌<◌, ◌≤◌, ◌^◌, ℤ, pos, ◌<ℤ◌, ◌≤ℤ◌, ◌↔◌, Bool, true, false, not, cond, eqb, leb, ltb, int_le, int_lt, ◌&&◌, ◌||◌, List, [], ◌∷◌, drop, get_or, length, inl, inr, refl, sym, ap, ◌∙◌, arith, w8}
+use Rattle.std.proofs.Math.Seq.{drop-cons}
 use Rattle.std.proofs.lemmas.Bool.{and_parts, and_from, and_left, and_right, or_from, eqb-true, leb-true, ltb-true, le-leb, lt-leb, lt-ltb, le-ltb, false_from_ne_true, true≢false, cases_lt, cond-true, cond-false, not-true}
 use Rattle.std.proofs.lemmas.Int.{ints, by_lt_z}
 use Rattle.std.proofs.lemmas.Nat.Bits.{bit_at-lt, bit_at_not}
@@ -18,7 +19,7 @@ use Rattle.span_fill.specs.declared.span.Span.{Span}
 use Rattle.span_fill.specs.Spans.{AreApart, in_spans}
 use Rattle.player.specs.RowInks.{inked, is_inked}
 use Rattle.player.specs.declared.row_ink.RowInk.{RowInk}
-use Rattle.player.specs.declared.row_ink.RowInk.TheVariants.{Nothing}
+use Rattle.player.specs.declared.row_ink.RowInk.TheVariants.{Full, Nothing}
 use Rattle.player.specs.Strips.{is_column, is_painted, is_uncut}
 
 -- tests that are true together are the same
@@ -264,6 +265,29 @@ pub all_painted :
     WritingLaws → (ink : RowInk) (cuts : List Rect) (y : ℕ) (all : List Span) (start now : CanvasState)
     → HasPainted ink cuts y all [] start now → Repaints (is_painted ink cuts y (in_spans all)) (by_ink ink) start now
 all_painted laws ink cuts y all start now h = h.goes_on now (no_columns laws ink cuts y (in_spans []) now h.whole (λ x. refl))
+
+-- the spans from a place on are that of the place, and those behind it
+pub next_span : (spans : List Span) (place : ℕ) → place < length spans → drop place spans ≡ get_or spans place record { from = 0; to = 0 } ∷ drop (place + 1) spans
+next_span spans place there =
+    let next : suc place ≡ place + 1 = omega arith in
+    drop-cons spans place record { from = 0; to = 0 } there ∙ ap (λ n. get_or spans place record { from = 0; to = 0 } ∷ drop n spans) next
+
+-- a span of one colour, where nothing is cut out
+pub full_span :
+    WritingLaws → (colour : Colour) (y from to : ℕ) (now new : CanvasState) → IsWhole now
+    → Repaints (in_span y from to) (λ column row old. colour) now new
+    → Repaints (is_painted (Full colour) [] y (is_column from to)) (by_ink (Full colour)) now new
+full_span laws colour y from to now new whole r =
+    laws.same (in_span y from to) (is_painted (Full colour) [] y (is_column from to)) (λ x row old. colour) (by_ink (Full colour)) now new whole
+    (λ x row at. alike (eqb row y) (leb from x) (ltb x to))
+    (λ x row c at t. refl)
+    r
+  where
+    alike : (row from to : Bool) → (row && from && to) ≡ (row && (from && to) && true && true)
+    alike true true true = refl
+    alike true true false = refl
+    alike true false to = refl
+    alike false from to = refl
 
 -- tests of integers, as facts
 le_true : (a b : ℤ) → a ≤ℤ b → int_le a b ≡ true

@@ -5,11 +5,12 @@ ghost use Rattle.mapping.specs.declared.geometry.Colour.{Colour};
 ghost use Rattle.canvas.specs.CanvasState.{HasPixel};
 ghost use Rattle.canvas.specs.Writing.{Repaints, is_at};
 ghost use Rattle.canvas.specs.WritingLaws.{IsWhole};
-ghost use Rattle.dc_stack.specs.Clip.{in_boxes};
+ghost use Rattle.dc_stack.specs.Clip.{in_boxes, unclipped};
 ghost use Rattle.dc_stack.specs.Values.{placed_value};
 ghost use Rattle.mapping.specs.Mixes.{mixed_by};
 ghost use Rattle.span_fill.specs.Lines.{HasNearEnds};
 ghost use Rattle.span_fill.specs.Strokes.{on_line};
+ghost use Rattle.player.specs.LineSteps.{MayTake, is_within};
 
 use crate::regions::visible;
 use canvas::{Canvas, writing_law};
@@ -18,6 +19,7 @@ use mapping::{Colour, Mix};
 use span_fill::{Line, Pixel, Steps, line_law};
 
 /// Mixes those pixels of a line that a clip has.
+#[inline(never)]
 pub(crate) fn mix_line(canvas: &mut Canvas, line: Line, mix: Mix, clip: &Clip)
     requires first { canvas.old.first ≡ 0 }
     requires near { HasNearEnds line }
@@ -28,7 +30,51 @@ pub(crate) fn mix_line(canvas: &mut Canvas, line: Line, mix: Mix, clip: &Clip)
     writing_law();
     line_law();
     let constant = mix.constant();
-    let mut steps = Steps::new(line, visible(canvas, clip));
+    let steps = Steps::new(line, visible(canvas, clip));
+    if !clip.cut_boxes().is_empty() {
+        mix_uncut(canvas, steps, mix, constant, clip);
+    } else if let Some(colour) = constant {
+        put_steps(canvas, steps, colour);
+    } else {
+        mix_steps(canvas, steps, mix);
+    }
+}
+
+/// Gives the pixels of the steps one colour.
+fn put_steps(canvas: &mut Canvas, steps: Steps, colour: Colour)
+    requires { MayTake steps canvas.old }
+    ensures { Repaints (is_within unclipped steps.line steps.region) (λ x y old. colour) canvas.old canvas.new }
+{
+    writing_law();
+    line_law();
+    let mut steps = steps;
+    while let Some(pixel) = steps.next() {
+        canvas.put(pixel.x, pixel.y, colour);
+    }
+}
+
+/// Mixes the pixels of the steps.
+fn mix_steps(canvas: &mut Canvas, steps: Steps, mix: Mix)
+    requires { MayTake steps canvas.old }
+    ensures { Repaints (is_within unclipped steps.line steps.region) (λ x y old. mixed_by mix old) canvas.old canvas.new }
+{
+    writing_law();
+    line_law();
+    let mut steps = steps;
+    while let Some(pixel) = steps.next() {
+        canvas.mix(pixel.x, pixel.y, mix);
+    }
+}
+
+/// Mixes those pixels of the steps that the clip has. The mix makes this colour of every colour, if it makes one.
+fn mix_uncut(canvas: &mut Canvas, steps: Steps, mix: Mix, constant: Option<Colour>, clip: &Clip)
+    requires steps { MayTake steps canvas.old }
+    requires constant { IfSome constant (λ colour. (old : Colour) → mixed_by mix old ≡ colour) }
+    ensures { Repaints (is_within (placed_value clip.now) steps.line steps.region) (λ x y old. mixed_by mix old) canvas.old canvas.new }
+{
+    writing_law();
+    line_law();
+    let mut steps = steps;
     while let Some(pixel) = steps.next() {
         if clip.has(pixel.x, pixel.y) {
             mix_pixel(canvas, pixel, mix, constant);

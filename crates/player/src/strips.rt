@@ -12,11 +12,12 @@ ghost use Rattle.dc_stack.specs.declared.clip.ClipBox.{ClipBox};
 ghost use Rattle.span_fill.specs.Spans.{AreApart, in_spans};
 ghost use Rattle.player.specs.RowInks.{inked};
 ghost use Rattle.player.specs.Strips.{is_column, is_painted};
+ghost use Rattle.player.specs.declared.row_ink.RowInk.TheVariants.{Full};
 
 use crate::row_ink::RowInk;
 use canvas::{Canvas, writing_law};
 use dc_stack::ClipBox;
-use mapping::{Mix, Rect};
+use mapping::{Colour, Mix, Rect};
 use span_fill::Span;
 
 /// Writes what an ink makes of the columns from one on, up to before another, of a row.
@@ -145,7 +146,26 @@ pub(crate) fn put_spans(canvas: &mut Canvas, ink: &RowInk, y: u32, spans: &[Span
     ensures count { canvas.new.writes ≤ canvas.old.writes + canvas.old.width }
 {
     writing_law();
+    if let (RowInk::Full(colour), true) = (*ink, cuts.is_empty()) {
+        put_full(canvas, colour, y, spans);
+        return;
+    }
     for span in spans {
         put_uncut(canvas, ink, y, span.from, span.to, cuts);
+    }
+}
+
+/// Gives the pixels in the spans of a row one colour.
+fn put_full(canvas: &mut Canvas, colour: Colour, y: u32, spans: &[Span])
+    requires whole { IsWhole canvas.old }
+    requires spans { AreApart 0 canvas.old.width spans.now }
+    requires row { HasRow canvas.old y }
+    requires countable { canvas.old.writes + 2 * canvas.old.width < 2 ^ 64 }
+    ensures pixels { Repaints (is_painted (Full colour) [] y (in_spans spans.now)) (λ column row old. colour) canvas.old canvas.new }
+    ensures count { canvas.new.writes ≤ canvas.old.writes + canvas.old.width }
+{
+    writing_law();
+    for span in spans {
+        canvas.put_span(span.from, span.to, y, colour);
     }
 }

@@ -1,7 +1,6 @@
-use Rattle.std.proofs.Common.{◌≡◌, ◌∷◌, ◌+◌, ◌∙◌, ap, arith, drop, get_or, map, suc}
-use Rattle.std.proofs.Math.Seq.{drop-cons}
+use Rattle.std.proofs.Common.{◌+◌, drop, get_or, map}
 use Rattle.std.proofs.lemmas.List.{drop_all}
-use Rattle.player.proofs.StripLemmas.{all_painted, one_painted_more}
+use Rattle.player.proofs.StripLemmas.{all_painted, next_span, one_painted_more}
 use Rattle.player.proofs.strips.put_spans.Goals as goal
 
 pub loop-span-preserved : goal.loop-span-preserved
@@ -9,9 +8,7 @@ loop-span-preserved c =
     let spans = c.args.spans.now in
     let place = c.loop-span.span-index in
     let span = get_or spans place record { from = 0; to = 0 } in
-    let next : suc place ≡ place + 1 = omega arith in
-    let left : drop place spans ≡ span ∷ drop (place + 1) spans = drop-cons spans place record { from = 0; to = 0 } c.loop-span-test.true ∙ ap (λ n. span ∷ drop n spans) next in
-    one_painted_more c.writing_law.ensures c.args.ink.now (map (λ b. b.placed) c.args.cuts.now) c.args.y spans (drop (place + 1) spans) span c.args.canvas.now c.loop-span.canvas c.put_uncut.new.canvas (rw left at c.loop-span.invariant) c.put_uncut.ensures.pixels c.put_uncut.ensures.count
+    one_painted_more c.writing_law.ensures c.args.ink.now (map (λ b. b.placed) c.args.cuts.now) c.args.y spans (drop (place + 1) spans) span c.args.canvas.now c.loop-span.canvas c.put_uncut.new.canvas (rw (next_span spans place c.loop-span-test.true) at c.loop-span.invariant) c.put_uncut.ensures.pixels c.put_uncut.ensures.count
 
 pub returns-clause-pixels : goal.returns-clause-pixels
 returns-clause-pixels c =
