@@ -67,6 +67,7 @@ is_from_to from to n = int_le from (pos n) && int_lt (pos n) to
 abbrev pub in_box : Rect → ℕ → ℕ → Bool
 in_box box x y = is_from_to box.l box.r x && is_from_to box.t box.b y
 
+-- and so does a kept box: where there is none, every pixel is kept
 abbrev pub in_kept : Option Rect → ℕ → ℕ → Bool
 in_kept None x y = true
 in_kept (Some box) x y = in_box box x y

@@ -18,10 +18,11 @@ use Rattle.dc_stack.specs.declared.draw.Draw.TheVariants.{Dot, Line, LinesFrom, 
 use Rattle.dc_stack.specs.declared.placing.Landing.{Landing}
 use Rattle.dc_stack.specs.declared.projection.Projection.{Projection}
 
--- the points of a list of the page, and the lists of several, on the plane
+-- the points of a list of the page, on the plane
 abbrev pub points_on_plane : Projection → Points → List Point
 points_on_plane by points = mapped_list (map_numbers by.map) (points_of points)
 
+-- the lists of several, on the plane
 abbrev pub lists_on_plane : Projection → Polys → List (List Point)
 lists_on_plane by lists = mapped_lists (map_numbers by.map) (lists_of lists)
 

@@ -17,17 +17,19 @@ mapped_list m points = map (mapped_point m) points
 abbrev pub mapped_lists : MapNumbers → List (List Point) → List (List Point)
 mapped_lists m lists = map (mapped_list m) lists
 
--- the left top and the right bottom of a box
+-- the left top of a box
 abbrev pub left_top_of : Rect → Point
 left_top_of box = record { x = box.l; y = box.t }
 
+-- and its right bottom
 abbrev pub right_bottom_of : Rect → Point
 right_bottom_of box = record { x = box.r; y = box.b }
 
--- those of a box of the page, on the plane
+-- the left top of a box of the page, on the plane
 abbrev pub left_top : MapNumbers → Rect → Point
 left_top m box = mapped_point m (left_top_of box)
 
+-- and its right bottom
 abbrev pub right_bottom : MapNumbers → Rect → Point
 right_bottom m box = mapped_point m (right_bottom_of box)
 

@@ -22,6 +22,7 @@ pub record Layer : Type 0 where
 abbrev pub layer_now : Shape → Paint → Tools → Layer
 layer_now shape paint tools = record { shape = shape; paint = paint; mixing = binary tools.modes.raster_op; clip = tools.clip }
 
+-- a layer in the pen's colour, or none by a null pen
 abbrev pub stroked_with : Pen → Shape → Tools → List Layer
 stroked_with Null shape tools = []
 stroked_with (Solid colour) shape tools = layer_now shape (solid colour) tools ∷ []
@@ -30,6 +31,7 @@ stroked_with (Solid colour) shape tools = layer_now shape (solid colour) tools �
 abbrev pub brushed_now : BrushValue → Tools → Paint
 brushed_now brush tools = brushed brush tools.modes.background_mode tools.modes.background_colour
 
+-- a layer of what the brush paints, or none by a null brush
 abbrev pub filled_with : BrushValue → Shape → Tools → List Layer
 filled_with null_brush shape tools = []
 filled_with (solid_brush colour) shape tools = layer_now shape (brushed_now (solid_brush colour) tools) tools ∷ []

@@ -3,6 +3,7 @@ use Rattle.std.specs.Prelude.{ℕ, List, [], ◌++◌, Option, Some, None, codes
 use Rattle.draw_ops.specs.Fault.{text_of}
 use Rattle.player.specs.declared.refusal.Refusal.{Refusal}
 
+-- a record's number, if there is one
 abbrev number_text : Option ℕ → List ℕ
 number_text None = []
 number_text (Some number) = codes " at record " ++ decimal number

@@ -18,7 +18,7 @@ use dc_stack::Clip;
 use mapping::{Colour, Mix};
 use span_fill::{Line, Pixel, Steps, line_law};
 
-/// Mixes those pixels of a line that a clip has.
+/// Mixes those pixels of a line that a clip has. It isn't inlined, which leaves its loops enough registers.
 #[inline(never)]
 pub(crate) fn mix_line(canvas: &mut Canvas, line: Line, mix: Mix, clip: &Clip)
     requires first { canvas.old.first ≡ 0 }
@@ -28,7 +28,6 @@ pub(crate) fn mix_line(canvas: &mut Canvas, line: Line, mix: Mix, clip: &Clip)
     ensures pixels { Repaints (λ x y. in_boxes (placed_value clip.now) x y && on_line line (pos x) (pos y)) (λ x y old. mixed_by mix old) canvas.old canvas.new }
 {
     writing_law();
-    line_law();
     let constant = mix.constant();
     let steps = Steps::new(line, visible(canvas, clip));
     if !clip.cut_boxes().is_empty() {

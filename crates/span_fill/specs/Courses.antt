@@ -42,16 +42,18 @@ abbrev pub course_of : Bool → Line → Course
 course_of true line = record { from_u = line.from.y; from_v = line.from.x; to_u = line.to.y; to_v = line.to.x }
 course_of false line = record { from_u = line.from.x; from_v = line.from.y; to_u = line.to.x; to_v = line.to.y }
 
--- the column and the row of a pixel with these coordinates
+-- the column of a pixel with these coordinates
 abbrev pub column_of : Bool → ℤ → ℤ → ℤ
 column_of steep u v = if steep then v else u
 
+-- and its row
 abbrev pub row_of : Bool → ℤ → ℤ → ℤ
 row_of steep u v = if steep then u else v
 
--- what a region has of the longer axis, and of the other one
+-- what a region has of the longer axis
 abbrev pub along_span : Bool → Region → Span
 along_span steep region = if steep then region.rows else region.columns
 
+-- and of the other one
 abbrev pub across_span : Bool → Region → Span
 across_span steep region = if steep then region.columns else region.rows

@@ -96,10 +96,11 @@ crossing_of edge = record { line = edge.line; quotient = edge.quotient; rest = e
 abbrev pub is_over : ActiveEdge → Bool
 is_over edge = int_le edge.divisor (edge.rest +ℤ edge.more)
 
--- the crossing one row on
+-- the crossing's quotient one row on
 abbrev pub moved_quotient : ActiveEdge → ℤ
 moved_quotient edge = edge.quotient +ℤ edge.step +ℤ (if is_over edge then pos 1 else pos 0)
 
+-- and its rest
 abbrev pub moved_rest : ActiveEdge → ℤ
 moved_rest edge = edge.rest +ℤ edge.more -ℤ (if is_over edge then edge.divisor else pos 0)
 

@@ -5,10 +5,11 @@ use Rattle.span_fill.specs.declared.fill_rule.FillRule.{FillRule}
 use Rattle.span_fill.specs.declared.fill_rule.FillRule.TheVariants.{EvenOdd, NonZero}
 use Rattle.span_fill.specs.declared.line.Line.{Line}
 
--- how far a line's lower end is to the right of its upper one, and how far below it
+-- how far a line's lower end is to the right of its upper one
 abbrev pub across : Point → Point → ℤ
 across upper lower = lower.x -ℤ upper.x
 
+-- and how far below it
 abbrev pub down : Point → Point → ℤ
 down upper lower = lower.y -ℤ upper.y
 
@@ -17,6 +18,7 @@ abbrev pub crossing_dividend : Point → Point → ℕ → ℤ
 crossing_dividend upper lower y =
     pos 2 *ℤ down upper lower *ℤ upper.x +ℤ (pos (2 * y + 1) -ℤ pos 2 *ℤ upper.y) *ℤ across upper lower
 
+-- twice the line's height
 abbrev pub crossing_divisor : Point → Point → ℤ
 crossing_divisor upper lower = pos 2 *ℤ down upper lower
 

@@ -28,7 +28,7 @@ pub record IsStepPixel (line : Line) (region : Region) (step : ℕ) (pixel : Pix
   pub at : step_at line (pos pixel.x) (pos pixel.y) ≡ step
   pub inside : IsTrue (in_region region pixel.x pixel.y)
 
--- the same line and region
+-- the same line, region and last step
 pub record IsSameWay (old new : StepsState) : Type 0 where
   pub line : new.line ≡ old.line
   pub region : new.region ≡ old.region

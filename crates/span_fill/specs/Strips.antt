@@ -33,11 +33,11 @@ pub record HasBounds (first : ℕ) (strip : Strip) : Type 0 where
 pub record IsAtRow (row : ℕ) (strip : Strip) : Type 0 where
   pub cut : IsCut (total_of (strip_slant strip) strip.line.from row) (strip_slant strip).step (strip_slant strip).divisor strip.cut
 
--- where the columns of a row begin and end that are within the bounds: a steep line has one; another those between its column and that of the
--- next row
+-- where the columns of a row begin: a steep line has one, another those between its column and that of the next row
 abbrev pub low_of : Bool → ℤ → ℤ → ℤ
 low_of steep column next = if steep then column else (if int_le column next then column else next)
 
+-- and before which they end
 abbrev pub high_of : Bool → ℤ → ℤ → ℤ
 high_of steep column next = if steep then column +ℤ pos 1 else (if int_le column next then next else column)
 

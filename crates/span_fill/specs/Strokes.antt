@@ -12,11 +12,15 @@ far a b = unsigned_abs (b -ℤ a)
 abbrev pub is_towards : ℤ → ℤ → ℤ → Bool
 is_towards first last u = (int_le first u && int_lt u last) || (int_lt last u && int_le u first)
 
--- After `step` of `long` steps along its longer axis, a line that gets `short` along the other is nearest to this place there; of two as
--- near, to the greater.
+-- After `step` of `long` steps along its longer axis, a line that gets `short` along the other is off a place there by this much, counted
+-- in parts of which a pixel has `2 * long`.
+abbrev pub twice_off : ℕ → ℤ → ℕ → ℤ → ℤ
+twice_off long short step place = pos 2 *ℤ (pos step *ℤ short -ℤ pos long *ℤ place)
+
+-- the line is nearest to this place then; of two as near, to the greater
 abbrev pub is_nearest : ℕ → ℤ → ℕ → ℤ → Bool
 is_nearest long short step place =
-    int_le (neg_ℤ (pos long)) (pos 2 *ℤ (pos step *ℤ short -ℤ pos long *ℤ place)) && int_lt (pos 2 *ℤ (pos step *ℤ short -ℤ pos long *ℤ place)) (pos long)
+    int_le (neg_ℤ (pos long)) (twice_off long short step place) && int_lt (twice_off long short step place) (pos long)
 
 -- the pixel is on a line from (u0, v0) to (u1, v1), of which u is the longer axis
 abbrev pub is_along : ℤ → ℤ → ℤ → ℤ → ℤ → ℤ → Bool
