@@ -1,6 +1,6 @@
 -- Small drawings worked by hand: the colours that they leave on a white surface, as pictures, and how many pixels they write.
 use Rattle.std.specs.Prelude.{codes}
-use Rattle.std.proofs.Common.{◌≡◌, ℕ, ◌==◌, pos, negsuc, neg_ℤ, if◌then◌else◌, List, [], ◌∷◌, ◌++◌, map, Some, None, refl}
+use Rattle.std.proofs.Common.{◌≡◌, ℕ, ◌==◌, pos, negsuc, neg_ℤ, if◌then◌else◌, List, [], ◌∷◌, ◌++◌, map, None, refl}
 use Rattle.mapping.specs.Colours.{black_colour, white_colour}
 use Rattle.mapping.specs.Image.{blank}
 use Rattle.mapping.specs.PageMap.{unscaled_map}

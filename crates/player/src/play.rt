@@ -6,7 +6,6 @@ ghost use Rattle.canvas.specs.CanvasState.{image_of};
 ghost use Rattle.draw_ops.specs.Fault.{IsInRecord};
 ghost use Rattle.draw_ops.specs.Records.{record_limit};
 ghost use Rattle.meta_headers.specs.OpenedOf.{opened_of};
-ghost use Rattle.dc_stack.specs.Drawing.{edge_limit};
 ghost use Rattle.dc_stack.specs.MachineState.{GoesOn, HasFullRoom};
 ghost use Rattle.player.specs.Plays.{IsWantOfMemory, IsWhole, LacksLines, Plays, PlaysOpened, PlaysRecords, SameRows, StopsBy, StopsOpenedBy, StopsRecordsBy, WantsMemory};
 ghost use Rattle.player.specs.Run.{Refused, Run, Writes, shown, white};
@@ -87,7 +86,7 @@ pub fn play_on<'a, T: Table<'a>>(
 ) -> Result<u64, Refusal>
     requires whole { IsWhole canvas.old machine.old.surface }
     requires room { HasFullRoom machine.old }
-    requires lines { edge_limit ≤ rows.old.room }
+    requires lines { 2 ^ 20 ≤ rows.old.room }
     requires countable { canvas.old.writes ≤ 2 ^ 63 }
     ensures played { OnOk result
         (PlaysRecords opened.now.format opened.now.records.now machine.old.state machine.old.surface canvas.old canvas.new) }

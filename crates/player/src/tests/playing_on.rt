@@ -1,5 +1,7 @@
 //! Worked files over what a canvas shows already, on a machine with full room.
 
+ghost use Rattle.std.specs.Prelude.{◌≤◌, ◌^◌, IfOk};
+
 use crate::play::play_on;
 use crate::refusal::Refusal;
 use crate::tests::playing::{BLUE, DOT, RED, changed, colour};
@@ -13,6 +15,15 @@ use span_fill::RowBuf;
 use std::alloc::Global;
 use std::test::Fail;
 
+/// Rows that have room for any drawing.
+fn full_rows(alloc: Global) -> Result<RowBuf, Fail>
+    ensures { IfOk result (λ rows. 2 ^ 20 ≤ rows.room) }
+{
+    let mut rows = RowBuf::new(alloc);
+    rows.reserve(1_048_576)?;
+    Ok(rows)
+}
+
 /// Plays a WMF file on a canvas that counts few writes so far and holds a whole surface.
 fn play_over(
     alloc: Global,
@@ -23,8 +34,7 @@ fn play_over(
     let place = Place::new(&opened.frame, canvas.width(), canvas.rows());
     let mut machine = Machine::new(alloc, &opened, place, LowestFree::new(alloc));
     machine.reserve(256, 1024, 0)?;
-    let mut rows = RowBuf::new(alloc);
-    rows.reserve(1 << 20)?;
+    let mut rows = full_rows(alloc)?;
     if canvas.first() != 0 || canvas.writes() > 1000 {
         return Err("the canvas of a test is whole and new".into());
     }
