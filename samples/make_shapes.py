@@ -1,11 +1,13 @@
 #!/usr/bin/env python3
-"""Makes four metafiles beside this script, of what pens and brushes draw. Each is made for a surface of 256 by 256.
+"""Makes five metafiles beside this script, of what pens and brushes draw. Each is made for a surface of 256 by 256.
 
 lines.wmf       a fan of lines in all directions, with twelve pens, and nets of lines in the corners
 polygons.emf    stars, and squares that overlap, filled in ALTERNATE on the left and in WINDING on the right
 hatches.wmf     the six hatches, above in TRANSPARENT and below in OPAQUE, over bands of blue
 raster_ops.emf  the sixteen binary raster operations, 1 to 4 in the first row: with each a brush and a pen draw
                 over an orange and a blue half
+paths.emf       paths: stars under discs, and words that are told twice in a path, in ALTERNATE and in WINDING; a spiral
+                and waves that stay open; and round them a rim, a line that goes on from record to record
 """
 import colorsys
 import math
@@ -99,9 +101,10 @@ def emf_pen(index, rgb):
     return emf_record(38, struct.pack("<IIii", index, SOLID, 1, 0) + colour(rgb))
 
 
-def emf_brush(index, rgb):
-    """EMR_CREATEBRUSHINDIRECT: a solid brush."""
-    return emf_record(39, struct.pack("<II4sI", index, SOLID, colour(rgb), 0))
+def emf_brush(index, rgb, hatch=None):
+    """EMR_CREATEBRUSHINDIRECT: a solid or a hatched brush."""
+    style = SOLID if hatch is None else HATCHED
+    return emf_record(39, struct.pack("<II4sI", index, style, colour(rgb), hatch or 0))
 
 
 def emf_select(index):
@@ -145,6 +148,43 @@ def emf_polygons(lists):
 def emf_polygon(places):
     """EMR_POLYGON16."""
     return emf_record(86, bounds(places) + struct.pack("<I", len(places)) + points(places))
+
+
+def emf_background_colour(rgb):
+    """EMR_SETBKCOLOR."""
+    return emf_record(25, colour(rgb))
+
+
+def emf_window_origin(x, y):
+    """EMR_SETWINDOWORGEX: the page's point that is the frame's corner from here on."""
+    return emf_record(10, struct.pack("<ii", x, y))
+
+
+def emf_move(place):
+    """EMR_MOVETOEX."""
+    return emf_record(27, struct.pack("<ii", *map(round, place)))
+
+
+def emf_line(place):
+    """EMR_LINETO."""
+    return emf_record(54, struct.pack("<ii", *map(round, place)))
+
+
+def emf_polyline_to(places):
+    """EMR_POLYLINETO16: lines from where the last one ended."""
+    return emf_record(89, bounds(places) + struct.pack("<I", len(places)) + points(places))
+
+
+# Records that open a path, end it, and close its open figure.
+BEGIN_PATH, END_PATH, CLOSE_FIGURE = (emf_record(kind) for kind in (59, 60, 61))
+
+# Records that paint a path.
+STROKE_AND_FILL, STROKE = 63, 64
+
+
+def emf_path(painting, records):
+    """A path that records gather, and the record that paints it, whose bounds are the frame's."""
+    return [BEGIN_PATH, *records, END_PATH, emf_record(painting, struct.pack("<4i", 0, 0, SIDE - 1, SIDE - 1))]
 
 
 def emf_picture(records, handles):
@@ -296,16 +336,113 @@ def raster_ops():
     return emf_picture(records, handles=5)
 
 
+# Paths.
+
+# The letters of a word in a cell of 200 by 240: what goes round each, and round its hole the other way, if it has one.
+LETTERS = {
+    "P": (
+        [(0, 0), (120, 0), (170, 20), (190, 75), (170, 130), (120, 150), (60, 150), (60, 240), (0, 240)],
+        [(60, 50), (60, 100), (110, 100), (130, 75), (110, 50)],
+    ),
+    "A": (
+        [(70, 0), (130, 0), (200, 240), (140, 240), (128, 195), (72, 195), (60, 240), (0, 240)],
+        [(100, 46), (68, 156), (132, 156)],
+    ),
+    "T": ([(0, 0), (190, 0), (190, 55), (125, 55), (125, 240), (65, 240), (65, 55), (0, 55)], []),
+    "H": (
+        [(0, 0), (60, 0), (60, 90), (130, 90), (130, 0), (190, 0)]
+        + [(190, 240), (130, 240), (130, 150), (60, 150), (60, 240), (0, 240)],
+        [],
+    ),
+}
+
+# How far apart letters are, and the second telling of a word from the first, across and down.
+ADVANCE, AGAIN = 212, 26
+
+TEETH = 16
+
+
+def word(letters, x, y):
+    """The figures of a word's letters. The window's origin puts each letter in its place."""
+    for number, letter in enumerate(letters):
+        around, hole = LETTERS[letter]
+        yield emf_window_origin(-x - ADVANCE * number, -y)
+        yield emf_move(around[0])
+        yield emf_polyline_to(around[1:])
+        yield CLOSE_FIGURE
+        if hole:
+            yield emf_polygon(hole)
+    yield emf_window_origin(0, 0)
+
+
+def word_twice(letters, x, y):
+    """A word in one path, and again a little to the right and below."""
+    return emf_path(STROKE_AND_FILL, [*word(letters, x, y), *word(letters, x + AGAIN, y + AGAIN)])
+
+
+def star_and_disc(centre):
+    """A star, and a figure of many corners over it that goes round the other way: both are left open."""
+    places = star(centre, 150, 7, 3)
+    disc = [on_circle(centre, 96, -corner / 24) for corner in range(24)]
+    figures = [emf_move(places[0]), emf_polyline_to(places[1:]), emf_move(disc[0]), emf_polyline_to(disc[1:])]
+    return emf_path(STROKE_AND_FILL, figures)
+
+
+def spiral(centre, turns, corners):
+    """An open figure of several records, from the middle outwards."""
+    places = [on_circle(centre, 140 * corner / corners, turns * corner / corners) for corner in range(corners + 1)]
+    yield emf_move(places[0])
+    for first in range(1, len(places), 40):
+        yield emf_polyline_to(places[first : first + 40])
+
+
+def waves(top):
+    """Three open figures, each of them from the left to the right."""
+    for number in range(3):
+        places = [(80 + 18 * step, top + 16 * number + 8 * math.sin(step / 3 + number)) for step in range(49)]
+        yield emf_polyline(places)
+
+
+def rim():
+    """One figure along all four edges, with teeth: a line, and for each edge a record that goes on with it."""
+    first, last, step = 16, SIDE - 17, (SIDE - 33) / TEETH
+    edge = [(first + step * half / 2, first + 18 * (half % 2)) for half in range(1, 2 * TEETH + 1)]
+    yield emf_move((first, first))
+    yield emf_line(edge[0])
+    yield emf_polyline_to(edge[1:])
+    yield emf_polyline_to([(first + last - y, x) for x, y in edge])
+    yield emf_polyline_to([(first + last - x, first + last - y) for x, y in edge])
+    yield emf_polyline_to([(y, first + last - x) for x, y in edge[:-1]])
+    yield CLOSE_FIGURE
+
+
+def paths():
+    """The rim and what it holds: above the words stars and a spiral, below them waves."""
+    pen, blue, cream, red, orange, green, hatched = range(1, 8)
+    records = [emf_pen(pen, (24, 32, 88)), emf_pen(blue, (32, 96, 200))]
+    solids = {cream: (255, 250, 232), red: (216, 48, 72), orange: (255, 168, 32), green: (48, 152, 96)}
+    records += [emf_brush(index, rgb) for index, rgb in solids.items()]
+    records += [emf_brush(hatched, (40, 72, 184), 5), emf_background_colour((196, 220, 250))]
+    records += [emf_select(pen), emf_select(cream), *emf_path(STROKE_AND_FILL, rim())]
+    for mode, x, brush in [(ALTERNATE, 216, orange), (WINDING, 808, green)]:
+        records += [emf_fill_mode(mode), emf_select(brush), *star_and_disc((x, 204))]
+    for mode, y, brush in [(ALTERNATE, 372, red), (WINDING, 656, hatched)]:
+        records += [emf_fill_mode(mode), emf_select(brush), *word_twice("PATH", 78, y)]
+    records += [emf_select(blue), *emf_path(STROKE, spiral((512, 204), 6, 160)), *emf_path(STROKE, waves(946))]
+    return emf_picture(records, handles=8)
+
+
 PICTURES = {
     "lines.wmf": lines,
     "polygons.emf": polygons,
     "hatches.wmf": hatches,
     "raster_ops.emf": raster_ops,
+    "paths.emf": paths,
 }
 
 
 def main():
-    """Writes the four files."""
+    """Writes the five files."""
     folder = pathlib.Path(__file__).parent
     for name, picture in PICTURES.items():
         (folder / name).write_bytes(picture())

@@ -30,9 +30,6 @@ ACCEPTED = Behind((3, 3))
 # The pixel behind isn't drawn.
 HIDDEN = Behind(None)
 
-# Interim: paths are refused until they are played.
-UNPLAYED = "Unsupported 0"
-
 
 # Numbers, with the least byte first.
 
@@ -762,13 +759,13 @@ EMF_KINDS = [
     Kind(48, "EMR_SELECTPALETTE", "NoSuchHandle", INDEX, selected([0xF], [0, 8, 0x13])),
     Kind(49, "EMR_CREATEPALETTE", ACCEPTED, INDEX, indexes()),
     Kind(54, "EMR_LINETO", LINE, LONG_POINT),
-    Kind(59, "EMR_BEGINPATH", UNPLAYED),
-    Kind(60, "EMR_ENDPATH", UNPLAYED),
-    Kind(61, "EMR_CLOSEFIGURE", UNPLAYED),
-    Kind(62, "EMR_FILLPATH", UNPLAYED),
-    Kind(63, "EMR_STROKEANDFILLPATH", UNPLAYED),
-    Kind(64, "EMR_STROKEPATH", UNPLAYED),
-    Kind(68, "EMR_ABORTPATH", UNPLAYED),
+    Kind(59, "EMR_BEGINPATH", ACCEPTED),
+    Kind(60, "EMR_ENDPATH", "PathState"),
+    Kind(61, "EMR_CLOSEFIGURE", "PathState"),
+    Kind(62, "EMR_FILLPATH", "PathState"),
+    Kind(63, "EMR_STROKEANDFILLPATH", "PathState"),
+    Kind(64, "EMR_STROKEPATH", "PathState"),
+    Kind(68, "EMR_ABORTPATH", ACCEPTED),
     Kind(75, "EMR_EXTSELECTCLIPRGN", ACCEPTED, {"size": u32(0), "mode": u32(5)}, clip_regions()),
     Kind(82, "EMR_EXTCREATEFONTINDIRECTW", ACCEPTED, INDEX, indexes()),
     Kind(86, "EMR_POLYGON16", {}, ONE_LIST, emf_points(i16, {})),

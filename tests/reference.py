@@ -11,13 +11,17 @@ from typing import NamedTuple
 ALTERNATE, WINDING = 1, 2
 
 
+class Refused(Exception):
+    """A record has a fault: each kind of this exception has a fault's name."""
+
+
 # Where a page unit lands, and how far coordinates go on the plane and on the surface.
 
 PLANE_END = 1 << 30
 PLACED_END = 1 << 28
 
 
-class OffPlane(Exception):
+class OffPlane(Refused):
     """A coordinate is farther than the plane goes, or the surface's coordinates."""
 
 

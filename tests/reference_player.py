@@ -1,5 +1,6 @@
-"""What scripts of records draw: the playing state and its changes, and the layers of each drawing,
-by the rules of `reference` for each pixel alone. The tests compare the built programs with it.
+"""What scripts of records draw: the playing state and its changes, paths, and the layers of each
+drawing, by the rules of `reference` for each pixel alone. The tests compare the built programs with
+it.
 
 A script is a list of steps, each a name and its words, as `machine_records.Form` writes them to
 files of [MS-WMF] 2.3 and [MS-EMF] 2.3.
@@ -12,7 +13,7 @@ from reference import (
     ALTERNATE,
     HATCHES,
     Axis,
-    OffPlane,
+    Refused,
     closed,
     is_filled,
     is_in_box,
@@ -20,6 +21,7 @@ from reference import (
     mixed,
     opened,
 )
+from reference_paths import CLOSED, ENDED, OPEN, Path, PathState
 from shape_records import lists_of, rgb_of
 
 WHITE = (255, 255, 255)
@@ -67,12 +69,14 @@ class State(NamedTuple):
 
 
 class Reference:
-    """A white surface, and what steps draw on it. A rectangle of EMF has its last edges too."""
+    """A white surface, and what steps draw on it. A rectangle of EMF has its last edges too. The
+    path stands beside the state: it is neither saved nor restored."""
 
     def __init__(self, axes, inclusive):
         self.state = State(axes)
         self.inclusive = inclusive
         self.saved = []
+        self.path = None
         self.objects = {}
         across, down = axes
         self.image = {
@@ -80,13 +84,13 @@ class Reference:
         }
 
     def play(self, steps):
-        """Plays steps in order, and answers the image, and which step is refused, if one is, for a
-        coordinate off the plane."""
+        """Plays steps in order, and answers the image, and the fault and the number of the step
+        that is refused, if one is."""
         for number, (name, words) in enumerate(steps):
             try:
                 getattr(self, f"play_{name.removeprefix('short_')}")(*words)
-            except OffPlane:
-                return self.image, number
+            except Refused as refused:
+                return self.image, (type(refused).__name__, number)
         return self.image, None
 
     def change(self, **changes):
@@ -118,7 +122,7 @@ class Reference:
         if self.state.pen is not None:
             self.layer(lambda x, y: is_stroked(lines, x, y), lambda x, y: self.state.pen)
 
-    # Drawings.
+    # Drawings. In an open path lines, polygons and rectangles are gathered in place of being drawn.
 
     def play_pixel(self, x, y, rgb=RED):
         at = self.state.place((x, y))
@@ -128,46 +132,134 @@ class Reference:
         self.play_pixel(x, y, BLUE)
 
     def play_line(self, x, y):
-        self.stroke([(self.state.place(self.state.position), self.state.place((x, y)))])
-        self.change(position=(x, y))
+        self.play_polyline_to(x, y)
 
     def play_polyline_to(self, *numbers):
-        if numbers:
-            points = [self.state.position, *pairs_of(numbers)]
-            self.stroke(opened([self.state.place(point) for point in points]))
-            self.change(position=points[-1])
+        points = pairs_of(numbers)
+        if not points:
+            return
+        if self.open_path():
+            self.go_on(points)
+        else:
+            self.stroke(opened(self.places([self.state.position, *points])))
+        self.change(position=points[-1])
 
     def play_polyline(self, *numbers):
         self.play_polylines(*numbers)
 
     def play_polylines(self, *words):
-        self.stroke([line for points in self.places_of(words) for line in opened(points)])
+        lists = list(map(pairs_of, lists_of(words)))
+        if self.open_path():
+            self.gather(lists, OPEN)
+        else:
+            self.stroke([line for points in lists for line in opened(self.places(points))])
 
     def play_polygon(self, *numbers):
         self.play_polygons(*numbers)
 
     def play_polygons(self, *words):
-        edges = [edge for points in self.places_of(words) for edge in closed(points)]
-        self.fill(lambda x, y: is_filled(edges, self.state.fill_mode, x, y))
-        self.stroke(edges)
+        lists = list(map(pairs_of, lists_of(words)))
+        if self.open_path():
+            self.gather(lists, CLOSED)
+        else:
+            self.fill_and_stroke(list(map(self.places, lists)))
 
     def play_rectangle(self, *numbers):
-        left, top, right, bottom = self.state.box(*numbers)
+        if self.open_path():
+            self.gather_box(numbers)
+        else:
+            self.draw_box(self.state.box(*numbers))
+
+    def draw_box(self, corners):
+        """A rectangle between placed corners: its box is filled, and a rim within it stroked."""
+        left, top, right, bottom = corners
         right, bottom = right + self.inclusive, bottom + self.inclusive
         if left == right or top == bottom:
             return
         self.fill(lambda x, y: is_in_box((left, top, right, bottom), x, y))
-        ends = [(left, top), (right - 1, top), (right - 1, bottom - 1), (left, bottom - 1)]
-        self.stroke(closed(ends))
+        self.stroke(closed(corners_of(left, top, right - 1, bottom - 1)))
 
-    def places_of(self, words):
-        """The places of lists of page points."""
-        lists = map(pairs_of, lists_of(words))
-        return [[self.state.place(point) for point in points] for points in lists]
+    def fill_and_stroke(self, lists):
+        """Polygons by the places of their corners."""
+        self.fill_polygons(lists)
+        self.stroke([line for places in lists for line in closed(places)])
+
+    def fill_polygons(self, lists):
+        """What is inside of polygons, all of them together."""
+        edges = [edge for places in lists for edge in closed(places)]
+        self.fill(lambda x, y: is_filled(edges, self.state.fill_mode, x, y))
+
+    def places(self, points):
+        """The places of page points."""
+        return list(map(self.state.place, points))
+
+    # Paths.
+
+    def open_path(self):
+        """The path that records add to, if there is one."""
+        return self.path if self.path and self.path.is_open else None
+
+    def needed_path(self):
+        """The same, which has to be there."""
+        if not self.open_path():
+            raise PathState
+        return self.path
+
+    def go_on(self, points):
+        """Lines from the open figure's last place or, where none is open, from the position."""
+        begin = [] if self.path.open_figure() else [self.state.position]
+        self.path.count(len(begin) + 1)
+        self.path.go_on(self.places(begin + points))
+
+    def gather(self, lists, state):
+        """A figure for each list that has a point. Without any, nothing changes."""
+        lists = list(filter(None, lists))
+        if lists:
+            self.path.count(1)
+            self.path.add(list(map(self.places, lists)), state)
+
+    def gather_box(self, numbers):
+        """A rectangle's figure, of its corners as they are placed."""
+        self.path.count(1)
+        self.path.add([corners_of(*self.state.box(*numbers))], CLOSED)
+
+    def play_begin_path(self):
+        if self.open_path():
+            raise PathState
+        self.path = Path()
+
+    def play_end_path(self):
+        self.needed_path().is_open = False
+
+    def play_close_figure(self):
+        self.needed_path().leave(CLOSED)
+
+    def play_abort_path(self):
+        self.path = None
+
+    def painted_figures(self):
+        """The figures of the finished path, which is dropped."""
+        path = self.path
+        if path is None or path.is_open:
+            raise PathState
+        path.check_points()
+        self.path = None
+        return path.figures
+
+    def play_fill_path(self):
+        self.fill_polygons([figure.places for figure in self.painted_figures()])
+
+    def play_stroke_path(self):
+        self.stroke([line for figure in self.painted_figures() for line in figure.lines()])
+
+    def play_stroke_and_fill_path(self):
+        self.fill_and_stroke([figure.places for figure in self.painted_figures()])
 
     # What changes the state.
 
     def play_move(self, x, y):
+        if self.open_path():
+            self.path.leave(ENDED)
         self.change(position=(x, y))
 
     def play_solid_pen(self, index, number):
@@ -236,3 +328,8 @@ class Reference:
 def pairs_of(numbers):
     """Points from numbers."""
     return list(zip(numbers[::2], numbers[1::2], strict=True))
+
+
+def corners_of(left, top, right, bottom):
+    """The corners of a box, clockwise from its left upper one."""
+    return [(left, top), (right, top), (right, bottom), (left, bottom)]

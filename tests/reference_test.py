@@ -1,5 +1,5 @@
-"""Small files of all kinds of shapes, made at random from a fixed seed, in the built programs: each
-pixel is as the reference decides it by itself."""
+"""Small files of all kinds of shapes and paths, made at random from a fixed seed, in the built
+programs: each pixel is as the reference decides it by itself."""
 
 import random
 import unittest
@@ -8,7 +8,7 @@ from functools import cache
 from typing import NamedTuple
 
 from built import Answer, answer, for_each_program
-from machine_records import EMF, WMF, Form
+from machine_records import EMF, FORMS, WMF, Form
 from records_table import (
     EMF_END,
     WMF_END,
@@ -24,8 +24,8 @@ from reference import Axis
 from reference_player import Reference
 from shape_records import BETWEEN
 
-# How many files of each format.
-FILES = 200
+# How many files of each format: paths stand in EMF alone.
+FILES = {"WMF": 200, "EMF": 400}
 
 SEED = 11
 
@@ -36,6 +36,20 @@ EMF_SHAPES = [
     *["polyline_to", "polylines", "short_polygon", "short_polyline", "short_polyline_to"],
     *["short_polylines", "short_polygons"],
 ]
+
+# In an open path those that go on with figures are more often among them.
+PATH_SHAPES = [*EMF_SHAPES, *["line", "polyline_to", "polyline"] * 5]
+
+# The records of paths: those that may stand where there is none, an open or a finished one, some of
+# them more often than others, and what they leave where they change that.
+PAINTINGS = ["fill_path", "stroke_path", "stroke_and_fill_path"]
+NEXT = {
+    "none": ["begin_path"],
+    "open": [*["close_figure", "end_path"] * 4, "abort_path"],
+    "finished": [*PAINTINGS * 3, "begin_path", "abort_path"],
+}
+LEFT = {"begin_path": "open", "end_path": "finished", "abort_path": "none"}
+LEFT |= dict.fromkeys(PAINTINGS, "none")
 
 COLOURS = [0x000000, 0xFF0000, 0x00FF00, 0x0000FF, 0x5A3C96, 0x800001, 0xFFFFFF]
 
@@ -66,6 +80,7 @@ class Maker:
         self.objects = 0
         self.depth = 0
         self.cuts = 0
+        self.path = "none"
 
     def number(self):
         """A coordinate: mostly near the surface, at times far off."""
@@ -86,7 +101,8 @@ class Maker:
 
     def shape(self):
         """A drawing."""
-        name = self.random.choice(SHAPES if self.form is WMF else EMF_SHAPES)
+        emf_shapes = PATH_SHAPES if self.path == "open" else EMF_SHAPES
+        name = self.random.choice(SHAPES if self.form is WMF else emf_shapes)
         if name == "line":
             moves = [("move", self.numbers(2))] * self.random.randint(0, 1)
             return [*moves, (name, self.numbers(2))]
@@ -160,15 +176,34 @@ class Maker:
         self.depth += 1
         return [("save", [])]
 
+    def path_step(self):
+        """A record of paths: mostly one that may stand here, at times any. Behind one that begins a
+        path there may be shapes."""
+        any_of = sum(NEXT.values(), [])
+        is_wrong = self.random.random() < 0.02
+        name = self.random.choice(any_of if is_wrong else NEXT[self.path])
+        self.path = LEFT.get(name, self.path)
+        shapes = self.random.randint(0, 6) if name == "begin_path" else 0
+        return [(name, []), *(step for _ in range(shapes) for step in self.shape())]
+
+    def rest_of_path(self):
+        """Records up to one that paints or drops the path, if there is one."""
+        made = []
+        while self.path != "none":
+            made += self.path_step()
+        return made
+
     def steps(self):
         """A file's steps."""
         parts = [self.shape] * 5 + [self.tool] * 4 + [self.setting] * 3
         parts += [self.clipping, self.mapping, self.saving]
-        made = [("map_mode", [8])] if self.form is EMF else []
-        made += self.tool() + self.tool()
-        for _ in range(self.random.randint(4, 12)):
+        made, most = self.tool() + self.tool(), 12
+        if self.form is EMF:
+            parts += [self.shape] * 2 + [self.path_step] * 8
+            made, most = [("map_mode", [8]), *made], 48
+        for _ in range(self.random.randint(4, most)):
             made += self.random.choice(parts)()
-        return made + self.shape() + self.shape()
+        return made + self.rest_of_path() + self.shape() + self.shape()
 
     def axes_and_file(self, script):
         """The page map that a file begins with, and its bytes."""
@@ -198,18 +233,22 @@ class Maker:
         steps = self.steps()
         script = "; ".join(" ".join(map(str, [name, *words])) for name, words in steps)
         axes, given = self.axes_and_file(script)
-        image, off = Reference(axes, self.form is EMF).play(steps)
+        image, refusal = Reference(axes, self.form is EMF).play(steps)
         wanted = shown(image, *self.surface)
-        if off is not None:
-            wanted = refused("OffPlane", self.form.first + off)
+        if refusal is not None:
+            fault, number = refusal
+            wanted = refused(fault, self.form.first + number)
         return Drawn(self.form, script, given, self.surface, image, wanted)
 
 
 @cache
 def all_drawn():
     """All files and their images, alike in each run."""
-    seeds = range(SEED * 1000, SEED * 1000 + FILES)
-    return [Maker(form, f"{form.name} {seed}").drawn() for form in (WMF, EMF) for seed in seeds]
+    return [
+        Maker(form, f"{form.name} {SEED * 1000 + nth}").drawn()
+        for form in FORMS
+        for nth in range(FILES[form.name])
+    ]
 
 
 def shown_by(program, drawn):
@@ -225,6 +264,14 @@ class Files(unittest.TestCase):
         plain = [drawn for drawn in all_drawn() if len(set(drawn.image.values())) == 1]
         self.assertLess(2 * len(plain), len(all_drawn()))
 
+    def test_many_files_paint_paths_and_few_misuse_them(self):
+        scripts = [drawn.script for drawn in all_drawn() if drawn.wanted.status == 0]
+        for painting in PAINTINGS:
+            painted = [script for script in scripts if f"; {painting};" in script]
+            self.assertGreater(len(painted), FILES["EMF"] // 4)
+        misused = [drawn for drawn in all_drawn() if b"PathState" in drawn.wanted.err]
+        self.assertIn(len(misused), range(10, FILES["EMF"] // 8))
+
     @for_each_program
     def test_each_pixel_is_that_of_the_reference(self, program):
         with ThreadPoolExecutor() as pool:
@@ -234,7 +281,7 @@ class Files(unittest.TestCase):
                 for drawn, answered in zip(all_drawn(), answers, strict=True)
                 if answered != drawn.wanted
             ]
-        self.assertEqual(wrong[:5], [], f"{len(wrong)} of {2 * FILES} files")
+        self.assertEqual(wrong[:5], [], f"{len(wrong)} of {len(all_drawn())} files")
 
 
 if __name__ == "__main__":

@@ -27,8 +27,8 @@ NO_PIXELS = pixels([])
 # A state with all cuts that it may have, saved often, and an object that it holds.
 HELD_OFTEN = "pen 0; select 0; 16x cut 0 0 1 1; 100x save"
 
-# Objects and saved states, for which the program takes memory as it goes: their format, and the
-# answer where memory is ample.
+# Objects, saved states and paths, for which the program takes its memory before the first record: their
+# format, and the answer where memory is ample.
 STATE_SCRIPTS = [
     (WMF, "pen 0", NO_PIXELS),
     (WMF, "1024x pen 0", NO_PIXELS),
@@ -44,6 +44,9 @@ STATE_SCRIPTS = [
     (WMF, "257x save", refused("DepthLimit", 256)),
     (WMF, f"{HELD_OFTEN}; 100x pen 1; delete 0", refused("HeldObject", 218)),
     (EMF, f"{HELD_OFTEN}; pen 99; delete 0", refused("HeldObject", 120)),
+    (EMF, "begin_path; line -1 -1; abort_path", NO_PIXELS),
+    (EMF, "begin_path; 5000x polygon -9 -9 -5 -9; end_path; stroke_and_fill_path", NO_PIXELS),
+    (EMF, "begin_path; 65537x polyline -1 -1", refused("TooManyPieces", 65538)),
 ]
 
 
@@ -81,6 +84,15 @@ REPEATED = [
     "save; restore -1",
     "save; cut 1 1 2 2; restore 1",
     "save; save; save; restore -2; restore -1",
+]
+
+
+# The same of paths: the machine has room for any from the start.
+REPEATED_PATHS = [
+    "begin_path; line 3 4; abort_path",
+    "begin_path; 9x polygon 1 1 3 1 3 3; end_path; begin_path; abort_path",
+    "begin_path; line 3 4; close_figure; end_path; fill_path",
+    "begin_path; rectangle 0 0 3 3; line 2 2; end_path; stroke_and_fill_path",
 ]
 
 
@@ -141,7 +153,8 @@ class RefusedGrowth(unittest.TestCase):
     def test_records_and_pixels_take_no_memory(self):
         # Files of one length, with a thousand records before the end or behind it, and surfaces of
         # 16 pixels and of 90,000.
-        for program, form, script in itertools.product(PROGRAMS, FORMS, REPEATED):
+        repeated = [*itertools.product(FORMS, REPEATED), *itertools.product([EMF], REPEATED_PATHS)]
+        for program, (form, script) in itertools.product(PROGRAMS, repeated):
             once, more = form.records(script), 1000 * form.records(script)
             few = form.file([*once, form.end, *more], SIDE, HANDLES)
             many = form.file([*once, *more, form.end], SIDE, HANDLES)

@@ -1,5 +1,5 @@
-"""The records that draw lines, polygons and rectangles, and those that say how: pens, brushes,
-modes and raster operations, by the names that scripts have for them.
+"""The records that draw lines, polygons, rectangles and paths, and those that say how: pens,
+brushes, modes and raster operations, by the names that scripts have for them.
 
 `polygon 0 0 4 0 0 4` has three points, and `polygons 0 0 4 0 0 4 | 1 1 2 2` two lists. A colour is
 told as 0xRRGGBB. The records that make an object tell its index first.
@@ -143,7 +143,22 @@ def emf_brush(style):
     return lambda index, number=0: u32(1 + index, style) + ink(number) + u32(0)
 
 
-EMF_SHAPES = {
+def emf_painting():
+    """The parameters of a record that paints a path."""
+    return BOUNDS
+
+
+EMF_PATHS = {
+    "begin_path": (59, u32),
+    "end_path": (60, u32),
+    "close_figure": (61, u32),
+    "fill_path": (62, emf_painting),
+    "stroke_and_fill_path": (63, emf_painting),
+    "stroke_path": (64, emf_painting),
+    "abort_path": (68, u32),
+}
+
+EMF_SHAPES = EMF_PATHS | {
     "polygon": (3, emf_list(i32)),
     "polyline": (4, emf_list(i32)),
     "polyline_to": (6, emf_list(i32)),

@@ -8,13 +8,15 @@ use Rattle.mapping.specs.Surface.{Surface, lands_within_limits}
 use Rattle.draw_ops.specs.Fault.{IsInRecord}
 use Rattle.draw_ops.specs.Objects.{ObjectValue, brush_object, font_object, palette_object, pen_object}
 use Rattle.draw_ops.specs.declared.fault.Fault.{Fault}
-use Rattle.draw_ops.specs.declared.fault.Fault.TheVariants.{DepthLimit, HandleTaken, HeldObject, NoSavedState, NoSuchHandle, OffPlane, TableFull, TooManyCuts, TooManyEdges, Unsupported, WrongKind, ZeroExtent}
+use Rattle.draw_ops.specs.declared.fault.Fault.TheVariants.{DepthLimit, HandleTaken, HeldObject, NoSavedState, NoSuchHandle, OffPlane, PathState, TableFull, TooManyCuts, TooManyEdges, TooManyPieces, WrongKind, ZeroExtent}
 use Rattle.draw_ops.specs.Operation.{Operation, no_effect, save, restore, set_background_mode, set_map_mode, set_raster_op, set_fill_mode, set_background_colour, set_window_origin, set_window_extent, set_viewport_origin, set_viewport_extent, offset_window_origin, offset_viewport_origin, exclude_clip, intersect_clip, remove_clip, move_to, line_to, pixel, rectangle, polyline, polygon, polyline_to, create, select, select_palette, delete, begin_path, end_path, close_figure, abort_path, fill_path, stroke_path, stroke_and_fill_path}
 use Rattle.object_tables.specs.Slots.{Slots, is_taken}
 use Rattle.object_tables.specs.Table.{TableKind, by_given_index, by_lowest_free, create_fault, may_be_given, slot_limit}
 use Rattle.dc_stack.specs.Clip.{cut_limit}
 use Rattle.dc_stack.specs.Drawing.{Drawing, drawing_edges, drawing_of, edge_limit}
 use Rattle.dc_stack.specs.OperationFault.{edges_fault, fault_of, plain_fault, plane_points}
+use Rattle.dc_stack.specs.Next.{next}
+use Rattle.dc_stack.specs.Path.{Path, begin_fault, finished_fault, is_finished, is_open, piece_count, piece_limit, pieces_fault}
 use Rattle.dc_stack.specs.SavedStates.{depth_limit, restore_fault, saved_place}
 use Rattle.dc_stack.specs.Selecting.{is_held, named_object, object_fault, palette_fault}
 use Rattle.dc_stack.specs.State.{State}
@@ -65,6 +67,22 @@ of_create (by_given_index limit) (Some index) slots =
 of_edges : (drawing : Option Drawing) → LiesInRecord (edges_fault drawing)
 of_edges drawing = passes (nat_le (drawing_edges drawing) edge_limit) TooManyEdges refl
 
+of_pieces : (count : ℕ) → LiesInRecord (pieces_fault count)
+of_pieces count = passes (nat_le count piece_limit) TooManyPieces refl
+
+either : (first second : Option Fault) → LiesInRecord first → LiesInRecord second → LiesInRecord (option_or first second)
+either None second h k = k
+either (Some fault) second h k = h
+
+of_begin : (path : Path) → LiesInRecord (begin_fault path)
+of_begin path = chosen (is_open path) (Some PathState) None (one PathState refl) none
+
+added_or_drawn : (operation : Operation) (state : State) → LiesInRecord (option_or (pieces_fault (piece_count (next operation state).path)) (edges_fault (drawing_of operation state)))
+added_or_drawn operation state = either (pieces_fault (piece_count (next operation state).path)) (edges_fault (drawing_of operation state)) (of_pieces (piece_count (next operation state).path)) (of_edges (drawing_of operation state))
+
+painted : (operation : Operation) (state : State) → LiesInRecord (option_or (finished_fault state.path) (edges_fault (drawing_of operation state)))
+painted operation state = either (finished_fault state.path) (edges_fault (drawing_of operation state)) (passes (is_finished state.path) PathState refl) (of_edges (drawing_of operation state))
+
 -- of each operation
 plain_in_record : (operation : Operation) (state : State) → LiesInRecord (plain_fault operation state)
 plain_in_record no_effect state = none
@@ -85,27 +103,23 @@ plain_in_record (exclude_clip corners) state = passes (nat_lt (length state.dc.c
 plain_in_record (intersect_clip corners) state = none
 plain_in_record remove_clip state = none
 plain_in_record (move_to point) state = none
-plain_in_record (line_to point) state = none
+plain_in_record (line_to point) state = added_or_drawn (line_to point) state
 plain_in_record (pixel point colour) state = none
-plain_in_record (rectangle corners edges) state = none
-plain_in_record (polyline lists) state = of_edges (drawing_of (polyline lists) state)
-plain_in_record (polygon lists) state = of_edges (drawing_of (polygon lists) state)
-plain_in_record (polyline_to points) state = of_edges (drawing_of (polyline_to points) state)
+plain_in_record (rectangle corners edges) state = added_or_drawn (rectangle corners edges) state
+plain_in_record (polyline lists) state = added_or_drawn (polyline lists) state
+plain_in_record (polygon lists) state = added_or_drawn (polygon lists) state
+plain_in_record (polyline_to points) state = added_or_drawn (polyline_to points) state
 plain_in_record (create at object) state = of_create state.table_kind at state.slots
 plain_in_record (select index) state = of_object (named_object index state.slots)
 plain_in_record (select_palette index) state = of_palette (named_object index state.slots)
 plain_in_record (delete index) state = chosen (is_taken index state.slots) _ _ (chosen (is_held index state) _ _ (one HeldObject refl) none) (one NoSuchHandle refl)
-plain_in_record begin_path state = one (Unsupported 0) refl
-plain_in_record end_path state = one (Unsupported 0) refl
-plain_in_record close_figure state = one (Unsupported 0) refl
-plain_in_record abort_path state = one (Unsupported 0) refl
-plain_in_record fill_path state = one (Unsupported 0) refl
-plain_in_record stroke_path state = one (Unsupported 0) refl
-plain_in_record stroke_and_fill_path state = one (Unsupported 0) refl
-
-either : (plain place : Option Fault) → LiesInRecord plain → LiesInRecord place → LiesInRecord (option_or plain place)
-either None place h k = k
-either (Some fault) place h k = h
+plain_in_record begin_path state = of_begin state.path
+plain_in_record end_path state = passes (is_open state.path) PathState refl
+plain_in_record close_figure state = passes (is_open state.path) PathState refl
+plain_in_record abort_path state = none
+plain_in_record fill_path state = painted fill_path state
+plain_in_record stroke_path state = painted stroke_path state
+plain_in_record stroke_and_fill_path state = painted stroke_and_fill_path state
 
 pub fault_in_record : (operation : Operation) (state : State) (s : Surface) (fault : Fault) → fault_of operation state s ≡ Some fault → IsInRecord fault
 fault_in_record operation state s =

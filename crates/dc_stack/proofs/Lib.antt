@@ -2,6 +2,13 @@ pub mod BoxLemmas
 pub mod CoordinateLemmas
 pub mod LandingLemmas
 pub mod ListLemmas
+pub mod FigureLemmas
+pub mod CornerLemmas
+pub mod GatheringLemmas
+pub mod CountLemmas
+pub mod PaintingLemmas
+pub mod AddingLemmas
+pub mod AdditionLemmas
 pub mod FaultLemmas
 pub mod SavedLemmas
 pub mod RoomLemmas
@@ -10,3 +17,4 @@ pub mod WorkedStart
 pub mod WorkedRows
 pub mod WorkedClips
 pub mod WorkedDrawings
+pub mod WorkedPaths

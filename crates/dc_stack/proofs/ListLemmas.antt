@@ -62,6 +62,10 @@ pub never_too_many : (count : ℕ) → count ≤ 1048576 → count ≤ edge_limi
 unfolding edge_limit
 never_too_many count h = h
 
+-- so a test of it passes
+pub few_then : (count : ℕ) → count ≤ 1048576 → nat_le count edge_limit ≡ true
+few_then count h = le-leb count edge_limit (never_too_many count h)
+
 -- where points have no fault, they are no more and land
 pub few_points : (points : List Point) (s : Surface) → None ≡ points_fault points s → length points ≤ edge_limit
 few_points points s h = leb-true (length points) edge_limit (first_none (nat_le (length points) edge_limit) h)

@@ -14,6 +14,7 @@ use Rattle.dc_stack.specs.Drawing.{Mark, Tools, dot, drawing_of, edge_limit, lin
 use Rattle.dc_stack.specs.Needs.{needs_of, no_needs, points_needed}
 use Rattle.dc_stack.specs.Next.{next}
 use Rattle.dc_stack.specs.OperationFault.{fault_of}
+use Rattle.dc_stack.specs.Path.{piece_limit}
 use Rattle.dc_stack.specs.State.{with_position}
 use Rattle.dc_stack.proofs.WorkedStart.{at, box, fault_behind, half, played, start}
 
@@ -77,17 +78,17 @@ far_position = refl
 
 -- and a line from it has one
 line_from_far : fault_behind (move_to far ∷ []) (line_to p) ≡ Some OffPlane
-unfolding place_limit plane_limit
+unfolding place_limit plane_limit piece_limit edge_limit
 line_from_far = refl
 
 -- as a line to such a point has
 line_to_far : fault_behind (move_to p ∷ []) (line_to far) ≡ Some OffPlane
-unfolding place_limit plane_limit
+unfolding place_limit plane_limit piece_limit edge_limit
 line_to_far = refl
 
 -- the line before has none
 line_on_plane : fault_behind (move_to p ∷ []) (line_to q) ≡ None
-unfolding place_limit plane_limit
+unfolding place_limit plane_limit piece_limit edge_limit
 line_on_plane = refl
 
 -- POLYLINE draws each list
@@ -108,12 +109,12 @@ polyline_stays = refl
 
 -- which may be off the plane
 polyline_behind_far : fault_behind (move_to far ∷ []) (polyline ((p ∷ q ∷ []) ∷ [])) ≡ None
-unfolding place_limit plane_limit edge_limit
+unfolding place_limit plane_limit edge_limit piece_limit
 polyline_behind_far = refl
 
 -- the last point of the last list may not
 polyline_to_far : fault_behind [] (polyline ((p ∷ q ∷ []) ∷ (q ∷ far ∷ []) ∷ [])) ≡ Some OffPlane
-unfolding place_limit plane_limit edge_limit
+unfolding place_limit plane_limit edge_limit piece_limit
 polyline_to_far = refl
 
 -- no list is drawn as none, without a fault
@@ -141,11 +142,11 @@ through_moves = refl
 
 -- from off the plane it has a fault, as to there
 through_from_far : fault_behind (move_to far ∷ []) (polyline_to (q ∷ r ∷ [])) ≡ Some OffPlane
-unfolding place_limit plane_limit edge_limit
+unfolding place_limit plane_limit edge_limit piece_limit
 through_from_far = refl
 
 through_to_far : fault_behind [] (polyline_to (q ∷ far ∷ [])) ≡ Some OffPlane
-unfolding place_limit plane_limit edge_limit
+unfolding place_limit plane_limit edge_limit piece_limit
 through_to_far = refl
 
 -- without points it draws no line
@@ -162,7 +163,7 @@ no_through_moves = refl
 
 -- and has no fault even from off the plane
 no_through_from_far : fault_behind (move_to far ∷ []) (polyline_to []) ≡ None
-unfolding edge_limit
+unfolding edge_limit piece_limit
 no_through_from_far = refl
 
 -- POLYGON draws each list as a polygon
@@ -179,12 +180,12 @@ polygon_stays = refl
 
 -- a point that lands past the limit of placed coordinates is off the plane
 polygon_past_the_limit : fault_behind [] (polygon ((p ∷ q ∷ at (pos 0) (pos (2 ^ 28 + 1)) ∷ []) ∷ [])) ≡ Some OffPlane
-unfolding place_limit plane_limit edge_limit
+unfolding place_limit plane_limit edge_limit piece_limit
 polygon_past_the_limit = refl
 
 -- and isn't on half the frame's size
 polygon_on_half : fault_of (polygon ((p ∷ q ∷ at (pos 0) (pos (2 ^ 28 + 1)) ∷ []) ∷ [])) start half ≡ None
-unfolding place_limit plane_limit edge_limit
+unfolding place_limit plane_limit edge_limit piece_limit
 polygon_on_half = refl
 
 -- RECTANGLE draws the rectangle between its left top and its right bottom
@@ -209,7 +210,7 @@ rectangle_stays = refl
 
 -- its right bottom may not be off the plane
 rectangle_to_far : fault_behind [] (rectangle (box (pos 1) (pos 2) (pos 3) (pos (2 ^ 30 + 1))) HalfOpen) ≡ Some OffPlane
-unfolding place_limit plane_limit
+unfolding place_limit plane_limit piece_limit edge_limit
 rectangle_to_far = refl
 
 -- a pixel is marked where the map puts it

@@ -1,8 +1,8 @@
 -- The definitions on worked values: objects, saved states, page map, pixels and needs.
 use Rattle.std.proofs.Common.{◌≡◌, ◌+◌, ◌-◌, ◌^◌, pos, negsuc, List, [], ◌∷◌, ◌++◌, length, map, replicate, Some, None, refl}
 use Rattle.draw_ops.specs.Objects.{ObjectValue, brush_object, font_object, null_brush, palette_object, pen_object, solid_brush}
-use Rattle.draw_ops.specs.Operation.{Operation, create, begin_path, delete, move_to, offset_window_origin, pixel, restore, save, select, select_palette, set_map_mode, set_window_extent}
-use Rattle.draw_ops.specs.declared.fault.Fault.TheVariants.{DepthLimit, HeldObject, NoSavedState, NoSuchHandle, OffPlane, Unsupported, WrongKind, ZeroExtent}
+use Rattle.draw_ops.specs.Operation.{Operation, create, delete, move_to, offset_window_origin, pixel, restore, save, select, select_palette, set_map_mode, set_window_extent}
+use Rattle.draw_ops.specs.declared.fault.Fault.TheVariants.{DepthLimit, HeldObject, NoSavedState, NoSuchHandle, OffPlane, WrongKind, ZeroExtent}
 use Rattle.draw_ops.specs.declared.objects.Pen.TheVariants.{Null, Solid}
 use Rattle.mapping.specs.Colours.{black_colour, white_colour}
 use Rattle.mapping.specs.Limits.{place_limit, plane_limit}
@@ -398,11 +398,3 @@ create_9 = refl
 -- and not 10
 create_10 : fault_of (create (Some 10) font_object) (start_state (unscaled_map (at (pos 0) (pos 0))) (by_given_index 10)) four ≡ Some NoSuchHandle
 create_10 = refl
-
--- a path isn't gathered yet, and its beginning is refused
-path_is_refused : fault_behind [] begin_path ≡ Some (Unsupported 0)
-path_is_refused = refl
-
--- so nothing changes
-path_changes_nothing : next begin_path start ≡ start
-path_changes_nothing = refl

@@ -1,6 +1,7 @@
 -- What an operation draws, by points of the plane.
 use Rattle.std.specs.Prelude.{ℕ, List, [], ◌∷◌, length, Option, Some, None}
 use Rattle.std.specs.List.{flat_map}
+use Rattle.std.specs.Option.{option_map}
 use Rattle.mapping.specs.declared.geometry.Colour.{Colour}
 use Rattle.mapping.specs.declared.geometry.Point.{Point}
 use Rattle.draw_ops.specs.declared.objects.Pen.{Pen}
@@ -8,16 +9,21 @@ use Rattle.draw_ops.specs.declared.operation.RectangleEdges.{RectangleEdges}
 use Rattle.draw_ops.specs.Objects.{BrushValue}
 use Rattle.draw_ops.specs.Operation.{Operation, no_effect, save, restore, set_background_mode, set_map_mode, set_raster_op, set_fill_mode, set_background_colour, set_window_origin, set_window_extent, set_viewport_origin, set_viewport_extent, offset_window_origin, offset_viewport_origin, exclude_clip, intersect_clip, remove_clip, move_to, line_to, pixel, rectangle, polyline, polygon, polyline_to, create, select, select_palette, delete, begin_path, end_path, close_figure, abort_path, fill_path, stroke_path, stroke_and_fill_path}
 use Rattle.dc_stack.specs.Clip.{ClipValue}
+use Rattle.dc_stack.specs.Figures.{Figure, lists_of_figures, points_of_figures}
 use Rattle.dc_stack.specs.Mapped.{left_top, mapped_lists, mapped_point, right_bottom}
+use Rattle.dc_stack.specs.Path.{figures_to_paint, unless_open}
 use Rattle.dc_stack.specs.State.{DcValue, State}
 use Rattle.dc_stack.specs.declared.modes.Modes.{Modes}
 
--- What is marked on the plane: a point in a colour, lines from point to point of each list, polygons, each list one, or the rectangle
+-- What is marked on the plane: a point in a colour, lines from point to point of each list, polygons, each list one, the insides of
+-- polygons without their outlines, the lines of figures, of a closed one from its last point back to its first too, or the rectangle
 -- between two corners, whichever of them comes first.
 pub data Mark : Type 0 where
   dot : Point → Colour → Mark
   lines_through : List (List Point) → Mark
   polygons_of : List (List Point) → Mark
+  insides_of : List (List Point) → Mark
+  along_figures : List Figure → Mark
   rectangle_between : Point → Point → RectangleEdges → Mark
 
 -- what is drawn with: the pen, the brush, the modes, and the clip
@@ -50,9 +56,14 @@ abbrev pub going_on : Point → List Point → List (List Point)
 going_on start [] = []
 going_on start (point ∷ points) = (start ∷ point ∷ points) ∷ []
 
--- the drawing of an operation that isn't played yet, and is refused (`plain_fault`)
-abbrev unplayed : Option Drawing
-unplayed = None
+-- the drawing of a mark where no path is open: an open one is added to in place of that
+abbrev drawing_unless_open : Mark → State → Option Drawing
+drawing_unless_open mark state = unless_open state.path (drawing_now mark state)
+
+-- the painting of the figures of a path that waits for it
+abbrev painting_now : (List Figure → Mark) → State → Option Drawing
+painting_now mark state =
+    option_map (λ (figures : List Figure). record { mark = mark figures; tools = tools_of state.dc }) (figures_to_paint state.path)
 
 -- the drawing of an operation, if it draws
 abbrev pub drawing_of : Operation → State → Option Drawing
@@ -75,14 +86,14 @@ drawing_of (intersect_clip corners) state = None
 drawing_of remove_clip state = None
 drawing_of (move_to point) state = None
 drawing_of (line_to point) state =
-    drawing_now (lines_through (mapped_lists state.dc.map (going_on state.dc.position (point ∷ [])))) state
+    drawing_unless_open (lines_through (mapped_lists state.dc.map (going_on state.dc.position (point ∷ [])))) state
 drawing_of (pixel point colour) state = drawing_now (dot (mapped_point state.dc.map point) colour) state
 drawing_of (rectangle corners edges) state =
-    drawing_now (rectangle_between (left_top state.dc.map corners) (right_bottom state.dc.map corners) edges) state
-drawing_of (polyline lists) state = drawing_now (lines_through (mapped_lists state.dc.map lists)) state
-drawing_of (polygon lists) state = drawing_now (polygons_of (mapped_lists state.dc.map lists)) state
+    drawing_unless_open (rectangle_between (left_top state.dc.map corners) (right_bottom state.dc.map corners) edges) state
+drawing_of (polyline lists) state = drawing_unless_open (lines_through (mapped_lists state.dc.map lists)) state
+drawing_of (polygon lists) state = drawing_unless_open (polygons_of (mapped_lists state.dc.map lists)) state
 drawing_of (polyline_to points) state =
-    drawing_now (lines_through (mapped_lists state.dc.map (going_on state.dc.position points))) state
+    drawing_unless_open (lines_through (mapped_lists state.dc.map (going_on state.dc.position points))) state
 drawing_of (create at object) state = None
 drawing_of (select index) state = None
 drawing_of (select_palette index) state = None
@@ -91,9 +102,9 @@ drawing_of begin_path state = None
 drawing_of end_path state = None
 drawing_of close_figure state = None
 drawing_of abort_path state = None
-drawing_of fill_path state = unplayed
-drawing_of stroke_path state = unplayed
-drawing_of stroke_and_fill_path state = unplayed
+drawing_of fill_path state = painting_now (λ figures. insides_of (lists_of_figures figures)) state
+drawing_of stroke_path state = painting_now along_figures state
+drawing_of stroke_and_fill_path state = painting_now (λ figures. polygons_of (lists_of_figures figures)) state
 
 -- the points of some lists, one list's after another's
 abbrev pub joined : List (List Point) → List Point
@@ -104,6 +115,8 @@ abbrev pub mark_points : Mark → List Point
 mark_points (dot point colour) = point ∷ []
 mark_points (lines_through lists) = joined lists
 mark_points (polygons_of lists) = joined lists
+mark_points (insides_of lists) = joined lists
+mark_points (along_figures figures) = points_of_figures figures
 mark_points (rectangle_between p q edges) = p ∷ q ∷ []
 
 -- the points of a drawing
@@ -115,6 +128,8 @@ abbrev pub mark_edges : Mark → ℕ
 mark_edges (dot point colour) = 0
 mark_edges (lines_through lists) = length (joined lists)
 mark_edges (polygons_of lists) = length (joined lists)
+mark_edges (insides_of lists) = length (joined lists)
+mark_edges (along_figures figures) = length (points_of_figures figures)
 mark_edges (rectangle_between p q edges) = 4
 
 -- how many a drawing does, if there is one

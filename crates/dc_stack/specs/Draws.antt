@@ -1,20 +1,26 @@
 -- The value of what a step draws.
-use Rattle.std.specs.Prelude.{◌≡◌, ◌≤◌, [], ◌∷◌, IsTrue, List}
+use Rattle.std.specs.Prelude.{◌≡◌, ◌≤◌, ℕ, Bool, true, false, [], ◌∷◌, length, IsTrue, List, Option, Some, None}
 use Rattle.std.specs.List.{list_all}
 use Rattle.mapping.specs.PageMap.{map_numbers}
 use Rattle.mapping.specs.PlaceOf.{surface_of}
 use Rattle.mapping.specs.Surface.{Surface, lands_within_limits, placed_point}
 use Rattle.mapping.specs.declared.geometry.Point.{Point}
 use Rattle.mapping.specs.declared.geometry.Rect.{Rect}
+use Rattle.mapping.specs.declared.place.Place.{Place}
 use Rattle.point_views.specs.Points.{points_of}
 use Rattle.point_views.specs.Polys.{lists_of}
 use Rattle.point_views.specs.declared.points.Points.{Points}
 use Rattle.point_views.specs.declared.polys.Polys.{Polys}
 use Rattle.dc_stack.specs.Boxes.{HasAll, placed_list}
-use Rattle.dc_stack.specs.Drawing.{Mark, dot, edge_limit, joined, lines_through, mark_edges, mark_points, polygons_of, rectangle_between}
+use Rattle.dc_stack.specs.Drawing.{Mark, along_figures, dot, edge_limit, insides_of, joined, lines_through, mark_edges, mark_points, polygons_of, rectangle_between}
+use Rattle.dc_stack.specs.Figures.{Figure, all_figures, lists_of_figures, points_of_figures}
 use Rattle.dc_stack.specs.Mapped.{mapped_list, mapped_lists}
+use Rattle.dc_stack.specs.Pieces.{AllLandOn, figures_of}
 use Rattle.dc_stack.specs.declared.draw.Draw.{Draw}
-use Rattle.dc_stack.specs.declared.draw.Draw.TheVariants.{Dot, Line, LinesFrom, Polygons, Polylines, Rectangle}
+use Rattle.dc_stack.specs.declared.draw.Draw.TheVariants.{Dot, Line, LinesFrom, Path, Polygons, Polylines, Rectangle}
+use Rattle.dc_stack.specs.declared.draw.Painting.{Painting}
+use Rattle.dc_stack.specs.declared.draw.Painting.TheVariants.{Fill, Stroke, StrokeAndFill}
+use Rattle.dc_stack.specs.declared.piece.Piece.{Piece}
 use Rattle.dc_stack.specs.declared.placing.Landing.{Landing}
 use Rattle.dc_stack.specs.declared.projection.Projection.{Projection}
 
@@ -26,14 +32,21 @@ points_on_plane by points = mapped_list (map_numbers by.map) (points_of points)
 abbrev pub lists_on_plane : Projection → Polys → List (List Point)
 lists_on_plane by lists = mapped_lists (map_numbers by.map) (lists_of lists)
 
--- the mark of what a step draws
-abbrev pub mark_of : Draw → Mark
-mark_of (Dot at colour) = dot at.plane colour
-mark_of (Line from to) = lines_through ((from.plane ∷ to.plane ∷ []) ∷ [])
-mark_of (LinesFrom from points by bounds) = lines_through ((from.plane ∷ points_on_plane by points) ∷ [])
-mark_of (Polylines lists by bounds) = lines_through (lists_on_plane by lists)
-mark_of (Polygons lists by bounds) = polygons_of (lists_on_plane by lists)
-mark_of (Rectangle first second edges) = rectangle_between first.plane second.plane edges
+-- the mark of figures that are painted: what is filled is closed, and figures that are stroked alone are as they are
+abbrev pub mark_painted : Painting → List Figure → Mark
+mark_painted Fill figures = insides_of (lists_of_figures figures)
+mark_painted Stroke figures = along_figures figures
+mark_painted StrokeAndFill figures = polygons_of (lists_of_figures figures)
+
+-- the mark of what a step draws, these pieces being lent
+abbrev pub mark_of : List Piece → Draw → Mark
+mark_of pieces (Dot at colour) = dot at.plane colour
+mark_of pieces (Line from to) = lines_through ((from.plane ∷ to.plane ∷ []) ∷ [])
+mark_of pieces (LinesFrom from points by bounds) = lines_through ((from.plane ∷ points_on_plane by points) ∷ [])
+mark_of pieces (Polylines lists by bounds) = lines_through (lists_on_plane by lists)
+mark_of pieces (Polygons lists by bounds) = polygons_of (lists_on_plane by lists)
+mark_of pieces (Rectangle first second edges) = rectangle_between first.plane second.plane edges
+mark_of pieces (Path painting place count bounds) = mark_painted painting (all_figures (figures_of pieces))
 
 -- a point of the plane is told with the place where it lands
 abbrev pub IsLanding : Surface → Landing → Type 0
@@ -44,17 +57,36 @@ pub record LandsWithin (s : Surface) (by : Projection) (bounds : Rect) (points :
   pub surface : surface_of by.place ≡ s
   pub inside : HasAll bounds (placed_list s points)
 
+-- pieces of a path land on this surface, and so many points in this box of it
+pub record PiecesLandWithin (s : Surface) (place : Place) (count : ℕ) (bounds : Rect) (pieces : List Piece) : Type 0 where
+  pub surface : surface_of place ≡ s
+  pub land : AllLandOn s pieces
+  pub counted : count ≡ length (points_of_figures (all_figures (figures_of pieces)))
+  pub inside : HasAll bounds (placed_list s (points_of_figures (all_figures (figures_of pieces))))
+
 -- what a step draws is told where it lands on the surface
-abbrev pub TellsPlaces : Surface → Draw → Type 0
-TellsPlaces s (Dot at colour) = IsLanding s at
-TellsPlaces s (Line from to) = IsLanding s from × IsLanding s to
-TellsPlaces s (LinesFrom from points by bounds) = IsLanding s from × LandsWithin s by bounds (from.plane ∷ points_on_plane by points)
-TellsPlaces s (Polylines lists by bounds) = LandsWithin s by bounds (joined (lists_on_plane by lists))
-TellsPlaces s (Polygons lists by bounds) = LandsWithin s by bounds (joined (lists_on_plane by lists))
-TellsPlaces s (Rectangle first second edges) = IsLanding s first × IsLanding s second
+abbrev pub TellsPlaces : Surface → List Piece → Draw → Type 0
+TellsPlaces s pieces (Dot at colour) = IsLanding s at
+TellsPlaces s pieces (Line from to) = IsLanding s from × IsLanding s to
+TellsPlaces s pieces (LinesFrom from points by bounds) = IsLanding s from × LandsWithin s by bounds (from.plane ∷ points_on_plane by points)
+TellsPlaces s pieces (Polylines lists by bounds) = LandsWithin s by bounds (joined (lists_on_plane by lists))
+TellsPlaces s pieces (Polygons lists by bounds) = LandsWithin s by bounds (joined (lists_on_plane by lists))
+TellsPlaces s pieces (Rectangle first second edges) = IsLanding s first × IsLanding s second
+TellsPlaces s pieces (Path painting place count bounds) = PiecesLandWithin s place count bounds pieces
 
 -- it is so, all its points land within the limits, and there are at most so many
-pub record IsPlacedDraw (s : Surface) (draw : Draw) : Type 0 where
-  pub places : TellsPlaces s draw
-  pub within : IsTrue (list_all (λ point. lands_within_limits point s) (mark_points (mark_of draw)))
-  pub few : mark_edges (mark_of draw) ≤ edge_limit
+pub record IsPlacedDraw (s : Surface) (pieces : List Piece) (draw : Draw) : Type 0 where
+  pub places : TellsPlaces s pieces draw
+  pub within : IsTrue (list_all (λ point. lands_within_limits point s) (mark_points (mark_of pieces draw)))
+  pub few : mark_edges (mark_of pieces draw) ≤ edge_limit
+
+-- the figures of a path are painted
+abbrev pub paints_path : Option Draw → Bool
+paints_path None = false
+paints_path (Some (Dot at colour)) = false
+paints_path (Some (Line from to)) = false
+paints_path (Some (LinesFrom from points by bounds)) = false
+paints_path (Some (Polylines lists by bounds)) = false
+paints_path (Some (Polygons lists by bounds)) = false
+paints_path (Some (Rectangle first second edges)) = false
+paints_path (Some (Path painting place count bounds)) = true

@@ -1,4 +1,5 @@
 pub mod Clip
+pub mod Figures
 pub mod Path
 pub mod State
 pub mod StockObjects
@@ -11,9 +12,14 @@ pub mod Modes
 pub mod Next
 pub mod Needs
 pub mod FaultLaws
+pub mod Pieces
 pub mod Values
 pub mod Boxes
+pub mod GatheredPath
 pub mod Placing
 pub mod Draws
 pub mod Projected
+pub mod FitsSurface
 pub mod MachineState
+pub mod Adding
+pub mod DrawsApart

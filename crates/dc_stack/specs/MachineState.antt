@@ -1,30 +1,39 @@
 -- What a machine is to its callers.
-use Rattle.std.specs.Prelude.{◌≡◌, ◌⊎◌, ℕ, ◌≤◌, length, Option, Some, None, IfSome, Result, Ok, Err}
+use Rattle.std.specs.Prelude.{◌≡◌, ◌⊎◌, ℕ, ◌^◌, ◌<◌, ◌≤◌, Bool, true, false, List, [], length, Option, Some, None, IfSome, Result, Ok, Err}
 use Rattle.std.specs.Option.{option_map}
 use Rattle.mapping.specs.Surface.{Surface}
 use Rattle.draw_ops.specs.Objects.{ObjectValue}
-use Rattle.draw_ops.specs.Operation.{Operation, create, save}
+use Rattle.draw_ops.specs.Operation.{Operation, create, fill_path, save, stroke_and_fill_path, stroke_path}
 use Rattle.draw_ops.specs.declared.fault.Fault.{Fault}
 use Rattle.draw_ops.specs.declared.fault.Fault.TheVariants.{OutOfMemory}
 use Rattle.object_tables.specs.Table.{created_index, index_bound}
 use Rattle.dc_stack.specs.Drawing.{Drawing, drawing_of, tools_of}
-use Rattle.dc_stack.specs.Draws.{IsPlacedDraw, mark_of}
+use Rattle.dc_stack.specs.Draws.{IsPlacedDraw, mark_of, paints_path}
 use Rattle.dc_stack.specs.Needs.{greater_needs, needs_of}
 use Rattle.dc_stack.specs.Next.{next}
 use Rattle.dc_stack.specs.OperationFault.{fault_of}
+use Rattle.dc_stack.specs.Figures.{all_figures}
+use Rattle.dc_stack.specs.Path.{Path, figures_to_paint, piece_count}
+use Rattle.dc_stack.specs.Pieces.{figures_of}
 use Rattle.dc_stack.specs.SavedStates.{depth_limit}
-use Rattle.dc_stack.specs.State.{DcValue, State}
+use Rattle.dc_stack.specs.State.{State}
 use Rattle.dc_stack.specs.declared.draw.Draw.{Draw}
+use Rattle.dc_stack.specs.declared.draw.Painting.{Painting}
+use Rattle.dc_stack.specs.declared.draw.Painting.TheVariants.{Fill, Stroke, StrokeAndFill}
 use Rattle.dc_stack.specs.declared.needs.Needs.{Needs}
+use Rattle.dc_stack.specs.declared.piece.Piece.{Piece}
 
--- for how many saved states there is room, and below which index objects have theirs
+-- for how many saved states there is room, below which index objects have theirs, and for how many pieces of a path
 pub record Room : Type 0 where
   pub depth : ℕ
   pub slots : ℕ
+  pub pieces : ℕ
 
--- the state that is played, the surface that it is played on, the greatest needs so far, and the room
+-- The state that is played, the pieces of the path that the last accepted step painted, the surface that it is played on, the greatest needs so
+-- far, and the room.
 pub record MachineState : Type 0 where
   pub state : State
+  pub painted : List Piece
   pub surface : Surface
   pub needs : Needs
   pub room : Room
@@ -35,10 +44,12 @@ pub record GoesOn (old new : MachineState) : Type 0 where
   pub surface : new.surface ≡ old.surface
   pub depth : old.room.depth ≤ new.room.depth
   pub slots : old.room.slots ≤ new.room.slots
+  pub pieces : old.room.pieces ≤ new.room.pieces
 
--- state and needs are what they were
+-- state, pieces that are lent and needs are what they were
 pub record IsUnchanged (old new : MachineState) : Type 0 where
   pub state : new.state ≡ old.state
+  pub painted : new.painted ≡ old.painted
   pub needs : new.needs ≡ old.needs
 
 -- an operation was played: it has no fault, and the state is the next
@@ -48,12 +59,20 @@ pub record HasStepped (operation : Operation) (old new : MachineState) : Type 0 
   pub needs : new.needs ≡ greater_needs old.needs (needs_of operation old.state)
 
 -- the drawing of a draw, with the tools of the moment
-abbrev pub drawing_with : DcValue → Draw → Drawing
-drawing_with dc draw = record { mark = mark_of draw; tools = tools_of dc }
+abbrev pub drawing_with : MachineState → Draw → Drawing
+drawing_with m draw = record { mark = mark_of m.painted draw; tools = tools_of m.state.dc }
 
--- what is to be drawn is the operation's drawing, with the tools that the new state has still
+-- what is to be drawn is the operation's drawing, of the pieces that are lent, with the tools that the new state has still
 abbrev pub IsDrawingOf : Operation → MachineState → MachineState → Option Draw → Type 0
-IsDrawingOf operation old new draw = option_map (drawing_with new.state.dc) draw ≡ drawing_of operation old.state
+IsDrawingOf operation old new draw = option_map (drawing_with new) draw ≡ drawing_of operation old.state
+
+-- pieces are lent that make the figures of the path that is painted, and none of any other drawing
+abbrev pub LendsFor : Bool → Path → List Piece → Type 0
+LendsFor true path pieces = figures_to_paint path ≡ Some (all_figures (figures_of pieces))
+LendsFor false path pieces = pieces ≡ []
+
+abbrev pub LendsPainted : MachineState → Option Draw → MachineState → Type 0
+LendsPainted old draw new = LendsFor (paints_path draw) old.state.path new.painted
 
 -- a save finds no room for one more state
 pub record LacksDepth (operation : Operation) (m : MachineState) : Type 0 where
@@ -67,16 +86,22 @@ pub record LacksSlot (operation : Operation) (m : MachineState) : Type 0 where
   pub creates : operation ≡ create at object
   pub full : m.room.slots ≤ created_index m.state.table_kind at m.state.slots
 
+-- what is added to a path finds no room
+pub record LacksPieces (operation : Operation) (m : MachineState) : Type 0 where
+  pub adds : piece_count m.state.path < piece_count (next operation m.state).path
+  pub full : m.room.pieces < piece_count (next operation m.state).path
+
 -- memory was refused, though the operation has no fault: there was no room for it
 pub record WantsRoom (operation : Operation) (m : MachineState) (fault : Fault) : Type 0 where
   pub no_fault : fault_of operation m.state m.surface ≡ None
   pub memory : fault ≡ OutOfMemory
-  pub lacks : LacksDepth operation m ⊎ LacksSlot operation m
+  pub lacks : LacksDepth operation m ⊎ (LacksSlot operation m ⊎ LacksPieces operation m)
 
--- there is room for as many saved states as there may be, and for each index
+-- there is room for as many saved states as there may be, for each index, and for as many pieces
 pub record HasFullRoom (m : MachineState) : Type 0 where
   pub depth : depth_limit ≤ m.room.depth
   pub slots : index_bound m.state.table_kind ≤ m.room.slots
+  pub pieces : 2 ^ 16 ≤ m.room.pieces
 
 -- and then no operation wants more
 abbrev pub FullRoomIsEnough : Type 0
@@ -92,7 +117,8 @@ RefusesStep operation m fault = fault_of operation m.state m.surface ≡ Some fa
 pub record HasPlayed (operation : Operation) (old new : MachineState) (draw : Option Draw) : Type 0 where
   pub stepped : HasStepped operation old new
   pub drawn : IsDrawingOf operation old new draw
-  pub placed : IfSome draw (IsPlacedDraw old.surface)
+  pub placed : IfSome draw (IsPlacedDraw old.surface new.painted)
+  pub figures : paints_path draw ≡ true → LendsFor true old.state.path new.painted
 
 -- an operation was refused: nothing has changed
 pub record HasRefused (operation : Operation) (old new : MachineState) (fault : Fault) : Type 0 where
@@ -103,3 +129,9 @@ pub record HasRefused (operation : Operation) (old new : MachineState) (fault : 
 abbrev pub Plays : Operation → MachineState → Result (Option Draw) Fault → MachineState → Type 0
 Plays operation old (Ok draw) new = HasPlayed operation old new draw
 Plays operation old (Err fault) new = HasRefused operation old new fault
+
+-- the operation of a painting
+abbrev pub painting_operation : Painting → Operation
+painting_operation Fill = fill_path
+painting_operation Stroke = stroke_path
+painting_operation StrokeAndFill = stroke_and_fill_path

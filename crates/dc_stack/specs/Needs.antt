@@ -4,6 +4,8 @@ use Rattle.std.specs.Prelude.{ℕ, suc, length, max}
 use Rattle.draw_ops.specs.Operation.{Operation, no_effect, save, restore, set_background_mode, set_map_mode, set_raster_op, set_fill_mode, set_background_colour, set_window_origin, set_window_extent, set_viewport_origin, set_viewport_extent, offset_window_origin, offset_viewport_origin, exclude_clip, intersect_clip, remove_clip, move_to, line_to, pixel, rectangle, polyline, polygon, polyline_to, create, select, select_palette, delete, begin_path, end_path, close_figure, abort_path, fill_path, stroke_path, stroke_and_fill_path}
 use Rattle.object_tables.specs.Table.{created_index}
 use Rattle.dc_stack.specs.Drawing.{drawing_edges, drawing_of}
+use Rattle.dc_stack.specs.Next.{next}
+use Rattle.dc_stack.specs.Path.{piece_count}
 use Rattle.dc_stack.specs.State.{State}
 use Rattle.dc_stack.specs.declared.needs.Needs.{Needs}
 
@@ -32,13 +34,18 @@ slots_needed index = record { depth = 0; slots = suc index; edges = 0; pieces = 
 abbrev pub points_needed : ℕ → Needs
 points_needed count = record { depth = 0; slots = 0; edges = count; pieces = 0 }
 
--- how many the drawing of an operation needs room for, if it draws
-abbrev pub edges_needed : Operation → State → Needs
-edges_needed operation state = points_needed (drawing_edges (drawing_of operation state))
+-- how many pieces a path has
+abbrev pub pieces_needed : ℕ → Needs
+pieces_needed pieces = record { depth = 0; slots = 0; edges = 0; pieces = pieces }
 
--- those of an operation that isn't played yet, and is refused (`plain_fault`)
-abbrev unplayed : Needs
-unplayed = no_needs
+-- how many points the drawing of an operation needs room for, if it draws, and how many pieces an open path has then
+abbrev pub drawing_needs : Operation → State → Needs
+drawing_needs operation state = record {
+  depth = 0;
+  slots = 0;
+  edges = drawing_edges (drawing_of operation state);
+  pieces = piece_count (next operation state).path;
+}
 
 -- what one operation needs
 abbrev pub needs_of : Operation → State → Needs
@@ -60,20 +67,20 @@ needs_of (exclude_clip corners) state = no_needs
 needs_of (intersect_clip corners) state = no_needs
 needs_of remove_clip state = no_needs
 needs_of (move_to point) state = no_needs
-needs_of (line_to point) state = edges_needed (line_to point) state
-needs_of (pixel point colour) state = edges_needed (pixel point colour) state
-needs_of (rectangle corners edges) state = edges_needed (rectangle corners edges) state
-needs_of (polyline lists) state = edges_needed (polyline lists) state
-needs_of (polygon lists) state = edges_needed (polygon lists) state
-needs_of (polyline_to points) state = edges_needed (polyline_to points) state
+needs_of (line_to point) state = drawing_needs (line_to point) state
+needs_of (pixel point colour) state = no_needs
+needs_of (rectangle corners edges) state = drawing_needs (rectangle corners edges) state
+needs_of (polyline lists) state = drawing_needs (polyline lists) state
+needs_of (polygon lists) state = drawing_needs (polygon lists) state
+needs_of (polyline_to points) state = drawing_needs (polyline_to points) state
 needs_of (create at object) state = slots_needed (created_index state.table_kind at state.slots)
 needs_of (select index) state = no_needs
 needs_of (select_palette index) state = no_needs
 needs_of (delete index) state = no_needs
-needs_of begin_path state = unplayed
-needs_of end_path state = unplayed
-needs_of close_figure state = unplayed
-needs_of abort_path state = unplayed
-needs_of fill_path state = unplayed
-needs_of stroke_path state = unplayed
-needs_of stroke_and_fill_path state = unplayed
+needs_of begin_path state = no_needs
+needs_of end_path state = no_needs
+needs_of close_figure state = no_needs
+needs_of abort_path state = no_needs
+needs_of fill_path state = drawing_needs fill_path state
+needs_of stroke_path state = drawing_needs stroke_path state
+needs_of stroke_and_fill_path state = drawing_needs stroke_and_fill_path state

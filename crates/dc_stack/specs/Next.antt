@@ -7,22 +7,25 @@ use Rattle.object_tables.specs.Slots.{with_object, without_object}
 use Rattle.object_tables.specs.Table.{created_index}
 use Rattle.dc_stack.specs.Clip.{unclipped, with_cut, with_kept}
 use Rattle.dc_stack.specs.Modes.{with_background_colour, with_background_mode, with_fill_mode, with_raster_op}
-use Rattle.dc_stack.specs.Mapped.{mapped_box}
+use Rattle.dc_stack.specs.Figures.{box_corners, no_figures}
+use Rattle.dc_stack.specs.Mapped.{mapped_box, mapped_list, mapped_lists, mapped_point}
+use Rattle.dc_stack.specs.Path.{after_closing, after_ending, after_lines, after_moving, after_polygons, after_polylines, no_path, open_path}
 use Rattle.dc_stack.specs.SavedStates.{after_restoring, after_saving, saved_place}
 use Rattle.dc_stack.specs.Selecting.{after_selecting, named_object}
-use Rattle.dc_stack.specs.State.{State, with_clip, with_map, with_modes, with_position, with_selected, with_slots}
-
--- the state after an operation that isn't played yet, and is refused (`plain_fault`)
-abbrev unplayed : State → State
-unplayed state = state
+use Rattle.dc_stack.specs.State.{State, with_clip, with_map, with_modes, with_path, with_position, with_selected, with_slots}
 
 -- where lines from a point through others end
 abbrev pub end_of : Point → List Point → Point
 end_of start [] = start
 end_of start (point ∷ points) = end_of point points
 
--- The state after an operation that has no fault. No path is ever open yet: what moves of the position and lines do to one comes with
--- paths.
+-- lines from the position through points of the page: the last of them is the position then, and an open path goes on
+abbrev after_drawing_lines : List Point → State → State
+after_drawing_lines points state =
+    with_position (end_of state.dc.position points)
+    (with_path (after_lines (mapped_point state.dc.map state.dc.position) (mapped_list state.dc.map points) state.path) state)
+
+-- The state after an operation that has no fault. Lines, polylines, polygons and rectangles add to the path, where one is open.
 abbrev pub next : Operation → State → State
 next no_effect state = state
 next save state = after_saving state
@@ -41,21 +44,21 @@ next (offset_viewport_origin offset) state = with_map (with_offset_viewport_orig
 next (exclude_clip corners) state = with_clip (with_cut (mapped_box state.dc.map corners) state.dc.clip) state
 next (intersect_clip corners) state = with_clip (with_kept (mapped_box state.dc.map corners) state.dc.clip) state
 next remove_clip state = with_clip unclipped state
-next (move_to point) state = with_position point state
-next (line_to point) state = with_position point state
+next (move_to point) state = with_position point (with_path (after_moving state.path) state)
+next (line_to point) state = after_drawing_lines (point ∷ []) state
 next (pixel point colour) state = state
-next (rectangle corners edges) state = state
-next (polyline lists) state = state
-next (polygon lists) state = state
-next (polyline_to points) state = with_position (end_of state.dc.position points) state
+next (rectangle corners edges) state = with_path (after_polygons (box_corners (mapped_box state.dc.map corners) ∷ []) state.path) state
+next (polyline lists) state = with_path (after_polylines (mapped_lists state.dc.map lists) state.path) state
+next (polygon lists) state = with_path (after_polygons (mapped_lists state.dc.map lists) state.path) state
+next (polyline_to points) state = after_drawing_lines points state
 next (create at object) state = with_slots (with_object (created_index state.table_kind at state.slots) object state.slots) state
 next (select index) state = with_selected (after_selecting index (named_object index state.slots) state.dc.selected) state
 next (select_palette index) state = with_selected (after_selecting index (named_object index state.slots) state.dc.selected) state
 next (delete index) state = with_slots (without_object index state.slots) state
-next begin_path state = unplayed state
-next end_path state = unplayed state
-next close_figure state = unplayed state
-next abort_path state = unplayed state
-next fill_path state = unplayed state
-next stroke_path state = unplayed state
-next stroke_and_fill_path state = unplayed state
+next begin_path state = with_path (open_path no_figures 0) state
+next end_path state = with_path (after_ending state.path) state
+next close_figure state = with_path (after_closing state.path) state
+next abort_path state = with_path no_path state
+next fill_path state = with_path no_path state
+next stroke_path state = with_path no_path state
+next stroke_and_fill_path state = with_path no_path state

@@ -1,24 +1,24 @@
 -- The fault of an operation, in two parts: what it meets in the state, and where its points land on a surface.
-use Rattle.std.specs.Prelude.{if◌then◌else◌, List, [], ◌++◌, length, nat_le, nat_lt, Option, Some, None}
+use Rattle.std.specs.Prelude.{if◌then◌else◌, List, [], ◌∷◌, ◌++◌, length, nat_le, nat_lt, Option, Some, None}
 use Rattle.std.specs.List.{list_all}
 use Rattle.std.specs.Option.{option_or}
 use Rattle.mapping.specs.declared.geometry.Point.{Point}
+use Rattle.mapping.specs.declared.geometry.Rect.{Rect}
 use Rattle.mapping.specs.MapSettings.{is_page_point, offset_by, sets_zero_extent, viewport_origin_of, window_origin_of}
 use Rattle.mapping.specs.Surface.{Surface, lands_within_limits}
 use Rattle.draw_ops.specs.declared.fault.Fault.{Fault}
-use Rattle.draw_ops.specs.declared.fault.Fault.TheVariants.{OffPlane, TooManyCuts, TooManyEdges, Unsupported, ZeroExtent}
+use Rattle.draw_ops.specs.declared.fault.Fault.TheVariants.{OffPlane, TooManyCuts, TooManyEdges, ZeroExtent}
 use Rattle.draw_ops.specs.Operation.{Operation, no_effect, save, restore, set_background_mode, set_map_mode, set_raster_op, set_fill_mode, set_background_colour, set_window_origin, set_window_extent, set_viewport_origin, set_viewport_extent, offset_window_origin, offset_viewport_origin, exclude_clip, intersect_clip, remove_clip, move_to, line_to, pixel, rectangle, polyline, polygon, polyline_to, create, select, select_palette, delete, begin_path, end_path, close_figure, abort_path, fill_path, stroke_path, stroke_and_fill_path}
 use Rattle.object_tables.specs.Table.{create_fault}
 use Rattle.dc_stack.specs.Clip.{ClipValue, cut_limit}
-use Rattle.dc_stack.specs.Drawing.{Drawing, drawing_edges, drawing_of, drawing_points, edge_limit}
-use Rattle.dc_stack.specs.Mapped.{mapped_corners}
+use Rattle.dc_stack.specs.Drawing.{Drawing, drawing_edges, drawing_of, drawing_points, edge_limit, joined}
+use Rattle.dc_stack.specs.Figures.{points_gone_on}
+use Rattle.dc_stack.specs.Mapped.{mapped_corners, mapped_list, mapped_lists, mapped_point}
+use Rattle.dc_stack.specs.Next.{next}
+use Rattle.dc_stack.specs.Path.{begin_fault, finished_fault, open_fault, piece_count, pieces_fault, points_if_open}
 use Rattle.dc_stack.specs.SavedStates.{restore_fault, save_fault, saved_place}
 use Rattle.dc_stack.specs.Selecting.{delete_fault, named_object, object_fault, palette_fault}
 use Rattle.dc_stack.specs.State.{State}
-
--- an operation that isn't played yet is unsupported
-abbrev unplayed : Option Fault
-unplayed = Some (Unsupported 0)
 
 -- an extent of 0 is to be set
 abbrev pub zero_fault : Point → State → Option Fault
@@ -35,6 +35,14 @@ cut_fault clip = if nat_lt (length clip.cuts) cut_limit then None else Some TooM
 -- a drawing has more points than there may be
 abbrev pub edges_fault : Option Drawing → Option Fault
 edges_fault drawing = if nat_le (drawing_edges drawing) edge_limit then None else Some TooManyEdges
+
+-- an open path would have more pieces than it may, or else the drawing more points
+abbrev added_or_drawn_fault : Operation → State → Option Fault
+added_or_drawn_fault operation state = option_or (pieces_fault (piece_count (next operation state).path)) (edges_fault (drawing_of operation state))
+
+-- no path waits to be painted, or else the painting has more points than it may
+abbrev painting_fault : Operation → State → Option Fault
+painting_fault operation state = option_or (finished_fault state.path) (edges_fault (drawing_of operation state))
 
 -- the fault that doesn't depend on the surface
 abbrev pub plain_fault : Operation → State → Option Fault
@@ -56,28 +64,41 @@ plain_fault (exclude_clip corners) state = cut_fault state.dc.clip
 plain_fault (intersect_clip corners) state = None
 plain_fault remove_clip state = None
 plain_fault (move_to point) state = None
-plain_fault (line_to point) state = None
+plain_fault (line_to point) state = added_or_drawn_fault (line_to point) state
 plain_fault (pixel point colour) state = None
-plain_fault (rectangle corners edges) state = None
-plain_fault (polyline lists) state = edges_fault (drawing_of (polyline lists) state)
-plain_fault (polygon lists) state = edges_fault (drawing_of (polygon lists) state)
-plain_fault (polyline_to points) state = edges_fault (drawing_of (polyline_to points) state)
+plain_fault (rectangle corners edges) state = added_or_drawn_fault (rectangle corners edges) state
+plain_fault (polyline lists) state = added_or_drawn_fault (polyline lists) state
+plain_fault (polygon lists) state = added_or_drawn_fault (polygon lists) state
+plain_fault (polyline_to points) state = added_or_drawn_fault (polyline_to points) state
 plain_fault (create at object) state = create_fault state.table_kind at state.slots
 plain_fault (select index) state = object_fault (named_object index state.slots)
 plain_fault (select_palette index) state = palette_fault (named_object index state.slots)
 plain_fault (delete index) state = delete_fault index state
-plain_fault begin_path state = unplayed
-plain_fault end_path state = unplayed
-plain_fault close_figure state = unplayed
-plain_fault abort_path state = unplayed
-plain_fault fill_path state = unplayed
-plain_fault stroke_path state = unplayed
-plain_fault stroke_and_fill_path state = unplayed
+plain_fault begin_path state = begin_fault state.path
+plain_fault end_path state = open_fault state.path
+plain_fault close_figure state = open_fault state.path
+plain_fault abort_path state = None
+plain_fault fill_path state = painting_fault fill_path state
+plain_fault stroke_path state = painting_fault stroke_path state
+plain_fault stroke_and_fill_path state = painting_fault stroke_and_fill_path state
 
 -- the points of a drawing, if there is one
-abbrev points_drawn : Option Drawing → List Point
+abbrev pub points_drawn : Option Drawing → List Point
 points_drawn None = []
 points_drawn (Some drawing) = drawing_points drawing
+
+-- the points that lines from the position through points of the page add to an open path
+abbrev line_points_added : List Point → State → List Point
+line_points_added points state =
+    points_if_open state.path (λ figures. points_gone_on (mapped_point state.dc.map state.dc.position) figures.current (mapped_list state.dc.map points))
+
+-- those that lists do
+abbrev list_points_added : List (List Point) → State → List Point
+list_points_added lists state = points_if_open state.path (λ figures. joined (mapped_lists state.dc.map lists))
+
+-- the corners of a rectangle that is added
+abbrev corners_added : Rect → State → List Point
+corners_added corners state = points_if_open state.path (λ figures. mapped_corners state.dc.map corners)
 
 -- the points of the plane that an operation places and doesn't draw: corners of the clip, and what is added to a path
 abbrev points_kept : Operation → State → List Point
@@ -99,12 +120,12 @@ points_kept (exclude_clip corners) state = mapped_corners state.dc.map corners
 points_kept (intersect_clip corners) state = mapped_corners state.dc.map corners
 points_kept remove_clip state = []
 points_kept (move_to point) state = []
-points_kept (line_to point) state = []
+points_kept (line_to point) state = line_points_added (point ∷ []) state
 points_kept (pixel point colour) state = []
-points_kept (rectangle corners edges) state = []
-points_kept (polyline lists) state = []
-points_kept (polygon lists) state = []
-points_kept (polyline_to points) state = []
+points_kept (rectangle corners edges) state = corners_added corners state
+points_kept (polyline lists) state = list_points_added lists state
+points_kept (polygon lists) state = list_points_added lists state
+points_kept (polyline_to points) state = line_points_added points state
 points_kept (create at object) state = []
 points_kept (select index) state = []
 points_kept (select_palette index) state = []

@@ -13,7 +13,7 @@ use Rattle.meta_headers.specs.Headers.{OpenedValue}
 use Rattle.object_tables.specs.Slots.{Slots}
 use Rattle.object_tables.specs.Table.{TableKind, by_given_index, by_lowest_free}
 use Rattle.dc_stack.specs.Clip.{ClipValue, unclipped}
-use Rattle.dc_stack.specs.Path.{Path}
+use Rattle.dc_stack.specs.Path.{Path, no_path}
 use Rattle.dc_stack.specs.declared.modes.Modes.{Modes}
 
 -- an object in use, and its index, if it isn't a stock object
@@ -38,13 +38,13 @@ pub record DcValue : Type 0 where
   pub clip : ClipValue
 
 -- The whole state: what saving copies, and beside it the objects by their indexes and how new ones get theirs, the states saved, the
--- oldest first, and the path, if there is one.
+-- oldest first, and the path.
 pub record State : Type 0 where
   pub dc : DcValue
   pub slots : Slots
   pub table_kind : TableKind
   pub saved : List DcValue
-  pub path : Option Path
+  pub path : Path
 
 -- a black pen, a white brush, the stock font and the default palette
 abbrev pub stock_selections : Selections
@@ -76,7 +76,7 @@ start_dc map = record {
 
 -- the state before the first record of a file that starts with this map, and whose objects get their indexes so
 abbrev pub start_state : MapNumbers → TableKind → State
-start_state map kind = record { dc = start_dc map; slots = []; table_kind = kind; saved = []; path = None }
+start_state map kind = record { dc = start_dc map; slots = []; table_kind = kind; saved = []; path = no_path }
 
 -- objects get the least free index, unless the file says how many indexes there are
 abbrev pub table_kind_of : Option ℕ → TableKind
@@ -105,6 +105,16 @@ with_slots slots state = record {
   table_kind = state.table_kind;
   saved = state.saved;
   path = state.path;
+}
+
+-- the state with another path
+abbrev pub with_path : Path → State → State
+with_path path state = record {
+  dc = state.dc;
+  slots = state.slots;
+  table_kind = state.table_kind;
+  saved = state.saved;
+  path = path;
 }
 
 -- the state with other objects in use

@@ -1,10 +1,24 @@
 //! What a step draws.
 
+ghost use Rattle.std.specs.Prelude.{◌≡◌};
+ghost use Rattle.dc_stack.specs.Draws.{paints_path};
+
 use crate::placing::Landing;
 use crate::projection::Projection;
 use draw_ops::RectangleEdges;
-use mapping::{Colour, Rect};
+use mapping::{Colour, Place, Rect};
 use point_views::{Points, Polys};
+
+/// Which parts of a path are painted.
+#[derive(Clone, Copy, Debug, PartialEq, Eq)]
+pub enum Painting {
+    /// Its inside, each figure closed.
+    Fill,
+    /// Its figures' lines.
+    Stroke,
+    /// Its inside, and then its figures' lines, each figure closed.
+    StrokeAndFill,
+}
 
 /// What a step draws. Points are those of the file's record, as it has them, and how they land; all of
 /// them land within the limits, and within `bounds`, the right and the bottom included. Pen, brush, modes
@@ -47,4 +61,20 @@ pub enum Draw<'a> {
         second: Landing,
         edges: RectangleEdges,
     },
+    /// The figures of a path, which the pieces that the machine lends make (`Machine::painted`). How their
+    /// points land is by the page map of each piece, and this place.
+    Path {
+        painting: Painting,
+        place: Place,
+        /// How many points the figures have.
+        count: u32,
+        bounds: Rect,
+    },
+}
+
+/// Whether a path is painted.
+pub(crate) fn paints_path(drawn: Option<Draw<'_>>) -> bool
+    ensures { result ≡ paints_path drawn.entry }
+{
+    matches!(drawn, Some(Draw::Path { .. }))
 }

@@ -1,13 +1,15 @@
-//! The playing state: objects in use and held, saved states, settings, page map and clip.
+//! The playing state: objects in use and held, saved states, settings, page map, clip and path.
 //!
 //! # What is promised
 //!
-//! - A machine starts as its file does, with no object and no saved state (`Machine::new`, `restart`).
+//! - A machine starts as its file does, with no object, no saved state and no path (`Machine::new`, `restart`).
 //! - Each step has the first fault that the definition says, and then nothing has changed, or leaves the
 //!   next state (`Machine::step`, by `fault_of` and `next`).
 //! - What a step draws is the operation's drawing, with the tools of its moment (`Machine::step`, `dc`).
 //! - All its points land within the limits, each where it is told, and in the bounds that it is told with
 //!   (`Machine::step`, `Projection::at`).
+//! - The pieces of a path that is painted are lent until the next step is accepted, and make the path's figures
+//!   (`Machine::step`, `painted`).
 //! - Memory is refused only where there is no room, which no call makes smaller (`Machine::step`,
 //!   `reserve`; `room_law` says what room is enough for any file).
 //! - The needs are the greatest of all steps since the start (`Machine::needs`).
@@ -17,12 +19,17 @@
 #![tactic(auto)]
 
 mod clip;
+mod counting;
 mod dc;
 mod draw;
+mod gathering;
 mod laws;
 mod machine;
 mod modes;
 mod needs;
+mod path;
+mod piece;
+mod piece_landing;
 mod placing;
 mod projection;
 mod saved;
@@ -31,11 +38,13 @@ mod stock;
 
 pub use clip::{Clip, ClipBox};
 pub use dc::Dc;
-pub use draw::Draw;
+pub use draw::{Draw, Painting};
 pub use laws::{fault_law, room_law};
 pub use machine::{MAX_SAVED_STATES, Machine};
 pub use modes::Modes;
 pub use needs::Needs;
+pub use path::MAX_PIECES;
+pub use piece::{FigureEnd, Joining, Piece, PiecePoints};
 pub use placing::Landing;
 pub use projection::Projection;
 pub use selected::Selected;

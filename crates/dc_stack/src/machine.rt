@@ -1,25 +1,29 @@
 //! The machine: the playing state, and what one operation does to it.
 
-ghost use Rattle.std.specs.Prelude.{◌≡◌, ◌≤◌, ◌<◌, ◌⊎◌, IfErr, IfOk, IfSome, OnErr, OnOk, length};
+ghost use Rattle.std.specs.Prelude.{◌≡◌, ◌≤◌, ◌<◌, ◌⊎◌, [], IfErr, IfOk, IfSome, OnErr, OnOk, length};
 ghost use Rattle.mapping.specs.PageMap.{map_numbers};
 ghost use Rattle.mapping.specs.PlaceOf.{surface_of};
 ghost use Rattle.draw_ops.specs.OperationOf.{operation_of};
 ghost use Rattle.draw_ops.specs.declared.fault.Fault.TheVariants.{OutOfMemory};
-ghost use Rattle.dc_stack.specs.MachineState.{GoesOn, HasStepped, IsDrawingOf, IsUnchanged, RefusesStep};
+ghost use Rattle.dc_stack.specs.MachineState.{GoesOn, HasStepped, IsDrawingOf, IsUnchanged, LendsPainted, Plays, RefusesStep};
 ghost use Rattle.dc_stack.specs.Draws.{IsPlacedDraw};
 ghost use Rattle.dc_stack.specs.Needs.{no_needs};
 ghost use Rattle.dc_stack.specs.State.{start_state};
 
+mod adding;
 mod clipping;
 mod drawing;
 mod objects;
 mod page_mapping;
+mod paths;
 mod saving;
 mod settings;
 
 use crate::dc::Dc;
-use crate::draw::Draw;
+use crate::draw::{Draw, Painting, paints_path};
 use crate::needs::Needs;
+use crate::path::GatheredPath;
+use crate::piece::Piece;
 use draw_ops::{Fault, Op};
 use mapping::Place;
 use meta_headers::Opened;
@@ -35,26 +39,30 @@ pub struct Machine<'a, T: Contents> {
     dc: Dc<'a>,
     saved: Vec<Dc<'a>>,
     table: T,
+    path: GatheredPath<'a>,
     place: Place,
     needs: Needs,
 }
 
 impl<'a, T: Contents> Model for Machine<'a, T> {
-    ghost use Rattle.std.specs.Prelude.{None, map, vec_capacity};
+    ghost use Rattle.std.specs.Prelude.{map, vec_capacity};
     ghost use Rattle.mapping.specs.PlaceOf.{surface_of};
     ghost use Rattle.dc_stack.specs.MachineState.{MachineState};
-    ghost use Rattle.dc_stack.specs.Values.{ArePlacedOn, dc_value};
+    ghost use Rattle.dc_stack.specs.FitsSurface.{FitsSurface};
+    ghost use Rattle.dc_stack.specs.GatheredPath.{painted_of, path_of};
+    ghost use Rattle.dc_stack.specs.Values.{dc_value};
 
     ghost Value = { MachineState };
 
     ghost view = { λ m. record {
-      state = record { dc = dc_value m.dc; slots = T.slots m.table; table_kind = T.kind m.table; saved = map dc_value m.saved.items; path = None };
+      state = record { dc = dc_value m.dc; slots = T.slots m.table; table_kind = T.kind m.table; saved = map dc_value m.saved.items; path = path_of m.path };
+      painted = painted_of m.path;
       surface = surface_of m.place;
       needs = m.needs;
-      room = record { depth = vec_capacity m.saved; slots = T.room m.table };
+      room = record { depth = vec_capacity m.saved; slots = T.room m.table; pieces = vec_capacity m.path.pieces };
     } };
 
-    ghost invariant = { λ m. ArePlacedOn (surface_of m.place) m.dc m.saved.items };
+    ghost invariant = { λ m. FitsSurface (surface_of m.place) m.dc m.saved.items m.path };
 }
 
 impl<'a, T: Table<'a>> Machine<'a, T> {
@@ -66,6 +74,7 @@ impl<'a, T: Table<'a>> Machine<'a, T> {
         ensures state { result.state ≡ start_state (map_numbers opened.now.start_map) (T.kind table) }
         ensures surface { result.surface ≡ surface_of place }
         ensures needs { result.needs ≡ no_needs }
+        ensures painted { result.painted ≡ [] }
         ensures room { T.room table ≤ result.room.slots }
     {
         table.clear();
@@ -73,6 +82,7 @@ impl<'a, T: Table<'a>> Machine<'a, T> {
             dc: Dc::start(opened.start_map),
             saved: Vec::new(alloc),
             table,
+            path: GatheredPath::new(alloc),
             place,
             needs: Needs::none(),
         }
@@ -81,22 +91,24 @@ impl<'a, T: Table<'a>> Machine<'a, T> {
     /// Goes back to the start of a file, on the same surface. The room is kept.
     pub fn restart(&mut self, opened: &Opened<'_>)
         ensures state { self.new.state ≡ start_state (map_numbers opened.now.start_map) self.old.state.table_kind }
+        ensures painted { self.new.painted ≡ [] }
         ensures needs { self.new.needs ≡ no_needs }
         ensures goes_on { GoesOn self.old self.new }
     {
         self.dc = Dc::start(opened.start_map);
         self.saved.clear();
         self.table.clear();
+        self.path.abort();
         self.needs = Needs::none();
     }
 
-    /// Makes room for so many saved states, and for objects with indexes below `slots`, so that no step
-    /// within it wants memory: `OutOfMemory` where some was refused. No path is gathered yet, so pieces
-    /// take none.
-    pub fn reserve(&mut self, depth: usize, slots: usize, _pieces: usize) -> Result<(), Fault>
+    /// Makes room for so many saved states, for objects with indexes below `slots`, and for so many pieces
+    /// of a path, so that no step within it wants memory: `OutOfMemory` where some was refused.
+    pub fn reserve(&mut self, depth: usize, slots: usize, pieces: usize) -> Result<(), Fault>
         ensures depth { OnOk result (depth ≤ self.new.room.depth) }
         ensures slots { OnOk result (slots ≤ self.new.room.slots) }
-        ensures full { OnErr result (self.old.room.depth < depth ⊎ self.old.room.slots < slots) }
+        ensures pieces { OnOk result (pieces ≤ self.new.room.pieces) }
+        ensures full { OnErr result (self.old.room.depth < depth ⊎ (self.old.room.slots < slots ⊎ self.old.room.pieces < pieces)) }
         ensures refused { IfErr result (λ fault. fault ≡ OutOfMemory) }
         ensures unchanged { IsUnchanged self.old self.new }
         ensures goes_on { GoesOn self.old self.new }
@@ -105,20 +117,40 @@ impl<'a, T: Table<'a>> Machine<'a, T> {
         if depth > self.saved.capacity() && self.saved.reserve(depth - length).is_err() {
             return Err(Fault::OutOfMemory);
         }
+        if self.path.reserve(pieces).is_err() {
+            return Err(Fault::OutOfMemory);
+        }
         self.table.reserve(slots)
     }
 
     /// Plays one operation, and tells what it draws. The fault is the operation's first: of an object
     /// `TableFull`, `HandleTaken`, `NoSuchHandle`, `WrongKind` or `HeldObject`, of a saved state `DepthLimit`
-    /// or `NoSavedState`, `ZeroExtent`, `TooManyCuts`, `TooManyEdges`, `OffPlane`, or `Unsupported` with 0
-    /// of what isn't played yet. It is `OutOfMemory` where there was no room and memory was refused. After
-    /// a fault nothing has changed.
+    /// or `NoSavedState`, of a path `PathState` or `TooManyPieces`, `ZeroExtent`, `TooManyCuts`,
+    /// `TooManyEdges`, or `OffPlane`. It is `OutOfMemory` where there was no room and memory was refused.
+    /// After a fault nothing has changed.
     pub fn step(&mut self, op: Op<'a>) -> Result<Option<Draw<'a>>, Fault>
         ensures stepped { OnOk result (HasStepped (operation_of op.entry) self.old self.new) }
         ensures drawn { IfOk result (IsDrawingOf (operation_of op.entry) self.old self.new) }
-        ensures placed { IfOk result (λ draw. IfSome draw (IsPlacedDraw self.old.surface)) }
+        ensures placed { IfOk result (λ draw. IfSome draw (IsPlacedDraw self.old.surface self.new.painted)) }
+        ensures lent { IfOk result (λ draw. LendsPainted self.old draw self.new) }
         ensures refused { IfErr result (RefusesStep (operation_of op.entry) self.old) }
         ensures kept { OnErr result (IsUnchanged self.old self.new) }
+        ensures goes_on { GoesOn self.old self.new }
+    {
+        match self.play(op) {
+            Ok(drawn) => {
+                if !paints_path(drawn) {
+                    self.path.forget();
+                }
+                Ok(drawn)
+            }
+            Err(fault) => Err(fault),
+        }
+    }
+
+    /// Plays one operation. The pieces of a path that the step before painted may still be lent.
+    fn play(&mut self, op: Op<'a>) -> Result<Option<Draw<'a>>, Fault>
+        ensures plays { Plays (operation_of op.entry) self.old result self.new }
         ensures goes_on { GoesOn self.old self.new }
     {
         match op {
@@ -150,15 +182,21 @@ impl<'a, T: Table<'a>> Machine<'a, T> {
             Op::Select(handle) => self.select(handle),
             Op::SelectPalette(handle) => self.select_palette(handle),
             Op::Delete(handle) => self.delete(handle),
-            // Not played yet: so it is refused, by the definition too.
-            Op::BeginPath
-            | Op::EndPath
-            | Op::CloseFigure
-            | Op::AbortPath
-            | Op::FillPath
-            | Op::StrokePath
-            | Op::StrokeAndFillPath => Err(Fault::Unsupported(0)),
+            Op::BeginPath => self.begin_path(),
+            Op::EndPath => self.end_path(),
+            Op::CloseFigure => self.close_figure(),
+            Op::AbortPath => self.abort_path(),
+            Op::FillPath => self.paint_path(Painting::Fill),
+            Op::StrokePath => self.paint_path(Painting::Stroke),
+            Op::StrokeAndFillPath => self.paint_path(Painting::StrokeAndFill),
         }
+    }
+
+    /// The pieces of the path that the last accepted step painted, or none where it painted none.
+    pub fn painted(&self) -> &[Piece<'a>]
+        ensures { result.now ≡ self.now.painted }
+    {
+        self.path.painted()
     }
 
     /// What drawings depend on. The boxes of its clip are placed on the machine's surface.

@@ -13,7 +13,7 @@ pub struct Needs {
 }
 
 impl Needs {
-    ghost use Rattle.dc_stack.specs.Needs.{depth_needed, greater_needs, no_needs, points_needed, slots_needed};
+    ghost use Rattle.dc_stack.specs.Needs.{depth_needed, greater_needs, no_needs, pieces_needed, points_needed, slots_needed};
 
     /// Nothing is needed.
     pub(crate) fn none() -> Needs
@@ -47,5 +47,12 @@ impl Needs {
         ensures { self.new ≡ greater_needs self.old (points_needed edges) }
     {
         self.edges = self.edges.max(edges);
+    }
+
+    /// Raises how many pieces a path has at a time to this, if it is more.
+    pub(crate) fn raise_pieces(&mut self, pieces: u32)
+        ensures { self.new ≡ greater_needs self.old (pieces_needed pieces) }
+    {
+        self.pieces = self.pieces.max(pieces);
     }
 }

@@ -16,12 +16,13 @@ ghost use Rattle.dc_stack.specs.Boxes.{HasAllOf, HasPoint};
 ghost use Rattle.dc_stack.specs.Placing.{HasAllPlaced, IsLandingOf, joined_plane_list, plane_list};
 
 use crate::clip::{ClipBox, between, greater, lesser};
+use crate::path::NOWHERE;
 use draw_ops::Fault;
 use mapping::{PageMap, Place, Point, Rect, placing_law};
 use point_views::{Points, Polys};
 
 /// How many points one drawing has at most.
-const MAX_EDGES: usize = 1_048_576;
+pub(crate) const MAX_EDGES: usize = 1_048_576;
 
 /// A point of the plane, and where it lands.
 #[derive(Clone, Copy, Debug, PartialEq, Eq)]
@@ -78,7 +79,12 @@ pub(crate) fn land_pair(
 
 /// The box around some page points where they land and what an earlier box has, or `OffPlane` where one of
 /// them doesn't land.
-fn land_all(map: &PageMap, place: Place, points: Points<'_>, before: Rect) -> Result<Rect, Fault>
+pub(crate) fn land_all(
+    map: &PageMap,
+    place: Place,
+    points: Points<'_>,
+    before: Rect,
+) -> Result<Rect, Fault>
     ensures fault { result_err result ≡ off_plane_fault (plane_list map.now (points_of points.entry)) (surface_of place) }
     ensures all { IfOk result (λ bounds. HasAllPlaced bounds place (plane_list map.now (points_of points.entry))) }
     ensures more { IfOk result (λ bounds. HasAllOf bounds before) }
@@ -94,7 +100,7 @@ fn land_all(map: &PageMap, place: Place, points: Points<'_>, before: Rect) -> Re
 }
 
 /// The box that has a point beside what another has.
-fn grown(before: Rect, point: Point) -> Rect
+pub(crate) fn grown(before: Rect, point: Point) -> Rect
     ensures point { HasPoint result point }
     ensures more { HasAllOf result before }
 {
@@ -112,14 +118,6 @@ pub(crate) struct Extent {
     pub(crate) count: u32,
     pub(crate) bounds: Rect,
 }
-
-/// The box of no point.
-const NOWHERE: Rect = Rect {
-    l: i32::MAX,
-    t: i32::MAX,
-    r: i32::MIN,
-    b: i32::MIN,
-};
 
 /// How many points some lists have and where they land: `TooManyEdges` where they have more than one
 /// drawing may, and then `OffPlane` where one of them doesn't land.

@@ -12,3 +12,9 @@ pub mod OutlineLemmas
 pub mod DrawingLemmas
 pub mod DotLemmas
 pub mod RectangleLemmas
+pub mod MoveLemmas
+pub mod PieceLemmas
+pub mod FigureLemmas
+pub mod PaintedFigureLemmas
+pub mod WorkedPaths
+pub mod WorkedFigures

@@ -22,11 +22,11 @@ use Rattle.player.specs.declared.list_lines.Ends.{Ends}
 use Rattle.player.specs.declared.list_lines.Ends.TheVariants.{Open, Closed}
 
 -- the parts of two lists whose elements all have a fact
-all_front : {X : Type 0} (P : X → Type 0) (xs ys : List X) → All P (xs ++ ys) → All P xs
+pub all_front : {X : Type 0} (P : X → Type 0) (xs ys : List X) → All P (xs ++ ys) → All P xs
 all_front P [] ys h = All-nil P
 all_front P (x ∷ xs) ys h = All-cons P x xs (All-head P x (xs ++ ys) h) (all_front P xs ys (All-tail P x (xs ++ ys) h))
 
-all_behind : {X : Type 0} (P : X → Type 0) (xs ys : List X) → All P (xs ++ ys) → All P ys
+pub all_behind : {X : Type 0} (P : X → Type 0) (xs ys : List X) → All P (xs ++ ys) → All P ys
 all_behind P [] ys h = h
 all_behind P (x ∷ xs) ys h = all_behind P xs ys (All-tail P x (xs ++ ys) h)
 
@@ -49,7 +49,7 @@ module _ (box : Rect) where
       let others = All-tail (HasPoint box) q qs k in
       All-cons (LiesBetween box.t box.b) (line_from p q) (lines_round first q qs) (lies p q h next) (lines_round_lie first q qs f next others)
 
-  list_lies : (ends : Ends) (ps : List Point) → HasAll box ps → All (LiesBetween box.t box.b) (lines_between ends ps)
+  pub list_lies : (ends : Ends) (ps : List Point) → HasAll box ps → All (LiesBetween box.t box.b) (lines_between ends ps)
   list_lies Open [] h = All-nil (LiesBetween box.t box.b)
   list_lies Open (p ∷ ps) h = lines_after_lie p ps (All-head (HasPoint box) p ps h) (All-tail (HasPoint box) p ps h)
   list_lies Closed [] h = All-nil (LiesBetween box.t box.b)
@@ -70,7 +70,7 @@ joined_placed s (ps ∷ ls) =
 
 module _ (by : Projection) where
   -- points of the page land where their points of the plane do
-  placed_list_of : (ps : List Point) → projected_list by ps ≡ placed_list (surface_of by.place) (mapped_list (map_numbers by.map) ps)
+  pub placed_list_of : (ps : List Point) → projected_list by ps ≡ placed_list (surface_of by.place) (mapped_list (map_numbers by.map) ps)
   placed_list_of [] = refl
   placed_list_of (p ∷ ps) = ap (λ (rest : List Point). projected by p ∷ rest) (placed_list_of ps)
 

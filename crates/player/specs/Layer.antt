@@ -2,13 +2,13 @@
 use Rattle.std.specs.Prelude.{List, [], ◌∷◌, ◌++◌, Option, Some, None}
 use Rattle.draw_ops.specs.Operation.{Operation}
 use Rattle.dc_stack.specs.Clip.{ClipValue}
-use Rattle.dc_stack.specs.Drawing.{Drawing, Mark, Tools, dot, drawing_of, lines_through, polygons_of, rectangle_between}
+use Rattle.dc_stack.specs.Drawing.{Drawing, Mark, Tools, along_figures, dot, drawing_of, insides_of, lines_through, polygons_of, rectangle_between}
 use Rattle.draw_ops.specs.Objects.{BrushValue, hatched_brush, null_brush, solid_brush, tile_brush}
 use Rattle.draw_ops.specs.declared.objects.Pen.{Pen}
 use Rattle.draw_ops.specs.declared.objects.Pen.TheVariants.{Null, Solid}
 use Rattle.player.specs.Mixing.{Mixing, binary, copied}
 use Rattle.player.specs.Paint.{Paint, brushed, solid}
-use Rattle.player.specs.Shape.{Shape, inside_polygons, inside_rectangle, on_lines, pixel_under, round_polygons, round_rectangle}
+use Rattle.player.specs.Shape.{Shape, along, inside_polygons, inside_rectangle, on_lines, pixel_under, round_polygons, round_rectangle}
 use Rattle.dc_stack.specs.State.{State}
 
 -- which pixels, in which paint, joined how, within which clip
@@ -51,6 +51,8 @@ abbrev pub fills_of : Mark → Tools → List Layer
 fills_of (dot point colour) tools = []
 fills_of (lines_through lists) tools = []
 fills_of (polygons_of lists) tools = filled (inside_polygons tools.modes.fill_mode lists) tools
+fills_of (insides_of lists) tools = filled (inside_polygons tools.modes.fill_mode lists) tools
+fills_of (along_figures figures) tools = []
 fills_of (rectangle_between p q edges) tools = filled (inside_rectangle p q edges) tools
 
 -- its outline, which a pen strokes: a dot has none
@@ -58,6 +60,8 @@ abbrev pub outlines_of : Mark → Tools → List Layer
 outlines_of (dot point colour) tools = []
 outlines_of (lines_through lists) tools = stroked (on_lines lists) tools
 outlines_of (polygons_of lists) tools = stroked (round_polygons lists) tools
+outlines_of (insides_of lists) tools = []
+outlines_of (along_figures figures) tools = stroked (along figures) tools
 outlines_of (rectangle_between p q edges) tools = stroked (round_rectangle p q edges) tools
 
 -- a dot is a pixel in its own colour, whatever is there
@@ -65,6 +69,8 @@ abbrev pub dots_of : Mark → Tools → List Layer
 dots_of (dot point colour) tools = record { shape = pixel_under point; paint = solid colour; mixing = copied; clip = tools.clip } ∷ []
 dots_of (lines_through lists) tools = []
 dots_of (polygons_of lists) tools = []
+dots_of (insides_of lists) tools = []
+dots_of (along_figures figures) tools = []
 dots_of (rectangle_between p q edges) tools = []
 
 -- what of it is drawn above what is filled: a dot or an outline

@@ -1,6 +1,12 @@
 pub mod Outlines
 pub mod Rectangles
+pub mod FigureLines
 pub mod Shape
+pub mod FewPoints
+pub mod Moves
+pub mod PieceParts
+pub mod MovesToCome
+pub mod FiguresToCome
 pub mod Paint
 pub mod Mixing
 pub mod Layer

@@ -8,10 +8,10 @@ ghost use Rattle.dc_stack.specs.MachineState.{drawing_with};
 ghost use Rattle.draw_ops.specs.declared.objects.Pen.TheVariants.{Solid};
 ghost use Rattle.player.specs.Layer.{fills_of, outlines_of, strokes_of};
 ghost use Rattle.player.specs.Plays.{DrawsDrawing, DrawsLayers, IsWhole, SameRows};
-ghost use Rattle.player.specs.Shape.{fill_rule_of};
 
 use crate::dots::put;
-use crate::filling::{fill_box, fill_lines};
+use crate::figures::{fill_figures, stroke_figures};
+use crate::filling::{fill_box, fill_lines, rule_of};
 use crate::list_lines::Ends;
 use crate::paint::Paint;
 use crate::placed_lines::PlacedLines;
@@ -20,10 +20,10 @@ use crate::regions::whole_law;
 use crate::stroking::{stroke_box, stroke_line, stroke_lines};
 use canvas::{Canvas, writing_law};
 use dc_stack::{Draw, Machine};
-use draw_ops::{Brush, FillMode, Pen};
+use draw_ops::{Brush, Pen};
 use mapping::Colour;
 use object_tables::Table;
-use span_fill::{FillRule, Line, OutOfMemory, Outline, RowBuf};
+use span_fill::{Line, OutOfMemory, Outline, RowBuf};
 
 /// Draws what a step of the machine draws, if it draws, with the tools of its moment. The count of
 /// writes has room for two layers of a surface of 2^26 pixels. Memory may be refused for the lines of a drawing for
@@ -36,8 +36,8 @@ pub(crate) fn draw<'a, T: Table<'a>>(
 ) -> Result<(), OutOfMemory>
     requires whole { IsWhole canvas.old machine.now.surface }
     requires countable { canvas.old.writes + 2 ^ 28 < 2 ^ 64 }
-    requires placed { IfSome step (IsPlacedDraw machine.now.surface) }
-    ensures drawn { OnOk result (DrawsDrawing (option_map (drawing_with machine.now.state.dc) step.entry) machine.now.surface canvas.old canvas.new) }
+    requires placed { IfSome step (IsPlacedDraw machine.now.surface machine.now.painted) }
+    ensures drawn { OnOk result (DrawsDrawing (option_map (drawing_with machine.now) step.entry) machine.now.surface canvas.old canvas.new) }
     ensures memory { OnErr result (rows.old.room < edge_limit) }
     ensures rows { SameRows canvas.old canvas.new }
     ensures few { canvas.new.writes ≤ canvas.old.writes + 2 ^ 27 }
@@ -59,8 +59,8 @@ fn fill<'a, T: Table<'a>>(
 ) -> Result<(), OutOfMemory>
     requires whole { IsWhole canvas.old machine.now.surface }
     requires countable { canvas.old.writes + 2 ^ 27 < 2 ^ 64 }
-    requires placed { IsPlacedDraw machine.now.surface drawn }
-    ensures drawn { OnOk result (DrawsLayers (fills_of (mark_of drawn.entry) (tools_of machine.now.state.dc)) machine.now.surface canvas.old canvas.new) }
+    requires placed { IsPlacedDraw machine.now.surface machine.now.painted drawn }
+    ensures drawn { OnOk result (DrawsLayers (fills_of (mark_of machine.now.painted drawn.entry) (tools_of machine.now.state.dc)) machine.now.surface canvas.old canvas.new) }
     ensures memory { OnErr result (rows.old.room < edge_limit) }
     ensures rows { SameRows canvas.old canvas.new }
     ensures few { canvas.new.writes ≤ canvas.old.writes + 2 ^ 26 }
@@ -88,6 +88,12 @@ fn fill<'a, T: Table<'a>>(
             let inside = rectangle_box(first.placed, second.placed, edges);
             fill_box(canvas, inside, &paint);
         }
+        Draw::Path {
+            painting,
+            place,
+            count,
+            bounds,
+        } => return fill_figures(painting, place, count, bounds, machine, rows, canvas),
         Draw::Dot { .. } | Draw::Line { .. } | Draw::LinesFrom { .. } | Draw::Polylines { .. } => {}
     }
     Ok(())
@@ -102,8 +108,8 @@ fn stroke<'a, T: Table<'a>>(
 ) -> Result<(), OutOfMemory>
     requires whole { IsWhole canvas.old machine.now.surface }
     requires countable { canvas.old.writes + 2 ^ 27 < 2 ^ 64 }
-    requires placed { IsPlacedDraw machine.now.surface drawn }
-    ensures drawn { OnOk result (DrawsLayers (strokes_of (mark_of drawn.entry) (tools_of machine.now.state.dc)) machine.now.surface canvas.old canvas.new) }
+    requires placed { IsPlacedDraw machine.now.surface machine.now.painted drawn }
+    ensures drawn { OnOk result (DrawsLayers (strokes_of (mark_of machine.now.painted drawn.entry) (tools_of machine.now.state.dc)) machine.now.surface canvas.old canvas.new) }
     ensures memory { OnErr result (rows.old.room < edge_limit) }
     ensures rows { SameRows canvas.old canvas.new }
     ensures few { canvas.new.writes ≤ canvas.old.writes + 2 ^ 26 }
@@ -132,9 +138,9 @@ fn stroke_outline<'a, T: Table<'a>>(
 ) -> Result<(), OutOfMemory>
     requires whole { IsWhole canvas.old machine.now.surface }
     requires countable { canvas.old.writes + 2 ^ 27 < 2 ^ 64 }
-    requires placed { IsPlacedDraw machine.now.surface drawn }
+    requires placed { IsPlacedDraw machine.now.surface machine.now.painted drawn }
     requires pen { machine.now.state.dc.selected.pen.object ≡ Solid colour }
-    ensures drawn { OnOk result (DrawsLayers (outlines_of (mark_of drawn.entry) (tools_of machine.now.state.dc)) machine.now.surface canvas.old canvas.new) }
+    ensures drawn { OnOk result (DrawsLayers (outlines_of (mark_of machine.now.painted drawn.entry) (tools_of machine.now.state.dc)) machine.now.surface canvas.old canvas.new) }
     ensures memory { OnErr result (rows.old.room < edge_limit) }
     ensures rows { SameRows canvas.old canvas.new }
     ensures few { canvas.new.writes ≤ canvas.old.writes + 2 ^ 26 }
@@ -182,16 +188,14 @@ fn stroke_outline<'a, T: Table<'a>>(
             rows.reserve(4)?;
             stroke_box(canvas, rows, inside, &paint);
         }
+        Draw::Path {
+            painting,
+            place,
+            count,
+            bounds,
+        } => return stroke_figures(
+            painting, place, count, bounds, colour, machine, rows, canvas,
+        ),
     }
     Ok(())
-}
-
-/// The rule of a fill mode.
-fn rule_of(mode: FillMode) -> FillRule
-    ensures { result ≡ fill_rule_of mode }
-{
-    match mode {
-        FillMode::Alternate => FillRule::EvenOdd,
-        FillMode::Winding => FillRule::NonZero,
-    }
 }

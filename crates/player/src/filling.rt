@@ -7,11 +7,13 @@ ghost use Rattle.dc_stack.specs.Clip.{in_box};
 ghost use Rattle.span_fill.specs.Fill.{in_fill};
 ghost use Rattle.span_fill.specs.RowLaws.{LiesBetween};
 ghost use Rattle.player.specs.Painted.{made, paints};
+ghost use Rattle.player.specs.Shape.{fill_rule_of};
 
 use crate::paint::Paint;
 use crate::regions::{common, rows_between, visible};
 use crate::strips::{put_spans, put_uncut};
 use canvas::{Canvas, writing_law};
+use draw_ops::FillMode;
 use mapping::Rect;
 use span_fill::{FillRule, Outline, RowBuf, row_law};
 
@@ -68,5 +70,15 @@ pub(crate) fn fill_box(canvas: &mut Canvas, inside: Rect, paint: &Paint<'_, '_>)
             drawn.columns.to,
             paint.clip.cut_boxes(),
         );
+    }
+}
+
+/// The rule of a fill mode.
+pub(crate) fn rule_of(mode: FillMode) -> FillRule
+    ensures { result ≡ fill_rule_of mode }
+{
+    match mode {
+        FillMode::Alternate => FillRule::EvenOdd,
+        FillMode::Winding => FillRule::NonZero,
     }
 }

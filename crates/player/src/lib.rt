@@ -6,22 +6,26 @@
 //!   written (`play_file`, over white, by `Run` and `Writes`; `play_on`, from any state and over what a
 //!   canvas shows, by `PlaysRecords`).
 //! - A refused file has that fault first, in that record (`play_file`, by `Refused`; `play_on`, by
-//!   `StopsRecordsBy`), or it opens and memory for its canvas or its machine was refused (`play_file`,
-//!   by `WantsMemory`).
-//! - Playing on a machine with full room and a canvas that is there is never refused for memory
-//!   (`play_on`).
+//!   `StopsRecordsBy`), or it opens and memory for its canvas, its machine or the lines of a drawing was
+//!   refused (`play_file`, by `WantsMemory`).
+//! - Playing on a machine with full room, with rows that have room for any drawing, and on a canvas that
+//!   is there is never refused for memory (`play_on`).
 //! - A run ends in one way, and whether it is refused doesn't depend on the image that it starts
 //!   from (`run_law`).
 #![tactic(auto)]
 
 mod dots;
 mod drawing;
+mod figures;
 mod file_table;
 mod filling;
 mod laws;
 mod line_steps;
 mod list_lines;
+mod moves;
 mod paint;
+mod path_moves;
+mod piece_lines;
 mod placed_lines;
 mod play;
 mod rectangles;

@@ -14,7 +14,7 @@ use crate::drawing::draw;
 use crate::file_table::{FileTable, full_slots};
 use crate::refusal::Refusal;
 use canvas::Canvas;
-use dc_stack::{MAX_SAVED_STATES, Machine, fault_law, room_law};
+use dc_stack::{MAX_PIECES, MAX_SAVED_STATES, Machine, fault_law, room_law};
 use draw_ops::{Fault, OpSource};
 use mapping::{Colour, Place};
 use meta_headers::{Opened, open_file};
@@ -64,7 +64,10 @@ fn play_opened(alloc: Global, opened: &Opened<'_>, canvas: &mut Canvas) -> Resul
     let table = FileTable::new(alloc, opened.handles);
     let mut machine = Machine::new(alloc, opened, place, table);
     let slots = full_slots(opened.handles);
-    if machine.reserve(MAX_SAVED_STATES, slots, 0).is_err() {
+    if machine
+        .reserve(MAX_SAVED_STATES, slots, MAX_PIECES)
+        .is_err()
+    {
         return Err(Refusal::of_file(Fault::OutOfMemory));
     }
     let mut rows = RowBuf::new(alloc);

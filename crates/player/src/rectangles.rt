@@ -54,7 +54,7 @@ pub(crate) fn rectangle_box(first: Point, second: Point, edges: RectangleEdges) 
 }
 
 /// The box between two placed corners, whichever of them comes first.
-fn between(first: Point, second: Point) -> Rect
+pub(crate) fn between(first: Point, second: Point) -> Rect
     requires first { FitsPlace first }
     requires second { FitsPlace second }
     ensures value { result ≡ box_between first second }

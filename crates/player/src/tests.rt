@@ -7,6 +7,7 @@ mod headers;
 mod lists_of_points;
 mod machines;
 mod notes;
+mod paths;
 mod places;
 mod playing;
 mod playing_on;

@@ -1,7 +1,7 @@
 -- A list cut into lists: how many, and where the list at an index stands.
-use Rattle.std.proofs.Common.{◌≡◌, ℕ, zero, suc, ◌+◌, ◌≤◌, List, [], ◌∷◌, ◌++◌, map, length, take, drop, sum, refl, sym, ap, ◌∙◌, arith, Some}
+use Rattle.std.proofs.Common.{◌≡◌, ℕ, zero, suc, ◌+◌, ◌-◌, ◌≤◌, List, [], ◌∷◌, ◌++◌, map, length, take, drop, sum, refl, sym, ap, ◌∙◌, arith, Some}
 use Rattle.std.specs.List.{slice_get, slice_range, flat_map}
-use Rattle.std.proofs.lemmas.List.{drop-drop, length-take, length-take-le, length-drop, nil_from_length, take-append-drop}
+use Rattle.std.proofs.lemmas.List.{drop-drop, length-take, length-take-le, length-drop, nil_from_length, take-append-drop, take_all}
 use Rattle.std.proofs.lemmas.List.Sums.{sum_by-cons, sum_by_more, sum_by_more_le}
 use Rattle.std.proofs.lemmas.Option.{same_Some, slice_get_within, get_or_from_slice_get}
 use Rattle.point_views.specs.Split.{split_by}
@@ -35,6 +35,15 @@ sum_next_within counts k count at_k =
 sum_after_first : (counts : List ℕ) (first : ℕ) → slice_get counts 0 ≡ Some first → sum counts ≡ first + sum (drop 1 counts)
 sum_after_first [] first at_0 = cc
 sum_after_first (count ∷ counts) first at_0 = sum_by-cons (λ x. x) count counts ∙ ap (λ n. n + sum counts) (same_Some count first at_0)
+
+-- the first list, and the lists that the counts after the first cut from the items after it
+pub split_by-first : {A : Type 0} (counts : List ℕ) (items : List A) (first end : ℕ) → slice_get counts 0 ≡ Some first → end ≡ length items → split_by counts items ≡ slice_range items 0 first ∷ split_by (drop 1 counts) (slice_range items first end)
+split_by-first [] items first end at_0 ends = cc
+split_by-first (count ∷ counts) items first end at_0 ends =
+    let same = same_Some count first at_0 in
+    let whole = take_all (end - first) (drop first items) (simp length-drop (omega (arith, ends))) in
+    let start : first ≡ first - 0 = omega arith in
+    rw (same, whole) (ap (λ n. take n items ∷ split_by counts (drop first items)) start)
 
 -- the counts after the first add up to the items after the first list
 pub sum_of_rest : {A : Type 0} (counts : List ℕ) (items : List A) (first end : ℕ) → slice_get counts 0 ≡ Some first → end ≡ length items → sum counts ≡ length items → sum (drop 1 counts) ≡ length (slice_range items first end)

@@ -9,6 +9,10 @@ abbrev pub counts_in : NumberWidth → ℕ → List ℕ → List ℕ
 counts_in width zero bytes = []
 counts_in width (suc n) bytes = unsigned_number width bytes ∷ counts_in width n (drop (number_size width) bytes)
 
--- the counts of a view: as many as its bytes hold
+-- all counts in the bytes: as many as they hold
+abbrev pub all_counts_in : NumberWidth → List ℕ → List ℕ
+all_counts_in width bytes = counts_in width (length bytes / number_size width) bytes
+
+-- the counts of a view: all in its bytes
 abbrev pub counts_of : Counts → List ℕ
-counts_of counts = counts_in counts.width (length counts.bytes.now / number_size counts.width) counts.bytes.now
+counts_of counts = all_counts_in counts.width counts.bytes.now

@@ -10,6 +10,10 @@ abbrev pub points_in : NumberWidth → ℕ → List ℕ → List Point
 points_in width zero bytes = []
 points_in width (suc n) bytes = first_point width bytes ∷ points_in width n (drop (point_size width) bytes)
 
--- the points of a view: as many as its bytes hold
+-- all points in the bytes: as many as they hold
+abbrev pub all_points_in : NumberWidth → List ℕ → List Point
+all_points_in width bytes = points_in width (length bytes / point_size width) bytes
+
+-- the points of a view: all in its bytes
 abbrev pub points_of : Points → List Point
-points_of points = points_in points.width (length points.bytes.now / point_size points.width) points.bytes.now
+points_of points = all_points_in points.width points.bytes.now

@@ -1,35 +1,79 @@
 //! Points cut into lists.
 
-ghost use Rattle.std.specs.Prelude.{◌≡◌, ◌<◌, ◌↔◌, [], ◌∷◌, length, sum, IsTrue, Some, slice_get};
-ghost use Rattle.point_views.specs.Counts.{counts_of};
-ghost use Rattle.point_views.specs.Points.{points_of};
+ghost use Rattle.std.specs.Prelude.{◌≡◌, ◌%◌, ◌<◌, ◌↔◌, [], ◌∷◌, length, sum, IsTrue, Some, slice_get};
+ghost use Rattle.point_views.specs.Numbers.{number_size, point_size};
+ghost use Rattle.point_views.specs.Counts.{all_counts_in, counts_of};
+ghost use Rattle.point_views.specs.Points.{all_points_in, points_of};
 
 use crate::counts::Counts;
+use crate::numbers::NumberWidth;
 use crate::points::Points;
 
-/// Points cut into lists, one after another, as many points in each as its count says.
+/// Points cut into lists, one after another, as many points in each as its count says. It keeps the
+/// fields of a `Counts` and a `Points` rather than the two of them, since each would pad its width
+/// to a whole word.
 ///
 /// # Guarantees
 ///
+/// - `count_bytes` holds the counts and nothing else, and `point_bytes` the points.
 /// - The counts add up to the number of points.
 #[derive(Clone, Copy, Debug, PartialEq, Eq)]
 pub struct PartedPoints<'a> {
-    pub counts: Counts<'a>,
-    pub points: Points<'a>,
-    pub ghost complete: { sum (counts_of counts) ≡ length (points_of points) },
+    /// The counts' bytes.
+    pub count_bytes: &'a [u8],
+    /// The points' bytes.
+    pub point_bytes: &'a [u8],
+    /// How wide each count is.
+    pub count_width: NumberWidth,
+    /// How wide each coordinate is.
+    pub point_width: NumberWidth,
+    pub ghost whole_counts: { length count_bytes.now % number_size count_width ≡ 0 },
+    pub ghost whole_points: { length point_bytes.now % point_size point_width ≡ 0 },
+    pub ghost complete: { sum (all_counts_in count_width count_bytes.now) ≡ length (all_points_in point_width point_bytes.now) },
 }
 
 #[tactic(auto, using(crate::proofs::SplitLemmas::splits, crate::proofs::SplitLemmas::sums, crate::proofs::PointLemmas::points))]
 impl<'a> PartedPoints<'a> {
     ghost use Rattle.point_views.specs.PartedPoints.{parts_of};
+    ghost use Rattle.point_views.specs.Split.{split_by};
+
+    /// The points cut as the counts say.
+    pub(crate) fn new(counts: Counts<'a>, points: Points<'a>) -> PartedPoints<'a>
+        requires complete { sum (counts_of counts) ≡ length (points_of points) }
+        ensures { parts_of result ≡ split_by (counts_of counts.entry) (points_of points.entry) }
+    {
+        PartedPoints {
+            count_bytes: counts.bytes,
+            point_bytes: points.bytes,
+            count_width: counts.width,
+            point_width: points.width,
+        }
+    }
 
     /// No points, cut into no lists.
     pub(crate) fn empty() -> PartedPoints<'a>
         ensures { parts_of result ≡ [] }
     {
-        PartedPoints {
-            counts: Counts::empty(),
-            points: Points::empty(),
+        PartedPoints::new(Counts::empty(), Points::empty())
+    }
+
+    /// How many points each list has.
+    pub fn counts(self) -> Counts<'a>
+        ensures { counts_of result ≡ all_counts_in self.entry.count_width self.entry.count_bytes.now }
+    {
+        Counts {
+            bytes: self.count_bytes,
+            width: self.count_width,
+        }
+    }
+
+    /// All points, one list's after another's.
+    pub fn points(self) -> Points<'a>
+        ensures { points_of result ≡ all_points_in self.entry.point_width self.entry.point_bytes.now }
+    {
+        Points {
+            bytes: self.point_bytes,
+            width: self.point_width,
         }
     }
 
@@ -37,14 +81,14 @@ impl<'a> PartedPoints<'a> {
     pub(crate) fn len(self) -> usize
         ensures { result ≡ length (parts_of self.entry) }
     {
-        self.counts.len()
+        self.counts().len()
     }
 
     /// Whether there is no list.
     pub(crate) fn is_empty(self) -> bool
         ensures { IsTrue result ↔ (parts_of self.entry ≡ []) }
     {
-        self.counts.is_empty()
+        self.counts().is_empty()
     }
 
     /// The list at an index.
@@ -52,8 +96,9 @@ impl<'a> PartedPoints<'a> {
         requires { k < length (parts_of self) }
         ensures { slice_get (parts_of self.entry) k ≡ Some (points_of result) }
     {
-        let start = self.counts.sum_before(k);
-        self.points.part(start, start + self.counts.get(k) as usize)
+        let counts = self.counts();
+        let start = counts.sum_before(k);
+        self.points().part(start, start + counts.get(k) as usize)
     }
 
     /// The first list, and the lists after it.
@@ -61,11 +106,14 @@ impl<'a> PartedPoints<'a> {
         requires { 0 < length (parts_of self) }
         ensures { parts_of self.entry ≡ points_of result.0 ∷ parts_of result.1 }
     {
-        let end = self.counts.get(0) as usize;
-        let rest = PartedPoints {
-            counts: self.counts.after_first(),
-            points: self.points.part(end, self.points.len()),
-        };
-        (self.points.part(0, end), rest)
+        let counts = self.counts();
+        let points = self.points();
+        let end = counts.get(0) as usize;
+        let after = points.part(end, points.len());
+        let rest = PartedPoints::new(counts.after_first(), after);
+        (points.part(0, end), rest)
     }
 }
+
+// A piece of a path keeps one beside a page map.
+const _: () = prove!(size_of::<PartedPoints<'static>>() <= 40);

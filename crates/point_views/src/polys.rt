@@ -52,7 +52,7 @@ impl<'a> Polys<'a> {
         if counts.sum_within(points.len()) != Some(points.len()) {
             return None;
         }
-        Some(Polys::Parted(PartedPoints { counts, points }))
+        Some(Polys::Parted(PartedPoints::new(counts, points)))
     }
 
     /// How many lists.
@@ -82,7 +82,7 @@ impl<'a> Polys<'a> {
     {
         match self {
             Polys::One(points) => points,
-            Polys::Parted(parted) => parted.points,
+            Polys::Parted(parted) => parted.points(),
         }
     }
 
@@ -122,3 +122,6 @@ impl<'a> Polys<'a> {
         Lists { rest: self }
     }
 }
+
+// An operation that draws holds one.
+const _: () = prove!(size_of::<Polys<'static>>() <= 48);

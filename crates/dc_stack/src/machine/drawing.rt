@@ -1,16 +1,20 @@
 //! Steps that draw.
 
-ghost use Rattle.std.specs.Prelude.{◌≡◌};
+ghost use Rattle.std.specs.Prelude.{◌≡◌, [], ◌∷◌};
 ghost use Rattle.mapping.specs.PageMap.{map_numbers};
 ghost use Rattle.mapping.specs.PlaceOf.{surface_of};
 ghost use Rattle.draw_ops.specs.Operation.{line_to, pixel, polygon, polyline, polyline_to, rectangle};
 ghost use Rattle.point_views.specs.Points.{points_of};
 ghost use Rattle.point_views.specs.Polys.{lists_of};
+ghost use Rattle.dc_stack.specs.Drawing.{going_on, lines_through, polygons_of, rectangle_between};
+ghost use Rattle.dc_stack.specs.DrawsApart.{DrawsApart};
 ghost use Rattle.dc_stack.specs.MachineState.{GoesOn, Plays};
+ghost use Rattle.dc_stack.specs.Mapped.{left_top, mapped_lists, right_bottom};
 ghost use Rattle.dc_stack.specs.Next.{end_of};
 
 use crate::draw::Draw;
 use crate::machine::Machine;
+use crate::piece::{Joining, PiecePoints};
 use crate::placing::{land, land_lists, land_pair, land_through, left_top_of, right_bottom_of};
 use crate::projection::Projection;
 use draw_ops::{Fault, RectangleEdges};
@@ -30,9 +34,75 @@ impl<'a, T: Table<'a>> Machine<'a, T> {
         }
     }
 
-    /// Draws a line from the position to a point, which is then the position.
+    /// Draws a line from the position to a point, which is then the position, or adds it to an open path.
     pub(super) fn line_to(&mut self, point: Point) -> Result<Option<Draw<'a>>, Fault>
         ensures plays { Plays (line_to point) self.old result self.new }
+        ensures goes_on { GoesOn self.old self.new }
+    {
+        if self.path.is_open() {
+            self.add_lines(PiecePoints::Point(point), point)
+        } else {
+            self.draw_line(point)
+        }
+    }
+
+    /// Draws a rectangle, or adds it to an open path.
+    pub(super) fn rectangle(
+        &mut self,
+        corners: Rect,
+        edges: RectangleEdges,
+    ) -> Result<Option<Draw<'a>>, Fault>
+        ensures plays { Plays (rectangle corners edges) self.old result self.new }
+        ensures goes_on { GoesOn self.old self.new }
+    {
+        if self.path.is_open() {
+            self.add_lists(PiecePoints::Corners(corners), Joining::Polygons)
+        } else {
+            self.draw_rectangle(corners, edges)
+        }
+    }
+
+    /// Draws lines from point to point, for each list, or adds them to an open path.
+    pub(super) fn polyline(&mut self, lists: Polys<'a>) -> Result<Option<Draw<'a>>, Fault>
+        ensures plays { Plays (polyline (lists_of lists.entry)) self.old result self.new }
+        ensures goes_on { GoesOn self.old self.new }
+    {
+        if self.path.is_open() {
+            self.add_lists(PiecePoints::of(lists), Joining::Polylines)
+        } else {
+            self.draw_polylines(lists)
+        }
+    }
+
+    /// Draws polygons, one for each list, or adds them to an open path.
+    pub(super) fn polygon(&mut self, lists: Polys<'a>) -> Result<Option<Draw<'a>>, Fault>
+        ensures plays { Plays (polygon (lists_of lists.entry)) self.old result self.new }
+        ensures goes_on { GoesOn self.old self.new }
+    {
+        if self.path.is_open() {
+            self.add_lists(PiecePoints::of(lists), Joining::Polygons)
+        } else {
+            self.draw_polygons(lists)
+        }
+    }
+
+    /// Draws lines from the position through points, of which the last is then the position, or adds them to
+    /// an open path.
+    pub(super) fn polyline_to(&mut self, points: Points<'a>) -> Result<Option<Draw<'a>>, Fault>
+        ensures plays { Plays (polyline_to (points_of points.entry)) self.old result self.new }
+        ensures goes_on { GoesOn self.old self.new }
+    {
+        if self.path.is_open() {
+            let end = end_of(self.dc.position, points);
+            self.add_lines(PiecePoints::List(points), end)
+        } else {
+            self.draw_lines(points)
+        }
+    }
+
+    /// Draws a line from the position to a point, which is then the position.
+    fn draw_line(&mut self, point: Point) -> Result<Option<Draw<'a>>, Fault>
+        ensures draws { DrawsApart (lines_through (mapped_lists self.old.state.dc.map (going_on self.old.state.dc.position (point ∷ [])))) point self.old result self.new }
         ensures goes_on { GoesOn self.old self.new }
     {
         match land_pair(&self.dc.map, self.place, self.dc.position, point) {
@@ -46,12 +116,12 @@ impl<'a, T: Table<'a>> Machine<'a, T> {
     }
 
     /// Draws a rectangle.
-    pub(super) fn rectangle(
+    fn draw_rectangle(
         &mut self,
         corners: Rect,
         edges: RectangleEdges,
     ) -> Result<Option<Draw<'a>>, Fault>
-        ensures plays { Plays (rectangle corners edges) self.old result self.new }
+        ensures draws { DrawsApart (rectangle_between (left_top self.old.state.dc.map corners) (right_bottom self.old.state.dc.map corners) edges) self.old.state.dc.position self.old result self.new }
         ensures goes_on { GoesOn self.old self.new }
     {
         let left_top = left_top_of(corners);
@@ -70,8 +140,8 @@ impl<'a, T: Table<'a>> Machine<'a, T> {
     }
 
     /// Draws lines from point to point, for each list.
-    pub(super) fn polyline(&mut self, lists: Polys<'a>) -> Result<Option<Draw<'a>>, Fault>
-        ensures plays { Plays (polyline (lists_of lists.entry)) self.old result self.new }
+    fn draw_polylines(&mut self, lists: Polys<'a>) -> Result<Option<Draw<'a>>, Fault>
+        ensures draws { DrawsApart (lines_through (mapped_lists self.old.state.dc.map (lists_of lists.entry))) self.old.state.dc.position self.old result self.new }
         ensures goes_on { GoesOn self.old self.new }
     {
         match land_lists(&self.dc.map, self.place, lists) {
@@ -86,8 +156,8 @@ impl<'a, T: Table<'a>> Machine<'a, T> {
     }
 
     /// Draws polygons, one for each list.
-    pub(super) fn polygon(&mut self, lists: Polys<'a>) -> Result<Option<Draw<'a>>, Fault>
-        ensures plays { Plays (polygon (lists_of lists.entry)) self.old result self.new }
+    fn draw_polygons(&mut self, lists: Polys<'a>) -> Result<Option<Draw<'a>>, Fault>
+        ensures draws { DrawsApart (polygons_of (mapped_lists self.old.state.dc.map (lists_of lists.entry))) self.old.state.dc.position self.old result self.new }
         ensures goes_on { GoesOn self.old self.new }
     {
         match land_lists(&self.dc.map, self.place, lists) {
@@ -102,12 +172,12 @@ impl<'a, T: Table<'a>> Machine<'a, T> {
     }
 
     /// Draws lines from the position through points, of which the last is then the position.
-    pub(super) fn polyline_to(&mut self, points: Points<'a>) -> Result<Option<Draw<'a>>, Fault>
-        ensures plays { Plays (polyline_to (points_of points.entry)) self.old result self.new }
+    fn draw_lines(&mut self, points: Points<'a>) -> Result<Option<Draw<'a>>, Fault>
+        ensures draws { DrawsApart (lines_through (mapped_lists self.old.state.dc.map (going_on self.old.state.dc.position (points_of points.entry)))) (end_of self.old.state.dc.position (points_of points.entry)) self.old result self.new }
         ensures goes_on { GoesOn self.old self.new }
     {
         if points.is_empty() {
-            return self.polyline(Polys::empty());
+            return self.draw_polylines(Polys::empty());
         }
         let position = self.dc.position;
         match land_through(&self.dc.map, self.place, position, points) {
@@ -128,7 +198,7 @@ impl<'a, T: Table<'a>> Machine<'a, T> {
     }
 
     /// How points of the page land at the moment.
-    fn projection(&self) -> Projection
+    pub(super) fn projection(&self) -> Projection
         ensures map { map_numbers result.map ≡ self.now.state.dc.map }
         ensures place { surface_of result.place ≡ self.now.surface }
     {

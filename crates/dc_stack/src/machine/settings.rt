@@ -1,12 +1,12 @@
-//! Steps that set how what follows is drawn, and where it begins.
+//! Steps that set how what follows is drawn.
 
-ghost use Rattle.draw_ops.specs.Operation.{move_to, set_background_colour, set_background_mode, set_fill_mode, set_raster_op};
+ghost use Rattle.draw_ops.specs.Operation.{set_background_colour, set_background_mode, set_fill_mode, set_raster_op};
 ghost use Rattle.dc_stack.specs.MachineState.{GoesOn, Plays};
 
 use crate::draw::Draw;
 use crate::machine::Machine;
 use draw_ops::{BackgroundMode, Fault, FillMode, RasterOp};
-use mapping::{Colour, Point};
+use mapping::Colour;
 use object_tables::Table;
 
 impl<'a, T: Table<'a>> Machine<'a, T> {
@@ -49,15 +49,6 @@ impl<'a, T: Table<'a>> Machine<'a, T> {
         ensures goes_on { GoesOn self.old self.new }
     {
         self.dc.modes.fill_mode = mode;
-        Ok(None)
-    }
-
-    /// Makes a point the current one.
-    pub(super) fn move_to(&mut self, point: Point) -> Result<Option<Draw<'a>>, Fault>
-        ensures plays { Plays (move_to point) self.old result self.new }
-        ensures goes_on { GoesOn self.old self.new }
-    {
-        self.dc.position = point;
         Ok(None)
     }
 }

@@ -44,7 +44,6 @@ fn a_pixel_is_drawn_where_it_lands(rt: HostRuntime) -> Result<(), Fail> {
     assert_eq!(rt; machine.step(Op::IntersectClip(left)), Ok(None));
     let clip = &machine.dc().clip;
     assert!(rt; clip.has(0, 0) && clip.has(0, 1) && !clip.has(1, 0));
-    assert_eq!(rt; machine.step(Op::BeginPath), Err(Fault::Unsupported(0)));
     Ok(())
 }
 

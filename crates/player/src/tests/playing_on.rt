@@ -6,7 +6,7 @@ use crate::play::play_on;
 use crate::refusal::Refusal;
 use crate::tests::playing::{BLUE, DOT, RED, changed, colour};
 use canvas::Canvas;
-use dc_stack::Machine;
+use dc_stack::{MAX_PIECES, Machine};
 use draw_ops::Fault;
 use mapping::Place;
 use meta_headers::open_file;
@@ -33,7 +33,7 @@ fn play_over(
     let opened = open_file(file)?;
     let place = Place::new(&opened.frame, canvas.width(), canvas.rows());
     let mut machine = Machine::new(alloc, &opened, place, LowestFree::new(alloc));
-    machine.reserve(256, 1024, 0)?;
+    machine.reserve(256, 1024, MAX_PIECES)?;
     let mut rows = full_rows(alloc)?;
     if canvas.first() != 0 || canvas.writes() > 1000 {
         return Err("the canvas of a test is whole and new".into());

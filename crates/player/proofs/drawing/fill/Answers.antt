@@ -1,4 +1,4 @@
-use Rattle.std.proofs.Common.{◌<◌, ◌∙◌, ap, refl, sym, arith, subst, length, List}
+use Rattle.std.proofs.Common.{◌<◌, ◌∙◌, ap, refl, rules, sym, arith, subst, length, List}
 use Rattle.std.specs.List.{All}
 use Rattle.mapping.specs.Surface.{FitsPlace}
 use Rattle.draw_ops.specs.Objects.{brush_value_of}
@@ -14,6 +14,7 @@ use Rattle.player.proofs.CountLemmas.{lines_on_plane_few}
 use Rattle.player.proofs.DrawingLemmas.{brush_drawn, brush_fills, clip_placed, on_err}
 use Rattle.player.proofs.LandingLemmas.{landed_fits, lists_land, two_land}
 use Rattle.player.proofs.OutlineLemmas.{closed_placed, placed_lines_lie}
+use Rattle.player.proofs.PaintedFigureLemmas.{few_painted}
 use Rattle.player.proofs.drawing.fill.Goals as goal
 
 pub of_lists-outline-requires : goal.of_lists-outline-requires
@@ -96,3 +97,11 @@ returns-in-Rectangle-clause-drawn g c =
     let inside = c.rectangle_box-inside.ensures.value in
     let drawn = brush_drawn c.writing_law.ensures s c.args.canvas.now c.fill_box.new.canvas c.whole_law.ensures c.requires.whole paint tools modes clip _ shape (ap brush_value_of c.with-paint.ensures.brush ∙ brush) (λ x y. rw (inside, placed.places.0, placed.places.1) refl) c.fill_box.ensures.pixels in
     rw (c.in-Rectangle.is, brush_fills dc.selected.brush shape tools c.in_default.not-Null brush) drawn
+
+pub fill_figures-requires : goal.fill_figures-requires
+fill_figures-requires g c =
+    let path = c.in-Path in
+    let drawn = rw path.is at c.requires.placed in
+    let few = few_painted c.args.machine.now.surface path.painting path.place path.count path.bounds c.args.machine.now.painted drawn in
+    let places = drawn.places in
+    search (places, few, rules)

@@ -1,4 +1,4 @@
-use Rattle.std.proofs.Common.{◌≡◌, ◌<◌, ◌∙◌, ap, refl, sym, arith, subst, length, List, [], ◌∷◌}
+use Rattle.std.proofs.Common.{◌≡◌, ◌<◌, ◌∙◌, ap, refl, rules, sym, arith, subst, length, List, [], ◌∷◌}
 use Rattle.std.specs.List.{All}
 use Rattle.mapping.specs.Surface.{FitsPlace, placed_point}
 use Rattle.mapping.specs.declared.geometry.Point.{Point}
@@ -18,6 +18,7 @@ use Rattle.player.proofs.CountLemmas.{from_start_few, lines_on_plane_few}
 use Rattle.player.proofs.DrawingLemmas.{clip_placed, lone_stroke, on_err, pen_drawn, pen_strokes}
 use Rattle.player.proofs.LandingLemmas.{landed_fits, landed_near, lists_land, start_and_list_land, two_land}
 use Rattle.player.proofs.OutlineLemmas.{closed_placed, from_start_lies, from_start_placed, open_placed, placed_lines_lie}
+use Rattle.player.proofs.PaintedFigureLemmas.{few_painted}
 use Rattle.player.proofs.drawing.stroke_outline.Goals as goal
 
 pub stroke_line-requires-clause-near : goal.stroke_line-requires-clause-near
@@ -246,3 +247,11 @@ returns-in_ok-reserve-in-Rectangle-clause-drawn g c =
     let shape = round_rectangle first.plane second.plane c.in-Rectangle.edges in
     let drawn = pen_drawn c.writing_law.ensures s c.args.canvas.now c.stroke_box.new.canvas c.whole_law.ensures c.requires.whole paint tools modes clip _ shape c.args.colour c.with-paint.ensures.brush (λ x y. rw (inside, placed.places.0, placed.places.1) refl) c.stroke_box.ensures.pixels in
     rw (c.in-Rectangle.is, pen_strokes shape tools c.args.colour c.requires.pen) drawn
+
+pub stroke_figures-requires : goal.stroke_figures-requires
+stroke_figures-requires g c =
+    let path = c.in-Path in
+    let drawn = rw path.is at c.requires.placed in
+    let few = few_painted c.args.machine.now.surface path.painting path.place path.count path.bounds c.args.machine.now.painted drawn in
+    let places = drawn.places in
+    search (places, few, rules)

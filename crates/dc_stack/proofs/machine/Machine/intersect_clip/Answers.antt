@@ -8,6 +8,10 @@ invariant_of-self g c =
     let place = c.self.inside.place in
     let shows : ShowsFrame (surface_of place) = record { wide = place.frame.wide; high = place.frame.high } in
     record {
-      now = keeps_placed c.placing_law.ensures (surface_of place) shows c.self.inside.dc.clip c.keep.new.self c.in-Ok.landed c.keep.ensures.placed c.keep.ensures.plane c.in-Ok.ensures.placed c.self.invariant.now;
-      saved = c.self.invariant.saved;
+      clips = record {
+        now = keeps_placed c.placing_law.ensures (surface_of place) shows c.self.inside.dc.clip c.keep.new.self c.in-Ok.landed c.keep.ensures.placed c.keep.ensures.plane c.in-Ok.ensures.placed c.self.invariant.clips.now;
+        saved = c.self.invariant.clips.saved;
+      };
+      gathered = c.self.invariant.gathered;
+      points = c.self.invariant.points;
     }

@@ -1,4 +1,4 @@
-use Rattle.std.proofs.Common.{refl, rules, sym, ◌∙◌}
+use Rattle.std.proofs.Common.{◌≡◌, false, true, refl, rules, sym, ◌∙◌}
 use Rattle.dc_stack.proofs.SavedLemmas.{may_restore, restored}
 use Rattle.dc_stack.proofs.machine.Machine.restore.Goals as goal
 
@@ -15,4 +15,5 @@ returns-clause-plays g c =
       };
       drawn = refl;
       placed = tt;
+      figures = λ (e : false ≡ true). cc;
     })

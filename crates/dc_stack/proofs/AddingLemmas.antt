@@ -1,0 +1,181 @@
+-- What adding to an open path does to a machine.
+use Rattle.std.proofs.Common.{◌≡◌, ◌≢◌, ◌⊎◌, ℕ, ◌+◌, ◌<◌, ◌≤◌, true, false, List, [], ◌∷◌, ◌++◌, length, Option, Some, None, Result, Ok, Err, inl, inr, arith, refl, ap, sym, ◌∙◌}
+use Rattle.std.proofs.lemmas.Bool.{le-leb}
+use Rattle.std.proofs.lemmas.List.{append-nil}
+use Rattle.std.specs.Option.{option_or}
+use Rattle.mapping.specs.Plane.{MapNumbers}
+use Rattle.mapping.specs.Surface.{Surface}
+use Rattle.mapping.specs.declared.geometry.Point.{Point}
+use Rattle.draw_ops.specs.declared.fault.Fault.{Fault}
+use Rattle.point_views.specs.PartedPoints.{parts_of}
+use Rattle.point_views.specs.Points.{points_of}
+use Rattle.draw_ops.specs.Operation.{Operation, polygon, polyline}
+use Rattle.dc_stack.specs.Adding.{Adds, AddsLists, HasNotAdded}
+use Rattle.dc_stack.specs.Drawing.{Drawing, drawing_now, drawing_of, edge_limit, joined, lines_through, polygons_of}
+use Rattle.dc_stack.specs.Figures.{Figures, points_gone_on}
+use Rattle.dc_stack.specs.GatheredPath.{WantsPieceRoom, after_lists, path_in}
+use Rattle.dc_stack.specs.MachineState.{IsUnchanged, MachineState, Plays}
+use Rattle.dc_stack.specs.Mapped.{mapped_list, mapped_lists}
+use Rattle.dc_stack.specs.Needs.{greater_needs, needs_of, pieces_needed}
+use Rattle.dc_stack.specs.Next.{next}
+use Rattle.dc_stack.specs.OperationFault.{edges_fault, fault_of, off_plane_fault, points_drawn}
+use Rattle.dc_stack.specs.Path.{Path, after_lines, after_polygons, after_polylines, finished_path, is_open, no_path, open_path, piece_count, piece_limit, pieces_fault, pieces_of_lines, points_if_open, unless_open}
+use Rattle.dc_stack.specs.Pieces.{page_points, plane_lists, with_lists}
+use Rattle.dc_stack.specs.State.{with_path, with_position}
+use Rattle.dc_stack.specs.declared.draw.Draw.{Draw}
+use Rattle.dc_stack.specs.declared.path.PathPhase.{PathPhase}
+use Rattle.dc_stack.specs.declared.path.PathPhase.TheVariants.{NoPath, BetweenFigures, InFigure, Finished, Painted}
+use Rattle.dc_stack.specs.declared.piece.Joining.{Joining}
+use Rattle.dc_stack.specs.declared.piece.Joining.TheVariants.{GoesOn, Polylines, Polygons}
+use Rattle.dc_stack.specs.declared.piece.Piece.{Piece}
+use Rattle.dc_stack.specs.declared.piece.PiecePoints.{PiecePoints}
+use Rattle.dc_stack.specs.declared.piece.PiecePoints.TheVariants.{Point as OnePoint, List as OneList, Lists, Corners}
+use Rattle.dc_stack.proofs.AdditionLemmas.{no_polygons, no_polylines, one_piece, some_mapped}
+use Rattle.dc_stack.proofs.ListLemmas.{mapped_joined}
+
+-- points of the page are some on the plane, and none are none
+pub some_on_plane : (m : MapNumbers) (points : PiecePoints) → page_points points ≢ [] → joined (plane_lists m points) ≢ []
+some_on_plane m (OnePoint point) h = λ e. cc
+some_on_plane m (OneList points) h = λ e. some_mapped m (page_points (OneList points)) h (sym (mapped_joined m (points_of points ∷ [])) ∙ e)
+some_on_plane m (Lists parted) h = λ e. some_mapped m (page_points (Lists parted)) h (sym (mapped_joined m (parts_of parted)) ∙ e)
+some_on_plane m (Corners corners) h = λ e. cc
+
+pub none_on_plane : (m : MapNumbers) (points : PiecePoints) → page_points points ≡ [] → joined (plane_lists m points) ≡ []
+none_on_plane m (OnePoint point) h = cc
+none_on_plane m (OneList points) h = mapped_joined m (points_of points ∷ []) ∙ ap (mapped_list m) h
+none_on_plane m (Lists parted) h = mapped_joined m (parts_of parted) ∙ ap (mapped_list m) h
+none_on_plane m (Corners corners) h = cc
+
+-- without a point a path stays as it is
+same_open : (f g : Figures) (n k : ℕ) → f ≡ g → k ≡ n → open_path f k ≡ open_path g n
+same_open f g n k e h = rw (e, h) refl
+
+pub nothing_gone_on : (start : Point) (path : Path) → after_lines start [] path ≡ path
+nothing_gone_on start no_path = refl
+nothing_gone_on start (open_path figures n) =
+    same_open _ figures n (n + 0) (ap (λ (points : List Point). record { done = figures.done; current = points }) (append-nil figures.current)) (omega arith)
+nothing_gone_on start (finished_path figures) = refl
+
+unchanged_lists : (joining : Joining) (lists : List (List Point)) (f : Figures) → joining ≢ GoesOn → joined lists ≡ [] → with_lists joining lists f ≡ f
+unchanged_lists GoesOn lists f own h = absurd (own refl)
+unchanged_lists Polylines lists f own h = no_polylines lists f h
+unchanged_lists Polygons lists f own h = no_polygons lists f h
+
+pub nothing_listed : (joining : Joining) (lists : List (List Point)) (path : Path) → joining ≢ GoesOn → joined lists ≡ [] → after_lists joining lists path ≡ path
+nothing_listed joining lists no_path own h = refl
+nothing_listed joining lists (open_path figures n) own h =
+    same_open (with_lists joining lists figures) figures n _ (unchanged_lists joining lists figures own h) (rw h (omega arith))
+nothing_listed joining lists (finished_path figures) own h = refl
+
+-- and has no fault
+pub no_fault_of_none : (path : Path) (points : List Point) (s : Surface) → piece_count path ≤ piece_limit → points ≡ [] → option_or (pieces_fault (piece_count path)) (off_plane_fault points s) ≡ None
+no_fault_of_none path points s few none = rw (le-leb (piece_count path) piece_limit few, none) refl
+
+pub none_added : (start : Point) (points : List Point) (path : Path) → points ≡ [] → points_if_open path (λ figures. points_gone_on start figures.current points) ≡ []
+none_added start points no_path h = refl
+none_added start points (open_path figures n) h = rw h refl
+none_added start points (finished_path figures) h = refl
+
+-- with a point it has more pieces
+pub lines_add : (start : Point) (points : List Point) (path : Path) → is_open path ≡ true → points ≢ [] → piece_count path < piece_count (after_lines start points path)
+lines_add start points no_path at some = cc
+lines_add start [] (open_path figures n) at some = absurd (some refl)
+lines_add start (p ∷ ps) (open_path figures n) at some = by_current figures.current
+  where
+    by_current : (current : List Point) → n < n + pieces_of_lines current (p ∷ ps)
+    by_current [] = omega arith
+    by_current (q ∷ qs) = omega arith
+lines_add start points (finished_path figures) at some = cc
+
+pub lists_count : (joining : Joining) (lists : List (List Point)) (path : Path) → is_open path ≡ true → joined lists ≢ [] → piece_count (after_lists joining lists path) ≡ piece_count path + 1
+lists_count joining lists no_path at some = cc
+lists_count joining lists (open_path figures n) at some = ap (λ (k : ℕ). n + k) (one_piece (joined lists) some)
+lists_count joining lists (finished_path figures) at some = cc
+
+-- a refused addition, where room that is wanted is for pieces that are added
+pub not_added : (after : Path) (first : Option Fault) (old new : MachineState) (fault : Fault) (Lacks : Type 0) → (first ≡ Some fault) ⊎ WantsPieceRoom first fault Lacks → (Lacks → old.room.pieces < piece_count after) → piece_count old.state.path < piece_count after → IsUnchanged old new → HasNotAdded after first old new fault
+not_added after first old new fault Lacks answer lacks adds kept = record {
+  refused = elim answer [
+    | inl e ↦ inl e
+    | inr wants ↦ inr (record { no_fault = wants.no_fault; memory = wants.memory; lacks = (adds, lacks wants.lacks) })
+  ];
+  kept = kept;
+}
+
+-- the pieces of an open path are counted
+pub pieces_counted : (phase : PathPhase) (pieces : List Piece) → is_open (path_in phase pieces) ≡ true → piece_count (path_in phase pieces) ≡ length pieces
+pieces_counted NoPath pieces h = cc
+pieces_counted BetweenFigures pieces h = refl
+pieces_counted InFigure pieces h = refl
+pieces_counted Finished pieces h = cc
+pieces_counted Painted pieces h = cc
+
+-- lists that are added to an open path in place of a drawing
+module _ (path : Path) (at : is_open path ≡ true) where
+  kept_points : (points : List Point) → points_if_open path (λ figures. points) ≡ points
+  kept_points points = by_path path at
+    where
+      by_path : (p : Path) → is_open p ≡ true → points_if_open p (λ figures. points) ≡ points
+      by_path no_path h = cc
+      by_path (open_path figures n) h = refl
+      by_path (finished_path figures) h = cc
+
+  or_none : (fault : Option Fault) → option_or fault None ≡ fault
+  or_none None = refl
+  or_none (Some fault) = refl
+
+  pub added_fault : (count : ℕ) (points : List Point) (drawing : Option Drawing) (s : Surface) → option_or (option_or (pieces_fault count) (edges_fault (unless_open path drawing))) (off_plane_fault (points_if_open path (λ figures. points) ++ points_drawn (unless_open path drawing)) s) ≡ option_or (pieces_fault count) (off_plane_fault points s)
+  added_fault count points drawing s =
+      rw (at, le-leb 0 edge_limit (omega arith), or_none (pieces_fault count), append-nil (points_if_open path (λ figures. points)), kept_points points) refl
+
+  pub nothing_drawn : (drawing : Option Drawing) → unless_open path drawing ≡ None
+  nothing_drawn drawing = rw at refl
+
+-- an operation that adds points is played
+pub plays_added : (operation : Operation) (after : Path) (points : List Point) (position : Point) (old : MachineState) (result : Result (Option Draw) Fault) (new : MachineState) → next operation old.state ≡ with_position position (with_path after old.state) → needs_of operation old.state ≡ pieces_needed (piece_count after) → drawing_of operation old.state ≡ None → fault_of operation old.state old.surface ≡ option_or (pieces_fault (piece_count after)) (off_plane_fault points old.surface) → Adds after points position old result new → Plays operation old result new
+plays_added operation after points position old (Ok draw) new state needs drawing fault h = record {
+  stepped = record {
+    no_fault = fault ∙ h.no_fault;
+    state = h.state ∙ sym state;
+    needs = h.needs ∙ ap (greater_needs old.needs) (sym needs);
+  };
+  drawn = rw (h.nothing, drawing) refl;
+  placed = rw h.nothing tt;
+  figures = rw h.nothing (λ (e : false ≡ true). cc);
+}
+plays_added operation after points position old (Err e) new state needs drawing fault h = record {
+  refused = elim h.refused [
+    | inl first ↦ inl (fault ∙ first)
+    | inr wants ↦ inr (record {
+      no_fault = fault ∙ wants.no_fault;
+      memory = wants.memory;
+      lacks = inr (inr (record { adds = rw state wants.lacks.0; full = rw state wants.lacks.1 }));
+    })
+  ];
+  kept = h.kept;
+}
+
+-- so are lists
+module _ (old new : MachineState) (at : is_open old.state.path ≡ true) (points : PiecePoints) (lists : List (List Point)) (plane : plane_lists old.state.dc.map points ≡ mapped_lists old.state.dc.map lists) (page : page_points points ≡ joined lists) (result : Result (Option Draw) Fault) where
+  same_points : mapped_list old.state.dc.map (page_points points) ≡ joined (mapped_lists old.state.dc.map lists)
+  same_points = ap (mapped_list old.state.dc.map) page ∙ sym (mapped_joined old.state.dc.map lists)
+
+  pub plays_polylines : AddsLists Polylines points old result new → Plays (polyline lists) old result new
+  plays_polylines h =
+      let on_plane = mapped_lists old.state.dc.map lists in
+      let after = after_polylines on_plane old.state.path in
+      plays_added (polyline lists) after (joined on_plane) old.state.dc.position old result new refl
+      (rw (nothing_drawn old.state.path at (drawing_now (lines_through on_plane) old.state)) refl)
+      (nothing_drawn old.state.path at (drawing_now (lines_through on_plane) old.state))
+      (added_fault old.state.path at (piece_count after) (joined on_plane) (drawing_now (lines_through on_plane) old.state) old.surface)
+      (rw (plane, same_points) at h)
+
+  pub plays_polygons : AddsLists Polygons points old result new → Plays (polygon lists) old result new
+  plays_polygons h =
+      let on_plane = mapped_lists old.state.dc.map lists in
+      let after = after_polygons on_plane old.state.path in
+      plays_added (polygon lists) after (joined on_plane) old.state.dc.position old result new refl
+      (rw (nothing_drawn old.state.path at (drawing_now (polygons_of on_plane) old.state)) refl)
+      (nothing_drawn old.state.path at (drawing_now (polygons_of on_plane) old.state))
+      (added_fault old.state.path at (piece_count after) (joined on_plane) (drawing_now (polygons_of on_plane) old.state) old.surface)
+      (rw (plane, same_points) at h)

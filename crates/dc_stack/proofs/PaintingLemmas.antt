@@ -1,0 +1,188 @@
+-- Paintings of a path that waits for it.
+use Rattle.std.proofs.Common.{◌≡◌, ℕ, ℤ, ◌<◌, ◌≤◌, Bool, true, ◌&&◌, nat_le, if◌then◌else◌, List, [], ◌∷◌, length, Option, Some, None, inl, refl, ap, subst, sym, ◌∙◌}
+use Rattle.std.proofs.lemmas.Bool.{and_from, and_parts, le-leb, lt-leb}
+use Rattle.std.proofs.lemmas.List.Elements.{All-head, All-tail}
+use Rattle.std.proofs.lemmas.List.Folds.{flat_map-map, list_all-append}
+use Rattle.std.specs.List.{flat_map, list_all}
+use Rattle.std.specs.Option.{option_or}
+use Rattle.mapping.specs.Limits.{is_within, place_limit, plane_limit}
+use Rattle.mapping.specs.PageMap.{map_numbers}
+use Rattle.mapping.specs.PlaceOf.{surface_of}
+use Rattle.mapping.specs.Plane.{MapNumbers}
+use Rattle.mapping.specs.Surface.{Surface, lands_within_limits, placed}
+use Rattle.mapping.specs.declared.geometry.Point.{Point}
+use Rattle.mapping.specs.declared.geometry.Rect.{Rect}
+use Rattle.mapping.specs.declared.place.Place.{Place}
+use Rattle.draw_ops.specs.declared.fault.Fault.{Fault}
+use Rattle.draw_ops.specs.declared.fault.Fault.TheVariants.{TooManyEdges}
+use Rattle.point_views.specs.PartedPoints.{parts_of}
+use Rattle.point_views.specs.Points.{points_of}
+use Rattle.dc_stack.specs.Boxes.{HasAll, placed_list}
+use Rattle.dc_stack.specs.Drawing.{drawing_of, edge_limit, joined, mark_edges, mark_points, tools_of}
+use Rattle.dc_stack.specs.Draws.{mark_painted}
+use Rattle.dc_stack.specs.Figures.{Figure, all_figures, box_corners, lists_of_figures, points_of_figures}
+use Rattle.dc_stack.specs.GatheredPath.{gathered_points}
+use Rattle.dc_stack.specs.MachineState.{HasPlayed, IsUnchanged, HasRefused, MachineState, painting_operation}
+use Rattle.dc_stack.specs.Mapped.{left_top, mapped_box, mapped_corners, mapped_list, right_bottom}
+use Rattle.dc_stack.specs.Needs.{greater_needs, needs_of, points_needed}
+use Rattle.dc_stack.specs.Next.{next}
+use Rattle.dc_stack.specs.OperationFault.{fault_of, off_plane_fault}
+use Rattle.dc_stack.specs.Path.{finished_path, no_path}
+use Rattle.dc_stack.specs.Pieces.{AllLandOn, LandsOn, figures_of, page_points, plane_lists}
+use Rattle.dc_stack.specs.State.{State, with_path}
+use Rattle.dc_stack.specs.declared.draw.Draw.TheVariants.{Path}
+use Rattle.dc_stack.specs.declared.draw.Painting.{Painting}
+use Rattle.dc_stack.specs.declared.draw.Painting.TheVariants.{Fill, Stroke, StrokeAndFill}
+use Rattle.dc_stack.specs.declared.piece.Piece.{Piece}
+use Rattle.dc_stack.specs.declared.piece.PiecePoints.{PiecePoints}
+use Rattle.dc_stack.specs.declared.piece.PiecePoints.TheVariants.{Point as OnePoint, List as OneList, Lists, Corners}
+use Rattle.dc_stack.proofs.CornerLemmas.{of_greater, of_lesser}
+use Rattle.dc_stack.proofs.FigureLemmas.{plane_points, points_gathered}
+use Rattle.dc_stack.proofs.LandingLemmas.{none_off}
+use Rattle.dc_stack.proofs.ListLemmas.{mapped_joined}
+
+-- what figures of a painting have of points
+figures_joined : (figures : List Figure) → joined (lists_of_figures figures) ≡ points_of_figures figures
+figures_joined figures = flat_map-map (λ (list : List Point). list) (λ (figure : Figure). figure.points) figures
+
+painted_points : (painting : Painting) (figures : List Figure) → mark_points (mark_painted painting figures) ≡ points_of_figures figures
+painted_points Fill figures = figures_joined figures
+painted_points Stroke figures = refl
+painted_points StrokeAndFill figures = figures_joined figures
+
+painted_edges : (painting : Painting) (figures : List Figure) → mark_edges (mark_painted painting figures) ≡ length (points_of_figures figures)
+painted_edges Fill figures = ap length (figures_joined figures)
+painted_edges Stroke figures = refl
+painted_edges StrokeAndFill figures = ap length (figures_joined figures)
+
+-- more points than there may be, or else points off the plane
+abbrev figures_fault : List Figure → Surface → Option Fault
+figures_fault figures s =
+    option_or (if nat_le (length (points_of_figures figures)) edge_limit then None else Some TooManyEdges) (off_plane_fault (points_of_figures figures) s)
+
+module _ (state : State) (figures : List Figure) (at : state.path ≡ finished_path figures) where
+  painting_drawn : (painting : Painting) → drawing_of (painting_operation painting) state ≡ Some (record { mark = mark_painted painting figures; tools = tools_of state.dc })
+  painting_drawn Fill = rw at refl
+  painting_drawn Stroke = rw at refl
+  painting_drawn StrokeAndFill = rw at refl
+
+  painting_next : (painting : Painting) → next (painting_operation painting) state ≡ with_path no_path state
+  painting_next Fill = refl
+  painting_next Stroke = refl
+  painting_next StrokeAndFill = refl
+
+  painting_fault : (painting : Painting) (s : Surface) → fault_of (painting_operation painting) state s ≡ figures_fault figures s
+  painting_fault Fill s = rw (at, figures_joined figures) refl
+  painting_fault Stroke s = rw at refl
+  painting_fault StrokeAndFill s = rw (at, figures_joined figures) refl
+
+  painting_needs : (painting : Painting) → needs_of (painting_operation painting) state ≡ points_needed (length (points_of_figures figures))
+  painting_needs Fill = rw (at, figures_joined figures) refl
+  painting_needs Stroke = rw at refl
+  painting_needs StrokeAndFill = rw (at, figures_joined figures) refl
+
+-- the points of pieces on the plane land, where those of the page do
+module _ (s : Surface) where
+  abbrev all_lands : List Point → Bool
+  all_lands points = list_all (λ point. lands_within_limits point s) points
+
+  -- a coordinate is one of the plane, and lands within the limits
+  record ColumnLands (v : ℤ) : Type 0 where
+    plane : is_within plane_limit v ≡ true
+    place : is_within place_limit (placed v s.width s.frame_width) ≡ true
+
+  record RowLands (v : ℤ) : Type 0 where
+    plane : is_within plane_limit v ≡ true
+    place : is_within place_limit (placed v s.height s.frame_height) ≡ true
+
+  column_lands : (p : Point) → lands_within_limits p s ≡ true → ColumnLands p.x
+  column_lands p h =
+      let parts = and_parts (is_within plane_limit p.x && is_within plane_limit p.y) (is_within place_limit (placed p.x s.width s.frame_width) && is_within place_limit (placed p.y s.height s.frame_height)) h in
+      record {
+        plane = (and_parts (is_within plane_limit p.x) (is_within plane_limit p.y) parts.0).0;
+        place = (and_parts (is_within place_limit (placed p.x s.width s.frame_width)) (is_within place_limit (placed p.y s.height s.frame_height)) parts.1).0;
+      }
+
+  row_lands : (p : Point) → lands_within_limits p s ≡ true → RowLands p.y
+  row_lands p h =
+      let parts = and_parts (is_within plane_limit p.x && is_within plane_limit p.y) (is_within place_limit (placed p.x s.width s.frame_width) && is_within place_limit (placed p.y s.height s.frame_height)) h in
+      record {
+        plane = (and_parts (is_within plane_limit p.x) (is_within plane_limit p.y) parts.0).1;
+        place = (and_parts (is_within place_limit (placed p.x s.width s.frame_width)) (is_within place_limit (placed p.y s.height s.frame_height)) parts.1).1;
+      }
+
+  both_land : (x y : ℤ) → ColumnLands x → RowLands y → lands_within_limits (record { x = x; y = y }) s ≡ true
+  both_land x y column row =
+      and_from (is_within plane_limit x && is_within plane_limit y) (is_within place_limit (placed x s.width s.frame_width) && is_within place_limit (placed y s.height s.frame_height))
+      (and_from (is_within plane_limit x) (is_within plane_limit y) column.plane row.plane)
+      (and_from (is_within place_limit (placed x s.width s.frame_width)) (is_within place_limit (placed y s.height s.frame_height)) column.place row.place)
+
+  all_of : (p : Point) (ps : List Point) → lands_within_limits p s ≡ true → all_lands ps ≡ true → all_lands (p ∷ ps) ≡ true
+  all_of p ps h k = and_from (lands_within_limits p s) (all_lands ps) h k
+
+  corners_land : (m : MapNumbers) (corners : Rect) → all_lands (mapped_corners m corners) ≡ true → all_lands (box_corners (mapped_box m corners)) ≡ true
+  corners_land m corners h =
+      let p = left_top m corners in
+      let q = right_bottom m corners in
+      let first = and_parts (lands_within_limits p s) (all_lands (q ∷ [])) h in
+      let second = and_parts (lands_within_limits q s) true first.1 in
+      let l = of_lesser ColumnLands p.x q.x (column_lands p first.0) (column_lands q second.0) in
+      let r = of_greater ColumnLands p.x q.x (column_lands p first.0) (column_lands q second.0) in
+      let t = of_lesser RowLands p.y q.y (row_lands p first.0) (row_lands q second.0) in
+      let b = of_greater RowLands p.y q.y (row_lands p first.0) (row_lands q second.0) in
+      let box = mapped_box m corners in
+      let left_top_corner : Point = record { x = box.l; y = box.t } in
+      let right_top_corner : Point = record { x = box.r; y = box.t } in
+      let right_bottom_corner : Point = record { x = box.r; y = box.b } in
+      let left_bottom_corner : Point = record { x = box.l; y = box.b } in
+      all_of left_top_corner (right_top_corner ∷ right_bottom_corner ∷ left_bottom_corner ∷ []) (both_land box.l box.t l t)
+      (all_of right_top_corner (right_bottom_corner ∷ left_bottom_corner ∷ []) (both_land box.r box.t r t)
+      (all_of right_bottom_corner (left_bottom_corner ∷ []) (both_land box.r box.b r b)
+      (all_of left_bottom_corner [] (both_land box.l box.b l b) refl)))
+
+  points_land : (m : MapNumbers) (points : PiecePoints) → all_lands (mapped_list m (page_points points)) ≡ true → all_lands (joined (plane_lists m points)) ≡ true
+  points_land m (OnePoint point) h = h
+  points_land m (OneList points) h = ap all_lands (mapped_joined m (points_of points ∷ [])) ∙ h
+  points_land m (Lists parted) h = ap all_lands (mapped_joined m (parts_of parted)) ∙ h
+  points_land m (Corners corners) h = corners_land m corners h
+
+  pieces_land : (pieces : List Piece) → AllLandOn s pieces → all_lands (flat_map plane_points pieces) ≡ true
+  pieces_land [] h = refl
+  pieces_land (piece ∷ pieces) h =
+      list_all-append (λ point. lands_within_limits point s) (plane_points piece) (flat_map plane_points pieces)
+      ∙ and_from (all_lands (plane_points piece)) (all_lands (flat_map plane_points pieces))
+      (points_land (map_numbers piece.map) piece.points (All-head (LandsOn s) piece pieces h)) (pieces_land pieces (All-tail (LandsOn s) piece pieces h))
+
+  pub gathered_lands : (pieces : List Piece) → AllLandOn s pieces → all_lands (gathered_points pieces) ≡ true
+  gathered_lands pieces h = ap all_lands (points_gathered pieces) ∙ pieces_land pieces h
+
+-- a finished path is painted
+pub plays_painting : (old new : MachineState) (painting : Painting) (pieces : List Piece) (place : Place) (count : ℕ) (bounds : Rect) → old.state.path ≡ finished_path (all_figures (figures_of pieces)) → new.state ≡ with_path no_path old.state → new.painted ≡ pieces → new.needs ≡ greater_needs old.needs (points_needed count) → count ≡ length (gathered_points pieces) → length (gathered_points pieces) ≤ edge_limit → surface_of place ≡ old.surface → AllLandOn old.surface pieces → HasAll bounds (placed_list old.surface (gathered_points pieces)) → HasPlayed (painting_operation painting) old new (Some (Path painting place count bounds))
+plays_painting old new painting pieces place count bounds at state lent needs counted few here land inside =
+    let figures = all_figures (figures_of pieces) in
+    let lands = gathered_lands old.surface pieces land in
+    let none : figures_fault figures old.surface ≡ None = rw (le-leb (length (gathered_points pieces)) edge_limit few) (sym (none_off old.surface (gathered_points pieces) lands)) in
+    let points = painted_points painting figures in
+    record {
+      stepped = record {
+        no_fault = painting_fault old.state figures at painting old.surface ∙ none;
+        state = state ∙ sym (painting_next old.state figures at painting);
+        needs = needs ∙ ap (λ n. greater_needs old.needs (points_needed n)) counted ∙ ap (greater_needs old.needs) (sym (painting_needs old.state figures at painting));
+      };
+      drawn = rw (lent, state) (sym (painting_drawn old.state figures at painting));
+      placed = rw lent (record {
+        places = record { surface = here; land = land; counted = counted; inside = inside };
+        within = ap (λ (ps : List Point). list_all (λ point. lands_within_limits point old.surface) ps) points ∙ lands;
+        few = subst (λ (n : ℕ). n ≤ edge_limit) (sym (painted_edges painting figures)) few;
+      });
+      figures = λ e. rw (lent, at) refl;
+    }
+
+-- or has more points than it may
+pub refuses_painting : (old new : MachineState) (painting : Painting) (pieces : List Piece) → old.state.path ≡ finished_path (all_figures (figures_of pieces)) → edge_limit < length (gathered_points pieces) → IsUnchanged old new → HasRefused (painting_operation painting) old new TooManyEdges
+refuses_painting old new painting pieces at many kept =
+    let figures = all_figures (figures_of pieces) in
+    record {
+      refused = inl (painting_fault old.state figures at painting old.surface ∙ rw (lt-leb (length (gathered_points pieces)) edge_limit many) refl);
+      kept = kept;
+    }

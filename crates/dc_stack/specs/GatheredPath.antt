@@ -1,0 +1,117 @@
+-- The value of a path as a machine gathers it.
+use Rattle.std.specs.Prelude.{◌≡◌, ◌≢◌, ◌⊎◌, ⊤, ℕ, ◌<◌, ◌≤◌, Option, Some, None, Result, Ok, Err, Bool, true, false, List, [], length, vec_capacity}
+use Rattle.std.specs.Option.{option_or}
+use Rattle.mapping.specs.Plane.{MapNumbers}
+use Rattle.mapping.specs.Surface.{Surface}
+use Rattle.mapping.specs.declared.geometry.Point.{Point}
+use Rattle.mapping.specs.declared.page_map.PageMap.{PageMap}
+use Rattle.draw_ops.specs.declared.fault.Fault.{Fault}
+use Rattle.draw_ops.specs.declared.fault.Fault.TheVariants.{OutOfMemory}
+use Rattle.dc_stack.specs.Boxes.{HasAll, placed_list}
+use Rattle.dc_stack.specs.Drawing.{joined}
+use Rattle.dc_stack.specs.Figures.{all_figures, points_gone_on, points_of_figures}
+use Rattle.dc_stack.specs.Mapped.{mapped_list, mapped_point}
+use Rattle.dc_stack.specs.OperationFault.{off_plane_fault}
+use Rattle.dc_stack.specs.Path.{Path, after_lines, finished_path, no_path, open_path, piece_count, piece_for, piece_limit, pieces_fault, points_if_open, with_figures}
+use Rattle.dc_stack.specs.Pieces.{AllLandOn, figures_of, with_lists}
+use Rattle.dc_stack.specs.declared.path.GatheredPath.{GatheredPath}
+use Rattle.dc_stack.specs.declared.path.PathPhase.{PathPhase}
+use Rattle.dc_stack.specs.declared.path.PathPhase.TheVariants.{NoPath, BetweenFigures, InFigure, Finished, Painted}
+use Rattle.dc_stack.specs.declared.piece.FigureEnd.TheVariants.{Open}
+use Rattle.dc_stack.specs.declared.piece.Joining.{Joining}
+use Rattle.dc_stack.specs.declared.piece.Joining.TheVariants.{GoesOn, Polylines, Polygons}
+use Rattle.dc_stack.specs.declared.piece.Piece.{Piece}
+use Rattle.dc_stack.specs.declared.piece.PiecePoints.{PiecePoints}
+
+-- the path that pieces make, by where it stands
+abbrev pub path_in : PathPhase → List Piece → Path
+path_in NoPath pieces = no_path
+path_in BetweenFigures pieces = open_path (figures_of pieces) (length pieces)
+path_in InFigure pieces = open_path (figures_of pieces) (length pieces)
+path_in Finished pieces = finished_path (all_figures (figures_of pieces))
+path_in Painted pieces = no_path
+
+-- the pieces that are lent
+abbrev pub lent_in : PathPhase → List Piece → List Piece
+lent_in NoPath pieces = []
+lent_in BetweenFigures pieces = []
+lent_in InFigure pieces = []
+lent_in Finished pieces = []
+lent_in Painted pieces = pieces
+
+-- the path
+abbrev pub path_of : GatheredPath → Path
+path_of path = path_in path.phase path.pieces.items
+
+-- and the pieces that are lent of one that was painted
+abbrev pub painted_of : GatheredPath → List Piece
+painted_of path = lent_in path.phase path.pieces.items
+
+-- records add to the path
+abbrev pub is_open_phase : PathPhase → Bool
+is_open_phase NoPath = false
+is_open_phase BetweenFigures = true
+is_open_phase InFigure = true
+is_open_phase Finished = false
+is_open_phase Painted = false
+
+-- a piece as it is added: nothing has ended its figure yet
+abbrev pub open_piece : PiecePoints → PageMap → Joining → Piece
+open_piece points map joining = record { points = points; map = map; joining = joining; end = Open }
+
+-- polygons leave no figure open
+abbrev pub phase_behind : Joining → PathPhase
+phase_behind GoesOn = InFigure
+phase_behind Polylines = InFigure
+phase_behind Polygons = BetweenFigures
+
+-- a figure is open exactly where the pieces leave one open, and there are at most so many of them
+pub record IsGathered (path : GatheredPath) : Type 0 where
+  pub between : path.phase ≡ BetweenFigures → (figures_of path.pieces.items).current ≡ []
+  pub within : path.phase ≡ InFigure → (figures_of path.pieces.items).current ≢ []
+  pub few : length path.pieces.items ≤ piece_limit
+
+-- all points of some pieces on the plane, figure by figure
+abbrev pub gathered_points : List Piece → List Point
+gathered_points pieces = points_of_figures (all_figures (figures_of pieces))
+
+-- all points land on a surface, within the bounds
+pub record LandsInside (s : Surface) (path : GatheredPath) : Type 0 where
+  pub pieces : AllLandOn s path.pieces.items
+  pub inside : HasAll path.bounds (placed_list s (gathered_points path.pieces.items))
+
+-- paths that differ in their room alone
+pub record IsSamePath (old new : GatheredPath) : Type 0 where
+  pub phase : new.phase ≡ old.phase
+  pub pieces : new.pieces.items ≡ old.pieces.items
+  pub bounds : new.bounds ≡ old.bounds
+  pub room : vec_capacity old.pieces ≤ vec_capacity new.pieces
+
+-- the fault of an addition that makes so many pieces, of points as they are mapped
+abbrev pub addition_fault : ℕ → List Point → Surface → Option Fault
+addition_fault count points s = option_or (pieces_fault count) (off_plane_fault points s)
+
+-- memory was refused, though there is no fault: there was no room
+pub record WantsPieceRoom (first : Option Fault) (fault : Fault) (Lacks : Type 0) : Type 0 where
+  pub no_fault : first ≡ None
+  pub memory : fault ≡ OutOfMemory
+  pub lacks : Lacks
+
+-- an addition is accepted where it has no fault, and refused by its first fault, or for want of memory
+abbrev pub AnswersAddition : Result ⊤ Fault → Option Fault → Type 0 → Type 0
+AnswersAddition (Ok done) first Lacks = first ≡ None
+AnswersAddition (Err fault) first Lacks = (first ≡ Some fault) ⊎ WantsPieceRoom first fault Lacks
+
+-- what lists that are figures of their own do to a path: lines of one list go on with it
+abbrev pub after_lists : Joining → List (List Point) → Path → Path
+after_lists joining lists path = with_figures (with_lists joining lists) (λ figures. piece_for (joined lists)) path
+
+-- the answer to lines from a position through points of the page
+abbrev pub AnswersLines : MapNumbers → Point → List Point → GatheredPath → Surface → Result ⊤ Fault → Type 0
+AnswersLines map position points old s result =
+    let start = mapped_point map position in
+    let through = mapped_list map points in
+    let path = path_of old in
+    AnswersAddition result
+    (option_or (pieces_fault (piece_count (after_lines start through path))) (off_plane_fault (points_if_open path (λ figures. points_gone_on start figures.current through)) s))
+    (vec_capacity old.pieces < piece_count (after_lines start through path))

@@ -1,0 +1,145 @@
+//! Pieces that are added to an open path.
+
+ghost use Rattle.std.specs.Prelude.{◌≡◌, ◌≢◌, ◌+◌, ◌<◌, ◌≤◌, [], ◌∷◌, ◌++◌, true, length, vec_capacity, OnOk, OnErr};
+ghost use Rattle.mapping.specs.PageMap.{map_numbers};
+ghost use Rattle.mapping.specs.PlaceOf.{surface_of};
+ghost use Rattle.mapping.specs.declared.geometry.Point.{Point as ThePoint};
+ghost use Rattle.dc_stack.specs.Drawing.{joined};
+ghost use Rattle.dc_stack.specs.Figures.{Figures, points_gone_on};
+ghost use Rattle.dc_stack.specs.GatheredPath.{AnswersAddition, AnswersLines, after_lists, IsGathered, IsSamePath, LandsInside, addition_fault, is_open_phase, open_piece, painted_of, path_of, phase_behind};
+ghost use Rattle.dc_stack.specs.Mapped.{mapped_list, mapped_point};
+ghost use Rattle.dc_stack.specs.OperationFault.{off_plane_fault};
+ghost use Rattle.dc_stack.specs.Path.{after_lines, after_polygons, after_polylines, piece_count, pieces_fault, piece_limit, points_if_open};
+ghost use Rattle.dc_stack.specs.Pieces.{page_points, plane_lists};
+ghost use Rattle.dc_stack.specs.Placing.{plane_list};
+ghost use Rattle.dc_stack.specs.declared.path.PathPhase.TheVariants.{InFigure};
+ghost use Rattle.dc_stack.specs.declared.piece.Joining.TheVariants.{GoesOn};
+ghost use Rattle.dc_stack.specs.declared.piece.PiecePoints.TheVariants.{Point as OnePoint};
+
+use crate::path::{GatheredPath, PathPhase};
+use crate::piece::{Joining, PiecePoints};
+use crate::piece_landing::land_piece;
+use crate::projection::Projection;
+use draw_ops::Fault;
+use mapping::Point;
+
+impl<'a> GatheredPath<'a> {
+    /// Adds a piece to an open path: `TooManyPieces`, `OffPlane`, or `OutOfMemory` where there was no room
+    /// for it and memory was refused.
+    fn add(
+        &mut self,
+        points: PiecePoints<'a>,
+        joining: Joining,
+        by: &Projection,
+    ) -> Result<(), Fault>
+        requires gathered { IsGathered self.old }
+        ensures answer { AnswersAddition result (addition_fault (length self.old.pieces.items + 1) (plane_list by.now.map (page_points points.entry)) (surface_of by.now.place)) (vec_capacity self.old.pieces < length self.old.pieces.items + 1) }
+        ensures pieces { OnOk result (self.new.pieces.items ≡ self.old.pieces.items ++ open_piece points.entry by.now.map joining ∷ []) }
+        ensures phase { OnOk result (self.new.phase ≡ phase_behind joining) }
+        ensures few { OnOk result (length self.new.pieces.items ≤ piece_limit) }
+        ensures lands { OnOk result (LandsInside (surface_of by.now.place) self.old → LandsInside (surface_of by.now.place) self.new) }
+        ensures kept { OnErr result (IsSamePath self.old self.new) }
+        ensures room { vec_capacity self.old.pieces ≤ vec_capacity self.new.pieces }
+    {
+        if !self.may_add(1) {
+            return Err(Fault::TooManyPieces);
+        }
+        let bounds = match land_piece(by, points, self.bounds) {
+            Ok(bounds) => bounds,
+            Err(fault) => return Err(fault),
+        };
+        match self.make_room(1) {
+            Ok(()) => {
+                self.push(points, by.map, joining, bounds);
+                Ok(())
+            }
+            Err(fault) => Err(fault),
+        }
+    }
+
+    /// Adds the position, where a figure begins, and a piece that goes on from there, or neither of them.
+    fn add_from(
+        &mut self,
+        position: Point,
+        points: PiecePoints<'a>,
+        by: &Projection,
+    ) -> Result<(), Fault>
+        requires gathered { IsGathered self.old }
+        ensures answer { AnswersAddition result (addition_fault (length self.old.pieces.items + 2) (mapped_point (map_numbers by.now.map) position ∷ plane_list by.now.map (page_points points.entry)) (surface_of by.now.place)) (vec_capacity self.old.pieces < length self.old.pieces.items + 2) }
+        ensures pieces { OnOk result (self.new.pieces.items ≡ self.old.pieces.items ++ open_piece (OnePoint position) by.now.map GoesOn ∷ [] ++ open_piece points.entry by.now.map GoesOn ∷ []) }
+        ensures phase { OnOk result (self.new.phase ≡ InFigure) }
+        ensures few { OnOk result (length self.new.pieces.items ≤ piece_limit) }
+        ensures lands { OnOk result (LandsInside (surface_of by.now.place) self.old → LandsInside (surface_of by.now.place) self.new) }
+        ensures kept { OnErr result (IsSamePath self.old self.new) }
+        ensures room { vec_capacity self.old.pieces ≤ vec_capacity self.new.pieces }
+    {
+        if !self.may_add(2) {
+            return Err(Fault::TooManyPieces);
+        }
+        let start = PiecePoints::Point(position);
+        let first = match land_piece(by, start, self.bounds) {
+            Ok(bounds) => bounds,
+            Err(fault) => return Err(fault),
+        };
+        let bounds = match land_piece(by, points, first) {
+            Ok(bounds) => bounds,
+            Err(fault) => return Err(fault),
+        };
+        match self.make_room(2) {
+            Ok(()) => {
+                self.push(start, by.map, Joining::GoesOn, first);
+                self.push(points, by.map, Joining::GoesOn, bounds);
+                Ok(())
+            }
+            Err(fault) => Err(fault),
+        }
+    }
+
+    /// Adds lines that go on with the open figure through points, or begin one at the position.
+    pub(crate) fn add_lines(
+        &mut self,
+        position: Point,
+        points: PiecePoints<'a>,
+        by: &Projection,
+    ) -> Result<(), Fault>
+        requires gathered { IsGathered self.old }
+        requires open { is_open_phase self.old.phase ≡ true }
+        requires some { page_points points ≢ [] }
+        requires as_they_are { joined (plane_lists (map_numbers by.now.map) points) ≡ plane_list by.now.map (page_points points) }
+        ensures answer { let map = map_numbers by.now.map in AnswersLines map position (page_points points.entry) self.old (surface_of by.now.place) result }
+        ensures path { OnOk result (path_of self.new ≡ after_lines (mapped_point (map_numbers by.now.map) position) (plane_list by.now.map (page_points points.entry)) (path_of self.old)) }
+        ensures painted { OnOk result (painted_of self.new ≡ []) }
+        ensures gathered { OnOk result (IsGathered self.new) }
+        ensures lands { OnOk result (LandsInside (surface_of by.now.place) self.old → LandsInside (surface_of by.now.place) self.new) }
+        ensures kept { OnErr result (IsSamePath self.old self.new) }
+        ensures room { vec_capacity self.old.pieces ≤ vec_capacity self.new.pieces }
+    {
+        if self.phase == PathPhase::InFigure {
+            self.add(points, Joining::GoesOn, by)
+        } else {
+            self.add_from(position, points, by)
+        }
+    }
+
+    /// Adds lists as figures of their own, closed or not.
+    pub(crate) fn add_lists(
+        &mut self,
+        points: PiecePoints<'a>,
+        joining: Joining,
+        by: &Projection,
+    ) -> Result<(), Fault>
+        requires gathered { IsGathered self.old }
+        requires open { is_open_phase self.old.phase ≡ true }
+        requires some { joined (plane_lists (map_numbers by.now.map) points) ≢ [] }
+        requires own { joining ≢ GoesOn }
+        ensures answer { AnswersAddition result (addition_fault (length self.old.pieces.items + 1) (plane_list by.now.map (page_points points.entry)) (surface_of by.now.place)) (vec_capacity self.old.pieces < length self.old.pieces.items + 1) }
+        ensures path { OnOk result (path_of self.new ≡ after_lists joining (plane_lists (map_numbers by.now.map) points.entry) (path_of self.old)) }
+        ensures painted { OnOk result (painted_of self.new ≡ []) }
+        ensures gathered { OnOk result (IsGathered self.new) }
+        ensures lands { OnOk result (LandsInside (surface_of by.now.place) self.old → LandsInside (surface_of by.now.place) self.new) }
+        ensures kept { OnErr result (IsSamePath self.old self.new) }
+        ensures room { vec_capacity self.old.pieces ≤ vec_capacity self.new.pieces }
+    {
+        self.add(points, joining, by)
+    }
+}

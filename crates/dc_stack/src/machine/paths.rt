@@ -1,0 +1,90 @@
+//! Steps that begin, end and paint paths.
+
+ghost use Rattle.draw_ops.specs.Operation.{abort_path, begin_path, close_figure, end_path, move_to};
+ghost use Rattle.dc_stack.specs.MachineState.{GoesOn, Plays, painting_operation};
+
+use crate::draw::{Draw, Painting};
+use crate::machine::Machine;
+use draw_ops::Fault;
+use mapping::Point;
+use object_tables::Table;
+
+impl<'a, T: Table<'a>> Machine<'a, T> {
+    /// Opens an empty path, in place of one that waits to be painted.
+    pub(super) fn begin_path(&mut self) -> Result<Option<Draw<'a>>, Fault>
+        ensures plays { Plays begin_path self.old result self.new }
+        ensures goes_on { GoesOn self.old self.new }
+    {
+        if self.path.is_open() {
+            return Err(Fault::PathState);
+        }
+        self.path.begin();
+        Ok(None)
+    }
+
+    /// Finishes the open path.
+    pub(super) fn end_path(&mut self) -> Result<Option<Draw<'a>>, Fault>
+        ensures plays { Plays end_path self.old result self.new }
+        ensures goes_on { GoesOn self.old self.new }
+    {
+        if !self.path.is_open() {
+            return Err(Fault::PathState);
+        }
+        self.path.finish();
+        Ok(None)
+    }
+
+    /// Closes the open figure of the open path, if there is one.
+    pub(super) fn close_figure(&mut self) -> Result<Option<Draw<'a>>, Fault>
+        ensures plays { Plays close_figure self.old result self.new }
+        ensures goes_on { GoesOn self.old self.new }
+    {
+        if !self.path.is_open() {
+            return Err(Fault::PathState);
+        }
+        self.path.close_figure();
+        Ok(None)
+    }
+
+    /// Drops whatever path there is.
+    pub(super) fn abort_path(&mut self) -> Result<Option<Draw<'a>>, Fault>
+        ensures plays { Plays abort_path self.old result self.new }
+        ensures goes_on { GoesOn self.old self.new }
+    {
+        self.path.abort();
+        Ok(None)
+    }
+
+    /// Makes a point the current one. The open figure of an open path ends.
+    pub(super) fn move_to(&mut self, point: Point) -> Result<Option<Draw<'a>>, Fault>
+        ensures plays { Plays (move_to point) self.old result self.new }
+        ensures goes_on { GoesOn self.old self.new }
+    {
+        self.path.end_figure();
+        self.dc.position = point;
+        Ok(None)
+    }
+
+    /// Paints the path that waits for it, which is no path any more.
+    pub(super) fn paint_path(&mut self, painting: Painting) -> Result<Option<Draw<'a>>, Fault>
+        ensures plays { Plays (painting_operation painting) self.old result self.new }
+        ensures goes_on { GoesOn self.old self.new }
+    {
+        if !self.path.is_finished() {
+            return Err(Fault::PathState);
+        }
+        let count = match self.path.count_points() {
+            Some(count) => count,
+            None => return Err(Fault::TooManyEdges),
+        };
+        let bounds = self.path.bounds;
+        self.needs.raise_edges(count);
+        self.path.lend();
+        Ok(Some(Draw::Path {
+            painting,
+            place: self.place,
+            count,
+            bounds,
+        }))
+    }
+}

@@ -1,0 +1,83 @@
+//! Pieces of a path, as records add them.
+
+ghost use Rattle.std.specs.Prelude.{◌≡◌, ◌↔◌, [], IsFalse};
+ghost use Rattle.point_views.specs.Polys.{lists_of};
+
+use mapping::{PageMap, Point, Rect};
+use point_views::{PartedPoints, Points, Polys};
+
+/// The points of a piece, which are those of the page, as the file has them.
+#[derive(Clone, Copy, Debug, PartialEq, Eq)]
+pub enum PiecePoints<'a> {
+    /// A point.
+    Point(Point),
+    /// The points of a list.
+    List(Points<'a>),
+    /// Those of several lists.
+    Lists(PartedPoints<'a>),
+    /// The corners of the box between two points.
+    Corners(Rect),
+}
+
+impl<'a> PiecePoints<'a> {
+    ghost use Rattle.mapping.specs.Plane.{MapNumbers};
+    ghost use Rattle.dc_stack.specs.Drawing.{joined};
+    ghost use Rattle.dc_stack.specs.Mapped.{mapped_lists};
+    ghost use Rattle.dc_stack.specs.Pieces.{page_points, plane_lists};
+
+    /// The points of one list or of several.
+    pub(crate) fn of(lists: Polys<'a>) -> PiecePoints<'a>
+        ensures plane { (m : MapNumbers) → plane_lists m result ≡ mapped_lists m (lists_of lists.entry) }
+        ensures page { page_points result ≡ joined (lists_of lists.entry) }
+    {
+        match lists {
+            Polys::One(points) => PiecePoints::List(points),
+            Polys::Parted(parted) => PiecePoints::Lists(parted),
+        }
+    }
+
+    /// Whether there is a point.
+    pub(crate) fn is_some(self) -> bool
+        ensures { IsFalse result ↔ (page_points self.entry ≡ []) }
+    {
+        match self {
+            PiecePoints::Point(_) | PiecePoints::Corners(_) => true,
+            PiecePoints::List(points) => !points.is_empty(),
+            PiecePoints::Lists(parted) => !Polys::Parted(parted).points().is_empty(),
+        }
+    }
+}
+
+/// How a piece joins the figures before it.
+#[derive(Clone, Copy, Debug, PartialEq, Eq)]
+pub enum Joining {
+    /// The open figure goes on through the points, or a figure begins at the first where none is open.
+    GoesOn,
+    /// Each list with a point is a figure, of which the last stays open.
+    Polylines,
+    /// Each list with a point is a closed figure.
+    Polygons,
+}
+
+/// What becomes of the open figure behind a piece, if there is one.
+#[derive(Clone, Copy, Debug, PartialEq, Eq)]
+pub enum FigureEnd {
+    /// Lines may go on with it.
+    Open,
+    /// No line does.
+    Ended,
+    /// Its last point is joined to its first.
+    Closed,
+}
+
+/// A piece of a path, which is what one record adds to it, or the position where a record begins a figure.
+/// Its points are on the plane by the page map of the moment when it was added.
+#[derive(Clone, Copy, Debug, PartialEq, Eq)]
+pub struct Piece<'a> {
+    pub points: PiecePoints<'a>,
+    pub map: PageMap,
+    pub joining: Joining,
+    pub end: FigureEnd,
+}
+
+const _: () = prove!(size_of::<Piece<'static>>() <= 96);

@@ -1,0 +1,57 @@
+-- In which rows the lines of figures lie, and how many there are.
+use Rattle.std.proofs.Common.{◌≡◌, ◌≤◌, List, [], ◌∷◌, ◌++◌, length, arith, refl, ap, subst, length-append}
+use Rattle.std.proofs.lemmas.List.{length-map, map-append}
+use Rattle.std.proofs.lemmas.List.Elements.{All-append, All-nil}
+use Rattle.std.specs.List.{All}
+use Rattle.mapping.specs.Surface.{Surface, placed_point}
+use Rattle.mapping.specs.declared.geometry.Point.{Point}
+use Rattle.mapping.specs.declared.geometry.Rect.{Rect}
+use Rattle.dc_stack.specs.Boxes.{HasAll, HasPoint, placed_list}
+use Rattle.dc_stack.specs.Figures.{Figure, lists_of_figures, points_of_figures}
+use Rattle.span_fill.specs.RowLaws.{LiesBetween}
+use Rattle.span_fill.specs.declared.line.Line.{Line}
+use Rattle.player.specs.FigureLines.{figure_ends, lines_of_figure, lines_of_figures, placed_figure, placed_figures}
+use Rattle.player.specs.Outlines.{closed_lines, closed_lines_of}
+use Rattle.player.specs.PlacedLines.{lines_between}
+use Rattle.player.specs.Shape.{placed_lists}
+use Rattle.player.specs.declared.list_lines.Ends.{Ends}
+use Rattle.player.specs.declared.list_lines.Ends.TheVariants.{Open, Closed}
+use Rattle.player.proofs.CountLemmas.{length-closed_lines, open_lines_few}
+use Rattle.player.proofs.OutlineLemmas.{all_behind, all_front, list_lies}
+
+-- a list has no more lines than points
+lines_few : (ends : Ends) (ps : List Point) → length (lines_between ends ps) ≤ length ps
+lines_few Open ps = open_lines_few ps
+lines_few Closed ps = let e = length-closed_lines ps in omega arith
+
+module _ (s : Surface) where
+  -- nor has a figure
+  figure_few : (ends : Ends) (figure : Figure) → length (lines_of_figure ends (placed_figure s figure)) ≤ length figure.points
+  figure_few ends figure =
+      let few = lines_few (figure_ends ends figure.is_closed) (placed_list s figure.points) in
+      let points = length-map figure.points (λ p. placed_point p s) in omega arith
+
+  -- nor have several
+  pub figure_lines_few : (ends : Ends) (figures : List Figure) → length (lines_of_figures ends (placed_figures s figures)) ≤ length (points_of_figures figures)
+  figure_lines_few ends [] = omega arith
+  figure_lines_few ends (f ∷ fs) =
+      let first = figure_few ends f in
+      let others = figure_lines_few ends fs in
+      let a = length-append (lines_of_figure ends (placed_figure s f)) (lines_of_figures ends (placed_figures s fs)) in
+      let b = length-append f.points (points_of_figures fs) in omega arith
+
+  -- where a box has all points where they land, the lines lie in its rows
+  pub figure_lines_lie : (box : Rect) (ends : Ends) (figures : List Figure) → HasAll box (placed_list s (points_of_figures figures)) → All (LiesBetween box.t box.b) (lines_of_figures ends (placed_figures s figures))
+  figure_lines_lie box ends [] h = All-nil (LiesBetween box.t box.b)
+  figure_lines_lie box ends (f ∷ fs) h =
+      let first = placed_list s f.points in
+      let others = placed_list s (points_of_figures fs) in
+      let all : HasAll box (first ++ others) = subst (HasAll box) (map-append (λ p. placed_point p s) f.points (points_of_figures fs)) h in
+      All-append (LiesBetween box.t box.b) (lines_of_figure ends (placed_figure s f)) (lines_of_figures ends (placed_figures s fs))
+      (list_lies box (figure_ends ends f.is_closed) first (all_front (HasPoint box) first others all))
+      (figure_lines_lie box ends fs (all_behind (HasPoint box) first others all))
+
+  -- where all figures are closed, the lines are those round their points
+  pub closed_figure_lines : (figures : List Figure) → lines_of_figures Closed (placed_figures s figures) ≡ closed_lines_of (placed_lists s (lists_of_figures figures))
+  closed_figure_lines [] = refl
+  closed_figure_lines (f ∷ fs) = ap (λ (rest : List Line). closed_lines (placed_list s f.points) ++ rest) (closed_figure_lines fs)
