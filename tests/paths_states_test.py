@@ -381,6 +381,15 @@ class Dropped(StateTest):
             wanted = refused(fault, 900_000 + len(records))
             self.assertEqual(answer(program, ["show", "stdin", "4", "4"], given), wanted)
 
+    @for_each_program
+    def test_small_paths_behind_a_tall_one_take_no_longer(self, program):
+        # Only the rows of each path are looked at: in those of the first they would take more than a minute.
+        tall = EMF.records("begin_path; line 0 4; abort_path")
+        small = EMF.records("begin_path; move 0 0; line 1 0; end_path; stroke_path")
+        given = emf_file([*tall, b"".join(small) * 150_000, EMF_END])
+        wanted = shown({(0, 0): (0, 0, 0)}, 4, 8192)
+        self.assertEqual(answer(program, ["show", "stdin", "4", "8192"], given), wanted)
+
 
 if __name__ == "__main__":
     unittest.main()

@@ -200,7 +200,7 @@ unfolding edge_limit piece_limit place_limit plane_limit
 line_from_far = refl
 
 -- and where a figure goes on, the position isn't looked at
-line_past_far : fault_behind (begin_path ∷ save ∷ move_to far ∷ save ∷ restore (pos 1) ∷ line_to p ∷ save ∷ []) (line_to q) ≡ None
+line_past_far : fault_behind (begin_path ∷ move_to far ∷ polyline ((p ∷ []) ∷ []) ∷ []) (line_to q) ≡ None
 unfolding edge_limit piece_limit place_limit plane_limit
 line_past_far = refl
 

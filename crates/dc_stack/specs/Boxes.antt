@@ -1,5 +1,5 @@
 -- Boxes around points of a surface.
-use Rattle.std.specs.Prelude.{◌≤ℤ◌, List, map}
+use Rattle.std.specs.Prelude.{pos, negsuc, ◌≤ℤ◌, List, map}
 use Rattle.std.specs.List.{All}
 use Rattle.mapping.specs.Surface.{Surface, placed_point}
 use Rattle.mapping.specs.declared.geometry.Point.{Point}
@@ -23,3 +23,7 @@ HasAll box points = All (HasPoint box) points
 -- it has what another box has
 abbrev pub HasAllOf : Rect → Rect → Type 0
 HasAllOf box other = (point : Point) → HasPoint other point → HasPoint box point
+
+-- the box around no point, which has none
+abbrev pub nowhere : Rect
+nowhere = record { l = pos 2147483647; t = pos 2147483647; r = negsuc 2147483647; b = negsuc 2147483647 }

@@ -3,6 +3,7 @@
 ghost use Rattle.std.specs.Prelude.{◌≡◌, ◌≢◌, ◌+◌, ◌<◌, ◌≤◌, [], ◌∷◌, ◌++◌, Bool, true, length, nat_le, vec_capacity, OnOk, OnErr, IfErr, IsTrue};
 ghost use Rattle.mapping.specs.Surface.{Surface};
 ghost use Rattle.draw_ops.specs.declared.fault.Fault.TheVariants.{OutOfMemory};
+ghost use Rattle.dc_stack.specs.Boxes.{nowhere};
 ghost use Rattle.dc_stack.specs.Figures.{no_figures};
 ghost use Rattle.dc_stack.specs.GatheredPath.{IsGathered, IsSamePath, LandsInside, is_open_phase, open_piece, painted_of, path_of, phase_behind};
 ghost use Rattle.dc_stack.specs.Path.{after_closing, after_ending, after_moving, is_finished, is_open, no_path, open_path, piece_limit};
@@ -56,6 +57,7 @@ impl<'a> GatheredPath<'a> {
         ensures painted { painted_of result ≡ [] }
         ensures gathered { IsGathered result }
         ensures pieces { result.pieces.items ≡ [] }
+        ensures bounds { result.bounds ≡ nowhere }
     {
         GatheredPath {
             phase: PathPhase::NoPath,
@@ -70,6 +72,7 @@ impl<'a> GatheredPath<'a> {
         ensures painted { painted_of self.new ≡ [] }
         ensures gathered { IsGathered self.new }
         ensures pieces { self.new.pieces.items ≡ [] }
+        ensures bounds { self.new.bounds ≡ nowhere }
         ensures room { vec_capacity self.new.pieces ≡ vec_capacity self.old.pieces }
     {
         self.phase = PathPhase::NoPath;
@@ -83,11 +86,11 @@ impl<'a> GatheredPath<'a> {
         ensures painted { painted_of self.new ≡ [] }
         ensures gathered { IsGathered self.new }
         ensures pieces { self.new.pieces.items ≡ [] }
+        ensures bounds { self.new.bounds ≡ nowhere }
         ensures room { vec_capacity self.new.pieces ≡ vec_capacity self.old.pieces }
     {
+        self.abort();
         self.phase = PathPhase::BetweenFigures;
-        self.pieces.clear();
-        self.bounds = NOWHERE;
     }
 
     /// Whether records add to the path.
