@@ -11,6 +11,7 @@ import unittest
 from collections.abc import Callable
 from typing import NamedTuple
 
+from bitmap_records import APART, EMF_BLITS, WMF_BLITS
 from built import answer
 from records_table import (
     BLUE,
@@ -39,6 +40,17 @@ SIDE = 16
 
 # How many indexes an EMF has, that of 0 included, where a test tells no other number.
 HANDLES = 16
+
+
+def word_of(word):
+    """What a script's word tells: a number, or the word itself where it is a mark between lists or
+    a bitmap."""
+    return word if word == BETWEEN or APART in word else int(word, 0)
+
+
+def sides_of(frame):
+    """A frame's sides, of which a square has one told."""
+    return frame if isinstance(frame, tuple) else (frame, frame)
 
 
 class Form(NamedTuple):
@@ -75,8 +87,7 @@ class Form(NamedTuple):
         told = []
         for step in filter(None, map(str.strip, script.split(";"))):
             times, name, numbers = re.fullmatch(r"(?:(\d+)x )?([a-z_]+)(.*)", step).groups()
-            words = numbers.split()
-            record = self.step(name, *(word if word == BETWEEN else int(word, 0) for word in words))
+            record = self.step(name, *map(word_of, numbers.split()))
             told += [record] * int(times or 1)
         return told
 
@@ -97,8 +108,9 @@ def wmf_object(parameters):
 
 
 def wmf_frame(records, frame, handles):
-    """A placeable file whose box is a square at the origin; it counts no handles."""
-    return placeable_file([*records, WMF_END], right=i16(frame), bottom=i16(frame))
+    """A placeable file whose box is at the origin, mostly a square; it counts no handles."""
+    width, height = sides_of(frame)
+    return placeable_file([*records, WMF_END], right=i16(width), bottom=i16(height))
 
 
 WMF = Form(
@@ -106,6 +118,7 @@ WMF = Form(
     record=wmf_record,
     named={name: (number, wmf_object(rest)) for name, (number, rest) in WMF_OBJECTS.items()}
     | WMF_SHAPES
+    | WMF_BLITS
     | {
         "select": (0x012D, u16),
         "delete": (0x01F0, u16),
@@ -156,8 +169,9 @@ def emf_region():
 
 
 def emf_frame(records, frame, handles):
-    """An EMF whose bounds are a square at the origin, with a count of handles."""
-    ends = {"right": i32(frame - 1), "bottom": i32(frame - 1)}
+    """An EMF whose bounds are at the origin, mostly a square, with a count of handles."""
+    width, height = sides_of(frame)
+    ends = {"right": i32(width - 1), "bottom": i32(height - 1)}
     return emf_file([*records, EMF_END], handles=u16(handles), **ends)
 
 
@@ -167,6 +181,7 @@ EMF = Form(
     named={name: (kind, emf_indexed(rest, 1)) for name, (kind, rest) in EMF_INDEXED.items()}
     | {f"{name}_at": (kind, emf_indexed(rest, 0)) for name, (kind, rest) in EMF_INDEXED.items()}
     | EMF_SHAPES
+    | EMF_BLITS
     | {
         "save": (33, i32),
         "restore": (34, i32),

@@ -566,7 +566,7 @@ WMF_REFUSED = {
     0x0D33: "META_SETDIBTODEV",
 }
 
-# Interim: refused until bitmaps are read.
+# These bring bitmaps: `bitmap_records` makes them, and they are tried in tests of their own.
 WMF_BITMAPS = {
     0x0142: "META_DIBCREATEPATTERNBRUSH",
     0x061D: "META_PATBLT",
@@ -863,7 +863,7 @@ EMF_REFUSED = {
     122: "EMR_CREATECOLORSPACEW",
 }
 
-# Interim: refused until bitmaps are read.
+# As in a WMF, these bring bitmaps.
 EMF_BITMAPS = {
     76: "EMR_BITBLT",
     77: "EMR_STRETCHBLT",
@@ -876,7 +876,7 @@ EMF_ABSENT = [0, 69, 107, 117]
 
 
 class Format(NamedTuple):
-    """A format: its kinds that are read, and those without effect, refused, and refused for now;
+    """A format: its kinds that are read, those without effect, and refused, and those with bitmaps;
     how its records are written (one of any kind, one that draws a pixel, the one that ends a file),
     of how many bytes their sizes are multiples, how a file is made of them, and which number its
     first one has."""
@@ -900,8 +900,10 @@ class Format(NamedTuple):
                 return "BadParams" if joined(kind.least, {}) else kind.outcome
         if number in self.skipped:
             return {}
-        if number in self.refused or number in self.bitmaps:
+        if number in self.refused:
             return f"Unsupported {number}"
+        if number in self.bitmaps:
+            return "BadParams"
         return f"UnknownRecord {number}"
 
 

@@ -173,7 +173,7 @@ class Numbers(Records):
     @for_each_program
     def test_parameters_of_records_that_are_not_read(self, program):
         for form in FORMATS:
-            unread = [*form.skipped, *form.refused, *form.bitmaps]
+            unread = [*form.skipped, *form.refused]
             records = [
                 (number, more, form.outcome_of_empty(number))
                 for number in unread

@@ -21,6 +21,15 @@ from reference import (
     mixed,
     opened,
 )
+from reference_bitmaps import (
+    Picture,
+    Source,
+    SourceMissing,
+    depends_on_pattern,
+    depends_on_source,
+    joined_by,
+    picture_in,
+)
 from reference_paths import CLOSED, ENDED, OPEN, Path, PathState
 from shape_records import lists_of, rgb_of
 
@@ -30,15 +39,19 @@ WHITE = (255, 255, 255)
 OPAQUE = 2
 COPY_PEN = 13
 
+# The parts of a state that are its brush.
+NO_BRUSH = {"brush": None, "hatch": None, "tile": None}
+
 
 class State(NamedTuple):
     """What later records are played with. A pen is its colour or nothing; a brush is nothing, a
-    colour, or a hatch and a colour."""
+    colour, a hatch and a colour, or a tile, which is a picture."""
 
     axes: tuple[Axis, Axis]
     pen: tuple | None = BLACK
     brush: tuple | None = WHITE
     hatch: int | None = None
+    tile: Picture | None = None
     back_mode: int = OPAQUE
     back: tuple = WHITE
     operation: int = COPY_PEN
@@ -62,7 +75,9 @@ class State(NamedTuple):
         return in_kept and not any(is_in_box(box, x, y) for box in self.cut)
 
     def brush_at(self, x, y):
-        """The brush's colour at a pixel, or nothing."""
+        """The brush's colour at a pixel, or nothing. A tile begins at the surface's corner."""
+        if self.tile is not None:
+            return self.tile.colour(x % self.tile.width, y % self.tile.height)
         if self.hatch is None or HATCHES[self.hatch](x % 8, y % 8):
             return self.brush
         return self.back if self.back_mode == OPAQUE else None
@@ -113,9 +128,8 @@ class Reference:
                     self.image[x, y] = drawn
 
     def fill(self, has):
-        """A layer of the brush, if it isn't null."""
-        if self.state.brush is not None:
-            self.layer(has, self.state.brush_at)
+        """A layer of the brush: a null one gives nothing anywhere."""
+        self.layer(has, self.state.brush_at)
 
     def stroke(self, lines):
         """A layer of the pen, if it isn't null."""
@@ -193,6 +207,58 @@ class Reference:
         """The places of page points."""
         return list(map(self.state.place, points))
 
+    # Blits, which a path doesn't gather. A WMF has a bitmap in one piece, an EMF in two.
+
+    def picture(self, word):
+        """The picture of a bitmap."""
+        return picture_in(word, is_packed=not self.inclusive)
+
+    def play_pat_blt(self, operation, *box):
+        self.blit(operation, box, None)
+
+    def play_bare_bit_blt(self, operation, x, y, width, height, *source):
+        self.blit(operation, (x, y, width, height), None)
+
+    def play_bare_stretch_blt(self, operation, x, y, width, height, *source):
+        self.blit(operation, (x, y, width, height), None)
+
+    def play_bare_stretch_dib(self, operation, x, y, width, height, *source):
+        self.blit(operation, (x, y, width, height), None)
+
+    def play_bit_blt(self, operation, x, y, width, height, source_x, source_y, word):
+        source = Source(self.picture(word), (source_x, source_y), (width, height))
+        self.blit(operation, (x, y, width, height), source)
+
+    def play_stretch_blt(self, operation, x, y, width, height, *told):
+        *source, word = told
+        source = Source(self.picture(word), tuple(source[:2]), tuple(source[2:]))
+        self.blit(operation, (x, y, width, height), source)
+
+    def play_stretch_dib(self, operation, x, y, width, height, *told):
+        *source, word = told
+        picture = self.picture(word)
+        source = Source(picture, tuple(source[:2]), tuple(source[2:]), picture.bottom_up)
+        self.blit(operation, (x, y, width, height), source)
+
+    def blit(self, operation, box, source):
+        """Joins brush, source and what is there in a box, where the brush gives a colour or the
+        operation doesn't ask it."""
+        reads, state = depends_on_source(operation), self.state
+        if reads and source is None:
+            raise SourceMissing
+        if reads:
+            source.check()
+        x, y, width, height = box
+        corners = state.place((x, y)), state.place((x + width, y + height))
+        covered = state.box(x, y, x + width, y + height)
+        for pixel, there in self.image.items():
+            if not is_in_box(covered, *pixel) or not state.is_in_clip(*pixel):
+                continue
+            pattern = state.brush_at(*pixel) if depends_on_pattern(operation) else BLACK
+            read = source.colour(pixel, corners) if reads else BLACK
+            if pattern is not None:
+                self.image[pixel] = joined_by(operation, pattern, read, there)
+
     # Paths.
 
     def open_path(self):
@@ -269,13 +335,16 @@ class Reference:
         self.objects[index] = {"pen": None}
 
     def play_solid_brush(self, index, number):
-        self.objects[index] = {"brush": rgb_of(number), "hatch": None}
+        self.objects[index] = NO_BRUSH | {"brush": rgb_of(number)}
 
     def play_null_brush(self, index):
-        self.objects[index] = {"brush": None, "hatch": None}
+        self.objects[index] = NO_BRUSH
 
     def play_hatched_brush(self, index, hatch, number):
-        self.objects[index] = {"brush": rgb_of(number), "hatch": hatch}
+        self.objects[index] = {"brush": rgb_of(number), "hatch": hatch, "tile": None}
+
+    def play_tiled_brush(self, index, word):
+        self.objects[index] = NO_BRUSH | {"tile": self.picture(word)}
 
     def play_select(self, index):
         self.change(**self.objects[index])

@@ -1,5 +1,5 @@
-"""Small files of all kinds of shapes and paths, made at random from a fixed seed, in the built
-programs: each pixel is as the reference decides it by itself."""
+"""Small files of all kinds of shapes, paths, blits and tiles, made at random from a fixed seed, in
+the built programs: each pixel is as the reference decides it by itself."""
 
 import random
 import unittest
@@ -7,8 +7,10 @@ from concurrent.futures import ThreadPoolExecutor
 from functools import cache
 from typing import NamedTuple
 
+from bitmap_records import APART
 from built import Answer, answer, for_each_program
 from machine_records import EMF, FORMS, WMF, Form
+from random_bitmaps import BARE, WHOLE, RandomBitmaps
 from records_table import (
     EMF_END,
     WMF_END,
@@ -51,6 +53,9 @@ NEXT = {
 LEFT = {"begin_path": "open", "end_path": "finished", "abort_path": "none"}
 LEFT |= dict.fromkeys(PAINTINGS, "none")
 
+# How many of the drawings are blits.
+BLITS = 0.3
+
 COLOURS = [0x000000, 0xFF0000, 0x00FF00, 0x0000FF, 0x5A3C96, 0x800001, 0xFFFFFF]
 
 
@@ -77,6 +82,7 @@ class Maker:
             # Some have many pixels a row, or many rows.
             sides = self.random.randint(13, 140), self.random.randint(1, 4)
             self.surface = self.random.choice([sides, sides[::-1]])
+        self.bitmaps = RandomBitmaps(self.random)
         self.objects = 0
         self.depth = 0
         self.cuts = 0
@@ -101,6 +107,8 @@ class Maker:
 
     def shape(self):
         """A drawing."""
+        if self.random.random() < BLITS:
+            return [self.blit()]
         emf_shapes = PATH_SHAPES if self.path == "open" else EMF_SHAPES
         name = self.random.choice(SHAPES if self.form is WMF else emf_shapes)
         if name == "line":
@@ -114,6 +122,16 @@ class Maker:
         for _ in range(self.random.randint(0, 2)):
             words += [BETWEEN, *self.points()]
         return [(name, self.narrow(name, words))]
+
+    def blit(self):
+        """A blit, with a bitmap or without one."""
+        corner = self.numbers(2)
+        most = max(self.surface) + 3
+        extents = [self.random.randint(-most // 2, most) for _ in range(2)]
+        if self.random.random() < 0.4:
+            names = [name for name in BARE if name in self.form.named]
+            return self.bitmaps.bare(names, corner + extents)
+        return self.bitmaps.blit(corner, extents)
 
     def narrow(self, name, words):
         """Words that fit two bytes where the record has no more."""
@@ -129,6 +147,7 @@ class Maker:
             *[("solid_pen", [colour])] * 3,
             *[("solid_brush", [colour])] * 2,
             *[("hatched_brush", [hatch, colour])] * 4,
+            *[("tiled_brush", [self.bitmaps.tile()])] * 4,
             ("null_pen", []),
             ("null_brush", []),
         ]
@@ -251,6 +270,11 @@ def all_drawn():
     ]
 
 
+def is_of_bitmaps(refusal):
+    """A line that tells a fault of a bitmap or of a blit's source."""
+    return b"Dib" in refusal or b"Source" in refusal
+
+
 def shown_by(program, drawn):
     """What a program answers to a file at its surface."""
     return answer(program, ["show", "stdin", *map(str, drawn.surface)], drawn.given)
@@ -271,6 +295,15 @@ class Files(unittest.TestCase):
             self.assertGreater(len(painted), FILES["EMF"] // 4)
         misused = [drawn for drawn in all_drawn() if b"PathState" in drawn.wanted.err]
         self.assertIn(len(misused), range(10, FILES["EMF"] // 8))
+
+    def test_most_files_have_bitmaps_and_few_misuse_them(self):
+        accepted = [drawn.script for drawn in all_drawn() if drawn.wanted.status == 0]
+        with_bitmaps = [script for script in accepted if APART in script]
+        self.assertGreater(3 * len(with_bitmaps), 2 * len(accepted))
+        for name in [*BARE, *WHOLE, "tiled_brush"]:
+            self.assertGreater(sum(name in script for script in accepted), 50, name)
+        misused = [drawn for drawn in all_drawn() if is_of_bitmaps(drawn.wanted.err)]
+        self.assertIn(len(misused), range(20, len(all_drawn()) // 4))
 
     @for_each_program
     def test_each_pixel_is_that_of_the_reference(self, program):

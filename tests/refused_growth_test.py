@@ -12,9 +12,10 @@ import subprocess
 import tempfile
 import unittest
 
+from bitmap_records import MASKED, PATCOPY, PATINVERT, QUAD, QUAD_ROWS, SRCCOPY
 from built import CRATES, DOT, DOT_IMAGE, PROGRAMS, SAMPLES, Answer, answer
 from machine_records import EMF, FORMS, HANDLES, SIDE, WMF, pixels
-from records_table import refused
+from records_table import refused, shown
 
 OUT_OF_MEMORY = Answer(4, b"", b"metaplay: OutOfMemory\n")
 
@@ -26,6 +27,20 @@ NO_PIXELS = pixels([])
 
 # A state with all cuts that it may have, saved often, and an object that it holds.
 HELD_OFTEN = "pen 0; select 0; 16x cut 0 0 1 1; 100x save"
+
+
+def tiled(index):
+    """A brush of a tile of two by two pixels."""
+    return f"tiled_brush {index} {QUAD}; select {index}"
+
+
+# What it paints everywhere: by a blit, and from a saved state by a polygon, over another blit.
+TILES = {(x, y): QUAD_ROWS[y % 2][x % 2] for x in range(SIDE) for y in range(SIDE)}
+PAINTED = [
+    f"{tiled(0)}; pat_blt {PATCOPY} 0 0 16 16",
+    f"null_pen 0; select 0; {tiled(1)}; save; null_brush 2; select 2; restore -1; "
+    f"stretch_blt {MASKED} 0 0 9 9 0 0 2 2 {QUAD}; polygon 0 0 16 0 16 16 0 16",
+]
 
 # Objects, saved states and paths, for which the program takes its memory before the first record: their
 # format, and the answer where memory is ample.
@@ -44,6 +59,7 @@ STATE_SCRIPTS = [
     (WMF, "257x save", refused("DepthLimit", 256)),
     (WMF, f"{HELD_OFTEN}; 100x pen 1; delete 0", refused("HeldObject", 218)),
     (EMF, f"{HELD_OFTEN}; pen 99; delete 0", refused("HeldObject", 120)),
+    *[(form, script, shown(TILES, SIDE, SIDE)) for form in FORMS for script in PAINTED],
     (EMF, "begin_path; line -1 -1; abort_path", NO_PIXELS),
     (EMF, "begin_path; 5000x polygon -9 -9 -5 -9; end_path; stroke_and_fill_path", NO_PIXELS),
     (EMF, "begin_path; 65537x polyline -1 -1", refused("TooManyPieces", 65538)),
@@ -84,6 +100,10 @@ REPEATED = [
     "save; restore -1",
     "save; cut 1 1 2 2; restore 1",
     "save; save; save; restore -2; restore -1",
+    f"pat_blt {PATINVERT} 0 0 3 4",
+    f"bit_blt {SRCCOPY} 0 0 2 2 0 0 {QUAD}",
+    f"stretch_dib {MASKED} 4 4 -4 -4 0 0 2 1 {QUAD}",
+    f"save; {tiled(0)}; pat_blt {PATCOPY} 0 0 4 4; polygon 0 0 4 0 0 4; restore -1; delete 0",
 ]
 
 

@@ -3,9 +3,10 @@
 ghost use Rattle.std.specs.Prelude.{◌≡◌, ◌+◌, ◌-◌, ◌%◌, ◌<◌, ◌≤◌, ◌^◌, length, slice_index_or};
 ghost use Rattle.mapping.specs.Mixes.{mixed_by};
 ghost use Rattle.canvas.specs.CanvasState.{HasPixel, HasRow};
+ghost use Rattle.canvas.specs.MixRows.{mix_at};
 ghost use Rattle.canvas.specs.Writing.{Repaints, in_cells, in_span, is_at};
 
-use crate::parts::{fill_with, fill_with_pattern, mix_all, mix_cells_of};
+use crate::parts::{fill_with, fill_with_pattern, mix_all, mix_cells_of, mix_each};
 use crate::surface::{Canvas, place};
 use mapping::{Colour, Mix};
 
@@ -68,6 +69,21 @@ impl Canvas {
         let end = start + (x_to - x_from) as usize;
         mix_all(&mut self.colours[start..end], mix);
         self.writes += u64::from(x_to - x_from);
+    }
+
+    /// Changes the pixels of row `y` from column `x_from` on, each by the mix at its place: as many as there
+    /// are mixes.
+    pub fn mix_row(&mut self, x_from: u32, y: u32, mixes: &[Mix])
+        requires width { x_from + length mixes.now ≤ self.old.width }
+        requires row { HasRow self.old y }
+        requires countable { self.old.writes + length mixes.now < 2 ^ 64 }
+        ensures pixels { Repaints (in_span y x_from (x_from + length mixes.now)) (λ column row old. mixed_by (mix_at mixes.now (column - x_from)) old) self.old self.new }
+        ensures count { self.new.writes ≡ self.old.writes + length mixes.now }
+    {
+        let start = place(self.width, y - self.first, x_from);
+        let end = start + mixes.len();
+        mix_each(&mut self.colours[start..end], mixes);
+        self.writes += mixes.len() as u64;
     }
 
     /// Changes those pixels of row `y` in the columns from `x_from` up to and without `x_to` whose column

@@ -5,16 +5,19 @@ use Rattle.std.specs.Option.{option_or}
 use Rattle.std.specs.List.{list_all}
 use Rattle.mapping.specs.MapSettings.{is_page_point, offset_by, sets_zero_extent, viewport_origin_of, window_origin_of}
 use Rattle.mapping.specs.Surface.{Surface, lands_within_limits}
+use Rattle.draw_ops.specs.Blits.{SourceValue}
 use Rattle.draw_ops.specs.Fault.{IsInRecord}
 use Rattle.draw_ops.specs.Objects.{ObjectValue, brush_object, font_object, palette_object, pen_object}
 use Rattle.draw_ops.specs.declared.fault.Fault.{Fault}
-use Rattle.draw_ops.specs.declared.fault.Fault.TheVariants.{DepthLimit, HandleTaken, HeldObject, NoSavedState, NoSuchHandle, OffPlane, PathState, TableFull, TooManyCuts, TooManyEdges, TooManyPieces, WrongKind, ZeroExtent}
-use Rattle.draw_ops.specs.Operation.{Operation, no_effect, save, restore, set_background_mode, set_map_mode, set_raster_op, set_fill_mode, set_background_colour, set_window_origin, set_window_extent, set_viewport_origin, set_viewport_extent, offset_window_origin, offset_viewport_origin, exclude_clip, intersect_clip, remove_clip, move_to, line_to, pixel, rectangle, polyline, polygon, polyline_to, create, select, select_palette, delete, begin_path, end_path, close_figure, abort_path, fill_path, stroke_path, stroke_and_fill_path}
+use Rattle.draw_ops.specs.declared.fault.Fault.TheVariants.{DepthLimit, HandleTaken, HeldObject, NoSavedState, NoSuchHandle, OffPlane, PathState, SourceMissing, SourceOutside, TableFull, TooManyCuts, TooManyEdges, TooManyPieces, WrongKind, ZeroExtent}
+use Rattle.draw_ops.specs.Operation.{Operation, no_effect, save, restore, set_background_mode, set_map_mode, set_raster_op, set_fill_mode, set_background_colour, set_window_origin, set_window_extent, set_viewport_origin, set_viewport_extent, offset_window_origin, offset_viewport_origin, exclude_clip, intersect_clip, remove_clip, move_to, line_to, pixel, rectangle, polyline, polygon, polyline_to, blit, create, select, select_palette, delete, begin_path, end_path, close_figure, abort_path, fill_path, stroke_path, stroke_and_fill_path}
+use Rattle.raster_ops.specs.Sources.{is_inside}
+use Rattle.raster_ops.specs.TernaryOps.{uses_source}
 use Rattle.object_tables.specs.Slots.{Slots, is_taken}
 use Rattle.object_tables.specs.Table.{TableKind, by_given_index, by_lowest_free, create_fault, may_be_given, slot_limit}
 use Rattle.dc_stack.specs.Clip.{cut_limit}
 use Rattle.dc_stack.specs.Drawing.{Drawing, drawing_edges, drawing_of, edge_limit}
-use Rattle.dc_stack.specs.OperationFault.{edges_fault, fault_of, plain_fault, plane_points}
+use Rattle.dc_stack.specs.OperationFault.{edges_fault, fault_of, given_fault, plain_fault, plane_points}
 use Rattle.dc_stack.specs.Next.{next}
 use Rattle.dc_stack.specs.Path.{Path, begin_fault, finished_fault, is_finished, is_open, piece_count, piece_limit, pieces_fault}
 use Rattle.dc_stack.specs.SavedStates.{depth_limit, restore_fault, saved_place}
@@ -83,6 +86,11 @@ added_or_drawn operation state = either (pieces_fault (piece_count (next operati
 painted : (operation : Operation) (state : State) → LiesInRecord (option_or (finished_fault state.path) (edges_fault (drawing_of operation state)))
 painted operation state = either (finished_fault state.path) (edges_fault (drawing_of operation state)) (passes (is_finished state.path) PathState refl) (of_edges (drawing_of operation state))
 
+-- of what a blit reads
+of_given : (source : Option SourceValue) → LiesInRecord (given_fault source)
+of_given None = one SourceMissing refl
+of_given (Some source) = passes (is_inside source) SourceOutside refl
+
 -- of each operation
 plain_in_record : (operation : Operation) (state : State) → LiesInRecord (plain_fault operation state)
 plain_in_record no_effect state = none
@@ -109,6 +117,7 @@ plain_in_record (rectangle corners edges) state = added_or_drawn (rectangle corn
 plain_in_record (polyline lists) state = added_or_drawn (polyline lists) state
 plain_in_record (polygon lists) state = added_or_drawn (polygon lists) state
 plain_in_record (polyline_to points) state = added_or_drawn (polyline_to points) state
+plain_in_record (blit asked) state = chosen (uses_source asked.table) _ _ (of_given asked.source) none
 plain_in_record (create at object) state = of_create state.table_kind at state.slots
 plain_in_record (select index) state = of_object (named_object index state.slots)
 plain_in_record (select_palette index) state = of_palette (named_object index state.slots)

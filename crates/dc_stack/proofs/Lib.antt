@@ -1,5 +1,6 @@
 pub mod BoxLemmas
 pub mod CoordinateLemmas
+pub mod BlitLemmas
 pub mod LandingLemmas
 pub mod ListLemmas
 pub mod FigureLemmas
@@ -17,4 +18,5 @@ pub mod WorkedStart
 pub mod WorkedRows
 pub mod WorkedClips
 pub mod WorkedDrawings
+pub mod WorkedBlits
 pub mod WorkedPaths

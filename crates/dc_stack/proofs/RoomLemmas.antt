@@ -4,7 +4,7 @@ use Rattle.std.proofs.lemmas.Bool.{leb-true, ltb-true}
 use Rattle.std.specs.Option.{option_or}
 use Rattle.draw_ops.specs.declared.fault.Fault.{Fault}
 use Rattle.draw_ops.specs.declared.fault.Fault.TheVariants.{DepthLimit, TooManyPieces}
-use Rattle.draw_ops.specs.Operation.{Operation, no_effect, save, restore, set_background_mode, set_map_mode, set_raster_op, set_fill_mode, set_background_colour, set_window_origin, set_window_extent, set_viewport_origin, set_viewport_extent, offset_window_origin, offset_viewport_origin, exclude_clip, intersect_clip, remove_clip, move_to, line_to, pixel, rectangle, polyline, polygon, polyline_to, create, select, select_palette, delete, begin_path, end_path, close_figure, abort_path, fill_path, stroke_path, stroke_and_fill_path}
+use Rattle.draw_ops.specs.Operation.{Operation, no_effect, save, restore, set_background_mode, set_map_mode, set_raster_op, set_fill_mode, set_background_colour, set_window_origin, set_window_extent, set_viewport_origin, set_viewport_extent, offset_window_origin, offset_viewport_origin, exclude_clip, intersect_clip, remove_clip, move_to, line_to, pixel, rectangle, polyline, polygon, polyline_to, blit, create, select, select_palette, delete, begin_path, end_path, close_figure, abort_path, fill_path, stroke_path, stroke_and_fill_path}
 use Rattle.object_tables.specs.Table.{CreatedIndexIsBelowBound, create_fault}
 use Rattle.dc_stack.specs.MachineState.{FullRoomIsEnough}
 use Rattle.dc_stack.specs.Drawing.{drawing_of}
@@ -75,6 +75,7 @@ added_few (rectangle corners edges) state h adds = few_pieces (piece_count (next
 added_few (polyline lists) state h adds = few_pieces (piece_count (next (polyline lists) state).path) (edges_fault (drawing_of (polyline lists) state)) h
 added_few (polygon lists) state h adds = few_pieces (piece_count (next (polygon lists) state).path) (edges_fault (drawing_of (polygon lists) state)) h
 added_few (polyline_to points) state h adds = few_pieces (piece_count (next (polyline_to points) state).path) (edges_fault (drawing_of (polyline_to points) state)) h
+added_few (blit asked) state h adds = absurd (same_count state.path adds)
 added_few (create at object) state h adds = absurd (same_count state.path adds)
 added_few (select index) state h adds = absurd (same_count state.path adds)
 added_few (select_palette index) state h adds = absurd (same_count state.path adds)

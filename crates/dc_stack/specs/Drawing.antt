@@ -6,18 +6,20 @@ use Rattle.mapping.specs.declared.geometry.Colour.{Colour}
 use Rattle.mapping.specs.declared.geometry.Point.{Point}
 use Rattle.draw_ops.specs.declared.objects.Pen.{Pen}
 use Rattle.draw_ops.specs.declared.operation.RectangleEdges.{RectangleEdges}
+use Rattle.draw_ops.specs.Blits.{SourceValue}
 use Rattle.draw_ops.specs.Objects.{BrushValue}
-use Rattle.draw_ops.specs.Operation.{Operation, no_effect, save, restore, set_background_mode, set_map_mode, set_raster_op, set_fill_mode, set_background_colour, set_window_origin, set_window_extent, set_viewport_origin, set_viewport_extent, offset_window_origin, offset_viewport_origin, exclude_clip, intersect_clip, remove_clip, move_to, line_to, pixel, rectangle, polyline, polygon, polyline_to, create, select, select_palette, delete, begin_path, end_path, close_figure, abort_path, fill_path, stroke_path, stroke_and_fill_path}
+use Rattle.draw_ops.specs.Operation.{Operation, no_effect, save, restore, set_background_mode, set_map_mode, set_raster_op, set_fill_mode, set_background_colour, set_window_origin, set_window_extent, set_viewport_origin, set_viewport_extent, offset_window_origin, offset_viewport_origin, exclude_clip, intersect_clip, remove_clip, move_to, line_to, pixel, rectangle, polyline, polygon, polyline_to, blit, create, select, select_palette, delete, begin_path, end_path, close_figure, abort_path, fill_path, stroke_path, stroke_and_fill_path}
 use Rattle.dc_stack.specs.Clip.{ClipValue}
 use Rattle.dc_stack.specs.Figures.{Figure, lists_of_figures, points_of_figures}
-use Rattle.dc_stack.specs.Mapped.{left_top, mapped_lists, mapped_point, right_bottom}
+use Rattle.dc_stack.specs.Mapped.{far_corner, left_top, mapped_lists, mapped_point, right_bottom}
 use Rattle.dc_stack.specs.Path.{figures_to_paint, unless_open}
 use Rattle.dc_stack.specs.State.{DcValue, State}
 use Rattle.dc_stack.specs.declared.modes.Modes.{Modes}
 
 -- What is marked on the plane: a point in a colour, lines from point to point of each list, polygons, each list one, the insides of
--- polygons without their outlines, the lines of figures, of a closed one from its last point back to its first too, or the rectangle
--- between two corners, whichever of them comes first.
+-- polygons without their outlines, the lines of figures, of a closed one from its last point back to its first too, the rectangle
+-- between two corners, whichever of them comes first, or the box between two, of which each pixel becomes what a ternary raster
+-- operation makes of it.
 pub data Mark : Type 0 where
   dot : Point → Colour → Mark
   lines_through : List (List Point) → Mark
@@ -25,6 +27,7 @@ pub data Mark : Type 0 where
   insides_of : List (List Point) → Mark
   along_figures : List Figure → Mark
   rectangle_between : Point → Point → RectangleEdges → Mark
+  blit_between : Point → Point → ℕ → Option SourceValue → Mark
 
 -- what is drawn with: the pen, the brush, the modes, and the clip
 pub record Tools : Type 0 where
@@ -94,6 +97,8 @@ drawing_of (polyline lists) state = drawing_unless_open (lines_through (mapped_l
 drawing_of (polygon lists) state = drawing_unless_open (polygons_of (mapped_lists state.dc.map lists)) state
 drawing_of (polyline_to points) state =
     drawing_unless_open (lines_through (mapped_lists state.dc.map (going_on state.dc.position points))) state
+drawing_of (blit asked) state =
+    drawing_now (blit_between (mapped_point state.dc.map asked.corner) (mapped_point state.dc.map (far_corner asked)) asked.table asked.source) state
 drawing_of (create at object) state = None
 drawing_of (select index) state = None
 drawing_of (select_palette index) state = None
@@ -110,7 +115,7 @@ drawing_of stroke_and_fill_path state = painting_now (λ figures. polygons_of (l
 abbrev pub joined : List (List Point) → List Point
 joined lists = flat_map (λ list. list) lists
 
--- the points of a mark: of a rectangle its two corners
+-- the points of a mark: of a rectangle and of a blit's box the two corners
 abbrev pub mark_points : Mark → List Point
 mark_points (dot point colour) = point ∷ []
 mark_points (lines_through lists) = joined lists
@@ -118,12 +123,13 @@ mark_points (polygons_of lists) = joined lists
 mark_points (insides_of lists) = joined lists
 mark_points (along_figures figures) = points_of_figures figures
 mark_points (rectangle_between p q edges) = p ∷ q ∷ []
+mark_points (blit_between p q table source) = p ∷ q ∷ []
 
 -- the points of a drawing
 abbrev pub drawing_points : Drawing → List Point
 drawing_points drawing = mark_points drawing.mark
 
--- how many points a mark needs room for: a dot needs none, a rectangle its four corners
+-- how many points a mark needs room for: a dot and a blit need none, a rectangle its four corners
 abbrev pub mark_edges : Mark → ℕ
 mark_edges (dot point colour) = 0
 mark_edges (lines_through lists) = length (joined lists)
@@ -131,6 +137,7 @@ mark_edges (polygons_of lists) = length (joined lists)
 mark_edges (insides_of lists) = length (joined lists)
 mark_edges (along_figures figures) = length (points_of_figures figures)
 mark_edges (rectangle_between p q edges) = 4
+mark_edges (blit_between p q table source) = 0
 
 -- how many a drawing does, if there is one
 abbrev pub drawing_edges : Option Drawing → ℕ

@@ -1,8 +1,9 @@
 -- Points, lists of points and boxes of the page, on the plane.
-use Rattle.std.specs.Prelude.{List, [], ◌∷◌, map}
+use Rattle.std.specs.Prelude.{◌+ℤ◌, List, [], ◌∷◌, map}
 use Rattle.mapping.specs.declared.geometry.Point.{Point}
 use Rattle.mapping.specs.declared.geometry.Rect.{Rect}
 use Rattle.mapping.specs.Plane.{MapNumbers, plane_point}
+use Rattle.draw_ops.specs.Blits.{BlitValue}
 use Rattle.dc_stack.specs.Clip.{box_between}
 
 -- a point of the page, on the plane
@@ -40,3 +41,11 @@ mapped_box m box = box_between (left_top m box) (right_bottom m box)
 -- the corners of a box of the page, on the plane
 abbrev pub mapped_corners : MapNumbers → Rect → List Point
 mapped_corners m box = left_top m box ∷ right_bottom m box ∷ []
+
+-- the corner of a blit's box of the page that lies opposite to the one from which it extends
+abbrev pub far_corner : BlitValue → Point
+far_corner asked = record { x = asked.corner.x +ℤ asked.extent.x; y = asked.corner.y +ℤ asked.extent.y }
+
+-- the corners of a blit's box, on the plane
+abbrev pub blit_corners : MapNumbers → BlitValue → List Point
+blit_corners m asked = mapped_point m asked.corner ∷ mapped_point m (far_corner asked) ∷ []

@@ -1,7 +1,7 @@
 -- What a run needs room for: the most saved states at a time, the slots up to the greatest index of an object, and the most points of
 -- one drawing and pieces of a path.
 use Rattle.std.specs.Prelude.{ℕ, suc, length, max}
-use Rattle.draw_ops.specs.Operation.{Operation, no_effect, save, restore, set_background_mode, set_map_mode, set_raster_op, set_fill_mode, set_background_colour, set_window_origin, set_window_extent, set_viewport_origin, set_viewport_extent, offset_window_origin, offset_viewport_origin, exclude_clip, intersect_clip, remove_clip, move_to, line_to, pixel, rectangle, polyline, polygon, polyline_to, create, select, select_palette, delete, begin_path, end_path, close_figure, abort_path, fill_path, stroke_path, stroke_and_fill_path}
+use Rattle.draw_ops.specs.Operation.{Operation, no_effect, save, restore, set_background_mode, set_map_mode, set_raster_op, set_fill_mode, set_background_colour, set_window_origin, set_window_extent, set_viewport_origin, set_viewport_extent, offset_window_origin, offset_viewport_origin, exclude_clip, intersect_clip, remove_clip, move_to, line_to, pixel, rectangle, polyline, polygon, polyline_to, blit, create, select, select_palette, delete, begin_path, end_path, close_figure, abort_path, fill_path, stroke_path, stroke_and_fill_path}
 use Rattle.object_tables.specs.Table.{created_index}
 use Rattle.dc_stack.specs.Drawing.{drawing_edges, drawing_of}
 use Rattle.dc_stack.specs.Next.{next}
@@ -73,6 +73,7 @@ needs_of (rectangle corners edges) state = drawing_needs (rectangle corners edge
 needs_of (polyline lists) state = drawing_needs (polyline lists) state
 needs_of (polygon lists) state = drawing_needs (polygon lists) state
 needs_of (polyline_to points) state = drawing_needs (polyline_to points) state
+needs_of (blit asked) state = no_needs
 needs_of (create at object) state = slots_needed (created_index state.table_kind at state.slots)
 needs_of (select index) state = no_needs
 needs_of (select_palette index) state = no_needs

@@ -1,15 +1,18 @@
 -- The fault of an operation, in two parts: what it meets in the state, and where its points land on a surface.
-use Rattle.std.specs.Prelude.{if◌then◌else◌, List, [], ◌∷◌, ◌++◌, length, nat_le, nat_lt, Option, Some, None}
+use Rattle.std.specs.Prelude.{ℕ, if◌then◌else◌, List, [], ◌∷◌, ◌++◌, length, nat_le, nat_lt, Option, Some, None}
 use Rattle.std.specs.List.{list_all}
 use Rattle.std.specs.Option.{option_or}
 use Rattle.mapping.specs.declared.geometry.Point.{Point}
 use Rattle.mapping.specs.declared.geometry.Rect.{Rect}
 use Rattle.mapping.specs.MapSettings.{is_page_point, offset_by, sets_zero_extent, viewport_origin_of, window_origin_of}
 use Rattle.mapping.specs.Surface.{Surface, lands_within_limits}
+use Rattle.draw_ops.specs.Blits.{SourceValue}
 use Rattle.draw_ops.specs.declared.fault.Fault.{Fault}
-use Rattle.draw_ops.specs.declared.fault.Fault.TheVariants.{OffPlane, TooManyCuts, TooManyEdges, ZeroExtent}
-use Rattle.draw_ops.specs.Operation.{Operation, no_effect, save, restore, set_background_mode, set_map_mode, set_raster_op, set_fill_mode, set_background_colour, set_window_origin, set_window_extent, set_viewport_origin, set_viewport_extent, offset_window_origin, offset_viewport_origin, exclude_clip, intersect_clip, remove_clip, move_to, line_to, pixel, rectangle, polyline, polygon, polyline_to, create, select, select_palette, delete, begin_path, end_path, close_figure, abort_path, fill_path, stroke_path, stroke_and_fill_path}
+use Rattle.draw_ops.specs.declared.fault.Fault.TheVariants.{OffPlane, SourceMissing, SourceOutside, TooManyCuts, TooManyEdges, ZeroExtent}
+use Rattle.draw_ops.specs.Operation.{Operation, no_effect, save, restore, set_background_mode, set_map_mode, set_raster_op, set_fill_mode, set_background_colour, set_window_origin, set_window_extent, set_viewport_origin, set_viewport_extent, offset_window_origin, offset_viewport_origin, exclude_clip, intersect_clip, remove_clip, move_to, line_to, pixel, rectangle, polyline, polygon, polyline_to, blit, create, select, select_palette, delete, begin_path, end_path, close_figure, abort_path, fill_path, stroke_path, stroke_and_fill_path}
 use Rattle.object_tables.specs.Table.{create_fault}
+use Rattle.raster_ops.specs.Sources.{is_inside}
+use Rattle.raster_ops.specs.TernaryOps.{uses_source}
 use Rattle.dc_stack.specs.Clip.{ClipValue, cut_limit}
 use Rattle.dc_stack.specs.Drawing.{Drawing, drawing_edges, drawing_of, drawing_points, edge_limit, joined}
 use Rattle.dc_stack.specs.Figures.{points_gone_on}
@@ -44,6 +47,15 @@ added_or_drawn_fault operation state = option_or (pieces_fault (piece_count (nex
 abbrev painting_fault : Operation → State → Option Fault
 painting_fault operation state = option_or (finished_fault state.path) (edges_fault (drawing_of operation state))
 
+-- there is no bitmap, or the rectangle of it that is read has no pixel or doesn't lie inside
+abbrev pub given_fault : Option SourceValue → Option Fault
+given_fault None = Some SourceMissing
+given_fault (Some source) = if is_inside source then None else Some SourceOutside
+
+-- the same, where a ternary raster operation depends on the source; others don't look at it
+abbrev pub source_fault : ℕ → Option SourceValue → Option Fault
+source_fault table source = if uses_source table then given_fault source else None
+
 -- the fault that doesn't depend on the surface
 abbrev pub plain_fault : Operation → State → Option Fault
 plain_fault no_effect state = None
@@ -70,6 +82,7 @@ plain_fault (rectangle corners edges) state = added_or_drawn_fault (rectangle co
 plain_fault (polyline lists) state = added_or_drawn_fault (polyline lists) state
 plain_fault (polygon lists) state = added_or_drawn_fault (polygon lists) state
 plain_fault (polyline_to points) state = added_or_drawn_fault (polyline_to points) state
+plain_fault (blit asked) state = source_fault asked.table asked.source
 plain_fault (create at object) state = create_fault state.table_kind at state.slots
 plain_fault (select index) state = object_fault (named_object index state.slots)
 plain_fault (select_palette index) state = palette_fault (named_object index state.slots)
@@ -126,6 +139,7 @@ points_kept (rectangle corners edges) state = corners_added corners state
 points_kept (polyline lists) state = list_points_added lists state
 points_kept (polygon lists) state = list_points_added lists state
 points_kept (polyline_to points) state = line_points_added points state
+points_kept (blit asked) state = []
 points_kept (create at object) state = []
 points_kept (select index) state = []
 points_kept (select_palette index) state = []

@@ -5,7 +5,7 @@ ghost use Rattle.dc_stack.specs.Draws.{paints_path};
 
 use crate::placing::Landing;
 use crate::projection::Projection;
-use draw_ops::RectangleEdges;
+use draw_ops::{BlitSource, RectangleEdges, TernaryOp};
 use mapping::{Colour, Place, Rect};
 use point_views::{Points, Polys};
 
@@ -60,6 +60,15 @@ pub enum Draw<'a> {
         first: Landing,
         second: Landing,
         edges: RectangleEdges,
+    },
+    /// The box between two placed corners, whichever of them comes first, of which each pixel becomes what the
+    /// operation makes of the brush, of what is read, and of the colour that is there. Where the operation depends
+    /// on the source, what is read lies inside of its picture.
+    Blit {
+        first: Landing,
+        second: Landing,
+        operation: TernaryOp,
+        source: BlitSource<'a>,
     },
     /// The figures of a path, which the pieces that the machine lends make (`Machine::painted`). How their
     /// points land is by the page map of each piece, and this place.

@@ -124,9 +124,10 @@ impl<'a, T: Table<'a>> Machine<'a, T> {
     }
 
     /// Plays one operation, and tells what it draws. The fault is the operation's first: of an object
-    /// `TableFull`, `HandleTaken`, `NoSuchHandle`, `WrongKind` or `HeldObject`, of a saved state `DepthLimit`
-    /// or `NoSavedState`, of a path `PathState` or `TooManyPieces`, `ZeroExtent`, `TooManyCuts`,
-    /// `TooManyEdges`, or `OffPlane`. It is `OutOfMemory` where there was no room and memory was refused.
+    /// `TableFull`, `HandleTaken`, `NoSuchHandle`, `WrongKind` or `HeldObject`; of a saved state `DepthLimit`
+    /// or `NoSavedState`; of an extent `ZeroExtent`; of a cut `TooManyCuts`; of what is added to a path
+    /// `TooManyPieces`; of a drawing `PathState`, `TooManyEdges`, and of a blit `SourceMissing` or
+    /// `SourceOutside`; and last `OffPlane`. It is `OutOfMemory` where there was no room and memory was refused.
     /// After a fault nothing has changed.
     pub fn step(&mut self, op: Op<'a>) -> Result<Option<Draw<'a>>, Fault>
         ensures stepped { OnOk result (HasStepped (operation_of op.entry) self.old self.new) }
@@ -178,6 +179,7 @@ impl<'a, T: Table<'a>> Machine<'a, T> {
             Op::Polyline(lists) => self.polyline(lists),
             Op::Polygon(lists) => self.polygon(lists),
             Op::PolylineTo(points) => self.polyline_to(points),
+            Op::Blit(asked) => self.blit(asked),
             Op::Create { at, object } => self.create(at, object),
             Op::Select(handle) => self.select(handle),
             Op::SelectPalette(handle) => self.select_palette(handle),

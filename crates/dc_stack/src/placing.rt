@@ -8,16 +8,17 @@ ghost use Rattle.mapping.specs.PlaceOf.{surface_of};
 ghost use Rattle.mapping.specs.Surface.{placed_point};
 ghost use Rattle.point_views.specs.Points.{points_of};
 ghost use Rattle.point_views.specs.Polys.{lists_of};
+ghost use Rattle.draw_ops.specs.Blits.{blit_value_of};
 ghost use Rattle.dc_stack.specs.Clip.{placed_box};
 ghost use Rattle.dc_stack.specs.Drawing.{edge_limit};
-ghost use Rattle.dc_stack.specs.Mapped.{left_top_of, mapped_box, mapped_corners, right_bottom_of};
+ghost use Rattle.dc_stack.specs.Mapped.{blit_corners, far_corner, left_top_of, mapped_box, mapped_corners, right_bottom_of};
 ghost use Rattle.dc_stack.specs.OperationFault.{off_plane_fault, points_fault};
 ghost use Rattle.dc_stack.specs.Boxes.{HasAllOf, HasPoint};
 ghost use Rattle.dc_stack.specs.Placing.{HasAllPlaced, IsLandingOf, joined_plane_list, plane_list};
 
 use crate::clip::{ClipBox, between, greater, lesser};
 use crate::path::NOWHERE;
-use draw_ops::Fault;
+use draw_ops::{Blit, Fault};
 use mapping::{PageMap, Place, Point, Rect, placing_law};
 use point_views::{Points, Polys};
 
@@ -32,9 +33,27 @@ pub struct Landing {
     pub placed: Point,
 }
 
+/// A point of the page, or one outside of the page's own numbers.
+#[derive(Clone, Copy, Debug)]
+struct WidePoint {
+    x: i64,
+    y: i64,
+}
+
 /// Where a page point lands, or `OffPlane` where it leaves the plane or the range of placed coordinates.
 pub(crate) fn land(map: &PageMap, place: Place, point: Point) -> Result<Landing, Fault>
     ensures fault { result_err result ≡ off_plane_fault (plane_list map.now (point ∷ [])) (surface_of place) }
+    ensures plane { IfOk result (λ landing. landing.plane ≡ plane_point (map_numbers map.now) point.x point.y) }
+    ensures placed { IfOk result (λ landing. landing.placed ≡ placed_point landing.plane (surface_of place)) }
+{
+    let x = i64::from(point.x);
+    let y = i64::from(point.y);
+    land_wide(map, place, WidePoint { x, y })
+}
+
+/// The same for a point that may be outside of the page's own numbers.
+fn land_wide(map: &PageMap, place: Place, point: WidePoint) -> Result<Landing, Fault>
+    ensures fault { result_err result ≡ off_plane_fault (plane_point (map_numbers map.now) point.x point.y ∷ []) (surface_of place) }
     ensures plane { IfOk result (λ landing. landing.plane ≡ plane_point (map_numbers map.now) point.x point.y) }
     ensures placed { IfOk result (λ landing. landing.placed ≡ placed_point landing.plane (surface_of place)) }
 {
@@ -48,11 +67,11 @@ pub(crate) fn land(map: &PageMap, place: Place, point: Point) -> Result<Landing,
 }
 
 /// The plane point of a page point, or none where it would leave the plane.
-fn plane_point(map: &PageMap, point: Point) -> Option<Point>
+fn plane_point(map: &PageMap, point: WidePoint) -> Option<Point>
     ensures point { let p = plane_point (map_numbers map.now) point.x point.y in SomeIff result (IsOnPlane p) p }
     ensures test { is_some result ≡ is_on_plane (plane_point (map_numbers map.now) point.x point.y) }
 {
-    map.plane(i64::from(point.x), i64::from(point.y))
+    map.plane(point.x, point.y)
 }
 
 /// Where two page points land, or `OffPlane` where one of them doesn't.
@@ -75,6 +94,38 @@ pub(crate) fn land_pair(
         Err(fault) => return Err(fault),
     };
     Ok((first, second))
+}
+
+/// Where the corners of a blit's box land, the one from which it extends first, or `OffPlane` where one of them doesn't.
+pub(crate) fn land_blit(
+    map: &PageMap,
+    place: Place,
+    asked: &Blit<'_>,
+) -> Result<(Landing, Landing), Fault>
+    ensures fault { result_err result ≡ off_plane_fault (blit_corners (map_numbers map.now) (blit_value_of asked.now)) (surface_of place) }
+    ensures first { IfOk result (λ r. IsLandingOf (map_numbers map.now) (surface_of place) asked.now.corner r.0) }
+    ensures second { IfOk result (λ r. IsLandingOf (map_numbers map.now) (surface_of place) (far_corner (blit_value_of asked.now)) r.1) }
+{
+    let first = match land(map, place, asked.corner) {
+        Ok(first) => first,
+        Err(fault) => return Err(fault),
+    };
+    let second = match land_wide(map, place, far_corner(asked)) {
+        Ok(second) => second,
+        Err(fault) => return Err(fault),
+    };
+    Ok((first, second))
+}
+
+/// The corner of a blit's box that lies opposite to the one from which it extends.
+fn far_corner(asked: &Blit<'_>) -> WidePoint
+    ensures x { result.x ≡ (far_corner (blit_value_of asked.now)).x }
+    ensures y { result.y ≡ (far_corner (blit_value_of asked.now)).y }
+{
+    WidePoint {
+        x: i64::from(asked.corner.x) + i64::from(asked.extent.x),
+        y: i64::from(asked.corner.y) + i64::from(asked.extent.y),
+    }
 }
 
 /// The box around some page points where they land and what an earlier box has, or `OffPlane` where one of

@@ -5,7 +5,9 @@ pub mod FaultTable
 pub mod Settings
 pub mod RasterOp
 pub mod Hatch
+pub mod TernaryOp
 pub mod Objects
+pub mod Blits
 pub mod Operation
 pub mod OperationOf
 pub mod NoteTable
@@ -28,3 +30,4 @@ pub mod PointLists
 pub mod Modes
 pub mod PenRecords
 pub mod BrushRecords
+pub mod BitmapRecords

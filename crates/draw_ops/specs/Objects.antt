@@ -1,5 +1,7 @@
 -- Objects as plain values, without what holds them.
-use Rattle.std.specs.Prelude.{ℕ, List, Option, Some, None}
+use Rattle.std.specs.Prelude.{ℕ, Option, Some, None}
+use Rattle.dib_views.specs.PictureOf.{picture_of}
+use Rattle.dib_views.specs.Pictures.{Picture}
 use Rattle.mapping.specs.declared.geometry.Colour.{Colour}
 use Rattle.draw_ops.specs.declared.hatch.Hatch.{Hatch}
 use Rattle.draw_ops.specs.declared.objects.Brush.{Brush}
@@ -8,13 +10,6 @@ use Rattle.draw_ops.specs.declared.objects.Handle.{Handle}
 use Rattle.draw_ops.specs.declared.objects.Object.{Object}
 use Rattle.draw_ops.specs.declared.objects.Object.TheVariants.{Pen as ThePen, Brush as TheBrush, Font, Palette}
 use Rattle.draw_ops.specs.declared.objects.Pen.{Pen}
-use Rattle.draw_ops.specs.declared.objects.Tile.{Tile}
-
--- a picture that is repeated: its sides, and its colours row by row from the top
-pub record Picture : Type 0 where
-  pub width : ℕ
-  pub height : ℕ
-  pub colours : List Colour
 
 -- what fills: a colour, nothing, lines, or a tile
 pub data BrushValue : Type 0 where
@@ -30,16 +25,12 @@ pub data ObjectValue : Type 0 where
   font_object : ObjectValue
   palette_object : ObjectValue
 
--- the value of a tile of the code
-abbrev pub picture_of : Tile → Picture
-picture_of tile = record { width = tile.width; height = tile.height; colours = tile.colours.now }
-
 -- the value of a brush of the code
 abbrev pub brush_value_of : Brush → BrushValue
 brush_value_of (Solid colour) = solid_brush colour
 brush_value_of Null = null_brush
 brush_value_of (Hatched hatch colour) = hatched_brush hatch colour
-brush_value_of (Tiled tile) = tile_brush (picture_of tile)
+brush_value_of (Tiled view) = tile_brush (picture_of view)
 
 -- the value of an object of the code
 abbrev pub object_value_of : Object → ObjectValue

@@ -4,6 +4,7 @@ use Rattle.mapping.specs.declared.geometry.Colour.{Colour}
 use Rattle.mapping.specs.declared.geometry.Point.{Point}
 use Rattle.mapping.specs.declared.geometry.Rect.{Rect}
 use Rattle.mapping.specs.declared.map_mode.MapMode.{MapMode}
+use Rattle.draw_ops.specs.Blits.{BlitValue}
 use Rattle.draw_ops.specs.Objects.{ObjectValue}
 use Rattle.draw_ops.specs.declared.operation.RectangleEdges.{RectangleEdges}
 use Rattle.draw_ops.specs.declared.raster_op.RasterOp.{RasterOp}
@@ -36,6 +37,7 @@ pub data Operation : Type 0 where
   polyline : List (List Point) → Operation
   polygon : List (List Point) → Operation
   polyline_to : List Point → Operation
+  blit : BlitValue → Operation
   create : Option ℕ → ObjectValue → Operation
   select : ℕ → Operation
   select_palette : ℕ → Operation

@@ -1,10 +1,11 @@
 -- The value of an operation of the code.
 use Rattle.point_views.specs.Points.{points_of}
 use Rattle.point_views.specs.Polys.{lists_of}
+use Rattle.draw_ops.specs.Blits.{blit_value_of}
 use Rattle.draw_ops.specs.Objects.{index_of, object_value_of}
-use Rattle.draw_ops.specs.Operation.{Operation, no_effect, save, restore, set_background_mode, set_map_mode, set_raster_op, set_fill_mode, set_background_colour, set_window_origin, set_window_extent, set_viewport_origin, set_viewport_extent, offset_window_origin, offset_viewport_origin, exclude_clip, intersect_clip, remove_clip, move_to, line_to, pixel, rectangle, polyline, polygon, polyline_to, create, select, select_palette, delete, begin_path, end_path, close_figure, abort_path, fill_path, stroke_path, stroke_and_fill_path}
+use Rattle.draw_ops.specs.Operation.{Operation, no_effect, save, restore, set_background_mode, set_map_mode, set_raster_op, set_fill_mode, set_background_colour, set_window_origin, set_window_extent, set_viewport_origin, set_viewport_extent, offset_window_origin, offset_viewport_origin, exclude_clip, intersect_clip, remove_clip, move_to, line_to, pixel, rectangle, polyline, polygon, polyline_to, blit, create, select, select_palette, delete, begin_path, end_path, close_figure, abort_path, fill_path, stroke_path, stroke_and_fill_path}
 use Rattle.draw_ops.specs.declared.operation.Op.{Op}
-use Rattle.draw_ops.specs.declared.operation.Op.TheVariants.{NoEffect, Save, Restore, SetBackgroundMode, SetMapMode, SetRasterOp, SetFillMode, SetBackgroundColour, SetWindowOrigin, SetWindowExtent, SetViewportOrigin, SetViewportExtent, OffsetWindowOrigin, OffsetViewportOrigin, ExcludeClip, IntersectClip, RemoveClip, MoveTo, LineTo, Pixel, Rectangle, Polyline, Polygon, PolylineTo, Create, Select, SelectPalette, Delete, BeginPath, EndPath, CloseFigure, AbortPath, FillPath, StrokePath, StrokeAndFillPath}
+use Rattle.draw_ops.specs.declared.operation.Op.TheVariants.{NoEffect, Save, Restore, SetBackgroundMode, SetMapMode, SetRasterOp, SetFillMode, SetBackgroundColour, SetWindowOrigin, SetWindowExtent, SetViewportOrigin, SetViewportExtent, OffsetWindowOrigin, OffsetViewportOrigin, ExcludeClip, IntersectClip, RemoveClip, MoveTo, LineTo, Pixel, Rectangle, Polyline, Polygon, PolylineTo, Blit, Create, Select, SelectPalette, Delete, BeginPath, EndPath, CloseFigure, AbortPath, FillPath, StrokePath, StrokeAndFillPath}
 
 abbrev pub operation_of : Op → Operation
 operation_of NoEffect = no_effect
@@ -31,6 +32,7 @@ operation_of (Rectangle corners edges) = rectangle corners edges
 operation_of (Polyline polys) = polyline (lists_of polys)
 operation_of (Polygon polys) = polygon (lists_of polys)
 operation_of (PolylineTo points) = polyline_to (points_of points)
+operation_of (Blit blit_asked) = blit (blit_value_of blit_asked)
 operation_of (Create at object) = create (index_of at) (object_value_of object)
 operation_of (Select handle) = select handle.0
 operation_of (SelectPalette handle) = select_palette handle.0

@@ -15,8 +15,9 @@
 //!   and the same again at each call after that (`OpSource::next_op`, by `Gives`). `Listed` is such a
 //!   source.
 //! - What both formats share of records is read here: points, boxes, colours and lists (`rgb_at`, `xy_at`,
-//!   `points_at` and their like), what sets a mode (`map_mode_meant` and its like), and what makes a pen or
-//!   a brush (`pen_meant`, `brush_meant`).
+//!   `points_at` and their like), what sets a mode (`map_mode_meant` and its like), what makes a pen or
+//!   a brush (`pen_meant`, `brush_meant`, `pattern_brush_meant`), bitmaps (`dib_at` and its like) and what
+//!   blits (`blit_meant`).
 //! - A source over a file's records has what those records mean, whatever their format
 //!   (`RecordOps::new`, by `IsContent`).
 //! - Bytes are records in one way, and have one content (`records_law`, `content_law`).
@@ -24,6 +25,8 @@
 //!   the steps of each source, or gives its fault.
 #![tactic(auto)]
 
+mod bitmap_records;
+mod blits;
 mod brush_records;
 mod counting;
 mod fault;
@@ -46,7 +49,13 @@ mod record_ops;
 mod settings;
 mod source;
 mod step;
+mod ternary_op;
 
+pub use bitmap_records::{
+    blit_meant, dib_at, pattern_brush_meant, rgb_dib_at, rgb_dib_in, source_as_stored,
+    source_from_top,
+};
+pub use blits::{Blit, BlitSource, SourceRectangle};
 pub use brush_records::brush_meant;
 pub use counting::count_steps;
 pub use fault::Fault;
@@ -60,7 +69,7 @@ pub use modes::{background_mode_meant, fill_mode_meant, map_mode_meant, raster_o
 pub use note::Note;
 pub use note_set::NoteSet;
 pub use notes::Notes;
-pub use objects::{Brush, Handle, Object, Pen, Tile};
+pub use objects::{Brush, Handle, Object, Pen};
 pub use operation::{Op, RectangleEdges, SavedState};
 pub use pen_records::{PenStyle, pen_meant};
 pub use point_lists::{counts_at, points_at};
@@ -69,3 +78,4 @@ pub use record_ops::RecordOps;
 pub use settings::{BackgroundMode, FillMode};
 pub use source::{HasContent, OpSource};
 pub use step::Step;
+pub use ternary_op::TernaryOp;

@@ -1,6 +1,7 @@
 //! The objects that a metafile makes, selects and deletes.
 
 use crate::hatch::Hatch;
+use dib_views::DibView;
 use mapping::Colour;
 
 /// The index of an object. In EMF the indexes from 0x80000000 on are those of the stock objects
@@ -17,17 +18,6 @@ pub enum Pen {
     Solid { colour: Colour },
 }
 
-/// A picture that a brush repeats over the surface, from the surface's corner on.
-#[derive(Clone, Copy, Debug, PartialEq, Eq)]
-pub struct Tile<'a> {
-    /// The sides, in pixels.
-    pub width: u32,
-    pub height: u32,
-    /// The colours row by row from the top, each row from the left. A view of the file's bitmap takes
-    /// their place once bitmaps are read; until then no reader gives a tile.
-    pub colours: &'a [Colour],
-}
-
 /// What fills.
 #[derive(Clone, Copy, Debug, PartialEq, Eq)]
 pub enum Brush<'a> {
@@ -37,8 +27,8 @@ pub enum Brush<'a> {
     Null,
     /// It paints the lines of the hatch in this colour. The gaps go by the background mode.
     Hatched { hatch: Hatch, colour: Colour },
-    /// It paints the picture's colours.
-    Tiled(Tile<'a>),
+    /// It paints a picture's colours. The picture is repeated over the surface, from the surface's corner on.
+    Tiled(DibView<'a>),
 }
 
 /// An object. Fonts and palettes take an index and draw nothing.

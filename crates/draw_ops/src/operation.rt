@@ -1,5 +1,6 @@
 //! What a record asks for, in the terms that WMF and EMF share.
 
+use crate::blits::Blit;
 use crate::objects::{Handle, Object};
 use crate::raster_op::RasterOp;
 use crate::settings::{BackgroundMode, FillMode};
@@ -86,6 +87,8 @@ pub enum Op<'a> {
     /// Lines from the current point to each point, of which the last is then the current one
     /// (POLYLINETO).
     PolylineTo(Points<'a>),
+    /// What a brush and a picture make of a rectangle (PATBLT, BITBLT, STRETCHBLT, STRETCHDIB and their kin).
+    Blit(Blit<'a>),
 
     // Objects.
     /// Make an object at the index, or at the lowest free one (WMF).
@@ -118,4 +121,4 @@ pub enum Op<'a> {
 }
 
 // An operation is moved once for each record.
-const _: () = prove!(size_of::<Op<'static>>() <= 64);
+const _: () = prove!(size_of::<Op<'static>>() <= 96);

@@ -1,2 +1,3 @@
 pub mod WorkedRows
 pub mod WorkedKinds
+pub mod WorkedBitmaps

@@ -10,6 +10,7 @@ use Rattle.draw_ops.specs.declared.raster_op.RasterOp.TheVariants.{XorPen}
 use Rattle.draw_ops.specs.declared.settings.BackgroundMode.TheVariants.{Transparent}
 use Rattle.draw_ops.specs.declared.settings.FillMode.TheVariants.{Alternate}
 use Rattle.emf_records.specs.Emf.{emf_meaning, emf_record}
+use Rattle.emf_records.specs.TransformRecords.{is_identity_at}
 use Rattle.mapping.specs.declared.map_mode.MapMode.TheVariants.{Anisotropic}
 
 emr_eof : emf_meaning 1 (record { kind = 14; bytes = 0 ∷ 0 ∷ 0 ∷ 0 ∷ 0 ∷ 0 ∷ 0 ∷ 0 ∷ [] }) ≡ Ok (unnoted (no_effect))
@@ -165,7 +166,7 @@ unfolding emf_record
 emr_restore_dc = refl
 
 emr_modify_world_transform : emf_meaning 1 (record { kind = 36; bytes = 0 ∷ 0 ∷ 0 ∷ 0 ∷ 0 ∷ 0 ∷ 0 ∷ 0 ∷ 0 ∷ 0 ∷ 0 ∷ 0 ∷ 0 ∷ 0 ∷ 0 ∷ 0 ∷ 0 ∷ 0 ∷ 0 ∷ 0 ∷ 0 ∷ 0 ∷ 0 ∷ 0 ∷ 0 ∷ 0 ∷ 0 ∷ 0 ∷ 0 ∷ 0 ∷ 0 ∷ 0 ∷ 1 ∷ 0 ∷ 0 ∷ 0 ∷ [] }) ≡ Ok (unnoted (no_effect))
-unfolding emf_record
+unfolding emf_record is_identity_at
 emr_modify_world_transform = refl
 
 emr_set_layout : emf_meaning 1 (record { kind = 115; bytes = 0 ∷ 0 ∷ 0 ∷ 0 ∷ 0 ∷ 0 ∷ 0 ∷ 0 ∷ 0 ∷ 0 ∷ 0 ∷ 0 ∷ [] }) ≡ Ok (unnoted (no_effect))

@@ -9,6 +9,7 @@ use Rattle.draw_ops.specs.declared.fault.Fault.TheVariants.{BadParams, PaletteCo
 use Rattle.draw_ops.specs.declared.note.Note.TheVariants.{DashedPen, EmfPlus, Skipped as NoteSkipped}
 use Rattle.draw_ops.specs.declared.objects.Pen.TheVariants.{Null as NullPen}
 use Rattle.emf_records.specs.Emf.{emf_meaning, emf_record}
+use Rattle.emf_records.specs.TransformRecords.{is_identity_at}
 
 abbrev at : ℕ → ℕ → Point
 at x y = record { x = pos x; y = pos y }
@@ -82,11 +83,11 @@ short_comment = refl
 
 -- EMR_SETWORLDTRANSFORM of the identity, and of all zeros
 identity : emf_meaning 1 (emf 35 (0 ∷ 0 ∷ 0x80 ∷ 0x3f ∷ [] ++ long 0 ++ long 0 ++ 0 ∷ 0 ∷ 0x80 ∷ 0x3f ∷ [] ++ long 0 ++ long 0)) ≡ Ok (unnoted no_effect)
-unfolding emf_record
+unfolding emf_record is_identity_at
 identity = refl
 
 zeros : emf_meaning 1 (emf 35 (replicate 24 0)) ≡ Err (Unsupported 35)
-unfolding emf_record
+unfolding emf_record is_identity_at
 zeros = refl
 
 -- a type that is none

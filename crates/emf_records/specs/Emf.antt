@@ -8,13 +8,14 @@ use Rattle.draw_ops.specs.Records.{Record}
 use Rattle.draw_ops.specs.declared.fault.Fault.{Fault}
 use Rattle.draw_ops.specs.declared.fault.Fault.TheVariants.{UnknownRecord, Unsupported}
 use Rattle.draw_ops.specs.declared.note.Note.TheVariants.{Skipped as NoteSkipped}
+use Rattle.emf_records.specs.BitmapRecords.{bit_blt, create_dib_pattern_brush_pt, stretch_blt, stretch_di_bits}
 use Rattle.emf_records.specs.DrawingRecords.{line_to_record, poly_polygon_record, poly_polyline_record, polygon_record, polyline_record, polyline_to_record, rectangle_record, set_pixel_v}
 use Rattle.emf_records.specs.Kinds.{emf_entry_of}
 use Rattle.emf_records.specs.ObjectRecords.{create_brush_indirect, create_pen, create_record, ext_create_pen, index_record}
 use Rattle.emf_records.specs.StateRecords.{comment, exclude_clip_rect, ext_select_clip_rgn, intersect_clip_rect, point_record, restore_dc, set_bk_color, set_bk_mode, set_layout, set_map_mode_record, set_poly_fill_mode, set_rop2}
 use Rattle.emf_records.specs.TransformRecords.{modify_world_transform, set_world_transform}
 use Rattle.emf_records.specs.declared.entry.EmfEntry.{EmfEntry}
-use Rattle.emf_records.specs.declared.entry.EmfEntry.TheVariants.{ExcludeClipRect, IntersectClipRect, ExtSelectClipRgn, Comment, Header, Eof, Polygon, Polyline, PolylineTo, PolyPolyline, PolyPolygon, SetPixelV, Rectangle, LineTo, FillPath, StrokeAndFillPath, StrokePath, Polygon16, Polyline16, PolylineTo16, PolyPolyline16, PolyPolygon16, SelectObject, CreatePen, CreateBrushIndirect, DeleteObject, SelectPalette, CreatePalette, ExtCreateFontIndirectW, ExtCreatePen, BeginPath, EndPath, CloseFigure, AbortPath, SetWindowExtEx, SetWindowOrgEx, SetViewportExtEx, SetViewportOrgEx, SetMapMode, SetBkMode, SetPolyFillMode, SetRop2, SetBkColor, MoveToEx, SaveDc, RestoreDc, SetLayout, SetWorldTransform, ModifyWorldTransform, Skipped, Refused}
+use Rattle.emf_records.specs.declared.entry.EmfEntry.TheVariants.{BitBlt, StretchBlt, StretchDiBits, ExcludeClipRect, IntersectClipRect, ExtSelectClipRgn, Comment, Header, Eof, Polygon, Polyline, PolylineTo, PolyPolyline, PolyPolygon, SetPixelV, Rectangle, LineTo, FillPath, StrokeAndFillPath, StrokePath, Polygon16, Polyline16, PolylineTo16, PolyPolyline16, PolyPolygon16, SelectObject, CreatePen, CreateBrushIndirect, DeleteObject, SelectPalette, CreateDibPatternBrushPt, CreatePalette, ExtCreateFontIndirectW, ExtCreatePen, BeginPath, EndPath, CloseFigure, AbortPath, SetWindowExtEx, SetWindowOrgEx, SetViewportExtEx, SetViewportOrgEx, SetMapMode, SetBkMode, SetPolyFillMode, SetRop2, SetBkColor, MoveToEx, SaveDc, RestoreDc, SetLayout, SetWorldTransform, ModifyWorldTransform, Skipped, Refused}
 
 -- EMR_HEADER is without effect as the file's first record, and isn't played behind it
 abbrev pub header_record : ℕ → Result MeantValue Fault
@@ -23,6 +24,9 @@ header_record (suc n) = Err (Unsupported 1)
 
 -- what a record with each entry means, by its number in the file, its type and its bytes
 unfoldable pub emf_record : EmfEntry → ℕ → ℕ → List ℕ → Result MeantValue Fault
+emf_record BitBlt number record_type bytes = bit_blt bytes
+emf_record StretchBlt number record_type bytes = stretch_blt bytes
+emf_record StretchDiBits number record_type bytes = stretch_di_bits bytes
 emf_record ExcludeClipRect number record_type bytes = exclude_clip_rect bytes
 emf_record IntersectClipRect number record_type bytes = intersect_clip_rect bytes
 emf_record ExtSelectClipRgn number record_type bytes = ext_select_clip_rgn bytes
@@ -50,6 +54,7 @@ emf_record CreatePen number record_type bytes = create_pen bytes
 emf_record CreateBrushIndirect number record_type bytes = create_brush_indirect bytes
 emf_record DeleteObject number record_type bytes = index_record delete bytes
 emf_record SelectPalette number record_type bytes = index_record select_palette bytes
+emf_record CreateDibPatternBrushPt number record_type bytes = create_dib_pattern_brush_pt bytes
 emf_record CreatePalette number record_type bytes = create_record palette_object bytes
 emf_record ExtCreateFontIndirectW number record_type bytes = create_record font_object bytes
 emf_record ExtCreatePen number record_type bytes = ext_create_pen bytes

@@ -2,7 +2,7 @@
 use Rattle.std.specs.Prelude.{ℕ, List, [], ◌∷◌, ◌++◌, map, Option}
 use Rattle.draw_ops.specs.KindTable.{row_of}
 use Rattle.emf_records.specs.declared.entry.EmfEntry.{EmfEntry}
-use Rattle.emf_records.specs.declared.entry.EmfEntry.TheVariants.{ExcludeClipRect, IntersectClipRect, ExtSelectClipRgn, Comment, Header, Eof, Polygon, Polyline, PolylineTo, PolyPolyline, PolyPolygon, SetPixelV, Rectangle, LineTo, FillPath, StrokeAndFillPath, StrokePath, Polygon16, Polyline16, PolylineTo16, PolyPolyline16, PolyPolygon16, SelectObject, CreatePen, CreateBrushIndirect, DeleteObject, SelectPalette, CreatePalette, ExtCreateFontIndirectW, ExtCreatePen, BeginPath, EndPath, CloseFigure, AbortPath, SetWindowExtEx, SetWindowOrgEx, SetViewportExtEx, SetViewportOrgEx, SetMapMode, SetBkMode, SetPolyFillMode, SetRop2, SetBkColor, MoveToEx, SaveDc, RestoreDc, SetLayout, SetWorldTransform, ModifyWorldTransform, Skipped, Refused}
+use Rattle.emf_records.specs.declared.entry.EmfEntry.TheVariants.{BitBlt, StretchBlt, StretchDiBits, ExcludeClipRect, IntersectClipRect, ExtSelectClipRgn, Comment, Header, Eof, Polygon, Polyline, PolylineTo, PolyPolyline, PolyPolygon, SetPixelV, Rectangle, LineTo, FillPath, StrokeAndFillPath, StrokePath, Polygon16, Polyline16, PolylineTo16, PolyPolyline16, PolyPolygon16, SelectObject, CreatePen, CreateBrushIndirect, DeleteObject, SelectPalette, CreateDibPatternBrushPt, CreatePalette, ExtCreateFontIndirectW, ExtCreatePen, BeginPath, EndPath, CloseFigure, AbortPath, SetWindowExtEx, SetWindowOrgEx, SetViewportExtEx, SetViewportOrgEx, SetMapMode, SetBkMode, SetPolyFillMode, SetRop2, SetBkColor, MoveToEx, SaveDc, RestoreDc, SetLayout, SetWorldTransform, ModifyWorldTransform, Skipped, Refused}
 
 -- the records that are without effect on a condition
 abbrev pub emf_conditional : List (ℕ × EmfEntry)
@@ -12,13 +12,14 @@ emf_conditional =
 -- the records that are played; a comment is read to see what is noted of it
 abbrev pub emf_played : List (ℕ × EmfEntry)
 emf_played =
+    (76, BitBlt) ∷ (77, StretchBlt) ∷ (81, StretchDiBits) ∷
     (29, ExcludeClipRect) ∷ (30, IntersectClipRect) ∷ (75, ExtSelectClipRgn) ∷
     (70, Comment) ∷
     (1, Header) ∷ (14, Eof) ∷
     (3, Polygon) ∷ (4, Polyline) ∷ (6, PolylineTo) ∷ (7, PolyPolyline) ∷ (8, PolyPolygon) ∷ (15, SetPixelV) ∷ (43, Rectangle) ∷
     (54, LineTo) ∷ (62, FillPath) ∷ (63, StrokeAndFillPath) ∷ (64, StrokePath) ∷ (86, Polygon16) ∷ (87, Polyline16) ∷ (89, PolylineTo16) ∷
     (90, PolyPolyline16) ∷ (91, PolyPolygon16) ∷
-    (37, SelectObject) ∷ (38, CreatePen) ∷ (39, CreateBrushIndirect) ∷ (40, DeleteObject) ∷ (48, SelectPalette) ∷ (49, CreatePalette) ∷ (82, ExtCreateFontIndirectW) ∷
+    (37, SelectObject) ∷ (38, CreatePen) ∷ (39, CreateBrushIndirect) ∷ (40, DeleteObject) ∷ (48, SelectPalette) ∷ (94, CreateDibPatternBrushPt) ∷ (49, CreatePalette) ∷ (82, ExtCreateFontIndirectW) ∷
     (95, ExtCreatePen) ∷
     (59, BeginPath) ∷ (60, EndPath) ∷ (61, CloseFigure) ∷ (68, AbortPath) ∷
     (9, SetWindowExtEx) ∷ (10, SetWindowOrgEx) ∷ (11, SetViewportExtEx) ∷ (12, SetViewportOrgEx) ∷ (17, SetMapMode) ∷ (18, SetBkMode) ∷ (19, SetPolyFillMode) ∷
@@ -29,11 +30,6 @@ abbrev pub emf_skipped : List ℕ
 emf_skipped =
     13 ∷ 16 ∷ 21 ∷ 22 ∷ 23 ∷ 24 ∷ 50 ∷ 51 ∷ 52 ∷ 57 ∷ 58 ∷ 98 ∷ 105 ∷ 106 ∷ 109 ∷ 110 ∷ 119 ∷ 120 ∷ []
 
--- the records that bring bitmaps, which are refused until bitmaps are read
-abbrev pub emf_bitmaps : List ℕ
-emf_bitmaps =
-    76 ∷ 77 ∷ 81 ∷ 94 ∷ []
-
 -- the records that aren't played
 abbrev pub emf_refused : List ℕ
 emf_refused =
@@ -43,7 +39,7 @@ emf_refused =
 abbrev pub emf_kinds : List (ℕ × EmfEntry)
 emf_kinds =
     emf_played ++ emf_conditional ++ map (λ record_type. (record_type, Skipped)) emf_skipped
-    ++ map (λ record_type. (record_type, Refused)) (emf_bitmaps ++ emf_refused)
+    ++ map (λ record_type. (record_type, Refused)) emf_refused
 
 -- every type of the table
 abbrev pub emf_types : List ℕ

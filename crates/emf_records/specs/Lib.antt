@@ -4,4 +4,5 @@ pub mod DrawingRecords
 pub mod ObjectRecords
 pub mod StateRecords
 pub mod TransformRecords
+pub mod BitmapRecords
 pub mod Emf

@@ -8,7 +8,7 @@ use Rattle.draw_ops.specs.declared.fault.Fault.{Fault}
 use Rattle.draw_ops.specs.declared.fault.Fault.TheVariants.{Unsupported}
 
 -- an XForm ([MS-EMF] 2.2.28) of the factors 1, 0, 0 and 1 and the offsets 0 and 0, as floating-point numbers by their bytes
-abbrev pub is_identity_at : List ℕ → ℕ → Bool
+unfoldable pub is_identity_at : List ℕ → ℕ → Bool
 is_identity_at bytes place =
     number_at bytes place 4 == 0x3f800000 && number_at bytes (place + 4) 4 == 0 && number_at bytes (place + 8) 4 == 0
     && number_at bytes (place + 12) 4 == 0x3f800000 && number_at bytes (place + 16) 4 == 0 && number_at bytes (place + 20) 4 == 0

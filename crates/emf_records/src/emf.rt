@@ -7,6 +7,7 @@ ghost use Rattle.draw_ops.specs.Results.{result_map};
 ghost use Rattle.emf_records.specs.Emf.{emf_meaning, emf_record, header_record};
 ghost use Rattle.emf_records.specs.Framing.{emf_framing};
 
+use crate::bitmap_records::{bit_blt, create_dib_pattern_brush_pt, stretch_blt, stretch_di_bits};
 use crate::drawing_records::{
     line_to, poly_polygon, poly_polyline, polygon, polyline, polyline_to, rectangle, set_pixel_v,
 };
@@ -87,6 +88,9 @@ fn record(entry: EmfEntry, number: u32, record_type: u32, bytes: &[u8]) -> Resul
     ensures in_record { IfErr result IsInRecord }
 {
     match entry {
+        EmfEntry::BitBlt => bit_blt(bytes),
+        EmfEntry::StretchBlt => stretch_blt(bytes),
+        EmfEntry::StretchDiBits => stretch_di_bits(bytes),
         EmfEntry::ExcludeClipRect => exclude_clip_rect(bytes),
         EmfEntry::IntersectClipRect => intersect_clip_rect(bytes),
         EmfEntry::ExtSelectClipRgn => ext_select_clip_rgn(bytes),
@@ -114,6 +118,7 @@ fn record(entry: EmfEntry, number: u32, record_type: u32, bytes: &[u8]) -> Resul
         EmfEntry::CreateBrushIndirect => create_brush_indirect(bytes),
         EmfEntry::DeleteObject => delete_object(bytes),
         EmfEntry::SelectPalette => select_palette(bytes),
+        EmfEntry::CreateDibPatternBrushPt => create_dib_pattern_brush_pt(bytes),
         EmfEntry::CreatePalette => create(Object::Palette, bytes),
         EmfEntry::ExtCreateFontIndirectW => create(Object::Font, bytes),
         EmfEntry::ExtCreatePen => ext_create_pen(bytes),

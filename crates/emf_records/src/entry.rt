@@ -9,6 +9,9 @@ use crate::types::*;
 /// A record that is played, by its name in the standard, or what is done with the others.
 #[derive(Clone, Copy, Debug, PartialEq, Eq)]
 pub(crate) enum EmfEntry {
+    BitBlt,
+    StretchBlt,
+    StretchDiBits,
     ExcludeClipRect,
     IntersectClipRect,
     ExtSelectClipRgn,
@@ -36,6 +39,7 @@ pub(crate) enum EmfEntry {
     CreateBrushIndirect,
     DeleteObject,
     SelectPalette,
+    CreateDibPatternBrushPt,
     CreatePalette,
     ExtCreateFontIndirectW,
     ExtCreatePen,
@@ -69,6 +73,9 @@ pub(crate) fn entry_of(record_type: u32) -> Option<EmfEntry>
     ensures { result ≡ emf_entry_of record_type }
 {
     match record_type {
+        EMR_BITBLT => Some(EmfEntry::BitBlt),
+        EMR_STRETCHBLT => Some(EmfEntry::StretchBlt),
+        EMR_STRETCHDIBITS => Some(EmfEntry::StretchDiBits),
         EMR_EXCLUDECLIPRECT => Some(EmfEntry::ExcludeClipRect),
         EMR_INTERSECTCLIPRECT => Some(EmfEntry::IntersectClipRect),
         EMR_EXTSELECTCLIPRGN => Some(EmfEntry::ExtSelectClipRgn),
@@ -96,6 +103,7 @@ pub(crate) fn entry_of(record_type: u32) -> Option<EmfEntry>
         EMR_CREATEBRUSHINDIRECT => Some(EmfEntry::CreateBrushIndirect),
         EMR_DELETEOBJECT => Some(EmfEntry::DeleteObject),
         EMR_SELECTPALETTE => Some(EmfEntry::SelectPalette),
+        EMR_CREATEDIBPATTERNBRUSHPT => Some(EmfEntry::CreateDibPatternBrushPt),
         EMR_CREATEPALETTE => Some(EmfEntry::CreatePalette),
         EMR_EXTCREATEFONTINDIRECTW => Some(EmfEntry::ExtCreateFontIndirectW),
         EMR_EXTCREATEPEN => Some(EmfEntry::ExtCreatePen),
@@ -136,10 +144,6 @@ pub(crate) fn entry_of(record_type: u32) -> Option<EmfEntry>
         EMR_NAMEDESCAPE => Some(EmfEntry::Skipped),
         EMR_SETLINKEDUFIS => Some(EmfEntry::Skipped),
         EMR_SETTEXTJUSTIFICATION => Some(EmfEntry::Skipped),
-        EMR_BITBLT => Some(EmfEntry::Refused),
-        EMR_STRETCHBLT => Some(EmfEntry::Refused),
-        EMR_STRETCHDIBITS => Some(EmfEntry::Refused),
-        EMR_CREATEDIBPATTERNBRUSHPT => Some(EmfEntry::Refused),
         EMR_POLYBEZIER => Some(EmfEntry::Refused),
         EMR_POLYBEZIERTO => Some(EmfEntry::Refused),
         EMR_OFFSETCLIPRGN => Some(EmfEntry::Refused),

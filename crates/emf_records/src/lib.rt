@@ -7,9 +7,13 @@
 //! - Each record means one operation with its notes, or its first fault (`Emf`, by `emf_record`).
 //! - What is done with a type is said once, and the types that the standard lacks are those that no row
 //!   has (`kinds_law`).
-//! - No call is handed an allocator: points, counts and lists are parts of the file.
+//! - A bitmap is two parts of its record, neither of which goes past the record's end, whatever offsets and
+//!   sizes are given. A blit whose bitmap has no header has none, and nothing else of one is looked at (by
+//!   `bit_blt` and its like).
+//! - No call is handed an allocator: points, counts, lists and bitmaps are parts of the file.
 #![tactic(auto)]
 
+mod bitmap_records;
 mod drawing_records;
 mod emf;
 mod entry;

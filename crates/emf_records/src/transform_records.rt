@@ -59,7 +59,8 @@ fn keeps_transform(mode: u32, is_identity: bool) -> bool
 }
 
 /// Whether the XForm at a place ([MS-EMF] 2.2.28) is the identity: M11, M12, M21, M22, Dx, Dy.
-fn is_identity_at(bytes: &[u8], place: usize) -> bool
+#[tactic(auto, unfolding(crate::specs::TransformRecords::is_identity_at))]
+pub(crate) fn is_identity_at(bytes: &[u8], place: usize) -> bool
     requires { place + 24 ≤ length bytes.now }
     ensures { result ≡ is_identity_at bytes.now place }
 {

@@ -1,5 +1,12 @@
 //! The types of EMF records, by their names in [MS-EMF] 2.1.1.
 
+// Bitmap records, 2.3.1.
+pub(crate) const EMR_BITBLT: u32 = 76;
+
+pub(crate) const EMR_STRETCHBLT: u32 = 77;
+
+pub(crate) const EMR_STRETCHDIBITS: u32 = 81;
+
 // Clipping records, 2.3.2.
 pub(crate) const EMR_EXCLUDECLIPRECT: u32 = 29;
 
@@ -58,6 +65,8 @@ pub(crate) const EMR_CREATEBRUSHINDIRECT: u32 = 39;
 pub(crate) const EMR_DELETEOBJECT: u32 = 40;
 
 pub(crate) const EMR_SELECTPALETTE: u32 = 48;
+
+pub(crate) const EMR_CREATEDIBPATTERNBRUSHPT: u32 = 94;
 
 pub(crate) const EMR_CREATEPALETTE: u32 = 49;
 
@@ -142,15 +151,6 @@ pub(crate) const EMR_NAMEDESCAPE: u32 = 110;
 pub(crate) const EMR_SETLINKEDUFIS: u32 = 119;
 
 pub(crate) const EMR_SETTEXTJUSTIFICATION: u32 = 120;
-
-// Records with bitmaps, 2.3.1 and 2.3.7: refused until bitmaps are read.
-pub(crate) const EMR_BITBLT: u32 = 76;
-
-pub(crate) const EMR_STRETCHBLT: u32 = 77;
-
-pub(crate) const EMR_STRETCHDIBITS: u32 = 81;
-
-pub(crate) const EMR_CREATEDIBPATTERNBRUSHPT: u32 = 94;
 
 // Records that are not played.
 pub(crate) const EMR_POLYBEZIER: u32 = 2;

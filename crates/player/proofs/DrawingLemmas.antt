@@ -21,18 +21,20 @@ use Rattle.dc_stack.specs.State.{DcValue}
 use Rattle.dc_stack.specs.Values.{IsPlacedOn, dc_value, placed_value}
 use Rattle.dc_stack.specs.declared.clip.Clip.{Clip}
 use Rattle.dc_stack.specs.declared.dc.Dc.{Dc}
-use Rattle.dc_stack.specs.declared.modes.Modes.{Modes}
 use Rattle.span_fill.specs.Strokes.{in_stroke, on_line}
 use Rattle.span_fill.specs.declared.line.Line.{Line}
-use Rattle.player.specs.Apply.{apply_all, ink_of, joined, joined_by}
+use Rattle.player.specs.Apply.{apply_all, ink_of, joined}
 use Rattle.player.specs.Layer.{Layer, brushed_now, filled, layer_now, stroked}
 use Rattle.player.specs.Mixing.{binary, copied}
 use Rattle.player.specs.Paint.{Paint, paint_at, solid}
-use Rattle.player.specs.Painted.{colour_of, made, paints}
+use Rattle.player.specs.Painted.{colour_of, colour_seen, made, paints}
 use Rattle.player.specs.Plays.{DrawsLayers, IsWhole, SameRows}
 use Rattle.player.specs.Shape.{Shape, in_shape, pixel_under}
 use Rattle.player.specs.Writes.{writes_of_layers, writes_pixel}
+use Rattle.player.specs.RasterOperation.{joined_if}
 use Rattle.player.specs.declared.paint.Paint.{Paint as Brushing}
+use Rattle.player.specs.declared.raster_operation.RasterOperation.{RasterOperation}
+use Rattle.player.specs.declared.raster_operation.RasterOperation.TheVariants.{Binary}
 
 -- no layer draws nothing
 pub no_layer_drawn : (s : Surface) (canvas : CanvasState) → DrawsLayers [] s canvas canvas
@@ -62,20 +64,20 @@ pub same_rows : (test : ℕ → ℕ → Bool) (f : ℕ → ℕ → Colour → Co
 same_rows test f old new r = record { width = r.width; first = r.first; rows = r.rows }
 
 -- a paint joins the old colour by the raster operation
-joined_same : (op : RasterOp) (s : Surface) (x y : ℕ) (paint : Option Colour) (old : Colour) → joined_by op paint old ≡ joined (binary op) s x y paint old
-joined_same op s x y None old = refl
-joined_same op s x y (Some paint) old = refl
+joined_same : (op : RasterOp) (s : Surface) (x y : ℕ) (source : Colour) (paint : Option Colour) (old : Colour) → joined_if (Binary op) source paint old ≡ joined (binary op) s x y paint old
+joined_same op s x y source None old = refl
+joined_same op s x y source (Some paint) old = refl
 
 module _ (laws : WritingLaws) (s : Surface) (old new : CanvasState) (there : IsWholeCanvas old) (whole : IsWhole old s) where
   -- what writes the pixels of a layer draws it
-  layer_drawn : (layer : Layer) → Repaints (writes_pixel layer s) (ink_of layer s) old new → DrawsLayers (layer ∷ []) s old new
+  pub layer_drawn : (layer : Layer) → Repaints (writes_pixel layer s) (ink_of layer s) old new → DrawsLayers (layer ∷ []) s old new
   layer_drawn layer r =
       let writes = r.writes in
       let counted : count_pixels (writes_pixel layer s) old.width old.first old.rows ≡ count_pixels (writes_pixel layer s) s.width 0 s.height = rw (whole.width, whole.first, whole.height) refl in
       let colours : new.colours ≡ repainted (writes_pixel layer s) (ink_of layer s) s.width 0 old.colours = rw (whole.width, whole.first) at r.colours in
       record { image = rw (r.width, r.rows, colours) refl; writes = omega (arith, writes, counted) }
 
-  module _ (paint : Brushing) (tools : Tools) (modes : paint.modes ≡ tools.modes) (clip : placed_value paint.clip.now ≡ placed_clip s tools.clip) where
+  module _ (paint : Brushing) (tools : Tools) (modes : paint.modes ≡ tools.modes) (operation : paint.operation ≡ Binary tools.modes.raster_op) (clip : placed_value paint.clip.now ≡ placed_clip s tools.clip) where
     -- so does what a paint makes of a shape
     painted_drawn : (shape : ℕ → ℕ → Bool) (drawn : Shape) (colours : Paint) → ((x y : ℕ) → shape x y ≡ in_shape drawn s x y) → ((x y : ℕ) → colour_of paint x y ≡ paint_at colours s x y) → Repaints (paints paint shape) (made paint) old new → DrawsLayers (layer_now drawn colours tools ∷ []) s old new
     painted_drawn shape drawn colours same_shape same_colour r =
@@ -86,9 +88,9 @@ module _ (laws : WritingLaws) (s : Surface) (old new : CanvasState) (there : IsW
         ∙ ap (λ (b : Bool). in_boxes (placed_clip s tools.clip) x y && b && is_some (colour_of paint x y)) (same_shape x y)
         ∙ ap (λ (c : Option Colour). in_boxes (placed_clip s tools.clip) x y && in_shape drawn s x y && is_some c) (same_colour x y))
         (λ x y c held t.
-        ap (λ (m : Modes). joined_by m.raster_op (colour_of paint x y) c) modes
-        ∙ ap (λ (p : Option Colour). joined_by tools.modes.raster_op p c) (same_colour x y)
-        ∙ joined_same tools.modes.raster_op s x y (paint_at colours s x y) c) r)
+        ap (λ (o : RasterOperation). joined_if o (colour_seen paint.source x y) (colour_of paint x y) c) operation
+        ∙ ap (λ (p : Option Colour). joined_if (Binary tools.modes.raster_op) (colour_seen paint.source x y) p c) (same_colour x y)
+        ∙ joined_same tools.modes.raster_op s x y (colour_seen paint.source x y) (paint_at colours s x y) c) r)
 
     -- by a brush
     pub brush_drawn : (shape : ℕ → ℕ → Bool) (drawn : Shape) → brush_value_of paint.brush ≡ tools.brush → ((x y : ℕ) → shape x y ≡ in_shape drawn s x y) → Repaints (paints paint shape) (made paint) old new → DrawsLayers (layer_now drawn (brushed_now tools.brush tools) tools ∷ []) s old new

@@ -1,9 +1,11 @@
+pub mod MixLemmas
 pub mod StripLemmas
 pub mod LineStepLemmas
 pub mod TestLemmas
 pub mod RunLemmas
 pub mod WorkedRows
 mod WorkedLayers
+mod WorkedBlits
 pub mod StepLemmas
 pub mod RowLemmas
 pub mod LandingLemmas
@@ -11,6 +13,8 @@ pub mod CountLemmas
 pub mod OutlineLemmas
 pub mod DrawingLemmas
 pub mod DotLemmas
+pub mod BlitLemmas
+pub mod BoxPaintLemmas
 pub mod RectangleLemmas
 pub mod MoveLemmas
 pub mod PieceLemmas

@@ -47,7 +47,7 @@ between_rows has first last y out h =
     from_to_from first (last +ℤ pos 1) y low (omega (arith, ints, high))
 
 -- spans that lie apart between two numbers have no other
-within_ends : (first last : ℕ) (spans : List Span) (x : ℕ) → AreApart first last spans → in_spans spans x ≡ true → (first ≤ x) × (x < last)
+pub within_ends : (first last : ℕ) (spans : List Span) (x : ℕ) → AreApart first last spans → in_spans spans x ≡ true → (first ≤ x) × (x < last)
 within_ends first last [] x apart h = absurd (true≢false (sym h))
 within_ends first last (span ∷ spans) x apart h =
     let low = apart.0 in
@@ -167,7 +167,7 @@ module _ (paint : Paint) (shape : ℕ → ℕ → Bool) where
     }
 
     -- one row more is
-    pub one_row_more : (now new : CanvasState) (y : ℕ) (ink : RowInk) (columns : ℕ → Bool) → ((x : ℕ) → is_inked ink x ≡ is_some (colour_of paint x y)) → ((x : ℕ) (old : Colour) → is_inked ink x ≡ true → inked ink x old ≡ made paint x y old) → ((x : ℕ) → x < start.width → columns x ≡ (in_kept (placed_value paint.clip.now).kept x y && shape x y)) → HasRowsPainted y start now → Repaints (is_painted ink (placed_value paint.clip.now).cuts y columns) (λ column row old. inked ink column old) now new → HasRowsPainted (y + 1) start new
+    pub one_row_more : (now new : CanvasState) (y : ℕ) (ink : RowInk) (columns : ℕ → Bool) → ((x : ℕ) → is_inked ink x ≡ is_some (colour_of paint x y)) → ((x : ℕ) (old : Colour) → columns x ≡ true → is_inked ink x ≡ true → inked ink x old ≡ made paint x y old) → ((x : ℕ) → x < start.width → columns x ≡ (in_kept (placed_value paint.clip.now).kept x y && shape x y)) → HasRowsPainted y start now → Repaints (is_painted ink (placed_value paint.clip.now).cuts y columns) (λ column row old. inked ink column old) now new → HasRowsPainted (y + 1) start new
     one_row_more now new y ink columns test colour same so_far row =
         let clip = placed_value paint.clip.now in
         let width = so_far.painted.width in
@@ -176,7 +176,7 @@ module _ (paint : Paint) (shape : ℕ → ℕ → Bool) where
         (λ x r old held painted.
         let a = painted_parts ink clip.cuts y columns x r painted in
         let at = same_number r y a.0 in
-        subst (λ (q : ℕ). inked ink x old ≡ made paint x q old) (sym at) (colour x old a.3))
+        subst (λ (q : ℕ). inked ink x old ≡ made paint x q old) (sym at) (colour x old a.1 a.3))
         row in
         let next : suc y ≡ y + 1 = omega arith in
         let both = laws.both (paints_above paint shape y) (paints_row paint shape y) (made paint) start now new whole (λ x r held. above_not_row y x r) so_far.painted here in

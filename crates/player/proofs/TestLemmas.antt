@@ -1,5 +1,5 @@
 -- Tests of numbers, and what they tell.
-use Rattle.std.proofs.Common.{◌≡◌, ℕ, ◌≤◌, ◌<◌, ℤ, pos, ◌≤ℤ◌, ◌<ℤ◌, Bool, true, false, ◌&&◌, int_le, int_lt, nat_le, nat_lt, arith, refl, max, min}
+use Rattle.std.proofs.Common.{◌≡◌, ℕ, ◌≤◌, ◌<◌, ℤ, pos, ◌≤ℤ◌, ◌<ℤ◌, Bool, true, false, ◌&&◌, int_le, int_lt, nat_le, nat_lt, arith, refl, max, min, subst, ◌+◌}
 use Rattle.std.proofs.lemmas.Bool.{and_from, and_parts}
 use Rattle.std.proofs.lemmas.Int.{ints}
 use Rattle.dc_stack.specs.Clip.{is_from_to}
@@ -91,3 +91,12 @@ narrowed_columns a b f t m k n from to side starts ends tells_from tells_to = sa
 
     not_before : (f n : ℕ) (from : ℤ) → (n < f → pos n <ℤ from) → from ≤ℤ pos n → f ≤ n
     not_before f n from below h = grind (arith, ints, below)
+
+-- the last number before an end lies before it
+pub last_within : (from to end : ℤ) (last next : ℕ) → is_from_to from to last ≡ true → to ≡ end → last + 1 ≡ next → pos next ≤ℤ end
+last_within from to end last next t same e =
+    let before = (from_to_true from to last t).1 in
+    subst (λ (v : ℤ). pos next ≤ℤ v) same (subst (λ (n : ℕ). pos n ≤ℤ to) e (after before))
+  where
+    after : pos last <ℤ to → pos (last + 1) ≤ℤ to
+    after h = grind (arith, ints)

@@ -23,32 +23,35 @@ use Rattle.dc_stack.specs.State.{State, start_state}
 use Rattle.player.specs.Apply.{image_after}
 use Rattle.player.specs.Writes.{writes_after}
 
-abbrev red : Colour
+abbrev pub red : Colour
 red = record { r = 255; g = 0; b = 0 }
 
-abbrev blue : Colour
+abbrev pub blue : Colour
 blue = record { r = 0; g = 0; b = 255 }
 
--- the colour that a sign stands for: `#` is black, `r` red, `b` blue, and `.` white; a `/` between rows is none
-abbrev colours_of_sign : ℕ → List Colour
+abbrev pub green : Colour
+green = record { r = 0; g = 255; b = 0 }
+
+-- the colour that a sign stands for: `#` is black, `r` red, `g` green, `b` blue, and `.` white; a `/` between rows is none
+abbrev pub colours_of_sign : ℕ → List Colour
 colours_of_sign sign =
     if sign == 35 then black_colour ∷ []
-    else (if sign == 114 then red ∷ [] else (if sign == 98 then blue ∷ [] else (if sign == 46 then white_colour ∷ [] else [])))
+    else (if sign == 114 then red ∷ [] else (if sign == 103 then green ∷ [] else (if sign == 98 then blue ∷ [] else (if sign == 46 then white_colour ∷ [] else []))))
 
 -- the colours of a picture, row by row
-abbrev picture : List ℕ → List Colour
+abbrev pub picture : List ℕ → List Colour
 picture [] = []
 picture (sign ∷ signs) = colours_of_sign sign ++ picture signs
 
 -- a surface of these sides that shows a frame of as many units
-abbrev sides : ℕ → ℕ → Surface
+abbrev pub sides : ℕ → ℕ → Surface
 sides width height = record { width = width; height = height; frame_width = width; frame_height = height }
 
-abbrev four : Surface
+abbrev pub four : Surface
 four = sides 4 4
 
 -- a surface of 2 by 2 that shows a frame of 4 by 4
-abbrev half : Surface
+abbrev pub half : Surface
 half = record { width = 2; height = 2; frame_width = 4; frame_height = 4 }
 
 -- a file's start whose map scales nothing
@@ -59,28 +62,28 @@ abbrev step_of : Operation → StepValue
 step_of operation = record { number = 0; operation = operation; notes = no_notes }
 
 -- what operations leave of a white surface, and how many pixels they write
-abbrev drawn : Surface → List Operation → List Colour × ℕ
+abbrev pub drawn : Surface → List Operation → List Colour × ℕ
 drawn s operations =
     ((image_after (map step_of operations) start s (blank s.width s.height white_colour)).colours, writes_after (map step_of operations) start s)
 
-abbrev at : ℕ → ℕ → Point
+abbrev pub at : ℕ → ℕ → Point
 at x y = record { x = pos x; y = pos y }
 
 -- a point so many columns to the left of column 0
 abbrev left_of : ℕ → ℕ → Point
 left_of x y = record { x = neg_ℤ (pos x); y = pos y }
 
-abbrev box : ℕ → ℕ → ℕ → ℕ → Rect
+abbrev pub box : ℕ → ℕ → ℕ → ℕ → Rect
 box l t r b = record { l = pos l; t = pos t; r = pos r; b = pos b }
 
 -- operations behind the selection of a brush, of a null pen, and of both; without one the pen is black and the brush white
-abbrev brushed : BrushValue → List Operation → List Operation
+abbrev pub brushed : BrushValue → List Operation → List Operation
 brushed brush operations = create None (brush_object brush) ∷ select 0 ∷ operations
 
 abbrev penless : List Operation → List Operation
 penless operations = create None (pen_object Null) ∷ select 0 ∷ operations
 
-abbrev penless_brushed : BrushValue → List Operation → List Operation
+abbrev pub penless_brushed : BrushValue → List Operation → List Operation
 penless_brushed brush operations = create None (pen_object Null) ∷ select 0 ∷ create None (brush_object brush) ∷ select 1 ∷ operations
 
 -- polygons

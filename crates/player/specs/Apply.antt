@@ -2,8 +2,6 @@
 use Rattle.std.specs.Prelude.{ℕ, List, [], ◌∷◌, Option, Some, None}
 use Rattle.mapping.specs.Pixels.{repainted}
 use Rattle.mapping.specs.declared.geometry.Colour.{Colour}
-use Rattle.draw_ops.specs.declared.raster_op.RasterOp.{RasterOp}
-use Rattle.raster_ops.specs.RasterOps.{mixed_colour}
 use Rattle.mapping.specs.Image.{Image}
 use Rattle.mapping.specs.Surface.{Surface}
 use Rattle.draw_ops.specs.Content.{StepValue}
@@ -14,11 +12,6 @@ use Rattle.dc_stack.specs.Next.{next}
 use Rattle.player.specs.Paint.{paint_at}
 use Rattle.dc_stack.specs.State.{State}
 use Rattle.player.specs.Writes.{writes_pixel}
-
--- paint joined with the old colour by a raster operation, where there is some
-abbrev pub joined_by : RasterOp → Option Colour → Colour → Colour
-joined_by op None old = old
-joined_by op (Some paint) old = mixed_colour op paint old
 
 -- the paint joined with the old colour, where the paint gives one
 abbrev pub joined : Mixing → Surface → ℕ → ℕ → Option Colour → Colour → Colour

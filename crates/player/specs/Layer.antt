@@ -1,12 +1,17 @@
 -- A drawing is a list of layers.
-use Rattle.std.specs.Prelude.{List, [], ◌∷◌, ◌++◌, Option, Some, None}
+use Rattle.std.specs.Prelude.{ℕ, if◌then◌else◌, List, [], ◌∷◌, ◌++◌, Option, Some, None}
+use Rattle.mapping.specs.Colours.{black_colour}
+use Rattle.mapping.specs.declared.geometry.Point.{Point}
+use Rattle.draw_ops.specs.Blits.{SourceValue}
 use Rattle.draw_ops.specs.Operation.{Operation}
 use Rattle.dc_stack.specs.Clip.{ClipValue}
-use Rattle.dc_stack.specs.Drawing.{Drawing, Mark, Tools, along_figures, dot, drawing_of, insides_of, lines_through, polygons_of, rectangle_between}
+use Rattle.dc_stack.specs.Drawing.{Drawing, Mark, Tools, along_figures, blit_between, dot, drawing_of, insides_of, lines_through, polygons_of, rectangle_between}
 use Rattle.draw_ops.specs.Objects.{BrushValue, hatched_brush, null_brush, solid_brush, tile_brush}
 use Rattle.draw_ops.specs.declared.objects.Pen.{Pen}
 use Rattle.draw_ops.specs.declared.objects.Pen.TheVariants.{Null, Solid}
-use Rattle.player.specs.Mixing.{Mixing, binary, copied}
+use Rattle.draw_ops.specs.declared.operation.RectangleEdges.TheVariants.{HalfOpen}
+use Rattle.raster_ops.specs.TernaryOps.{uses_pattern}
+use Rattle.player.specs.Mixing.{Mixing, binary, copied, ternary}
 use Rattle.player.specs.Paint.{Paint, brushed, solid}
 use Rattle.player.specs.Shape.{Shape, along, inside_polygons, inside_rectangle, on_lines, pixel_under, round_polygons, round_rectangle}
 use Rattle.dc_stack.specs.State.{State}
@@ -54,8 +59,9 @@ fills_of (polygons_of lists) tools = filled (inside_polygons tools.modes.fill_mo
 fills_of (insides_of lists) tools = filled (inside_polygons tools.modes.fill_mode lists) tools
 fills_of (along_figures figures) tools = []
 fills_of (rectangle_between p q edges) tools = filled (inside_rectangle p q edges) tools
+fills_of (blit_between p q table source) tools = []
 
--- its outline, which a pen strokes: a dot has none
+-- its outline, which a pen strokes: a dot and a blit have none
 abbrev pub outlines_of : Mark → Tools → List Layer
 outlines_of (dot point colour) tools = []
 outlines_of (lines_through lists) tools = stroked (on_lines lists) tools
@@ -63,19 +69,30 @@ outlines_of (polygons_of lists) tools = stroked (round_polygons lists) tools
 outlines_of (insides_of lists) tools = []
 outlines_of (along_figures figures) tools = stroked (along figures) tools
 outlines_of (rectangle_between p q edges) tools = stroked (round_rectangle p q edges) tools
+outlines_of (blit_between p q table source) tools = []
 
--- a dot is a pixel in its own colour, whatever is there
-abbrev pub dots_of : Mark → Tools → List Layer
-dots_of (dot point colour) tools = record { shape = pixel_under point; paint = solid colour; mixing = copied; clip = tools.clip } ∷ []
-dots_of (lines_through lists) tools = []
-dots_of (polygons_of lists) tools = []
-dots_of (insides_of lists) tools = []
-dots_of (along_figures figures) tools = []
-dots_of (rectangle_between p q edges) tools = []
+-- what a blit paints: what the brush gives, where its operation depends on the pattern, and else a colour that it doesn't look at
+abbrev pub blit_paint : ℕ → Tools → Paint
+blit_paint table tools = if uses_pattern table then brushed_now tools.brush tools else solid black_colour
 
--- what of it is drawn above what is filled: a dot or an outline
+-- a blit is a box from its left and top on, up to before its right and bottom
+abbrev pub blit_layer : Point → Point → ℕ → Option SourceValue → Tools → Layer
+blit_layer p q table source tools =
+    record { shape = inside_rectangle p q HalfOpen; paint = blit_paint table tools; mixing = ternary table source p q; clip = tools.clip }
+
+-- what has neither an inside nor an outline: a dot is a pixel in its own colour, whatever is there, and a blit a box
+abbrev pub plain_layers_of : Mark → Tools → List Layer
+plain_layers_of (dot point colour) tools = record { shape = pixel_under point; paint = solid colour; mixing = copied; clip = tools.clip } ∷ []
+plain_layers_of (lines_through lists) tools = []
+plain_layers_of (polygons_of lists) tools = []
+plain_layers_of (insides_of lists) tools = []
+plain_layers_of (along_figures figures) tools = []
+plain_layers_of (rectangle_between p q edges) tools = []
+plain_layers_of (blit_between p q table source) tools = blit_layer p q table source tools ∷ []
+
+-- what of it is drawn above what is filled: a dot, a blit or an outline
 abbrev pub strokes_of : Mark → Tools → List Layer
-strokes_of mark tools = dots_of mark tools ++ outlines_of mark tools
+strokes_of mark tools = plain_layers_of mark tools ++ outlines_of mark tools
 
 -- the layers of a drawing, the first drawn first: what is filled, and then what is stroked
 abbrev pub layers_of : Drawing → List Layer

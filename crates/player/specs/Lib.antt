@@ -18,7 +18,10 @@ pub mod Plays
 pub mod PlacedLines
 pub mod LinesToCome
 pub mod RowInks
+pub mod RasterOperation
 pub mod Painted
+pub mod Pens
+pub mod Blits
 pub mod Strips
 pub mod LineSteps
 pub mod Refusal

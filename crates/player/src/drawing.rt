@@ -9,9 +9,11 @@ ghost use Rattle.draw_ops.specs.declared.objects.Pen.TheVariants.{Solid};
 ghost use Rattle.player.specs.Layer.{fills_of, outlines_of, strokes_of};
 ghost use Rattle.player.specs.Plays.{DrawsDrawing, DrawsLayers, IsWhole, SameRows};
 
+use crate::blits::blit;
 use crate::dots::put;
 use crate::figures::{fill_figures, stroke_figures};
 use crate::filling::{fill_box, fill_lines, rule_of};
+use crate::ink_room::InkRoom;
 use crate::list_lines::Ends;
 use crate::paint::Paint;
 use crate::placed_lines::PlacedLines;
@@ -32,6 +34,7 @@ pub(crate) fn draw<'a, T: Table<'a>>(
     step: Option<Draw<'a>>,
     machine: &Machine<'a, T>,
     rows: &mut RowBuf,
+    room: &mut InkRoom,
     canvas: &mut Canvas,
 ) -> Result<(), OutOfMemory>
     requires whole { IsWhole canvas.old machine.now.surface }
@@ -44,8 +47,8 @@ pub(crate) fn draw<'a, T: Table<'a>>(
     ensures room { rows.old.room ≤ rows.new.room }
 {
     if let Some(drawn) = step {
-        fill(drawn, machine, rows, canvas)?;
-        stroke(drawn, machine, rows, canvas)?;
+        fill(drawn, machine, rows, room, canvas)?;
+        stroke(drawn, machine, rows, room, canvas)?;
     }
     Ok(())
 }
@@ -55,6 +58,7 @@ fn fill<'a, T: Table<'a>>(
     drawn: Draw<'a>,
     machine: &Machine<'a, T>,
     rows: &mut RowBuf,
+    room: &mut InkRoom,
     canvas: &mut Canvas,
 ) -> Result<(), OutOfMemory>
     requires whole { IsWhole canvas.old machine.now.surface }
@@ -78,7 +82,7 @@ fn fill<'a, T: Table<'a>>(
             let outline = PlacedLines::of_lists(by, Ends::Closed, lists);
             rows.reserve(outline.count())?;
             let rule = rule_of(dc.modes.fill_mode);
-            fill_lines(canvas, rows, outline, rule, bounds, &paint);
+            fill_lines(canvas, rows, outline, rule, bounds, &paint, room);
         }
         Draw::Rectangle {
             first,
@@ -86,24 +90,29 @@ fn fill<'a, T: Table<'a>>(
             edges,
         } => {
             let inside = rectangle_box(first.placed, second.placed, edges);
-            fill_box(canvas, inside, &paint);
+            fill_box(canvas, inside, &paint, room);
         }
         Draw::Path {
             painting,
             place,
             count,
             bounds,
-        } => return fill_figures(painting, place, count, bounds, machine, rows, canvas),
-        Draw::Dot { .. } | Draw::Line { .. } | Draw::LinesFrom { .. } | Draw::Polylines { .. } => {}
+        } => return fill_figures(painting, place, count, bounds, machine, rows, room, canvas),
+        Draw::Dot { .. }
+        | Draw::Line { .. }
+        | Draw::LinesFrom { .. }
+        | Draw::Polylines { .. }
+        | Draw::Blit { .. } => {}
     }
     Ok(())
 }
 
-/// Strokes what a step draws, if the pen draws: a dot is a pixel in its own colour.
+/// Strokes what a step draws, if the pen draws: a dot is a pixel in its own colour, and a blit a box.
 fn stroke<'a, T: Table<'a>>(
     drawn: Draw<'a>,
     machine: &Machine<'a, T>,
     rows: &mut RowBuf,
+    room: &mut InkRoom,
     canvas: &mut Canvas,
 ) -> Result<(), OutOfMemory>
     requires whole { IsWhole canvas.old machine.now.surface }
@@ -122,13 +131,31 @@ fn stroke<'a, T: Table<'a>>(
         put(at.placed, colour, &dc.clip, canvas);
         return Ok(());
     }
+    if let Draw::Blit {
+        first,
+        second,
+        operation,
+        source,
+    } = drawn
+    {
+        blit(
+            first.placed,
+            second.placed,
+            operation,
+            &source,
+            dc,
+            room,
+            canvas,
+        );
+        return Ok(());
+    }
     let Pen::Solid { colour } = dc.selected.pen else {
         return Ok(());
     };
     stroke_outline(drawn, colour, machine, rows, canvas)
 }
 
-/// Strokes the outline of what a step draws, in the colour of the pen. A dot has none.
+/// Strokes the outline of what a step draws, in the colour of the pen. A dot and a blit have none.
 fn stroke_outline<'a, T: Table<'a>>(
     drawn: Draw<'a>,
     colour: Colour,
@@ -151,7 +178,7 @@ fn stroke_outline<'a, T: Table<'a>>(
     let dc = machine.dc();
     let paint = Paint::with(Brush::Solid(colour), dc);
     match drawn {
-        Draw::Dot { .. } => {}
+        Draw::Dot { .. } | Draw::Blit { .. } => {}
         Draw::Line { from, to } => {
             let line = Line {
                 from: from.placed,
@@ -167,17 +194,17 @@ fn stroke_outline<'a, T: Table<'a>>(
         } => {
             let outline = PlacedLines::from(from.placed, by, points);
             rows.reserve(outline.count())?;
-            stroke_lines(canvas, rows, outline, bounds, &paint);
+            stroke_lines(canvas, rows, outline, bounds, &paint, colour);
         }
         Draw::Polylines { lists, by, bounds } => {
             let outline = PlacedLines::of_lists(by, Ends::Open, lists);
             rows.reserve(outline.count())?;
-            stroke_lines(canvas, rows, outline, bounds, &paint);
+            stroke_lines(canvas, rows, outline, bounds, &paint, colour);
         }
         Draw::Polygons { lists, by, bounds } => {
             let outline = PlacedLines::of_lists(by, Ends::Closed, lists);
             rows.reserve(outline.count())?;
-            stroke_lines(canvas, rows, outline, bounds, &paint);
+            stroke_lines(canvas, rows, outline, bounds, &paint, colour);
         }
         Draw::Rectangle {
             first,
@@ -186,7 +213,7 @@ fn stroke_outline<'a, T: Table<'a>>(
         } => {
             let inside = rectangle_box(first.placed, second.placed, edges);
             rows.reserve(4)?;
-            stroke_box(canvas, rows, inside, &paint);
+            stroke_box(canvas, rows, inside, &paint, colour);
         }
         Draw::Path {
             painting,

@@ -11,6 +11,7 @@ ghost use Rattle.player.specs.Layer.{fills_of, outlines_of};
 ghost use Rattle.player.specs.Plays.{DrawsLayers, IsWhole, SameRows};
 
 use crate::filling::{fill_lines, rule_of};
+use crate::ink_room::InkRoom;
 use crate::list_lines::Ends;
 use crate::paint::Paint;
 use crate::piece_lines::PieceLines;
@@ -31,6 +32,7 @@ pub(crate) fn fill_figures<'a, T: Table<'a>>(
     bounds: Rect,
     machine: &Machine<'a, T>,
     rows: &mut RowBuf,
+    room: &mut InkRoom,
     canvas: &mut Canvas,
 ) -> Result<(), OutOfMemory>
     requires whole { IsWhole canvas.old machine.now.surface }
@@ -56,7 +58,7 @@ pub(crate) fn fill_figures<'a, T: Table<'a>>(
     let outline = PieceLines::new(place, Ends::Closed, machine.painted());
     let paint = Paint::with(dc.selected.brush, dc);
     let rule = rule_of(dc.modes.fill_mode);
-    fill_lines(canvas, rows, outline, rule, bounds, &paint);
+    fill_lines(canvas, rows, outline, rule, bounds, &paint, room);
     Ok(())
 }
 
@@ -91,7 +93,7 @@ pub(crate) fn stroke_figures<'a, T: Table<'a>>(
     rows.reserve(count as usize)?;
     let outline = PieceLines::new(place, ends, machine.painted());
     let paint = Paint::with(Brush::Solid(colour), machine.dc());
-    stroke_lines(canvas, rows, outline, bounds, &paint);
+    stroke_lines(canvas, rows, outline, bounds, &paint, colour);
     Ok(())
 }
 

@@ -1,6 +1,6 @@
 //! What is inside, painted row by row.
 
-ghost use Rattle.std.specs.Prelude.{◌≡◌, ◌+◌, ◌<◌, ◌≤◌, ◌^◌, length};
+ghost use Rattle.std.specs.Prelude.{◌≡◌, None, ◌+◌, ◌<◌, ◌≤◌, ◌^◌, length};
 ghost use Rattle.std.specs.List.{All};
 ghost use Rattle.canvas.specs.Writing.{Repaints};
 ghost use Rattle.dc_stack.specs.Clip.{in_box};
@@ -9,6 +9,7 @@ ghost use Rattle.span_fill.specs.RowLaws.{LiesBetween};
 ghost use Rattle.player.specs.Painted.{made, paints};
 ghost use Rattle.player.specs.Shape.{fill_rule_of};
 
+use crate::ink_room::InkRoom;
 use crate::paint::Paint;
 use crate::regions::{common, rows_between, visible};
 use crate::strips::{put_spans, put_uncut};
@@ -25,9 +26,11 @@ pub(crate) fn fill_lines<O: Outline + Copy>(
     rule: FillRule,
     bounds: Rect,
     paint: &Paint<'_, '_>,
+    room: &mut InkRoom,
 )
     requires first { canvas.old.first ≡ 0 }
     requires countable { canvas.old.writes + 2 ^ 27 < 2 ^ 64 }
+    requires alone { paint.now.source ≡ None }
     requires room { length (O.lines outline) ≤ rows.old.room }
     requires bounds { All (LiesBetween bounds.t bounds.b) (O.lines outline) }
     ensures pixels { Repaints (paints paint.now (in_fill rule (O.lines outline))) (made paint.now) canvas.old canvas.new }
@@ -42,13 +45,14 @@ pub(crate) fn fill_lines<O: Outline + Copy>(
     rows.begin_fill(&mut lines, rule, drawn.from);
     for y in drawn.from..drawn.to {
         rows.next_fill(region.columns);
-        let ink = paint.row(y);
+        let ink = paint.row(y, region.columns.from, region.columns.to, room);
         put_spans(canvas, &ink, y, rows.spans(), paint.clip.cut_boxes());
     }
 }
 
 /// Paints what is inside of a box.
-pub(crate) fn fill_box(canvas: &mut Canvas, inside: Rect, paint: &Paint<'_, '_>)
+pub(crate) fn fill_box(canvas: &mut Canvas, inside: Rect, paint: &Paint<'_, '_>, room: &mut InkRoom)
+    requires alone { paint.now.source ≡ None }
     requires first { canvas.old.first ≡ 0 }
     requires countable { canvas.old.writes + 2 ^ 27 < 2 ^ 64 }
     ensures pixels { Repaints (paints paint.now (in_box inside)) (made paint.now) canvas.old canvas.new }
@@ -61,7 +65,7 @@ pub(crate) fn fill_box(canvas: &mut Canvas, inside: Rect, paint: &Paint<'_, '_>)
         return;
     }
     for y in drawn.rows.from..drawn.rows.to {
-        let ink = paint.row(y);
+        let ink = paint.row(y, drawn.columns.from, drawn.columns.to, room);
         put_uncut(
             canvas,
             &ink,

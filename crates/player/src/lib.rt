@@ -14,11 +14,13 @@
 //!   from (`run_law`).
 #![tactic(auto)]
 
+mod blits;
 mod dots;
 mod drawing;
 mod figures;
 mod file_table;
 mod filling;
+mod ink_room;
 mod laws;
 mod line_steps;
 mod list_lines;
@@ -28,6 +30,7 @@ mod path_moves;
 mod piece_lines;
 mod placed_lines;
 mod play;
+mod raster_operation;
 mod rectangles;
 mod refusal;
 mod regions;

@@ -12,6 +12,7 @@ ghost use Rattle.player.specs.Run.{Refused, Run, Writes, shown, white};
 
 use crate::drawing::draw;
 use crate::file_table::{FileTable, full_slots};
+use crate::ink_room::InkRoom;
 use crate::refusal::Refusal;
 use canvas::Canvas;
 use dc_stack::{MAX_PIECES, MAX_SAVED_STATES, Machine, fault_law, room_law};
@@ -79,8 +80,8 @@ fn play_opened(alloc: Global, opened: &Opened<'_>, canvas: &mut Canvas) -> Resul
 
 /// Plays an opened file's records on a machine that has room for any file, with rows that have room for
 /// any drawing, and on a canvas that holds the machine's surface, over what it shows, and tells how many
-/// pixels were written. The refusal is the first fault of the records: no memory is wanted. After a refusal the canvas may show what was drawn
-/// before the fault.
+/// pixels were written. The refusal is the first fault of the records: no memory is wanted. After a refusal the
+/// canvas may show what was drawn before the fault.
 pub fn play_on<'a, T: Table<'a>>(
     opened: &Opened<'a>,
     machine: &mut Machine<'a, T>,
@@ -152,6 +153,7 @@ fn play_steps<'a, S: OpSource<'a>, T: Table<'a>>(
 {
     room_law();
     fault_law();
+    let mut room = InkRoom::new();
     let mut before: u32 = 0;
     loop {
         let step = match source.next_op() {
@@ -163,7 +165,7 @@ fn play_steps<'a, S: OpSource<'a>, T: Table<'a>>(
             Ok(drawn) => drawn,
             Err(fault) => return Err(Refusal::at(step.number, fault)),
         };
-        if draw(drawn, machine, rows, canvas).is_err() {
+        if draw(drawn, machine, rows, &mut room, canvas).is_err() {
             return Err(Refusal::of_file(Fault::OutOfMemory));
         }
         before += 1;

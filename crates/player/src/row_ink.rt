@@ -1,20 +1,23 @@
 //! What a brush makes of the pixels of a row, by a raster operation.
 
-ghost use Rattle.std.specs.Prelude.{◌≡◌, ℕ, if◌then◌else◌, true, is_some};
+ghost use Rattle.std.specs.Prelude.{◌≡◌, ◌≤◌, ◌<◌, ℕ, if◌then◌else◌, true, is_some, length, slice_index_or};
+ghost use Rattle.canvas.specs.MixRows.{mix_at};
+ghost use Rattle.mapping.specs.Colours.{black_colour};
 ghost use Rattle.mapping.specs.Mixes.{mixed_by};
 ghost use Rattle.mapping.specs.Pixels.{is_cell};
 ghost use Rattle.mapping.specs.declared.geometry.Colour.{Colour};
-ghost use Rattle.player.specs.Apply.{joined_by};
+ghost use Rattle.player.specs.RasterOperation.{joined_by, joined_if};
 ghost use Rattle.player.specs.RowInks.{inked, is_inked};
 ghost use Rattle.raster_ops.specs.BrushRows.{row_paint};
 
-use draw_ops::RasterOp;
+use crate::ink_room::{InkRoom, MAX_SIDE};
+use crate::raster_operation::RasterOperation;
 use mapping::{Colour, Mix};
-use raster_ops::{BrushRow, mix_of, pattern};
+use raster_ops::{BrushRow, gather_pattern, pattern};
 
 /// What the pixels of a row become, by their columns.
 #[derive(Clone, Copy, Debug)]
-pub(crate) enum RowInk {
+pub(crate) enum RowInk<'r> {
     /// None is written.
     Nothing,
     /// Each becomes this colour.
@@ -30,35 +33,95 @@ pub(crate) enum RowInk {
         mix: Mix,
         gaps: Option<Mix>,
     },
+    /// Each becomes the colour at its column.
+    Row(&'r [Colour; MAX_SIDE]),
+    /// Each is mixed by the mix at its column.
+    MixRow(&'r [Mix; MAX_SIDE]),
+    /// Each whose column modulo 8 has its bit set in `cells` is mixed by the mix at its column, and no other is
+    /// written.
+    MixCells {
+        cells: u8,
+        mixes: &'r [Mix; MAX_SIDE],
+    },
 }
 
-/// What a row of a brush makes of its pixels.
-pub(crate) fn row_ink(row: BrushRow, op: RasterOp) -> RowInk
-    ensures test { (x : ℕ) → is_inked result x ≡ is_some (row_paint row x) }
-    ensures ink { (x : ℕ) (old : Colour) → is_inked result x ≡ true → inked result x old ≡ joined_by op (row_paint row x) old }
+/// What a row of a brush makes of its pixels in the columns from one on up to before another. Nothing is read.
+pub(crate) fn row_ink<'r>(
+    row: BrushRow<'_>,
+    operation: RasterOperation,
+    from: u32,
+    to: u32,
+    room: &'r mut InkRoom,
+) -> RowInk<'r>
+    requires end { to ≤ 8192 }
+    ensures test { (x : ℕ) → is_inked result x ≡ is_some (row_paint row.entry x) }
+    ensures ink { (x : ℕ) (old : Colour) → from ≤ x → x < to → is_inked result x ≡ true → inked result x old ≡ joined_if operation black_colour (row_paint row.entry x) old }
 {
     match row {
         BrushRow::Nothing => RowInk::Nothing,
-        BrushRow::Solid(colour) => full(mix_of(op, colour)),
+        BrushRow::Solid(colour) => full(operation.mix(colour)),
         BrushRow::Hatched {
             cells,
             colour,
             gaps: None,
         } => RowInk::Cells {
             cells,
-            mix: mix_of(op, colour),
+            mix: operation.mix(colour),
             gaps: None,
         },
         BrushRow::Hatched {
             cells,
             colour,
             gaps: Some(gaps),
-        } => two(cells, mix_of(op, colour), mix_of(op, gaps)),
+        } => two(cells, operation.mix(colour), operation.mix(gaps)),
+        BrushRow::Tiled(_) => tile_ink(&row, operation, from, to, room),
+    }
+}
+
+/// What a row of a picture that is repeated makes of those pixels: its colours, where the operation copies them.
+fn tile_ink<'r>(
+    row: &BrushRow<'_>,
+    operation: RasterOperation,
+    from: u32,
+    to: u32,
+    room: &'r mut InkRoom,
+) -> RowInk<'r>
+    requires end { to ≤ 8192 }
+    requires tiled { (x : ℕ) → is_some (row_paint row.now x) ≡ true }
+    ensures test { (x : ℕ) → is_inked result x ≡ true }
+    ensures ink { (x : ℕ) (old : Colour) → from ≤ x → x < to → inked result x old ≡ joined_if operation black_colour (row_paint row.now x) old }
+{
+    if from > to {
+        return RowInk::Row(&room.patterns);
+    }
+    gather_pattern(row, from, to, &mut room.patterns);
+    if operation.copies_paint() {
+        return RowInk::Row(&room.patterns);
+    }
+    mix_patterns(&room.patterns, operation, from, to, &mut room.mixes);
+    RowInk::MixRow(&room.mixes)
+}
+
+/// Mixes that join the colours of the columns from one on up to before another, each at its column.
+fn mix_patterns(
+    patterns: &[Colour],
+    operation: RasterOperation,
+    from: u32,
+    to: u32,
+    mixes: &mut [Mix],
+)
+    requires order { from ≤ to }
+    requires end { to ≤ length patterns.now }
+    requires room { to ≤ length mixes.old }
+    ensures { (x : ℕ) (d old : Colour) → from ≤ x → x < to → mixed_by (mix_at mixes.new x) old ≡ joined_by operation black_colour (slice_index_or patterns.now x d) old }
+{
+    for x in from as usize..to as usize {
+        mixes[x] = operation.mix(patterns[x]);
     }
 }
 
 /// Each pixel is mixed: one colour where the mix makes one of all.
-fn full(mix: Mix) -> RowInk
+pub(crate) fn full(mix: Mix) -> RowInk<'static>
     ensures test { (x : ℕ) → is_inked result x ≡ true }
     ensures ink { (x : ℕ) (old : Colour) → inked result x old ≡ mixed_by mix old }
 {
@@ -69,7 +132,7 @@ fn full(mix: Mix) -> RowInk
 }
 
 /// The cells are mixed by one mix, and the gaps by the other: a pattern where each makes one colour of all.
-fn two(cells: u8, mix: Mix, gaps: Mix) -> RowInk
+fn two(cells: u8, mix: Mix, gaps: Mix) -> RowInk<'static>
     ensures test { (x : ℕ) → is_inked result x ≡ true }
     ensures ink { (x : ℕ) (old : Colour) → inked result x old ≡ (if is_cell cells x then mixed_by mix old else mixed_by gaps old) }
 {

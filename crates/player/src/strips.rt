@@ -1,11 +1,12 @@
 //! Parts of a row, painted: what an ink writes of some columns, of them what no box cuts out, and of a
 //! whole row's spans.
 
-ghost use Rattle.std.specs.Prelude.{◌≡◌, ◌+◌, ◌-◌, ◌*◌, ◌<◌, ◌≤◌, ◌^◌, ◌<ℤ◌, ◌↔◌, pos, ◌&&◌, ℕ, [], if◌then◌else◌, map};
+ghost use Rattle.std.specs.Prelude.{◌≡◌, ◌+◌, ◌-◌, ◌*◌, ◌<◌, ◌≤◌, ◌^◌, ◌<ℤ◌, ◌↔◌, pos, ◌&&◌, ℕ, [], if◌then◌else◌, map, slice_index_or};
 ghost use Rattle.mapping.specs.Mixes.{mixed_by};
 ghost use Rattle.mapping.specs.Pixels.{is_cell};
 ghost use Rattle.canvas.specs.CanvasState.{HasRow};
-ghost use Rattle.canvas.specs.Writing.{Repaints, in_span};
+ghost use Rattle.canvas.specs.MixRows.{mix_at};
+ghost use Rattle.canvas.specs.Writing.{Repaints, in_cells, in_span};
 ghost use Rattle.canvas.specs.WritingLaws.{IsWhole};
 ghost use Rattle.dc_stack.specs.Clip.{in_box, is_from_to};
 ghost use Rattle.dc_stack.specs.declared.clip.ClipBox.{ClipBox};
@@ -14,6 +15,7 @@ ghost use Rattle.player.specs.RowInks.{inked};
 ghost use Rattle.player.specs.Strips.{is_column, is_painted};
 ghost use Rattle.player.specs.declared.row_ink.RowInk.TheVariants.{Full};
 
+use crate::ink_room::MAX_SIDE;
 use crate::row_ink::RowInk;
 use canvas::{Canvas, writing_law};
 use dc_stack::ClipBox;
@@ -21,7 +23,7 @@ use mapping::{Colour, Mix, Rect};
 use span_fill::Span;
 
 /// Writes what an ink makes of the columns from one on, up to before another, of a row.
-fn put_ink(canvas: &mut Canvas, ink: &RowInk, y: u32, from: u32, to: u32)
+fn put_ink(canvas: &mut Canvas, ink: &RowInk<'_>, y: u32, from: u32, to: u32)
     requires whole { IsWhole canvas.old }
     requires columns { from ≤ to }
     requires width { to ≤ canvas.old.width }
@@ -46,6 +48,56 @@ fn put_ink(canvas: &mut Canvas, ink: &RowInk, y: u32, from: u32, to: u32)
             mix,
             gaps: Some(gaps),
         } => put_both(canvas, cells, mix, gaps, y, from, to),
+        RowInk::Row(colours) => put_colours(canvas, colours, y, from, to),
+        RowInk::MixRow(mixes) => put_mixes(canvas, mixes, y, from, to),
+        RowInk::MixCells { cells, mixes } => put_cells(canvas, cells, mixes, y, from, to),
+    }
+}
+
+/// Gives the columns from one on up to before another the colours at them.
+fn put_colours(canvas: &mut Canvas, colours: &[Colour; MAX_SIDE], y: u32, from: u32, to: u32)
+    requires whole { IsWhole canvas.old }
+    requires columns { from ≤ to }
+    requires width { to ≤ canvas.old.width }
+    requires row { HasRow canvas.old y }
+    requires countable { canvas.old.writes + 2 * (to - from) < 2 ^ 64 }
+    ensures pixels { Repaints (in_span y from to) (λ column row old. slice_index_or colours.now column old) canvas.old canvas.new }
+    ensures count { canvas.new.writes ≤ canvas.old.writes + (to - from) }
+{
+    writing_law();
+    canvas.width();
+    canvas.put_row(from, y, &colours[from as usize..to as usize]);
+}
+
+/// Mixes the columns from one on up to before another by the mixes at them.
+fn put_mixes(canvas: &mut Canvas, mixes: &[Mix; MAX_SIDE], y: u32, from: u32, to: u32)
+    requires whole { IsWhole canvas.old }
+    requires columns { from ≤ to }
+    requires width { to ≤ canvas.old.width }
+    requires row { HasRow canvas.old y }
+    requires countable { canvas.old.writes + 2 * (to - from) < 2 ^ 64 }
+    ensures pixels { Repaints (in_span y from to) (λ column row old. mixed_by (mix_at mixes.now column) old) canvas.old canvas.new }
+    ensures count { canvas.new.writes ≤ canvas.old.writes + (to - from) }
+{
+    writing_law();
+    canvas.width();
+    canvas.mix_row(from, y, &mixes[from as usize..to as usize]);
+}
+
+/// Mixes those of the columns from one on up to before another that are cells by the mixes at them.
+fn put_cells(canvas: &mut Canvas, cells: u8, mixes: &[Mix; MAX_SIDE], y: u32, from: u32, to: u32)
+    requires whole { IsWhole canvas.old }
+    requires columns { from ≤ to }
+    requires width { to ≤ canvas.old.width }
+    requires row { HasRow canvas.old y }
+    requires countable { canvas.old.writes + 2 * (to - from) < 2 ^ 64 }
+    ensures pixels { Repaints (in_cells y from to cells) (λ column row old. mixed_by (mix_at mixes.now column) old) canvas.old canvas.new }
+    ensures count { canvas.new.writes ≤ canvas.old.writes + (to - from) }
+{
+    writing_law();
+    canvas.width();
+    for x in from..to {
+        canvas.mix_cells(x, x + 1, y, cells, mixes[x as usize]);
     }
 }
 
@@ -109,7 +161,7 @@ fn within(coordinate: i32, least: u32, most: u32) -> u32
 /// Writes what an ink makes of those columns of a row that no box cuts out.
 pub(crate) fn put_uncut(
     canvas: &mut Canvas,
-    ink: &RowInk,
+    ink: &RowInk<'_>,
     y: u32,
     from: u32,
     to: u32,
@@ -137,7 +189,13 @@ pub(crate) fn put_uncut(
 }
 
 /// Writes what an ink makes of those pixels in the spans of a row that no box cuts out.
-pub(crate) fn put_spans(canvas: &mut Canvas, ink: &RowInk, y: u32, spans: &[Span], cuts: &[ClipBox])
+pub(crate) fn put_spans(
+    canvas: &mut Canvas,
+    ink: &RowInk<'_>,
+    y: u32,
+    spans: &[Span],
+    cuts: &[ClipBox],
+)
     requires whole { IsWhole canvas.old }
     requires spans { AreApart 0 canvas.old.width spans.now }
     requires row { HasRow canvas.old y }

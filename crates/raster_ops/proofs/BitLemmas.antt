@@ -8,17 +8,17 @@ use Rattle.mapping.specs.Mixes.{mixed_part_by}
 use Rattle.raster_ops.specs.RasterOps.{IsMixedPart, mixed_part}
 
 -- the places of a byte's bits
-abbrev places : List ℕ
+abbrev pub places : List ℕ
 places = 0 ∷ 1 ∷ 2 ∷ 3 ∷ 4 ∷ 5 ∷ 6 ∷ 7 ∷ []
 
 -- a byte is the sum of its bits, each at its place
 half : (r k : ℕ) → r / 2 ^ k / 2 ≡ r / 2 ^ (k + 1)
 half r k = shr-shr r k 1
 
-spread : (r : ℕ) → r < 256 → r ≡ sum (map (λ k. bit_at r k * 2 ^ k) places)
+pub spread : (r : ℕ) → r < 256 → r ≡ sum (map (λ k. bit_at r k * 2 ^ k) places)
 spread r h = omega (arith, half r 0, half r 1, half r 2, half r 3, half r 4, half r 5, half r 6, half r 7)
 
-same_sum : (f g : ℕ → ℕ) → ((k : ℕ) → k < 8 → f k ≡ g k) → sum (map f places) ≡ sum (map g places)
+pub same_sum : (f g : ℕ → ℕ) → ((k : ℕ) → k < 8 → f k ≡ g k) → sum (map f places) ≡ sum (map g places)
 same_sum f g h = rw (h 0 (omega arith), h 1 (omega arith), h 2 (omega arith), h 3 (omega arith), h 4 (omega arith), h 5 (omega arith), h 6 (omega arith), h 7 (omega arith)) refl
 
 pub part_by_bits : (table paint old part : ℕ) → part < 256 → IsMixedPart table paint old part → part ≡ mixed_part table paint old
@@ -80,7 +80,7 @@ module _ (paint old : ℕ) where
       h.each k l ∙ four (λ a b. f a b ≡ bit_at table (2 * a + b)) p q r s (bit_at paint k) (bit_at old k) (bit_at-lt paint k) (bit_at-lt old k)
 
 -- what is made of a bit that is 0 and of one that is 1, put together
-kept_and_flipped : (t : ℕ → ℕ) (low high o : ℕ) → low < 2 → high < 2 → o < 2 → low ≡ t 0 → high ≡ t 1 → (min ((high + low) % 2) o + low) % 2 ≡ t o
+pub kept_and_flipped : (t : ℕ → ℕ) (low high o : ℕ) → low < 2 → high < 2 → o < 2 → low ≡ t 0 → high ≡ t 1 → (min ((high + low) % 2) o + low) % 2 ≡ t o
 kept_and_flipped t low high zero h k l e f =
     four (λ a b. (min ((b + a) % 2) 0 + a) % 2 ≡ a) refl refl refl refl low high h k ∙ e
 kept_and_flipped t low high (suc zero) h k l e f =

@@ -1,4 +1,12 @@
 pub mod BitLemmas
+pub mod ColourLemmas
+pub mod SelectorLemmas
+pub mod TernaryLemmas
+pub mod StepLemmas
+pub mod SourceLemmas
+pub mod GatherLemmas
 pub mod HatchLemmas
 pub mod WorkedOperations
 pub mod WorkedPaints
+pub mod WorkedTernary
+pub mod WorkedSources

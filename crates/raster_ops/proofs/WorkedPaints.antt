@@ -1,6 +1,7 @@
 -- Hatches and brushes on worked pixels.
-use Rattle.std.proofs.Common.{◌≡◌, [], true, false, Some, None, refl}
+use Rattle.std.proofs.Common.{◌≡◌, [], ◌∷◌, true, false, Some, None, refl}
 use Rattle.mapping.specs.Colours.{black_colour, white_colour}
+use Rattle.dib_views.specs.Pictures.{Picture}
 use Rattle.draw_ops.specs.Objects.{hatched_brush, null_brush, solid_brush, tile_brush}
 use Rattle.draw_ops.specs.declared.hatch.Hatch.TheVariants.{Horizontal, Vertical, ForwardDiagonal, BackwardDiagonal, Cross, DiagonalCross}
 use Rattle.draw_ops.specs.declared.settings.BackgroundMode.TheVariants.{Transparent, Opaque}
@@ -70,8 +71,25 @@ gap_is_painted = refl
 line_is_painted_on_a_background : brush_paint (hatched_brush Vertical black_colour) Opaque white_colour 8 4 ≡ Some black_colour
 line_is_painted_on_a_background = refl
 
-tile_paints_nothing : brush_paint (tile_brush (record { width = 1; height = 1; colours = [] })) Opaque white_colour 0 0 ≡ None
-tile_paints_nothing = refl
+-- a picture of two columns and three rows, black in column 1 of row 2 and white elsewhere
+abbrev tile : Picture
+tile = record {
+  width = 2;
+  height = 3;
+  rows = (white_colour ∷ white_colour ∷ []) ∷ (white_colour ∷ white_colour ∷ []) ∷ (white_colour ∷ black_colour ∷ []) ∷ [];
+}
+
+tile_begins_at_the_corner : brush_paint (tile_brush tile) Transparent white_colour 1 2 ≡ Some black_colour
+tile_begins_at_the_corner = refl
+
+tile_is_repeated : brush_paint (tile_brush tile) Opaque black_colour 7 11 ≡ Some black_colour
+tile_is_repeated = refl
+
+tile_has_other_columns : brush_paint (tile_brush tile) Opaque black_colour 6 11 ≡ Some white_colour
+tile_has_other_columns = refl
+
+tile_has_other_rows : brush_paint (tile_brush tile) Opaque black_colour 7 10 ≡ Some white_colour
+tile_has_other_rows = refl
 
 -- a row with the cells in columns 0 and 7 of each eight
 row_on_cell : row_paint (Hatched 129 black_colour None) 15 ≡ Some black_colour

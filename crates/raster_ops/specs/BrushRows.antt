@@ -1,12 +1,15 @@
 -- What a brush paints in one row.
-use Rattle.std.specs.Prelude.{ℕ, if◌then◌else◌, Option, Some, None}
+use Rattle.std.specs.Prelude.{ℕ, ◌%◌, if◌then◌else◌, slice_index_or, Option, Some, None}
 use Rattle.mapping.specs.declared.geometry.Colour.{Colour}
+use Rattle.dib_views.specs.Rows.{row_colours_of}
+use Rattle.mapping.specs.Colours.{black_colour}
 use Rattle.mapping.specs.Pixels.{is_cell}
 use Rattle.raster_ops.specs.declared.rows.BrushRow.{BrushRow}
-use Rattle.raster_ops.specs.declared.rows.BrushRow.TheVariants.{Nothing, Solid, Hatched}
+use Rattle.raster_ops.specs.declared.rows.BrushRow.TheVariants.{Nothing, Solid, Hatched, Tiled}
 
 -- the colour that a row of a brush gives in column x, or nothing
 abbrev pub row_paint : BrushRow → ℕ → Option Colour
 row_paint Nothing x = None
 row_paint (Solid colour) x = Some colour
 row_paint (Hatched cells colour gaps) x = if is_cell cells x then Some colour else gaps
+row_paint (Tiled tile) x = Some (slice_index_or (row_colours_of tile.row) (x % tile.row.width) black_colour)

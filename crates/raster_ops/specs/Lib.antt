@@ -1,4 +1,10 @@
 pub mod RasterOps
+pub mod TernaryOps
+pub mod Selectors
+pub mod Sources
+pub mod Bytes
+pub mod Gathered
 pub mod Hatches
 pub mod Paints
 pub mod BrushRows
+pub mod Readers

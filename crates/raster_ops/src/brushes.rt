@@ -1,17 +1,24 @@
 //! What brushes paint, at a pixel and in a row.
 
-ghost use Rattle.std.specs.Prelude.{◌≡◌, ℕ, Option};
+ghost use Rattle.std.specs.Prelude.{◌≡◌, ◌⊎◌, ◌<◌, ◌≤◌, ℕ, ◌+◌, ◌%◌, [], is_some, length, slice_index_or, true};
+ghost use Rattle.dib_views.specs.PictureOf.{picture_of};
+ghost use Rattle.dib_views.specs.Rows.{row_colours_of};
 ghost use Rattle.draw_ops.specs.Objects.{brush_value_of};
+ghost use Rattle.mapping.specs.Colours.{black_colour};
+ghost use Rattle.mapping.specs.declared.geometry.Colour.{Colour};
+ghost use Rattle.raster_ops.specs.Bytes.{HasBytes};
 ghost use Rattle.raster_ops.specs.BrushRows.{row_paint};
+ghost use Rattle.raster_ops.specs.Gathered.{AreAt, AreKeptBeside, HaveBytes};
 ghost use Rattle.raster_ops.specs.Paints.{brush_paint, gap_paint};
 
 use crate::hatches::{has_cell, row_cells};
-use crate::rows::BrushRow;
+use crate::patterns::pattern;
+use crate::rows::{BrushRow, TileRow};
+use dib_views::DibView;
 use draw_ops::{BackgroundMode, Brush};
 use mapping::Colour;
 
-/// The colour that a brush gives at the surface's pixel `(x, y)`, or nothing. A tile gives nothing: no reader
-/// makes one until bitmaps are read.
+/// The colour that a brush gives at the surface's pixel `(x, y)`, or nothing.
 pub fn brush_at(
     brush: &Brush<'_>,
     x: u32,
@@ -31,12 +38,20 @@ pub fn brush_at(
                 gap(mode, background)
             }
         }
-        Brush::Tiled(_) => None,
+        Brush::Tiled(view) => {
+            let row = tile_row(&view, y);
+            Some(row.row.colour(x % u32::from(row.row.width)))
+        }
     }
 }
 
 /// What a brush paints in row `y` of a surface.
-pub fn brush_row(brush: &Brush<'_>, y: u32, mode: BackgroundMode, background: Colour) -> BrushRow
+pub fn brush_row<'a>(
+    brush: &Brush<'a>,
+    y: u32,
+    mode: BackgroundMode,
+    background: Colour,
+) -> BrushRow<'a>
     ensures { (x : ℕ) → row_paint result x ≡ brush_paint (brush_value_of brush.now) mode background x y }
 {
     match *brush {
@@ -47,8 +62,105 @@ pub fn brush_row(brush: &Brush<'_>, y: u32, mode: BackgroundMode, background: Co
             colour,
             gaps: gap(mode, background),
         },
-        Brush::Tiled(_) => BrushRow::Nothing,
+        Brush::Tiled(view) => BrushRow::Tiled(tile_row(&view, y)),
     }
+}
+
+/// The row of a picture that a surface's row `y` has, where the picture is repeated from the surface's corner on.
+fn tile_row<'a>(view: &DibView<'a>, y: u32) -> TileRow<'a>
+    ensures row { row_colours_of result.row ≡ slice_index_or (picture_of view.now).rows (y % (picture_of view.now).height) [] }
+    ensures width { result.row.width ≡ (picture_of view.now).width }
+{
+    TileRow {
+        row: view.picture_row(y % view.height()),
+    }
+}
+
+/// The colours that a brush's row gives the columns from one on up to before another, each at its column's
+/// place of `out`. At columns where it gives nothing any colour may stand. What stands at the other places stays.
+pub fn gather_pattern(row: &BrushRow<'_>, from: u32, to: u32, out: &mut [Colour])
+    requires ordered { from ≤ to }
+    requires room { to ≤ length out.old }
+    ensures colours { (x : ℕ) (d : Colour) → from ≤ x → x < to → is_some (row_paint row.now x) ≡ true → Some (slice_index_or out.new x d) ≡ row_paint row.now x }
+    ensures parts { (x : ℕ) (d : Colour) → from ≤ x → x < to → is_some (row_paint row.now x) ≡ true → HasBytes (slice_index_or out.new x d) }
+    ensures others { (x : ℕ) (d : Colour) → x < from ⊎ to ≤ x → slice_index_or out.new x d ≡ slice_index_or out.old x d }
+{
+    match *row {
+        BrushRow::Nothing => {}
+        BrushRow::Solid(colour) => gather_solid(colour, from, to, out),
+        BrushRow::Hatched {
+            cells,
+            colour,
+            gaps,
+        } => gather_cells(
+            pattern(cells, colour, gaps.unwrap_or(colour)),
+            from,
+            to,
+            out,
+        ),
+        BrushRow::Tiled(tile) => gather_tile(tile, from, to, out),
+    }
+}
+
+/// One colour, at the places from one on up to before another.
+fn gather_solid(colour: Colour, from: u32, to: u32, out: &mut [Colour])
+    requires ordered { from ≤ to }
+    requires room { to ≤ length out.old }
+    ensures colours { AreAt (λ x. colour) from to out.new }
+    ensures parts { HaveBytes from to out.new }
+    ensures others { AreKeptBeside from to out.old out.new }
+{
+    for x in from..to {
+        out[x as usize] = colour;
+    }
+}
+
+/// Eight colours that repeat, at the places from one on up to before another.
+fn gather_cells(colours: [Colour; 8], from: u32, to: u32, out: &mut [Colour])
+    requires ordered { from ≤ to }
+    requires room { to ≤ length out.old }
+    ensures colours { AreAt (λ x. slice_index_or colours (x % 8) black_colour) from to out.new }
+    ensures parts { HaveBytes from to out.new }
+    ensures others { AreKeptBeside from to out.old out.new }
+{
+    for x in from..to {
+        out[x as usize] = repeated(&colours, x);
+    }
+}
+
+/// The colour that eight colours that repeat have at a place.
+#[inline]
+fn repeated(colours: &[Colour; 8], x: u32) -> Colour
+    ensures { result ≡ slice_index_or colours.now (x % 8) black_colour }
+{
+    colours[x as usize % 8]
+}
+
+/// The colours of a row that is repeated, at the places from one on up to before another.
+fn gather_tile(tile: TileRow<'_>, from: u32, to: u32, out: &mut [Colour])
+    requires ordered { from ≤ to }
+    requires room { to ≤ length out.old }
+    ensures colours { AreAt (λ x. slice_index_or (row_colours_of tile.entry.row) (x % tile.entry.row.width) black_colour) from to out.new }
+    ensures parts { HaveBytes from to out.new }
+    ensures others { AreKeptBeside from to out.old out.new }
+{
+    let width = u32::from(tile.row.width);
+    let mut column = from % width;
+    for x in from..to {
+        out[x as usize] = tile.row.colour(column);
+        column = next_column(column, width);
+    }
+}
+
+/// The column behind one, which is column 0 behind the last.
+#[inline]
+fn next_column(column: u32, width: u32) -> u32
+    requires { column < width }
+    ensures column { (n : ℕ) → n % width ≡ column → result ≡ (n + 1) % width }
+    ensures within { result < width }
+{
+    let next = column + 1;
+    if next == width { 0 } else { next }
 }
 
 /// What the gaps of a hatch get ([MS-WMF] 2.1.1.20).

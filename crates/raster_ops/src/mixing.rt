@@ -27,6 +27,23 @@ pub fn mix_of(op: RasterOp, paint: Colour) -> Mix
     let r = part_mix(op, paint.r);
     let g = part_mix(op, paint.g);
     let b = part_mix(op, paint.b);
+    joined_mix(r, g, b)
+}
+
+/// The mix of one part of a colour.
+#[derive(Clone, Copy)]
+pub(crate) struct PartMix {
+    pub keep: u8,
+    pub flip: u8,
+}
+
+/// The mixes of the three parts as one.
+#[inline]
+pub(crate) fn joined_mix(r: PartMix, g: PartMix, b: PartMix) -> Mix
+    ensures r { (old : Colour) → (mixed_by result old).r ≡ mixed_part_by r.keep r.flip old.r }
+    ensures g { (old : Colour) → (mixed_by result old).g ≡ mixed_part_by g.keep g.flip old.g }
+    ensures b { (old : Colour) → (mixed_by result old).b ≡ mixed_part_by b.keep b.flip old.b }
+{
     Mix {
         keep: Colour {
             r: r.keep,
@@ -39,13 +56,6 @@ pub fn mix_of(op: RasterOp, paint: Colour) -> Mix
             b: b.flip,
         },
     }
-}
-
-/// The mix of one part of a colour.
-#[derive(Clone, Copy)]
-struct PartMix {
-    keep: u8,
-    flip: u8,
 }
 
 /// A binary raster operation with one part of its paint. What it makes of bits that are 0 is the flip, and a

@@ -1,10 +1,24 @@
 //! One row of a brush.
 
+ghost use Rattle.std.specs.Prelude.{◌≤◌};
+
+use dib_views::DibRow;
 use mapping::Colour;
+
+/// One row of a picture that is repeated.
+///
+/// # Guarantees
+///
+/// - The row has pixels.
+#[derive(Clone, Copy, Debug, PartialEq, Eq)]
+pub struct TileRow<'a> {
+    pub row: DibRow<'a>,
+    pub ghost wide: { 1 ≤ row.width },
+}
 
 /// What a brush paints in one row of a surface.
 #[derive(Clone, Copy, Debug, PartialEq, Eq)]
-pub enum BrushRow {
+pub enum BrushRow<'a> {
     /// It paints nothing.
     Nothing,
     /// It paints every pixel in this colour.
@@ -16,4 +30,6 @@ pub enum BrushRow {
         colour: Colour,
         gaps: Option<Colour>,
     },
+    /// It paints the colours of this row, repeated from the surface's column 0 on.
+    Tiled(TileRow<'a>),
 }

@@ -1,3 +1,4 @@
 pub mod ExtentLemmas
 pub mod WorkedRows
 pub mod WorkedKinds
+pub mod WorkedBitmaps

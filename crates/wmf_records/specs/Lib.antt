@@ -1,5 +1,6 @@
 pub mod Framing
 pub mod Kinds
+pub mod BitmapRecords
 pub mod DrawingRecords
 pub mod ObjectRecords
 pub mod StateRecords

@@ -7,17 +7,22 @@ use Rattle.draw_ops.specs.Records.{Record}
 use Rattle.draw_ops.specs.declared.fault.Fault.{Fault}
 use Rattle.draw_ops.specs.declared.fault.Fault.TheVariants.{UnknownRecord, Unsupported}
 use Rattle.draw_ops.specs.declared.note.Note.TheVariants.{Skipped as NoteSkipped}
+use Rattle.wmf_records.specs.BitmapRecords.{dib_bit_blt, dib_create_pattern_brush, dib_stretch_blt, pat_blt, stretch_dib}
 use Rattle.wmf_records.specs.DrawingRecords.{line_to_record, poly_polygon_record, polygon_record, polyline_record, rectangle_record, set_pixel}
 use Rattle.wmf_records.specs.Kinds.{wmf_entry_of}
 use Rattle.wmf_records.specs.ObjectRecords.{create_brush_indirect, create_pen_indirect, created, index_record}
 use Rattle.wmf_records.specs.StateRecords.{exclude_clip_rect, intersect_clip_rect, point_record, restore_dc, set_bk_color, set_bk_mode, set_layout, set_map_mode_record, set_poly_fill_mode, set_rop2}
 use Rattle.wmf_records.specs.declared.entry.WmfEntry.{WmfEntry}
-use Rattle.wmf_records.specs.declared.entry.WmfEntry.TheVariants.{Eof, LineTo, Polyline, Polygon, PolyPolygon, Rectangle, SetPixel, CreateBrushIndirect, CreateFontIndirect, CreatePalette, CreatePenIndirect, DeleteObject, SelectObject, SelectPalette, ExcludeClipRect, IntersectClipRect, MoveTo, OffsetViewportOrg, OffsetWindowOrg, RestoreDc, SaveDc, SetBkColor, SetBkMode, SetLayout, SetMapMode, SetPolyFillMode, SetRop2, SetViewportExt, SetViewportOrg, SetWindowExt, SetWindowOrg, Skipped, Refused}
+use Rattle.wmf_records.specs.declared.entry.WmfEntry.TheVariants.{DibBitBlt, DibStretchBlt, StretchDib, Eof, LineTo, PatBlt, Polyline, Polygon, PolyPolygon, Rectangle, SetPixel, CreateBrushIndirect, CreateFontIndirect, CreatePalette, CreatePenIndirect, DeleteObject, DibCreatePatternBrush, SelectObject, SelectPalette, ExcludeClipRect, IntersectClipRect, MoveTo, OffsetViewportOrg, OffsetWindowOrg, RestoreDc, SaveDc, SetBkColor, SetBkMode, SetLayout, SetMapMode, SetPolyFillMode, SetRop2, SetViewportExt, SetViewportOrg, SetWindowExt, SetWindowOrg, Skipped, Refused}
 
 -- what a record with each entry means, by its function and its bytes
 unfoldable pub wmf_record : WmfEntry → ℕ → List ℕ → Result MeantValue Fault
+wmf_record DibBitBlt function bytes = dib_bit_blt bytes
+wmf_record DibStretchBlt function bytes = dib_stretch_blt bytes
+wmf_record StretchDib function bytes = stretch_dib bytes
 wmf_record Eof function bytes = Ok (unnoted no_effect)
 wmf_record LineTo function bytes = line_to_record bytes
+wmf_record PatBlt function bytes = pat_blt bytes
 wmf_record Polyline function bytes = polyline_record bytes
 wmf_record Polygon function bytes = polygon_record bytes
 wmf_record PolyPolygon function bytes = poly_polygon_record bytes
@@ -28,6 +33,7 @@ wmf_record CreateFontIndirect function bytes = Ok (created font_object)
 wmf_record CreatePalette function bytes = Ok (created palette_object)
 wmf_record CreatePenIndirect function bytes = create_pen_indirect bytes
 wmf_record DeleteObject function bytes = index_record delete bytes
+wmf_record DibCreatePatternBrush function bytes = dib_create_pattern_brush bytes
 wmf_record SelectObject function bytes = index_record select bytes
 wmf_record SelectPalette function bytes = index_record select_palette bytes
 wmf_record ExcludeClipRect function bytes = exclude_clip_rect bytes

@@ -9,8 +9,12 @@ use crate::functions::*;
 /// A record that is played, by its name in the standard, or what is done with the others.
 #[derive(Clone, Copy, Debug, PartialEq, Eq)]
 pub(crate) enum WmfEntry {
+    DibBitBlt,
+    DibStretchBlt,
+    StretchDib,
     Eof,
     LineTo,
+    PatBlt,
     Polyline,
     Polygon,
     PolyPolygon,
@@ -21,6 +25,7 @@ pub(crate) enum WmfEntry {
     CreatePalette,
     CreatePenIndirect,
     DeleteObject,
+    DibCreatePatternBrush,
     SelectObject,
     SelectPalette,
     ExcludeClipRect,
@@ -51,8 +56,12 @@ pub(crate) fn entry_of(function: u32) -> Option<WmfEntry>
     ensures { result ≡ wmf_entry_of function }
 {
     match function {
+        META_DIBBITBLT => Some(WmfEntry::DibBitBlt),
+        META_DIBSTRETCHBLT => Some(WmfEntry::DibStretchBlt),
+        META_STRETCHDIB => Some(WmfEntry::StretchDib),
         META_EOF => Some(WmfEntry::Eof),
         META_LINETO => Some(WmfEntry::LineTo),
+        META_PATBLT => Some(WmfEntry::PatBlt),
         META_POLYLINE => Some(WmfEntry::Polyline),
         META_POLYGON => Some(WmfEntry::Polygon),
         META_POLYPOLYGON => Some(WmfEntry::PolyPolygon),
@@ -63,6 +72,7 @@ pub(crate) fn entry_of(function: u32) -> Option<WmfEntry>
         META_CREATEPALETTE => Some(WmfEntry::CreatePalette),
         META_CREATEPENINDIRECT => Some(WmfEntry::CreatePenIndirect),
         META_DELETEOBJECT => Some(WmfEntry::DeleteObject),
+        META_DIBCREATEPATTERNBRUSH => Some(WmfEntry::DibCreatePatternBrush),
         META_SELECTOBJECT => Some(WmfEntry::SelectObject),
         META_SELECTPALETTE => Some(WmfEntry::SelectPalette),
         META_EXCLUDECLIPRECT => Some(WmfEntry::ExcludeClipRect),
@@ -94,11 +104,6 @@ pub(crate) fn entry_of(function: u32) -> Option<WmfEntry>
         META_SETMAPPERFLAGS => Some(WmfEntry::Skipped),
         META_ANIMATEPALETTE => Some(WmfEntry::Skipped),
         META_ESCAPE => Some(WmfEntry::Skipped),
-        META_DIBCREATEPATTERNBRUSH => Some(WmfEntry::Refused),
-        META_PATBLT => Some(WmfEntry::Refused),
-        META_DIBBITBLT => Some(WmfEntry::Refused),
-        META_DIBSTRETCHBLT => Some(WmfEntry::Refused),
-        META_STRETCHDIB => Some(WmfEntry::Refused),
         META_OFFSETCLIPRGN => Some(WmfEntry::Refused),
         META_FILLREGION => Some(WmfEntry::Refused),
         META_SCALEWINDOWEXT => Some(WmfEntry::Refused),

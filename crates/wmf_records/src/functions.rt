@@ -1,10 +1,19 @@
 //! The functions of WMF records, by their names in [MS-WMF] 2.1.1.1.
 
+// Bitmap records, 2.3.1.
+pub(crate) const META_DIBBITBLT: u32 = 0x0940;
+
+pub(crate) const META_DIBSTRETCHBLT: u32 = 0x0b41;
+
+pub(crate) const META_STRETCHDIB: u32 = 0x0f43;
+
 // Control records, 2.3.2.
 pub(crate) const META_EOF: u32 = 0x0000;
 
 // Drawing records, 2.3.3.
 pub(crate) const META_LINETO: u32 = 0x0213;
+
+pub(crate) const META_PATBLT: u32 = 0x061d;
 
 pub(crate) const META_POLYLINE: u32 = 0x0325;
 
@@ -26,6 +35,8 @@ pub(crate) const META_CREATEPALETTE: u32 = 0x00f7;
 pub(crate) const META_CREATEPENINDIRECT: u32 = 0x02fa;
 
 pub(crate) const META_DELETEOBJECT: u32 = 0x01f0;
+
+pub(crate) const META_DIBCREATEPATTERNBRUSH: u32 = 0x0142;
 
 pub(crate) const META_SELECTOBJECT: u32 = 0x012d;
 
@@ -90,18 +101,6 @@ pub(crate) const META_SETMAPPERFLAGS: u32 = 0x0231;
 pub(crate) const META_ANIMATEPALETTE: u32 = 0x0436;
 
 pub(crate) const META_ESCAPE: u32 = 0x0626;
-
-// Records that bring bitmaps or mix them by ternary raster operations, 2.3.1, 2.3.3.12 and 2.3.4.8: refused until
-// bitmaps are read.
-pub(crate) const META_DIBCREATEPATTERNBRUSH: u32 = 0x0142;
-
-pub(crate) const META_PATBLT: u32 = 0x061d;
-
-pub(crate) const META_DIBBITBLT: u32 = 0x0940;
-
-pub(crate) const META_DIBSTRETCHBLT: u32 = 0x0b41;
-
-pub(crate) const META_STRETCHDIB: u32 = 0x0f43;
 
 // Records that are not played.
 pub(crate) const META_OFFSETCLIPRGN: u32 = 0x0220;

@@ -7,9 +7,12 @@
 //! - Each record means one operation with its notes, or its first fault (`Wmf`, by `wmf_record`).
 //! - What is done with a function is said once (`kinds_law`).
 //! - The first usable extent of a file's window is the first of its records' (`first_extent`).
-//! - No call is handed an allocator: points, counts and lists are parts of the file.
+//! - A record with a bitmap is read with its bitmap's faults, whether its raster operation needs a source or
+//!   not, and one whose bitmap may be missing is without it at one size alone (by `dib_bit_blt` and its like).
+//! - No call is handed an allocator: points, counts, lists and bitmaps are parts of the file.
 #![tactic(auto)]
 
+mod bitmap_records;
 mod drawing_records;
 mod entry;
 mod extent;

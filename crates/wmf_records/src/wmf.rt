@@ -7,6 +7,9 @@ ghost use Rattle.draw_ops.specs.Results.{result_map};
 ghost use Rattle.wmf_records.specs.Framing.{wmf_framing};
 ghost use Rattle.wmf_records.specs.Wmf.{wmf_meaning, wmf_record};
 
+use crate::bitmap_records::{
+    dib_bit_blt, dib_create_pattern_brush, dib_stretch_blt, pat_blt, stretch_dib,
+};
 use crate::drawing_records::{line_to, poly_polygon, polygon, polyline, rectangle, set_pixel};
 use crate::entry::{WmfEntry, entry_of};
 use crate::functions::META_EOF;
@@ -72,8 +75,12 @@ fn record(entry: WmfEntry, function: u32, bytes: &[u8]) -> Result<Meant<'_>, Fau
     ensures in_record { IfErr result IsInRecord }
 {
     match entry {
+        WmfEntry::DibBitBlt => dib_bit_blt(bytes),
+        WmfEntry::DibStretchBlt => dib_stretch_blt(bytes),
+        WmfEntry::StretchDib => stretch_dib(bytes),
         WmfEntry::Eof => Ok(Meant::unnoted(Op::NoEffect)),
         WmfEntry::LineTo => line_to(bytes),
+        WmfEntry::PatBlt => pat_blt(bytes),
         WmfEntry::Polyline => polyline(bytes),
         WmfEntry::Polygon => polygon(bytes),
         WmfEntry::PolyPolygon => poly_polygon(bytes),
@@ -84,6 +91,7 @@ fn record(entry: WmfEntry, function: u32, bytes: &[u8]) -> Result<Meant<'_>, Fau
         WmfEntry::CreatePalette => created(Object::Palette),
         WmfEntry::CreatePenIndirect => create_pen_indirect(bytes),
         WmfEntry::DeleteObject => delete_object(bytes),
+        WmfEntry::DibCreatePatternBrush => dib_create_pattern_brush(bytes),
         WmfEntry::SelectObject => select_object(bytes),
         WmfEntry::SelectPalette => select_palette(bytes),
         WmfEntry::ExcludeClipRect => exclude_clip_rect(bytes),

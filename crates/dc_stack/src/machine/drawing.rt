@@ -3,7 +3,8 @@
 ghost use Rattle.std.specs.Prelude.{◌≡◌, [], ◌∷◌};
 ghost use Rattle.mapping.specs.PageMap.{map_numbers};
 ghost use Rattle.mapping.specs.PlaceOf.{surface_of};
-ghost use Rattle.draw_ops.specs.Operation.{line_to, pixel, polygon, polyline, polyline_to, rectangle};
+ghost use Rattle.draw_ops.specs.Blits.{blit_value_of, source_of};
+ghost use Rattle.draw_ops.specs.Operation.{blit, line_to, pixel, polygon, polyline, polyline_to, rectangle};
 ghost use Rattle.point_views.specs.Points.{points_of};
 ghost use Rattle.point_views.specs.Polys.{lists_of};
 ghost use Rattle.dc_stack.specs.Drawing.{going_on, lines_through, polygons_of, rectangle_between};
@@ -11,16 +12,20 @@ ghost use Rattle.dc_stack.specs.DrawsApart.{DrawsApart};
 ghost use Rattle.dc_stack.specs.MachineState.{GoesOn, Plays};
 ghost use Rattle.dc_stack.specs.Mapped.{left_top, mapped_lists, right_bottom};
 ghost use Rattle.dc_stack.specs.Next.{end_of};
+ghost use Rattle.dc_stack.specs.OperationFault.{source_fault};
 
 use crate::draw::Draw;
 use crate::machine::Machine;
 use crate::piece::{Joining, PiecePoints};
-use crate::placing::{land, land_lists, land_pair, land_through, left_top_of, right_bottom_of};
+use crate::placing::{
+    land, land_blit, land_lists, land_pair, land_through, left_top_of, right_bottom_of,
+};
 use crate::projection::Projection;
-use draw_ops::{Fault, RectangleEdges};
+use draw_ops::{Blit, BlitSource, Fault, RectangleEdges, TernaryOp};
 use mapping::{Colour, Point, Rect};
 use object_tables::Table;
 use point_views::{Points, Polys};
+use raster_ops::{is_readable, uses_source};
 
 impl<'a, T: Table<'a>> Machine<'a, T> {
     /// Draws a pixel.
@@ -30,6 +35,25 @@ impl<'a, T: Table<'a>> Machine<'a, T> {
     {
         match land(&self.dc.map, self.place, point) {
             Ok(at) => Ok(Some(Draw::Dot { at, colour })),
+            Err(fault) => Err(fault),
+        }
+    }
+
+    /// Paints a box by a ternary raster operation, also while a path is open.
+    pub(super) fn blit(&mut self, asked: Blit<'a>) -> Result<Option<Draw<'a>>, Fault>
+        ensures plays { Plays (blit (blit_value_of asked.entry)) self.old result self.new }
+        ensures goes_on { GoesOn self.old self.new }
+    {
+        if let Some(fault) = source_fault(asked.operation, &asked.source) {
+            return Err(fault);
+        }
+        match land_blit(&self.dc.map, self.place, &asked) {
+            Ok((first, second)) => Ok(Some(Draw::Blit {
+                first,
+                second,
+                operation: asked.operation,
+                source: asked.source,
+            })),
             Err(fault) => Err(fault),
         }
     }
@@ -206,6 +230,19 @@ impl<'a, T: Table<'a>> Machine<'a, T> {
             map: self.dc.map,
             place: self.place,
         }
+    }
+}
+
+/// `SourceMissing` or `SourceOutside`, where the operation depends on the source and there is nothing to read.
+fn source_fault(operation: TernaryOp, source: &BlitSource<'_>) -> Option<Fault>
+    ensures { result ≡ source_fault operation.table (source_of source.now) }
+{
+    if !uses_source(operation) || is_readable(source) {
+        return None;
+    }
+    match source {
+        BlitSource::Missing => Some(Fault::SourceMissing),
+        BlitSource::FromTop(_) | BlitSource::FromBottom(_) => Some(Fault::SourceOutside),
     }
 }
 

@@ -10,6 +10,7 @@ use Rattle.span_fill.specs.RowLaws.{LiesBetween}
 use Rattle.span_fill.specs.declared.line.Line.{Line}
 use Rattle.player.specs.Shape.{fill_rule_of, inside_polygons, inside_rectangle}
 use Rattle.player.specs.declared.list_lines.Ends.TheVariants.{Closed}
+use Rattle.player.specs.declared.raster_operation.RasterOperation.TheVariants.{Binary}
 use Rattle.player.proofs.CountLemmas.{lines_on_plane_few}
 use Rattle.player.proofs.DrawingLemmas.{brush_drawn, brush_fills, clip_placed, on_err}
 use Rattle.player.proofs.LandingLemmas.{landed_fits, lists_land, two_land}
@@ -71,12 +72,13 @@ returns-in_ok-reserve-in-Polygons-clause-drawn g c =
     let paint = c.with-paint.result in
     let value = c.dc-dc.ensures.value in
     let modes = c.with-paint.ensures.modes ∙ ap (λ (d : DcValue). d.modes) value in
+    let operation = c.with-paint.ensures.operation ∙ ap (λ (d : DcValue). Binary d.modes.raster_op) value in
     let clip = clip_placed s paint.clip.now dc c.args.machine.now.state.dc c.with-paint.ensures.clip value c.dc-dc.ensures.placed in
     let brush = ap (λ (d : DcValue). d.selected.brush.object) value in
     let shape = inside_polygons tools.modes.fill_mode (lists_on_plane by c.in-Polygons.lists) in
     let lines = c.of_lists-outline.ensures ∙ closed_placed by s placed.places.surface lists in
     let rule = c.rule_of-rule.ensures ∙ ap (λ (d : DcValue). fill_rule_of d.modes.fill_mode) value in
-    let drawn = brush_drawn c.writing_law.ensures s c.args.canvas.now c.fill_lines.new.canvas c.whole_law.ensures c.requires.whole paint tools modes clip _ shape (ap brush_value_of c.with-paint.ensures.brush ∙ brush) (λ x y. rw (rule, lines) refl) c.fill_lines.ensures.pixels in
+    let drawn = brush_drawn c.writing_law.ensures s c.args.canvas.now c.fill_lines.new.canvas c.whole_law.ensures c.requires.whole paint tools modes operation clip _ shape (ap brush_value_of c.with-paint.ensures.brush ∙ brush) (λ x y. rw (rule, lines) refl) c.fill_lines.ensures.pixels in
     rw (c.in-Polygons.is, brush_fills dc.selected.brush shape tools c.in_default.not-Null brush) drawn
 
 pub returns-in-Rectangle-clause-drawn : goal.returns-in-Rectangle-clause-drawn
@@ -91,11 +93,12 @@ returns-in-Rectangle-clause-drawn g c =
     let paint = c.with-paint.result in
     let value = c.dc-dc.ensures.value in
     let modes = c.with-paint.ensures.modes ∙ ap (λ (d : DcValue). d.modes) value in
+    let operation = c.with-paint.ensures.operation ∙ ap (λ (d : DcValue). Binary d.modes.raster_op) value in
     let clip = clip_placed s paint.clip.now dc c.args.machine.now.state.dc c.with-paint.ensures.clip value c.dc-dc.ensures.placed in
     let brush = ap (λ (d : DcValue). d.selected.brush.object) value in
     let shape = inside_rectangle first.plane second.plane edges in
     let inside = c.rectangle_box-inside.ensures.value in
-    let drawn = brush_drawn c.writing_law.ensures s c.args.canvas.now c.fill_box.new.canvas c.whole_law.ensures c.requires.whole paint tools modes clip _ shape (ap brush_value_of c.with-paint.ensures.brush ∙ brush) (λ x y. rw (inside, placed.places.0, placed.places.1) refl) c.fill_box.ensures.pixels in
+    let drawn = brush_drawn c.writing_law.ensures s c.args.canvas.now c.fill_box.new.canvas c.whole_law.ensures c.requires.whole paint tools modes operation clip _ shape (ap brush_value_of c.with-paint.ensures.brush ∙ brush) (λ x y. rw (inside, placed.places.0, placed.places.1) refl) c.fill_box.ensures.pixels in
     rw (c.in-Rectangle.is, brush_fills dc.selected.brush shape tools c.in_default.not-Null brush) drawn
 
 pub fill_figures-requires : goal.fill_figures-requires

@@ -1,6 +1,11 @@
-use Rattle.std.proofs.Common.{refl}
+use Rattle.std.proofs.Common.{ap, arith, refl, subst, sym}
+use Rattle.mapping.specs.Surface.{FitsPlace}
+use Rattle.draw_ops.specs.Blits.{source_of}
 use Rattle.dc_stack.specs.Drawing.{tools_of}
-use Rattle.player.proofs.DrawingLemmas.{clip_placed, dot_drawn}
+use Rattle.dc_stack.specs.State.{DcValue}
+use Rattle.player.proofs.LandingLemmas.{landed_fits, two_land}
+use Rattle.player.proofs.BlitLemmas.{blit_drawn}
+use Rattle.player.proofs.DrawingLemmas.{clip_placed, dot_drawn, same_rows}
 use Rattle.player.proofs.drawing.stroke.Goals as goal
 
 pub returns-in-Dot-clause-drawn : goal.returns-in-Dot-clause-drawn
@@ -13,3 +18,37 @@ returns-in-Dot-clause-drawn g c =
     let clip = clip_placed s dc.clip dc state refl c.dc-dc.ensures.value c.dc-dc.ensures.placed in
     let drawn = dot_drawn c.writing_law.ensures s c.args.canvas.now c.put.new.canvas c.whole_law.ensures c.requires.whole at.plane at.placed c.in-Dot.colour dc.clip (tools_of state) placed.places clip c.put.ensures.pixels in
     rw c.in-Dot.is drawn
+
+pub blit-requires : goal.blit-requires
+blit-requires g c =
+    let s = c.args.machine.now.surface in
+    let placed = rw c.in-Blit.is at c.requires.placed in
+    let both = two_land s c.in-Blit.first.plane c.in-Blit.second.plane placed.within in
+    record {
+      first = c.requires.whole.first;
+      countable = c.requires.countable;
+      near = subst FitsPlace (sym placed.places.first_lands) (landed_fits s c.in-Blit.first.plane both.0);
+      far = subst FitsPlace (sym placed.places.second_lands) (landed_fits s c.in-Blit.second.plane both.1);
+      readable = placed.places.readable;
+    }
+
+pub returns-in-Blit : goal.returns-in-Blit
+returns-in-Blit g c =
+    let s = c.args.machine.now.surface in
+    let state = c.args.machine.now.state.dc in
+    let first = c.in-Blit.first in
+    let second = c.in-Blit.second in
+    let placed = rw c.in-Blit.is at c.requires.placed in
+    let dc = c.dc-dc.result.now in
+    let value = c.dc-dc.ensures.value in
+    let brush = ap (λ (d : DcValue). d.selected.brush.object) value in
+    let modes = ap (λ (d : DcValue). d.modes) value in
+    let clip = clip_placed s dc.clip dc state refl value c.dc-dc.ensures.placed in
+    let drawn = blit_drawn c.writing_law.ensures s c.args.canvas.now c.blit.new.canvas c.whole_law.ensures c.requires.whole dc (tools_of state) c.in-Blit.operation first.plane second.plane first.placed second.placed (source_of c.in-Blit.source) brush modes clip placed.places.first_lands placed.places.second_lands c.blit.ensures.pixels in
+    record {
+      drawn = rw c.in-Blit.is drawn;
+      memory = tt;
+      rows = same_rows _ _ _ _ c.blit.ensures.pixels;
+      few = c.blit.ensures.few;
+      room = omega arith;
+    }

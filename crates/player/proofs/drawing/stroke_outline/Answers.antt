@@ -14,6 +14,7 @@ use Rattle.span_fill.specs.declared.line.Line.{Line}
 use Rattle.player.specs.Outlines.{line_from}
 use Rattle.player.specs.Shape.{on_lines, round_polygons, round_rectangle}
 use Rattle.player.specs.declared.list_lines.Ends.TheVariants.{Open, Closed}
+use Rattle.player.specs.declared.raster_operation.RasterOperation.TheVariants.{Binary}
 use Rattle.player.proofs.CountLemmas.{from_start_few, lines_on_plane_few}
 use Rattle.player.proofs.DrawingLemmas.{clip_placed, lone_stroke, on_err, pen_drawn, pen_strokes}
 use Rattle.player.proofs.LandingLemmas.{landed_fits, landed_near, lists_land, start_and_list_land, two_land}
@@ -168,6 +169,7 @@ returns-in-Line-clause-drawn g c =
     let paint = c.with-paint.result in
     let value = c.dc-dc.ensures.value in
     let modes = c.with-paint.ensures.modes ∙ ap (λ (d : DcValue). d.modes) value in
+    let operation = c.with-paint.ensures.operation ∙ ap (λ (d : DcValue). Binary d.modes.raster_op) value in
     let clip = clip_placed s paint.clip.now dc state c.with-paint.ensures.clip value c.dc-dc.ensures.placed in
     let from = c.in-Line.from in
     let to = c.in-Line.to in
@@ -175,7 +177,7 @@ returns-in-Line-clause-drawn g c =
     let there : Line = record { from = placed_point from.plane s; to = placed_point to.plane s } in
     let same : line ≡ there = ap (λ (p : Point). line_from p to.placed) placed.places.0 ∙ ap (λ (p : Point). line_from (placed_point from.plane s) p) placed.places.1 in
     let shape = on_lines ((from.plane ∷ to.plane ∷ []) ∷ []) in
-    let drawn = pen_drawn c.writing_law.ensures s c.args.canvas.now c.stroke_line.new.canvas c.whole_law.ensures c.requires.whole paint tools modes clip _ shape c.args.colour c.with-paint.ensures.brush (λ x y. lone_stroke line there x y same) c.stroke_line.ensures.pixels in
+    let drawn = pen_drawn c.writing_law.ensures s c.args.canvas.now c.stroke_line.new.canvas c.whole_law.ensures c.requires.whole paint tools modes operation clip _ shape c.args.colour c.with-paint.ensures.brush (λ x y. lone_stroke line there x y same) c.stroke_line.ensures.pixels in
     rw (c.in-Line.is, pen_strokes shape tools c.args.colour c.requires.pen) drawn
 
 pub returns-in_ok-reserve-in-LinesFrom-clause-drawn : goal.returns-in_ok-reserve-in-LinesFrom-clause-drawn
@@ -188,12 +190,13 @@ returns-in_ok-reserve-in-LinesFrom-clause-drawn g c =
     let paint = c.with-paint.result in
     let value = c.dc-dc.ensures.value in
     let modes = c.with-paint.ensures.modes ∙ ap (λ (d : DcValue). d.modes) value in
+    let operation = c.with-paint.ensures.operation ∙ ap (λ (d : DcValue). Binary d.modes.raster_op) value in
     let clip = clip_placed s paint.clip.now dc state c.with-paint.ensures.clip value c.dc-dc.ensures.placed in
     let by = c.in-LinesFrom.by in
     let from = c.in-LinesFrom.from in
     let lines = c.from-outline.ensures ∙ from_start_placed by s placed.places.1.surface from.placed from.plane (points_of c.in-LinesFrom.points) placed.places.0 in
     let shape = on_lines ((from.plane ∷ points_on_plane by c.in-LinesFrom.points) ∷ []) in
-    let drawn = pen_drawn c.writing_law.ensures s c.args.canvas.now c.stroke_lines.new.canvas c.whole_law.ensures c.requires.whole paint tools modes clip _ shape c.args.colour c.with-paint.ensures.brush (λ x y. ap (λ (list : List Line). in_stroke list x y) lines) c.stroke_lines.ensures.pixels in
+    let drawn = pen_drawn c.writing_law.ensures s c.args.canvas.now c.stroke_lines.new.canvas c.whole_law.ensures c.requires.whole paint tools modes operation clip _ shape c.args.colour c.with-paint.ensures.brush (λ x y. ap (λ (list : List Line). in_stroke list x y) lines) c.stroke_lines.ensures.pixels in
     rw (c.in-LinesFrom.is, pen_strokes shape tools c.args.colour c.requires.pen) drawn
 
 pub returns-in_ok-reserve-in-Polylines-clause-drawn : goal.returns-in_ok-reserve-in-Polylines-clause-drawn
@@ -206,11 +209,12 @@ returns-in_ok-reserve-in-Polylines-clause-drawn g c =
     let paint = c.with-paint.result in
     let value = c.dc-dc.ensures.value in
     let modes = c.with-paint.ensures.modes ∙ ap (λ (d : DcValue). d.modes) value in
+    let operation = c.with-paint.ensures.operation ∙ ap (λ (d : DcValue). Binary d.modes.raster_op) value in
     let clip = clip_placed s paint.clip.now dc state c.with-paint.ensures.clip value c.dc-dc.ensures.placed in
     let by = c.in-Polylines.by in
     let lines = c.of_lists-outline.ensures ∙ open_placed by s placed.places.surface (lists_of c.in-Polylines.lists) in
     let shape = on_lines (lists_on_plane by c.in-Polylines.lists) in
-    let drawn = pen_drawn c.writing_law.ensures s c.args.canvas.now c.stroke_lines-in-Polylines.new.canvas c.whole_law.ensures c.requires.whole paint tools modes clip _ shape c.args.colour c.with-paint.ensures.brush (λ x y. ap (λ (list : List Line). in_stroke list x y) lines) c.stroke_lines-in-Polylines.ensures.pixels in
+    let drawn = pen_drawn c.writing_law.ensures s c.args.canvas.now c.stroke_lines-in-Polylines.new.canvas c.whole_law.ensures c.requires.whole paint tools modes operation clip _ shape c.args.colour c.with-paint.ensures.brush (λ x y. ap (λ (list : List Line). in_stroke list x y) lines) c.stroke_lines-in-Polylines.ensures.pixels in
     rw (c.in-Polylines.is, pen_strokes shape tools c.args.colour c.requires.pen) drawn
 
 pub returns-in_ok-reserve-in-Polygons-clause-drawn : goal.returns-in_ok-reserve-in-Polygons-clause-drawn
@@ -223,11 +227,12 @@ returns-in_ok-reserve-in-Polygons-clause-drawn g c =
     let paint = c.with-paint.result in
     let value = c.dc-dc.ensures.value in
     let modes = c.with-paint.ensures.modes ∙ ap (λ (d : DcValue). d.modes) value in
+    let operation = c.with-paint.ensures.operation ∙ ap (λ (d : DcValue). Binary d.modes.raster_op) value in
     let clip = clip_placed s paint.clip.now dc state c.with-paint.ensures.clip value c.dc-dc.ensures.placed in
     let by = c.in-Polygons.by in
     let lines = c.of_lists-outline-in-Polygons.ensures ∙ closed_placed by s placed.places.surface (lists_of c.in-Polygons.lists) in
     let shape = round_polygons (lists_on_plane by c.in-Polygons.lists) in
-    let drawn = pen_drawn c.writing_law.ensures s c.args.canvas.now c.stroke_lines-in-Polygons.new.canvas c.whole_law.ensures c.requires.whole paint tools modes clip _ shape c.args.colour c.with-paint.ensures.brush (λ x y. ap (λ (list : List Line). in_stroke list x y) lines) c.stroke_lines-in-Polygons.ensures.pixels in
+    let drawn = pen_drawn c.writing_law.ensures s c.args.canvas.now c.stroke_lines-in-Polygons.new.canvas c.whole_law.ensures c.requires.whole paint tools modes operation clip _ shape c.args.colour c.with-paint.ensures.brush (λ x y. ap (λ (list : List Line). in_stroke list x y) lines) c.stroke_lines-in-Polygons.ensures.pixels in
     rw (c.in-Polygons.is, pen_strokes shape tools c.args.colour c.requires.pen) drawn
 
 pub returns-in_ok-reserve-in-Rectangle-clause-drawn : goal.returns-in_ok-reserve-in-Rectangle-clause-drawn
@@ -240,12 +245,13 @@ returns-in_ok-reserve-in-Rectangle-clause-drawn g c =
     let paint = c.with-paint.result in
     let value = c.dc-dc.ensures.value in
     let modes = c.with-paint.ensures.modes ∙ ap (λ (d : DcValue). d.modes) value in
+    let operation = c.with-paint.ensures.operation ∙ ap (λ (d : DcValue). Binary d.modes.raster_op) value in
     let clip = clip_placed s paint.clip.now dc state c.with-paint.ensures.clip value c.dc-dc.ensures.placed in
     let first = c.in-Rectangle.first in
     let second = c.in-Rectangle.second in
     let inside = c.rectangle_box-inside.ensures.value in
     let shape = round_rectangle first.plane second.plane c.in-Rectangle.edges in
-    let drawn = pen_drawn c.writing_law.ensures s c.args.canvas.now c.stroke_box.new.canvas c.whole_law.ensures c.requires.whole paint tools modes clip _ shape c.args.colour c.with-paint.ensures.brush (λ x y. rw (inside, placed.places.0, placed.places.1) refl) c.stroke_box.ensures.pixels in
+    let drawn = pen_drawn c.writing_law.ensures s c.args.canvas.now c.stroke_box.new.canvas c.whole_law.ensures c.requires.whole paint tools modes operation clip _ shape c.args.colour c.with-paint.ensures.brush (λ x y. rw (inside, placed.places.0, placed.places.1) refl) c.stroke_box.ensures.pixels in
     rw (c.in-Rectangle.is, pen_strokes shape tools c.args.colour c.requires.pen) drawn
 
 pub stroke_figures-requires : goal.stroke_figures-requires

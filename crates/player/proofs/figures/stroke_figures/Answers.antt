@@ -7,6 +7,7 @@ use Rattle.span_fill.specs.Strokes.{in_stroke}
 use Rattle.span_fill.specs.declared.line.Line.{Line}
 use Rattle.player.specs.FiguresToCome.{piece_lines_left}
 use Rattle.player.specs.FigureLines.{stroked_ends}
+use Rattle.player.specs.declared.raster_operation.RasterOperation.TheVariants.{Binary}
 use Rattle.player.proofs.DrawingLemmas.{clip_placed, pen_drawn, pen_strokes}
 use Rattle.player.proofs.PaintedFigureLemmas.{lines_are, lines_few, lines_lie, stroked_lines, stroked_shape, strokes_figures}
 use Rattle.player.proofs.figures.stroke_figures.Goals as goal
@@ -37,9 +38,10 @@ returns-clause-drawn g c =
     let paint = c.with-paint.result in
     let value = c.dc.ensures.value in
     let modes = c.with-paint.ensures.modes ∙ ap (λ (d : DcValue). d.modes) value in
+    let operation = c.with-paint.ensures.operation ∙ ap (λ (d : DcValue). Binary d.modes.raster_op) value in
     let clip = clip_placed s paint.clip.now dc state c.with-paint.ensures.clip value c.dc.ensures.placed in
     let shape = stroked_shape ends figures in
     let lines = lines_are s c.args.place c.args.count c.args.bounds c.args.machine.now.painted c.requires.placed ends c.painted.result.now c.painted.ensures (piece_lines_left c.new-outline.result) c.new-outline.ensures in
     let asked : stroked_ends c.args.painting ≡ Some ends = search rules in
-    let drawn = pen_drawn c.writing_law.ensures s c.args.canvas.now c.stroke_lines.new.canvas c.whole_law.ensures c.requires.whole paint tools modes clip _ shape c.args.colour c.with-paint.ensures.brush (λ x y. ap (λ (list : List Line). in_stroke list x y) lines ∙ stroked_lines s ends figures x y) c.stroke_lines.ensures.pixels in
+    let drawn = pen_drawn c.writing_law.ensures s c.args.canvas.now c.stroke_lines.new.canvas c.whole_law.ensures c.requires.whole paint tools modes operation clip _ shape c.args.colour c.with-paint.ensures.brush (λ x y. ap (λ (list : List Line). in_stroke list x y) lines ∙ stroked_lines s ends figures x y) c.stroke_lines.ensures.pixels in
     rw (strokes_figures c.args.painting ends figures tools asked, pen_strokes shape tools c.args.colour c.requires.pen) drawn

@@ -1,37 +1,19 @@
-use Rattle.std.proofs.Common.{◌≡◌, ℕ, true, arith, refl, ◌∙◌}
-use Rattle.std.proofs.lemmas.Bool.{and_parts, and_from}
-use Rattle.dc_stack.specs.Clip.{in_box, is_from_to}
-use Rattle.span_fill.specs.Spans.{in_span}
-use Rattle.player.specs.Strips.{is_column}
-use Rattle.player.proofs.RowLemmas.{before_first, behind_last, box_columns, few_written, nothing_painted, one_row_more, seen, seen_in_rows}
-use Rattle.player.proofs.TestLemmas.{column_true}
+use Rattle.std.proofs.Common.{arith}
+use Rattle.player.proofs.BoxPaintLemmas.{box_begun, box_done, box_row, box_unseen}
+use Rattle.player.proofs.RowLemmas.{few_written}
 use Rattle.player.proofs.filling.fill_box.Goals as goal
 
 pub returns-then-drawn-clause-pixels : goal.returns-then-drawn-clause-pixels
 returns-then-drawn-clause-pixels c =
-    let paint = c.args.paint.now in
-    let canvas = c.args.canvas.now in
-    let shape = in_box c.args.inside in
-    let region = c.visible-region.result in
-    nothing_painted paint shape c.writing_law.ensures canvas c.visible-region.ensures.whole
-    (λ x y held h.
-    let there = seen paint shape canvas c.requires.first region c.visible-region.ensures.kept x y held h in
-    let visible = and_parts (in_span region.columns x) (in_span region.rows y) there.0 in
-    let inside = and_parts (is_from_to c.args.inside.l c.args.inside.r x) (is_from_to c.args.inside.t c.args.inside.b y) there.1 in
-    let column = column_true c.common-drawn.result.columns.from c.common-drawn.result.columns.to x (c.common-drawn.ensures.has_columns x ∙ and_from (in_span region.columns x) (is_from_to c.args.inside.l c.args.inside.r x) visible.0 inside.0) in
-    let low = column.0 in
-    let high = column.1 in
-    let none = c.if-drawn.true in
-    omega (arith, low, high, none))
+    let shown = c.visible-region in
+    let drawn = c.common-drawn in
+    box_unseen c.args.paint.now c.args.inside c.args.canvas.now c.requires.first c.writing_law.ensures shown.ensures.whole shown.result drawn.result shown.ensures.kept drawn.ensures.has_columns drawn.ensures.has_rows c.if-drawn.true
 
 pub loop-y-init : goal.loop-y-init
 loop-y-init c =
-    let paint = c.args.paint.now in
-    let canvas = c.args.canvas.now in
-    let shape = in_box c.args.inside in
-    let lies = λ (x y : ℕ) (h : shape x y ≡ true). (and_parts (is_from_to c.args.inside.l c.args.inside.r x) (is_from_to c.args.inside.t c.args.inside.b y) h).1 in
-    before_first paint shape c.writing_law.ensures canvas c.visible-region.ensures.whole c.common-drawn.result.rows.from
-    (λ x y held h. (seen_in_rows paint shape canvas c.requires.first c.visible-region.result c.visible-region.ensures.kept c.common-drawn.result.rows _ _ c.common-drawn.ensures.has_rows lies x y held h).0)
+    let shown = c.visible-region in
+    let drawn = c.common-drawn in
+    box_begun c.args.paint.now c.args.inside c.args.canvas.now c.requires.first c.writing_law.ensures shown.ensures.whole shown.result drawn.result shown.ensures.kept drawn.ensures.has_columns drawn.ensures.has_rows
 
 pub put_uncut-requires-clause-countable : goal.put_uncut-requires-clause-countable
 put_uncut-requires-clause-countable c =
@@ -45,15 +27,13 @@ put_uncut-requires-clause-countable c =
 
 pub loop-y-preserved : goal.loop-y-preserved
 loop-y-preserved c =
-    let paint = c.args.paint.now in
-    let canvas = c.args.canvas.now in
-    let shape = in_box c.args.inside in
-    let low = c.loop-y.auto.y in
+    let shown = c.visible-region in
+    let drawn = c.common-drawn in
     let high = c.loop-y-test.true in
-    let last = c.common-drawn.ensures.bottom in
-    let bottom = c.visible-region.ensures.bottom in
-    one_row_more paint shape c.writing_law.ensures canvas c.visible-region.ensures.whole c.loop-y.canvas c.put_uncut.new.canvas c.loop-y.y c.row-ink.result (is_column c.common-drawn.result.columns.from c.common-drawn.result.columns.to) c.row-ink.ensures.test c.row-ink.ensures.ink
-    (λ x column. box_columns paint shape canvas c.requires.first c.visible-region.result c.visible-region.ensures.kept c.common-drawn.result.rows _ _ c.common-drawn.ensures.has_rows c.args.inside c.common-drawn.result.columns x c.loop-y.y refl refl c.common-drawn.ensures.has_columns low high (omega (arith, high, last, bottom)) column)
+    let last = drawn.ensures.bottom in
+    let bottom = shown.ensures.bottom in
+    box_row c.args.paint.now c.args.inside c.args.canvas.now c.requires.first c.writing_law.ensures shown.ensures.whole shown.result drawn.result shown.ensures.kept drawn.ensures.has_columns drawn.ensures.has_rows
+    c.loop-y.canvas c.put_uncut.new.canvas c.loop-y.y c.row-ink.result c.row-ink.ensures.test c.row-ink.ensures.ink c.loop-y.auto.y high (omega (arith, high, last, bottom))
     c.loop-y.invariant (rw c.cut_boxes.ensures at c.put_uncut.ensures.pixels)
 
 pub returns-clause-few : goal.returns-clause-few
@@ -61,13 +41,6 @@ returns-clause-few c = few_written c.writing_law.ensures _ _ c.args.canvas.now c
 
 pub returns-clause-pixels : goal.returns-clause-pixels
 returns-clause-pixels c =
-    let paint = c.args.paint.now in
-    let canvas = c.args.canvas.now in
-    let shape = in_box c.args.inside in
-    let lies = λ (x y : ℕ) (h : shape x y ≡ true). (and_parts (is_from_to c.args.inside.l c.args.inside.r x) (is_from_to c.args.inside.t c.args.inside.b y) h).1 in
-    behind_last paint shape c.writing_law.ensures canvas c.visible-region.ensures.whole c.loop-y.canvas c.loop-y.y
-    (λ x y held h.
-    let last = (seen_in_rows paint shape canvas c.requires.first c.visible-region.result c.visible-region.ensures.kept c.common-drawn.result.rows _ _ c.common-drawn.ensures.has_rows lies x y held h).1 in
-    let end = c.loop-y-test.false in
-    omega (arith, last, end))
-    c.loop-y.invariant
+    let shown = c.visible-region in
+    let drawn = c.common-drawn in
+    box_done c.args.paint.now c.args.inside c.args.canvas.now c.requires.first c.writing_law.ensures shown.ensures.whole shown.result drawn.result shown.ensures.kept drawn.ensures.has_columns drawn.ensures.has_rows c.loop-y.canvas c.loop-y.y c.loop-y-test.false c.loop-y.invariant

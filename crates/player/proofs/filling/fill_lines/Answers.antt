@@ -1,7 +1,7 @@
 use Rattle.std.proofs.Common.{ℕ, ◌+◌, arith, ap, ◌∙◌}
 use Rattle.span_fill.specs.Fill.{in_fill}
 use Rattle.span_fill.specs.Spans.{in_spans}
-use Rattle.player.proofs.RowLemmas.{apart_within, before_first, behind_last, between_rows, few_written, one_row_more, row_columns, seen_in_rows}
+use Rattle.player.proofs.RowLemmas.{apart_within, before_first, behind_last, between_rows, few_written, one_row_more, row_columns, seen_in_rows, within_ends}
 use Rattle.player.proofs.filling.fill_lines.Goals as goal
 
 pub loop-y-init : goal.loop-y-init
@@ -39,7 +39,8 @@ loop-y-preserved g c =
       kind = same.work ∙ inv.kind;
       next = c.next_fill.ensures.next ∙ ap (λ n. n + 1) inv.next;
       room = same.room ∙ inv.room;
-      painted = one_row_more paint shape c.writing_law.ensures canvas c.visible-region.ensures.whole c.loop-y.canvas c.put_spans.new.canvas c.loop-y.y c.row-ink.result (in_spans c.next_fill.new.self.spans) c.row-ink.ensures.test c.row-ink.ensures.ink
+      painted = one_row_more paint shape c.writing_law.ensures canvas c.visible-region.ensures.whole c.loop-y.canvas c.put_spans.new.canvas c.loop-y.y c.row-ink.result (in_spans c.next_fill.new.self.spans) c.row-ink.ensures.test
+          (λ x old there i. let at = within_ends c.visible-region.result.columns.from c.visible-region.result.columns.to c.next_fill.new.self.spans x row.apart there in c.row-ink.ensures.ink x old at.0 at.1 i)
           (λ x column. row_columns paint shape canvas c.requires.first c.visible-region.result c.visible-region.ensures.kept c.rows_between-drawn.result _ _ c.rows_between-drawn.ensures.has_rows c.next_fill.new.self.spans (λ n. in_fill c.args.rule lines n c.loop-y.y) x c.loop-y.y row low high (omega (arith, high, last, bottom)) column)
           inv.painted (rw (c.spans.ensures, c.cut_boxes.ensures) at c.put_spans.ensures.pixels);
     }

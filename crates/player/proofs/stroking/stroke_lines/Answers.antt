@@ -39,7 +39,7 @@ loop-y-preserved g c =
       kind = same.work ∙ inv.kind;
       next = c.next_stroke.ensures.next ∙ ap (λ n. n + 1) inv.next;
       room = same.room ∙ inv.room;
-      painted = one_row_more paint shape c.writing_law.ensures canvas c.visible-region.ensures.whole c.loop-y.canvas c.put_spans.new.canvas c.loop-y.y c.row-ink.result (in_spans c.next_stroke.new.self.spans) c.row-ink.ensures.test c.row-ink.ensures.ink
+      painted = one_row_more paint shape c.writing_law.ensures canvas c.visible-region.ensures.whole c.loop-y.canvas c.put_spans.new.canvas c.loop-y.y c.pen_ink-ink.result (in_spans c.next_stroke.new.self.spans) (λ x. c.pen_ink-ink.ensures.test x c.loop-y.y) (λ x old there i. c.pen_ink-ink.ensures.ink x c.loop-y.y old i)
           (λ x column. row_columns paint shape canvas c.requires.first c.visible-region.result c.visible-region.ensures.kept c.rows_between-drawn.result _ _ c.rows_between-drawn.ensures.has_rows c.next_stroke.new.self.spans (λ n. in_stroke lines n c.loop-y.y) x c.loop-y.y row low high (omega (arith, high, last, bottom)) column)
           inv.painted (rw (c.spans.ensures, c.cut_boxes.ensures) at c.put_spans.ensures.pixels);
     }

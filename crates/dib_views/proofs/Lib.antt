@@ -1,0 +1,3 @@
+pub mod PictureLemmas
+pub mod WorkedDibs
+pub mod WorkedFaults

@@ -1,0 +1,66 @@
+-- What records with bitmaps share: how a bitmap is read, and what blits and brushes are made of one.
+use Rattle.std.specs.Prelude.{ℕ, ◌==◌, if◌then◌else◌, List, drop, Option, Some, Result, Ok, Err}
+use Rattle.dib_views.specs.Dibs.{packed_dib, parts_dib}
+use Rattle.dib_views.specs.Pictures.{Dib}
+use Rattle.dib_views.specs.declared.fault.DibFault.{DibFault}
+use Rattle.dib_views.specs.declared.fault.DibFault.TheVariants.{BadDib as OfBadDib, CompressedDib as OfCompressedDib, ShortDib as OfShortDib}
+use Rattle.dib_views.specs.declared.shape.RowOrder.{RowOrder}
+use Rattle.dib_views.specs.declared.shape.RowOrder.TheVariants.{BottomUp, TopDown}
+use Rattle.mapping.specs.declared.geometry.Point.{Point}
+use Rattle.draw_ops.specs.Blits.{CountedFrom, SourceValue, top, bottom}
+use Rattle.draw_ops.specs.Meaning.{MeantValue, plain}
+use Rattle.draw_ops.specs.Objects.{brush_object, tile_brush}
+use Rattle.draw_ops.specs.Operation.{blit, create}
+use Rattle.draw_ops.specs.Results.{result_map}
+use Rattle.draw_ops.specs.TernaryOp.{ternary_table}
+use Rattle.draw_ops.specs.declared.fault.Fault.{Fault}
+use Rattle.draw_ops.specs.declared.fault.Fault.TheVariants.{BadDib, CompressedDib, PaletteColour, ShortDib}
+
+-- a record's fault, by that of its bitmap
+abbrev pub fault_of_dib : DibFault → Fault
+fault_of_dib OfBadDib = BadDib
+fault_of_dib OfCompressedDib = CompressedDib
+fault_of_dib OfShortDib = ShortDib
+
+-- the same value, or the record's fault
+abbrev pub in_record_dib : Result Dib DibFault → Result Dib Fault
+in_record_dib (Ok dib) = Ok dib
+in_record_dib (Err fault) = Err (fault_of_dib fault)
+
+-- the packed bitmap in a record from a place on, or the record's fault
+unfoldable pub dib_at : List ℕ → ℕ → Result Dib Fault
+dib_at bytes place = in_record_dib (packed_dib (drop place bytes))
+
+-- a bitmap in two parts of a record, or the record's fault
+unfoldable pub dib_in : List ℕ → List ℕ → Result Dib Fault
+dib_in info bits = in_record_dib (parts_dib info bits)
+
+-- A bitmap's colours are red, green and blue where its usage is 0 ([MS-WMF] 2.1.1.6, [MS-EMF] 2.1.9), and else indexes into a palette.
+abbrev pub needs_rgb : {T : Type 0} → ℕ → Result T Fault → Result T Fault
+needs_rgb usage value = if usage == 0 then value else Err PaletteColour
+
+-- what a rectangle of a bitmap's picture reads, whose rows are counted so
+abbrev pub source_value : CountedFrom → Point → Point → Dib → Option SourceValue
+source_value counted corner extent dib = Some (record { picture = dib.picture; corner = corner; extent = extent; counted = counted })
+
+-- the same of rows that are counted from the picture's top, or the bitmap's fault
+unfoldable pub source_from_top : Point → Point → Result Dib Fault → Result (Option SourceValue) Fault
+source_from_top corner extent dib = result_map (source_value top corner extent) dib
+
+-- from the row that is stored first
+abbrev pub counted_by : RowOrder → CountedFrom
+counted_by BottomUp = bottom
+counted_by TopDown = top
+
+-- the same of rows that are counted from the one that is stored first
+unfoldable pub source_as_stored : Point → Point → Result Dib Fault → Result (Option SourceValue) Fault
+source_as_stored corner extent dib = result_map (λ stored. source_value (counted_by stored.order) corner extent stored) dib
+
+-- a blit to a rectangle, of a ternary raster operation by its number, and of what it reads, or the fault of that
+unfoldable pub blit_meant : Point → Point → ℕ → Result (Option SourceValue) Fault → Result MeantValue Fault
+blit_meant corner extent code source =
+    plain (λ read. blit (record { corner = corner; extent = extent; table = ternary_table code; source = read })) source
+
+-- a brush that repeats a bitmap's picture is made at an index, or at the lowest free one
+unfoldable pub pattern_brush_meant : Option ℕ → Result Dib Fault → Result MeantValue Fault
+pattern_brush_meant at dib = plain (λ tile. create at (brush_object (tile_brush tile.picture))) dib

@@ -1,0 +1,160 @@
+//! What records with bitmaps share: how a bitmap is read, and what blits and brushes are made of one.
+
+ghost use Rattle.std.specs.Prelude.{◌≡◌, ◌≤◌, IfErr, length};
+ghost use Rattle.dib_views.specs.PictureOf.{dib_of};
+ghost use Rattle.draw_ops.specs.BitmapRecords.{blit_meant, dib_at, dib_in, fault_of_dib, needs_rgb, pattern_brush_meant};
+ghost use Rattle.draw_ops.specs.BitmapRecords.{source_as_stored, source_from_top};
+ghost use Rattle.draw_ops.specs.Blits.{source_of};
+ghost use Rattle.draw_ops.specs.Fault.{IsInRecord};
+ghost use Rattle.draw_ops.specs.Objects.{index_of};
+ghost use Rattle.draw_ops.specs.RecordOf.{meant_of};
+ghost use Rattle.draw_ops.specs.Results.{result_map};
+
+use crate::blits::{Blit, BlitSource, SourceRectangle};
+use crate::fault::Fault;
+use crate::format::Meant;
+use crate::objects::{Brush, Handle, Object};
+use crate::operation::Op;
+use crate::ternary_op::TernaryOp;
+use dib_views::{DibFault, DibView, RowOrder};
+use mapping::Point;
+
+/// The usage of a bitmap whose colours are given by red, green and blue ([MS-WMF] 2.1.1.6, [MS-EMF] 2.1.9).
+const DIB_RGB_COLORS: u32 = 0;
+
+/// The fault of a record whose bitmap has this fault.
+fn fault_of_dib(fault: DibFault) -> Fault
+    ensures value { result ≡ fault_of_dib fault }
+    ensures in_record { IsInRecord result }
+{
+    match fault {
+        DibFault::BadDib => Fault::BadDib,
+        DibFault::CompressedDib => Fault::CompressedDib,
+        DibFault::ShortDib => Fault::ShortDib,
+    }
+}
+
+/// The packed bitmap in a record from a place on, or its first fault.
+#[tactic(auto, unfolding(crate::specs::BitmapRecords::dib_at))]
+pub fn dib_at(bytes: &[u8], place: usize) -> Result<DibView<'_>, Fault>
+    requires { place ≤ length bytes.now }
+    ensures value { dib_at bytes.entry.now place ≡ result_map dib_of result }
+    ensures in_record { IfErr result IsInRecord }
+{
+    match DibView::packed(&bytes[place..]) {
+        Ok(dib) => Ok(dib),
+        Err(fault) => Err(fault_of_dib(fault)),
+    }
+}
+
+/// The same of a bitmap with a usage, which is `PaletteColour` where its colours are those of a palette.
+pub fn rgb_dib_at(usage: u32, bytes: &[u8], place: usize) -> Result<DibView<'_>, Fault>
+    requires { place ≤ length bytes.now }
+    ensures value { needs_rgb usage (dib_at bytes.entry.now place) ≡ result_map dib_of result }
+    ensures in_record { IfErr result IsInRecord }
+{
+    if usage != DIB_RGB_COLORS {
+        return Err(Fault::PaletteColour);
+    }
+    dib_at(bytes, place)
+}
+
+/// The bitmap whose header and colour table are one part of a record, and whose rows are another, or its
+/// first fault. It is `PaletteColour` where the usage says that its colours are those of a palette.
+#[tactic(auto, unfolding(crate::specs::BitmapRecords::dib_in))]
+pub fn rgb_dib_in<'a>(usage: u32, info: &'a [u8], bits: &'a [u8]) -> Result<DibView<'a>, Fault>
+    ensures value { needs_rgb usage (dib_in info.entry.now bits.entry.now) ≡ result_map dib_of result }
+    ensures in_record { IfErr result IsInRecord }
+{
+    if usage != DIB_RGB_COLORS {
+        return Err(Fault::PaletteColour);
+    }
+    match DibView::parts(info, bits) {
+        Ok(dib) => Ok(dib),
+        Err(fault) => Err(fault_of_dib(fault)),
+    }
+}
+
+/// A rectangle of a bitmap by a corner and the extent from there, in pixels. Its rows are counted from the
+/// picture's top. The bitmap may be a fault.
+#[tactic(auto, unfolding(crate::specs::BitmapRecords::source_from_top))]
+pub fn source_from_top<'a>(
+    corner: Point,
+    extent: Point,
+    dib: Result<DibView<'a>, Fault>,
+) -> Result<BlitSource<'a>, Fault>
+    requires { IfErr dib IsInRecord }
+    ensures value { source_from_top corner extent (result_map dib_of dib.entry) ≡ result_map source_of result }
+    ensures in_record { IfErr result IsInRecord }
+{
+    let picture = dib?;
+    Ok(BlitSource::FromTop(SourceRectangle {
+        picture,
+        corner,
+        extent,
+    }))
+}
+
+/// A rectangle of a bitmap by a corner and the extent from there, in pixels. Its rows are counted from the
+/// one that is stored first, which is the picture's bottom row or its top row. The bitmap may be a fault.
+#[tactic(auto, unfolding(crate::specs::BitmapRecords::source_as_stored))]
+pub fn source_as_stored<'a>(
+    corner: Point,
+    extent: Point,
+    dib: Result<DibView<'a>, Fault>,
+) -> Result<BlitSource<'a>, Fault>
+    requires { IfErr dib IsInRecord }
+    ensures value { source_as_stored corner extent (result_map dib_of dib.entry) ≡ result_map source_of result }
+    ensures in_record { IfErr result IsInRecord }
+{
+    let picture = dib?;
+    let rectangle = SourceRectangle {
+        picture,
+        corner,
+        extent,
+    };
+    match picture.order() {
+        RowOrder::BottomUp => Ok(BlitSource::FromBottom(rectangle)),
+        RowOrder::TopDown => Ok(BlitSource::FromTop(rectangle)),
+    }
+}
+
+/// A blit to a rectangle, by a corner and the extent from there, in units of the page. The number of its
+/// ternary raster operation may be any; what it reads may be a fault.
+#[tactic(auto, unfolding(crate::specs::BitmapRecords::blit_meant))]
+pub fn blit_meant<'a>(
+    corner: Point,
+    extent: Point,
+    code: u32,
+    source: Result<BlitSource<'a>, Fault>,
+) -> Result<Meant<'a>, Fault>
+    requires { IfErr source IsInRecord }
+    ensures value { blit_meant corner extent code (result_map source_of source.entry) ≡ result_map meant_of result }
+    ensures in_record { IfErr result IsInRecord }
+{
+    let source = source?;
+    Ok(Meant::unnoted(Op::Blit(Blit {
+        corner,
+        extent,
+        operation: TernaryOp::from_code(code),
+        source,
+    })))
+}
+
+/// A brush that repeats a bitmap's picture, made at an index or at the lowest free one. The bitmap may be a
+/// fault.
+#[tactic(auto, unfolding(crate::specs::BitmapRecords::pattern_brush_meant))]
+pub fn pattern_brush_meant<'a>(
+    at: Option<Handle>,
+    dib: Result<DibView<'a>, Fault>,
+) -> Result<Meant<'a>, Fault>
+    requires { IfErr dib IsInRecord }
+    ensures value { pattern_brush_meant (index_of at) (result_map dib_of dib.entry) ≡ result_map meant_of result }
+    ensures in_record { IfErr result IsInRecord }
+{
+    let picture = dib?;
+    Ok(Meant::unnoted(Op::Create {
+        at,
+        object: Object::Brush(Brush::Tiled(picture)),
+    }))
+}

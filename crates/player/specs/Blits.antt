@@ -1,0 +1,63 @@
+-- What a blit paints, as the code tells it.
+use Rattle.std.specs.Prelude.{◌≡◌, ◌≤◌, ◌<◌, ℕ, pos, ◌+ℤ◌, Bool, ◌&&◌, List, slice_index_or, if◌then◌else◌, Option, Some, None, is_some}
+use Rattle.mapping.specs.Colours.{black_colour}
+use Rattle.mapping.specs.declared.geometry.Colour.{Colour}
+use Rattle.mapping.specs.declared.geometry.Point.{Point}
+use Rattle.mapping.specs.declared.geometry.Rect.{Rect}
+use Rattle.dib_views.specs.PictureOf.{picture_of}
+use Rattle.dib_views.specs.Pictures.{picture_colour}
+use Rattle.draw_ops.specs.Blits.{SourceValue}
+use Rattle.draw_ops.specs.Objects.{brush_value_of}
+use Rattle.draw_ops.specs.declared.ternary_op.TernaryOp.{TernaryOp}
+use Rattle.raster_ops.specs.Bytes.{HasBytes}
+use Rattle.raster_ops.specs.Paints.{brush_paint}
+use Rattle.raster_ops.specs.Readers.{column_of}
+use Rattle.raster_ops.specs.Sources.{source_colour}
+use Rattle.raster_ops.specs.TernaryOps.{ternary_colour, uses_pattern}
+use Rattle.raster_ops.specs.declared.sources.SourceReader.{SourceReader}
+use Rattle.dc_stack.specs.Clip.{box_between, in_box, in_boxes}
+use Rattle.dc_stack.specs.Values.{placed_value}
+use Rattle.dc_stack.specs.declared.dc.Dc.{Dc}
+use Rattle.span_fill.specs.declared.span.Span.{Span}
+use Rattle.player.specs.declared.paint.Paint.{Paint}
+use Rattle.player.specs.declared.raster_operation.RasterOperation.TheVariants.{Ternary}
+
+-- the paint is that of a blit with this operation, which reads so
+pub record IsBlit (paint : Paint) (operation : TernaryOp) (reader : SourceReader) : Type 0 where
+  pub joins : paint.operation ≡ Ternary operation
+  pub reads : paint.source ≡ Some reader
+
+-- a reader's box is this one
+pub record ReadsBox (reader : SourceReader) (box : Rect) : Type 0 where
+  pub left : reader.columns.near ≡ box.l
+  pub right : box.r ≡ reader.columns.near +ℤ pos reader.columns.side
+  pub top : reader.rows.near ≡ box.t
+  pub bottom : box.b ≡ reader.rows.near +ℤ pos reader.rows.side
+
+-- the colours that these columns read in a row of the picture stand each at its column, and their parts are bytes
+pub record HoldsRow (reader : SourceReader) (columns : Span) (row : ℕ) (colours : List Colour) : Type 0 where
+  pub read :
+      (x : ℕ) (d : Colour) → columns.from ≤ x → x < columns.to
+      → slice_index_or colours x d ≡ picture_colour (picture_of reader.picture) (column_of reader x) row
+  pub parts : (x : ℕ) (d : Colour) → columns.from ≤ x → x < columns.to → HasBytes (slice_index_or colours x d)
+
+-- the colour that the brush gives a pixel, or nothing: any, where the operation doesn't depend on the pattern
+abbrev pub blit_colour : TernaryOp → Dc → ℕ → ℕ → Option Colour
+blit_colour operation dc x y =
+    if uses_pattern operation.table
+    then brush_paint (brush_value_of dc.selected.brush) dc.modes.background_mode dc.modes.background_colour x y
+    else Some black_colour
+
+-- the pixel is one of the box, the clip has it, and the brush doesn't give nothing
+abbrev pub blit_paints : Point → Point → TernaryOp → Dc → ℕ → ℕ → Bool
+blit_paints first second operation dc x y =
+    in_boxes (placed_value dc.clip) x y && in_box (box_between first second) x y && is_some (blit_colour operation dc x y)
+
+-- what the operation makes of the old colour, where the brush gives one
+abbrev pub blit_joined : TernaryOp → Colour → Option Colour → Colour → Colour
+blit_joined operation source None old = old
+blit_joined operation source (Some paint) old = ternary_colour operation.table paint source old
+
+-- and becomes this
+abbrev pub blit_made : Point → Point → TernaryOp → Option SourceValue → Dc → ℕ → ℕ → Colour → Colour
+blit_made first second operation source dc x y old = blit_joined operation (source_colour source first second x y) (blit_colour operation dc x y) old

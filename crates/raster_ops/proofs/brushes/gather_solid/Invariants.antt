@@ -1,0 +1,13 @@
+use Rattle.std.proofs.Common.{◌≡◌, ◌⊎◌, ℕ, ◌<◌, ◌≤◌, get_or, length}
+use Rattle.mapping.specs.declared.geometry.Colour.{Colour}
+use Rattle.raster_ops.specs.Bytes.{HasBytes}
+use Rattle.raster_ops.proofs.brushes.gather_solid.Given as goal
+
+-- the places so far have the colour
+abbrev pub invariant-loop-x : goal.invariant-loop-x
+invariant-loop-x l = record {
+  long : length l.out ≡ length l.initial.out;
+  each : (k : ℕ) (d : Colour) → l.from ≤ k → k < l.x → get_or l.out k d ≡ l.colour;
+  parts : (k : ℕ) (d : Colour) → l.from ≤ k → k < l.x → HasBytes (get_or l.out k d);
+  others : (k : ℕ) (d : Colour) → k < l.from ⊎ l.x ≤ k → get_or l.out k d ≡ get_or l.initial.out k d;
+}

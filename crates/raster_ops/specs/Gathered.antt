@@ -1,0 +1,16 @@
+-- Colours gathered at their places.
+use Rattle.std.specs.Prelude.{◌≡◌, ◌⊎◌, ℕ, ◌<◌, ◌≤◌, List, slice_index_or}
+use Rattle.mapping.specs.declared.geometry.Colour.{Colour}
+use Rattle.raster_ops.specs.Bytes.{HasBytes}
+
+-- the colours at the places from one on up to before another are those that f gives
+abbrev pub AreAt : (ℕ → Colour) → ℕ → ℕ → List Colour → Type 0
+AreAt f from to colours = (x : ℕ) (d : Colour) → from ≤ x → x < to → slice_index_or colours x d ≡ f x
+
+-- the parts of the colours at the places from one on up to before another are bytes
+abbrev pub HaveBytes : ℕ → ℕ → List Colour → Type 0
+HaveBytes from to colours = (x : ℕ) (d : Colour) → from ≤ x → x < to → HasBytes (slice_index_or colours x d)
+
+-- at the places before one and from another on the new colours are the old ones
+abbrev pub AreKeptBeside : ℕ → ℕ → List Colour → List Colour → Type 0
+AreKeptBeside from to old new = (x : ℕ) (d : Colour) → x < from ⊎ to ≤ x → slice_index_or new x d ≡ slice_index_or old x d

@@ -1,0 +1,37 @@
+-- How a pattern and a source join what is there by a ternary raster operation.
+use Rattle.std.specs.Prelude.{ℕ, ◌+◌, ◌*◌, ◌^◌, ◌==◌, Bool, not, List, [], ◌∷◌, map, sum}
+use Rattle.std.specs.Int.{bit_at}
+use Rattle.std.specs.List.{list_any}
+use Rattle.mapping.specs.declared.geometry.Colour.{Colour}
+
+-- the bit of an operation's table that a bit of the pattern, of the source and of what is there name ([MS-WMF] 2.1.1.31)
+abbrev pub table_bit : ℕ → ℕ → ℕ → ℕ → ℕ
+table_bit table pattern source old = bit_at table (4 * pattern + 2 * source + old)
+
+-- bit k of the result, at its place
+abbrev pub ternary_bit : ℕ → ℕ → ℕ → ℕ → ℕ → ℕ
+ternary_bit table pattern source old k = table_bit table (bit_at pattern k) (bit_at source k) (bit_at old k) * 2 ^ k
+
+-- eight bits, each by itself
+abbrev pub ternary_part : ℕ → ℕ → ℕ → ℕ → ℕ
+ternary_part table pattern source old = sum (map (ternary_bit table pattern source old) (0 ∷ 1 ∷ 2 ∷ 3 ∷ 4 ∷ 5 ∷ 6 ∷ 7 ∷ []))
+
+-- a ternary raster operation, by its table, on each of a colour's 24 bits
+abbrev pub ternary_colour : ℕ → Colour → Colour → Colour → Colour
+ternary_colour table pattern source old = record {
+  r = ternary_part table pattern.r source.r old.r;
+  g = ternary_part table pattern.g source.g old.g;
+  b = ternary_part table pattern.b source.b old.b;
+}
+
+-- what two bits may be
+abbrev pub bit_pairs : List (ℕ × ℕ)
+bit_pairs = (0, 0) ∷ (0, 1) ∷ (1, 0) ∷ (1, 1) ∷ []
+
+-- an operation depends on the source: with some bits of pattern and of what is there a source's 0 and its 1 give different results
+abbrev pub uses_source : ℕ → Bool
+uses_source table = list_any (λ pair. not (table_bit table pair.0 0 pair.1 == table_bit table pair.0 1 pair.1)) bit_pairs
+
+-- it depends on the pattern in the same way
+abbrev pub uses_pattern : ℕ → Bool
+uses_pattern table = list_any (λ pair. not (table_bit table 0 pair.0 pair.1 == table_bit table 1 pair.0 pair.1)) bit_pairs

@@ -1,0 +1,166 @@
+//! What a blit reads, at a pixel and along a row.
+
+ghost use Rattle.std.specs.Prelude.{◌≡◌, ◌⊎◌, ◌<◌, ◌≤◌, ℕ, ◌+◌, ◌^◌, pos, ◌+ℤ◌, ◌≤ℤ◌, ◌<ℤ◌, IsTrue, IfSome, is_some, length, slice_index_or};
+ghost use Rattle.std.specs.Int.{int_min};
+ghost use Rattle.dib_views.specs.Pictures.{picture_colour};
+ghost use Rattle.dib_views.specs.PictureOf.{picture_of};
+ghost use Rattle.draw_ops.specs.Blits.{source_of};
+ghost use Rattle.mapping.specs.Surface.{FitsPlace};
+ghost use Rattle.mapping.specs.declared.geometry.Colour.{Colour};
+ghost use Rattle.raster_ops.specs.Bytes.{HasBytes};
+ghost use Rattle.raster_ops.specs.Sources.{axis_read, distance, is_readable, source_colour};
+
+use crate::rectangles::{least_end, row_from_bottom, row_from_top};
+use dib_views::DibView;
+use draw_ops::{BlitSource, SourceRectangle};
+use mapping::{Colour, Point};
+
+/// How the columns or rows of a box read those of a source rectangle, which are spread over them.
+///
+/// # Guarantees
+///
+/// - The rectangle has at least one column or row.
+/// - `first + count` is at most 65,536.
+/// - `side` is at most 2^29.
+#[derive(Clone, Copy, Debug, PartialEq, Eq)]
+pub struct AxisReading {
+    /// The first column or row of the source rectangle in the picture.
+    pub first: u32,
+    /// How many columns or rows the rectangle has. Where they are more than `side`, no pixel reads some of them.
+    pub count: u32,
+    /// The box's first column or row on the surface, from the left or the top.
+    pub near: i32,
+    /// How many columns or rows the box has.
+    pub side: u32,
+    /// Whether the box's first column or row reads from the rectangle's last on.
+    pub mirrored: bool,
+    pub ghost some: { 1 ≤ count },
+    pub ghost few: { first + count ≤ 2 ^ 16 },
+    pub ghost short: { side ≤ 2 ^ 29 },
+}
+
+/// How a blit reads its picture.
+///
+/// # Guarantees
+///
+/// - The rectangle's columns and its rows are columns and rows of the picture.
+#[derive(Clone, Copy, Debug, PartialEq, Eq)]
+pub struct SourceReader<'a> {
+    pub picture: DibView<'a>,
+    pub columns: AxisReading,
+    pub rows: AxisReading,
+    pub ghost across: { columns.first + columns.count ≤ (picture_of picture).width },
+    pub ghost down: { rows.first + rows.count ≤ (picture_of picture).height },
+}
+
+impl<'a> SourceReader<'a> {
+    ghost use Rattle.raster_ops.specs.Readers.{column_of, columns_of, is_inside_from, reading_of, row_of};
+
+    /// How a box between two placed corners reads: none exactly where there is no bitmap, or its rectangle has
+    /// no pixel or isn't inside, whatever the box is.
+    pub fn new(source: &BlitSource<'a>, first: Point, second: Point) -> Option<SourceReader<'a>>
+        requires first { FitsPlace first }
+        requires second { FitsPlace second }
+        ensures some { is_some result ≡ is_readable (source_of source.now) }
+        ensures reads { IfSome result (λ reader. (x y : ℕ) → source_colour (source_of source.now) first second x y ≡ picture_colour (picture_of reader.picture) (column_of reader x) (row_of reader y)) }
+        ensures near_column { IfSome result (λ reader. reader.columns.near ≡ int_min first.x second.x) }
+        ensures column_count { IfSome result (λ reader. reader.columns.side ≡ distance first.x second.x) }
+        ensures near_row { IfSome result (λ reader. reader.rows.near ≡ int_min first.y second.y) }
+        ensures row_count { IfSome result (λ reader. reader.rows.side ≡ distance first.y second.y) }
+    {
+        match *source {
+            BlitSource::Missing => None,
+            BlitSource::FromTop(rectangle) => {
+                SourceReader::of_rectangle(&rectangle, row_from_top(&rectangle), first, second)
+            }
+            BlitSource::FromBottom(rectangle) => {
+                SourceReader::of_rectangle(&rectangle, row_from_bottom(&rectangle), first, second)
+            }
+        }
+    }
+
+    /// The same of a rectangle whose first row is `row`.
+    fn of_rectangle(
+        rectangle: &SourceRectangle<'a>,
+        row: i64,
+        first: Point,
+        second: Point,
+    ) -> Option<SourceReader<'a>>
+        requires first { FitsPlace first }
+        requires second { FitsPlace second }
+        ensures some { is_some result ≡ is_inside_from row rectangle.now }
+        ensures picture { IfSome result (λ reader. reader.picture ≡ rectangle.now.picture) }
+        ensures columns { IfSome result (λ reader. reading_of reader.columns ≡ columns_of rectangle.now first.x second.x) }
+        ensures rows { IfSome result (λ reader. reading_of reader.rows ≡ axis_read row rectangle.now.extent.y first.y second.y) }
+    {
+        let picture = rectangle.picture;
+        let column = least_end(rectangle.corner.x, rectangle.extent.x);
+        let width = picture.width();
+        let Some(columns) = AxisReading::new(column, rectangle.extent.x, first.x, second.x, width)
+        else {
+            return None;
+        };
+        let height = picture.height();
+        let Some(rows) = AxisReading::new(row, rectangle.extent.y, first.y, second.y, height) else {
+            return None;
+        };
+        Some(SourceReader {
+            picture,
+            columns,
+            rows,
+        })
+    }
+
+    /// The picture's row that row `y` of the surface reads.
+    pub fn row_at(&self, y: u32) -> u32
+        requires from { self.now.rows.near ≤ℤ pos y }
+        requires to { pos y <ℤ (self.now.rows.near +ℤ pos self.now.rows.side) }
+        ensures row { result ≡ row_of self.now y }
+        ensures within { result < (picture_of self.now.picture).height }
+    {
+        self.rows.index_at(y)
+    }
+
+    /// The picture's column that column `x` of the surface reads.
+    pub fn column_at(&self, x: u32) -> u32
+        requires from { self.now.columns.near ≤ℤ pos x }
+        requires to { pos x <ℤ (self.now.columns.near +ℤ pos self.now.columns.side) }
+        ensures column { result ≡ column_of self.now x }
+        ensures within { result < (picture_of self.now.picture).width }
+    {
+        self.columns.index_at(x)
+    }
+
+    /// The colours that the columns from one on up to before another read in the picture's row `row`, each at
+    /// its column's place of `out`. What stands at the other places stays.
+    pub fn gather(&self, row: u32, from: u32, to: u32, out: &mut [Colour])
+        requires row { row < (picture_of self.now.picture).height }
+        requires ordered { from ≤ to }
+        requires room { to ≤ length out.old }
+        requires from { self.now.columns.near ≤ℤ pos from }
+        requires to { pos to ≤ℤ (self.now.columns.near +ℤ pos self.now.columns.side) }
+        ensures colours { (x : ℕ) (d : Colour) → from ≤ x → x < to → slice_index_or out.new x d ≡ picture_colour (picture_of self.now.picture) (column_of self.now x) row }
+        ensures parts { (x : ℕ) (d : Colour) → from ≤ x → x < to → HasBytes (slice_index_or out.new x d) }
+        ensures others { (x : ℕ) (d : Colour) → x < from ⊎ to ≤ x → slice_index_or out.new x d ≡ slice_index_or out.old x d }
+    {
+        let line = self.picture.picture_row(row);
+        self.columns.gather(&line, from, to, out);
+    }
+}
+
+/// The colour that the surface's pixel `(x, y)` reads, of a box between two placed corners.
+pub fn source_at(source: &BlitSource<'_>, first: Point, second: Point, x: u32, y: u32) -> Colour
+    requires readable { IsTrue (is_readable (source_of source.now)) }
+    requires first { FitsPlace first }
+    requires second { FitsPlace second }
+    requires left { int_min first.x second.x ≤ℤ pos x }
+    requires right { pos x <ℤ (int_min first.x second.x +ℤ pos (distance first.x second.x)) }
+    requires top { int_min first.y second.y ≤ℤ pos y }
+    requires bottom { pos y <ℤ (int_min first.y second.y +ℤ pos (distance first.y second.y)) }
+    ensures { result ≡ source_colour (source_of source.now) first second x y }
+{
+    let Some(reader) = SourceReader::new(source, first, second) else {
+        unreachable!()
+    };
+    reader.picture.colour(reader.column_at(x), reader.row_at(y))
+}
