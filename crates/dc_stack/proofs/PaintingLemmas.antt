@@ -12,7 +12,6 @@ use Rattle.mapping.specs.Plane.{MapNumbers}
 use Rattle.mapping.specs.Surface.{Surface, lands_within_limits, placed}
 use Rattle.mapping.specs.declared.geometry.Point.{Point}
 use Rattle.mapping.specs.declared.geometry.Rect.{Rect}
-use Rattle.mapping.specs.declared.place.Place.{Place}
 use Rattle.draw_ops.specs.declared.fault.Fault.{Fault}
 use Rattle.draw_ops.specs.declared.fault.Fault.TheVariants.{TooManyEdges}
 use Rattle.point_views.specs.PartedPoints.{parts_of}
@@ -31,6 +30,7 @@ use Rattle.dc_stack.specs.Path.{finished_path, no_path}
 use Rattle.dc_stack.specs.Pieces.{AllLandOn, LandsOn, figures_of, page_points, plane_lists}
 use Rattle.dc_stack.specs.State.{State, with_path}
 use Rattle.dc_stack.specs.declared.draw.Draw.TheVariants.{Path}
+use Rattle.dc_stack.specs.declared.draw.PaintedPath.{PaintedPath}
 use Rattle.dc_stack.specs.declared.draw.Painting.{Painting}
 use Rattle.dc_stack.specs.declared.draw.Painting.TheVariants.{Fill, Stroke, StrokeAndFill}
 use Rattle.dc_stack.specs.declared.piece.Piece.{Piece}
@@ -157,8 +157,9 @@ module _ (s : Surface) where
   gathered_lands pieces h = ap all_lands (points_gathered pieces) ∙ pieces_land pieces h
 
 -- a finished path is painted
-pub plays_painting : (old new : MachineState) (painting : Painting) (pieces : List Piece) (place : Place) (count : ℕ) (bounds : Rect) → old.state.path ≡ finished_path (all_figures (figures_of pieces)) → new.state ≡ with_path no_path old.state → new.painted ≡ pieces → new.needs ≡ greater_needs old.needs (points_needed count) → count ≡ length (gathered_points pieces) → length (gathered_points pieces) ≤ edge_limit → surface_of place ≡ old.surface → AllLandOn old.surface pieces → HasAll bounds (placed_list old.surface (gathered_points pieces)) → HasPlayed (painting_operation painting) old new (Some (Path painting place count bounds))
-plays_painting old new painting pieces place count bounds at state lent needs counted few here land inside =
+pub plays_painting : (old new : MachineState) (path : PaintedPath) (pieces : List Piece) → old.state.path ≡ finished_path (all_figures (figures_of pieces)) → new.state ≡ with_path no_path old.state → new.painted ≡ pieces → new.needs ≡ greater_needs old.needs (points_needed path.count) → path.count ≡ length (gathered_points pieces) → length (gathered_points pieces) ≤ edge_limit → surface_of path.place ≡ old.surface → AllLandOn old.surface pieces → HasAll path.bounds (placed_list old.surface (gathered_points pieces)) → HasPlayed (painting_operation path.painting) old new (Some (Path path))
+plays_painting old new path pieces at state lent needs counted few here land inside =
+    let painting = path.painting in
     let figures = all_figures (figures_of pieces) in
     let lands = gathered_lands old.surface pieces land in
     let none : figures_fault figures old.surface ≡ None = rw (le-leb (length (gathered_points pieces)) edge_limit few) (sym (none_off old.surface (gathered_points pieces) lands)) in

@@ -6,14 +6,11 @@ use Rattle.mapping.specs.PlaceOf.{surface_of}
 use Rattle.mapping.specs.Surface.{Surface, lands_within_limits, placed_point}
 use Rattle.mapping.specs.declared.geometry.Point.{Point}
 use Rattle.mapping.specs.declared.geometry.Rect.{Rect}
-use Rattle.mapping.specs.declared.place.Place.{Place}
 use Rattle.point_views.specs.Points.{points_of}
 use Rattle.point_views.specs.Polys.{lists_of}
 use Rattle.point_views.specs.declared.points.Points.{Points}
 use Rattle.point_views.specs.declared.polys.Polys.{Polys}
 use Rattle.draw_ops.specs.Blits.{source_of}
-use Rattle.draw_ops.specs.declared.blits.BlitSource.{BlitSource}
-use Rattle.draw_ops.specs.declared.ternary_op.TernaryOp.{TernaryOp}
 use Rattle.raster_ops.specs.Sources.{is_readable}
 use Rattle.raster_ops.specs.TernaryOps.{uses_source}
 use Rattle.dc_stack.specs.Boxes.{HasAll, placed_list}
@@ -23,8 +20,10 @@ use Rattle.dc_stack.specs.Mapped.{mapped_list, mapped_lists}
 use Rattle.dc_stack.specs.Pieces.{AllLandOn, figures_of}
 use Rattle.dc_stack.specs.declared.draw.Draw.{Draw}
 use Rattle.dc_stack.specs.declared.draw.Draw.TheVariants.{Blit, Dot, Line, LinesFrom, Path, Polygons, Polylines, Rectangle}
+use Rattle.dc_stack.specs.declared.draw.PaintedPath.{PaintedPath}
 use Rattle.dc_stack.specs.declared.draw.Painting.{Painting}
 use Rattle.dc_stack.specs.declared.draw.Painting.TheVariants.{Fill, Stroke, StrokeAndFill}
+use Rattle.dc_stack.specs.declared.draw.PlacedBlit.{PlacedBlit}
 use Rattle.dc_stack.specs.declared.piece.Piece.{Piece}
 use Rattle.dc_stack.specs.declared.placing.Landing.{Landing}
 use Rattle.dc_stack.specs.declared.projection.Projection.{Projection}
@@ -51,8 +50,8 @@ mark_of pieces (LinesFrom from points by bounds) = lines_through ((from.plane �
 mark_of pieces (Polylines lists by bounds) = lines_through (lists_on_plane by lists)
 mark_of pieces (Polygons lists by bounds) = polygons_of (lists_on_plane by lists)
 mark_of pieces (Rectangle first second edges) = rectangle_between first.plane second.plane edges
-mark_of pieces (Blit first second operation source) = blit_between first.plane second.plane operation.table (source_of source)
-mark_of pieces (Path painting place count bounds) = mark_painted painting (all_figures (figures_of pieces))
+mark_of pieces (Blit blit) = blit_between blit.first.plane blit.second.plane blit.operation.table (source_of blit.source)
+mark_of pieces (Path path) = mark_painted path.painting (all_figures (figures_of pieces))
 
 -- a point of the plane is told with the place where it lands
 abbrev pub IsLanding : Surface → Landing → Type 0
@@ -63,18 +62,18 @@ pub record LandsWithin (s : Surface) (by : Projection) (bounds : Rect) (points :
   pub surface : surface_of by.place ≡ s
   pub inside : HasAll bounds (placed_list s points)
 
--- pieces of a path land on this surface, and so many points in this box of it
-pub record PiecesLandWithin (s : Surface) (place : Place) (count : ℕ) (bounds : Rect) (pieces : List Piece) : Type 0 where
-  pub surface : surface_of place ≡ s
+-- the pieces of a path that is painted land on this surface, and so many points in its box
+pub record TellsPath (s : Surface) (path : PaintedPath) (pieces : List Piece) : Type 0 where
+  pub surface : surface_of path.place ≡ s
   pub land : AllLandOn s pieces
-  pub counted : count ≡ length (points_of_figures (all_figures (figures_of pieces)))
-  pub inside : HasAll bounds (placed_list s (points_of_figures (all_figures (figures_of pieces))))
+  pub counted : path.count ≡ length (points_of_figures (all_figures (figures_of pieces)))
+  pub inside : HasAll path.bounds (placed_list s (points_of_figures (all_figures (figures_of pieces))))
 
 -- the corners of a blit's box land on this surface, and where its operation depends on the source, there is something to read
-pub record TellsBlit (s : Surface) (first second : Landing) (operation : TernaryOp) (source : BlitSource) : Type 0 where
-  pub first_lands : IsLanding s first
-  pub second_lands : IsLanding s second
-  pub readable : uses_source operation.table ≡ true → is_readable (source_of source) ≡ true
+pub record TellsBlit (s : Surface) (blit : PlacedBlit) : Type 0 where
+  pub first : IsLanding s blit.first
+  pub second : IsLanding s blit.second
+  pub readable : uses_source blit.operation.table ≡ true → is_readable (source_of blit.source) ≡ true
 
 -- what a step draws is told where it lands on the surface
 abbrev pub TellsPlaces : Surface → List Piece → Draw → Type 0
@@ -84,8 +83,8 @@ TellsPlaces s pieces (LinesFrom from points by bounds) = IsLanding s from × Lan
 TellsPlaces s pieces (Polylines lists by bounds) = LandsWithin s by bounds (joined (lists_on_plane by lists))
 TellsPlaces s pieces (Polygons lists by bounds) = LandsWithin s by bounds (joined (lists_on_plane by lists))
 TellsPlaces s pieces (Rectangle first second edges) = IsLanding s first × IsLanding s second
-TellsPlaces s pieces (Blit first second operation source) = TellsBlit s first second operation source
-TellsPlaces s pieces (Path painting place count bounds) = PiecesLandWithin s place count bounds pieces
+TellsPlaces s pieces (Blit blit) = TellsBlit s blit
+TellsPlaces s pieces (Path path) = TellsPath s path pieces
 
 -- it is so, all its points land within the limits, and there are at most so many
 pub record IsPlacedDraw (s : Surface) (pieces : List Piece) (draw : Draw) : Type 0 where
@@ -102,5 +101,5 @@ paints_path (Some (LinesFrom from points by bounds)) = false
 paints_path (Some (Polylines lists by bounds)) = false
 paints_path (Some (Polygons lists by bounds)) = false
 paints_path (Some (Rectangle first second edges)) = false
-paints_path (Some (Blit first second operation source)) = false
-paints_path (Some (Path painting place count bounds)) = true
+paints_path (Some (Blit blit)) = false
+paints_path (Some (Path path)) = true

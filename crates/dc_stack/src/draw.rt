@@ -20,6 +20,28 @@ pub enum Painting {
     StrokeAndFill,
 }
 
+/// The box between two placed corners, whichever of them comes first, of which each pixel becomes what the
+/// operation makes of the brush, of what is read, and of the colour that is there. Where the operation depends
+/// on the source, what is read lies inside of its picture.
+#[derive(Clone, Copy, Debug, PartialEq, Eq)]
+pub struct PlacedBlit<'a> {
+    pub first: Landing,
+    pub second: Landing,
+    pub operation: TernaryOp,
+    pub source: BlitSource<'a>,
+}
+
+/// The figures of a path that is painted, which the pieces that the machine lends make (`Machine::painted`).
+/// How their points land is by the page map of each piece, and this place.
+#[derive(Clone, Copy, Debug, PartialEq, Eq)]
+pub struct PaintedPath {
+    pub painting: Painting,
+    pub place: Place,
+    /// How many points the figures have.
+    pub count: u32,
+    pub bounds: Rect,
+}
+
 /// What a step draws. Points are those of the file's record, as it has them, and how they land; all of
 /// them land within the limits, and within `bounds`, the right and the bottom included. Pen, brush, modes
 /// and clip of its moment are those that the machine lends still (`Machine::dc`), since no drawing changes
@@ -61,29 +83,15 @@ pub enum Draw<'a> {
         second: Landing,
         edges: RectangleEdges,
     },
-    /// The box between two placed corners, whichever of them comes first, of which each pixel becomes what the
-    /// operation makes of the brush, of what is read, and of the colour that is there. Where the operation depends
-    /// on the source, what is read lies inside of its picture.
-    Blit {
-        first: Landing,
-        second: Landing,
-        operation: TernaryOp,
-        source: BlitSource<'a>,
-    },
-    /// The figures of a path, which the pieces that the machine lends make (`Machine::painted`). How their
-    /// points land is by the page map of each piece, and this place.
-    Path {
-        painting: Painting,
-        place: Place,
-        /// How many points the figures have.
-        count: u32,
-        bounds: Rect,
-    },
+    /// The box of a blit.
+    Blit(PlacedBlit<'a>),
+    /// The figures of a path.
+    Path(PaintedPath),
 }
 
 /// Whether a path is painted.
 pub(crate) fn paints_path(drawn: Option<Draw<'_>>) -> bool
     ensures { result ≡ paints_path drawn.entry }
 {
-    matches!(drawn, Some(Draw::Path { .. }))
+    matches!(drawn, Some(Draw::Path(_)))
 }

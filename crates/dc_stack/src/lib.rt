@@ -38,7 +38,7 @@ mod stock;
 
 pub use clip::{Clip, ClipBox};
 pub use dc::Dc;
-pub use draw::{Draw, Painting};
+pub use draw::{Draw, PaintedPath, Painting, PlacedBlit};
 pub use laws::{fault_law, room_law};
 pub use machine::{MAX_SAVED_STATES, Machine};
 pub use modes::Modes;

@@ -6,15 +6,11 @@ use Rattle.dib_views.specs.declared.header.DibHead.{DibHead}
 use Rattle.dib_views.specs.Headers.{dib_head}
 use Rattle.dib_views.specs.Pictures.{Dib}
 use Rattle.dib_views.specs.Pixels.{StoredDib, rows_size, stored_picture}
+use Rattle.dib_views.specs.Results.{result_map}
 
 -- a bitmap's value, as it is stored
 abbrev pub stored_dib : StoredDib → Dib
 stored_dib dib = record { picture = stored_picture dib; order = dib.shape.order }
-
--- the value as f makes it, or the same error
-abbrev pub result_map : {T U E : Type 0} → (T → U) → Result T E → Result U E
-result_map f (Ok value) = Ok (f value)
-result_map f (Err error) = Err error
 
 -- the table and the rows that a header asks for, in the bytes with the header and in those that begin with the rows
 abbrev pub parts_by : DibHead → List ℕ → List ℕ → Result StoredDib DibFault

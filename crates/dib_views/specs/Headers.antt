@@ -1,5 +1,5 @@
 -- What a bitmap's header says: BitmapInfoHeader ([MS-WMF] 2.2.2.3), or one of those that begin with it.
-use Rattle.std.specs.Prelude.{ℕ, ◌+◌, ◌*◌, ◌≤◌, ℤ, pos, negsuc, nat_abs, int_le, Bool, ◌&&◌, ◌||◌, not, ◌==◌, nat_lt, nat_le, if◌then◌else◌, List, length, Option, Some, None, Result, Ok, Err}
+use Rattle.std.specs.Prelude.{ℕ, ◌+◌, ◌*◌, ◌≤◌, ℤ, pos, negsuc, unsigned_abs, int_le, Bool, ◌&&◌, ◌||◌, not, ◌==◌, nat_lt, nat_le, if◌then◌else◌, List, length, Option, Some, None, Result, Ok, Err}
 use Rattle.point_views.specs.Numbers.{number_at, i32_at}
 use Rattle.dib_views.specs.declared.fault.DibFault.{DibFault}
 use Rattle.dib_views.specs.declared.fault.DibFault.TheVariants.{BadDib, CompressedDib, ShortDib}
@@ -64,7 +64,7 @@ is_table_size bits used = full_table bits == 0 || nat_le used (full_table bits)
 
 -- a width and a height are ones that a bitmap may have: the height may be negative, the width not
 abbrev pub has_dib_sides : ℤ → ℤ → Bool
-has_dib_sides width height = int_le (pos 1) width && is_dib_side (nat_abs width) && is_dib_side (nat_abs height)
+has_dib_sides width height = int_le (pos 1) width && is_dib_side (unsigned_abs width) && is_dib_side (unsigned_abs height)
 
 -- the bottom row is stored first, or, where the height is negative, the top row
 abbrev pub row_order : ℤ → RowOrder
@@ -76,7 +76,7 @@ abbrev pub head_with : DibHeader → BitCount → DibHead
 head_with header bits = record {
   table_start = header.size;
   table_end = header.size + 4 * table_entries bits header.colours_used;
-  shape = record { width = nat_abs header.width; height = nat_abs header.height; bits = bits; order = row_order header.height };
+  shape = record { width = unsigned_abs header.width; height = unsigned_abs header.height; bits = bits; order = row_order header.height };
 }
 
 -- the same, where the sides and the table are good

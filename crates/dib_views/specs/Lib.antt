@@ -1,3 +1,4 @@
+pub mod Results
 pub mod Pictures
 pub mod Pixels
 pub mod Headers

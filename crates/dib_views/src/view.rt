@@ -1,10 +1,11 @@
 //! Bitmaps, read in place.
 
 ghost use Rattle.std.specs.Prelude.{◌≡◌, ◌<◌, ◌↔◌, [], length, IsTrue, slice_index_or};
-ghost use Rattle.dib_views.specs.Dibs.{packed_dib, packed_stored, parts_by, parts_dib, parts_stored, result_map};
+ghost use Rattle.dib_views.specs.Dibs.{packed_dib, packed_stored, parts_by, parts_dib, parts_stored};
 ghost use Rattle.dib_views.specs.Headers.{IsGoodHead};
 ghost use Rattle.dib_views.specs.Pictures.{picture_colour};
 ghost use Rattle.dib_views.specs.Pixels.{IsDibSide, row_bytes, row_size, rows_size};
+ghost use Rattle.dib_views.specs.Results.{result_map};
 ghost use Rattle.dib_views.specs.Rows.{row_colours_of};
 
 use crate::fault::DibFault;

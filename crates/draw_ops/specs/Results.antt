@@ -1,10 +1,6 @@
 -- Results, made of others.
 use Rattle.std.specs.Prelude.{Option, Some, None, Result, Ok, Err}
-
--- the value as f makes it, or the same error
-abbrev pub result_map : {T U E : Type 0} → (T → U) → Result T E → Result U E
-result_map f (Ok x) = Ok (f x)
-result_map f (Err e) = Err e
+pub use Rattle.dib_views.specs.Results.{result_map}
 
 -- the value, or this error where there is none
 abbrev pub value_or : {T E : Type 0} → E → Option T → Result T E

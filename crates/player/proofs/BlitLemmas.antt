@@ -10,7 +10,7 @@ use Rattle.mapping.specs.declared.geometry.Rect.{Rect}
 use Rattle.canvas.specs.CanvasState.{CanvasState}
 use Rattle.canvas.specs.Writing.{Repaints}
 use Rattle.canvas.specs.WritingLaws.{WritingLaws, IsWhole as IsWholeCanvas}
-use Rattle.draw_ops.specs.Blits.{SourceValue}
+use Rattle.draw_ops.specs.Blits.{SourceValue, source_of}
 use Rattle.draw_ops.specs.Objects.{brush_value_of}
 use Rattle.draw_ops.specs.declared.objects.Brush.{Brush}
 use Rattle.draw_ops.specs.declared.objects.Brush.TheVariants.{Solid}
@@ -21,9 +21,11 @@ use Rattle.raster_ops.specs.Sources.{distance, source_colour}
 use Rattle.raster_ops.specs.TernaryOps.{ternary_colour, uses_pattern}
 use Rattle.dc_stack.specs.Clip.{ClipValue, box_between, in_box, in_boxes, placed_clip}
 use Rattle.dc_stack.specs.Drawing.{Tools}
+use Rattle.dc_stack.specs.Draws.{IsLanding}
 use Rattle.dc_stack.specs.Values.{placed_value}
 use Rattle.dc_stack.specs.declared.clip.Clip.{Clip}
 use Rattle.dc_stack.specs.declared.dc.Dc.{Dc}
+use Rattle.dc_stack.specs.declared.draw.PlacedBlit.{PlacedBlit}
 use Rattle.dc_stack.specs.declared.modes.Modes.{Modes}
 use Rattle.player.specs.Apply.{ink_of, joined}
 use Rattle.player.specs.Blits.{blit_colour, blit_joined, blit_made, blit_paints}
@@ -58,18 +60,22 @@ joined_alike op seen source (Some p) old same = same p
 
 -- What a paint of a blit makes of its box is what the blit makes of it.
 pub blit_painted :
-    WritingLaws → (paint : Brushing) (dc : Dc) (op : TernaryOp) (first second : Point) (box : Rect) (source : Option SourceValue) (old new : CanvasState) → IsWholeCanvas old
-    → paint.brush ≡ cond (uses_pattern op.table) dc.selected.brush (Solid black_colour) → paint.modes ≡ dc.modes → paint.operation ≡ Ternary op → paint.clip.now ≡ dc.clip
-    → box ≡ box_between first second
-    → ((x y : ℕ) (p c : Colour) → ternary_colour op.table p (colour_seen paint.source x y) c ≡ ternary_colour op.table p (source_colour source first second x y) c)
+    WritingLaws → (paint : Brushing) (dc : Dc) (blit : PlacedBlit) (box : Rect) (old new : CanvasState) → IsWholeCanvas old
+    → paint.brush ≡ cond (uses_pattern blit.operation.table) dc.selected.brush (Solid black_colour) → paint.modes ≡ dc.modes → paint.operation ≡ Ternary blit.operation → paint.clip.now ≡ dc.clip
+    → box ≡ box_between blit.first.placed blit.second.placed
+    → ((x y : ℕ) (p c : Colour) → ternary_colour blit.operation.table p (colour_seen paint.source x y) c ≡ ternary_colour blit.operation.table p (source_colour (source_of blit.source) blit.first.placed blit.second.placed x y) c)
     → Repaints (paints paint (in_box box)) (made paint) old new
-    → Repaints (blit_paints first second op dc) (blit_made first second op source dc) old new
-blit_painted laws paint dc op first second box source old new whole brush modes operation clip inside same r =
+    → Repaints (blit_paints blit dc) (blit_made blit dc) old new
+blit_painted laws paint dc blit box old new whole brush modes operation clip inside same r =
+    let op = blit.operation in
+    let first = blit.first.placed in
+    let second = blit.second.placed in
+    let source = source_of blit.source in
     let colour : (x y : ℕ) → colour_of paint x y ≡ blit_colour op dc x y =
     λ x y. ap (λ (b : Brush). brush_paint (brush_value_of b) paint.modes.background_mode paint.modes.background_colour x y) brush
     ∙ ap (λ (m : Modes). brush_paint (brush_value_of (cond (uses_pattern op.table) dc.selected.brush (Solid black_colour))) m.background_mode m.background_colour x y) modes
     ∙ chosen_colour (uses_pattern op.table) dc.selected.brush dc.modes.background_mode dc.modes.background_colour x y in
-    laws.same (paints paint (in_box box)) (blit_paints first second op dc) (made paint) (blit_made first second op source dc) old new whole
+    laws.same (paints paint (in_box box)) (blit_paints blit dc) (made paint) (blit_made blit dc) old new whole
     (λ x y held.
     ap (λ (k : Clip). in_boxes (placed_value k) x y && in_box box x y && is_some (colour_of paint x y)) clip
     ∙ ap (λ (b : Rect). in_boxes (placed_value dc.clip) x y && in_box b x y && is_some (colour_of paint x y)) inside
@@ -92,18 +98,24 @@ joined_same op s p q first second source x y (Some paint) old a b = rw (a, b) re
 module _ (laws : WritingLaws) (s : Surface) (old new : CanvasState) (there : IsWholeCanvas old) (whole : IsWhole old s) where
   -- And that is the layer of the blit.
   pub blit_drawn :
-      (dc : Dc) (tools : Tools) (op : TernaryOp) (p q first second : Point) (source : Option SourceValue)
+      (dc : Dc) (tools : Tools) (blit : PlacedBlit)
       → brush_value_of dc.selected.brush ≡ tools.brush → dc.modes ≡ tools.modes → placed_value dc.clip ≡ placed_clip s tools.clip
-      → first ≡ placed_point p s → second ≡ placed_point q s
-      → Repaints (blit_paints first second op dc) (blit_made first second op source dc) old new
-      → DrawsLayers (blit_layer p q op.table source tools ∷ []) s old new
-  blit_drawn dc tools op p q first second source brush modes clip a b r =
+      → IsLanding s blit.first → IsLanding s blit.second
+      → Repaints (blit_paints blit dc) (blit_made blit dc) old new
+      → DrawsLayers (blit_layer blit.first.plane blit.second.plane blit.operation.table (source_of blit.source) tools ∷ []) s old new
+  blit_drawn dc tools blit brush modes clip a b r =
+      let op = blit.operation in
+      let p = blit.first.plane in
+      let q = blit.second.plane in
+      let first = blit.first.placed in
+      let second = blit.second.placed in
+      let source = source_of blit.source in
       let layer = blit_layer p q op.table source tools in
       let colour : (x y : ℕ) → blit_colour op dc x y ≡ paint_at (blit_paint op.table tools) s x y =
       λ x y. ap (λ (m : Modes). cond (uses_pattern op.table) (brush_paint (brush_value_of dc.selected.brush) m.background_mode m.background_colour x y) (Some black_colour)) modes
       ∙ layer_colour (uses_pattern op.table) dc.selected.brush tools s x y brush in
       layer_drawn laws s old new there whole layer
-      (laws.same (blit_paints first second op dc) (writes_pixel layer s) (blit_made first second op source dc) (ink_of layer s) old new there
+      (laws.same (blit_paints blit dc) (writes_pixel layer s) (blit_made blit dc) (ink_of layer s) old new there
       (λ x y held.
       ap (λ (boxes : ClipValue). in_boxes boxes x y && in_box (box_between first second) x y && is_some (blit_colour op dc x y)) clip
       ∙ ap (λ (k : Option Colour). in_boxes (placed_clip s tools.clip) x y && in_box (box_between first second) x y && is_some k) (colour x y)

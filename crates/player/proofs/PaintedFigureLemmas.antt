@@ -5,13 +5,12 @@ use Rattle.std.proofs.lemmas.List.Folds.{flat_map-map}
 use Rattle.mapping.specs.PlaceOf.{surface_of}
 use Rattle.mapping.specs.Surface.{Surface}
 use Rattle.mapping.specs.declared.geometry.Point.{Point}
-use Rattle.mapping.specs.declared.geometry.Rect.{Rect}
-use Rattle.mapping.specs.declared.place.Place.{Place}
 use Rattle.dc_stack.specs.Drawing.{Tools, edge_limit, joined, mark_edges}
-use Rattle.dc_stack.specs.Draws.{IsPlacedDraw, PiecesLandWithin, mark_painted}
+use Rattle.dc_stack.specs.Draws.{IsPlacedDraw, TellsPath, mark_painted}
 use Rattle.dc_stack.specs.Figures.{Figure, all_figures, lists_of_figures, points_of_figures}
 use Rattle.dc_stack.specs.Pieces.{figures_of}
 use Rattle.dc_stack.specs.declared.draw.Draw.TheVariants.{Path}
+use Rattle.dc_stack.specs.declared.draw.PaintedPath.{PaintedPath}
 use Rattle.dc_stack.specs.declared.draw.Painting.{Painting}
 use Rattle.dc_stack.specs.declared.draw.Painting.TheVariants.{Fill, Stroke, StrokeAndFill}
 use Rattle.dc_stack.specs.declared.piece.Piece.{Piece}
@@ -34,27 +33,27 @@ painted_edges Fill figures = ap length (figures_joined figures)
 painted_edges Stroke figures = refl
 painted_edges StrokeAndFill figures = ap length (figures_joined figures)
 
-pub few_painted : (s : Surface) (painting : Painting) (place : Place) (count : ℕ) (bounds : Rect) (pieces : List Piece) → IsPlacedDraw s pieces (Path painting place count bounds) → count ≤ edge_limit
-few_painted s painting place count bounds pieces h =
-    subst (λ (n : ℕ). n ≤ edge_limit) (painted_edges painting (all_figures (figures_of pieces)) ∙ sym h.places.counted) h.few
+pub few_painted : (s : Surface) (path : PaintedPath) (pieces : List Piece) → IsPlacedDraw s pieces (Path path) → path.count ≤ edge_limit
+few_painted s path pieces h =
+    subst (λ (n : ℕ). n ≤ edge_limit) (painted_edges path.painting (all_figures (figures_of pieces)) ∙ sym h.places.counted) h.few
 
 -- the lines of the figures that pieces make, which are lent
-module _ (s : Surface) (place : Place) (count : ℕ) (bounds : Rect) (pieces : List Piece) (placed : PiecesLandWithin s place count bounds pieces) (ends : Ends) (lent : List Piece) (same : lent ≡ pieces) (lines : List Line) (drawn : lines ≡ lines_of_figures ends (placed_figures (surface_of place) (all_figures (figures_of lent)))) where
+module _ (s : Surface) (path : PaintedPath) (pieces : List Piece) (placed : TellsPath s path pieces) (ends : Ends) (lent : List Piece) (same : lent ≡ pieces) (lines : List Line) (drawn : lines ≡ lines_of_figures ends (placed_figures (surface_of path.place) (all_figures (figures_of lent)))) where
   pub lines_are : lines ≡ lines_of_figures ends (placed_figures s (all_figures (figures_of pieces)))
   lines_are =
       drawn
-      ∙ ap (λ (ps : List Piece). lines_of_figures ends (placed_figures (surface_of place) (all_figures (figures_of ps)))) same
+      ∙ ap (λ (ps : List Piece). lines_of_figures ends (placed_figures (surface_of path.place) (all_figures (figures_of ps)))) same
       ∙ ap (λ (r : Surface). lines_of_figures ends (placed_figures r (all_figures (figures_of pieces)))) placed.surface
 
-  pub lines_few : length lines ≤ count
+  pub lines_few : length lines ≤ path.count
   lines_few =
       let few = figure_lines_few s ends (all_figures (figures_of pieces)) in
       let all = ap length lines_are in
       let counted = placed.counted in
       omega (arith, few, all, counted)
 
-  pub lines_lie : All (LiesBetween bounds.t bounds.b) lines
-  lines_lie = subst (All (LiesBetween bounds.t bounds.b)) (sym lines_are) (figure_lines_lie s bounds ends (all_figures (figures_of pieces)) placed.inside)
+  pub lines_lie : All (LiesBetween path.bounds.t path.bounds.b) lines
+  lines_lie = subst (All (LiesBetween path.bounds.t path.bounds.b)) (sym lines_are) (figure_lines_lie s path.bounds ends (all_figures (figures_of pieces)) placed.inside)
 
 -- what a painting strokes
 abbrev pub stroked_shape : Ends → List Figure → Shape

@@ -2,11 +2,10 @@
 use Rattle.std.specs.Prelude.{◌≡◌, ◌≤◌, ◌<◌, ℕ, pos, ◌+ℤ◌, Bool, ◌&&◌, List, slice_index_or, if◌then◌else◌, Option, Some, None, is_some}
 use Rattle.mapping.specs.Colours.{black_colour}
 use Rattle.mapping.specs.declared.geometry.Colour.{Colour}
-use Rattle.mapping.specs.declared.geometry.Point.{Point}
 use Rattle.mapping.specs.declared.geometry.Rect.{Rect}
 use Rattle.dib_views.specs.PictureOf.{picture_of}
 use Rattle.dib_views.specs.Pictures.{picture_colour}
-use Rattle.draw_ops.specs.Blits.{SourceValue}
+use Rattle.draw_ops.specs.Blits.{source_of}
 use Rattle.draw_ops.specs.Objects.{brush_value_of}
 use Rattle.draw_ops.specs.declared.ternary_op.TernaryOp.{TernaryOp}
 use Rattle.raster_ops.specs.Bytes.{HasBytes}
@@ -18,6 +17,7 @@ use Rattle.raster_ops.specs.declared.sources.SourceReader.{SourceReader}
 use Rattle.dc_stack.specs.Clip.{box_between, in_box, in_boxes}
 use Rattle.dc_stack.specs.Values.{placed_value}
 use Rattle.dc_stack.specs.declared.dc.Dc.{Dc}
+use Rattle.dc_stack.specs.declared.draw.PlacedBlit.{PlacedBlit}
 use Rattle.span_fill.specs.declared.span.Span.{Span}
 use Rattle.player.specs.declared.paint.Paint.{Paint}
 use Rattle.player.specs.declared.raster_operation.RasterOperation.TheVariants.{Ternary}
@@ -49,9 +49,9 @@ blit_colour operation dc x y =
     else Some black_colour
 
 -- the pixel is one of the box, the clip has it, and the brush doesn't give nothing
-abbrev pub blit_paints : Point → Point → TernaryOp → Dc → ℕ → ℕ → Bool
-blit_paints first second operation dc x y =
-    in_boxes (placed_value dc.clip) x y && in_box (box_between first second) x y && is_some (blit_colour operation dc x y)
+abbrev pub blit_paints : PlacedBlit → Dc → ℕ → ℕ → Bool
+blit_paints blit dc x y =
+    in_boxes (placed_value dc.clip) x y && in_box (box_between blit.first.placed blit.second.placed) x y && is_some (blit_colour blit.operation dc x y)
 
 -- what the operation makes of the old colour, where the brush gives one
 abbrev pub blit_joined : TernaryOp → Colour → Option Colour → Colour → Colour
@@ -59,5 +59,6 @@ blit_joined operation source None old = old
 blit_joined operation source (Some paint) old = ternary_colour operation.table paint source old
 
 -- and becomes this
-abbrev pub blit_made : Point → Point → TernaryOp → Option SourceValue → Dc → ℕ → ℕ → Colour → Colour
-blit_made first second operation source dc x y old = blit_joined operation (source_colour source first second x y) (blit_colour operation dc x y) old
+abbrev pub blit_made : PlacedBlit → Dc → ℕ → ℕ → Colour → Colour
+blit_made blit dc x y old =
+    blit_joined blit.operation (source_colour (source_of blit.source) blit.first.placed blit.second.placed x y) (blit_colour blit.operation dc x y) old

@@ -28,9 +28,9 @@ use crate::regions::{common, visible, whole_law};
 use crate::row_ink::RowInk;
 use crate::strips::put_uncut;
 use canvas::{Canvas, writing_law};
-use dc_stack::Dc;
-use draw_ops::{BlitSource, TernaryOp};
-use mapping::{Colour, Mix, Point, Rect};
+use dc_stack::{Dc, PlacedBlit};
+use draw_ops::TernaryOp;
+use mapping::{Colour, Mix, Rect};
 use raster_ops::{
     BrushRow, SourceReader, TernaryMixer, copy_law, dependence_law, gather_pattern, uses_source,
 };
@@ -39,35 +39,29 @@ use span_fill::Span;
 /// The table of the operation that copies the source, whatever the pattern and the colour that is there are.
 const SRCCOPY: u8 = 0xcc;
 
-/// Paints the box between two placed corners by a ternary raster operation, with the brush and under the clip of
-/// the moment. Where the operation depends on the source, there is something to read.
-pub(crate) fn blit(
-    first: Point,
-    second: Point,
-    operation: TernaryOp,
-    source: &BlitSource<'_>,
-    dc: &Dc<'_>,
-    room: &mut InkRoom,
-    canvas: &mut Canvas,
-)
+/// Paints the box of a blit, with the brush and under the clip of the moment. Where the operation depends on the
+/// source, there is something to read.
+pub(crate) fn blit(asked: &PlacedBlit<'_>, dc: &Dc<'_>, room: &mut InkRoom, canvas: &mut Canvas)
     requires first { canvas.old.first ≡ 0 }
     requires countable { canvas.old.writes + 2 ^ 27 < 2 ^ 64 }
-    requires near { FitsPlace first }
-    requires far { FitsPlace second }
-    requires readable { uses_source operation.table ≡ true → is_readable (source_of source.now) ≡ true }
-    ensures pixels { Repaints (blit_paints first second operation dc.now) (blit_made first second operation (source_of source.now) dc.now) canvas.old canvas.new }
+    requires near { FitsPlace asked.now.first.placed }
+    requires far { FitsPlace asked.now.second.placed }
+    requires readable { uses_source asked.now.operation.table ≡ true → is_readable (source_of asked.now.source) ≡ true }
+    ensures pixels { Repaints (blit_paints asked.now dc.now) (blit_made asked.now dc.now) canvas.old canvas.new }
     ensures few { canvas.new.writes ≤ canvas.old.writes + 2 ^ 26 }
 {
     writing_law();
     whole_law(canvas);
     dependence_law();
+    let (first, second) = (asked.first.placed, asked.second.placed);
+    let operation = asked.operation;
     let inside = between(first, second);
     if !uses_source(operation) {
         let paint = Paint::of_blit(operation, None, dc);
         fill_box(canvas, inside, &paint, room);
         return;
     }
-    let Some(reader) = SourceReader::new(source, first, second) else {
+    let Some(reader) = SourceReader::new(&asked.source, first, second) else {
         return;
     };
     let paint = Paint::of_blit(operation, Some(reader), dc);

@@ -92,17 +92,12 @@ fn fill<'a, T: Table<'a>>(
             let inside = rectangle_box(first.placed, second.placed, edges);
             fill_box(canvas, inside, &paint, room);
         }
-        Draw::Path {
-            painting,
-            place,
-            count,
-            bounds,
-        } => return fill_figures(painting, place, count, bounds, machine, rows, room, canvas),
+        Draw::Path(path) => return fill_figures(path, machine, rows, room, canvas),
         Draw::Dot { .. }
         | Draw::Line { .. }
         | Draw::LinesFrom { .. }
         | Draw::Polylines { .. }
-        | Draw::Blit { .. } => {}
+        | Draw::Blit(_) => {}
     }
     Ok(())
 }
@@ -131,22 +126,8 @@ fn stroke<'a, T: Table<'a>>(
         put(at.placed, colour, &dc.clip, canvas);
         return Ok(());
     }
-    if let Draw::Blit {
-        first,
-        second,
-        operation,
-        source,
-    } = drawn
-    {
-        blit(
-            first.placed,
-            second.placed,
-            operation,
-            &source,
-            dc,
-            room,
-            canvas,
-        );
+    if let Draw::Blit(asked) = drawn {
+        blit(&asked, dc, room, canvas);
         return Ok(());
     }
     let Pen::Solid { colour } = dc.selected.pen else {
@@ -178,7 +159,7 @@ fn stroke_outline<'a, T: Table<'a>>(
     let dc = machine.dc();
     let paint = Paint::with(Brush::Solid(colour), dc);
     match drawn {
-        Draw::Dot { .. } | Draw::Blit { .. } => {}
+        Draw::Dot { .. } | Draw::Blit(_) => {}
         Draw::Line { from, to } => {
             let line = Line {
                 from: from.placed,
@@ -215,14 +196,7 @@ fn stroke_outline<'a, T: Table<'a>>(
             rows.reserve(4)?;
             stroke_box(canvas, rows, inside, &paint, colour);
         }
-        Draw::Path {
-            painting,
-            place,
-            count,
-            bounds,
-        } => return stroke_figures(
-            painting, place, count, bounds, colour, machine, rows, canvas,
-        ),
+        Draw::Path(path) => return stroke_figures(path, colour, machine, rows, canvas),
     }
     Ok(())
 }

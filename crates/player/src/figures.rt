@@ -2,7 +2,7 @@
 
 ghost use Rattle.std.specs.Prelude.{◌≡◌, ◌+◌, ◌<◌, ◌≤◌, ◌^◌, OnErr, OnOk};
 ghost use Rattle.draw_ops.specs.declared.objects.Pen.TheVariants.{Solid};
-ghost use Rattle.dc_stack.specs.Draws.{PiecesLandWithin, mark_painted};
+ghost use Rattle.dc_stack.specs.Draws.{TellsPath, mark_painted};
 ghost use Rattle.dc_stack.specs.Drawing.{edge_limit, tools_of};
 ghost use Rattle.dc_stack.specs.Figures.{all_figures};
 ghost use Rattle.dc_stack.specs.Pieces.{figures_of};
@@ -18,18 +18,15 @@ use crate::piece_lines::PieceLines;
 use crate::regions::whole_law;
 use crate::stroking::stroke_lines;
 use canvas::{Canvas, writing_law};
-use dc_stack::{Machine, Painting};
+use dc_stack::{Machine, PaintedPath, Painting};
 use draw_ops::Brush;
-use mapping::{Colour, Place, Rect};
+use mapping::Colour;
 use object_tables::Table;
 use span_fill::{OutOfMemory, RowBuf};
 
 /// Fills what is inside of the figures, if the painting fills and the brush paints.
 pub(crate) fn fill_figures<'a, T: Table<'a>>(
-    painting: Painting,
-    place: Place,
-    count: u32,
-    bounds: Rect,
+    path: PaintedPath,
     machine: &Machine<'a, T>,
     rows: &mut RowBuf,
     room: &mut InkRoom,
@@ -37,9 +34,9 @@ pub(crate) fn fill_figures<'a, T: Table<'a>>(
 ) -> Result<(), OutOfMemory>
     requires whole { IsWhole canvas.old machine.now.surface }
     requires countable { canvas.old.writes + 2 ^ 27 < 2 ^ 64 }
-    requires placed { PiecesLandWithin machine.now.surface place count bounds machine.now.painted }
-    requires lines { count ≤ edge_limit }
-    ensures drawn { OnOk result (DrawsLayers (fills_of (mark_painted painting (all_figures (figures_of machine.now.painted))) (tools_of machine.now.state.dc)) machine.now.surface canvas.old canvas.new) }
+    requires placed { TellsPath machine.now.surface path machine.now.painted }
+    requires lines { path.count ≤ edge_limit }
+    ensures drawn { OnOk result (DrawsLayers (fills_of (mark_painted path.painting (all_figures (figures_of machine.now.painted))) (tools_of machine.now.state.dc)) machine.now.surface canvas.old canvas.new) }
     ensures memory { OnErr result (rows.old.room < edge_limit) }
     ensures rows { SameRows canvas.old canvas.new }
     ensures few { canvas.new.writes ≤ canvas.old.writes + 2 ^ 26 }
@@ -51,24 +48,21 @@ pub(crate) fn fill_figures<'a, T: Table<'a>>(
     if let Brush::Null = dc.selected.brush {
         return Ok(());
     }
-    if let Painting::Stroke = painting {
+    if let Painting::Stroke = path.painting {
         return Ok(());
     }
-    rows.reserve(count as usize)?;
-    let outline = PieceLines::new(place, Ends::Closed, machine.painted());
+    rows.reserve(path.count as usize)?;
+    let outline = PieceLines::new(path.place, Ends::Closed, machine.painted());
     let paint = Paint::with(dc.selected.brush, dc);
     let rule = rule_of(dc.modes.fill_mode);
-    fill_lines(canvas, rows, outline, rule, bounds, &paint, room);
+    fill_lines(canvas, rows, outline, rule, path.bounds, &paint, room);
     Ok(())
 }
 
 /// Strokes the lines of the figures in the colour of the pen, if the painting strokes: every figure is
 /// closed where it fills them, too.
 pub(crate) fn stroke_figures<'a, T: Table<'a>>(
-    painting: Painting,
-    place: Place,
-    count: u32,
-    bounds: Rect,
+    path: PaintedPath,
     colour: Colour,
     machine: &Machine<'a, T>,
     rows: &mut RowBuf,
@@ -76,10 +70,10 @@ pub(crate) fn stroke_figures<'a, T: Table<'a>>(
 ) -> Result<(), OutOfMemory>
     requires whole { IsWhole canvas.old machine.now.surface }
     requires countable { canvas.old.writes + 2 ^ 27 < 2 ^ 64 }
-    requires placed { PiecesLandWithin machine.now.surface place count bounds machine.now.painted }
-    requires lines { count ≤ edge_limit }
+    requires placed { TellsPath machine.now.surface path machine.now.painted }
+    requires lines { path.count ≤ edge_limit }
     requires pen { machine.now.state.dc.selected.pen.object ≡ Solid colour }
-    ensures drawn { OnOk result (DrawsLayers (outlines_of (mark_painted painting (all_figures (figures_of machine.now.painted))) (tools_of machine.now.state.dc)) machine.now.surface canvas.old canvas.new) }
+    ensures drawn { OnOk result (DrawsLayers (outlines_of (mark_painted path.painting (all_figures (figures_of machine.now.painted))) (tools_of machine.now.state.dc)) machine.now.surface canvas.old canvas.new) }
     ensures memory { OnErr result (rows.old.room < edge_limit) }
     ensures rows { SameRows canvas.old canvas.new }
     ensures few { canvas.new.writes ≤ canvas.old.writes + 2 ^ 26 }
@@ -87,13 +81,13 @@ pub(crate) fn stroke_figures<'a, T: Table<'a>>(
 {
     writing_law();
     whole_law(canvas);
-    let Some(ends) = stroked_ends(painting) else {
+    let Some(ends) = stroked_ends(path.painting) else {
         return Ok(());
     };
-    rows.reserve(count as usize)?;
-    let outline = PieceLines::new(place, ends, machine.painted());
+    rows.reserve(path.count as usize)?;
+    let outline = PieceLines::new(path.place, ends, machine.painted());
     let paint = Paint::with(Brush::Solid(colour), machine.dc());
-    stroke_lines(canvas, rows, outline, bounds, &paint, colour);
+    stroke_lines(canvas, rows, outline, path.bounds, &paint, colour);
     Ok(())
 }
 

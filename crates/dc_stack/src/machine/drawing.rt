@@ -14,7 +14,7 @@ ghost use Rattle.dc_stack.specs.Mapped.{left_top, mapped_lists, right_bottom};
 ghost use Rattle.dc_stack.specs.Next.{end_of};
 ghost use Rattle.dc_stack.specs.OperationFault.{source_fault};
 
-use crate::draw::Draw;
+use crate::draw::{Draw, PlacedBlit};
 use crate::machine::Machine;
 use crate::piece::{Joining, PiecePoints};
 use crate::placing::{
@@ -48,12 +48,12 @@ impl<'a, T: Table<'a>> Machine<'a, T> {
             return Err(fault);
         }
         match land_blit(&self.dc.map, self.place, &asked) {
-            Ok((first, second)) => Ok(Some(Draw::Blit {
+            Ok((first, second)) => Ok(Some(Draw::Blit(PlacedBlit {
                 first,
                 second,
                 operation: asked.operation,
                 source: asked.source,
-            })),
+            }))),
             Err(fault) => Err(fault),
         }
     }

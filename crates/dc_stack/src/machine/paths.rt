@@ -3,7 +3,7 @@
 ghost use Rattle.draw_ops.specs.Operation.{abort_path, begin_path, close_figure, end_path, move_to};
 ghost use Rattle.dc_stack.specs.MachineState.{GoesOn, Plays, painting_operation};
 
-use crate::draw::{Draw, Painting};
+use crate::draw::{Draw, PaintedPath, Painting};
 use crate::machine::Machine;
 use draw_ops::Fault;
 use mapping::Point;
@@ -80,11 +80,11 @@ impl<'a, T: Table<'a>> Machine<'a, T> {
         let bounds = self.path.bounds;
         self.needs.raise_edges(count);
         self.path.lend();
-        Ok(Some(Draw::Path {
+        Ok(Some(Draw::Path(PaintedPath {
             painting,
             place: self.place,
             count,
             bounds,
-        }))
+        })))
     }
 }

@@ -1,7 +1,6 @@
 use Rattle.std.proofs.Common.{◌≡◌, Option, ap, false, sym, ◌∙◌}
 use Rattle.mapping.specs.declared.geometry.Colour.{Colour}
 use Rattle.mapping.specs.declared.geometry.Rect.{Rect}
-use Rattle.draw_ops.specs.Blits.{source_of}
 use Rattle.raster_ops.specs.TernaryOps.{ternary_colour, uses_source}
 use Rattle.raster_ops.specs.declared.sources.SourceReader.{SourceReader}
 use Rattle.player.specs.Painted.{colour_seen}
@@ -10,18 +9,18 @@ use Rattle.player.proofs.blits.blit.Goals as goal
 
 pub returns-then-not-uses_source-clause-pixels : goal.returns-then-not-uses_source-clause-pixels
 returns-then-not-uses_source-clause-pixels c =
-    let op = c.args.operation in
+    let op = c.args.asked.now.operation in
     let paint = c.of_blit-paint.ensures in
     let none : uses_source op.table ≡ false = sym c.if-not-uses_source.ensures in
-    blit_painted c.writing_law.ensures c.of_blit-paint.result c.args.dc.now op c.args.first c.args.second c.between-inside.result (source_of c.args.source.now) c.args.canvas.now c.fill_box.new.canvas c.whole_law.ensures
+    blit_painted c.writing_law.ensures c.of_blit-paint.result c.args.dc.now c.args.asked.now c.between-inside.result c.args.canvas.now c.fill_box.new.canvas c.whole_law.ensures
     paint.brush paint.modes paint.operation paint.clip c.between-inside.ensures.value
     (λ x y p old. c.dependence_law.ensures.source op.table p _ _ old none)
     c.fill_box.ensures.pixels
 
 pub blit_box-requires-clause-reads : goal.blit_box-requires-clause-reads
 blit_box-requires-clause-reads c =
-    let first = c.args.first in
-    let second = c.args.second in
+    let first = c.args.asked.now.first.placed in
+    let second = c.args.asked.now.second.placed in
     let reader = c.in-Some.ensures in
     let inside = c.between-inside.ensures.value in
     record {
@@ -33,9 +32,9 @@ blit_box-requires-clause-reads c =
 
 pub returns-clause-pixels : goal.returns-clause-pixels
 returns-clause-pixels c =
-    let op = c.args.operation in
+    let op = c.args.asked.now.operation in
     let paint = c.of_blit-paint-2.ensures in
-    blit_painted c.writing_law.ensures c.of_blit-paint-2.result c.args.dc.now op c.args.first c.args.second c.between-inside.result (source_of c.args.source.now) c.args.canvas.now c.blit_box.new.canvas c.whole_law.ensures
+    blit_painted c.writing_law.ensures c.of_blit-paint-2.result c.args.dc.now c.args.asked.now c.between-inside.result c.args.canvas.now c.blit_box.new.canvas c.whole_law.ensures
     paint.brush paint.modes paint.operation paint.clip c.between-inside.ensures.value
     (λ x y p old.
     ap (λ (source : Colour). ternary_colour op.table p source old)

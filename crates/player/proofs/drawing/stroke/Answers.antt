@@ -1,6 +1,5 @@
 use Rattle.std.proofs.Common.{ap, arith, refl, subst, sym}
 use Rattle.mapping.specs.Surface.{FitsPlace}
-use Rattle.draw_ops.specs.Blits.{source_of}
 use Rattle.dc_stack.specs.Drawing.{tools_of}
 use Rattle.dc_stack.specs.State.{DcValue}
 use Rattle.player.proofs.LandingLemmas.{landed_fits, two_land}
@@ -23,12 +22,14 @@ pub blit-requires : goal.blit-requires
 blit-requires g c =
     let s = c.args.machine.now.surface in
     let placed = rw c.in-Blit.is at c.requires.placed in
-    let both = two_land s c.in-Blit.first.plane c.in-Blit.second.plane placed.within in
+    let first = c.in-Blit.asked.first in
+    let second = c.in-Blit.asked.second in
+    let both = two_land s first.plane second.plane placed.within in
     record {
       first = c.requires.whole.first;
       countable = c.requires.countable;
-      near = subst FitsPlace (sym placed.places.first_lands) (landed_fits s c.in-Blit.first.plane both.0);
-      far = subst FitsPlace (sym placed.places.second_lands) (landed_fits s c.in-Blit.second.plane both.1);
+      near = subst FitsPlace (sym placed.places.first) (landed_fits s first.plane both.0);
+      far = subst FitsPlace (sym placed.places.second) (landed_fits s second.plane both.1);
       readable = placed.places.readable;
     }
 
@@ -36,15 +37,13 @@ pub returns-in-Blit : goal.returns-in-Blit
 returns-in-Blit g c =
     let s = c.args.machine.now.surface in
     let state = c.args.machine.now.state.dc in
-    let first = c.in-Blit.first in
-    let second = c.in-Blit.second in
     let placed = rw c.in-Blit.is at c.requires.placed in
     let dc = c.dc-dc.result.now in
     let value = c.dc-dc.ensures.value in
     let brush = ap (λ (d : DcValue). d.selected.brush.object) value in
     let modes = ap (λ (d : DcValue). d.modes) value in
     let clip = clip_placed s dc.clip dc state refl value c.dc-dc.ensures.placed in
-    let drawn = blit_drawn c.writing_law.ensures s c.args.canvas.now c.blit.new.canvas c.whole_law.ensures c.requires.whole dc (tools_of state) c.in-Blit.operation first.plane second.plane first.placed second.placed (source_of c.in-Blit.source) brush modes clip placed.places.first_lands placed.places.second_lands c.blit.ensures.pixels in
+    let drawn = blit_drawn c.writing_law.ensures s c.args.canvas.now c.blit.new.canvas c.whole_law.ensures c.requires.whole dc (tools_of state) c.in-Blit.asked brush modes clip placed.places.first placed.places.second c.blit.ensures.pixels in
     record {
       drawn = rw c.in-Blit.is drawn;
       memory = tt;

@@ -256,8 +256,7 @@ returns-in_ok-reserve-in-Rectangle-clause-drawn g c =
 
 pub stroke_figures-requires : goal.stroke_figures-requires
 stroke_figures-requires g c =
-    let path = c.in-Path in
-    let drawn = rw path.is at c.requires.placed in
-    let few = few_painted c.args.machine.now.surface path.painting path.place path.count path.bounds c.args.machine.now.painted drawn in
+    let drawn = rw c.in-Path.is at c.requires.placed in
+    let few = few_painted c.args.machine.now.surface c.in-Path.path c.args.machine.now.painted drawn in
     let places = drawn.places in
     search (places, few, rules)

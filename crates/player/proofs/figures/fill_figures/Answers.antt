@@ -20,13 +20,13 @@ reserve-requires g c = c.requires.lines
 pub fill_lines-requires-clause-room : goal.fill_lines-requires-clause-room
 fill_lines-requires-clause-room g c =
     let s = c.args.machine.now.surface in
-    let few = lines_few s c.args.place c.args.count c.args.bounds c.args.machine.now.painted c.requires.placed Closed c.painted.result.now c.painted.ensures (piece_lines_left c.new-outline.result) c.new-outline.ensures in
+    let few = lines_few s c.args.path c.args.machine.now.painted c.requires.placed Closed c.painted.result.now c.painted.ensures (piece_lines_left c.new-outline.result) c.new-outline.ensures in
     let room = c.in_ok-reserve.ensures.ok in
     omega (arith, few, room)
 
 pub fill_lines-requires-clause-bounds : goal.fill_lines-requires-clause-bounds
 fill_lines-requires-clause-bounds g c =
-    lines_lie c.args.machine.now.surface c.args.place c.args.count c.args.bounds c.args.machine.now.painted c.requires.placed Closed c.painted.result.now c.painted.ensures (piece_lines_left c.new-outline.result) c.new-outline.ensures
+    lines_lie c.args.machine.now.surface c.args.path c.args.machine.now.painted c.requires.placed Closed c.painted.result.now c.painted.ensures (piece_lines_left c.new-outline.result) c.new-outline.ensures
 
 pub returns-clause-drawn : goal.returns-clause-drawn
 returns-clause-drawn g c =
@@ -42,7 +42,7 @@ returns-clause-drawn g c =
     let clip = clip_placed s paint.clip.now dc state c.with-paint.ensures.clip value c.dc-dc.ensures.placed in
     let brush = ap (λ (d : DcValue). d.selected.brush.object) value in
     let shape = inside_polygons tools.modes.fill_mode (lists_of_figures figures) in
-    let lines = lines_are s c.args.place c.args.count c.args.bounds c.args.machine.now.painted c.requires.placed Closed c.painted.result.now c.painted.ensures (piece_lines_left c.new-outline.result) c.new-outline.ensures ∙ closed_figure_lines s figures in
+    let lines = lines_are s c.args.path c.args.machine.now.painted c.requires.placed Closed c.painted.result.now c.painted.ensures (piece_lines_left c.new-outline.result) c.new-outline.ensures ∙ closed_figure_lines s figures in
     let rule = c.rule_of-rule.ensures ∙ ap (λ (d : DcValue). fill_rule_of d.modes.fill_mode) value in
     let drawn = brush_drawn c.writing_law.ensures s c.args.canvas.now c.fill_lines.new.canvas c.whole_law.ensures c.requires.whole paint tools modes operation clip _ shape (ap brush_value_of c.with-paint.ensures.brush ∙ brush) (λ x y. rw (rule, lines) refl) c.fill_lines.ensures.pixels in
-    rw (fills_figures c.args.painting figures tools c.in_default-painting.not-Stroke, brush_fills dc.selected.brush shape tools c.in_default.not-Null brush) drawn
+    rw (fills_figures c.args.path.painting figures tools c.in_default-painting.not-Stroke, brush_fills dc.selected.brush shape tools c.in_default.not-Null brush) drawn

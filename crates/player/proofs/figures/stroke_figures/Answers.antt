@@ -19,13 +19,13 @@ reserve-requires g c = c.requires.lines
 pub stroke_lines-requires-clause-room : goal.stroke_lines-requires-clause-room
 stroke_lines-requires-clause-room g c =
     let s = c.args.machine.now.surface in
-    let few = lines_few s c.args.place c.args.count c.args.bounds c.args.machine.now.painted c.requires.placed c.in-Some.ends c.painted.result.now c.painted.ensures (piece_lines_left c.new-outline.result) c.new-outline.ensures in
+    let few = lines_few s c.args.path c.args.machine.now.painted c.requires.placed c.in-Some.ends c.painted.result.now c.painted.ensures (piece_lines_left c.new-outline.result) c.new-outline.ensures in
     let room = c.in_ok-reserve.ensures.ok in
     omega (arith, few, room)
 
 pub stroke_lines-requires-clause-bounds : goal.stroke_lines-requires-clause-bounds
 stroke_lines-requires-clause-bounds g c =
-    lines_lie c.args.machine.now.surface c.args.place c.args.count c.args.bounds c.args.machine.now.painted c.requires.placed c.in-Some.ends c.painted.result.now c.painted.ensures (piece_lines_left c.new-outline.result) c.new-outline.ensures
+    lines_lie c.args.machine.now.surface c.args.path c.args.machine.now.painted c.requires.placed c.in-Some.ends c.painted.result.now c.painted.ensures (piece_lines_left c.new-outline.result) c.new-outline.ensures
 
 pub returns-clause-drawn : goal.returns-clause-drawn
 returns-clause-drawn g c =
@@ -41,7 +41,7 @@ returns-clause-drawn g c =
     let operation = c.with-paint.ensures.operation ∙ ap (λ (d : DcValue). Binary d.modes.raster_op) value in
     let clip = clip_placed s paint.clip.now dc state c.with-paint.ensures.clip value c.dc.ensures.placed in
     let shape = stroked_shape ends figures in
-    let lines = lines_are s c.args.place c.args.count c.args.bounds c.args.machine.now.painted c.requires.placed ends c.painted.result.now c.painted.ensures (piece_lines_left c.new-outline.result) c.new-outline.ensures in
-    let asked : stroked_ends c.args.painting ≡ Some ends = search rules in
+    let lines = lines_are s c.args.path c.args.machine.now.painted c.requires.placed ends c.painted.result.now c.painted.ensures (piece_lines_left c.new-outline.result) c.new-outline.ensures in
+    let asked : stroked_ends c.args.path.painting ≡ Some ends = search rules in
     let drawn = pen_drawn c.writing_law.ensures s c.args.canvas.now c.stroke_lines.new.canvas c.whole_law.ensures c.requires.whole paint tools modes operation clip _ shape c.args.colour c.with-paint.ensures.brush (λ x y. ap (λ (list : List Line). in_stroke list x y) lines ∙ stroked_lines s ends figures x y) c.stroke_lines.ensures.pixels in
-    rw (strokes_figures c.args.painting ends figures tools asked, pen_strokes shape tools c.args.colour c.requires.pen) drawn
+    rw (strokes_figures c.args.path.painting ends figures tools asked, pen_strokes shape tools c.args.colour c.requires.pen) drawn

@@ -25,7 +25,7 @@ returns-clause-plays g c =
             stepped = record { no_fault = rw none (sym lands); state = refl; needs = search rules };
             drawn = rw (first.plane, second.plane) refl;
             placed = record {
-              places = record { first_lands = first.placed; second_lands = second.placed; readable = readable asked.operation.table (source_of asked.source) none };
+              places = record { first = first.placed; second = second.placed; readable = readable asked.operation.table (source_of asked.source) none };
               within = rw (first.plane, second.plane) (all_land s corners lands);
               few = never_too_many 0 (omega arith);
             };
