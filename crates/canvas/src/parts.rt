@@ -95,30 +95,33 @@ pub(crate) fn mix_all(part: &mut [Colour], mix: Mix)
     }
 }
 
-/// Changes each colour by the mix at its place. All but the last few go by eights, whose size the compiler
+/// Changes each colour by the mix at its place, of what is kept and what is flipped. All but the last few go by eights, whose size the compiler
 /// knows and which are read before any is written: it then mixes many at once, in a third of the time that a
 /// colour at a time takes.
-pub(crate) fn mix_each(part: &mut [Colour], mixes: &[Mix])
-    requires { length mixes.now ≡ length part.old }
-    ensures { (k : ℕ) (d : Colour) → k < length part.old → slice_index_or part.new k d ≡ mixed_by (mix_at mixes.now k) (slice_index_or part.old k d) }
+pub(crate) fn mix_each(part: &mut [Colour], keeps: &[Colour], flips: &[Colour])
+    requires keeps { length keeps.now ≡ length part.old }
+    requires flips { length flips.now ≡ length part.old }
+    ensures { (k : ℕ) (d : Colour) → k < length part.old → slice_index_or part.new k d ≡ mixed_by (mix_at keeps.now flips.now k) (slice_index_or part.old k d) }
 {
-    let done = mix_eights(part, mixes);
+    let done = mix_eights(part, keeps, flips);
     for k in done..part.len() {
-        part[k] = mixes[k].apply(part[k]);
+        let (keep, flip) = (keeps[k], flips[k]);
+        part[k] = Mix { keep, flip }.apply(part[k]);
     }
 }
 
 /// Changes as many of the colours as whole eights take, each by the mix at its place, and tells how many
 /// that is.
-fn mix_eights(part: &mut [Colour], mixes: &[Mix]) -> usize
-    requires { length mixes.now ≡ length part.old }
+fn mix_eights(part: &mut [Colour], keeps: &[Colour], flips: &[Colour]) -> usize
+    requires keeps { length keeps.now ≡ length part.old }
+    requires flips { length flips.now ≡ length part.old }
     ensures eights { result ≡ length part.old - length part.old % 8 }
-    ensures mixed { (k : ℕ) (d : Colour) → k < result → slice_index_or part.new k d ≡ mixed_by (mix_at mixes.now k) (slice_index_or part.old k d) }
+    ensures mixed { (k : ℕ) (d : Colour) → k < result → slice_index_or part.new k d ≡ mixed_by (mix_at keeps.now flips.now k) (slice_index_or part.old k d) }
     ensures left { (k : ℕ) (d : Colour) → result ≤ k → slice_index_or part.new k d ≡ slice_index_or part.old k d }
 {
     let mut done = 0;
     while done + PERIOD <= part.len() {
-        let colours = mixed_eight(part, mixes, done);
+        let colours = mixed_eight(part, keeps, flips, done);
         copy_at(part, done, &colours);
         done += PERIOD;
     }
@@ -126,14 +129,16 @@ fn mix_eights(part: &mut [Colour], mixes: &[Mix]) -> usize
 }
 
 /// What the mixes make of the eight colours at this place.
-fn mixed_eight(part: &[Colour], mixes: &[Mix], at: usize) -> [Colour; 8]
+fn mixed_eight(part: &[Colour], keeps: &[Colour], flips: &[Colour], at: usize) -> [Colour; 8]
     requires colours { at + 8 ≤ length part.now }
-    requires mixes { at + 8 ≤ length mixes.now }
-    ensures { (k : ℕ) (d : Colour) → k < 8 → slice_index_or result k d ≡ mixed_by (mix_at mixes.now (at + k)) (slice_index_or part.now (at + k) d) }
+    requires keeps { at + 8 ≤ length keeps.now }
+    requires flips { at + 8 ≤ length flips.now }
+    ensures { (k : ℕ) (d : Colour) → k < 8 → slice_index_or result k d ≡ mixed_by (mix_at keeps.now flips.now (at + k)) (slice_index_or part.now (at + k) d) }
 {
     let mut colours = [part[at]; PERIOD];
     for k in 0..PERIOD {
-        colours[k] = mixes[at + k].apply(part[at + k]);
+        let (keep, flip) = (keeps[at + k], flips[at + k]);
+        colours[k] = Mix { keep, flip }.apply(part[at + k]);
     }
     colours
 }

@@ -72,18 +72,19 @@ impl Canvas {
     }
 
     /// Changes the pixels of row `y` from column `x_from` on, each by the mix at its place: as many as there
-    /// are mixes.
-    pub fn mix_row(&mut self, x_from: u32, y: u32, mixes: &[Mix])
-        requires width { x_from + length mixes.now ≤ self.old.width }
+    /// are mixes. What these keep and what they flip stand in rows of their own.
+    pub fn mix_row(&mut self, x_from: u32, y: u32, keeps: &[Colour], flips: &[Colour])
+        requires mixes { length flips.now ≡ length keeps.now }
+        requires width { x_from + length keeps.now ≤ self.old.width }
         requires row { HasRow self.old y }
-        requires countable { self.old.writes + length mixes.now < 2 ^ 64 }
-        ensures pixels { Repaints (in_span y x_from (x_from + length mixes.now)) (λ column row old. mixed_by (mix_at mixes.now (column - x_from)) old) self.old self.new }
-        ensures count { self.new.writes ≡ self.old.writes + length mixes.now }
+        requires countable { self.old.writes + length keeps.now < 2 ^ 64 }
+        ensures pixels { Repaints (in_span y x_from (x_from + length keeps.now)) (λ column row old. mixed_by (mix_at keeps.now flips.now (column - x_from)) old) self.old self.new }
+        ensures count { self.new.writes ≡ self.old.writes + length keeps.now }
     {
         let start = place(self.width, y - self.first, x_from);
-        let end = start + mixes.len();
-        mix_each(&mut self.colours[start..end], mixes);
-        self.writes += mixes.len() as u64;
+        let end = start + keeps.len();
+        mix_each(&mut self.colours[start..end], keeps, flips);
+        self.writes += keeps.len() as u64;
     }
 
     /// Changes those pixels of row `y` in the columns from `x_from` up to and without `x_to` whose column

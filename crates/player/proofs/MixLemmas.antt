@@ -4,12 +4,13 @@ use Rattle.std.proofs.lemmas.List.{get_or-take, get_or-drop, length-take-le, len
 use Rattle.std.proofs.lemmas.Bool.{and_parts, and_right, eqb-true, leb-true, ltb-true, le-leb, lt-leb, lt-ltb, le-ltb, false_from_ne_true, cases_lt}
 use Rattle.std.proofs.lemmas.Option.{same_Some, slice_get-get_or}
 use Rattle.std.proofs.Math.Bool.{and-true}
+use Rattle.mapping.specs.Colours.{black_colour, white_colour}
 use Rattle.mapping.specs.declared.mix.Mix.{Mix}
 use Rattle.mapping.specs.declared.geometry.Colour.{Colour}
 use Rattle.mapping.specs.Mixes.{mixed_by}
 use Rattle.mapping.specs.Pixels.{is_cell}
 use Rattle.canvas.specs.CanvasState.{CanvasState, HasRow}
-use Rattle.canvas.specs.MixRows.{mix_at, unchanged}
+use Rattle.canvas.specs.MixRows.{mix_at}
 use Rattle.canvas.specs.Writing.{Repaints, in_cells, in_span}
 use Rattle.canvas.specs.WritingLaws.{IsWhole, WritingLaws}
 
@@ -20,10 +21,13 @@ part_long items from to end order =
     length-take-le (to - from) (drop from items) (omega (arith, left, end))
 
 -- and has at each place the one of its column
-mix_within : (mixes : List Mix) (from k x : ℕ) → from ≤ x → x < from + k → mix_at (take k (drop from mixes)) (x - from) ≡ mix_at mixes x
-mix_within mixes from k x low high =
+item_within : {A : Type 0} (items : List A) (d : A) (from k x : ℕ) → from ≤ x → x < from + k → get_or (take k (drop from items)) (x - from) d ≡ get_or items x d
+item_within items d from k x low high =
     let at : from + (x - from) ≡ x = omega arith in
-    get_or-take k (drop from mixes) (x - from) unchanged (omega arith) ∙ get_or-drop from mixes (x - from) unchanged ∙ ap (λ n. get_or mixes n unchanged) at
+    get_or-take k (drop from items) (x - from) d (omega arith) ∙ get_or-drop from items (x - from) d ∙ ap (λ n. get_or items n d) at
+
+mix_within : (keeps flips : List Colour) (from k x : ℕ) → from ≤ x → x < from + k → mix_at (take k (drop from keeps)) (take k (drop from flips)) (x - from) ≡ mix_at keeps flips x
+mix_within keeps flips from k x low high = rw (item_within keeps white_colour from k x low high, item_within flips black_colour from k x low high) refl
 
 -- what is to be a pixel in a span
 pub span_parts : (y from to x row : ℕ) → in_span y from to x row ≡ true → (row ≡ y) × (from ≤ x) × (x < to)
@@ -34,33 +38,33 @@ span_parts y from to x row t =
 
 -- A part of a row of mixes is mixed into the columns that it stands for.
 pub part_mixed :
-    WritingLaws → (mixes : List Mix) (y from to : ℕ) (old new : CanvasState) → IsWhole old → to ≤ length mixes → from ≤ to
-    → Repaints (in_span y from (from + length (take (to - from) (drop from mixes)))) (λ column row c. mixed_by (mix_at (take (to - from) (drop from mixes)) (column - from)) c) old new
-    → Repaints (in_span y from to) (λ column row c. mixed_by (mix_at mixes column) c) old new
-part_mixed laws mixes y from to old new whole end order r =
-    let long = part_long mixes from to end order in
-    let last : from + length (take (to - from) (drop from mixes)) ≡ to = omega (arith, long, order) in
-    laws.same _ (in_span y from to) _ (λ column row c. mixed_by (mix_at mixes column) c) old new whole
+    WritingLaws → (keeps flips : List Colour) (y from to : ℕ) (old new : CanvasState) → IsWhole old → to ≤ length keeps → from ≤ to
+    → Repaints (in_span y from (from + length (take (to - from) (drop from keeps)))) (λ column row c. mixed_by (mix_at (take (to - from) (drop from keeps)) (take (to - from) (drop from flips)) (column - from)) c) old new
+    → Repaints (in_span y from to) (λ column row c. mixed_by (mix_at keeps flips column) c) old new
+part_mixed laws keeps flips y from to old new whole end order r =
+    let long = part_long keeps from to end order in
+    let last : from + length (take (to - from) (drop from keeps)) ≡ to = omega (arith, long, order) in
+    laws.same _ (in_span y from to) _ (λ column row c. mixed_by (mix_at keeps flips column) c) old new whole
     (λ x row held. ap (λ n. in_span y from n x row) last)
     (λ x row c held t.
     let at = span_parts y from _ x row t in
     let low = at.1 in
     let high = at.2 in
-    ap (λ m. mixed_by m c) (mix_within mixes from (to - from) x low (omega (arith, high, last, order))))
+    ap (λ m. mixed_by m c) (mix_within keeps flips from (to - from) x low (omega (arith, high, last, order))))
     r
 
 -- Cells of a row are mixed up to a column, each by the mix at its column.
-pub record HasMixedCells (mixes : List Mix) (cells y from x : ℕ) (start now : CanvasState) : Type 0 where
+pub record HasMixedCells (keeps flips : List Colour) (cells y from x : ℕ) (start now : CanvasState) : Type 0 where
   pub whole : IsWhole now
   pub width : now.width ≡ start.width
   pub row : HasRow now y
   pub order : from ≤ x
   pub count : now.writes ≤ start.writes + (x - from)
-  pub painted : Repaints (in_cells y from x cells) (λ column row c. mixed_by (mix_at mixes column) c) start now
+  pub painted : Repaints (in_cells y from x cells) (λ column row c. mixed_by (mix_at keeps flips column) c) start now
 
 -- none is before the first
-pub no_cells_yet : WritingLaws → (mixes : List Mix) (cells y from : ℕ) (start : CanvasState) → IsWhole start → HasRow start y → HasMixedCells mixes cells y from from start start
-no_cells_yet laws mixes cells y from start whole row = record {
+pub no_cells_yet : WritingLaws → (keeps flips : List Colour) (cells y from : ℕ) (start : CanvasState) → IsWhole start → HasRow start y → HasMixedCells keeps flips cells y from from start start
+no_cells_yet laws keeps flips cells y from start whole row = record {
   whole = whole;
   width = refl;
   row = row;
@@ -72,13 +76,13 @@ no_cells_yet laws mixes cells y from start whole row = record {
 
 -- one column more
 pub one_cell_more :
-    WritingLaws → (mixes : List Mix) (cells y from x : ℕ) (mix : Mix) (start now new : CanvasState) → IsWhole start → mix_at mixes x ≡ mix
-    → HasMixedCells mixes cells y from x start now
+    WritingLaws → (keeps flips : List Colour) (cells y from x : ℕ) (mix : Mix) (start now new : CanvasState) → IsWhole start → mix_at keeps flips x ≡ mix
+    → HasMixedCells keeps flips cells y from x start now
     → Repaints (in_cells y x (x + 1) cells) (λ column row c. mixed_by mix c) now new
     → new.writes ≤ now.writes + (x + 1 - x)
-    → HasMixedCells mixes cells y from (x + 1) start new
-one_cell_more laws mixes cells y from x mix start now new whole same h r counted =
-    let f : ℕ → ℕ → Colour → Colour = λ column row c. mixed_by (mix_at mixes column) c in
+    → HasMixedCells keeps flips cells y from (x + 1) start new
+one_cell_more laws keeps flips cells y from x mix start now new whole same h r counted =
+    let f : ℕ → ℕ → Colour → Colour = λ column row c. mixed_by (mix_at keeps flips column) c in
     let order = h.order in
     let count = h.count in
     let here : Repaints (in_cells y x (x + 1) cells) f now new =
@@ -88,7 +92,7 @@ one_cell_more laws mixes cells y from x mix start now new whole same h r counted
     let low = at.1 in
     let high = at.2 in
     let is : x ≡ column = omega (arith, low, high) in
-    ap (λ m. mixed_by m c) (sym same ∙ ap (mix_at mixes) is))
+    ap (λ m. mixed_by m c) (sym same ∙ ap (mix_at keeps flips) is))
     r in
     let apart : (column row : ℕ) → (in_cells y from x cells column row && in_cells y x (x + 1) cells column row) ≡ false =
     λ column row. false_from_ne_true _ (λ t.
@@ -126,9 +130,8 @@ one_cell_more laws mixes cells y from x mix start now new whole same h r counted
     joined r i column = spread r (leb from column) (ltb column x) (leb x column) (ltb column (x + 1)) (ltb column (x + 1)) i (columns column)
 
 -- a mix that is there, whatever stands for one that isn't
-pub mix_there : (mixes : List Mix) (x : ℕ) (d : Mix) → x < length mixes → mix_at mixes x ≡ get_or mixes x d
-mix_there mixes x d h = same_Some _ _ (sym (slice_get-get_or mixes x unchanged h) ∙ slice_get-get_or mixes x d h)
+item_there : {A : Type 0} (items : List A) (x : ℕ) (c d : A) → x < length items → get_or items x c ≡ get_or items x d
+item_there items x c d h = same_Some _ _ (sym (slice_get-get_or items x c h) ∙ slice_get-get_or items x d h)
 
--- all zeros
-abbrev pub no_mix : Mix
-no_mix = record { keep = record { r = 0; g = 0; b = 0 }; flip = record { r = 0; g = 0; b = 0 } }
+pub mix_there : (keeps flips : List Colour) (x : ℕ) (d : Colour) → x < length keeps → x < length flips → mix_at keeps flips x ≡ record { keep = get_or keeps x d; flip = get_or flips x d }
+mix_there keeps flips x d h i = rw (item_there keeps x white_colour d h, item_there flips x black_colour d i) refl

@@ -16,8 +16,8 @@ is_inked (Mixed mix) x = true
 is_inked (Cells cells mix None) x = is_cell cells x
 is_inked (Cells cells mix (Some gaps)) x = true
 is_inked (Row colours) x = true
-is_inked (MixRow mixes) x = true
-is_inked (MixCells cells mixes) x = is_cell cells x
+is_inked (MixRow keeps flips) x = true
+is_inked (MixCells cells keeps flips) x = is_cell cells x
 
 -- and makes this of its old colour
 abbrev pub inked : RowInk → ℕ → Colour → Colour
@@ -28,5 +28,5 @@ inked (Mixed mix) x old = mixed_by mix old
 inked (Cells cells mix None) x old = mixed_by mix old
 inked (Cells cells mix (Some gaps)) x old = if is_cell cells x then mixed_by mix old else mixed_by gaps old
 inked (Row colours) x old = slice_index_or colours.now x old
-inked (MixRow mixes) x old = mixed_by (mix_at mixes.now x) old
-inked (MixCells cells mixes) x old = mixed_by (mix_at mixes.now x) old
+inked (MixRow keeps flips) x old = mixed_by (mix_at keeps.now flips.now x) old
+inked (MixCells cells keeps flips) x old = mixed_by (mix_at keeps.now flips.now x) old

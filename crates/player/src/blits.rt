@@ -13,7 +13,7 @@ ghost use Rattle.draw_ops.specs.Blits.{source_of};
 ghost use Rattle.raster_ops.specs.BrushRows.{row_paint};
 ghost use Rattle.raster_ops.specs.Bytes.{HasBytes};
 ghost use Rattle.raster_ops.specs.Sources.{is_readable};
-ghost use Rattle.raster_ops.specs.TernaryOps.{ternary_colour, uses_source};
+ghost use Rattle.raster_ops.specs.TernaryOps.{uses_source};
 ghost use Rattle.player.specs.Blits.{HoldsRow, IsBlit, ReadsBox, blit_made, blit_paints};
 ghost use Rattle.player.specs.Painted.{colour_of, colour_seen, made, paints};
 ghost use Rattle.player.specs.RowInks.{inked, is_inked};
@@ -30,7 +30,7 @@ use crate::strips::put_uncut;
 use canvas::{Canvas, writing_law};
 use dc_stack::{Dc, PlacedBlit};
 use draw_ops::TernaryOp;
-use mapping::{Colour, Mix, Rect};
+use mapping::{Colour, Rect};
 use raster_ops::{
     BrushRow, SourceReader, TernaryMixer, copy_law, dependence_law, gather_pattern, uses_source,
 };
@@ -157,24 +157,29 @@ fn source_ink<'r>(
         return RowInk::Row(sources);
     }
     gather_mixes(paint, operation, y, columns, sources, room);
-    mix_given(row, &room.mixes)
+    mix_given(row, room)
 }
 
 /// The mixes of the columns to which a row of a brush gives a colour.
-fn mix_given<'r>(row: BrushRow<'_>, mixes: &'r [Mix; MAX_SIDE]) -> RowInk<'r>
+fn mix_given<'r>(row: BrushRow<'_>, room: &'r InkRoom) -> RowInk<'r>
     ensures test { (x : ℕ) → is_inked result x ≡ is_some (row_paint row.entry x) }
-    ensures ink { (x : ℕ) (old : Colour) → is_inked result x ≡ true → inked result x old ≡ mixed_by (mix_at mixes.entry.now x) old }
+    ensures ink { (x : ℕ) (old : Colour) → is_inked result x ≡ true → inked result x old ≡ mixed_by (mix_at room.entry.now.keeps room.entry.now.flips x) old }
 {
+    let (keeps, flips) = (&room.keeps, &room.flips);
     match row {
         BrushRow::Nothing => RowInk::Nothing,
-        BrushRow::Solid(_) => RowInk::MixRow(mixes),
+        BrushRow::Solid(_) => RowInk::MixRow { keeps, flips },
         BrushRow::Hatched {
             cells,
             gaps: None,
             ..
-        } => RowInk::MixCells { cells, mixes },
-        BrushRow::Hatched { gaps: Some(_), .. } => RowInk::MixRow(mixes),
-        BrushRow::Tiled(_) => RowInk::MixRow(mixes),
+        } => RowInk::MixCells {
+            cells,
+            keeps,
+            flips,
+        },
+        BrushRow::Hatched { gaps: Some(_), .. } => RowInk::MixRow { keeps, flips },
+        BrushRow::Tiled(_) => RowInk::MixRow { keeps, flips },
     }
 }
 
@@ -192,39 +197,15 @@ fn gather_mixes(
     requires width { length sources.now ≡ 8192 }
     requires operation { paint.now.operation ≡ Ternary operation }
     requires sources { (x : ℕ) (d : Colour) → columns.from ≤ x → x < columns.to → slice_index_or sources.now x d ≡ colour_seen paint.now.source x y }
-    ensures { (x : ℕ) (old : Colour) → columns.from ≤ x → x < columns.to → is_some (colour_of paint.now x y) ≡ true → mixed_by (mix_at room.new.mixes x) old ≡ made paint.now x y old }
+    ensures { (x : ℕ) (old : Colour) → columns.from ≤ x → x < columns.to → is_some (colour_of paint.now x y) ≡ true → mixed_by (mix_at room.new.keeps room.new.flips x) old ≡ made paint.now x y old }
 {
     let row = paint.brush_row(y);
     let (from, to) = (columns.from, columns.to);
-    gather_pattern(&row, from, to, &mut room.patterns);
-    mix_sources(
-        operation,
-        &room.patterns,
-        sources,
-        from,
-        to,
-        &mut room.mixes,
-    );
-}
-
-/// Mixes that join the patterns and the sources of the columns from one on up to before another, each at its
-/// column.
-fn mix_sources(
-    operation: TernaryOp,
-    patterns: &[Colour],
-    sources: &[Colour],
-    from: u32,
-    to: u32,
-    mixes: &mut [Mix],
-)
-    requires order { from ≤ to }
-    requires patterns { to ≤ length patterns.now }
-    requires sources { to ≤ length sources.now }
-    requires room { to ≤ length mixes.old }
-    ensures { (x : ℕ) (d old : Colour) → from ≤ x → x < to → mixed_by (mix_at mixes.new x) old ≡ ternary_colour operation.table (slice_index_or patterns.now x d) (slice_index_or sources.now x d) old }
-{
-    let mixer = TernaryMixer::new(operation);
-    for x in from as usize..to as usize {
-        mixes[x] = mixer.mix(patterns[x], sources[x]);
-    }
+    let InkRoom {
+        patterns,
+        keeps,
+        flips,
+    } = room;
+    gather_pattern(&row, from, to, patterns);
+    TernaryMixer::new(operation).gather(patterns, sources, from, to, keeps, flips);
 }

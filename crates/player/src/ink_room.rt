@@ -1,16 +1,18 @@
 //! Room for what becomes of the pixels of a row.
 
 use crate::raster_operation::BLACK;
-use mapping::{Colour, Mix};
+use mapping::Colour;
 
 /// The longest side of a surface.
 pub(crate) const MAX_SIDE: usize = 8192;
 
-/// Room for what becomes of the pixels of a row, each at its column: the colours of a brush's picture, and mixes.
+/// Room for what becomes of the pixels of a row, each at its column: the colours of a brush's picture, and what
+/// mixes keep and flip.
 #[derive(Drop)]
 pub(crate) struct InkRoom {
     pub(crate) patterns: [Colour; MAX_SIDE],
-    pub(crate) mixes: [Mix; MAX_SIDE],
+    pub(crate) keeps: [Colour; MAX_SIDE],
+    pub(crate) flips: [Colour; MAX_SIDE],
 }
 
 impl InkRoom {
@@ -18,7 +20,8 @@ impl InkRoom {
     pub(crate) fn new() -> InkRoom {
         InkRoom {
             patterns: [BLACK; MAX_SIDE],
-            mixes: [Mix::copy(BLACK); MAX_SIDE],
+            keeps: [BLACK; MAX_SIDE],
+            flips: [BLACK; MAX_SIDE],
         }
     }
 }

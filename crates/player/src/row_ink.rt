@@ -35,13 +35,17 @@ pub(crate) enum RowInk<'r> {
     },
     /// Each becomes the colour at its column.
     Row(&'r [Colour; MAX_SIDE]),
-    /// Each is mixed by the mix at its column.
-    MixRow(&'r [Mix; MAX_SIDE]),
+    /// Each is mixed by the mix at its column, of what is kept and what is flipped.
+    MixRow {
+        keeps: &'r [Colour; MAX_SIDE],
+        flips: &'r [Colour; MAX_SIDE],
+    },
     /// Each whose column modulo 8 has its bit set in `cells` is mixed by the mix at its column, and no other is
     /// written.
     MixCells {
         cells: u8,
-        mixes: &'r [Mix; MAX_SIDE],
+        keeps: &'r [Colour; MAX_SIDE],
+        flips: &'r [Colour; MAX_SIDE],
     },
 }
 
@@ -98,25 +102,23 @@ fn tile_ink<'r>(
     if operation.copies_paint() {
         return RowInk::Row(&room.patterns);
     }
-    mix_patterns(&room.patterns, operation, from, to, &mut room.mixes);
-    RowInk::MixRow(&room.mixes)
+    mix_patterns(operation, from, to, room);
+    RowInk::MixRow {
+        keeps: &room.keeps,
+        flips: &room.flips,
+    }
 }
 
-/// Mixes that join the colours of the columns from one on up to before another, each at its column.
-fn mix_patterns(
-    patterns: &[Colour],
-    operation: RasterOperation,
-    from: u32,
-    to: u32,
-    mixes: &mut [Mix],
-)
+/// Mixes that join the patterns of the columns from one on up to before another, each at its column.
+fn mix_patterns(operation: RasterOperation, from: u32, to: u32, room: &mut InkRoom)
     requires order { from ≤ to }
-    requires end { to ≤ length patterns.now }
-    requires room { to ≤ length mixes.old }
-    ensures { (x : ℕ) (d old : Colour) → from ≤ x → x < to → mixed_by (mix_at mixes.new x) old ≡ joined_by operation black_colour (slice_index_or patterns.now x d) old }
+    requires end { to ≤ 8192 }
+    ensures { (x : ℕ) (d old : Colour) → from ≤ x → x < to → mixed_by (mix_at room.new.keeps room.new.flips x) old ≡ joined_by operation black_colour (slice_index_or room.old.patterns x d) old }
 {
     for x in from as usize..to as usize {
-        mixes[x] = operation.mix(patterns[x]);
+        let mix = operation.mix(room.patterns[x]);
+        room.keeps[x] = mix.keep;
+        room.flips[x] = mix.flip;
     }
 }
 

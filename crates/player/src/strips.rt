@@ -49,8 +49,12 @@ fn put_ink(canvas: &mut Canvas, ink: &RowInk<'_>, y: u32, from: u32, to: u32)
             gaps: Some(gaps),
         } => put_both(canvas, cells, mix, gaps, y, from, to),
         RowInk::Row(colours) => put_colours(canvas, colours, y, from, to),
-        RowInk::MixRow(mixes) => put_mixes(canvas, mixes, y, from, to),
-        RowInk::MixCells { cells, mixes } => put_cells(canvas, cells, mixes, y, from, to),
+        RowInk::MixRow { keeps, flips } => put_mixes(canvas, keeps, flips, y, from, to),
+        RowInk::MixCells {
+            cells,
+            keeps,
+            flips,
+        } => put_cells(canvas, cells, keeps, flips, y, from, to),
     }
 }
 
@@ -70,34 +74,51 @@ fn put_colours(canvas: &mut Canvas, colours: &[Colour; MAX_SIDE], y: u32, from: 
 }
 
 /// Mixes the columns from one on up to before another by the mixes at them.
-fn put_mixes(canvas: &mut Canvas, mixes: &[Mix; MAX_SIDE], y: u32, from: u32, to: u32)
+fn put_mixes(
+    canvas: &mut Canvas,
+    keeps: &[Colour; MAX_SIDE],
+    flips: &[Colour; MAX_SIDE],
+    y: u32,
+    from: u32,
+    to: u32,
+)
     requires whole { IsWhole canvas.old }
     requires columns { from ≤ to }
     requires width { to ≤ canvas.old.width }
     requires row { HasRow canvas.old y }
     requires countable { canvas.old.writes + 2 * (to - from) < 2 ^ 64 }
-    ensures pixels { Repaints (in_span y from to) (λ column row old. mixed_by (mix_at mixes.now column) old) canvas.old canvas.new }
+    ensures pixels { Repaints (in_span y from to) (λ column row old. mixed_by (mix_at keeps.now flips.now column) old) canvas.old canvas.new }
     ensures count { canvas.new.writes ≤ canvas.old.writes + (to - from) }
 {
     writing_law();
     canvas.width();
-    canvas.mix_row(from, y, &mixes[from as usize..to as usize]);
+    let (first, last) = (from as usize, to as usize);
+    canvas.mix_row(from, y, &keeps[first..last], &flips[first..last]);
 }
 
 /// Mixes those of the columns from one on up to before another that are cells by the mixes at them.
-fn put_cells(canvas: &mut Canvas, cells: u8, mixes: &[Mix; MAX_SIDE], y: u32, from: u32, to: u32)
+fn put_cells(
+    canvas: &mut Canvas,
+    cells: u8,
+    keeps: &[Colour; MAX_SIDE],
+    flips: &[Colour; MAX_SIDE],
+    y: u32,
+    from: u32,
+    to: u32,
+)
     requires whole { IsWhole canvas.old }
     requires columns { from ≤ to }
     requires width { to ≤ canvas.old.width }
     requires row { HasRow canvas.old y }
     requires countable { canvas.old.writes + 2 * (to - from) < 2 ^ 64 }
-    ensures pixels { Repaints (in_cells y from to cells) (λ column row old. mixed_by (mix_at mixes.now column) old) canvas.old canvas.new }
+    ensures pixels { Repaints (in_cells y from to cells) (λ column row old. mixed_by (mix_at keeps.now flips.now column) old) canvas.old canvas.new }
     ensures count { canvas.new.writes ≤ canvas.old.writes + (to - from) }
 {
     writing_law();
     canvas.width();
     for x in from..to {
-        canvas.mix_cells(x, x + 1, y, cells, mixes[x as usize]);
+        let (keep, flip) = (keeps[x as usize], flips[x as usize]);
+        canvas.mix_cells(x, x + 1, y, cells, Mix { keep, flip });
     }
 }
 

@@ -4,32 +4,51 @@ use Rattle.std.specs.Int.{bit_at}
 use Rattle.std.specs.Int.RustNames.{bit_and, bit_xor}
 use Rattle.std.specs.List.{list_any}
 use Rattle.std.proofs.lemmas.Bool.{agree_below_at, eqb-true, not-false, or_parts}
-use Rattle.std.proofs.lemmas.Nat.{and_le_l, xor_lt}
+use Rattle.std.proofs.lemmas.Nat.{and_le_l, shr-shr, xor_lt}
 use Rattle.std.proofs.lemmas.Nat.Bits.{bit_at-lt, bit_at_and, bit_at_xor}
-use Rattle.mapping.specs.Mixes.{mixed_part_by}
+use Rattle.mapping.specs.Mixes.{mixed_by, mixed_part_by}
 use Rattle.mapping.specs.declared.geometry.Colour.{Colour}
 use Rattle.raster_ops.proofs.BitLemmas.{four, kept_and_flipped, places, same_sum, spread}
 use Rattle.raster_ops.proofs.ColourLemmas.{same_parts}
+use Rattle.raster_ops.specs.Bytes.{HasBytes}
 use Rattle.raster_ops.specs.RasterOps.{mixed_part}
+use Rattle.raster_ops.specs.Selectors.{IsSelector, selected, selected_colour}
+use Rattle.raster_ops.specs.declared.selector.Selector.{Selector}
 use Rattle.raster_ops.specs.TernaryOps.{bit_pairs, table_bit, ternary_bit, ternary_colour, ternary_part, uses_pattern, uses_source}
 
--- what is made of bits that are 0, and of bits that are 1, as a mix
-module _ (table pattern source low high : ℕ) (low_below : low < 256) (high_below : high < 256)
-    (of_low : (k : ℕ) → k < 8 → bit_at low k ≡ table_bit table (bit_at pattern k) (bit_at source k) 0)
-    (of_high : (k : ℕ) → k < 8 → bit_at high k ≡ table_bit table (bit_at pattern k) (bit_at source k) 1) where
-  mix_bit : (old k : ℕ) → k < 8 → bit_at (mixed_part_by (bit_xor high low) low old) k ≡ table_bit table (bit_at pattern k) (bit_at source k) (bit_at old k)
-  mix_bit old k h =
-      bit_at_xor (bit_and (bit_xor high low) old) low k
-      ∙ ap (λ (b : ℕ). (b + bit_at low k) % 2) (bit_at_and (bit_xor high low) old k ∙ ap (λ (b : ℕ). min b (bit_at old k)) (bit_at_xor high low k))
-      ∙ kept_and_flipped (λ o. table_bit table (bit_at pattern k) (bit_at source k) o) (bit_at low k) (bit_at high k) (bit_at old k)
-      (bit_at-lt low k) (bit_at-lt high k) (bit_at-lt old k) (of_low k h) (of_high k h)
+-- a bit of half a number is the next one of the number
+next_bit : (n k : ℕ) → bit_at (n / 2) k ≡ bit_at n (k + 1)
+next_bit n k =
+    let last : 1 + k ≡ k + 1 = omega arith in
+    ap (λ (q : ℕ). q % 2) (shr-shr n 1 k ∙ ap (λ (p : ℕ). n / 2 ^ p) last)
 
-  pub ternary_mix_part : (old : ℕ) → mixed_part_by (bit_xor high low) low old ≡ ternary_part table pattern source old
-  ternary_mix_part old =
-      let keep = xor_lt 8 high low high_below low_below in
-      let below : mixed_part_by (bit_xor high low) low old < 256 = xor_lt 8 (bit_and (bit_xor high low) old) low (omega (arith, and_le_l (bit_xor high low) old, keep)) low_below in
-      spread (mixed_part_by (bit_xor high low) low old) below
-      ∙ same_sum (λ k. bit_at (mixed_part_by (bit_xor high low) low old) k * 2 ^ k) (λ k. ternary_bit table pattern source old k) (λ k h. ap (λ (b : ℕ). b * 2 ^ k) (mix_bit old k h))
+-- Bits that are kept where the table has two things for a 0 and a 1, and flipped where it has a 1 for a 0, are those of the operation.
+module _ (table pattern source keep flip : ℕ) (keep_below : keep < 256) (flip_below : flip < 256)
+    (kept : (k : ℕ) → k < 8 → bit_at keep k ≡ bit_at (bit_xor (table / 2) table) (4 * bit_at pattern k + 2 * bit_at source k))
+    (flipped : (k : ℕ) → k < 8 → bit_at flip k ≡ bit_at table (4 * bit_at pattern k + 2 * bit_at source k)) where
+  mix_bit : (old k : ℕ) → k < 8 → bit_at (mixed_part_by keep flip old) k ≡ table_bit table (bit_at pattern k) (bit_at source k) (bit_at old k)
+  mix_bit old k h =
+      let n = 4 * bit_at pattern k + 2 * bit_at source k in
+      let first : n ≡ n + 0 = omega arith in
+      bit_at_xor (bit_and keep old) flip k
+      ∙ ap (λ (b : ℕ). (b + bit_at flip k) % 2) (bit_at_and keep old k ∙ ap (λ (b : ℕ). min b (bit_at old k)) (kept k h ∙ bit_at_xor (table / 2) table n ∙ ap (λ (b : ℕ). (b + bit_at table n) % 2) (next_bit table n)))
+      ∙ ap (λ (b : ℕ). (min ((bit_at table (n + 1) + bit_at table n) % 2) (bit_at old k) + b) % 2) (flipped k h)
+      ∙ kept_and_flipped (λ o. table_bit table (bit_at pattern k) (bit_at source k) o) (bit_at table n) (bit_at table (n + 1)) (bit_at old k)
+      (bit_at-lt table n) (bit_at-lt table (n + 1)) (bit_at-lt old k) (ap (λ (p : ℕ). bit_at table p) first) refl
+
+  mix_part : (old : ℕ) → mixed_part_by keep flip old ≡ ternary_part table pattern source old
+  mix_part old =
+      let below : mixed_part_by keep flip old < 256 = xor_lt 8 (bit_and keep old) flip (omega (arith, and_le_l keep old, keep_below)) flip_below in
+      spread (mixed_part_by keep flip old) below
+      ∙ same_sum (λ k. bit_at (mixed_part_by keep flip old) k * 2 ^ k) (λ k. ternary_bit table pattern source old k) (λ k h. ap (λ (b : ℕ). b * 2 ^ k) (mix_bit old k h))
+
+-- The colours that two such selectors choose are the mix of the operation.
+pub selected_mix : (table : ℕ) (keep flip : Selector) (pattern source old : Colour) → IsSelector keep (bit_xor (table / 2) table) → IsSelector flip table → HasBytes (selected_colour keep pattern source) → HasBytes (selected_colour flip pattern source) → mixed_by (record { keep = selected_colour keep pattern source; flip = selected_colour flip pattern source }) old ≡ ternary_colour table pattern source old
+selected_mix table keep flip p s old kept flipped below beneath =
+    same_parts _ _
+    (mix_part table p.r s.r (selected keep p.r s.r) (selected flip p.r s.r) below.r beneath.r (λ k h. kept.each p.r s.r k h) (λ k h. flipped.each p.r s.r k h) old.r)
+    (mix_part table p.g s.g (selected keep p.g s.g) (selected flip p.g s.g) below.g beneath.g (λ k h. kept.each p.g s.g k h) (λ k h. flipped.each p.g s.g k h) old.g)
+    (mix_part table p.b s.b (selected keep p.b s.b) (selected flip p.b s.b) below.b beneath.b (λ k h. kept.each p.b s.b k h) (λ k h. flipped.each p.b s.b k h) old.b)
 
 -- no test of two bits tells two functions apart, so they are the same on each two bits
 unused : (f g : ℕ → ℕ → ℕ) → list_any (λ pair. not (eqb (f pair.0 pair.1) (g pair.0 pair.1))) bit_pairs ≡ false → (a b : ℕ) → a < 2 → b < 2 → f a b ≡ g a b

@@ -1,5 +1,6 @@
 -- Colours gathered at their places.
 use Rattle.std.specs.Prelude.{◌≡◌, ◌⊎◌, ℕ, ◌<◌, ◌≤◌, List, slice_index_or}
+use Rattle.mapping.specs.Mixes.{mixed_by}
 use Rattle.mapping.specs.declared.geometry.Colour.{Colour}
 use Rattle.raster_ops.specs.Bytes.{HasBytes}
 
@@ -10,6 +11,11 @@ AreAt f from to colours = (x : ℕ) (d : Colour) → from ≤ x → x < to → s
 -- the parts of the colours at the places from one on up to before another are bytes
 abbrev pub HaveBytes : ℕ → ℕ → List Colour → Type 0
 HaveBytes from to colours = (x : ℕ) (d : Colour) → from ≤ x → x < to → HasBytes (slice_index_or colours x d)
+
+-- at the places from one on up to before another, mixes make f of the colour that is there, by a row of what they keep and one of what they flip
+abbrev pub AreMixesAt : (ℕ → Colour → Colour) → ℕ → ℕ → List Colour → List Colour → Type 0
+AreMixesAt f from to keeps flips =
+    (x : ℕ) (c d old : Colour) → from ≤ x → x < to → mixed_by (record { keep = slice_index_or keeps x c; flip = slice_index_or flips x d }) old ≡ f x old
 
 -- at the places before one and from another on the new colours are the old ones
 abbrev pub AreKeptBeside : ℕ → ℕ → List Colour → List Colour → Type 0

@@ -1,7 +1,7 @@
 -- Bits that two others choose.
-use Rattle.std.specs.Prelude.{◌≡◌, ℕ, ◌<◌, bit_and, bit_xor}
+use Rattle.std.specs.Prelude.{◌≡◌, ℕ, ◌+◌, ◌*◌, ◌<◌, bit_and, bit_xor}
 use Rattle.std.specs.Int.{bit_at}
-use Rattle.raster_ops.specs.TernaryOps.{table_bit}
+use Rattle.mapping.specs.declared.geometry.Colour.{Colour}
 use Rattle.raster_ops.specs.declared.selector.Selector.{Selector}
 
 -- the bits that a pattern and a source choose
@@ -9,6 +9,14 @@ abbrev pub selected : Selector → ℕ → ℕ → ℕ
 selected selector pattern source =
     bit_xor (bit_xor selector.fixed (bit_and source selector.by_source)) (bit_and pattern (bit_xor selector.by_pattern (bit_and source selector.by_both)))
 
--- these bits are those of an operation's table, where the bit that is there is `old`
-pub record IsSelector (selector : Selector) (table old : ℕ) : Type 0 where
-  pub each : (pattern source k : ℕ) → k < 8 → bit_at (selected selector pattern source) k ≡ table_bit table (bit_at pattern k) (bit_at source k) old
+-- these bits are those of a table at its even places, of which a bit of the pattern and one of the source name one
+pub record IsSelector (selector : Selector) (table : ℕ) : Type 0 where
+  pub each : (pattern source k : ℕ) → k < 8 → bit_at (selected selector pattern source) k ≡ bit_at table (4 * bit_at pattern k + 2 * bit_at source k)
+
+-- the colour that a pattern and a source choose, part by part
+abbrev pub selected_colour : Selector → Colour → Colour → Colour
+selected_colour selector pattern source = record {
+  r = selected selector pattern.r source.r;
+  g = selected selector pattern.g source.g;
+  b = selected selector pattern.b source.b;
+}

@@ -7,7 +7,7 @@
 //! - With a paint it is a mix: some bits are kept, and some are then flipped, whatever is there (`mix_of`).
 //! - A ternary raster operation makes of each bit of the pattern, of the source and of what is there what its
 //!   table says (`rop3`, by `ternary_colour`), and with pattern and source it is a mix (`ternary_mix`, or
-//!   for many pixels `TernaryMixer::new` and `TernaryMixer::mix`).
+//!   along a row, into slices, of which all other places stay, `TernaryMixer::gather`).
 //! - SRCCOPY gives the source, PATCOPY the pattern, and R2_COPYPEN the pen's colour (`copy_law`).
 //! - Whether a ternary operation depends on the source and on the pattern is told exactly, and where it doesn't,
 //!   each gives the same (`uses_source`, `uses_pattern`, `dependence_law`).

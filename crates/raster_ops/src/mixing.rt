@@ -32,14 +32,13 @@ pub fn mix_of(op: RasterOp, paint: Colour) -> Mix
 
 /// The mix of one part of a colour.
 #[derive(Clone, Copy)]
-pub(crate) struct PartMix {
-    pub keep: u8,
-    pub flip: u8,
+struct PartMix {
+    keep: u8,
+    flip: u8,
 }
 
 /// The mixes of the three parts as one.
-#[inline]
-pub(crate) fn joined_mix(r: PartMix, g: PartMix, b: PartMix) -> Mix
+fn joined_mix(r: PartMix, g: PartMix, b: PartMix) -> Mix
     ensures r { (old : Colour) → (mixed_by result old).r ≡ mixed_part_by r.keep r.flip old.r }
     ensures g { (old : Colour) → (mixed_by result old).g ≡ mixed_part_by g.keep g.flip old.g }
     ensures b { (old : Colour) → (mixed_by result old).b ≡ mixed_part_by b.keep b.flip old.b }

@@ -1,15 +1,16 @@
 //! How a pattern and a source join what is there.
 
-ghost use Rattle.std.specs.Prelude.{◌≡◌, ℕ, false};
-ghost use Rattle.mapping.specs.Mixes.{mixed_by, mixed_part_by};
+ghost use Rattle.std.specs.Prelude.{◌≡◌, ◌≤◌, ℕ, ◌/◌, bit_xor, false, length, slice_index_or};
+ghost use Rattle.mapping.specs.Colours.{black_colour};
+ghost use Rattle.mapping.specs.Mixes.{mixed_by};
 ghost use Rattle.mapping.specs.declared.geometry.Colour.{Colour};
 ghost use Rattle.draw_ops.specs.declared.raster_op.RasterOp.TheVariants.{CopyPen};
 ghost use Rattle.raster_ops.specs.Bytes.{HasBytes};
+ghost use Rattle.raster_ops.specs.Gathered.{AreKeptBeside, AreMixesAt};
 ghost use Rattle.raster_ops.specs.RasterOps.{mixed_colour};
 ghost use Rattle.raster_ops.specs.Selectors.{IsSelector};
-ghost use Rattle.raster_ops.specs.TernaryOps.{ternary_colour, ternary_part, uses_pattern, uses_source};
+ghost use Rattle.raster_ops.specs.TernaryOps.{ternary_colour, uses_pattern, uses_source};
 
-use crate::mixing::{PartMix, joined_mix};
 use crate::selector::Selector;
 use draw_ops::TernaryOp;
 use mapping::{Colour, Mix};
@@ -33,12 +34,12 @@ pub fn ternary_mix(op: TernaryOp, pattern: Colour, source: Colour) -> Mix
 #[derive(Clone, Copy, Debug, PartialEq, Eq)]
 pub struct TernaryMixer {
     pub op: TernaryOp,
-    /// What it makes of bits that are 0.
-    low: Selector,
-    /// What it makes of bits that are 1.
-    high: Selector,
-    ghost of_zeros: { IsSelector low op.table 0 },
-    ghost of_ones: { IsSelector high op.table 1 },
+    /// The bits that are kept: of which it makes two things, of a 0 and of a 1.
+    keep: Selector,
+    /// The bits that are then flipped: it makes a 1 of a 0.
+    flip: Selector,
+    ghost keeps: { IsSelector keep (bit_xor (op.table / 2) op.table) },
+    ghost flips: { IsSelector flip op.table },
 }
 
 impl TernaryMixer {
@@ -49,8 +50,8 @@ impl TernaryMixer {
     {
         TernaryMixer {
             op,
-            low: Selector::new(op.table, 0),
-            high: Selector::new(op.table, 1),
+            keep: Selector::new(op.table >> 1 ^ op.table),
+            flip: Selector::new(op.table),
         }
     }
 
@@ -59,22 +60,34 @@ impl TernaryMixer {
     pub fn mix(&self, pattern: Colour, source: Colour) -> Mix
         ensures { (old : Colour) → mixed_by result old ≡ ternary_colour self.now.op.table pattern source old }
     {
-        let r = self.part(pattern.r, source.r);
-        let g = self.part(pattern.g, source.g);
-        let b = self.part(pattern.b, source.b);
-        joined_mix(r, g, b)
+        Mix {
+            keep: self.keep.select_colour(pattern, source),
+            flip: self.flip.select_colour(pattern, source),
+        }
     }
 
-    /// The mix of one part of a colour.
-    #[inline]
-    fn part(&self, pattern: u8, source: u8) -> PartMix
-        ensures { (old : ℕ) → mixed_part_by result.keep result.flip old ≡ ternary_part self.now.op.table pattern source old }
+    /// The operation with the patterns and the sources at the places from one on up to before another, as mixes:
+    /// what each keeps and what it flips, at its place. What stands at the other places stays.
+    pub fn gather(
+        &self,
+        patterns: &[Colour],
+        sources: &[Colour],
+        from: u32,
+        to: u32,
+        keeps: &mut [Colour],
+        flips: &mut [Colour],
+    )
+        requires ordered { from ≤ to }
+        requires patterns { to ≤ length patterns.now }
+        requires sources { to ≤ length sources.now }
+        requires keeps { to ≤ length keeps.old }
+        requires flips { to ≤ length flips.old }
+        ensures mixes { AreMixesAt (λ x old. ternary_colour self.now.op.table (slice_index_or patterns.now x black_colour) (slice_index_or sources.now x black_colour) old) from to keeps.new flips.new }
+        ensures other_keeps { AreKeptBeside from to keeps.old keeps.new }
+        ensures other_flips { AreKeptBeside from to flips.old flips.new }
     {
-        let flip = self.low.select(pattern, source);
-        PartMix {
-            keep: self.high.select(pattern, source) ^ flip,
-            flip,
-        }
+        self.keep.select_row(patterns, sources, from, to, keeps);
+        self.flip.select_row(patterns, sources, from, to, flips);
     }
 }
 

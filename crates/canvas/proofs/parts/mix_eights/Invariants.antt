@@ -9,7 +9,7 @@ abbrev pub invariant-loop-done : goal.invariant-loop-done
 invariant-loop-done l = record {
   within : l.done ≤ length l.part;
   turn : l.done % 8 ≡ 0;
-  mixed : (k : ℕ) (d : Colour) → k < l.done → get_or l.part k d ≡ mixed_by (mix_at l.mixes k) (get_or l.fn.part k d);
+  mixed : (k : ℕ) (d : Colour) → k < l.done → get_or l.part k d ≡ mixed_by (mix_at l.keeps l.flips k) (get_or l.fn.part k d);
   left : (k : ℕ) (d : Colour) → l.done ≤ k → get_or l.part k d ≡ get_or l.fn.part k d;
 }
 

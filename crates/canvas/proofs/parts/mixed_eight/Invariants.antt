@@ -8,5 +8,5 @@ use Rattle.canvas.proofs.parts.mixed_eight.Given as goal
 abbrev pub invariant-loop-k : goal.invariant-loop-k
 invariant-loop-k l = record {
   long : length l.colours ≡ 8;
-  each : (k : ℕ) (d : Colour) → k < l.k → get_or l.colours k d ≡ mixed_by (mix_at l.mixes (l.at + k)) (get_or l.part (l.at + k) d);
+  each : (k : ℕ) (d : Colour) → k < l.k → get_or l.colours k d ≡ mixed_by (mix_at l.keeps l.flips (l.at + k)) (get_or l.part (l.at + k) d);
 }

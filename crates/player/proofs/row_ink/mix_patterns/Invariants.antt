@@ -9,6 +9,8 @@ use Rattle.player.proofs.row_ink.mix_patterns.Given as goal
 -- the mixes so far join the colours at their places
 abbrev pub invariant-loop-x : goal.invariant-loop-x
 invariant-loop-x l = record {
-  long : length l.mixes ≡ length l.fn.mixes;
-  done : (x : ℕ) (d old : Colour) → l.fn.from ≤ x → x < l.x → mixed_by (mix_at l.mixes x) old ≡ joined_by l.operation black_colour (slice_index_or l.patterns x d) old;
+  patterns : l.room.patterns ≡ l.fn.room.patterns;
+  keeps : length l.room.keeps ≡ 8192;
+  flips : length l.room.flips ≡ 8192;
+  done : (x : ℕ) (d old : Colour) → l.fn.from ≤ x → x < l.x → mixed_by (mix_at l.room.keeps l.room.flips x) old ≡ joined_by l.operation black_colour (slice_index_or l.fn.room.patterns x d) old;
 }

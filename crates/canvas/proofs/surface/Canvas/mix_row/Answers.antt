@@ -6,8 +6,8 @@ use Rattle.canvas.proofs.surface.Canvas.mix_row.Goals as goal
 pub returns-clause-pixels : goal.returns-clause-pixels
 returns-clause-pixels c =
     let from = c.args.x_from in
-    let mixes = c.args.mixes.now in
-    helped_span c.args.y from (from + length mixes) c.place-start.result (c.place-start.result + length mixes - c.place-start.result) _ _ c.args.self.now _ c.deref_mut.result.now c.mix_each.new.part c.self.view_is
+    let keeps = c.args.keeps.now in
+    helped_span c.args.y from (from + length keeps) c.place-start.result (c.place-start.result + length keeps - c.place-start.result) _ _ c.args.self.now _ c.deref_mut.result.now c.mix_each.new.part c.self.view_is
     record { order = omega arith; within = c.requires.width; from_first = c.requires.row.from_first; to_last = c.requires.row.to_last }
     c.deref_mut.ensures.value
     (sym (ap length c.deref_mut.ensures.value) ∙ c.deref_mut.ensures.len ∙ c.self.invariant.whole)

@@ -1,8 +1,12 @@
-use Rattle.std.proofs.Common.{◌∙◌}
-use Rattle.raster_ops.proofs.ColourLemmas.{same_parts}
+use Rattle.std.proofs.Common.{subst}
+use Rattle.raster_ops.specs.Bytes.{HasBytes}
+use Rattle.raster_ops.proofs.TernaryLemmas.{selected_mix}
 use Rattle.raster_ops.proofs.ternary.TernaryMixer.mix.Goals as goal
 
 pub returns : goal.returns
 returns c = λ old.
-    let here = c.joined_mix.ensures in
-    same_parts _ _ (here.r old ∙ c.part-r.ensures old.r) (here.g old ∙ c.part-g.ensures old.g) (here.b old ∙ c.part-b.ensures old.b)
+    let mixer = c.args.self.now in
+    let keep = c.select_colour.ensures in
+    let flip = c.select_colour-2.ensures in
+    rw (keep.colour, flip.colour)
+    (selected_mix mixer.op.table mixer.keep mixer.flip c.args.pattern c.args.source old mixer.keeps mixer.flips (subst HasBytes keep.colour keep.parts) (subst HasBytes flip.colour flip.parts))
