@@ -16,7 +16,7 @@ from bitmap_records import (
     stretch_dib,
     stretch_dibits,
 )
-from records_table import BLACK, i16, i32, joined, u16, u32
+from record_fields import BLACK, i16, i32, joined, u16, u32
 from records_test import Records
 
 LARGEST = 0xFFFFFFFF

@@ -28,7 +28,10 @@ from bitmap_records import (
     stretch_dibits,
 )
 from built import for_each_program
-from records_table import ACCEPTED, BLACK, EMF, WMF, i16, i32, joined, u16, u32
+from emf_kinds import EMF
+from record_fields import BLACK, i16, i32, joined, u16, u32
+from record_kinds import ACCEPTED
+from wmf_kinds import WMF
 
 
 def places(number, parts=PARTS):

@@ -1,8 +1,9 @@
 """Pictures of several colours, told by marks, and whether the built programs show them."""
 
+from answers import shown
 from bitmap_records import GREEN, SRCCOPY, WHITE, bitmap
 from machine_records import FORMS, StateTest
-from records_table import BLACK, BLUE, RED, shown
+from record_fields import BLACK, BLUE, RED
 
 # The colours of marks.
 INKS = {

@@ -9,7 +9,8 @@ is a word, its bytes: `stretch_blt 0xCC0020 0 0 4 4 0 0 2 2 2800..:ffee..` copie
 
 from typing import NamedTuple
 
-from records_table import BLUE, IDENTITY, RED, i16, i32, joined, u16, u32
+from emf_kinds import IDENTITY
+from record_fields import BLUE, RED, i16, i32, joined, u16, u32
 
 # Ternary raster operations ([MS-WMF] 2.1.1.31), each by its table above 16 other bits.
 BLACKNESS = 0x00000042

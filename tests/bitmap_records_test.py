@@ -24,7 +24,10 @@ from bitmap_fields import (
 )
 from bitmap_records import LEAST, SRCCOPY
 from built import for_each_program
-from records_table import ACCEPTED, BLACK, EMF, TRANSFORMS, WMF, i16, i32, joined, u16, u32
+from emf_kinds import EMF, TRANSFORMS
+from record_fields import BLACK, i16, i32, joined, u16, u32
+from record_kinds import ACCEPTED
+from wmf_kinds import WMF
 
 
 class Fields(BitmapRecords):

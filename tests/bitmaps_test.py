@@ -15,7 +15,7 @@ from bitmap_records import (
     header,
 )
 from built import for_each_program
-from records_table import BLACK, i32, u16, u32
+from record_fields import BLACK, i32, u16, u32
 
 DEPTHS = [1, 4, 8, 16, 24, 32]
 

@@ -4,11 +4,11 @@ the order of a blit's faults: no source, one outside, a box off the plane."""
 
 import unittest
 
+from answers import refused
 from bitmap_pictures import BitmapTest, told
 from bitmap_records import BLACKNESS, DSTINVERT, PATCOPY, PATINVERT, SRCCOPY
 from built import for_each_program
 from machine_records import EMF, FORMS
-from records_table import refused
 
 # A picture of twelve colours, whose rows and columns are all different.
 TWELVE = told("rgby cmop ld#.")

@@ -4,11 +4,11 @@ operation, no position and no path."""
 
 import unittest
 
+from answers import refused
 from bitmap_pictures import BitmapTest, told
 from bitmap_records import BLACKNESS, DSTINVERT, MASKED, PATCOPY, PATINVERT, SRCCOPY, WHITENESS
 from built import for_each_program
 from machine_records import EMF
-from records_table import refused
 
 SIXTEEN = told("rgby cmop ld#. .ygc")
 

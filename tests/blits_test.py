@@ -8,11 +8,11 @@ is mirrored where either the box or the source runs backwards, but not both.
 
 import unittest
 
+from answers import refused
 from bitmap_pictures import BitmapTest, told
 from bitmap_records import BLACKNESS, DSTINVERT, QUAD, SRCCOPY, Bitmap, header
 from built import for_each_program
 from machine_records import EMF, FORMS
-from records_table import refused
 
 # A picture of twelve colours, whose rows and columns are all different.
 TWELVE = told("rgby cmop ld#.")

@@ -32,12 +32,25 @@ class Answer(NamedTuple):
     err: bytes
 
 
+class Run(subprocess.Popen):
+    """A running program. There is a limit to the time in which it writes, and none to that of its
+    end behind: for one, Python would ask again and again whether it has ended, and sleep between
+    for longer than most programs run."""
+
+    def wait(self, timeout=None):
+        """Waits for the program's end."""
+        return super().wait()
+
+
 def answer(program, words, given=b"", **more):
     """Runs a program on the bytes of its standard input."""
-    ran = subprocess.run(
-        [program, *words], input=given, capture_output=True, timeout=60, check=False, **more
-    )
-    return Answer(ran.returncode, ran.stdout, ran.stderr)
+    streams = dict.fromkeys(("stdin", "stdout", "stderr"), subprocess.PIPE)
+    with Run([program, *words], **streams, **more) as run:
+        try:
+            out, err = run.communicate(given, timeout=60)
+        finally:
+            run.kill()
+    return Answer(run.returncode, out, err)
 
 
 def for_each_program(test):

@@ -2,9 +2,10 @@
 
 import unittest
 
+from answers import refused, shown
 from built import for_each_program
 from machine_records import EMF, FORMS, WMF, PictureTest, pixels
-from records_table import BLUE, RED, refused, shown
+from record_fields import BLUE, RED
 
 # No pixel, and all.
 NONE = "...... ...... ...... ...... ...... ......"

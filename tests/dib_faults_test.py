@@ -10,11 +10,12 @@ compressed rows (`CompressedDib`), a depth, a side or a count of colours that no
 import itertools
 import unittest
 
+from answers import refused
 from bitmap_pictures import BitmapTest, told
 from bitmap_records import DSTINVERT, PATCOPY, SRCCOPY, UNUSED, Bitmap, bitmap, header
 from built import for_each_program
 from machine_records import EMF, FORMS, WMF
-from records_table import BLUE, RED, i32, refused, u16, u32
+from record_fields import BLUE, RED, i32, u16, u32
 
 DEPTHS = [1, 4, 8, 16, 24, 32]
 

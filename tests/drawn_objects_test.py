@@ -3,9 +3,10 @@ built programs, shown by the colours that they draw in."""
 
 import unittest
 
+from answers import shown
 from built import for_each_program
 from machine_records import EMF, FORMS
-from records_table import BLACK, BLUE, RED, shown
+from record_fields import BLACK, BLUE, RED
 from shape_pictures import ShapeTest
 
 WHITE = (255, 255, 255)

@@ -3,9 +3,9 @@ the surface, and to the ends of the plane and of their numbers."""
 
 import unittest
 
+from answers import refused
 from built import for_each_program
 from machine_records import EMF, FORMS, WMF
-from records_table import refused
 from shape_pictures import ALTERNATE, BOTH, WINDING, ShapeTest, drawing
 
 NOTHING = ".... .... .... ...."

@@ -1,34 +1,33 @@
-"""The headers of the three kinds of files in the built programs: each field that is read, the frame
-that they give, and files that are cut short."""
+"""The headers of the three kinds of files in the built programs: each field that is read, and the
+frame that they give."""
 
 import tempfile
 import unittest
-from typing import NamedTuple
 
+from answers import refused, shown
 from built import DOT, SAMPLES, answer, for_each_program
-from records_table import (
-    BLUE,
+from header_answers import (
+    BAD_HEADER,
+    NO_FRAME,
+    NOT_METAFILE,
+    SHORT_HEADER,
+    SIDE,
+    HeaderTest,
+    pixel_at,
+)
+from record_fields import BLUE, RED, i16, i32, u16, u32
+from record_files import (
     EMF_END,
-    RED,
     WMF_END,
     emf_file,
     emf_pixel,
     emf_record,
-    i16,
-    i32,
     placeable_file,
     plain_file,
-    refused,
-    shown,
-    u16,
-    u32,
     window_extent,
     wmf_pixel,
     wmf_record,
 )
-
-# The side of a surface on which frames that differ by one show a pixel in different places.
-SIDE = 20
 
 # The largest side of a frame.
 FRAME_LIMIT = 1 << 28
@@ -38,33 +37,6 @@ PLANE_LIMIT = 1 << 30
 
 # No file has more records, the end record included.
 RECORD_LIMIT = 1048576
-
-NOT_METAFILE = refused("NotMetafile")
-SHORT_HEADER = refused("ShortHeader")
-BAD_HEADER = refused("BadHeader")
-NO_FRAME = refused("NoFrame")
-
-
-class HeaderTest(unittest.TestCase):
-    """What the program answers to files with some headers."""
-
-    def check(self, program, given, wanted, *what):
-        """The program's answer to a file on a surface that is a square."""
-        side = str(SIDE)
-        self.assertEqual(answer(program, ["show", "stdin", side, side], given), wanted, what)
-
-    def check_fields(self, program, file, wanted, fields):
-        """The answer to a file wherever one of its header's fields has one of some values."""
-        for field, values in fields.items():
-            for value in values:
-                self.check(program, file(**{field: value}), wanted, field, value.hex(" "))
-
-
-def pixel_at(x, y):
-    """The answer that shows a red pixel, if it lies on the surface."""
-    on_surface = 0 <= x < SIDE and 0 <= y < SIDE
-    return shown({(x, y): RED} if on_surface else {}, SIDE, SIDE)
-
 
 # Nothing drawn.
 WHITE = shown({}, SIDE, SIDE)
@@ -456,110 +428,6 @@ class OtherFiles(HeaderTest):
         self.assertEqual(plain, shown(corners))
         nil = answer(program, ["show", SAMPLES / "nil.emf", "2", "2"])
         self.assertEqual(nil, shown({}, 2, 2))
-
-
-class Layout(NamedTuple):
-    """How a file of good records is made: how many bytes tell its format, how many its headers
-    have, how long a record's head is, how long its records are, the number of the first, and the
-    number of the one that gives the frame, if one does."""
-
-    tells: int
-    header: int
-    head: int
-    records: list[int]
-    first: int
-    framing: int | None = None
-
-    def ends(self):
-        """Where each record ends."""
-        return [self.header + sum(self.records[: count + 1]) for count in range(len(self.records))]
-
-    def refusal(self, length):
-        """The answer to so many first bytes of the file, which are fewer than all."""
-        if length < self.tells:
-            return NOT_METAFILE
-        if length < self.header:
-            return SHORT_HEADER
-        if self.framing is not None and length < self.ends()[self.framing]:
-            return NO_FRAME
-        whole = sum(end <= length for end in self.ends())
-        begin = self.header + sum(self.records[:whole])
-        fault = "NoEnd" if length < begin + self.head else "PastEnd"
-        return refused(fault, self.first + whole)
-
-
-PIXEL = wmf_pixel(2, 1, RED)
-
-LONG_PIXEL = emf_pixel(2, 1, RED)
-
-PLACEABLE = (
-    placeable_file([PIXEL] * 1000 + [WMF_END]),
-    Layout(4, 40, 6, [14] * 1000 + [6], 0),
-)
-
-PLAIN = (
-    plain_file([PIXEL] * 9 + [window_extent(4, 4)] + [PIXEL] * 20 + [WMF_END]),
-    Layout(4, 18, 6, [14] * 9 + [10] + [14] * 20 + [6], 0, framing=9),
-)
-
-ENHANCED = (
-    emf_file([LONG_PIXEL] * 1000 + [EMF_END], extension=bytes(20)),
-    Layout(44, 108, 8, [20] * 1000 + [20], 1),
-)
-
-SMALLEST = (DOT, Layout(4, 40, 6, [14, 6], 0))
-
-NIL = ((SAMPLES / "nil.emf").read_bytes(), Layout(44, 88, 8, [20], 1))
-
-
-class CutShort(HeaderTest):
-    """Fronts of files of each kind."""
-
-    def check_fronts(self, program, file, lengths):
-        """The answers to fronts of a file of so many bytes."""
-        given, layout = file
-        for length in lengths:
-            self.check(program, given[:length], layout.refusal(length), length)
-
-    @for_each_program
-    def test_the_whole_files_are_shown(self, program):
-        for given, _ in (PLACEABLE, PLAIN, ENHANCED, SMALLEST):
-            self.check(program, given, pixel_at(10, 5))
-        self.check(program, NIL[0], shown({}, SIDE, SIDE))
-
-    @for_each_program
-    def test_the_first_300_fronts(self, program):
-        for file in (PLACEABLE, PLAIN, ENHANCED):
-            self.check_fronts(program, file, range(300))
-
-    @for_each_program
-    def test_each_front_of_the_smallest_files(self, program):
-        for file in (SMALLEST, NIL):
-            self.check_fronts(program, file, range(len(file[0])))
-
-    @for_each_program
-    def test_a_cut_is_told_by_the_record_that_it_lies_in(self, program):
-        # A cut behind so many records and so many bytes, and its fault.
-        cuts = [(0, 0, "NoEnd"), (0, 6, "PastEnd"), (1, 13, "PastEnd"), (9, 1, "NoEnd")]
-        cuts += [(99, 5, "NoEnd"), (100, 7, "PastEnd"), (500, 0, "NoEnd"), (777, 12, "PastEnd")]
-        cuts += [(999, 13, "PastEnd"), (1000, 5, "NoEnd")]
-        for records, more, fault in cuts:
-            given = PLACEABLE[0][: 40 + 14 * records + more]
-            self.check(program, given, refused(fault, records), records, more)
-        cuts = [(0, 0, "NoEnd"), (0, 8, "PastEnd"), (1, 19, "PastEnd"), (9, 1, "NoEnd")]
-        cuts += [(99, 7, "NoEnd"), (100, 9, "PastEnd"), (500, 0, "NoEnd"), (777, 12, "PastEnd")]
-        cuts += [(999, 19, "PastEnd"), (1000, 19, "PastEnd")]
-        for records, more, fault in cuts:
-            given = ENHANCED[0][: 108 + 20 * records + more]
-            self.check(program, given, refused(fault, 1 + records), records, more)
-
-    @for_each_program
-    def test_a_plain_file_cut_behind_its_extent(self, program):
-        for place in range(10):
-            records = [PIXEL] * place + [window_extent(4, 4), PIXEL]
-            given = plain_file(records)[: -place - 1]
-            fault = "PastEnd" if 14 - place - 1 >= 6 else "NoEnd"
-            self.check(program, given, refused(fault, place + 1), place)
 
 
 if __name__ == "__main__":

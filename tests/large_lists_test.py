@@ -4,24 +4,11 @@ round, in the built programs."""
 import time
 import unittest
 
+from answers import refused, shown
 from built import answer, for_each_program
 from machine_records import EMF, StateTest
-from records_table import (
-    BLACK,
-    EMF_END,
-    RED,
-    WMF_END,
-    emf_file,
-    emf_record,
-    i16,
-    i32,
-    placeable_file,
-    refused,
-    shown,
-    u16,
-    u32,
-    wmf_record,
-)
+from record_fields import BLACK, RED, i16, i32, u16, u32
+from record_files import EMF_END, WMF_END, emf_file, emf_record, placeable_file, wmf_record
 from shape_pictures import drawing
 
 # No drawing has more points.

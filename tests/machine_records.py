@@ -11,24 +11,17 @@ import unittest
 from collections.abc import Callable
 from typing import NamedTuple
 
+from answers import refused, shown
 from bitmap_records import APART, EMF_BLITS, WMF_BLITS
 from built import answer
-from records_table import (
-    BLUE,
+from record_fields import BLUE, RED, colour, i16, i32, u16, u32
+from record_files import (
     EMF_END,
-    RED,
     WMF_END,
-    colour,
     emf_file,
     emf_pixel,
     emf_record,
-    i16,
-    i32,
     placeable_file,
-    refused,
-    shown,
-    u16,
-    u32,
     wmf_pixel,
     wmf_record,
 )

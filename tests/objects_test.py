@@ -3,9 +3,9 @@ be deleted."""
 
 import unittest
 
+from answers import refused
 from built import for_each_program
 from machine_records import EMF, FORMS, WMF, StateTest, pixels
-from records_table import refused
 
 # Each kind of object, with the record that selects it.
 KINDS = {"pen": "select", "brush": "select", "font": "select", "palette": "select_palette"}

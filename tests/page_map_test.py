@@ -2,9 +2,9 @@
 
 import unittest
 
+from answers import refused
 from built import for_each_program
 from machine_records import EMF, FORMS, WMF, StateTest, pixels
-from records_table import refused
 
 # The least and the largest number of two bytes, and of four.
 LEAST, LARGEST = -32768, 32767

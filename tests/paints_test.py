@@ -7,9 +7,10 @@ surface's corner. Between them is the background's colour, or nothing.
 
 import unittest
 
+from answers import shown
 from built import for_each_program
 from machine_records import FORMS
-from records_table import RED, shown
+from record_fields import RED
 from shape_pictures import INVERT, ShapeTest, marked, side_by_side
 from shape_records import rgb_of
 

@@ -4,9 +4,11 @@ many pieces a path may have and how many points its painting, and which points i
 import itertools
 import unittest
 
+from answers import refused, shown
 from built import answer, for_each_program
 from machine_records import EMF, SIDE, StateTest, pixels
-from records_table import EMF_END, emf_file, emf_record, i16, i32, refused, shown, u32
+from record_fields import i16, u32
+from record_files import EMF_END, emf_file, emf_record
 from shape_records import BOUNDS
 
 PAINTINGS = ["fill_path", "stroke_path", "stroke_and_fill_path"]

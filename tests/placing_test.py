@@ -3,20 +3,11 @@ maps that files begin with, in the built programs."""
 
 import unittest
 
+from answers import refused, shown
 from built import answer, for_each_program
 from machine_records import EMF, FORMS, SIDE, WMF, StateTest, pixels
-from records_table import (
-    EMF_END,
-    RED,
-    WMF_END,
-    emf_file,
-    i16,
-    i32,
-    placeable_file,
-    plain_file,
-    refused,
-    shown,
-)
+from record_fields import RED, i16, i32
+from record_files import EMF_END, WMF_END, emf_file, placeable_file, plain_file
 
 # A page unit is 16,384 pixels, of which 16,384 are 2^28.
 FAR = "map_mode 8; window_extent 1 1; viewport_extent 16384 16384"

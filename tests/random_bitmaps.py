@@ -11,7 +11,7 @@ from bitmap_records import (
     Bitmap,
     bitmap,
 )
-from records_table import i32, u16, u32
+from record_fields import i32, u16, u32
 
 # Operations that are known by a name are more often among those of any table.
 NAMED = [SRCCOPY] * 4 + [PATCOPY, PATINVERT, MASKED, DSTINVERT] * 2 + [BLACKNESS]

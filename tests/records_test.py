@@ -5,32 +5,24 @@ import unittest
 from concurrent.futures import ProcessPoolExecutor
 from functools import partial
 
+from answers import refused, shown
 from built import answer, for_each_program
-from records_table import (
-    BLUE,
-    EMF,
-    EMF_ABSENT,
+from emf_kinds import EMF, EMF_ABSENT
+from record_fields import BLUE, RED, colour, joined, u16, u32
+from record_files import (
     EMF_END,
-    ENDS,
-    RED,
-    WMF,
     WMF_END,
-    Behind,
-    colour,
     emf_file,
     emf_pixel,
     emf_record,
-    joined,
     placeable_file,
     plain_file,
-    refused,
-    shown,
-    u16,
-    u32,
     window_extent,
     wmf_pixel,
     wmf_record,
 )
+from record_kinds import ENDS, Behind
+from wmf_kinds import WMF
 
 FORMATS = [WMF, EMF]
 

@@ -9,7 +9,7 @@ reads is this project's own rule.
 from typing import NamedTuple
 
 from bitmap_records import bitmap_of
-from records_table import BLACK
+from record_fields import BLACK
 from reference import Refused
 
 # The headers and the depths that are read, and how long a side may be.

@@ -3,7 +3,7 @@
 import unittest
 
 from bitmap_records import BLACKNESS, MASKED, PATCOPY, QUAD, QUAD_ROWS, SRCCOPY, header
-from records_table import BLACK, BLUE, RED, u32
+from record_fields import BLACK, BLUE, RED, u32
 from reference import Axis
 from reference_bitmaps import (
     BadDib,

@@ -8,7 +8,7 @@ files of [MS-WMF] 2.3 and [MS-EMF] 2.3.
 
 from typing import NamedTuple
 
-from records_table import BLACK, BLUE, RED
+from record_fields import BLACK, BLUE, RED
 from reference import (
     ALTERNATE,
     HATCHES,

@@ -7,21 +7,13 @@ from concurrent.futures import ThreadPoolExecutor
 from functools import cache
 from typing import NamedTuple
 
+from answers import refused, shown
 from bitmap_records import APART
 from built import Answer, answer, for_each_program
 from machine_records import EMF, FORMS, WMF, Form
 from random_bitmaps import BARE, WHOLE, RandomBitmaps
-from records_table import (
-    EMF_END,
-    WMF_END,
-    emf_file,
-    i16,
-    i32,
-    placeable_file,
-    refused,
-    shown,
-    u16,
-)
+from record_fields import i16, i32, u16
+from record_files import EMF_END, WMF_END, emf_file, placeable_file
 from reference import Axis
 from reference_player import Reference
 from shape_records import BETWEEN

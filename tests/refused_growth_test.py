@@ -12,10 +12,10 @@ import subprocess
 import tempfile
 import unittest
 
+from answers import refused, shown
 from bitmap_records import MASKED, PATCOPY, PATINVERT, QUAD, QUAD_ROWS, SRCCOPY
 from built import CRATES, DOT, DOT_IMAGE, PROGRAMS, SAMPLES, Answer, answer
 from machine_records import EMF, FORMS, HANDLES, SIDE, WMF, pixels
-from records_table import refused, shown
 
 OUT_OF_MEMORY = Answer(4, b"", b"metaplay: OutOfMemory\n")
 

@@ -3,9 +3,10 @@ of it."""
 
 import unittest
 
+from answers import refused, shown
 from built import for_each_program
 from machine_records import EMF, FORMS, SIDE, WMF, StateTest, pixels
-from records_table import BLUE, RED, refused, shown
+from record_fields import BLUE, RED
 
 
 class Depth(StateTest):

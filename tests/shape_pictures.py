@@ -1,7 +1,8 @@
 """Pictures of shapes, and whether the built programs draw them."""
 
+from answers import shown
 from machine_records import FORMS, StateTest
-from records_table import BLACK, BLUE, RED, shown
+from record_fields import BLACK, BLUE, RED
 
 # The colours of a picture's marks; any other mark is white.
 INKS = {"#": BLACK, "o": RED, "b": BLUE}

@@ -4,12 +4,12 @@ objects that are selected, saved and held."""
 
 import unittest
 
+from answers import refused
 from bitmap_pictures import INKS, BitmapTest, answer_with, colours, told
 from bitmap_records import DSTINVERT, PATCOPY, PATINVERT, QUAD, SRCCOPY, bitmap
 from built import for_each_program
 from machine_records import EMF, FORMS, WMF
 from paints_test import OPERATIONS, PAINT, THERE, joined
-from records_table import refused
 from shape_records import rgb_of
 
 # A tile of three columns and two rows, and eight by eight pixels of it.
