@@ -28,7 +28,7 @@ use Rattle.dc_stack.specs.declared.dc.Dc.{Dc}
 use Rattle.dc_stack.specs.declared.draw.PlacedBlit.{PlacedBlit}
 use Rattle.dc_stack.specs.declared.modes.Modes.{Modes}
 use Rattle.player.specs.Apply.{ink_of, joined}
-use Rattle.player.specs.Blits.{blit_colour, blit_joined, blit_made, blit_paints}
+use Rattle.player.specs.Blits.{blit_colour, blit_made, blit_paints}
 use Rattle.player.specs.Layer.{blit_layer, blit_paint, brushed_now}
 use Rattle.player.specs.Mixing.{ternary}
 use Rattle.player.specs.Paint.{paint_at, solid}
@@ -54,7 +54,7 @@ chosen_colour true brush mode background x y = refl
 chosen_colour false brush mode background x y = refl
 
 -- paint joined with what is read is the same, where what is read gives the same
-joined_alike : (op : TernaryOp) (seen source : Colour) (paint : Option Colour) (old : Colour) → ((p : Colour) → ternary_colour op.table p seen old ≡ ternary_colour op.table p source old) → joined_if (Ternary op) seen paint old ≡ blit_joined op source paint old
+joined_alike : (op : TernaryOp) (seen source : Colour) (paint : Option Colour) (old : Colour) → ((p : Colour) → ternary_colour op.table p seen old ≡ ternary_colour op.table p source old) → joined_if (Ternary op) seen paint old ≡ joined_if (Ternary op) source paint old
 joined_alike op seen source None old same = refl
 joined_alike op seen source (Some p) old same = same p
 
@@ -91,7 +91,7 @@ layer_colour : (b : Bool) (brush : Brush) (tools : Tools) (s : Surface) (x y : �
 layer_colour true brush tools s x y same = ap (λ b. brush_paint b tools.modes.background_mode tools.modes.background_colour x y) same
 layer_colour false brush tools s x y same = refl
 
-joined_same : (op : TernaryOp) (s : Surface) (p q first second : Point) (source : Option SourceValue) (x y : ℕ) (paint : Option Colour) (old : Colour) → first ≡ placed_point p s → second ≡ placed_point q s → blit_joined op (source_colour source first second x y) paint old ≡ joined (ternary op.table source p q) s x y paint old
+joined_same : (op : TernaryOp) (s : Surface) (p q first second : Point) (source : Option SourceValue) (x y : ℕ) (paint : Option Colour) (old : Colour) → first ≡ placed_point p s → second ≡ placed_point q s → joined_if (Ternary op) (source_colour source first second x y) paint old ≡ joined (ternary op.table source p q) s x y paint old
 joined_same op s p q first second source x y None old a b = refl
 joined_same op s p q first second source x y (Some paint) old a b = rw (a, b) refl
 
@@ -121,6 +121,6 @@ module _ (laws : WritingLaws) (s : Surface) (old new : CanvasState) (there : IsW
       ∙ ap (λ (k : Option Colour). in_boxes (placed_clip s tools.clip) x y && in_box (box_between first second) x y && is_some k) (colour x y)
       ∙ rw (a, b) refl)
       (λ x y c held t.
-      ap (λ (k : Option Colour). blit_joined op (source_colour source first second x y) k c) (colour x y)
+      ap (λ (k : Option Colour). joined_if (Ternary op) (source_colour source first second x y) k c) (colour x y)
       ∙ joined_same op s p q first second source x y (paint_at (blit_paint op.table tools) s x y) c a b)
       r)

@@ -1,5 +1,5 @@
 -- What a blit paints, as the code tells it.
-use Rattle.std.specs.Prelude.{◌≡◌, ◌≤◌, ◌<◌, ℕ, pos, ◌+ℤ◌, Bool, ◌&&◌, List, slice_index_or, if◌then◌else◌, Option, Some, None, is_some}
+use Rattle.std.specs.Prelude.{◌≡◌, ◌≤◌, ◌<◌, ℕ, pos, ◌+ℤ◌, Bool, ◌&&◌, List, slice_index_or, if◌then◌else◌, Option, Some, is_some}
 use Rattle.mapping.specs.Colours.{black_colour}
 use Rattle.mapping.specs.declared.geometry.Colour.{Colour}
 use Rattle.mapping.specs.declared.geometry.Rect.{Rect}
@@ -12,13 +12,14 @@ use Rattle.raster_ops.specs.Bytes.{HasBytes}
 use Rattle.raster_ops.specs.Paints.{brush_paint}
 use Rattle.raster_ops.specs.Readers.{column_of}
 use Rattle.raster_ops.specs.Sources.{source_colour}
-use Rattle.raster_ops.specs.TernaryOps.{ternary_colour, uses_pattern}
+use Rattle.raster_ops.specs.TernaryOps.{uses_pattern}
 use Rattle.raster_ops.specs.declared.sources.SourceReader.{SourceReader}
 use Rattle.dc_stack.specs.Clip.{box_between, in_box, in_boxes}
 use Rattle.dc_stack.specs.Values.{placed_value}
 use Rattle.dc_stack.specs.declared.dc.Dc.{Dc}
 use Rattle.dc_stack.specs.declared.draw.PlacedBlit.{PlacedBlit}
 use Rattle.span_fill.specs.declared.span.Span.{Span}
+use Rattle.player.specs.RasterOperation.{joined_if}
 use Rattle.player.specs.declared.paint.Paint.{Paint}
 use Rattle.player.specs.declared.raster_operation.RasterOperation.TheVariants.{Ternary}
 
@@ -53,12 +54,7 @@ abbrev pub blit_paints : PlacedBlit → Dc → ℕ → ℕ → Bool
 blit_paints blit dc x y =
     in_boxes (placed_value dc.clip) x y && in_box (box_between blit.first.placed blit.second.placed) x y && is_some (blit_colour blit.operation dc x y)
 
--- what the operation makes of the old colour, where the brush gives one
-abbrev pub blit_joined : TernaryOp → Colour → Option Colour → Colour → Colour
-blit_joined operation source None old = old
-blit_joined operation source (Some paint) old = ternary_colour operation.table paint source old
-
 -- and becomes this
 abbrev pub blit_made : PlacedBlit → Dc → ℕ → ℕ → Colour → Colour
 blit_made blit dc x y old =
-    blit_joined blit.operation (source_colour (source_of blit.source) blit.first.placed blit.second.placed x y) (blit_colour blit.operation dc x y) old
+    joined_if (Ternary blit.operation) (source_colour (source_of blit.source) blit.first.placed blit.second.placed x y) (blit_colour blit.operation dc x y) old
