@@ -1,0 +1,120 @@
+"""Which function of a crate an edit changes, by the name that the prover gives it.
+
+The sources are in the formatter's layout: an item ends at the first line that closes a brace as far to the left as it begins.
+"""
+
+import re
+from typing import NamedTuple
+
+FUNCTION = re.compile(r"(?m)^(?P<indent> *)(?:pub(?:\([^)]*\))? )?(?:const |unsafe )*fn (?P<name>\w+)")
+
+TYPE = re.compile(r"(?m)^(?:pub(?:\([^)]*\))? )?(?:struct|enum) (\w+)")
+
+BLOCK = re.compile(r"(?m)^(?:pub(?:\([^)]*\))? )?(?P<kind>impl|trait)\b(?P<head>[^{]*)\{")
+
+
+class Function(NamedTuple):
+    """A function: its name, and from where to where its text stands, contract and body."""
+
+    name: str
+    start: int
+    end: int
+
+
+def without_parameters(head):
+    """The head of an impl or a trait without what stands between angle brackets."""
+    depth, kept = 0, []
+    for sign, before in zip(head, " " + head):
+        depth += sign == "<"
+        if not depth:
+            kept.append(sign)
+        depth -= sign == ">" and before not in "-="
+    return "".join(kept)
+
+
+def last_name(path):
+    """The last name of a path to a type or a trait, and of a trait its bounds left out."""
+    return re.match(r"[&\s]*(?:\w+::)*(\w+)", path)[1]
+
+
+def block_name(kind, head):
+    """How the prover names what stands in an impl or a trait: by the type, and of a trait's impl by type and trait. And whether
+    it is what a type has by itself."""
+    words = re.sub(r"\s+", " ", without_parameters(head)).split(" where ")[0].strip()
+    if kind == "impl" and " for " in words:
+        name, owner = words.split(" for ", 1)
+        return last_name(owner) + last_name(name), False
+    return last_name(words), kind == "impl"
+
+
+def end_of(text, start, indent):
+    """Where an item ends whose first line has this indent."""
+    end = re.compile(rf"(?m)^{indent}(?:\{{\}}$|\}})").search(text, start)
+    return end.end() if end else len(text)
+
+
+def modules_of(path):
+    """The modules in which a source file stands."""
+    parts = path.removeprefix("src/").removesuffix(".rt").split("/")
+    return [] if parts in (["lib"], ["main"]) else parts
+
+
+def types_of(sources):
+    """The modules in which each type of a crate is declared, by the texts of its files."""
+    return {it[1]: modules_of(path) for path, text in sources.items() for it in TYPE.finditer(text)}
+
+
+class Block(NamedTuple):
+    """An impl or a trait: from where to where it stands, its modules and its name."""
+
+    start: int
+    end: int
+    modules: list
+    name: str
+
+
+def blocks(sources, path):
+    """The impls and traits of a source file. What a type has by itself stands, for the prover, where the type does."""
+    types, found = types_of(sources), []
+    for it in BLOCK.finditer(sources[path]):
+        name, is_own = block_name(it["kind"], it["head"])
+        modules = types.get(name, modules_of(path)) if is_own else modules_of(path)
+        is_empty = sources[path].startswith("}", it.end())
+        end = it.end() if is_empty else end_of(sources[path], it.end(), "")
+        found.append(Block(it.start(), end, modules, name))
+    return found
+
+
+def functions(crate, sources, path):
+    """The functions of a source file of a crate, those in impls and traits too."""
+    text, found = sources[path], []
+    for it in FUNCTION.finditer(text):
+        owners = [block for block in blocks(sources, path) if it["indent"] and block.start <= it.start() < block.end]
+        inside = [*owners[0].modules, owners[0].name] if owners else modules_of(path)
+        name = "::".join([crate, *inside, it["name"]])
+        found.append(Function(name, it.start(), end_of(text, it.end(), it["indent"])))
+    return found
+
+
+def pairs(edit):
+    """The pairs of an edit's text: the file, the text that stands in it, and what takes its place."""
+    path = old = None
+    for line in edit.split("\n"):
+        if line.startswith("file: "):
+            path = line.removeprefix("file: ").strip()
+        elif line.startswith("old: "):
+            old = line.removeprefix("old: ")
+        elif line.startswith("new:"):
+            yield path, old, line.removeprefix("new:").removeprefix(" ")
+
+
+def changed_functions(crate, edit, sources):
+    """The names of the functions that an edit's text changes, and whether it also changes what stands in none. The crate's
+    files are given by their paths."""
+    names, outside = [], False
+    for path, old, _ in pairs(edit):
+        place = sources[path].find(old)
+        inside = [it.name for it in functions(crate, sources, path) if it.start <= place < it.end]
+        names += [name for name in inside[-1:] if name not in names]
+        outside = outside or not inside
+    return names, outside

@@ -1,0 +1,310 @@
+#!/usr/bin/env python3
+"""Tries the wrong bodies in edits/: the prover has to refuse each, in the function that it changes.
+
+    edits.py [CRATE..]      tries the edits of all crates, or of these, and the judge itself
+    edits.py --each CRATE   has the toolchain's own judge try a crate's edits, one by one
+
+An edit is a file edits/CRATE/NAME.edit in the toolchain's form: a line 'file: src/lib.rt' and then pairs of lines 'old: TEXT'
+and 'new: TEXT', each TEXT standing once in that file. Since a body is proved from the contracts of what it calls, and never from
+their bodies, one copy of a crate holds a wrong body for each of many functions, and each function is judged by itself: it has to
+have a goal of its own that isn't proved. That it calls another function that is wrong too doesn't count. In each further round
+the functions that have one more edit get that, and the others stay as they are, so that nothing right is proved again.
+
+It runs behind `rt ci`, which proves the crates as they are, over the libraries that it leaves.
+"""
+
+import argparse
+import contextlib
+import importlib.machinery
+import importlib.util
+import os
+import pathlib
+import shutil
+import subprocess
+import sys
+import tempfile
+import time
+from concurrent.futures import ThreadPoolExecutor
+from typing import NamedTuple
+
+import edit_verdicts
+from edit_functions import changed_functions, pairs
+
+ROOT = pathlib.Path(__file__).resolve().parent.parent
+
+EDITS = ROOT / "edits"
+
+# How many edits there are, so that none is lost.
+COUNT = 552
+
+# How many functions one check judges at most: it may take 5 GB for as many.
+MOST_AT_A_TIME = 30
+
+# The memory that a check may take, in bytes.
+MEMORY = 5_000_000_000
+
+# An edit that changes nothing and one that is right: the judge has to say that neither was refused.
+RIGHT_CRATE = "mapping"
+RIGHT = {
+    "nothing_is_changed": "file: src/mix.rt\nold: keep & old ^ flip\nnew: keep & old ^ flip\n",
+    "another_right_body": "file: src/geometry.rt\nold: 1 <= side\nnew: 0 < side\n",
+}
+
+
+def kit():
+    """The toolchain's command `rt` as a module: how it calls the prover, and reads and judges an edit."""
+    loader = importlib.machinery.SourceFileLoader("rt", os.path.realpath(shutil.which("rt")))
+    module = importlib.util.module_from_spec(importlib.util.spec_from_loader("rt", loader))
+    sys.modules["rt"] = module
+    loader.exec_module(module)
+    return module
+
+
+rt = kit()
+
+
+class Edit(NamedTuple):
+    """An edit: its name, its text, and the functions that it changes. Where it also changes what stands in no function, it is
+    tried alone, and so it has none."""
+
+    name: str
+    text: str
+    functions: tuple
+
+
+class Trial(NamedTuple):
+    """What came of an edit: whether it was refused, as it must be, and what to say."""
+
+    is_refused: bool
+    said: str
+
+
+def read_edit(name, text, crate, sources):
+    """An edit of a crate, or what is wrong with it. The crate's files are given by their paths."""
+    why = rt.edited(text, crate.folder)[1]
+    if why:
+        return None, f"{crate.name}/{name}: BAD EDIT: {why}"
+    names, outside = changed_functions(crate.name, text, sources)
+    return Edit(name, text, () if outside else tuple(names)), None
+
+
+def sources_of(crate):
+    """The texts of a crate's files by their paths in it."""
+    folder = pathlib.Path(crate.folder)
+    return {str(path.relative_to(folder)): path.read_text(encoding="utf-8") for path in folder.glob("src/**/*.rt")}
+
+
+def edits_of(crate, sources):
+    """The edits of a crate in order of their names, and what is wrong with others."""
+    found = [(path.stem, path.read_text(encoding="utf-8")) for path in sorted((EDITS / crate.name).glob("*.edit"))]
+    read = [read_edit(name, text, crate, sources) for name, text in found]
+    return [edit for edit, _ in read if edit], [why for _, why in read if why]
+
+
+def placed_in(texts, edit):
+    """The texts of a crate's files with an edit in them, or none where it doesn't find its place."""
+    texts = dict(texts)
+    for path, old, new in pairs(edit.text):
+        if texts[path].count(old) != 1:
+            return None
+        texts[path] = texts[path].replace(old, new)
+    return texts
+
+
+class Round(NamedTuple):
+    """Edits of different functions that are judged together, and the texts of the crate's files with them."""
+
+    edits: list
+    texts: dict
+
+
+def rounds_of(edits, sources):
+    """The edits of functions in rounds: in none is a function changed by two, and all find their places together."""
+    rounds = []
+    for edit in edits:
+        for at, it in enumerate(rounds):
+            texts = placed_in(it.texts, edit)
+            if texts and not any(set(edit.functions) & set(other.functions) for other in it.edits):
+                rounds[at] = Round([*it.edits, edit], texts)
+                break
+        else:
+            rounds.append(Round([edit], placed_in(sources, edit)))
+    return rounds
+
+
+def beside(this, standing):
+    """A round's texts with those of the edits before it that find their places beside it, and all edits that they have."""
+    texts, edits = this.texts, list(this.edits)
+    for edit in standing:
+        free = not any(set(edit.functions) & set(other.functions) for other in this.edits)
+        there = placed_in(texts, edit) if free else None
+        if there:
+            texts, edits = there, [*edits, edit]
+    return Round(edits, texts)
+
+
+@contextlib.contextmanager
+def copy_of(crate, texts):
+    """A copy of a crate with these texts of its sources, in a folder of its own."""
+    with tempfile.TemporaryDirectory(prefix="edit-") as room:
+        for part in rt.rtlib.PARTS:
+            if os.path.isdir(f"{crate.folder}/{part}"):
+                shutil.copytree(f"{crate.folder}/{part}", f"{room}/{part}")
+        for path, text in texts.items():
+            pathlib.Path(room, path).write_text(text, encoding="utf-8")
+        yield room
+
+
+def check(crate, room, functions, kept):
+    """What the prover says of functions of a copy of a crate, over what earlier checks left in a folder."""
+    words = [word for name in functions for word in ("--only", name)]
+    command = [rt.rtlib.RATTLE, "check", *crate.words(["--jobs", "1", *words], keeps=False), "--incremental", kept]
+    how = {"cwd": room, "stdin": subprocess.DEVNULL, "stdout": subprocess.PIPE, "stderr": subprocess.STDOUT, "errors": "replace"}
+    return subprocess.run([*rt.rtlib.guarded(), *command], check=False, **how)
+
+
+def files_of(edits):
+    """The files that edits change."""
+    return {path for edit in edits for path, _, _ in pairs(edit.text)}
+
+
+def refused_by(ran, last, edits):
+    """The functions that a check refuses for a reason of their own: none where it ends otherwise than by this last line, or
+    can't read what an edit wrote."""
+    lines = ran.stdout.rstrip("\n").split("\n")
+    changed = files_of(edits)
+    if ran.returncode != 1 or not lines[-1].startswith(last) or any(rt.unread(line, changed) for line in lines):
+        return None
+    return edit_verdicts.refused(ran.stdout)
+
+
+def judge_alone(crate, edit, sources, kept):
+    """Judges an edit in a copy of the crate that has no other, of which all functions are checked."""
+    with copy_of(crate, placed_in(sources, edit)) as room:
+        ran = check(crate, room, (), kept)
+    refused = refused_by(ran, "logic=not-proved", [edit])
+    if refused is None or (edit.functions and not refused & set(edit.functions)):
+        last = ran.stdout.rstrip("\n").split("\n")[-1]
+        return Trial(False, f"{crate.name}/{edit.name}: NOT REFUSED: {last[:200]}")
+    return Trial(True, f"{crate.name}/{edit.name}: refused alone, by {', '.join(sorted(refused)) or 'the crate'}")
+
+
+def judge_together(crate, edits, whole, sources, kept):
+    """Judges some edits of a round in a copy of the crate that has the whole round's, each by its own function. Those that
+    aren't refused so are tried alone."""
+    with copy_of(crate, whole.texts) as room:
+        ran = check(crate, room, [name for edit in edits for name in edit.functions], kept)
+    refused = refused_by(ran, "only=", whole.edits) or set()
+    for name in sorted(refused - {name for edit in whole.edits for name in edit.functions}):
+        yield Trial(False, f"{crate.name}: {name}, which no edit changes, isn't proved beside {len(whole.edits)} edits")
+    for edit in edits:
+        if set(edit.functions) <= refused:
+            yield Trial(True, f"{crate.name}/{edit.name}: refused by {', '.join(edit.functions)}")
+        else:
+            yield judge_alone(crate, edit, sources, kept)
+
+
+def parts_of(edits):
+    """The edits of a round, in parts of so many as one check may judge."""
+    return [edits[start : start + MOST_AT_A_TIME] for start in range(0, len(edits), MOST_AT_A_TIME)]
+
+
+def judge(crate, edits, sources):
+    """Judges edits of a crate, and gives what came of each, and what else was wrong."""
+    with tempfile.TemporaryDirectory(prefix="edits-") as kept:
+        standing = []
+        for this in rounds_of([edit for edit in edits if edit.functions], sources):
+            whole = beside(this, standing)
+            standing = whole.edits
+            for part in parts_of(this.edits):
+                yield from judge_together(crate, part, whole, sources, kept)
+        for edit in edits:
+            if not edit.functions:
+                yield judge_alone(crate, edit, sources, kept)
+
+
+def judge_itself(crate):
+    """Whether the judge says of an edit that changes nothing, and of a right one, that neither is refused."""
+    sources = sources_of(crate)
+    edits = [read_edit(name, text, crate, sources)[0] for name, text in RIGHT.items()]
+    trials = list(judge(crate, edits, sources))
+    is_well = len(trials) == len(RIGHT) and not any(trial.is_refused for trial in trials)
+    return Trial(is_well, f"{crate.name}: the judge {'lets' if is_well else 'DOES NOT LET'} two right bodies through")
+
+
+def has_fresh_libraries(crate):
+    """Whether the libraries below a crate stand as `rt ci` leaves them: of the sources as they are."""
+    for it in crate.below():
+        sources = [os.path.getmtime(file) for lower in [it, *it.below()] for file in rt.rtlib.files_of(lower.folder)]
+        made = pathlib.Path(it.rlib, "format")
+        if os.path.exists(f"{it.folder}/out/rlib/stamp") or not made.exists() or made.stat().st_mtime < max(sources):
+            return False
+    return True
+
+
+def build_libraries(crate):
+    """Has the libraries below a crate built, where they aren't, and answers whether they are."""
+    if has_fresh_libraries(crate):
+        return True
+    return not any(it.build_rlib(["--jobs", "2"], anew=False) for it in crate.below())
+
+
+def try_crate(crate):
+    """Tries the edits of a crate, says what came of each, and answers what was refused and what went wrong."""
+    start = time.monotonic()
+    sources = sources_of(crate)
+    edits, wrong = edits_of(crate, sources)
+    trials = list(judge(crate, edits, sources))
+    trials += [judge_itself(crate)] if crate.name == RIGHT_CRATE else []
+    wrong += [trial.said for trial in trials if not trial.is_refused]
+    print("\n".join(trial.said for trial in trials if trial.is_refused))
+    print(f"{crate.name}: {len(edits)} edits in {time.monotonic() - start:.0f} s", flush=True)
+    return len(edits), wrong
+
+
+def lanes():
+    """How many crates to try side by side: as processors and memory allow."""
+    return max(1, min(rt.processors(), int(rt.free() / MEMORY)))
+
+
+def try_all(names):
+    """Tries the edits of these crates, or of all, and answers the status."""
+    folders = sorted(it.name for it in EDITS.iterdir())
+    crates = [it for it in rt.rtlib.crates_below(str(ROOT)) if it.name in (names or folders)]
+    rt.rtlib.guarded()
+    if not all(build_libraries(it) for it in crates):
+        return 1
+    crates.sort(key=lambda it: -len(it.below()) * len(list((EDITS / it.name).glob("*.edit"))))
+    with ThreadPoolExecutor(lanes()) as pool:
+        results = list(pool.map(try_crate, crates))
+    count, wrong = sum(it for it, _ in results), [said for _, its in results for said in its]
+    if not names and (count != COUNT or {it.name for it in crates} != set(folders)):
+        wrong.append(f"there are {count} edits of crates, and not {COUNT}")
+    print("\n".join(wrong), flush=True)
+    print(f"{count} edits tried, {len(wrong)} things wrong", flush=True)
+    return 1 if wrong else 0
+
+
+def try_each(name):
+    """Has the toolchain's own judge try a crate's edits, one by one, and answers the status."""
+    crate = next(it for it in rt.rtlib.crates_below(str(ROOT)) if it.name == name)
+    rt.rtlib.guarded()
+    if not build_libraries(crate):
+        return 1
+    trials = rt.must_fail_all(crate, [str(it) for it in sorted((EDITS / name).glob("*.edit"))], ["--jobs", "1"])
+    print("\n".join(said for _, said in trials), flush=True)
+    return 0 if all(is_refused for is_refused, _ in trials) else 1
+
+
+def main():
+    """Answers the status."""
+    words = argparse.ArgumentParser(description=__doc__, formatter_class=argparse.RawDescriptionHelpFormatter)
+    words.add_argument("crates", nargs="*", metavar="CRATE")
+    words.add_argument("--each", metavar="CRATE")
+    asked = words.parse_args()
+    os.chdir(ROOT)
+    return try_each(asked.each) if asked.each else try_all(asked.crates)
+
+
+if __name__ == "__main__":
+    sys.exit(main())
