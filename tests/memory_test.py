@@ -1,0 +1,163 @@
+"""How much memory the built program takes: what draws is drawn under a limit of its addresses, and a lower limit is told."""
+
+import functools
+import resource
+import subprocess
+import tempfile
+import unittest
+
+from bitmap_records import PATCOPY, QUAD, SRCCOPY
+from built import DOT, DOT_IMAGE, Answer, answer, for_each_program
+from machine_records import EMF, FORMS, SIDE, WMF
+
+MIB = 1 << 20
+
+# What a run may take beside the program itself, the file, and three bytes for each pixel of the surface.
+ROOM = 16 * MIB
+
+OUT_OF_MEMORY = Answer(4, b"", b"metaplay: OutOfMemory\n")
+
+SHOW = ["show", "stdin", str(SIDE), str(SIDE)]
+
+
+def within(limit):
+    """Leaves a process so many bytes of addresses."""
+    return lambda: resource.setrlimit(resource.RLIMIT_AS, (limit, limit))
+
+
+def answer_within(limit, program, words, given=b""):
+    """The program's answer under a limit of addresses, or None where the system can't start it there."""
+    try:
+        return answer(program, words, given, preexec_fn=within(limit))
+    except (OSError, subprocess.SubprocessError):
+        return None
+
+
+@functools.cache
+def bare(program):
+    """The fewest addresses, within a page, with which the program tells its help: it reads no file then."""
+    helped = answer(program, ["--help"])
+    least, enough = 0, 1 << 28
+    while enough - least > 4096:
+        limit = (least + enough) // 2
+        if answer_within(limit, program, ["--help"]) == helped:
+            enough = limit
+        else:
+            least = limit
+    return enough
+
+
+def points(count):
+    """So many points all over the surface, one to the left and the next to the right."""
+    return " ".join(f"{index * 7 % SIDE * (index % 2)} {index * 5 % SIDE}" for index in range(count))
+
+
+# What is drawn, in both formats: each with all that it wants.
+DRAWINGS = [
+    "pixel 1 1",
+    "move 0 0; line 9 9",
+    "polyline 0 0 9 9 3 4",
+    f"polyline {points(1000)}",
+    f"polygon {points(1000)}",
+    f"polygons {points(500)} | {points(500)}",
+    "rectangle 0 0 9 9",
+    "hatched_brush 0 5 3; select 0; rectangle 0 0 9 9",
+    f"tiled_brush 0 {QUAD}; select 0; rectangle 0 0 16 16",
+    f"tiled_brush 0 {QUAD}; select 0; polygon {points(1000)}",
+    f"pat_blt {PATCOPY} 0 0 16 16",
+    f"bit_blt {SRCCOPY} 0 0 2 2 0 0 {QUAD}",
+    f"stretch_blt {SRCCOPY} 0 0 16 16 0 0 2 2 {QUAD}",
+    f"stretch_dib {SRCCOPY} 0 0 16 16 0 0 2 2 {QUAD}",
+    "256x save; pixel 1 1",
+    "16x cut 0 0 1 1; pixel 1 1",
+]
+
+# What EMF alone draws.
+PATHS = [
+    f"begin_path; polygon {points(1000)}; end_path; {painted}" for painted in ("fill_path", "stroke_path", "stroke_and_fill_path")
+] + [
+    "begin_path; 4096x polygon -9 -9 -5 -9; end_path; stroke_and_fill_path",
+    f"polylines {points(500)} | {points(500)}",
+    f"polyline_to {points(1000)}",
+]
+
+
+class Memory(unittest.TestCase):
+    """Runs under a limit of the program itself, its file, its surface, and a room that is the same for all."""
+
+    def check(self, program, form, script, handles=4):
+        """A file of these records is shown under the limit as it is without one."""
+        given = form.file(form.records(script), SIDE, handles)
+        ample = answer(program, SHOW, given)
+        self.assertEqual((ample.status, ample.err), (0, b""), script[:80])
+        limit = bare(program) + len(given) + 3 * SIDE * SIDE + ROOM
+        self.assertEqual(answer_within(limit, program, SHOW, given), ample, (form.name, script[:80]))
+
+    @for_each_program
+    def test_each_drawing(self, program):
+        for form in FORMS:
+            for script in DRAWINGS:
+                self.check(program, form, script)
+        for script in PATHS:
+            self.check(program, EMF, script)
+
+    @for_each_program
+    def test_many_objects(self, program):
+        self.check(program, WMF, "1024x pen 0; pixel 1 1")
+        for handles in (2, 257, 4097, 32769, 65535):
+            self.check(program, EMF, f"pen_at {handles - 1}; pixel 1 1", handles)
+
+    @for_each_program
+    def test_large_surfaces(self, program):
+        for width, height in [(4096, 4096), (8192, 4096), (4096, 8192), (8192, 8192)]:
+            with tempfile.TemporaryFile() as image:
+                words = [program, "show", "stdin", str(width), str(height)]
+                limit = within(bare(program) + len(DOT) + 3 * width * height + ROOM)
+                ran = subprocess.run(words, input=DOT, stdout=image, stderr=subprocess.PIPE, check=False, preexec_fn=limit)
+                self.assertEqual((ran.returncode, ran.stderr), (0, b""), (width, height))
+                header = f"P6\n{width} {height}\n255\n".encode()
+                self.assertEqual(image.seek(0, 2), len(header) + 3 * width * height)
+                image.seek(0)
+                self.assertEqual(image.read(len(header)), header)
+
+    @for_each_program
+    def test_a_long_file_is_held_once_and_while_it_grows_no_more_than_thrice(self, program):
+        # A list of bytes that is full moves into one at most twice as long, and both are there for a moment.
+        given = DOT.ljust(20 * MIB, b"\0")
+        limit = bare(program) + 3 * len(given) + 48 + ROOM
+        with tempfile.NamedTemporaryFile() as file:
+            file.write(given)
+            file.flush()
+            answered = answer_within(limit, program, ["show", file.name, "4", "4"])
+        self.assertEqual(answered, Answer(0, DOT_IMAGE, b""))
+
+
+class LittleMemory(unittest.TestCase):
+    """Runs under limits that are too low."""
+
+    @for_each_program
+    def test_a_limit_far_too_low_is_told(self, program):
+        for width, height in [(8192, 8192), (8192, 4096), (4096, 8192), (4096, 4096), (2048, 8192)]:
+            words = ["show", "stdin", str(width), str(height)]
+            told = answer_within(bare(program) + 3 * width * height // 2, program, words, DOT)
+            self.assertEqual(told, OUT_OF_MEMORY, (width, height))
+
+    @for_each_program
+    def test_a_file_that_has_no_room_is_told(self, program):
+        given = DOT.ljust(40 * MIB, b"\0")
+        self.assertEqual(answer_within(bare(program) + 20 * MIB, program, SHOW, given), OUT_OF_MEMORY)
+
+    @for_each_program
+    def test_any_limit_gives_the_image_or_is_told(self, program):
+        # Above what the bare program takes, there is memory for the image, or there isn't and that is told.
+        words = ["show", "stdin", "1024", "1024"]
+        ample, found = answer(program, words, DOT), set()
+        for room in range(0, 24 * MIB, MIB // 4):
+            answered = answer_within(bare(program) + room, program, words, DOT)
+            found.add(answered.status)
+            self.assertEqual(answered, OUT_OF_MEMORY if answered.status else ample, room)
+        self.assertEqual(found, {0, 4})
+
+
+if __name__ == "__main__":
+    unittest.main()
