@@ -83,7 +83,7 @@ class Sides(SizesTest):
 
     @for_each_program
     def test_squares(self, program):
-        for side in self.sizes(40, 1, 512):
+        for side in [*range(1, 301), *self.drawn(10, 301, 1024)]:
             self.check_sides(program, side, side)
 
     @for_each_program
