@@ -8,11 +8,10 @@ import shutil
 import subprocess
 import tempfile
 
-from instruction_files import FILES, ROOT
+from instruction_files import FILES
+from writers import PROGRAM, ROOT
 
 RECORD = ROOT / "bench" / "instructions.json"
-
-PROGRAM = ROOT / "crates" / "meta_main" / "out" / "meta_main"
 
 # How many times the instructions on record a file may take at most.
 MOST = 1.3

@@ -1,17 +1,10 @@
 """The files whose instructions are counted, each of a sort of work that a slip makes very slow: one pixel more in a box,
 a list that is sorted by insertion, points that are counted again for each record."""
 
-import pathlib
 import random
-import sys
 from typing import NamedTuple
 
-ROOT = pathlib.Path(__file__).resolve().parent.parent
-
-sys.path.insert(0, str(ROOT / "tests"))
-
-from bitmap_records import SRCCOPY, MASKED, Bitmap, header  # noqa: E402
-from machine_records import EMF, WMF  # noqa: E402
+from writers import EMF, MASKED, SRCCOPY, WMF, Bitmap, header
 
 
 class Counted(NamedTuple):
