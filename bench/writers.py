@@ -1,4 +1,4 @@
-"""The writers of records and files, which stand in tests/, and where this repository and its program are."""
+"""The writers of records and files, which stand in tests/metafile/, and where this repository and its program are."""
 
 import pathlib
 import sys
@@ -9,7 +9,8 @@ PROGRAM = ROOT / "crates" / "meta_main" / "out" / "meta_main"
 
 sys.path.insert(0, str(ROOT / "tests"))
 
-from bitmap_records import MASKED, PATCOPY, PATINVERT, SRCCOPY, Bitmap, header  # noqa: E402
-from machine_records import EMF, WMF  # noqa: E402
+from metafile.bitmaps import Bitmap, header  # noqa: E402
+from metafile.blits import MASKED, PATCOPY, PATINVERT, SRCCOPY  # noqa: E402
+from metafile.scripts import EMF, WMF  # noqa: E402
 
 __all__ = ["EMF", "MASKED", "PATCOPY", "PATINVERT", "PROGRAM", "ROOT", "SRCCOPY", "WMF", "Bitmap", "header"]
