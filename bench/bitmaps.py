@@ -68,7 +68,9 @@ def blits(operation, depth=None):
         yield WMF.step("stretch_dib" if source else "pat_blt", operation, *box, *source)
 
 
-EMPTY, COLOURED, COPIED, COPIED_FROM = "an empty picture", "one colour", "500 blits, PATCOPY", "500 blits, SRCCOPY, of 8 bits"
+EMPTY, COLOURED = "an empty picture", "one colour"
+
+COPIED, COPIED_FROM = "500 blits, PATCOPY", "500 blits, SRCCOPY, of 8 bits"
 
 # Each with what it stands beside.
 WORK = {

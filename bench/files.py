@@ -12,6 +12,9 @@ PIXELS = 1_000_000
 
 LARGEST = 8192
 
+# The samples that show how a file is refused.
+REFUSED = ["held.wmf"]
+
 # Escapes of 64 bytes, nearly as many as a file of 64 MiB has room for.
 ESCAPES = 1_048_570
 
@@ -43,7 +46,7 @@ def sample_rows(bench):
     """Each sample beside an empty picture."""
     samples = sorted(path for path in (ROOT / "samples").iterdir() if path.suffix in (".wmf", ".emf"))
     empty = bench.write(lambda: [WMF.file([], SIDE, 0)])
-    commands = {path: bench.show(path, SIDE) for path in samples if path.name != "held.wmf"}
+    commands = {path: bench.show(path, SIDE) for path in samples if path.name not in REFUSED}
     taken = least_seconds(commands | {empty: bench.show(empty, SIDE)})
     for path in commands:
         yield Row(f"samples/{path.name}, 1,024 a side", "s", taken[path], taken[empty], "an empty picture")
@@ -59,13 +62,13 @@ def pixels_row(bench):
 
 
 def canvas_row(bench):
-    """The largest picture written to a file, beside as many bytes of 0."""
+    """The largest picture written to a file, beside as many bytes of 0: seconds of the clock, as a disk has a part in them."""
     shown, out = bench.show(ROOT / "samples" / "dot.wmf", LARGEST), bench.folder / "picture"
     size = 3 * LARGEST * LARGEST + len(f"P6\n{LARGEST} {LARGEST}\n255\n")
     commands = {"ours": shown, "zeros": ["head", "-c", str(size), "/dev/zero"]}
-    taken = least_seconds(commands, output=out)
+    taken = least_seconds(commands, output=out, by_the_clock=True)
     memory = memory_of(shown), 3 * LARGEST * LARGEST + 8 * MIB
-    return Row("8,192 by 8,192 as P6", "s", taken["ours"], taken["zeros"], "head -c", most_ratio=2, memory=memory)
+    return Row("8,192 by 8,192 as P6, by the clock", "s", taken["ours"], taken["zeros"], "head -c", most_ratio=2, memory=memory)
 
 
 def late_row(bench):

@@ -17,16 +17,22 @@ STATES = 256
 
 HANDLES = 0xFFFF
 
+FORMS = {"WMF": WMF, "EMF": EMF}
+
 INDEXES = {"WMF": range(1024), "EMF": range(65534)}
 
 OBJECTS = ["pen", "brush", "font", "palette"]
 
 
 @functools.cache
-def step(form, name, *numbers):
+def made(form_name, name, *numbers):
     """The bytes of a record, made once."""
-    number, parameters = form.named.get(name, (0, None))
-    return form.step(name, *numbers) if parameters is None else form.record(number, parameters(*numbers))
+    return FORMS[form_name].step(name, *numbers)
+
+
+def step(form, name, *numbers):
+    """The bytes of a record."""
+    return made(form.name, name, *numbers)
 
 
 def pixels(form):
@@ -160,7 +166,7 @@ def file_of(form, records):
 
 def rows(bench):
     """All of them."""
-    paths = {(form.name, name): bench.write(file_of(form, make)) for form in (WMF, EMF) for name, make in KINDS.items()}
+    paths = {(form.name, name): bench.write(file_of(form, make)) for form in FORMS.values() for name, make in KINDS.items()}
     seconds = least_seconds({key: bench.show(path, SIDE) for key, path in paths.items()})
     for (form, name), path in paths.items():
         memory = memory_of(bench.show(path, SIDE)), path.stat().st_size + 3 * SIDE * SIDE + 16 * MIB

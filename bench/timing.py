@@ -5,6 +5,7 @@ import pathlib
 import shutil
 import subprocess
 import sys
+import time
 from typing import NamedTuple
 
 RUNS = 5
@@ -26,15 +27,17 @@ class Row(NamedTuple):
     memory: tuple[float, float] | None = None
 
 
-def seconds_of(words, output=os.devnull):
-    """The processor seconds, user and system, of one run of a command."""
+def seconds_of(words, output=os.devnull, by_the_clock=False):
+    """The processor seconds, user and system, of one run of a command, or those of the clock."""
     with open(output, "wb") as out:
+        start = time.perf_counter()
         child = subprocess.Popen(words, stdout=out)
         _, ended, usage = os.wait4(child.pid, 0)
+        elapsed = time.perf_counter() - start
     child.returncode = os.waitstatus_to_exitcode(ended)
     if child.returncode != 0:
         sys.exit(f"{' '.join(map(str, words))} ended with status {child.returncode}")
-    return usage.ru_utime + usage.ru_stime
+    return elapsed if by_the_clock else usage.ru_utime + usage.ru_stime
 
 
 def least_seconds(commands, runs=RUNS, **more):
