@@ -5,7 +5,7 @@ import unittest
 
 from built import PROGRAMS, ROOT
 
-sys.path.insert(0, str(ROOT / "bench"))
+sys.path.append(str(ROOT / "bench"))
 
 from instruction_counts import FILES, count, is_within, on_record  # noqa: E402
 
