@@ -2,11 +2,11 @@
 and 2.3.7.4) at several values, and what each leads to: one pixel of a picture of three by three
 drawn on a surface of four by four, or others, or a fault."""
 
-from bitmap_records import (
+from metafile.bitmaps import bitmap
+from metafile.blits import (
     BLACKNESS,
     SRCCOPY,
     bit_blt,
-    bitmap,
     dib_bit_blt,
     dib_pattern_brush,
     dib_stretch_blt,
@@ -16,7 +16,7 @@ from bitmap_records import (
     stretch_dib,
     stretch_dibits,
 )
-from record_fields import BLACK, i16, i32, joined, u16, u32
+from metafile.fields import BLACK, i16, i32, joined, u16, u32
 from records_test import Records
 
 LARGEST = 0xFFFFFFFF

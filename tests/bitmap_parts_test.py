@@ -18,20 +18,13 @@ from bitmap_fields import (
     BitmapRecords,
     written,
 )
-from bitmap_records import (
-    BLACKNESS,
-    LEAST,
-    SRCCOPY,
-    bit_blt,
-    bitmap,
-    stretch_blt,
-    stretch_dibits,
-)
 from built import for_each_program
-from emf_kinds import EMF
-from record_fields import BLACK, i16, i32, joined, u16, u32
-from record_kinds import ACCEPTED
-from wmf_kinds import WMF
+from metafile.bitmaps import bitmap
+from metafile.blits import BLACKNESS, LEAST, SRCCOPY, bit_blt, stretch_blt, stretch_dibits
+from metafile.fields import BLACK, i16, i32, joined, u16, u32
+from standards.emf import EMF
+from standards.kinds import ACCEPTED
+from standards.wmf import WMF
 
 
 def places(number, parts=PARTS):

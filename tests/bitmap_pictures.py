@@ -1,9 +1,11 @@
 """Pictures of several colours, told by marks, and whether the built programs show them."""
 
 from answers import shown
-from bitmap_records import GREEN, SRCCOPY, WHITE, bitmap
-from machine_records import FORMS, StateTest
-from record_fields import BLACK, BLUE, RED
+from metafile.bitmaps import GREEN, WHITE, bitmap
+from metafile.blits import SRCCOPY
+from metafile.fields import BLACK, BLUE, RED
+from metafile.scripts import FORMS
+from script_answers import StateTest
 
 # The colours of marks.
 INKS = {

@@ -22,12 +22,12 @@ from bitmap_fields import (
     unread_sources,
     usages,
 )
-from bitmap_records import LEAST, SRCCOPY
 from built import for_each_program
-from emf_kinds import EMF, TRANSFORMS
-from record_fields import BLACK, i16, i32, joined, u16, u32
-from record_kinds import ACCEPTED
-from wmf_kinds import WMF
+from metafile.blits import LEAST, SRCCOPY
+from metafile.fields import BLACK, i16, i32, joined, u16, u32
+from standards.emf import EMF, TRANSFORMS
+from standards.kinds import ACCEPTED
+from standards.wmf import WMF
 
 
 class Fields(BitmapRecords):

@@ -4,18 +4,10 @@ filled up, tables of all lengths, and headers of all sizes, shown by copying the
 import unittest
 
 from bitmap_pictures import INKS, BitmapTest, colours, copied, told
-from bitmap_records import (
-    PATCOPY,
-    QUAD,
-    QUAD_ROWS,
-    SRCCOPY,
-    UNUSED,
-    Bitmap,
-    bitmap,
-    header,
-)
 from built import for_each_program
-from record_fields import BLACK, i32, u16, u32
+from metafile.bitmaps import QUAD, QUAD_ROWS, UNUSED, Bitmap, bitmap, header
+from metafile.blits import PATCOPY, SRCCOPY
+from metafile.fields import BLACK, i32, u16, u32
 
 DEPTHS = [1, 4, 8, 16, 24, 32]
 

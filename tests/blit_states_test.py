@@ -6,9 +6,9 @@ import unittest
 
 from answers import refused
 from bitmap_pictures import BitmapTest, told
-from bitmap_records import BLACKNESS, DSTINVERT, MASKED, PATCOPY, PATINVERT, SRCCOPY, WHITENESS
 from built import for_each_program
-from machine_records import EMF
+from metafile.blits import BLACKNESS, DSTINVERT, MASKED, PATCOPY, PATINVERT, SRCCOPY, WHITENESS
+from metafile.scripts import EMF
 
 SIXTEEN = told("rgby cmop ld#. .ygc")
 

@@ -10,9 +10,10 @@ import unittest
 
 from answers import refused
 from bitmap_pictures import BitmapTest, told
-from bitmap_records import BLACKNESS, DSTINVERT, QUAD, SRCCOPY, Bitmap, header
 from built import for_each_program
-from machine_records import EMF, FORMS
+from metafile.bitmaps import QUAD, Bitmap, header
+from metafile.blits import BLACKNESS, DSTINVERT, SRCCOPY
+from metafile.scripts import EMF, FORMS
 
 # A picture of twelve colours, whose rows and columns are all different.
 TWELVE = told("rgby cmop ld#.")

@@ -3,7 +3,8 @@
 import unittest
 
 from built import for_each_program
-from machine_records import EMF, FORMS, PictureTest, StateTest
+from metafile.scripts import EMF, FORMS
+from script_answers import PictureTest, StateTest
 
 # A page unit is 16,384 pixels, of which 16,384 are 2^28: a corner 16,385 is off the plane.
 FAR = "map_mode 8; window_extent 1 1; viewport_extent 16384 16384"

@@ -4,8 +4,9 @@ import unittest
 
 from answers import refused, shown
 from built import for_each_program
-from machine_records import EMF, FORMS, WMF, PictureTest, pixels
-from record_fields import BLUE, RED
+from metafile.fields import BLUE, RED
+from metafile.scripts import EMF, FORMS, WMF
+from script_answers import PictureTest, pixels
 
 # No pixel, and all.
 NONE = "...... ...... ...... ...... ...... ......"

@@ -4,7 +4,7 @@ each kept box and in no cut one, and is the same pixel as without the clip."""
 import unittest
 
 from built import for_each_program
-from machine_records import EMF, FORMS
+from metafile.scripts import EMF, FORMS
 from shape_pictures import BLACK_FILL, BLACK_STROKE, BOTH, INVERT, ShapeTest
 
 # The whole surface of 8 by 8, by a polygon.

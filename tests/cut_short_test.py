@@ -5,9 +5,9 @@ from typing import NamedTuple
 
 from answers import refused, shown
 from built import DOT, SAMPLES, for_each_program
-from header_answers import NO_FRAME, NOT_METAFILE, SHORT_HEADER, SIDE, HeaderTest, pixel_at
-from record_fields import RED
-from record_files import (
+from header_answers import NOT_METAFILE, NO_FRAME, SHORT_HEADER, SIDE, HeaderTest, pixel_at
+from metafile.fields import RED
+from metafile.files import (
     EMF_END,
     WMF_END,
     emf_file,

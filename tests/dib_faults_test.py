@@ -12,10 +12,11 @@ import unittest
 
 from answers import refused
 from bitmap_pictures import BitmapTest, told
-from bitmap_records import DSTINVERT, PATCOPY, SRCCOPY, UNUSED, Bitmap, bitmap, header
 from built import for_each_program
-from machine_records import EMF, FORMS, WMF
-from record_fields import BLUE, RED, i32, u16, u32
+from metafile.bitmaps import UNUSED, Bitmap, bitmap, header
+from metafile.blits import DSTINVERT, PATCOPY, SRCCOPY
+from metafile.fields import BLUE, RED, i32, u16, u32
+from metafile.scripts import EMF, FORMS, WMF
 
 DEPTHS = [1, 4, 8, 16, 24, 32]
 

@@ -5,8 +5,8 @@ import unittest
 
 from answers import shown
 from built import for_each_program
-from machine_records import EMF, FORMS
-from record_fields import BLACK, BLUE, RED
+from metafile.fields import BLACK, BLUE, RED
+from metafile.scripts import EMF, FORMS
 from shape_pictures import ShapeTest
 
 WHITE = (255, 255, 255)

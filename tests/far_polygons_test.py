@@ -5,7 +5,7 @@ import unittest
 
 from answers import refused
 from built import for_each_program
-from machine_records import EMF, FORMS, WMF
+from metafile.scripts import EMF, FORMS, WMF
 from shape_pictures import ALTERNATE, BOTH, WINDING, ShapeTest, drawing
 
 NOTHING = ".... .... .... ...."

@@ -4,7 +4,7 @@ import unittest
 
 from answers import refused, shown
 from built import answer
-from record_fields import RED
+from metafile.fields import RED
 
 # The side of a surface on which frames that differ by one show a pixel in different places.
 SIDE = 20

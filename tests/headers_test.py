@@ -8,15 +8,15 @@ from answers import refused, shown
 from built import DOT, SAMPLES, answer, for_each_program
 from header_answers import (
     BAD_HEADER,
-    NO_FRAME,
     NOT_METAFILE,
+    NO_FRAME,
     SHORT_HEADER,
     SIDE,
     HeaderTest,
     pixel_at,
 )
-from record_fields import BLUE, RED, i16, i32, u16, u32
-from record_files import (
+from metafile.fields import BLUE, RED, i16, i32, u16, u32
+from metafile.files import (
     EMF_END,
     WMF_END,
     emf_file,

@@ -6,9 +6,10 @@ import unittest
 
 from answers import refused, shown
 from built import answer, for_each_program
-from machine_records import EMF, StateTest
-from record_fields import BLACK, RED, i16, i32, u16, u32
-from record_files import EMF_END, WMF_END, emf_file, emf_record, placeable_file, wmf_record
+from metafile.fields import BLACK, RED, i16, i32, u16, u32
+from metafile.files import EMF_END, WMF_END, emf_file, emf_record, placeable_file, wmf_record
+from metafile.scripts import EMF
+from script_answers import StateTest
 from shape_pictures import drawing
 
 # No drawing has more points.

@@ -8,7 +8,7 @@ to the right.
 import unittest
 
 from built import for_each_program
-from machine_records import EMF, FORMS
+from metafile.scripts import EMF, FORMS
 from shape_pictures import INVERT, ShapeTest, marked, side_by_side
 
 NOTHING = ".... .... .... ...."

@@ -5,7 +5,8 @@ import unittest
 
 from answers import refused
 from built import for_each_program
-from machine_records import EMF, FORMS, WMF, StateTest, pixels
+from metafile.scripts import EMF, FORMS, WMF
+from script_answers import StateTest, pixels
 
 # Each kind of object, with the record that selects it.
 KINDS = {"pen": "select", "brush": "select", "font": "select", "palette": "select_palette"}

@@ -4,7 +4,8 @@ import unittest
 
 from answers import refused
 from built import for_each_program
-from machine_records import EMF, FORMS, WMF, StateTest, pixels
+from metafile.scripts import EMF, FORMS, WMF
+from script_answers import StateTest, pixels
 
 # The least and the largest number of two bytes, and of four.
 LEAST, LARGEST = -32768, 32767

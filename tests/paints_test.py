@@ -9,10 +9,10 @@ import unittest
 
 from answers import shown
 from built import for_each_program
-from machine_records import FORMS
-from record_fields import RED
+from metafile.fields import RED
+from metafile.scripts import FORMS
+from metafile.shapes import rgb_of
 from shape_pictures import INVERT, ShapeTest, marked, side_by_side
-from shape_records import rgb_of
 
 # The hatches by their numbers: horizontal, vertical, two slanted ones, and a cross of each pair.
 # `o` marks their cells, and `b` what is between them.

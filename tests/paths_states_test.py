@@ -6,10 +6,11 @@ import unittest
 
 from answers import refused, shown
 from built import answer, for_each_program
-from machine_records import EMF, SIDE, StateTest, pixels
-from record_fields import i16, u32
-from record_files import EMF_END, emf_file, emf_record
-from shape_records import BOUNDS
+from metafile.fields import i16, u32
+from metafile.files import EMF_END, emf_file, emf_record
+from metafile.scripts import EMF, SIDE
+from metafile.shapes import BOUNDS
+from script_answers import StateTest, pixels
 
 PAINTINGS = ["fill_path", "stroke_path", "stroke_and_fill_path"]
 

@@ -8,7 +8,7 @@ figure of one line shows whether it is closed: only then it has that pixel too, 
 import unittest
 
 from built import for_each_program
-from machine_records import EMF
+from metafile.scripts import EMF
 from shape_pictures import ALTERNATE, BOTH, INVERT, WINDING, ShapeTest, empty
 
 NOTHING = ".... .... .... ...."

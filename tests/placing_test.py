@@ -5,9 +5,10 @@ import unittest
 
 from answers import refused, shown
 from built import answer, for_each_program
-from machine_records import EMF, FORMS, SIDE, WMF, StateTest, pixels
-from record_fields import RED, i16, i32
-from record_files import EMF_END, WMF_END, emf_file, placeable_file, plain_file
+from metafile.fields import RED, i16, i32
+from metafile.files import EMF_END, WMF_END, emf_file, placeable_file, plain_file
+from metafile.scripts import EMF, FORMS, SIDE, WMF
+from script_answers import StateTest, pixels
 
 # A page unit is 16,384 pixels, of which 16,384 are 2^28.
 FAR = "map_mode 8; window_extent 1 1; viewport_extent 16384 16384"

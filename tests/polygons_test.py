@@ -9,7 +9,7 @@ lies on an edge counts as right of it, and an edge has its upper end's row and n
 import unittest
 
 from built import for_each_program
-from machine_records import EMF
+from metafile.scripts import EMF
 from shape_pictures import (
     ALTERNATE,
     BLACK_FILL,

@@ -1,17 +1,9 @@
 """Bitmaps, blits and tiles made at random, for the random files of `reference_test`: mostly such
 that they are played, and a few with a fault."""
 
-from bitmap_records import (
-    BLACKNESS,
-    DSTINVERT,
-    MASKED,
-    PATCOPY,
-    PATINVERT,
-    SRCCOPY,
-    Bitmap,
-    bitmap,
-)
-from record_fields import i32, u16, u32
+from metafile.bitmaps import Bitmap, bitmap
+from metafile.blits import BLACKNESS, DSTINVERT, MASKED, PATCOPY, PATINVERT, SRCCOPY
+from metafile.fields import i32, u16, u32
 
 # Operations that are known by a name are more often among those of any table.
 NAMED = [SRCCOPY] * 4 + [PATCOPY, PATINVERT, MASKED, DSTINVERT] * 2 + [BLACKNESS]

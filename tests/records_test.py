@@ -7,9 +7,8 @@ from functools import partial
 
 from answers import refused, shown
 from built import answer, for_each_program
-from emf_kinds import EMF, EMF_ABSENT
-from record_fields import BLUE, RED, colour, joined, u16, u32
-from record_files import (
+from metafile.fields import BLUE, RED, colour, joined, u16, u32
+from metafile.files import (
     EMF_END,
     WMF_END,
     emf_file,
@@ -21,8 +20,9 @@ from record_files import (
     wmf_pixel,
     wmf_record,
 )
-from record_kinds import ENDS, Behind
-from wmf_kinds import WMF
+from standards.emf import EMF, EMF_ABSENT
+from standards.kinds import ENDS, Behind
+from standards.wmf import WMF
 
 FORMATS = [WMF, EMF]
 

@@ -8,7 +8,7 @@ no stroke.
 import unittest
 
 from built import for_each_program
-from machine_records import EMF, FORMS, WMF
+from metafile.scripts import EMF, FORMS, WMF
 from shape_pictures import BLACK_FILL, BLACK_STROKE, BOTH, INVERT, RED_FILL, ShapeTest, marked
 
 NOTHING = "..... ..... ..... ..... ....."

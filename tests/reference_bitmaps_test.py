@@ -2,10 +2,10 @@
 
 import unittest
 
-from bitmap_records import BLACKNESS, MASKED, PATCOPY, QUAD, QUAD_ROWS, SRCCOPY, header
-from record_fields import BLACK, BLUE, RED, u32
-from reference import Axis
-from reference_bitmaps import (
+from metafile.bitmaps import QUAD, QUAD_ROWS, header
+from metafile.blits import BLACKNESS, MASKED, PATCOPY, SRCCOPY
+from metafile.fields import BLACK, BLUE, RED, u32
+from reference.bitmaps import (
     BadDib,
     CompressedDib,
     ShortDib,
@@ -17,7 +17,8 @@ from reference_bitmaps import (
     picture_of,
     read_place,
 )
-from reference_player import WHITE, Reference
+from reference.pixels import Axis
+from reference.player import WHITE, Reference
 
 
 class Pictures(unittest.TestCase):

@@ -8,15 +8,15 @@ from functools import cache
 from typing import NamedTuple
 
 from answers import refused, shown
-from bitmap_records import APART
 from built import Answer, answer, for_each_program
-from machine_records import EMF, FORMS, WMF, Form
+from metafile.bitmaps import APART
+from metafile.fields import i16, i32, u16
+from metafile.files import EMF_END, WMF_END, emf_file, placeable_file
+from metafile.scripts import EMF, FORMS, WMF, Form
+from metafile.shapes import BETWEEN
 from random_bitmaps import BARE, WHOLE, RandomBitmaps
-from record_fields import i16, i32, u16
-from record_files import EMF_END, WMF_END, emf_file, placeable_file
-from reference import Axis
-from reference_player import Reference
-from shape_records import BETWEEN
+from reference.pixels import Axis
+from reference.player import Reference
 
 # How many files of each format: paths stand in EMF alone.
 FILES = {"WMF": 200, "EMF": 400}

@@ -13,9 +13,11 @@ import tempfile
 import unittest
 
 from answers import refused, shown
-from bitmap_records import MASKED, PATCOPY, PATINVERT, QUAD, QUAD_ROWS, SRCCOPY
 from built import CRATES, DOT, DOT_IMAGE, PROGRAMS, SAMPLES, Answer, answer
-from machine_records import EMF, FORMS, HANDLES, SIDE, WMF, pixels
+from metafile.bitmaps import QUAD, QUAD_ROWS
+from metafile.blits import MASKED, PATCOPY, PATINVERT, SRCCOPY
+from metafile.scripts import EMF, FORMS, HANDLES, SIDE, WMF
+from script_answers import pixels
 
 OUT_OF_MEMORY = Answer(4, b"", b"metaplay: OutOfMemory\n")
 

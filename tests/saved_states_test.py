@@ -5,8 +5,9 @@ import unittest
 
 from answers import refused, shown
 from built import for_each_program
-from machine_records import EMF, FORMS, SIDE, WMF, StateTest, pixels
-from record_fields import BLUE, RED
+from metafile.fields import BLUE, RED
+from metafile.scripts import EMF, FORMS, SIDE, WMF
+from script_answers import StateTest, pixels
 
 
 class Depth(StateTest):

@@ -1,8 +1,9 @@
 """Pictures of shapes, and whether the built programs draw them."""
 
 from answers import shown
-from machine_records import FORMS, StateTest
-from record_fields import BLACK, BLUE, RED
+from metafile.fields import BLACK, BLUE, RED
+from metafile.scripts import FORMS
+from script_answers import StateTest
 
 # The colours of a picture's marks; any other mark is white.
 INKS = {"#": BLACK, "o": RED, "b": BLUE}

@@ -6,9 +6,10 @@ import unittest
 
 from answers import refused
 from bitmap_pictures import BitmapTest, answer_with, told
-from bitmap_records import PATCOPY, bitmap
 from built import for_each_program
-from machine_records import FORMS
+from metafile.bitmaps import bitmap
+from metafile.blits import PATCOPY
+from metafile.scripts import FORMS
 
 # In red the bit k of these three is that of the number k: 4P+2S+D is k, and what an operation makes
 # of them is its own table. In green the bits stand the other way round, and in blue three places

@@ -6,11 +6,12 @@ import unittest
 
 from answers import refused
 from bitmap_pictures import INKS, BitmapTest, answer_with, colours, told
-from bitmap_records import DSTINVERT, PATCOPY, PATINVERT, QUAD, SRCCOPY, bitmap
 from built import for_each_program
-from machine_records import EMF, FORMS, WMF
+from metafile.bitmaps import QUAD, bitmap
+from metafile.blits import DSTINVERT, PATCOPY, PATINVERT, SRCCOPY
+from metafile.scripts import EMF, FORMS, WMF
+from metafile.shapes import rgb_of
 from paints_test import OPERATIONS, PAINT, THERE, joined
-from shape_records import rgb_of
 
 # A tile of three columns and two rows, and eight by eight pixels of it.
 SIX = told("rgb ymc")

@@ -5,7 +5,7 @@ brushes, modes and raster operations, by the names that scripts have for them.
 told as 0xRRGGBB. The records that make an object tell its index first.
 """
 
-from record_fields import colour, i16, i32, u16, u32
+from metafile.fields import colour, i16, i32, u16, u32
 
 # What stands between the lists of a record that has several.
 BETWEEN = "|"

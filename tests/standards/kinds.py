@@ -8,7 +8,7 @@ are played with; a fault's text; or `ENDS`, the file's end.
 from collections.abc import Callable
 from typing import NamedTuple
 
-from record_fields import BLACK, PALETTE, RED, colour, joined, u16
+from metafile.fields import BLACK, PALETTE, RED, colour, joined, u16
 
 ENDS = None
 

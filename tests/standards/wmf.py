@@ -1,8 +1,8 @@
 """The kinds of WMF's records, [MS-WMF] 2.1.1.1, written as data for the tests alone."""
 
-from record_fields import RED, colour, i16, u16
-from record_files import WMF_END, placeable_file, wmf_pixel, wmf_record
-from record_kinds import (
+from metafile.fields import RED, colour, i16, u16
+from metafile.files import WMF_END, placeable_file, wmf_pixel, wmf_record
+from standards.kinds import (
     ACCEPTED,
     COLOURS,
     CORNER,

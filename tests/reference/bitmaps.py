@@ -8,9 +8,9 @@ reads is this project's own rule.
 
 from typing import NamedTuple
 
-from bitmap_records import bitmap_of
-from record_fields import BLACK
-from reference import Refused
+from metafile.bitmaps import bitmap_of
+from metafile.fields import BLACK
+from reference.pixels import Refused
 
 # The headers and the depths that are read, and how long a side may be.
 HEADERS = (40, 108, 124)

@@ -8,8 +8,19 @@ files of [MS-WMF] 2.3 and [MS-EMF] 2.3.
 
 from typing import NamedTuple
 
-from record_fields import BLACK, BLUE, RED
-from reference import (
+from metafile.fields import BLACK, BLUE, RED
+from metafile.shapes import lists_of, rgb_of
+from reference.bitmaps import (
+    Picture,
+    Source,
+    SourceMissing,
+    depends_on_pattern,
+    depends_on_source,
+    joined_by,
+    picture_in,
+)
+from reference.paths import CLOSED, ENDED, OPEN, Path, PathState
+from reference.pixels import (
     ALTERNATE,
     HATCHES,
     Axis,
@@ -21,17 +32,6 @@ from reference import (
     mixed,
     opened,
 )
-from reference_bitmaps import (
-    Picture,
-    Source,
-    SourceMissing,
-    depends_on_pattern,
-    depends_on_source,
-    joined_by,
-    picture_in,
-)
-from reference_paths import CLOSED, ENDED, OPEN, Path, PathState
-from shape_records import lists_of, rgb_of
 
 WHITE = (255, 255, 255)
 

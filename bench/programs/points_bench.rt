@@ -1,36 +1,3 @@
-#!/bin/sh
-# What it costs to read points in place: the sum of x + y over 65,536 points, read through a view of
-# 32-bit points and then from a plain slice of them. It makes a repository under /tmp with copies of
-# the crates that it needs and a program, proves and builds that, and prints the best time of each
-# loop over one pass, in nanoseconds, and how many times as long the view takes.
-#
-#   bench/points_bench.sh [FOLDER]     FOLDER is kept; with none, one under /tmp is made and removed
-set -eu
-here=$(cd "$(dirname "$0")/.." && pwd)
-if [ $# -gt 0 ]; then
-    folder=$1
-    mkdir -p "$folder"
-else
-    folder=$(mktemp -d /tmp/points_bench.XXXXXX)
-    trap 'rm -rf "$folder"' EXIT
-fi
-
-mkdir -p "$folder/crates/points_bench/src"
-for crate in mapping point_views; do
-    mkdir -p "$folder/crates/$crate"
-    for part in src specs proofs; do
-        rm -rf "$folder/crates/$crate/$part"
-        cp -R "$here/crates/$crate/$part" "$folder/crates/$crate/$part"
-    done
-done
-printf 'Handles allowed: none.\n' > "$folder/HANDLES"
-cat > "$folder/crates.txt" <<'TEXT'
-mapping:
-point_views: byteorder mapping
-points_bench: mapping point_views byteorder
-TEXT
-
-cat > "$folder/crates/points_bench/src/main.rt" <<'TEXT'
 //! The sum of x + y over many points, read in place and from a plain slice.
 #![tactic(auto)]
 
@@ -128,6 +95,3 @@ fn main(rt: HostRuntime) -> io::Result<()> {
     }
     Ok(())
 }
-TEXT
-cd "$folder/crates/points_bench"
-rt run

@@ -1,21 +1,18 @@
-"""The records that change what later ones are played with, by names that both formats share, and
-what the built programs answer to files of them.
+"""Records of both formats, by names that they share, and files of them, told as scripts.
 
-Tests write them as scripts. `pen 0; select 0; 2x save; keep 1 1 3 3; pixel 2 2` makes a pen,
+`pen 0; select 0; 2x save; keep 1 1 3 3; pixel 2 2` makes a pen,
 selects it, saves the state twice, keeps a box of the clip, and draws a red pixel: five kinds of
 records, each with its numbers, the third twice.
 """
 
 import re
-import unittest
 from collections.abc import Callable
 from typing import NamedTuple
 
-from answers import refused, shown
-from bitmap_records import APART, EMF_BLITS, WMF_BLITS
-from built import answer
-from record_fields import BLUE, RED, colour, i16, i32, u16, u32
-from record_files import (
+from metafile.bitmaps import APART
+from metafile.blits import EMF_BLITS, WMF_BLITS
+from metafile.fields import BLUE, RED, colour, i16, i32, u16, u32
+from metafile.files import (
     EMF_END,
     WMF_END,
     emf_file,
@@ -25,7 +22,7 @@ from record_files import (
     wmf_pixel,
     wmf_record,
 )
-from shape_records import BETWEEN, EMF_SHAPES, WMF_SHAPES, wmf_box, wmf_point
+from metafile.shapes import BETWEEN, EMF_SHAPES, WMF_SHAPES, wmf_box, wmf_point
 
 # The side of the frame and of the surface where a test tells no other: a point of the plane is then
 # a pixel.
@@ -195,48 +192,3 @@ EMF = Form(
 )
 
 FORMS = [WMF, EMF]
-
-
-def picture(rows):
-    """The answer that shows rows of pixels, apart by white space: `#` is red, and `.` white."""
-    rows = rows.split()
-    drawn = {(x, y): RED for y, row in enumerate(rows) for x, mark in enumerate(row) if mark == "#"}
-    return shown(drawn, len(rows[0]), len(rows))
-
-
-def pixels(places):
-    """The answer that shows red pixels at these places."""
-    return shown(dict.fromkeys(places, RED), SIDE, SIDE)
-
-
-class StateTest(unittest.TestCase):
-    """What a program answers to files whose records scripts tell."""
-
-    def answer(self, program, form, script, frame=SIDE, surface=(SIDE, SIDE), handles=HANDLES):
-        """The program's answer to a file of these records on a surface."""
-        given = form.file(form.records(script), frame, handles)
-        return answer(program, ["show", "stdin", *map(str, surface)], given)
-
-    def check(self, program, form, script, wanted, **file):
-        """The program's answer is the wanted one."""
-        with self.subTest(form=form.name, script=script[:200], **file):
-            self.assertEqual(self.answer(program, form, script, **file), wanted)
-
-    def check_cases(self, program, form, cases, **file):
-        """Of each case's records, which draw nothing, the last has the case's fault; where it has
-        none, all are accepted."""
-        for script, fault in cases:
-            last = form.first + len(form.records(script)) - 1
-            wanted = pixels([]) if fault is None else refused(fault, last)
-            self.check(program, form, script, wanted, **file)
-
-
-class PictureTest(StateTest):
-    """What a program answers to files that draw red pixels everywhere."""
-
-    def check_pictures(self, program, forms, pictures, frame=6, surface=(6, 6)):
-        """Behind records, red pixels everywhere show the picture that the clip lets through."""
-        for form in forms:
-            for records, rows in pictures.items():
-                file = {"frame": frame, "surface": surface}
-                self.check(program, form, f"{records}; paint", picture(rows), **file)

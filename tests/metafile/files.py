@@ -5,7 +5,7 @@ import functools
 import operator
 import struct
 
-from record_fields import colour, i16, i32, joined, u16, u32
+from metafile.fields import colour, i16, i32, joined, u16, u32
 
 
 def wmf_record(function, parameters=b"", size=None):

@@ -1,39 +1,3 @@
-#!/bin/sh
-# What it costs to read records: the best time of nine runs of `count_steps` over 1,000,000 small records of each
-# format, in periodic and in random order, in nanoseconds a record (goals: 25 and 40), beside a loop that only adds up
-# the sizes in the heads. It makes a repository under /tmp with copies of the crates that it needs and a program, and
-# proves and builds that.
-#
-#   bench/records_bench.sh [FOLDER]     FOLDER is kept; with none, one under /tmp is made and removed
-set -eu
-here=$(cd "$(dirname "$0")/.." && pwd)
-if [ $# -gt 0 ]; then
-    folder=$1
-    mkdir -p "$folder"
-else
-    folder=$(mktemp -d /tmp/records_bench.XXXXXX)
-    trap 'rm -rf "$folder"' EXIT
-fi
-
-mkdir -p "$folder/crates/records_bench/src"
-for crate in mapping point_views draw_ops wmf_records emf_records; do
-    mkdir -p "$folder/crates/$crate"
-    for part in src specs proofs; do
-        rm -rf "$folder/crates/$crate/$part"
-        cp -R "$here/crates/$crate/$part" "$folder/crates/$crate/$part"
-    done
-done
-printf 'Handles allowed: none.\n' > "$folder/HANDLES"
-cat > "$folder/crates.txt" <<'TEXT'
-mapping:
-point_views: byteorder mapping
-draw_ops: point_views mapping
-wmf_records: draw_ops point_views mapping
-emf_records: draw_ops point_views mapping
-records_bench: wmf_records emf_records draw_ops point_views mapping
-TEXT
-
-cat > "$folder/crates/records_bench/src/main.rt" <<'TEXT'
 //! Counts the steps of a file of records, given on standard input.
 #![tactic(auto)]
 
@@ -111,15 +75,3 @@ fn main(rt: HostRuntime) -> io::Result<()> {
     println!(rt; "steps={steps} ns={best_steps} heads={best_heads} op={op}")?;
     Ok(())
 }
-TEXT
-python3 "$here/bench/make_records.py" wmf periodic 5 "$folder/few.wmf"
-(cd "$folder/crates/records_bench" && rt run < "$folder/few.wmf" > "$folder/build.log" 2>&1) || { tail -n 20 "$folder/build.log"; exit 1; }
-for form in wmf emf; do
-    for order in periodic random; do
-        python3 "$here/bench/make_records.py" $form $order 1000000 "$folder/many.$form"
-        printf '%s %s: ' $form $order
-        "$folder/crates/records_bench/out/records_bench" < "$folder/many.$form" |
-            sed 's/.*steps=\([0-9]*\) ns=\([0-9]*\) heads=\([0-9]*\) op=\([0-9]*\).*/\1 \2 \3 \4/' |
-            awk '{ printf "%d steps, %.1f ns a record, heads alone %.1f ns, an Op of %d bytes\n", $1, $2 / $1, $3 / $1, $4 }'
-    done
-done

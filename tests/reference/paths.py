@@ -4,7 +4,7 @@ closes them, for the reference player.
 Places are those of the moment at which they are added: a path doesn't know the page.
 """
 
-from reference import Refused, closed, opened
+from reference.pixels import Refused, closed, opened
 
 # How many pieces a path may have, and how many points may be painted at once.
 MOST_PIECES = 1 << 16

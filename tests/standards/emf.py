@@ -1,8 +1,9 @@
 """The kinds of EMF's records, [MS-EMF] 2.1.1, written as data for the tests alone."""
 
-from record_fields import PALETTE, RED, colour, i16, i32, u32
-from record_files import EMF_END, emf_file, emf_pixel, emf_record
-from record_kinds import (
+from metafile.blits import IDENTITY
+from metafile.fields import PALETTE, RED, colour, i16, i32, u32
+from metafile.files import EMF_END, emf_file, emf_pixel, emf_record
+from standards.kinds import (
     ACCEPTED,
     COLOURS,
     CORNER,
@@ -124,8 +125,6 @@ def long_extents():
     """Extents of any numbers."""
     return [({"x": i32(x), "y": i32(y)}, ACCEPTED) for x in (0, -1, 7) for y in (0, -1, 7)]
 
-
-IDENTITY = (0x3F800000, 0, 0, 0x3F800000, 0, 0)
 
 
 def transform(place=0, bits=0):

@@ -1,0 +1,34 @@
+"""The instructions that the built program takes on six files, beside those on record in bench/."""
+
+import sys
+import unittest
+
+from built import PROGRAMS, ROOT
+
+sys.path.append(str(ROOT / "bench"))
+
+from instruction_counts import FILES, count, is_within, on_record  # noqa: E402
+
+
+class Instructions(unittest.TestCase):
+    """No file takes more than 1.3 times the instructions on record. The record is of the program as LLVM builds it."""
+
+    def test_a_record_stands_for_each_file(self):
+        self.assertEqual(sorted(on_record()), sorted(FILES))
+        self.assertEqual(len(FILES), 6)
+
+    def test_the_limit_is_1_3_times_the_record(self):
+        self.assertTrue(is_within(1300, 1000))
+        self.assertFalse(is_within(1301, 1000))
+
+    def test_each_file_is_within_the_limit(self):
+        recorded = on_record()
+        for name in FILES:
+            with self.subTest(file=name):
+                taken = count(PROGRAMS[0], name)
+                told = f"{taken:,} instructions, {taken / recorded[name]:.2f} times the {recorded[name]:,} on record"
+                self.assertTrue(is_within(taken, recorded[name]), told)
+
+
+if __name__ == "__main__":
+    unittest.main()
