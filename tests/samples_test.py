@@ -1,4 +1,4 @@
-"""The samples: each is what its script makes, and is shown, or refused by the line that is told here."""
+"""The samples: each is what its script makes, and is shown, or refused by a line."""
 
 import importlib
 import sys
@@ -25,7 +25,7 @@ SMALL = {
     "held.wmf": (4, refused("HeldObject", 5)),
 }
 
-# Pictures, each with all the colours that it shows, as far as pens, brushes and the ground tell them.
+# Pictures, each with all the colours that it shows, where pens, brushes and the ground tell them.
 WHITE = 0xFFFFFF
 PICTURES = {
     "polygons.emf": [0x182058, 0xFFB81C, 0xE8F4F8, 0xF4EEE4],

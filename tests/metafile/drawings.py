@@ -1,5 +1,5 @@
-"""Records of drawings as other programs write them, told by colours and by places of any numbers: the
-bounds of EMF's are those of what they draw."""
+"""Records of drawings as other programs write them, told by colours and by places of any numbers:
+the bounds of EMF's are those of what they draw."""
 
 from metafile.fields import i32
 from metafile.scripts import EMF, WMF

@@ -1,5 +1,5 @@
-"""Whole files of pictures, with the headers that other readers ask for too: how large a picture is on
-paper, and how many objects it has at a time."""
+"""Whole files of pictures, with the headers that other readers ask for too: how large a picture is
+on paper, and how many objects it has at a time."""
 
 from metafile.fields import i16, i32, u16
 from metafile.files import EMF_END, WMF_END, emf_file, placeable_file, plain_file
@@ -14,7 +14,7 @@ def plain_picture(records):
 
 
 def placeable_picture(width, height, records, objects=0):
-    """The same behind META_PLACEABLE with a box at the origin. So many objects there are at a time."""
+    """The same behind META_PLACEABLE with a box at the origin, with so many objects at a time."""
     sides = {"right": i16(width), "bottom": i16(height)}
     return placeable_file([*records, WMF_END], **sides, objects=u16(objects))
 
