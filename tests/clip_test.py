@@ -1,5 +1,5 @@
-"""The clip in the built programs, shown by which pixels of a whole surface are drawn, and the corners
-of its boxes: where they land, and how far they may."""
+"""The clip in the built programs, shown by which pixels of a whole surface are drawn, and the
+corners of its boxes: where they land, and how far they may."""
 
 import unittest
 
