@@ -9,35 +9,49 @@ bitmaps.emf     on a ground of tiles: a boat behind a mask at three sizes; a pla
 """
 import math
 import pathlib
-import struct
+import sys
 
-from make_shapes import (
-    BLACK,
+sys.path.insert(0, str(pathlib.Path(__file__).resolve().parent.parent / "tests"))
+
+from make_shapes import SIDE as SHAPES_SIDE, star
+from metafile.bitmaps import WHITE, bitmap
+from metafile.blits import (
+    IDENTITY,
+    MASKED,
+    PATINVERT,
+    SRCCOPY,
+    bit_blt,
+    dib_pattern_brush,
+    dib_stretch_blt,
+    pattern_brush_pt,
+    stretch_dib,
+    stretch_dibits,
+)
+from metafile.drawings import (
     NULL_BRUSH,
     NULL_PEN,
     STROKE_AND_FILL,
-    WHITE,
+    TRANSPARENT,
+    WINDING,
     emf_brush,
-    emf_fill_mode,
     emf_move,
     emf_path,
     emf_pen,
     emf_polyline_to,
     emf_rectangle,
     emf_select,
-    star,
     wmf_brush,
     wmf_pen,
     wmf_rectangle,
     wmf_select,
 )
-from metafiles import emf_file, emf_record, placeable_file, wmf_record
+from metafile.fields import BLACK, i32, joined, u16, u32
+from metafile.files import emf_record, wmf_record
+from metafile.pictures import emf_picture, placeable_picture
+from metafile.scripts import EMF
 
-# Ternary raster operations.
-SRCCOPY, SRCAND, SRCPAINT, PATINVERT = 0x00CC0020, 0x008800C6, 0x00EE0086, 0x005A0049
-
-# The pattern where the source is 1, and what is there where it is 0.
-MASKED = 0x00E20746
+# Ternary raster operations that join a source to what is there.
+SRCAND, SRCPAINT = 0x008800C6, 0x00EE0086
 
 # The units of the WMF's frame, of which four are a pixel where it is shown at 256 by 256, and those of the EMF's.
 WMF_SIDE, EMF_SIDE = 1024, 256
@@ -46,43 +60,11 @@ WMF_SIDE, EMF_SIDE = 1024, 256
 # Bitmaps.
 
 
-def packed_row(values, bits):
-    """A row of numbers of 1, 4 or 8 bits, the leftmost one in the high bits, up to a multiple of four bytes."""
-    text = "".join(f"{value:0{bits}b}" for value in values)
-    text += "0" * (-len(text) % 32)
-    return int(text, 2).to_bytes(len(text) // 8, "big")
-
-
-def coloured_row(row, bits):
-    """A row of colours in 16, 24 or 32 bits."""
-    if bits == 16:
-        parts = [[part >> 3 for part in rgb] for rgb in row]
-        data = b"".join(struct.pack("<H", red << 10 | green << 5 | blue) for red, green, blue in parts)
-    else:
-        data = b"".join(bytes((*rgb[::-1], 0)[: bits // 8]) for rgb in row)
-    return data + bytes(-len(data) % 4)
-
-
-def header(width, height, bits, colours=0):
-    """BITMAPINFOHEADER. Rows are stored from the bottom, and from the top with a negative height."""
-    return struct.pack("<IiiHHIIiiII", 40, width, height, 1, bits, 0, 0, 0, 0, colours, 0)
-
-
-def table_of(rows):
-    """The colours of a picture, in order."""
-    return sorted({rgb for row in rows for rgb in row})
-
-
 def dib(rows, bits, top_down=False, table=None):
-    """A bitmap of rows of colours from the top: its header with its table, and its rows."""
-    table = (table_of(rows) if table is None else table) if bits <= 8 else []
-    order = rows if top_down else rows[::-1]
-    if bits <= 8:
-        stored = [packed_row([table.index(rgb) for rgb in row], bits) for row in order]
-    else:
-        stored = [coloured_row(row, bits) for row in order]
-    info = header(len(rows[0]), -len(rows) if top_down else len(rows), bits, len(table))
-    return info + b"".join(bytes((*rgb[::-1], 0)) for rgb in table), b"".join(stored)
+    """A bitmap of rows of colours from the top. A table has a picture's colours in order, if no other is told."""
+    if table is None and bits <= 8:
+        table = sorted({rgb for row in rows for rgb in row})
+    return bitmap(rows, bits, top_down=top_down, table=table, unread=0)
 
 
 # Pictures, as rows of colours.
@@ -205,14 +187,14 @@ def plasma():
 
 def wmf_tile(picture):
     """META_DIBCREATEPATTERNBRUSH: a brush of tiles, in colours of their own. It gets the lowest free index."""
-    return wmf_record(0x0142, struct.pack("<HH", 5, 0) + b"".join(picture))
+    style = {"style": u16(5), "usage": u16(0)}
+    return wmf_record(0x0142, joined(dib_pattern_brush(picture.packed), style))
 
 
 def wmf_stretch(picture, box, source, function=0x0B41):
-    """META_DIBSTRETCHBLT or META_STRETCHDIB: boxes by x, y, width, height, which are told the other way round."""
-    usage = struct.pack("<H", 0) if function == 0x0F43 else b""
-    places = struct.pack("<8h", *source[::-1], *box[::-1])
-    return wmf_record(function, struct.pack("<I", SRCCOPY) + usage + places + b"".join(picture))
+    """META_DIBSTRETCHBLT or META_STRETCHDIB: boxes by x, y, width, height."""
+    fields_of = stretch_dib if function == 0x0F43 else dib_stretch_blt
+    return wmf_record(function, joined(fields_of(SRCCOPY, *box, *source, packed=picture.packed), {}))
 
 
 WHOLE = (0, 0, PICTURE_SIDE, PICTURE_SIDE)
@@ -249,52 +231,39 @@ def wmf_bitmaps():
     records = [wmf_tile(dib(weave(), 4)), wmf_brush(WHITE), wmf_pen((96, 96, 80))]
     records += [wmf_select(pen), wmf_select(ground), wmf_rectangle(0, 0, WMF_SIDE, WMF_SIDE)]
     records += [wmf_select(paper), *depths(), *mirrored()]
-    return placeable_file(WMF_SIDE, WMF_SIDE, records, objects=3)
+    return placeable_picture(WMF_SIDE, WMF_SIDE, records, objects=3)
 
 
 # Records of EMF.
 
-BOUNDS = struct.pack("<4i", 0, 0, EMF_SIDE - 1, EMF_SIDE - 1)
+BOUNDS = {"bounds": i32(0, 0, EMF_SIDE - 1, EMF_SIDE - 1)}
 
-IDENTITY = struct.pack("<6f", 1, 0, 0, 1, 0, 0)
-
-
-def parts(at, picture):
-    """Where the parts of a bitmap lie in a record that has so many bytes before them."""
-    info, bits = picture
-    return struct.pack("<4I", at, len(info), at + len(info), len(bits))
+# Fields that say nothing where there is no bitmap.
+NO_BITMAP = dict.fromkeys(["background", "usage", "info_at", "info_size", "bits_at", "bits_size"], u32(0))
 
 
 def emf_tile(index, picture):
     """EMR_CREATEDIBPATTERNBRUSHPT: a brush of tiles."""
-    return emf_record(94, struct.pack("<II", index, 0) + parts(32, picture) + b"".join(picture))
+    return emf_record(94, joined(pattern_brush_pt(index, picture), {}))
 
 
 def emf_pattern(operation, box):
     """EMR_BITBLT without a bitmap."""
-    fields = BOUNDS + struct.pack("<4iI2i", *box, operation, 0, 0) + IDENTITY
-    return emf_record(76, fields + struct.pack("<6I", 0, 0, 0, 0, 0, 0))
+    fields = bit_blt(operation, *box, 0, 0) | NO_BITMAP | {"transform": u32(*IDENTITY)}
+    return emf_record(76, joined(fields, BOUNDS))
 
 
 def emf_copy(operation, box, picture):
     """EMR_BITBLT from a bitmap's corner."""
-    fields = BOUNDS + struct.pack("<4iI2i", *box, operation, 0, 0) + IDENTITY
-    return emf_record(76, fields + struct.pack("<II", 0, 0) + parts(100, picture) + b"".join(picture))
+    return emf_record(76, joined(bit_blt(operation, *box, 0, 0, picture), BOUNDS | {"background": u32(0)}))
 
 
 def emf_stretch(operation, box, source, picture):
     """EMR_STRETCHDIBITS."""
-    x, y, width, height = box
-    fields = BOUNDS + struct.pack("<6i", x, y, *source) + parts(80, picture)
-    return emf_record(81, fields + struct.pack("<IIii", 0, operation, width, height) + b"".join(picture))
+    return emf_record(81, joined(stretch_dibits(operation, *box, *source, parts=picture), BOUNDS))
 
 
-def emf_clip(kind, left, top, right, bottom):
-    """EMR_EXCLUDECLIPRECT or EMR_INTERSECTCLIPRECT."""
-    return emf_record(kind, struct.pack("<4i", left, top, right, bottom))
-
-
-EXCLUDE, SAVE, RESTORE = 29, emf_record(33), emf_record(34, struct.pack("<i", -1))
+SAVE, RESTORE = EMF.step("save"), EMF.step("restore", -1)
 
 
 def masked_boats():
@@ -312,7 +281,7 @@ def cut_plasma(left, top):
     yield SAVE
     for step in range(7):
         at = 8 * step
-        yield emf_clip(EXCLUDE, left + at, top + (step % 2) * 28, left + at + 4, top + (step % 2) * 28 + 28)
+        yield EMF.step("cut", left + at, top + (step % 2) * 28, left + at + 4, top + (step % 2) * 28 + 28)
     yield emf_copy(SRCCOPY, (left, top, PLASMA_SIDE, PLASMA_SIDE), dib(plasma(), 8))
     yield RESTORE
 
@@ -320,7 +289,7 @@ def cut_plasma(left, top):
 def emf_star(centre, radius):
     """A star in a path, whose middle is filled too."""
     places = star(centre, radius, 7, 3)
-    return emf_path(STROKE_AND_FILL, [emf_move(places[0]), emf_polyline_to(places[1:])])
+    return emf_path(STROKE_AND_FILL, [emf_move(places[0]), emf_polyline_to(places[1:])], SHAPES_SIDE)
 
 
 def silhouette():
@@ -346,21 +315,20 @@ def emf_bitmaps():
     records += [emf_select(NULL_PEN), emf_select(ground), emf_rectangle(0, 0, EMF_SIDE - 1, EMF_SIDE - 1)]
     records += masked_boats()
     records += [emf_copy(SRCCOPY, (188, 8, PLASMA_SIDE, PLASMA_SIDE), dib(plasma(), 8)), *cut_plasma(188, 72)]
-    records += [emf_record(18, struct.pack("<I", 1)), emf_select(hatch), emf_pattern(PATINVERT, (188, 8, 56, 56))]
-    records += [emf_select(pen), emf_select(wall), emf_fill_mode(2), *emf_star((66, 184), 58)]
+    records += [EMF.step("back_mode", TRANSPARENT), emf_select(hatch), emf_pattern(PATINVERT, (188, 8, 56, 56))]
+    records += [emf_select(pen), emf_select(wall), EMF.step("fill_mode", WINDING), *emf_star((66, 184), 58)]
     records += [emf_stretch(MASKED, (132, 140, 72, 72), WHOLE, silhouette())]
     records += [emf_select(NULL_BRUSH), emf_rectangle(131, 139, 204, 212), *squeezed()]
-    edges, inches = (0, 0, EMF_SIDE - 1, EMF_SIDE - 1), round(EMF_SIDE / 96 * 25.4)
-    return emf_file(edges, records, 5, (EMF_SIDE, EMF_SIDE), (inches, inches))
+    return emf_picture(EMF_SIDE, EMF_SIDE, records, 5, (EMF_SIDE, EMF_SIDE))
 
 
-PICTURES = {"bitmaps.wmf": wmf_bitmaps, "bitmaps.emf": emf_bitmaps}
+FILES = {"bitmaps.wmf": wmf_bitmaps, "bitmaps.emf": emf_bitmaps}
 
 
 def main():
     """Writes the two files."""
     folder = pathlib.Path(__file__).parent
-    for name, picture in PICTURES.items():
+    for name, picture in FILES.items():
         (folder / name).write_bytes(picture())
 
 

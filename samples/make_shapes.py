@@ -12,38 +12,43 @@ paths.emf       paths: stars under discs, and words that are told twice in a pat
 import colorsys
 import math
 import pathlib
-import struct
+import sys
 
-from metafiles import emf_file, emf_record, placeable_file, wmf_record
+sys.path.insert(0, str(pathlib.Path(__file__).resolve().parent.parent / "tests"))
+
+from metafile import drawings
+from metafile.drawings import (
+    ALTERNATE,
+    CLOSE_FIGURE,
+    NULL_PEN,
+    OPAQUE,
+    STROKE,
+    STROKE_AND_FILL,
+    TRANSPARENT,
+    WINDING,
+    around,
+    emf_brush,
+    emf_line,
+    emf_move,
+    emf_pen,
+    emf_polygon,
+    emf_polygons,
+    emf_polyline,
+    emf_polyline_to,
+    emf_rectangle,
+    emf_select,
+    wmf_brush,
+    wmf_line,
+    wmf_pen,
+    wmf_rectangle,
+    wmf_select,
+)
+from metafile.fields import BLACK
+from metafile.pictures import emf_picture, placeable_picture
+from metafile.scripts import EMF, WMF
 
 # The side of each picture, in units of its frame: four of them are a pixel where it is shown at 256 by 256.
 SIDE = 1024
-
-# A picture's sides in millimetres, of 96 pixels to an inch.
-MILLIMETRES = round(SIDE / 96 * 25.4)
-
-BLACK, WHITE, GREY = (0, 0, 0), (255, 255, 255), (192, 192, 192)
-
-SOLID, HATCHED = 0, 2
-
-TRANSPARENT, OPAQUE = 1, 2
-
-ALTERNATE, WINDING = 1, 2
-
-COPY_PEN = 13
-
-# Stock objects of EMF, by their indexes.
-NULL_BRUSH, BLACK_PEN, NULL_PEN = 0x80000005, 0x80000007, 0x80000008
-
-
-def colour(rgb):
-    """A colour: red, green and blue, and a byte of 0."""
-    return bytes((*rgb, 0))
-
-
-def points(places):
-    """Points of 16 bits, x before y."""
-    return b"".join(struct.pack("<hh", round(x), round(y)) for x, y in places)
 
 
 def on_circle(centre, radius, turn):
@@ -52,145 +57,14 @@ def on_circle(centre, radius, turn):
     return centre[0] + radius * math.sin(angle), centre[1] - radius * math.cos(angle)
 
 
-# Records of WMF.
-
-
-def wmf_pen(rgb):
-    """META_CREATEPENINDIRECT: a solid pen, one pixel wide. It gets the lowest free index."""
-    return wmf_record(0x02FA, struct.pack("<Hhh", SOLID, 1, 0) + colour(rgb))
-
-
-def wmf_brush(rgb, hatch=None):
-    """META_CREATEBRUSHINDIRECT: a solid or a hatched brush. It gets the lowest free index."""
-    style = SOLID if hatch is None else HATCHED
-    return wmf_record(0x02FC, struct.pack("<H4sH", style, colour(rgb), hatch or 0))
-
-
-def wmf_select(index):
-    """META_SELECTOBJECT."""
-    return wmf_record(0x012D, struct.pack("<H", index))
-
-
-def wmf_background(mode):
-    """META_SETBKMODE."""
-    return wmf_record(0x0102, struct.pack("<H", mode))
-
-
-def wmf_background_colour(rgb):
-    """META_SETBKCOLOR."""
-    return wmf_record(0x0201, colour(rgb))
-
-
-def wmf_line(start, end):
-    """META_MOVETO and META_LINETO, y before x."""
-    (x, y), (right, down) = start, end
-    move = wmf_record(0x0214, struct.pack("<hh", round(y), round(x)))
-    return move + wmf_record(0x0213, struct.pack("<hh", round(down), round(right)))
-
-
-def wmf_rectangle(left, top, right, bottom):
-    """META_RECTANGLE, from its last edge to its first; the right and the bottom one don't belong to it."""
-    return wmf_record(0x041B, struct.pack("<4h", bottom, right, top, left))
-
-
-# Records of EMF.
-
-
-def emf_pen(index, rgb):
-    """EMR_CREATEPEN: a solid pen, one pixel wide."""
-    return emf_record(38, struct.pack("<IIii", index, SOLID, 1, 0) + colour(rgb))
-
-
-def emf_brush(index, rgb, hatch=None):
-    """EMR_CREATEBRUSHINDIRECT: a solid or a hatched brush."""
-    style = SOLID if hatch is None else HATCHED
-    return emf_record(39, struct.pack("<II4sI", index, style, colour(rgb), hatch or 0))
-
-
-def emf_select(index):
-    """EMR_SELECTOBJECT."""
-    return emf_record(37, struct.pack("<I", index))
-
-
-def emf_fill_mode(mode):
-    """EMR_SETPOLYFILLMODE."""
-    return emf_record(19, struct.pack("<I", mode))
-
-
-def emf_raster_op(code):
-    """EMR_SETROP2."""
-    return emf_record(20, struct.pack("<I", code))
-
-
-def emf_rectangle(left, top, right, bottom):
-    """EMR_RECTANGLE, to which all four edges belong."""
-    return emf_record(43, struct.pack("<4i", left, top, right, bottom))
-
-
-def bounds(places):
-    """The box of some places, to which all four edges belong."""
-    xs, ys = zip(*places)
-    return struct.pack("<4i", *(round(edge) for edge in (min(xs), min(ys), max(xs), max(ys))))
-
-
-def emf_polyline(places):
-    """EMR_POLYLINE16."""
-    return emf_record(87, bounds(places) + struct.pack("<I", len(places)) + points(places))
-
-
-def emf_polygons(lists):
-    """EMR_POLYPOLYGON16: polygons that are filled together."""
-    places = [place for one in lists for place in one]
-    counts = struct.pack(f"<{len(lists) + 2}I", len(lists), len(places), *map(len, lists))
-    return emf_record(91, bounds(places) + counts + points(places))
-
-
-def emf_polygon(places):
-    """EMR_POLYGON16."""
-    return emf_record(86, bounds(places) + struct.pack("<I", len(places)) + points(places))
-
-
-def emf_background_colour(rgb):
-    """EMR_SETBKCOLOR."""
-    return emf_record(25, colour(rgb))
-
-
-def emf_window_origin(x, y):
-    """EMR_SETWINDOWORGEX: the page's point that is the frame's corner from here on."""
-    return emf_record(10, struct.pack("<ii", x, y))
-
-
-def emf_move(place):
-    """EMR_MOVETOEX."""
-    return emf_record(27, struct.pack("<ii", *map(round, place)))
-
-
-def emf_line(place):
-    """EMR_LINETO."""
-    return emf_record(54, struct.pack("<ii", *map(round, place)))
-
-
-def emf_polyline_to(places):
-    """EMR_POLYLINETO16: lines from where the last one ended."""
-    return emf_record(89, bounds(places) + struct.pack("<I", len(places)) + points(places))
-
-
-# Records that open a path, end it, and close its open figure.
-BEGIN_PATH, END_PATH, CLOSE_FIGURE = (emf_record(kind) for kind in (59, 60, 61))
-
-# Records that paint a path.
-STROKE_AND_FILL, STROKE = 63, 64
-
-
 def emf_path(painting, records):
-    """A path that records gather, and the record that paints it, whose bounds are the frame's."""
-    return [BEGIN_PATH, *records, END_PATH, emf_record(painting, struct.pack("<4i", 0, 0, SIDE - 1, SIDE - 1))]
+    """A path and the record that paints it, whose bounds are the frame's."""
+    return drawings.emf_path(painting, records, SIDE)
 
 
-def emf_picture(records, handles):
-    """A file of a square picture, whose objects have indexes from 1 to before the handles."""
-    edges = (0, 0, SIDE - 1, SIDE - 1)
-    return emf_file(edges, records, handles, (SIDE, SIDE), (MILLIMETRES, MILLIMETRES))
+def square_picture(records, handles):
+    """An EMF of a square picture, whose objects have indexes from 1 to before the handles."""
+    return emf_picture(SIDE, SIDE, records, handles, (SIDE, SIDE))
 
 
 # Lines.
@@ -225,7 +99,7 @@ def lines():
     last = SIDE - 1
     for corner in [(0, 0, 1, 1), (last, 0, -1, 1), (0, last, 1, -1), (last, last, -1, -1)]:
         records += net(*corner)
-    return placeable_file(SIDE, SIDE, records, objects=FAN_PENS + 1)
+    return placeable_picture(SIDE, SIDE, records, objects=FAN_PENS + 1)
 
 
 # Polygons.
@@ -258,8 +132,8 @@ def polygons():
     records += [emf_select(NULL_PEN), emf_select(left), emf_rectangle(0, 0, 511, SIDE - 1)]
     records += [emf_select(right), emf_rectangle(512, 0, SIDE - 1, SIDE - 1)]
     records += [emf_select(pen), emf_select(brush)]
-    records += [emf_fill_mode(ALTERNATE), *polygons_of(256), emf_fill_mode(WINDING), *polygons_of(768)]
-    return emf_picture(records, handles=5)
+    records += [EMF.step("fill_mode", ALTERNATE), *polygons_of(256), EMF.step("fill_mode", WINDING), *polygons_of(768)]
+    return square_picture(records, handles=5)
 
 
 # Hatches.
@@ -288,12 +162,12 @@ def hatches():
     blue, black = len(hatched), len(hatched) + 2
     records = [*hatched, wmf_brush((176, 208, 240)), wmf_pen((176, 208, 240)), wmf_pen(BLACK)]
     records += [wmf_select(blue), wmf_select(blue + 1), *map(band, range(4)), wmf_select(black)]
-    records.append(wmf_background_colour((255, 244, 200)))
+    records.append(WMF.step("back_colour", 0xFFF4C8))
     for mode, row in [(TRANSPARENT, 0), (OPAQUE, 2)]:
-        records.append(wmf_background(mode))
+        records.append(WMF.step("back_mode", mode))
         for hatch, box in hatch_boxes(row):
             records += [wmf_select(hatch), wmf_rectangle(*box)]
-    return placeable_file(SIDE, SIDE, records, objects=black + 1)
+    return placeable_picture(SIDE, SIDE, records, objects=black + 1)
 
 
 # Raster operations.
@@ -316,7 +190,7 @@ def ground(x, y, brushes):
 def drawn_with(code, x, y):
     """A box and a line with the brush and the pen of the moment, by a raster operation."""
     left, top, right, bottom = BOX
-    yield emf_raster_op(code)
+    yield EMF.step("raster", code)
     yield emf_rectangle(x + left, y + top, x + right, y + bottom)
     yield emf_polyline([(x + right, y + down) for right, down in ZIGZAG])
 
@@ -333,7 +207,7 @@ def raster_ops():
     records += [emf_select(pen), emf_select(brush)]
     for code, (x, y) in enumerate(cells, 1):
         records += drawn_with(code, x, y)
-    return emf_picture(records, handles=5)
+    return square_picture(records, handles=5)
 
 
 # Paths.
@@ -366,13 +240,13 @@ def word(letters, x, y):
     """The figures of a word's letters. The window's origin puts each letter in its place."""
     for number, letter in enumerate(letters):
         around, hole = LETTERS[letter]
-        yield emf_window_origin(-x - ADVANCE * number, -y)
+        yield EMF.step("window_origin", -x - ADVANCE * number, -y)
         yield emf_move(around[0])
         yield emf_polyline_to(around[1:])
         yield CLOSE_FIGURE
         if hole:
             yield emf_polygon(hole)
-    yield emf_window_origin(0, 0)
+    yield EMF.step("window_origin", 0, 0)
 
 
 def word_twice(letters, x, y):
@@ -422,17 +296,17 @@ def paths():
     records = [emf_pen(pen, (24, 32, 88)), emf_pen(blue, (32, 96, 200))]
     solids = {cream: (255, 250, 232), red: (216, 48, 72), orange: (255, 168, 32), green: (48, 152, 96)}
     records += [emf_brush(index, rgb) for index, rgb in solids.items()]
-    records += [emf_brush(hatched, (40, 72, 184), 5), emf_background_colour((196, 220, 250))]
+    records += [emf_brush(hatched, (40, 72, 184), 5), EMF.step("back_colour", 0xC4DCFA)]
     records += [emf_select(pen), emf_select(cream), *emf_path(STROKE_AND_FILL, rim())]
     for mode, x, brush in [(ALTERNATE, 216, orange), (WINDING, 808, green)]:
-        records += [emf_fill_mode(mode), emf_select(brush), *star_and_disc((x, 204))]
+        records += [EMF.step("fill_mode", mode), emf_select(brush), *star_and_disc((x, 204))]
     for mode, y, brush in [(ALTERNATE, 372, red), (WINDING, 656, hatched)]:
-        records += [emf_fill_mode(mode), emf_select(brush), *word_twice("PATH", 78, y)]
+        records += [EMF.step("fill_mode", mode), emf_select(brush), *word_twice("PATH", 78, y)]
     records += [emf_select(blue), *emf_path(STROKE, spiral((512, 204), 6, 160)), *emf_path(STROKE, waves(946))]
-    return emf_picture(records, handles=8)
+    return square_picture(records, handles=8)
 
 
-PICTURES = {
+FILES = {
     "lines.wmf": lines,
     "polygons.emf": polygons,
     "hatches.wmf": hatches,
@@ -444,7 +318,7 @@ PICTURES = {
 def main():
     """Writes the five files."""
     folder = pathlib.Path(__file__).parent
-    for name, picture in PICTURES.items():
+    for name, picture in FILES.items():
         (folder / name).write_bytes(picture())
 
 

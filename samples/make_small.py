@@ -1,43 +1,46 @@
 #!/usr/bin/env python3
-"""Makes three small metafiles beside this script: small.wmf and small.emf, of the same four pixels,
-and nil.emf, which draws nothing.
+"""Makes the small metafiles beside this script.
 
-At 4 by 4 small.wmf and small.emf show a red, a green, a blue and a black pixel from corner to corner;
-nil.emf is white at any size. small.wmf is a plain WMF, whose frame is as large as its window extent.
+small.wmf  a plain WMF whose frame is as large as its window extent: at 4 by 4 it shows a red, a green, a blue and a
+           black pixel from corner to corner
+small.emf  the same as an EMF
+nil.emf    draws nothing: it is white at any size
+dot.wmf    a placeable WMF: at 4 by 4 it shows a red pixel in column 2 of row 1
+held.wmf   deletes a pen that is selected, and so is refused
 """
 import pathlib
-import struct
+import sys
 
-from metafiles import emf_file, emf_record, wmf_file, wmf_record
+sys.path.insert(0, str(pathlib.Path(__file__).resolve().parent.parent / "tests"))
 
-PIXELS = [(0, 0, 255, 0, 0), (1, 1, 0, 255, 0), (2, 2, 0, 0, 255), (3, 3, 0, 0, 0)]
+from metafile.fields import RED
+from metafile.files import emf_pixel, window_extent, wmf_pixel
+from metafile.pictures import emf_picture, placeable_picture, plain_picture
+from metafile.scripts import WMF
 
-
-def small_wmf():
-    """META_SETWINDOWEXT (y before x) and META_SETPIXELs."""
-    records = [wmf_record(0x020C, struct.pack("<hh", 4, 4))]
-    for x, y, *rgb in PIXELS:
-        records.append(wmf_record(0x041F, struct.pack("<BBBBhh", *rgb, 0, y, x)))
-    return wmf_file(records)
+PIXELS = [(0, 0, (255, 0, 0)), (1, 1, (0, 255, 0)), (2, 2, (0, 0, 255)), (3, 3, (0, 0, 0))]
 
 
-def small_emf():
-    """EMR_SETPIXELVs within the bounds (0,0,3,3)."""
-    pixels = [struct.pack("<iiBBBB", x, y, *rgb, 0) for x, y, *rgb in PIXELS]
-    return emf_file((0, 0, 3, 3), [emf_record(15, pixel) for pixel in pixels])
+def held():
+    """Two pens, of which the second is selected, a line with it, and records that delete both."""
+    records = WMF.records("solid_pen 0 0xFF0000; solid_pen 1 0x0000FF; select 1; line 4 4; delete 0; delete 1")
+    return placeable_picture(4, 4, records, objects=2)
 
 
-def nil_emf():
-    """No records between the header and the end, and so empty bounds."""
-    return emf_file((0, 0, -1, -1), [])
+FILES = {
+    "small.wmf": lambda: plain_picture([window_extent(4, 4), *(wmf_pixel(*pixel) for pixel in PIXELS)]),
+    "small.emf": lambda: emf_picture(4, 4, [emf_pixel(*pixel) for pixel in PIXELS]),
+    "nil.emf": lambda: emf_picture(0, 0, []),
+    "dot.wmf": lambda: placeable_picture(4, 4, [wmf_pixel(2, 1, RED)]),
+    "held.wmf": held,
+}
 
 
 def main():
-    """Writes the three files."""
+    """Writes the files."""
     folder = pathlib.Path(__file__).parent
-    (folder / "small.wmf").write_bytes(small_wmf())
-    (folder / "small.emf").write_bytes(small_emf())
-    (folder / "nil.emf").write_bytes(nil_emf())
+    for name, made in FILES.items():
+        (folder / name).write_bytes(made())
 
 
 if __name__ == "__main__":

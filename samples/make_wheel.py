@@ -1,18 +1,16 @@
 #!/usr/bin/env python3
-"""Makes wheel.wmf: a placeable WMF whose picture, a wheel of colours, is drawn pixel by pixel."""
+"""Makes wheel.wmf beside this script: a placeable WMF whose picture, a wheel of colours, is drawn pixel by pixel."""
 import colorsys
 import math
-import struct
+import pathlib
 import sys
 
-from metafiles import placeable_file, wmf_record
+sys.path.insert(0, str(pathlib.Path(__file__).resolve().parent.parent / "tests"))
+
+from metafile.files import wmf_pixel
+from metafile.pictures import placeable_picture
 
 SIDE = 64
-
-
-def set_pixel(x, y, red, green, blue):
-    """META_SETPIXEL: the colour, y and x."""
-    return wmf_record(0x041F, struct.pack("<BBBBhh", red, green, blue, 0, y, x))
 
 
 def colour(x, y):
@@ -25,14 +23,18 @@ def colour(x, y):
     return [round(255 * part) for part in colorsys.hsv_to_rgb(hue, distance, 1)]
 
 
+def wheel():
+    """The wheel's pixels."""
+    places = [(x, y) for y in range(SIDE) for x in range(SIDE) if colour(x, y)]
+    return placeable_picture(SIDE, SIDE, [wmf_pixel(x, y, colour(x, y)) for x, y in places])
+
+
+FILES = {"wheel.wmf": wheel}
+
+
 def main():
-    records = [
-        set_pixel(x, y, *colour(x, y))
-        for y in range(SIDE)
-        for x in range(SIDE)
-        if colour(x, y)
-    ]
-    sys.stdout.buffer.write(placeable_file(SIDE, SIDE, records))
+    """Writes the file."""
+    (pathlib.Path(__file__).parent / "wheel.wmf").write_bytes(wheel())
 
 
 if __name__ == "__main__":

@@ -62,7 +62,7 @@ def header(width, height, depth, /, size=40, used=0, **changes):
     return joined(fields, changes)
 
 
-def pixel_bits(value, depth, table):
+def pixel_bits(value, depth, table, unread):
     """The bits of a pixel, in the order in which a row has them: of a colour, or of a number that
     stands in the row as it is."""
     if depth <= 8:
@@ -70,21 +70,23 @@ def pixel_bits(value, depth, table):
     if depth == 16 and not isinstance(value, int):
         red, green, blue = (part >> 3 for part in value)
         value = red << 10 | green << 5 | blue
-    stored = u16(value) if depth == 16 else entry(value)[:3] + bytes([UNREAD] * (depth == 32))
+    stored = u16(value) if depth == 16 else entry(value)[:3] + bytes([unread] * (depth == 32))
     return "".join(f"{byte:08b}" for byte in stored)
 
 
-def row_bytes(row, depth, table):
+def row_bytes(row, depth, table, unread):
     """A row: its pixels' bits, filled up to a multiple of four bytes."""
-    bits = "".join(pixel_bits(value, depth, table) for value in row)
-    bits += "1" * (-len(bits) % 32)
+    bits = "".join(pixel_bits(value, depth, table, unread) for value in row)
+    bits += ("1" if unread else "0") * (-len(bits) % 32)
     return bytes(int(bits[at : at + 8], 2) for at in range(0, len(bits), 8))
 
 
-def bitmap(rows, depth, /, top_down=False, table=None, full=False, size=40, **changes):
+def bitmap(
+    rows, depth, /, top_down=False, table=None, full=False, size=40, unread=UNREAD, **changes
+):
     """The bitmap of a picture, some fields of its header changed. Without a table up to 8 bits have
     the picture's colours in theirs, in the order in which they come; a full one has as many as
-    there are numbers for, and its header counts none."""
+    there are numbers for, and its header counts none. Bytes that aren't read may be told as 0."""
     if table is None:
         colours = [value for row in rows for value in row if not isinstance(value, int)]
         table = list(dict.fromkeys(colours)) if depth <= 8 else []
@@ -92,7 +94,7 @@ def bitmap(rows, depth, /, top_down=False, table=None, full=False, size=40, **ch
     height = -len(rows) if top_down else len(rows)
     used = 0 if full else len(entries)
     info = header(len(rows[0]), height, depth, size, used, **changes)
-    stored = [row_bytes(row, depth, table) for row in (rows if top_down else rows[::-1])]
+    stored = [row_bytes(row, depth, table, unread) for row in (rows if top_down else rows[::-1])]
     return Bitmap(info + b"".join(map(entry, entries)), b"".join(stored))
 
 

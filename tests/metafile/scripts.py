@@ -1,8 +1,8 @@
 """Records of both formats, by names that they share, and files of them, told as scripts.
 
-`pen 0; select 0; 2x save; keep 1 1 3 3; pixel 2 2` makes a pen,
-selects it, saves the state twice, keeps a box of the clip, and draws a red pixel: five kinds of
-records, each with its numbers, the third twice.
+`pen 0; select 0; 2x save; keep 1 1 3 3; pixel 2 2` makes a pen, selects it, saves the state twice,
+keeps a box of the clip, and draws a red pixel: five kinds of records, each with its numbers, the
+third twice.
 """
 
 import re

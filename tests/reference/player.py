@@ -1,8 +1,8 @@
 """What scripts of records draw: the playing state and its changes, paths, and the layers of each
-drawing, by the rules of `reference` for each pixel alone. The tests compare the built programs with
-it.
+drawing, by the rules of `reference.pixels` for each pixel alone. The tests compare the built
+programs with it.
 
-A script is a list of steps, each a name and its words, as `machine_records.Form` writes them to
+A script is a list of steps, each a name and its words, as `metafile.scripts.Form` writes them to
 files of [MS-WMF] 2.3 and [MS-EMF] 2.3.
 """
 

@@ -199,7 +199,7 @@ WMF_REFUSED = {
     0x0D33: "META_SETDIBTODEV",
 }
 
-# These bring bitmaps: `bitmap_records` makes them, and they are tried in tests of their own.
+# These bring bitmaps: `metafile.blits` makes them, and they are tried in tests of their own.
 WMF_BITMAPS = {
     0x0142: "META_DIBCREATEPATTERNBRUSH",
     0x061D: "META_PATBLT",
