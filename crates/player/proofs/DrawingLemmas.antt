@@ -1,7 +1,6 @@
 -- What is painted under a shape is a layer, and layers follow one another.
-use Rattle.std.proofs.Common.{◌≡◌, ℕ, ◌+◌, pos, Bool, true, false, ◌&&◌, ◌||◌, List, [], ◌∷◌, ◌++◌, Option, Some, None, is_some, Result, Ok, Err, refl, sym, ◌∙◌, ap, arith}
+use Rattle.std.proofs.Common.{◌≡◌, ℕ, ◌+◌, pos, Bool, true, false, ◌&&◌, ◌||◌, List, [], ◌∷◌, ◌++◌, Option, Some, None, is_some, refl, sym, ◌∙◌, ap, arith}
 use Rattle.std.proofs.Math.Bool.{and-true}
-use Rattle.std.specs.Result.{OnErr}
 use Rattle.mapping.specs.Surface.{Surface, is_pixel, placed_point}
 use Rattle.mapping.specs.declared.geometry.Colour.{Colour}
 use Rattle.mapping.specs.declared.geometry.Point.{Point}
@@ -134,8 +133,3 @@ or_nothing false = refl
 
 pub lone_stroke : (line other : Line) (x y : ℕ) → line ≡ other → on_line line (pos x) (pos y) ≡ in_stroke (other ∷ []) x y
 lone_stroke line other x y same = ap (λ (l : Line). on_line l (pos x) (pos y)) same ∙ or_nothing (on_line other (pos x) (pos y))
-
--- what holds anyhow holds where there is an error
-pub on_err : {T E P : Type 0} (r : Result T E) → P → OnErr r P
-on_err (Ok x) h = tt
-on_err (Err e) h = h

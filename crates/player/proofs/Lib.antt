@@ -7,6 +7,7 @@ pub mod WorkedRows
 mod WorkedLayers
 mod WorkedBlits
 pub mod StepLemmas
+pub mod AfterLemmas
 pub mod RowLemmas
 pub mod LandingLemmas
 pub mod CountLemmas

@@ -5,11 +5,10 @@ use Rattle.std.proofs.lemmas.List.Folds.{flat_map-map}
 use Rattle.mapping.specs.PlaceOf.{surface_of}
 use Rattle.mapping.specs.Surface.{Surface}
 use Rattle.mapping.specs.declared.geometry.Point.{Point}
-use Rattle.dc_stack.specs.Drawing.{Tools, edge_limit, joined, mark_edges}
-use Rattle.dc_stack.specs.Draws.{IsPlacedDraw, TellsPath, mark_painted}
+use Rattle.dc_stack.specs.Drawing.{Tools, joined, mark_edges}
+use Rattle.dc_stack.specs.Draws.{TellsPath, mark_painted}
 use Rattle.dc_stack.specs.Figures.{Figure, all_figures, lists_of_figures, points_of_figures}
 use Rattle.dc_stack.specs.Pieces.{figures_of}
-use Rattle.dc_stack.specs.declared.draw.Draw.TheVariants.{Path}
 use Rattle.dc_stack.specs.declared.draw.PaintedPath.{PaintedPath}
 use Rattle.dc_stack.specs.declared.draw.Painting.{Painting}
 use Rattle.dc_stack.specs.declared.draw.Painting.TheVariants.{Fill, Stroke, StrokeAndFill}
@@ -33,9 +32,9 @@ painted_edges Fill figures = ap length (figures_joined figures)
 painted_edges Stroke figures = refl
 painted_edges StrokeAndFill figures = ap length (figures_joined figures)
 
-pub few_painted : (s : Surface) (path : PaintedPath) (pieces : List Piece) → IsPlacedDraw s pieces (Path path) → path.count ≤ edge_limit
-few_painted s path pieces h =
-    subst (λ (n : ℕ). n ≤ edge_limit) (painted_edges path.painting (all_figures (figures_of pieces)) ∙ sym h.places.counted) h.few
+pub few_painted : (s : Surface) (path : PaintedPath) (pieces : List Piece) (room : ℕ) → TellsPath s path pieces → mark_edges (mark_painted path.painting (all_figures (figures_of pieces))) ≤ room → path.count ≤ room
+few_painted s path pieces room tells few =
+    subst (λ (n : ℕ). n ≤ room) (painted_edges path.painting (all_figures (figures_of pieces)) ∙ sym tells.counted) few
 
 -- the lines of the figures that pieces make, which are lent
 module _ (s : Surface) (path : PaintedPath) (pieces : List Piece) (placed : TellsPath s path pieces) (ends : Ends) (lent : List Piece) (same : lent ≡ pieces) (lines : List Line) (drawn : lines ≡ lines_of_figures ends (placed_figures (surface_of path.place) (all_figures (figures_of lent)))) where

@@ -14,6 +14,7 @@ pub mod Writes
 pub mod Apply
 pub mod Stop
 pub mod Run
+pub mod After
 pub mod Plays
 pub mod PlacedLines
 pub mod LinesToCome

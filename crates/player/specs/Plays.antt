@@ -1,14 +1,15 @@
 -- What playing does to a canvas.
-use Rattle.std.specs.Prelude.{◌≡◌, ℕ, ◌+◌, ◌<◌, List, Option, Some, None, IsOk}
+use Rattle.std.specs.Prelude.{◌≡◌, ℕ, ◌+◌, List, Option, Some, None, IsOk}
 use Rattle.mapping.specs.Surface.{Surface}
 use Rattle.draw_ops.specs.Content.{Content}
 use Rattle.draw_ops.specs.declared.fault.Fault.TheVariants.{OutOfMemory}
 use Rattle.canvas.specs.CanvasState.{CanvasState, image_of}
+use Rattle.player.specs.After.{needs_after, state_after}
 use Rattle.player.specs.Apply.{apply_all, image_after}
 use Rattle.meta_headers.specs.Opening.{HasContentOf, opened, surface_for}
 use Rattle.meta_headers.specs.declared.opened.FileFormat.{FileFormat}
-use Rattle.dc_stack.specs.Drawing.{Drawing, edge_limit}
-use Rattle.span_fill.specs.RowState.{RowState}
+use Rattle.dc_stack.specs.Drawing.{Drawing}
+use Rattle.dc_stack.specs.MachineState.{MachineState}
 use Rattle.player.specs.Layer.{Layer, layers_if_drawn}
 use Rattle.meta_headers.specs.Headers.{OpenedValue}
 use Rattle.dc_stack.specs.State.{State, start_of}
@@ -25,11 +26,6 @@ pub record IsWantOfMemory (r : Refusal) : Type 0 where
 pub record WantsMemory (file : List ℕ) (r : Refusal) : Type 0 where
   pub opens : IsOk (opened file)
   pub wants : IsWantOfMemory r
-
--- memory was refused for the lines of a drawing: there was no room for any drawing
-pub record LacksLines (rows : RowState) (r : Refusal) : Type 0 where
-  pub wants : IsWantOfMemory r
-  pub room : rows.room < edge_limit
 
 -- the canvas holds a whole surface
 pub record IsWhole (canvas : CanvasState) (s : Surface) : Type 0 where
@@ -52,11 +48,17 @@ pub record DrawsLayers (layers : List Layer) (s : Surface) (old new : CanvasStat
 abbrev pub DrawsDrawing : Option Drawing → Surface → CanvasState → CanvasState → Type 0
 DrawsDrawing drawing s old new = DrawsLayers (layers_if_drawn drawing) s old new
 
--- all steps of the content were drawn, and none has a fault
-pub record Plays (content : Content) (state : State) (s : Surface) (old new : CanvasState) : Type 0 where
-  pub unstopped : stop_of content state s ≡ None
-  pub image : image_of new ≡ image_after content.steps state s (image_of old)
-  pub writes : new.writes ≡ old.writes + writes_after content.steps state s
+-- all steps of the content were played from one machine to another, and none has a fault
+pub record RunsThrough (content : Content) (start end : MachineState) : Type 0 where
+  pub unstopped : stop_of content start.state start.surface ≡ None
+  pub state : end.state ≡ state_after content.steps start.state
+  pub needs : end.needs ≡ needs_after content.steps start.state start.needs
+
+-- and drawn on a canvas
+pub record Plays (content : Content) (start end : MachineState) (old new : CanvasState) : Type 0 where
+  pub runs : RunsThrough content start end
+  pub image : image_of new ≡ image_after content.steps start.state start.surface (image_of old)
+  pub writes : new.writes ≡ old.writes + writes_after content.steps start.state start.surface
 
 -- the content stops at the refusal's record, by its fault
 pub record StopsBy (content : Content) (state : State) (s : Surface) (r : Refusal) : Type 0 where
@@ -65,11 +67,11 @@ pub record StopsBy (content : Content) (state : State) (s : Surface) (r : Refusa
   pub number : r.number ≡ Some stop.number
   pub fault : r.fault ≡ stop.fault
 
--- all records of a file in some format were played
-pub record PlaysRecords (format : FileFormat) (records : List ℕ) (state : State) (s : Surface) (old new : CanvasState) : Type 0 where
+-- all records of a file in some format were played and drawn
+pub record PlaysRecords (format : FileFormat) (records : List ℕ) (start end : MachineState) (old new : CanvasState) : Type 0 where
   pub content : Content
   pub of_records : HasContentOf format records content
-  pub plays : Plays content state s old new
+  pub plays : Plays content start end old new
 
 -- the records of a file in some format have a content that stops so
 pub record StopsRecordsBy (format : FileFormat) (records : List ℕ) (state : State) (s : Surface) (r : Refusal) : Type 0 where
@@ -77,9 +79,13 @@ pub record StopsRecordsBy (format : FileFormat) (records : List ℕ) (state : St
   pub of_records : HasContentOf format records content
   pub stops : StopsBy content state s r
 
--- all records of an opened file were played from their start on
-abbrev pub PlaysOpened : OpenedValue → List ℕ → CanvasState → CanvasState → Type 0
-PlaysOpened o records old new = PlaysRecords o.format records (start_of o) (surface_for o old.width old.rows) old new
+-- all records of an opened file were drawn from their start on, and none has a fault
+pub record PlaysOpened (o : OpenedValue) (records : List ℕ) (old new : CanvasState) : Type 0 where
+  pub content : Content
+  pub of_records : HasContentOf o.format records content
+  pub unstopped : stop_of content (start_of o) (surface_for o old.width old.rows) ≡ None
+  pub image : image_of new ≡ image_after content.steps (start_of o) (surface_for o old.width old.rows) (image_of old)
+  pub writes : new.writes ≡ old.writes + writes_after content.steps (start_of o) (surface_for o old.width old.rows)
 
 -- the records of an opened file stop so, played from their start on
 abbrev pub StopsOpenedBy : OpenedValue → List ℕ → CanvasState → Refusal → Type 0

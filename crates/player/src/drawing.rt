@@ -1,9 +1,9 @@
 //! Drawing what a step draws, on a canvas: what is filled, and then what is stroked.
 
-ghost use Rattle.std.specs.Prelude.{◌≡◌, ◌+◌, ◌<◌, ◌≤◌, ◌^◌, IfSome, OnErr, OnOk};
+ghost use Rattle.std.specs.Prelude.{◌≡◌, ◌+◌, ◌<◌, ◌≤◌, ◌^◌, IfSome};
 ghost use Rattle.std.specs.Option.{option_map};
 ghost use Rattle.dc_stack.specs.Draws.{IsPlacedDraw, mark_of};
-ghost use Rattle.dc_stack.specs.Drawing.{edge_limit, tools_of};
+ghost use Rattle.dc_stack.specs.Drawing.{drawing_edges, mark_edges, tools_of};
 ghost use Rattle.dc_stack.specs.MachineState.{drawing_with};
 ghost use Rattle.draw_ops.specs.declared.objects.Pen.TheVariants.{Solid};
 ghost use Rattle.player.specs.Layer.{fills_of, outlines_of, strokes_of};
@@ -25,32 +25,31 @@ use dc_stack::{Draw, Machine};
 use draw_ops::{Brush, Pen};
 use mapping::Colour;
 use object_tables::Table;
-use span_fill::{Line, OutOfMemory, Outline, RowBuf};
+use span_fill::{Line, RowBuf};
 
 /// Draws what a step of the machine draws, if it draws, with the tools of its moment. The count of
-/// writes has room for two layers of a surface of 2^26 pixels. Memory may be refused for the lines of a drawing for
-/// which the rows have no room, and then part of it may be drawn; where they have room for any drawing, none is wanted.
+/// writes has room for two layers of a surface of 2^26 pixels, and the rows have room for the drawing's lines: no memory
+/// is wanted.
 pub(crate) fn draw<'a, T: Table<'a>>(
     step: Option<Draw<'a>>,
     machine: &Machine<'a, T>,
     rows: &mut RowBuf,
     room: &mut InkRoom,
     canvas: &mut Canvas,
-) -> Result<(), OutOfMemory>
+)
     requires whole { IsWhole canvas.old machine.now.surface }
     requires countable { canvas.old.writes + 2 ^ 28 < 2 ^ 64 }
     requires placed { IfSome step (IsPlacedDraw machine.now.surface machine.now.painted) }
-    ensures drawn { OnOk result (DrawsDrawing (option_map (drawing_with machine.now) step.entry) machine.now.surface canvas.old canvas.new) }
-    ensures memory { OnErr result (rows.old.room < edge_limit) }
+    requires lines { drawing_edges (option_map (drawing_with machine.now) step) ≤ rows.old.room }
+    ensures drawn { DrawsDrawing (option_map (drawing_with machine.now) step.entry) machine.now.surface canvas.old canvas.new }
     ensures rows { SameRows canvas.old canvas.new }
     ensures few { canvas.new.writes ≤ canvas.old.writes + 2 ^ 27 }
-    ensures room { rows.old.room ≤ rows.new.room }
+    ensures room { rows.new.room ≡ rows.old.room }
 {
     if let Some(drawn) = step {
-        fill(drawn, machine, rows, room, canvas)?;
-        stroke(drawn, machine, rows, room, canvas)?;
+        fill(drawn, machine, rows, room, canvas);
+        stroke(drawn, machine, rows, room, canvas);
     }
-    Ok(())
 }
 
 /// Fills the inside of what a step draws, if it has one and the brush paints.
@@ -60,27 +59,26 @@ fn fill<'a, T: Table<'a>>(
     rows: &mut RowBuf,
     room: &mut InkRoom,
     canvas: &mut Canvas,
-) -> Result<(), OutOfMemory>
+)
     requires whole { IsWhole canvas.old machine.now.surface }
     requires countable { canvas.old.writes + 2 ^ 27 < 2 ^ 64 }
     requires placed { IsPlacedDraw machine.now.surface machine.now.painted drawn }
-    ensures drawn { OnOk result (DrawsLayers (fills_of (mark_of machine.now.painted drawn.entry) (tools_of machine.now.state.dc)) machine.now.surface canvas.old canvas.new) }
-    ensures memory { OnErr result (rows.old.room < edge_limit) }
+    requires lines { mark_edges (mark_of machine.now.painted drawn) ≤ rows.old.room }
+    ensures drawn { DrawsLayers (fills_of (mark_of machine.now.painted drawn.entry) (tools_of machine.now.state.dc)) machine.now.surface canvas.old canvas.new }
     ensures rows { SameRows canvas.old canvas.new }
     ensures few { canvas.new.writes ≤ canvas.old.writes + 2 ^ 26 }
-    ensures room { rows.old.room ≤ rows.new.room }
+    ensures room { rows.new.room ≡ rows.old.room }
 {
     writing_law();
     whole_law(canvas);
     let dc = machine.dc();
     if let Brush::Null = dc.selected.brush {
-        return Ok(());
+        return;
     }
     let paint = Paint::with(dc.selected.brush, dc);
     match drawn {
         Draw::Polygons { lists, by, bounds } => {
             let outline = PlacedLines::of_lists(by, Ends::Closed, lists);
-            rows.reserve(outline.count())?;
             let rule = rule_of(dc.modes.fill_mode);
             fill_lines(canvas, rows, outline, rule, bounds, &paint, room);
         }
@@ -92,14 +90,13 @@ fn fill<'a, T: Table<'a>>(
             let inside = rectangle_box(first.placed, second.placed, edges);
             fill_box(canvas, inside, &paint, room);
         }
-        Draw::Path(path) => return fill_figures(path, machine, rows, room, canvas),
+        Draw::Path(path) => fill_figures(path, machine, rows, room, canvas),
         Draw::Dot { .. }
         | Draw::Line { .. }
         | Draw::LinesFrom { .. }
         | Draw::Polylines { .. }
         | Draw::Blit(_) => {}
     }
-    Ok(())
 }
 
 /// Strokes what a step draws, if the pen draws: a dot is a pixel in its own colour, and a blit a box.
@@ -109,31 +106,31 @@ fn stroke<'a, T: Table<'a>>(
     rows: &mut RowBuf,
     room: &mut InkRoom,
     canvas: &mut Canvas,
-) -> Result<(), OutOfMemory>
+)
     requires whole { IsWhole canvas.old machine.now.surface }
     requires countable { canvas.old.writes + 2 ^ 27 < 2 ^ 64 }
     requires placed { IsPlacedDraw machine.now.surface machine.now.painted drawn }
-    ensures drawn { OnOk result (DrawsLayers (strokes_of (mark_of machine.now.painted drawn.entry) (tools_of machine.now.state.dc)) machine.now.surface canvas.old canvas.new) }
-    ensures memory { OnErr result (rows.old.room < edge_limit) }
+    requires lines { mark_edges (mark_of machine.now.painted drawn) ≤ rows.old.room }
+    ensures drawn { DrawsLayers (strokes_of (mark_of machine.now.painted drawn.entry) (tools_of machine.now.state.dc)) machine.now.surface canvas.old canvas.new }
     ensures rows { SameRows canvas.old canvas.new }
     ensures few { canvas.new.writes ≤ canvas.old.writes + 2 ^ 26 }
-    ensures room { rows.old.room ≤ rows.new.room }
+    ensures room { rows.new.room ≡ rows.old.room }
 {
     writing_law();
     whole_law(canvas);
     let dc = machine.dc();
     if let Draw::Dot { at, colour } = drawn {
         put(at.placed, colour, &dc.clip, canvas);
-        return Ok(());
+        return;
     }
     if let Draw::Blit(asked) = drawn {
         blit(&asked, dc, room, canvas);
-        return Ok(());
+        return;
     }
     let Pen::Solid { colour } = dc.selected.pen else {
-        return Ok(());
+        return;
     };
-    stroke_outline(drawn, colour, machine, rows, canvas)
+    stroke_outline(drawn, colour, machine, rows, canvas);
 }
 
 /// Strokes the outline of what a step draws, in the colour of the pen. A dot and a blit have none.
@@ -143,16 +140,16 @@ fn stroke_outline<'a, T: Table<'a>>(
     machine: &Machine<'a, T>,
     rows: &mut RowBuf,
     canvas: &mut Canvas,
-) -> Result<(), OutOfMemory>
+)
     requires whole { IsWhole canvas.old machine.now.surface }
     requires countable { canvas.old.writes + 2 ^ 27 < 2 ^ 64 }
     requires placed { IsPlacedDraw machine.now.surface machine.now.painted drawn }
+    requires lines { mark_edges (mark_of machine.now.painted drawn) ≤ rows.old.room }
     requires pen { machine.now.state.dc.selected.pen.object ≡ Solid colour }
-    ensures drawn { OnOk result (DrawsLayers (outlines_of (mark_of machine.now.painted drawn.entry) (tools_of machine.now.state.dc)) machine.now.surface canvas.old canvas.new) }
-    ensures memory { OnErr result (rows.old.room < edge_limit) }
+    ensures drawn { DrawsLayers (outlines_of (mark_of machine.now.painted drawn.entry) (tools_of machine.now.state.dc)) machine.now.surface canvas.old canvas.new }
     ensures rows { SameRows canvas.old canvas.new }
     ensures few { canvas.new.writes ≤ canvas.old.writes + 2 ^ 26 }
-    ensures room { rows.old.room ≤ rows.new.room }
+    ensures room { rows.new.room ≡ rows.old.room }
 {
     writing_law();
     whole_law(canvas);
@@ -174,17 +171,14 @@ fn stroke_outline<'a, T: Table<'a>>(
             bounds,
         } => {
             let outline = PlacedLines::from(from.placed, by, points);
-            rows.reserve(outline.count())?;
             stroke_lines(canvas, rows, outline, bounds, &paint, colour);
         }
         Draw::Polylines { lists, by, bounds } => {
             let outline = PlacedLines::of_lists(by, Ends::Open, lists);
-            rows.reserve(outline.count())?;
             stroke_lines(canvas, rows, outline, bounds, &paint, colour);
         }
         Draw::Polygons { lists, by, bounds } => {
             let outline = PlacedLines::of_lists(by, Ends::Closed, lists);
-            rows.reserve(outline.count())?;
             stroke_lines(canvas, rows, outline, bounds, &paint, colour);
         }
         Draw::Rectangle {
@@ -193,10 +187,8 @@ fn stroke_outline<'a, T: Table<'a>>(
             edges,
         } => {
             let inside = rectangle_box(first.placed, second.placed, edges);
-            rows.reserve(4)?;
             stroke_box(canvas, rows, inside, &paint, colour);
         }
-        Draw::Path(path) => return stroke_figures(path, colour, machine, rows, canvas),
+        Draw::Path(path) => stroke_figures(path, colour, machine, rows, canvas),
     }
-    Ok(())
 }

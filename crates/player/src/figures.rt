@@ -1,9 +1,9 @@
 //! The figures of a path that is painted, drawn on a canvas.
 
-ghost use Rattle.std.specs.Prelude.{◌≡◌, ◌+◌, ◌<◌, ◌≤◌, ◌^◌, OnErr, OnOk};
+ghost use Rattle.std.specs.Prelude.{◌≡◌, ◌+◌, ◌<◌, ◌≤◌, ◌^◌};
 ghost use Rattle.draw_ops.specs.declared.objects.Pen.TheVariants.{Solid};
 ghost use Rattle.dc_stack.specs.Draws.{TellsPath, mark_painted};
-ghost use Rattle.dc_stack.specs.Drawing.{edge_limit, tools_of};
+ghost use Rattle.dc_stack.specs.Drawing.{tools_of};
 ghost use Rattle.dc_stack.specs.Figures.{all_figures};
 ghost use Rattle.dc_stack.specs.Pieces.{figures_of};
 ghost use Rattle.player.specs.FigureLines.{stroked_ends};
@@ -22,7 +22,7 @@ use dc_stack::{Machine, PaintedPath, Painting};
 use draw_ops::Brush;
 use mapping::Colour;
 use object_tables::Table;
-use span_fill::{OutOfMemory, RowBuf};
+use span_fill::RowBuf;
 
 /// Fills what is inside of the figures, if the painting fills and the brush paints.
 pub(crate) fn fill_figures<'a, T: Table<'a>>(
@@ -31,32 +31,29 @@ pub(crate) fn fill_figures<'a, T: Table<'a>>(
     rows: &mut RowBuf,
     room: &mut InkRoom,
     canvas: &mut Canvas,
-) -> Result<(), OutOfMemory>
+)
     requires whole { IsWhole canvas.old machine.now.surface }
     requires countable { canvas.old.writes + 2 ^ 27 < 2 ^ 64 }
     requires placed { TellsPath machine.now.surface path machine.now.painted }
-    requires lines { path.count ≤ edge_limit }
-    ensures drawn { OnOk result (DrawsLayers (fills_of (mark_painted path.painting (all_figures (figures_of machine.now.painted))) (tools_of machine.now.state.dc)) machine.now.surface canvas.old canvas.new) }
-    ensures memory { OnErr result (rows.old.room < edge_limit) }
+    requires lines { path.count ≤ rows.old.room }
+    ensures drawn { DrawsLayers (fills_of (mark_painted path.painting (all_figures (figures_of machine.now.painted))) (tools_of machine.now.state.dc)) machine.now.surface canvas.old canvas.new }
     ensures rows { SameRows canvas.old canvas.new }
     ensures few { canvas.new.writes ≤ canvas.old.writes + 2 ^ 26 }
-    ensures room { rows.old.room ≤ rows.new.room }
+    ensures room { rows.new.room ≡ rows.old.room }
 {
     writing_law();
     whole_law(canvas);
     let dc = machine.dc();
     if let Brush::Null = dc.selected.brush {
-        return Ok(());
+        return;
     }
     if let Painting::Stroke = path.painting {
-        return Ok(());
+        return;
     }
-    rows.reserve(path.count as usize)?;
     let outline = PieceLines::new(path.place, Ends::Closed, machine.painted());
     let paint = Paint::with(dc.selected.brush, dc);
     let rule = rule_of(dc.modes.fill_mode);
     fill_lines(canvas, rows, outline, rule, path.bounds, &paint, room);
-    Ok(())
 }
 
 /// Strokes the lines of the figures in the colour of the pen, if the painting strokes: every figure is
@@ -67,28 +64,25 @@ pub(crate) fn stroke_figures<'a, T: Table<'a>>(
     machine: &Machine<'a, T>,
     rows: &mut RowBuf,
     canvas: &mut Canvas,
-) -> Result<(), OutOfMemory>
+)
     requires whole { IsWhole canvas.old machine.now.surface }
     requires countable { canvas.old.writes + 2 ^ 27 < 2 ^ 64 }
     requires placed { TellsPath machine.now.surface path machine.now.painted }
-    requires lines { path.count ≤ edge_limit }
+    requires lines { path.count ≤ rows.old.room }
     requires pen { machine.now.state.dc.selected.pen.object ≡ Solid colour }
-    ensures drawn { OnOk result (DrawsLayers (outlines_of (mark_painted path.painting (all_figures (figures_of machine.now.painted))) (tools_of machine.now.state.dc)) machine.now.surface canvas.old canvas.new) }
-    ensures memory { OnErr result (rows.old.room < edge_limit) }
+    ensures drawn { DrawsLayers (outlines_of (mark_painted path.painting (all_figures (figures_of machine.now.painted))) (tools_of machine.now.state.dc)) machine.now.surface canvas.old canvas.new }
     ensures rows { SameRows canvas.old canvas.new }
     ensures few { canvas.new.writes ≤ canvas.old.writes + 2 ^ 26 }
-    ensures room { rows.old.room ≤ rows.new.room }
+    ensures room { rows.new.room ≡ rows.old.room }
 {
     writing_law();
     whole_law(canvas);
     let Some(ends) = stroked_ends(path.painting) else {
-        return Ok(());
+        return;
     };
-    rows.reserve(path.count as usize)?;
     let outline = PieceLines::new(path.place, ends, machine.painted());
     let paint = Paint::with(Brush::Solid(colour), machine.dc());
     stroke_lines(canvas, rows, outline, path.bounds, &paint, colour);
-    Ok(())
 }
 
 /// Whether the figures that a painting strokes are all closed, if it strokes them.

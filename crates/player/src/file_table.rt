@@ -1,6 +1,6 @@
 //! The table of a file's objects, of its format's kind.
 
-ghost use Rattle.std.specs.Prelude.{◌≡◌, ◌≤◌};
+ghost use Rattle.std.specs.Prelude.{◌≡◌};
 ghost use Rattle.draw_ops.specs.Objects.{index_of};
 ghost use Rattle.object_tables.specs.Slots.{Slots};
 ghost use Rattle.object_tables.specs.Table.{TableKind, index_bound};
@@ -32,7 +32,7 @@ impl<'a> FileTable<'a> {
 
 /// For how many objects a file with so many indexes may ask.
 pub(crate) fn full_slots(handles: Option<u16>) -> usize
-    ensures { index_bound (table_kind_of handles) ≤ result }
+    ensures { result ≡ index_bound (table_kind_of handles) }
 {
     match handles {
         None => MAX_SLOTS,

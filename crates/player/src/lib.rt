@@ -4,10 +4,10 @@
 //!
 //! - A played file leaves the image that its records define, and the canvas counts the pixels
 //!   written (`play_file`, over white, by `Run` and `Writes`; `play_on`, from any state and over what a
-//!   canvas shows, by `PlaysRecords`).
+//!   canvas shows, by `PlaysRecords`, which also tells the state and the needs behind it).
 //! - A refused file has that fault first, in that record (`play_file`, by `Refused`; `play_on`, by
 //!   `StopsRecordsBy`), or it opens and memory for its canvas, its machine or the lines of a drawing was
-//!   refused (`play_file`, by `WantsMemory`).
+//!   refused, before the first of its records was drawn (`play_file`, by `WantsMemory`).
 //! - Playing on a machine with full room, with rows that have room for any drawing, and on a canvas that
 //!   is there is never refused for memory (`play_on`).
 //! - A run ends in one way, and whether it is refused doesn't depend on the image that it starts
@@ -34,9 +34,11 @@ mod raster_operation;
 mod rectangles;
 mod refusal;
 mod regions;
+mod room;
 mod row_ink;
 mod strips;
 mod stroking;
+mod survey;
 #[cfg(test)]
 mod tests;
 

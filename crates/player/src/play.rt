@@ -1,33 +1,36 @@
 //! Playing a file: its records' steps in order, on a machine and a canvas.
 
-ghost use Rattle.std.specs.Prelude.{◌≡◌, ◌+◌, ◌≤◌, ◌↔◌, ◌⊎◌, ◌^◌, IsSome, IfOk, IfErr, OnOk, length};
+ghost use Rattle.std.specs.Prelude.{◌≡◌, ◌+◌, ◌≤◌, ◌↔◌, ◌⊎◌, ◌^◌, IsSome, IfOk, IfErr, OnErr, OnOk, length};
 ghost use Rattle.mapping.specs.Limits.{IsSurfaceSide};
 ghost use Rattle.canvas.specs.CanvasState.{image_of};
 ghost use Rattle.draw_ops.specs.Fault.{IsInRecord};
 ghost use Rattle.draw_ops.specs.Records.{record_limit};
 ghost use Rattle.meta_headers.specs.OpenedOf.{opened_of};
 ghost use Rattle.dc_stack.specs.MachineState.{GoesOn, HasFullRoom};
-ghost use Rattle.player.specs.Plays.{IsWantOfMemory, IsWhole, LacksLines, Plays, PlaysOpened, PlaysRecords, SameRows, StopsBy, StopsOpenedBy, StopsRecordsBy, WantsMemory};
+ghost use Rattle.player.specs.After.{HasLines, HasLinesForRecords};
+ghost use Rattle.player.specs.Plays.{IsWhole, Plays, PlaysOpened, PlaysRecords, SameRows, StopsBy, StopsOpenedBy, StopsRecordsBy, WantsMemory};
 ghost use Rattle.player.specs.Run.{Refused, Run, Writes, shown, white};
 
 use crate::drawing::draw;
-use crate::file_table::{FileTable, full_slots};
+use crate::file_table::FileTable;
 use crate::ink_room::InkRoom;
 use crate::refusal::Refusal;
+use crate::room::{reserve_all, rows_for};
+use crate::survey::count_lines;
 use canvas::Canvas;
-use dc_stack::{MAX_PIECES, MAX_SAVED_STATES, Machine, fault_law, room_law};
+use dc_stack::{Machine, fault_law, room_law};
 use draw_ops::{Fault, OpSource};
 use mapping::{Colour, Place};
 use meta_headers::{Opened, open_file};
 use object_tables::Table;
-use span_fill::RowBuf;
+use span_fill::{OutOfMemory, RowBuf};
 use std::alloc::Global;
 
 /// Plays a file on a white surface of `width` by `height` pixels. The canvas shows the image that the
 /// file's records define, and counts the pixels written.
 ///
 /// The refusal is the first fault of the file with its record, or `OutOfMemory` without one where
-/// memory for the canvas, the machine or a drawing's lines was refused, which is taken once the file's headers are read.
+/// memory for the canvas, the machine or a drawing's lines was refused, which is taken before the first record is drawn.
 pub fn play_file(alloc: Global, file: &[u8], width: u32, height: u32) -> Result<Canvas, Refusal>
     requires wide { IsSurfaceSide width }
     requires high { IsSurfaceSide height }
@@ -46,42 +49,48 @@ pub fn play_file(alloc: Global, file: &[u8], width: u32, height: u32) -> Result<
         return Err(Refusal::of_file(Fault::OutOfMemory));
     };
     match play_opened(alloc, &opened, &mut canvas) {
-        Ok(()) => Ok(canvas),
-        Err(refusal) => Err(refusal),
+        Ok(Ok(())) => Ok(canvas),
+        Ok(Err(refusal)) => Err(refusal),
+        Err(OutOfMemory) => Err(Refusal::of_file(Fault::OutOfMemory)),
     }
 }
 
-/// Plays an opened file's records from their start on, on a machine with full room.
-fn play_opened(alloc: Global, opened: &Opened<'_>, canvas: &mut Canvas) -> Result<(), Refusal>
+/// Plays an opened file's records from their start on. All memory is taken before the first of them is drawn, once
+/// it is known how many lines a drawing has: where it is refused, the canvas is what it was. The refusal is the records' first fault.
+fn play_opened(
+    alloc: Global,
+    opened: &Opened<'_>,
+    canvas: &mut Canvas,
+) -> Result<Result<(), Refusal>, OutOfMemory>
     requires whole { canvas.old.first ≡ 0 }
     requires countable { canvas.old.writes ≤ 2 ^ 63 }
-    ensures played { OnOk result (PlaysOpened (opened_of opened.now) opened.now.records.now canvas.old canvas.new) }
-    ensures refusal { IfErr result (λ r. IsWantOfMemory r ⊎ StopsOpenedBy (opened_of opened.now) opened.now.records.now canvas.old r) }
-    ensures memory { IfErr result (λ r. r.fault ≡ Fault.OutOfMemory → IsWantOfMemory r) }
-    ensures record { IfErr result (λ r. IsSome r.number ↔ IsInRecord r.fault) }
+    ensures played { IfOk result
+        (λ played. OnOk played (PlaysOpened (opened_of opened.now) opened.now.records.now canvas.old canvas.new)) }
+    ensures refusal { IfOk result
+        (λ played. IfErr played (StopsOpenedBy (opened_of opened.now) opened.now.records.now canvas.old)) }
+    ensures record { IfOk result (λ played. IfErr played (λ r. IsSome r.number ↔ IsInRecord r.fault)) }
+    ensures undrawn { OnErr result (canvas.new ≡ canvas.old) }
     ensures rows { SameRows canvas.old canvas.new }
 {
     let place = Place::new(&opened.frame, canvas.width(), canvas.rows());
     let table = FileTable::new(alloc, opened.handles);
     let mut machine = Machine::new(alloc, opened, place, table);
-    let slots = full_slots(opened.handles);
-    if machine
-        .reserve(MAX_SAVED_STATES, slots, MAX_PIECES)
-        .is_err()
-    {
-        return Err(Refusal::of_file(Fault::OutOfMemory));
-    }
-    let mut rows = RowBuf::new(alloc);
+    reserve_all(&mut machine, opened.handles)?;
+    let lines = match count_lines(opened, &mut machine) {
+        Ok(lines) => lines,
+        Err(refusal) => return Ok(Err(refusal)),
+    };
+    let mut rows = rows_for(alloc, lines)?;
     match play_records(opened, &mut machine, &mut rows, canvas) {
-        Ok(_) => Ok(()),
-        Err(refusal) => Err(refusal),
+        Ok(_) => Ok(Ok(())),
+        Err(refusal) => Ok(Err(refusal)),
     }
 }
 
 /// Plays an opened file's records on a machine that has room for any file, with rows that have room for
 /// any drawing, and on a canvas that holds the machine's surface, over what it shows, and tells how many
-/// pixels were written. The refusal is the first fault of the records: no memory is wanted. After a refusal the
-/// canvas may show what was drawn before the fault.
+/// pixels were written. The refusal is the first fault of the records: no memory is wanted. Behind a play the machine is in the
+/// state, and tells the needs, that the records leave. After a refusal the canvas may show what was drawn before the fault.
 pub fn play_on<'a, T: Table<'a>>(
     opened: &Opened<'a>,
     machine: &mut Machine<'a, T>,
@@ -93,20 +102,19 @@ pub fn play_on<'a, T: Table<'a>>(
     requires lines { 2 ^ 20 ≤ rows.old.room }
     requires countable { canvas.old.writes ≤ 2 ^ 63 }
     ensures played { OnOk result
-        (PlaysRecords opened.now.format opened.now.records.now machine.old.state machine.old.surface canvas.old canvas.new) }
+        (PlaysRecords opened.now.format opened.now.records.now machine.old machine.new canvas.old canvas.new) }
     ensures count { IfOk result (λ writes. canvas.new.writes ≡ canvas.old.writes + writes) }
     ensures refusal { IfErr result
         (StopsRecordsBy opened.now.format opened.now.records.now machine.old.state machine.old.surface) }
     ensures record { IfErr result (λ r. IsSome r.number ↔ IsInRecord r.fault) }
     ensures rows { SameRows canvas.old canvas.new }
     ensures goes_on { GoesOn machine.old machine.new }
-    ensures lines { rows.old.room ≤ rows.new.room }
+    ensures lines { rows.new.room ≡ rows.old.room }
 {
     play_records(opened, machine, rows, canvas)
 }
 
-/// Plays an opened file's records as `play_on` does, with rows that may lack room: a drawing for whose lines
-/// memory was refused is refused, without a record.
+/// Plays an opened file's records as `play_on` does, with rows that have room for those of each of its drawings.
 fn play_records<'a, T: Table<'a>>(
     opened: &Opened<'a>,
     machine: &mut Machine<'a, T>,
@@ -115,16 +123,17 @@ fn play_records<'a, T: Table<'a>>(
 ) -> Result<u64, Refusal>
     requires whole { IsWhole canvas.old machine.old.surface }
     requires room { HasFullRoom machine.old }
+    requires lines { HasLinesForRecords rows.old.room opened.now.format opened.now.records.now machine.old }
     requires countable { canvas.old.writes ≤ 2 ^ 63 }
     ensures played { OnOk result
-        (PlaysRecords opened.now.format opened.now.records.now machine.old.state machine.old.surface canvas.old canvas.new) }
+        (PlaysRecords opened.now.format opened.now.records.now machine.old machine.new canvas.old canvas.new) }
     ensures count { IfOk result (λ writes. canvas.new.writes ≡ canvas.old.writes + writes) }
     ensures refusal { IfErr result
-        (λ r. StopsRecordsBy opened.now.format opened.now.records.now machine.old.state machine.old.surface r ⊎ LacksLines rows.old r) }
+        (StopsRecordsBy opened.now.format opened.now.records.now machine.old.state machine.old.surface) }
     ensures record { IfErr result (λ r. IsSome r.number ↔ IsInRecord r.fault) }
     ensures rows { SameRows canvas.old canvas.new }
     ensures goes_on { GoesOn machine.old machine.new }
-    ensures lines { rows.old.room ≤ rows.new.room }
+    ensures lines { rows.new.room ≡ rows.old.room }
 {
     let before = canvas.writes();
     match play_steps(&mut opened.source(), machine, rows, canvas) {
@@ -143,13 +152,14 @@ fn play_steps<'a, S: OpSource<'a>, T: Table<'a>>(
     requires short { length (S.content source.old).steps ≤ record_limit }
     requires whole { IsWhole canvas.old machine.old.surface }
     requires room { HasFullRoom machine.old }
+    requires lines { HasLines rows.old.room (S.content source.old) machine.old }
     requires countable { canvas.old.writes ≤ 2 ^ 63 }
-    ensures played { OnOk result (Plays (S.content source.old) machine.old.state machine.old.surface canvas.old canvas.new) }
-    ensures refusal { IfErr result (λ r. StopsBy (S.content source.old) machine.old.state machine.old.surface r ⊎ LacksLines rows.old r) }
+    ensures played { OnOk result (Plays (S.content source.old) machine.old machine.new canvas.old canvas.new) }
+    ensures refusal { IfErr result (StopsBy (S.content source.old) machine.old.state machine.old.surface) }
     ensures record { IfErr result (λ r. IsSome r.number ↔ IsInRecord r.fault) }
     ensures rows { SameRows canvas.old canvas.new }
     ensures goes_on { GoesOn machine.old machine.new }
-    ensures lines { rows.old.room ≤ rows.new.room }
+    ensures lines { rows.new.room ≡ rows.old.room }
 {
     room_law();
     fault_law();
@@ -165,9 +175,7 @@ fn play_steps<'a, S: OpSource<'a>, T: Table<'a>>(
             Ok(drawn) => drawn,
             Err(fault) => return Err(Refusal::at(step.number, fault)),
         };
-        if draw(drawn, machine, rows, &mut room, canvas).is_err() {
-            return Err(Refusal::of_file(Fault::OutOfMemory));
-        }
+        draw(drawn, machine, rows, &mut room, canvas);
         before += 1;
     }
 }

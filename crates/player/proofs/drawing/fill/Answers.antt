@@ -1,10 +1,10 @@
-use Rattle.std.proofs.Common.{◌<◌, ◌∙◌, ap, refl, rules, sym, arith, subst, length, List}
+use Rattle.std.proofs.Common.{◌∙◌, ap, refl, rules, sym, arith, subst, length, List}
 use Rattle.std.specs.List.{All}
 use Rattle.mapping.specs.Surface.{FitsPlace}
 use Rattle.draw_ops.specs.Objects.{brush_value_of}
 use Rattle.dc_stack.specs.State.{DcValue}
 use Rattle.dc_stack.specs.Draws.{lists_on_plane}
-use Rattle.dc_stack.specs.Drawing.{edge_limit, tools_of}
+use Rattle.dc_stack.specs.Drawing.{tools_of}
 use Rattle.point_views.specs.Polys.{lists_of}
 use Rattle.span_fill.specs.RowLaws.{LiesBetween}
 use Rattle.span_fill.specs.declared.line.Line.{Line}
@@ -12,7 +12,7 @@ use Rattle.player.specs.Shape.{fill_rule_of, inside_polygons, inside_rectangle}
 use Rattle.player.specs.declared.list_lines.Ends.TheVariants.{Closed}
 use Rattle.player.specs.declared.raster_operation.RasterOperation.TheVariants.{Binary}
 use Rattle.player.proofs.CountLemmas.{lines_on_plane_few}
-use Rattle.player.proofs.DrawingLemmas.{brush_drawn, brush_fills, clip_placed, on_err}
+use Rattle.player.proofs.DrawingLemmas.{brush_drawn, brush_fills, clip_placed}
 use Rattle.player.proofs.LandingLemmas.{landed_fits, lists_land, two_land}
 use Rattle.player.proofs.OutlineLemmas.{closed_placed, placed_lines_lie}
 use Rattle.player.proofs.PaintedFigureLemmas.{few_painted}
@@ -23,26 +23,12 @@ of_lists-outline-requires g c =
     let placed = rw c.in-Polygons.is at c.requires.placed in
     lists_land c.in-Polygons.by c.args.machine.now.surface placed.places.surface (lists_of c.in-Polygons.lists) placed.within
 
-pub reserve-requires : goal.reserve-requires
-unfolding edge_limit
-reserve-requires g c =
-    let placed = rw c.in-Polygons.is at c.requires.placed in
-    let few = placed.few in
+pub fill_lines-requires-clause-room : goal.fill_lines-requires-clause-room
+fill_lines-requires-clause-room g c =
+    let room = rw c.in-Polygons.is at c.requires.lines in
     let counted = lines_on_plane_few c.in-Polygons.by Closed (lists_of c.in-Polygons.lists) in
-    let count = c.count.ensures in
     let all = ap (λ (lines : List Line). length lines) c.of_lists-outline.ensures in
-    omega (arith, few, counted, count, all)
-
-pub returns-in_err-reserve-in-Polygons-clause-memory : goal.returns-in_err-reserve-in-Polygons-clause-memory
-returns-in_err-reserve-in-Polygons-clause-memory g c =
-    let placed = rw c.in-Polygons.is at c.requires.placed in
-    let few = placed.few in
-    let counted = lines_on_plane_few c.in-Polygons.by Closed (lists_of c.in-Polygons.lists) in
-    let count = c.count.ensures in
-    let all = ap (λ (lines : List Line). length lines) c.of_lists-outline.ensures in
-    let lacks = c.in_err-reserve-in-Polygons.ensures.err in
-    let lacking : c.args.rows.now.room < edge_limit = omega (arith, few, counted, count, all, lacks) in
-    on_err _ lacking
+    omega (arith, room, counted, all)
 
 pub fill_lines-requires-clause-bounds : goal.fill_lines-requires-clause-bounds
 fill_lines-requires-clause-bounds g c =
@@ -61,8 +47,8 @@ rectangle_box-inside-requires g c =
       second = subst FitsPlace (sym placed.places.1) (landed_fits s c.in-Rectangle.second.plane both.1);
     }
 
-pub returns-in_ok-reserve-in-Polygons-clause-drawn : goal.returns-in_ok-reserve-in-Polygons-clause-drawn
-returns-in_ok-reserve-in-Polygons-clause-drawn g c =
+pub returns-in-Polygons-clause-drawn : goal.returns-in-Polygons-clause-drawn
+returns-in-Polygons-clause-drawn g c =
     let s = c.args.machine.now.surface in
     let tools = tools_of c.args.machine.now.state.dc in
     let by = c.in-Polygons.by in
@@ -104,6 +90,7 @@ returns-in-Rectangle-clause-drawn g c =
 pub fill_figures-requires : goal.fill_figures-requires
 fill_figures-requires g c =
     let drawn = rw c.in-Path.is at c.requires.placed in
-    let few = few_painted c.args.machine.now.surface c.in-Path.path c.args.machine.now.painted drawn in
+    let room = rw c.in-Path.is at c.requires.lines in
+    let few = few_painted c.args.machine.now.surface c.in-Path.path c.args.machine.now.painted c.args.rows.now.room drawn.places room in
     let places = drawn.places in
     search (places, few, rules)

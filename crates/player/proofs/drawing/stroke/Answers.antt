@@ -1,4 +1,4 @@
-use Rattle.std.proofs.Common.{ap, arith, refl, subst, sym}
+use Rattle.std.proofs.Common.{ap, refl, subst, sym}
 use Rattle.mapping.specs.Surface.{FitsPlace}
 use Rattle.dc_stack.specs.Drawing.{tools_of}
 use Rattle.dc_stack.specs.State.{DcValue}
@@ -46,8 +46,7 @@ returns-in-Blit g c =
     let drawn = blit_drawn c.writing_law.ensures s c.args.canvas.now c.blit.new.canvas c.whole_law.ensures c.requires.whole dc (tools_of state) c.in-Blit.asked brush modes clip placed.places.first placed.places.second c.blit.ensures.pixels in
     record {
       drawn = rw c.in-Blit.is drawn;
-      memory = tt;
       rows = same_rows _ _ _ _ c.blit.ensures.pixels;
       few = c.blit.ensures.few;
-      room = omega arith;
+      room = refl;
     }

@@ -1,10 +1,10 @@
-use Rattle.std.proofs.Common.{◌≡◌, ◌<◌, ◌∙◌, ap, refl, rules, sym, arith, subst, length, List, [], ◌∷◌}
+use Rattle.std.proofs.Common.{◌≡◌, ◌∙◌, ap, refl, rules, sym, arith, subst, length, List, [], ◌∷◌}
 use Rattle.std.specs.List.{All}
 use Rattle.mapping.specs.Surface.{FitsPlace, placed_point}
 use Rattle.mapping.specs.declared.geometry.Point.{Point}
 use Rattle.point_views.specs.Points.{points_of}
 use Rattle.point_views.specs.Polys.{lists_of}
-use Rattle.dc_stack.specs.Drawing.{edge_limit, tools_of}
+use Rattle.dc_stack.specs.Drawing.{tools_of}
 use Rattle.dc_stack.specs.Draws.{lists_on_plane, points_on_plane}
 use Rattle.dc_stack.specs.State.{DcValue}
 use Rattle.span_fill.specs.Lines.{IsNearPoint}
@@ -16,7 +16,7 @@ use Rattle.player.specs.Shape.{on_lines, round_polygons, round_rectangle}
 use Rattle.player.specs.declared.list_lines.Ends.TheVariants.{Open, Closed}
 use Rattle.player.specs.declared.raster_operation.RasterOperation.TheVariants.{Binary}
 use Rattle.player.proofs.CountLemmas.{from_start_few, lines_on_plane_few}
-use Rattle.player.proofs.DrawingLemmas.{clip_placed, lone_stroke, on_err, pen_drawn, pen_strokes}
+use Rattle.player.proofs.DrawingLemmas.{clip_placed, lone_stroke, pen_drawn, pen_strokes}
 use Rattle.player.proofs.LandingLemmas.{landed_fits, landed_near, lists_land, start_and_list_land, two_land}
 use Rattle.player.proofs.OutlineLemmas.{closed_placed, from_start_lies, from_start_placed, open_placed, placed_lines_lie}
 use Rattle.player.proofs.PaintedFigureLemmas.{few_painted}
@@ -49,26 +49,12 @@ from-outline-requires-clause-land g c =
     let placed = rw c.in-LinesFrom.is at c.requires.placed in
     (start_and_list_land c.in-LinesFrom.by s placed.places.1.surface from.plane (points_of c.in-LinesFrom.points) placed.within).1
 
-pub reserve-requires : goal.reserve-requires
-unfolding edge_limit
-reserve-requires g c =
-    let placed = rw c.in-LinesFrom.is at c.requires.placed in
-    let few = placed.few in
+pub stroke_lines-requires-clause-room : goal.stroke_lines-requires-clause-room
+stroke_lines-requires-clause-room g c =
+    let room = rw c.in-LinesFrom.is at c.requires.lines in
     let counted = from_start_few c.in-LinesFrom.by c.in-LinesFrom.from.placed c.in-LinesFrom.from.plane (points_of c.in-LinesFrom.points) in
-    let count = c.count.ensures in
     let all = ap (λ (lines : List Line). length lines) c.from-outline.ensures in
-    omega (arith, few, counted, count, all)
-
-pub returns-in_err-reserve-in-LinesFrom-clause-memory : goal.returns-in_err-reserve-in-LinesFrom-clause-memory
-returns-in_err-reserve-in-LinesFrom-clause-memory g c =
-    let placed = rw c.in-LinesFrom.is at c.requires.placed in
-    let few = placed.few in
-    let counted = from_start_few c.in-LinesFrom.by c.in-LinesFrom.from.placed c.in-LinesFrom.from.plane (points_of c.in-LinesFrom.points) in
-    let count = c.count.ensures in
-    let all = ap (λ (lines : List Line). length lines) c.from-outline.ensures in
-    let lacks = c.in_err-reserve-in-LinesFrom.ensures.err in
-    let lacking : c.args.rows.now.room < edge_limit = omega (arith, few, counted, count, all, lacks) in
-    on_err _ lacking
+    omega (arith, room, counted, all)
 
 pub stroke_lines-requires-clause-bounds : goal.stroke_lines-requires-clause-bounds
 stroke_lines-requires-clause-bounds g c =
@@ -84,26 +70,12 @@ of_lists-outline-requires g c =
     let placed = rw c.in-Polylines.is at c.requires.placed in
     lists_land c.in-Polylines.by c.args.machine.now.surface placed.places.surface (lists_of c.in-Polylines.lists) placed.within
 
-pub reserve-requires-in-Polylines : goal.reserve-requires-in-Polylines
-unfolding edge_limit
-reserve-requires-in-Polylines g c =
-    let placed = rw c.in-Polylines.is at c.requires.placed in
-    let few = placed.few in
+pub stroke_lines-requires-in-Polylines-clause-room : goal.stroke_lines-requires-in-Polylines-clause-room
+stroke_lines-requires-in-Polylines-clause-room g c =
+    let room = rw c.in-Polylines.is at c.requires.lines in
     let counted = lines_on_plane_few c.in-Polylines.by Open (lists_of c.in-Polylines.lists) in
-    let count = c.count-in-Polylines.ensures in
     let all = ap (λ (lines : List Line). length lines) c.of_lists-outline.ensures in
-    omega (arith, few, counted, count, all)
-
-pub returns-in_err-reserve-in-Polylines-clause-memory : goal.returns-in_err-reserve-in-Polylines-clause-memory
-returns-in_err-reserve-in-Polylines-clause-memory g c =
-    let placed = rw c.in-Polylines.is at c.requires.placed in
-    let few = placed.few in
-    let counted = lines_on_plane_few c.in-Polylines.by Open (lists_of c.in-Polylines.lists) in
-    let count = c.count-in-Polylines.ensures in
-    let all = ap (λ (lines : List Line). length lines) c.of_lists-outline.ensures in
-    let lacks = c.in_err-reserve-in-Polylines.ensures.err in
-    let lacking : c.args.rows.now.room < edge_limit = omega (arith, few, counted, count, all, lacks) in
-    on_err _ lacking
+    omega (arith, room, counted, all)
 
 pub stroke_lines-requires-in-Polylines-clause-bounds : goal.stroke_lines-requires-in-Polylines-clause-bounds
 stroke_lines-requires-in-Polylines-clause-bounds g c =
@@ -117,26 +89,12 @@ of_lists-outline-requires-in-Polygons g c =
     let placed = rw c.in-Polygons.is at c.requires.placed in
     lists_land c.in-Polygons.by c.args.machine.now.surface placed.places.surface (lists_of c.in-Polygons.lists) placed.within
 
-pub reserve-requires-in-Polygons : goal.reserve-requires-in-Polygons
-unfolding edge_limit
-reserve-requires-in-Polygons g c =
-    let placed = rw c.in-Polygons.is at c.requires.placed in
-    let few = placed.few in
+pub stroke_lines-requires-in-Polygons-clause-room : goal.stroke_lines-requires-in-Polygons-clause-room
+stroke_lines-requires-in-Polygons-clause-room g c =
+    let room = rw c.in-Polygons.is at c.requires.lines in
     let counted = lines_on_plane_few c.in-Polygons.by Closed (lists_of c.in-Polygons.lists) in
-    let count = c.count-in-Polygons.ensures in
     let all = ap (λ (lines : List Line). length lines) c.of_lists-outline-in-Polygons.ensures in
-    omega (arith, few, counted, count, all)
-
-pub returns-in_err-reserve-in-Polygons-clause-memory : goal.returns-in_err-reserve-in-Polygons-clause-memory
-returns-in_err-reserve-in-Polygons-clause-memory g c =
-    let placed = rw c.in-Polygons.is at c.requires.placed in
-    let few = placed.few in
-    let counted = lines_on_plane_few c.in-Polygons.by Closed (lists_of c.in-Polygons.lists) in
-    let count = c.count-in-Polygons.ensures in
-    let all = ap (λ (lines : List Line). length lines) c.of_lists-outline-in-Polygons.ensures in
-    let lacks = c.in_err-reserve-in-Polygons.ensures.err in
-    let lacking : c.args.rows.now.room < edge_limit = omega (arith, few, counted, count, all, lacks) in
-    on_err _ lacking
+    omega (arith, room, counted, all)
 
 pub stroke_lines-requires-in-Polygons-clause-bounds : goal.stroke_lines-requires-in-Polygons-clause-bounds
 stroke_lines-requires-in-Polygons-clause-bounds g c =
@@ -180,8 +138,8 @@ returns-in-Line-clause-drawn g c =
     let drawn = pen_drawn c.writing_law.ensures s c.args.canvas.now c.stroke_line.new.canvas c.whole_law.ensures c.requires.whole paint tools modes operation clip _ shape c.args.colour c.with-paint.ensures.brush (λ x y. lone_stroke line there x y same) c.stroke_line.ensures.pixels in
     rw (c.in-Line.is, pen_strokes shape tools c.args.colour c.requires.pen) drawn
 
-pub returns-in_ok-reserve-in-LinesFrom-clause-drawn : goal.returns-in_ok-reserve-in-LinesFrom-clause-drawn
-returns-in_ok-reserve-in-LinesFrom-clause-drawn g c =
+pub returns-in-LinesFrom-clause-drawn : goal.returns-in-LinesFrom-clause-drawn
+returns-in-LinesFrom-clause-drawn g c =
     let s = c.args.machine.now.surface in
     let state = c.args.machine.now.state.dc in
     let tools = tools_of state in
@@ -199,8 +157,8 @@ returns-in_ok-reserve-in-LinesFrom-clause-drawn g c =
     let drawn = pen_drawn c.writing_law.ensures s c.args.canvas.now c.stroke_lines.new.canvas c.whole_law.ensures c.requires.whole paint tools modes operation clip _ shape c.args.colour c.with-paint.ensures.brush (λ x y. ap (λ (list : List Line). in_stroke list x y) lines) c.stroke_lines.ensures.pixels in
     rw (c.in-LinesFrom.is, pen_strokes shape tools c.args.colour c.requires.pen) drawn
 
-pub returns-in_ok-reserve-in-Polylines-clause-drawn : goal.returns-in_ok-reserve-in-Polylines-clause-drawn
-returns-in_ok-reserve-in-Polylines-clause-drawn g c =
+pub returns-in-Polylines-clause-drawn : goal.returns-in-Polylines-clause-drawn
+returns-in-Polylines-clause-drawn g c =
     let s = c.args.machine.now.surface in
     let state = c.args.machine.now.state.dc in
     let tools = tools_of state in
@@ -217,8 +175,8 @@ returns-in_ok-reserve-in-Polylines-clause-drawn g c =
     let drawn = pen_drawn c.writing_law.ensures s c.args.canvas.now c.stroke_lines-in-Polylines.new.canvas c.whole_law.ensures c.requires.whole paint tools modes operation clip _ shape c.args.colour c.with-paint.ensures.brush (λ x y. ap (λ (list : List Line). in_stroke list x y) lines) c.stroke_lines-in-Polylines.ensures.pixels in
     rw (c.in-Polylines.is, pen_strokes shape tools c.args.colour c.requires.pen) drawn
 
-pub returns-in_ok-reserve-in-Polygons-clause-drawn : goal.returns-in_ok-reserve-in-Polygons-clause-drawn
-returns-in_ok-reserve-in-Polygons-clause-drawn g c =
+pub returns-in-Polygons-clause-drawn : goal.returns-in-Polygons-clause-drawn
+returns-in-Polygons-clause-drawn g c =
     let s = c.args.machine.now.surface in
     let state = c.args.machine.now.state.dc in
     let tools = tools_of state in
@@ -235,8 +193,8 @@ returns-in_ok-reserve-in-Polygons-clause-drawn g c =
     let drawn = pen_drawn c.writing_law.ensures s c.args.canvas.now c.stroke_lines-in-Polygons.new.canvas c.whole_law.ensures c.requires.whole paint tools modes operation clip _ shape c.args.colour c.with-paint.ensures.brush (λ x y. ap (λ (list : List Line). in_stroke list x y) lines) c.stroke_lines-in-Polygons.ensures.pixels in
     rw (c.in-Polygons.is, pen_strokes shape tools c.args.colour c.requires.pen) drawn
 
-pub returns-in_ok-reserve-in-Rectangle-clause-drawn : goal.returns-in_ok-reserve-in-Rectangle-clause-drawn
-returns-in_ok-reserve-in-Rectangle-clause-drawn g c =
+pub returns-in-Rectangle-clause-drawn : goal.returns-in-Rectangle-clause-drawn
+returns-in-Rectangle-clause-drawn g c =
     let s = c.args.machine.now.surface in
     let state = c.args.machine.now.state.dc in
     let tools = tools_of state in
@@ -254,9 +212,13 @@ returns-in_ok-reserve-in-Rectangle-clause-drawn g c =
     let drawn = pen_drawn c.writing_law.ensures s c.args.canvas.now c.stroke_box.new.canvas c.whole_law.ensures c.requires.whole paint tools modes operation clip _ shape c.args.colour c.with-paint.ensures.brush (λ x y. rw (inside, placed.places.0, placed.places.1) refl) c.stroke_box.ensures.pixels in
     rw (c.in-Rectangle.is, pen_strokes shape tools c.args.colour c.requires.pen) drawn
 
+pub stroke_box-requires-clause-room : goal.stroke_box-requires-clause-room
+stroke_box-requires-clause-room g c = rw c.in-Rectangle.is at c.requires.lines
+
 pub stroke_figures-requires : goal.stroke_figures-requires
 stroke_figures-requires g c =
     let drawn = rw c.in-Path.is at c.requires.placed in
-    let few = few_painted c.args.machine.now.surface c.in-Path.path c.args.machine.now.painted drawn in
+    let room = rw c.in-Path.is at c.requires.lines in
+    let few = few_painted c.args.machine.now.surface c.in-Path.path c.args.machine.now.painted c.args.rows.now.room drawn.places room in
     let places = drawn.places in
     search (places, few, rules)

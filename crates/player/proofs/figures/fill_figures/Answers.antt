@@ -1,6 +1,6 @@
 use Rattle.std.proofs.Common.{ap, arith, refl, ◌∙◌}
 use Rattle.draw_ops.specs.Objects.{brush_value_of}
-use Rattle.dc_stack.specs.Drawing.{edge_limit, tools_of}
+use Rattle.dc_stack.specs.Drawing.{tools_of}
 use Rattle.dc_stack.specs.Figures.{all_figures, lists_of_figures}
 use Rattle.dc_stack.specs.Pieces.{figures_of}
 use Rattle.dc_stack.specs.State.{DcValue}
@@ -13,15 +13,11 @@ use Rattle.player.proofs.FigureLemmas.{closed_figure_lines}
 use Rattle.player.proofs.PaintedFigureLemmas.{fills_figures, lines_are, lines_few, lines_lie}
 use Rattle.player.proofs.figures.fill_figures.Goals as goal
 
-pub reserve-requires : goal.reserve-requires
-unfolding edge_limit
-reserve-requires g c = c.requires.lines
-
 pub fill_lines-requires-clause-room : goal.fill_lines-requires-clause-room
 fill_lines-requires-clause-room g c =
     let s = c.args.machine.now.surface in
     let few = lines_few s c.args.path c.args.machine.now.painted c.requires.placed Closed c.painted.result.now c.painted.ensures (piece_lines_left c.new-outline.result) c.new-outline.ensures in
-    let room = c.in_ok-reserve.ensures.ok in
+    let room = c.requires.lines in
     omega (arith, few, room)
 
 pub fill_lines-requires-clause-bounds : goal.fill_lines-requires-clause-bounds

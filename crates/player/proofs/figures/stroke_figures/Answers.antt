@@ -1,5 +1,5 @@
 use Rattle.std.proofs.Common.{◌≡◌, List, Some, ap, arith, rules, ◌∙◌}
-use Rattle.dc_stack.specs.Drawing.{edge_limit, tools_of}
+use Rattle.dc_stack.specs.Drawing.{tools_of}
 use Rattle.dc_stack.specs.Figures.{all_figures}
 use Rattle.dc_stack.specs.Pieces.{figures_of}
 use Rattle.dc_stack.specs.State.{DcValue}
@@ -12,15 +12,11 @@ use Rattle.player.proofs.DrawingLemmas.{clip_placed, pen_drawn, pen_strokes}
 use Rattle.player.proofs.PaintedFigureLemmas.{lines_are, lines_few, lines_lie, stroked_lines, stroked_shape, strokes_figures}
 use Rattle.player.proofs.figures.stroke_figures.Goals as goal
 
-pub reserve-requires : goal.reserve-requires
-unfolding edge_limit
-reserve-requires g c = c.requires.lines
-
 pub stroke_lines-requires-clause-room : goal.stroke_lines-requires-clause-room
 stroke_lines-requires-clause-room g c =
     let s = c.args.machine.now.surface in
     let few = lines_few s c.args.path c.args.machine.now.painted c.requires.placed c.in-Some.ends c.painted.result.now c.painted.ensures (piece_lines_left c.new-outline.result) c.new-outline.ensures in
-    let room = c.in_ok-reserve.ensures.ok in
+    let room = c.requires.lines in
     omega (arith, few, room)
 
 pub stroke_lines-requires-clause-bounds : goal.stroke_lines-requires-clause-bounds

@@ -2,6 +2,6 @@ use Rattle.std.proofs.Common.{rules}
 use Rattle.dc_stack.specs.Drawing.{edge_limit}
 use Rattle.player.proofs.play.play_on.Goals as goal
 
-pub returns-clause-refusal : goal.returns-clause-refusal
+pub play_records-requires : goal.play_records-requires
 unfolding edge_limit
-returns-clause-refusal g c = search rules
+play_records-requires g c = search rules

@@ -2,6 +2,7 @@ use Rattle.std.proofs.Common.{◌≡◌, ◌+◌, ◌*◌, ◌≤◌, length}
 use Rattle.canvas.specs.CanvasState.{image_of}
 use Rattle.draw_ops.specs.Records.{record_limit}
 use Rattle.dc_stack.specs.MachineState.{GoesOn, HasFullRoom}
+use Rattle.player.specs.After.{HasLines, needs_after, state_after}
 use Rattle.player.specs.Apply.{image_after}
 use Rattle.player.specs.Plays.{IsWhole, SameRows}
 use Rattle.player.specs.Stop.{stopped}
@@ -19,10 +20,13 @@ invariant-loop-step g l =
       same_surface : l.machine.surface ≡ start;
       goes_on : GoesOn l.fn.machine l.machine;
       room : HasFullRoom l.machine;
-      lines : l.fn.rows.room ≤ l.rows.room;
+      same_room : l.rows.room ≡ l.fn.rows.room;
+      lines : HasLines l.rows.room (content l.source) l.machine;
       whole : IsWhole l.canvas start;
       rows : SameRows l.fn.canvas l.canvas;
       stops : stopped (content l.fn.source).steps (content l.fn.source).fault 0 l.fn.machine.state start ≡ stopped (content l.source).steps (content l.source).fault l.before l.machine.state start;
+      state : state_after (content l.fn.source).steps l.fn.machine.state ≡ state_after (content l.source).steps l.machine.state;
+      needs : needs_after (content l.fn.source).steps l.fn.machine.state l.fn.machine.needs ≡ needs_after (content l.source).steps l.machine.state l.machine.needs;
       image : image_after (content l.fn.source).steps l.fn.machine.state start (image_of l.fn.canvas) ≡ image_after (content l.source).steps l.machine.state start (image_of l.canvas);
       writes : l.fn.canvas.writes + writes_after (content l.fn.source).steps l.fn.machine.state start ≡ l.canvas.writes + writes_after (content l.source).steps l.machine.state start;
     }

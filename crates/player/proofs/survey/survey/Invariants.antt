@@ -1,0 +1,24 @@
+use Rattle.std.proofs.Common.{◌≡◌, ◌+◌, ◌≤◌, length}
+use Rattle.draw_ops.specs.Records.{record_limit}
+use Rattle.dc_stack.specs.MachineState.{GoesOn, HasFullRoom}
+use Rattle.player.specs.After.{needs_after, state_after}
+use Rattle.player.specs.Stop.{stopped}
+use Rattle.player.proofs.survey.survey.Given as goal
+
+-- what is left of the run ends as the whole run does
+abbrev pub invariant-loop-step : goal.invariant-loop-step
+invariant-loop-step g l =
+    let content = g.S.HasContent.content in
+    let start = l.fn.machine.surface in
+    record {
+      short : l.before + length (content l.source).steps ≤ record_limit;
+      same_surface : l.machine.surface ≡ start;
+      goes_on : GoesOn l.fn.machine l.machine;
+      room : HasFullRoom l.machine;
+      stops : stopped (content l.fn.source).steps (content l.fn.source).fault 0 l.fn.machine.state start ≡ stopped (content l.source).steps (content l.source).fault l.before l.machine.state start;
+      state : state_after (content l.fn.source).steps l.fn.machine.state ≡ state_after (content l.source).steps l.machine.state;
+      needs : needs_after (content l.fn.source).steps l.fn.machine.state l.fn.machine.needs ≡ needs_after (content l.source).steps l.machine.state l.machine.needs;
+    }
+
+abbrev pub decreases-loop-step : goal.decreases-loop-step
+decreases-loop-step g l = length (g.S.HasContent.content l.source).steps
