@@ -116,9 +116,9 @@ def check(trying, texts, functions):
     """What the prover says of these functions of a crate, or of all where none is named, with these texts in place of its own."""
     words = [word for name in functions for word in ("--only", name)]
     with copy_of(trying.crate, texts) as room, tempfile.TemporaryFile("w+", errors="replace") as said:
-        command = [rt.rtlib.RATTLE, "check", *trying.crate.words(["--jobs", "1", *words], keeps=False), "--incremental", trying.kept]
+        words = ["check", *trying.crate.words(["--jobs", "1", *words], keeps=False), "--incremental", trying.kept]
         how = {"cwd": room, "stdin": subprocess.DEVNULL, "stdout": said, "stderr": subprocess.STDOUT}
-        ran = subprocess.Popen([*rt.rtlib.guarded(), *command], **how)
+        ran = subprocess.Popen([*rt.rtlib.guarded(), rt.rtlib.RATTLE, *words], **how)
         _, status, used = os.wait4(ran.pid, 0)
         ran.returncode = os.waitstatus_to_exitcode(status)
         trying.used.append(used)

@@ -126,28 +126,27 @@ class Verdicts(unittest.TestCase):
     def test_a_proved_function_is_not_refused(self):
         """Neither is one that is proved, or of which something else is said."""
         self.assertFalse(is_refused("proved"))
-        self.assertFalse(is_refused("proved, 3 goals by search"))
-        self.assertFalse(is_refused("trusted"))
+        self.assertFalse(is_refused("foreign"))
 
     def test_an_open_goal_is_a_refusal(self):
         """A goal that isn't proved is a reason of the function's own."""
-        self.assertTrue(is_refused("no proof: `search` did not prove `ensures 1`"))
+        self.assertTrue(is_refused("no proof: expected answers in ./proofs/twice/Answers.antt; `search` did not prove `returns`"))
         self.assertTrue(is_refused("not proved"))
 
     def test_an_error_in_an_answer_is_a_refusal(self):
         """So is an error in what its proof files say."""
-        self.assertTrue(is_refused("not proved: proofs/twice/Answers.antt:3:1: expected answers for 2 goals"))
-        self.assertTrue(is_refused("no proof: proofs/twice/Answers.antt has errors"))
+        self.assertTrue(is_refused("not proved: proofs/twice/Answers.antt has an error"))
+        self.assertTrue(is_refused("not proved; it calls `shapes::half`, which is not proved"))
 
     def test_a_call_alone_is_no_refusal(self):
         """A function that only calls others that aren't proved has no reason of its own."""
-        self.assertFalse(is_refused("no proof: it calls shapes::twice, which is not proved"))
-        both = "no proof: it calls shapes::twice, which is not proved; it calls shapes::half, which is not proved"
+        self.assertFalse(is_refused("no proof: it calls `shapes::twice`, which is not proved"))
+        both = "no proof: it calls `shapes::twice`, which is not proved; it calls `shapes::half`, which is not proved"
         self.assertFalse(is_refused(both))
 
     def test_a_call_hides_no_open_goal(self):
         """A function that calls one that isn't proved and has an open goal too is refused, in either order."""
-        call, goal = "it calls shapes::twice, which is not proved", "`search` did not prove `ensures 1`"
+        call, goal = "it calls `shapes::twice`, which is not proved", "`search` did not prove `returns-in-Text`"
         self.assertTrue(is_refused(f"no proof: {call}; {goal}"))
         self.assertTrue(is_refused(f"no proof: {goal}; {call}"))
 
@@ -156,8 +155,8 @@ class Verdicts(unittest.TestCase):
         lines = [
             "src/lib.rt:3:5: error: fn shapes::half: not proved",
             "fn shapes::twice: proved",
-            "fn shapes::sides::Side::new: no proof: `search` did not prove `ensures 1`",
-            "fn shapes::sides::Side::area: no proof: it calls shapes::twice, which is not proved",
+            "fn shapes::sides::Side::new: no proof: `search` did not prove `returns`",
+            "fn shapes::sides::Side::area: no proof: it calls `shapes::sides::Side::new`, which is not proved",
             "only=3 proved=1",
         ]
         self.assertEqual(refused("\n".join(lines)), {"shapes::sides::Side::new"})
