@@ -279,6 +279,9 @@ def main():
     words.add_argument("crates", nargs="*", metavar="CRATE")
     words.add_argument("--each", metavar="CRATE")
     asked = words.parse_args()
+    for name in [*asked.crates, *([asked.each] if asked.each else [])]:
+        if not (EDITS / name).is_dir():
+            words.error(f"there are no edits of {name}")
     os.chdir(ROOT)
     return try_each(asked.each) if asked.each else try_all(asked.crates)
 
