@@ -1,10 +1,13 @@
 """What tries the wrong bodies in edits/, without the prover: the names of functions, what a refusal is, and rounds."""
 
+import pathlib
 import unittest
 
 from edit_functions import changed_functions, functions, pairs
 from edit_rounds import Edit, beside, placed_in, rounds_of
 from edit_verdicts import is_refused, refused
+
+ROOT = pathlib.Path(__file__).resolve().parent.parent
 
 # A small crate in the formatter's layout: a type with calls of its own and of a trait, in another file than the type too.
 SOURCES = {
@@ -204,6 +207,26 @@ class Rounds(unittest.TestCase):
         whole = beside(second, first.edits)
         self.assertEqual(self.named([whole]), [["three", "four"]])
         self.assertEqual(whole.texts, {"src/lib.rt": "one two 3 two_and_more 4"})
+
+
+class Places(unittest.TestCase):
+    """The edits of this repository, as they stand."""
+
+    def sources(self, crate):
+        """The texts of a crate's files by their paths in it."""
+        folder = ROOT / "crates" / crate
+        return {str(path.relative_to(folder)): path.read_text(encoding="utf-8") for path in folder.glob("src/**/*.rt")}
+
+    def test_each_edit_finds_its_place(self):
+        """Each old text stands once in its file, and something is changed."""
+        for crate in sorted((ROOT / "edits").iterdir()):
+            sources = self.sources(crate.name)
+            for path in sorted(crate.iterdir()):
+                with self.subTest(edit=f"{crate.name}/{path.name}"):
+                    texts = placed_in(sources, Edit(path.stem, path.read_text(encoding="utf-8"), ()))
+                    self.assertEqual(path.suffix, ".edit")
+                    self.assertIsNotNone(texts)
+                    self.assertNotEqual(texts, sources)
 
 
 if __name__ == "__main__":
