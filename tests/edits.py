@@ -29,13 +29,14 @@ from typing import NamedTuple
 
 import edit_verdicts
 from edit_functions import changed_functions, pairs
+from edit_rounds import Edit, beside, placed_in, rounds_of
 
 ROOT = pathlib.Path(__file__).resolve().parent.parent
 
 EDITS = ROOT / "edits"
 
 # How many edits there are, so that none is lost.
-COUNT = 552
+COUNT = 531
 
 # How many functions one check judges at most: it may take 5 GB for as many.
 MOST_AT_A_TIME = 30
@@ -61,15 +62,6 @@ def kit():
 
 
 rt = kit()
-
-
-class Edit(NamedTuple):
-    """An edit: its name, its text, and the functions that it changes. Where it also changes what stands in no function, it is
-    tried alone, and so it has none."""
-
-    name: str
-    text: str
-    functions: tuple
 
 
 class Trial(NamedTuple):
@@ -101,48 +93,6 @@ def edits_of(crate, sources):
     return [edit for edit, _ in read if edit], [why for _, why in read if why]
 
 
-def placed_in(texts, edit):
-    """The texts of a crate's files with an edit in them, or none where it doesn't find its place."""
-    texts = dict(texts)
-    for path, old, new in pairs(edit.text):
-        if texts[path].count(old) != 1:
-            return None
-        texts[path] = texts[path].replace(old, new)
-    return texts
-
-
-class Round(NamedTuple):
-    """Edits of different functions that are judged together, and the texts of the crate's files with them."""
-
-    edits: list
-    texts: dict
-
-
-def rounds_of(edits, sources):
-    """The edits of functions in rounds: in none is a function changed by two, and all find their places together."""
-    rounds = []
-    for edit in edits:
-        for at, it in enumerate(rounds):
-            texts = placed_in(it.texts, edit)
-            if texts and not any(set(edit.functions) & set(other.functions) for other in it.edits):
-                rounds[at] = Round([*it.edits, edit], texts)
-                break
-        else:
-            rounds.append(Round([edit], placed_in(sources, edit)))
-    return rounds
-
-
-def beside(this, standing):
-    """A round's texts with those of the edits before it that find their places beside it, and all edits that they have."""
-    texts, edits = this.texts, list(this.edits)
-    for edit in standing:
-        free = not any(set(edit.functions) & set(other.functions) for other in this.edits)
-        there = placed_in(texts, edit) if free else None
-        if there:
-            texts, edits = there, [*edits, edit]
-    return Round(edits, texts)
-
-
 @contextlib.contextmanager
 def copy_of(crate, texts):
     """A copy of a crate with these texts of its sources, in a folder of its own."""
@@ -155,12 +105,25 @@ def copy_of(crate, texts):
         yield room
 
 
-def check(crate, room, functions, kept):
-    """What the prover says of functions of a copy of a crate, over what earlier checks left in a folder."""
+class Answer(NamedTuple):
+    """What the prover said, and the status with which it ended."""
+
+    status: int
+    said: str
+
+
+def check(trying, texts, functions):
+    """What the prover says of these functions of a crate, or of all where none is named, with these texts in place of its own."""
     words = [word for name in functions for word in ("--only", name)]
-    command = [rt.rtlib.RATTLE, "check", *crate.words(["--jobs", "1", *words], keeps=False), "--incremental", kept]
-    how = {"cwd": room, "stdin": subprocess.DEVNULL, "stdout": subprocess.PIPE, "stderr": subprocess.STDOUT, "errors": "replace"}
-    return subprocess.run([*rt.rtlib.guarded(), *command], check=False, **how)
+    with copy_of(trying.crate, texts) as room, tempfile.TemporaryFile("w+", errors="replace") as said:
+        words = ["check", *trying.crate.words(["--jobs", "1", *words], keeps=False), "--incremental", trying.kept]
+        how = {"cwd": room, "stdin": subprocess.DEVNULL, "stdout": said, "stderr": subprocess.STDOUT}
+        ran = subprocess.Popen([*rt.rtlib.guarded(), rt.rtlib.RATTLE, *words], **how)
+        _, status, used = os.wait4(ran.pid, 0)
+        ran.returncode = os.waitstatus_to_exitcode(status)
+        trying.used.append(used)
+        said.seek(0)
+        return Answer(ran.returncode, said.read())
 
 
 def files_of(edits):
@@ -171,63 +134,72 @@ def files_of(edits):
 def refused_by(ran, last, edits):
     """The functions that a check refuses for a reason of their own: none where it ends otherwise than by this last line, or
     can't read what an edit wrote."""
-    lines = ran.stdout.rstrip("\n").split("\n")
+    lines = ran.said.rstrip("\n").split("\n")
     changed = files_of(edits)
-    if ran.returncode != 1 or not lines[-1].startswith(last) or any(rt.unread(line, changed) for line in lines):
+    if ran.status != 1 or not lines[-1].startswith(last) or any(rt.unread(line, changed) for line in lines):
         return None
-    return edit_verdicts.refused(ran.stdout)
+    return edit_verdicts.refused(ran.said)
 
 
-def judge_alone(crate, edit, sources, kept):
-    """Judges an edit in a copy of the crate that has no other, of which all functions are checked."""
-    with copy_of(crate, placed_in(sources, edit)) as room:
-        ran = check(crate, room, (), kept)
-    refused = refused_by(ran, "logic=not-proved", [edit])
-    if refused is None or (edit.functions and not refused & set(edit.functions)):
-        last = ran.stdout.rstrip("\n").split("\n")[-1]
-        return Trial(False, f"{crate.name}/{edit.name}: NOT REFUSED: {last[:200]}")
-    return Trial(True, f"{crate.name}/{edit.name}: refused alone, by {', '.join(sorted(refused)) or 'the crate'}")
+class Trying:
+    """Tries edits of a crate, over what its own checks keep in a folder."""
 
+    def __init__(self, crate, sources, kept):
+        """Begins with nothing kept."""
+        self.crate, self.sources, self.kept = crate, sources, kept
+        self.used = []
 
-def judge_together(crate, edits, whole, sources, kept):
-    """Judges some edits of a round in a copy of the crate that has the whole round's, each by its own function. Those that
-    aren't refused so are tried alone."""
-    with copy_of(crate, whole.texts) as room:
-        ran = check(crate, room, [name for edit in edits for name in edit.functions], kept)
-    refused = refused_by(ran, "only=", whole.edits) or set()
-    for name in sorted(refused - {name for edit in whole.edits for name in edit.functions}):
-        yield Trial(False, f"{crate.name}: {name}, which no edit changes, isn't proved beside {len(whole.edits)} edits")
-    for edit in edits:
-        if set(edit.functions) <= refused:
-            yield Trial(True, f"{crate.name}/{edit.name}: refused by {', '.join(edit.functions)}")
-        else:
-            yield judge_alone(crate, edit, sources, kept)
+    def alone(self, edit):
+        """Judges an edit in a copy of the crate that has no other, of which all functions are checked."""
+        ran = check(self, placed_in(self.sources, edit), ())
+        refused = refused_by(ran, "logic=not-proved", [edit])
+        if refused is None or (edit.functions and not refused & set(edit.functions)):
+            last = ran.said.rstrip("\n").split("\n")[-1]
+            return Trial(False, f"{self.crate.name}/{edit.name}: NOT REFUSED: {last[:200]}")
+        return Trial(True, f"{self.crate.name}/{edit.name}: refused alone, by {', '.join(sorted(refused)) or 'the crate'}")
 
+    def together(self, edits, whole):
+        """Judges some edits of a round in a copy of the crate that has the whole round's, each by its own function. Those that
+        aren't refused so are tried alone."""
+        ran = check(self, whole.texts, [name for edit in edits for name in edit.functions])
+        refused = refused_by(ran, "only=", whole.edits) or set()
+        for name in sorted(refused - {name for edit in whole.edits for name in edit.functions}):
+            yield Trial(False, f"{self.crate.name}: {name}, which no edit changes, isn't proved beside {len(whole.edits)} edits")
+        for edit in edits:
+            if set(edit.functions) <= refused:
+                yield Trial(True, f"{self.crate.name}/{edit.name}: refused by {', '.join(edit.functions)}")
+            else:
+                yield self.alone(edit)
 
-def parts_of(edits):
-    """The edits of a round, in parts of so many as one check may judge."""
-    return [edits[start : start + MOST_AT_A_TIME] for start in range(0, len(edits), MOST_AT_A_TIME)]
+    def each(self, edits):
+        """Judges these edits, those of functions in rounds, and gives what came of each and what else was wrong."""
+        whole = None
+        for this in rounds_of([edit for edit in edits if edit.functions], self.sources):
+            whole = beside(this, whole.edits if whole else [])
+            for start in range(0, len(this.edits), MOST_AT_A_TIME):
+                yield from self.together(this.edits[start : start + MOST_AT_A_TIME], whole)
+        for edit in edits:
+            if not edit.functions:
+                yield self.alone(edit)
+
+    def cost(self):
+        """What the checks took: seconds of processor, and memory at most."""
+        seconds = sum(it.ru_utime + it.ru_stime for it in self.used)
+        memory = max((it.ru_maxrss for it in self.used), default=0) / 1_000_000
+        return f"{seconds:.0f} s of processor, at most {memory:.1f} GB"
 
 
 def judge(crate, edits, sources):
-    """Judges edits of a crate, and gives what came of each, and what else was wrong."""
+    """What came of each of these edits of a crate, what else was wrong, and what it took."""
     with tempfile.TemporaryDirectory(prefix="edits-") as kept:
-        standing = []
-        for this in rounds_of([edit for edit in edits if edit.functions], sources):
-            whole = beside(this, standing)
-            standing = whole.edits
-            for part in parts_of(this.edits):
-                yield from judge_together(crate, part, whole, sources, kept)
-        for edit in edits:
-            if not edit.functions:
-                yield judge_alone(crate, edit, sources, kept)
+        trying = Trying(crate, sources, kept)
+        return list(trying.each(edits)), trying.cost()
 
 
-def judge_itself(crate):
+def judge_itself(crate, sources):
     """Whether the judge says of an edit that changes nothing, and of a right one, that neither is refused."""
-    sources = sources_of(crate)
     edits = [read_edit(name, text, crate, sources)[0] for name, text in RIGHT.items()]
-    trials = list(judge(crate, edits, sources))
+    trials, _ = judge(crate, edits, sources)
     is_well = len(trials) == len(RIGHT) and not any(trial.is_refused for trial in trials)
     return Trial(is_well, f"{crate.name}: the judge {'lets' if is_well else 'DOES NOT LET'} two right bodies through")
 
@@ -250,21 +222,26 @@ def build_libraries(crate):
 
 
 def try_crate(crate):
-    """Tries the edits of a crate, says what came of each, and answers what was refused and what went wrong."""
+    """Tries the edits of a crate, says what came of each, and answers how many there are and what went wrong."""
     start = time.monotonic()
     sources = sources_of(crate)
     edits, wrong = edits_of(crate, sources)
-    trials = list(judge(crate, edits, sources))
-    trials += [judge_itself(crate)] if crate.name == RIGHT_CRATE else []
+    trials, cost = judge(crate, edits, sources)
+    trials += [judge_itself(crate, sources)] if crate.name == RIGHT_CRATE else []
     wrong += [trial.said for trial in trials if not trial.is_refused]
-    print("\n".join(trial.said for trial in trials if trial.is_refused))
-    print(f"{crate.name}: {len(edits)} edits in {time.monotonic() - start:.0f} s", flush=True)
+    said = [trial.said for trial in trials if trial.is_refused]
+    print("\n".join([*said, f"{crate.name}: {len(edits)} edits in {time.monotonic() - start:.0f} s, {cost}"]), flush=True)
     return len(edits), wrong
 
 
 def lanes():
     """How many crates to try side by side: as processors and memory allow."""
     return max(1, min(rt.processors(), int(rt.free() / MEMORY)))
+
+
+def work(crate):
+    """About how much work a crate's edits are, so that the most is begun first: their number by the lines that a check reads."""
+    return len(list((EDITS / crate.name).glob("*.edit"))) * sum(it.count(rb"\n") for it in [crate, *crate.below()])
 
 
 def try_all(names):
@@ -274,7 +251,7 @@ def try_all(names):
     rt.rtlib.guarded()
     if not all(build_libraries(it) for it in crates):
         return 1
-    crates.sort(key=lambda it: -len(it.below()) * len(list((EDITS / it.name).glob("*.edit"))))
+    crates.sort(key=lambda it: -work(it))
     with ThreadPoolExecutor(lanes()) as pool:
         results = list(pool.map(try_crate, crates))
     count, wrong = sum(it for it, _ in results), [said for _, its in results for said in its]
@@ -302,6 +279,9 @@ def main():
     words.add_argument("crates", nargs="*", metavar="CRATE")
     words.add_argument("--each", metavar="CRATE")
     asked = words.parse_args()
+    for name in [*asked.crates, *([asked.each] if asked.each else [])]:
+        if not (EDITS / name).is_dir():
+            words.error(f"there are no edits of {name}")
     os.chdir(ROOT)
     return try_each(asked.each) if asked.each else try_all(asked.crates)
 

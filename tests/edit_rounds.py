@@ -1,0 +1,60 @@
+"""Which wrong bodies of a crate are judged together: rounds of edits that stand side by side in one text."""
+
+from typing import NamedTuple
+
+from edit_functions import pairs
+
+
+class Edit(NamedTuple):
+    """An edit: its name, its text, and the functions that it changes. Where it also changes what stands in no function, it is
+    tried alone, and so it has none."""
+
+    name: str
+    text: str
+    functions: tuple
+
+
+class Round(NamedTuple):
+    """Edits of different functions that are judged together, and the texts of the crate's files with them."""
+
+    edits: list
+    texts: dict
+
+
+def placed_in(texts, edit):
+    """The texts of a crate's files with an edit in them, or none where it doesn't find its place."""
+    texts = dict(texts)
+    for path, old, new in pairs(edit.text):
+        if texts[path].count(old) != 1:
+            return None
+        texts[path] = texts[path].replace(old, new)
+    return texts
+
+
+def with_edit(this, edit):
+    """A round with one more edit, or none where one of its edits changes the same function or takes the edit's place."""
+    if any(set(edit.functions) & set(other.functions) for other in this.edits):
+        return None
+    texts = placed_in(this.texts, edit)
+    return Round([*this.edits, edit], texts) if texts else None
+
+
+def rounds_of(edits, sources):
+    """The edits of functions in rounds: in none is a function changed by two, and all find their places together."""
+    rounds = []
+    for edit in edits:
+        for at, it in enumerate(rounds):
+            more = with_edit(it, edit)
+            if more:
+                rounds[at] = more
+                break
+        else:
+            rounds.append(Round([edit], placed_in(sources, edit)))
+    return rounds
+
+
+def beside(this, standing):
+    """A round with those of the edits before it that find their places beside it, so that what they change isn't proved again."""
+    for edit in standing:
+        this = with_edit(this, edit) or this
+    return this
