@@ -37,8 +37,6 @@ mod regions;
 mod row_ink;
 mod strips;
 mod stroking;
-#[cfg(test)]
-mod tests;
 
 pub use laws::run_law;
 pub use play::{play_file, play_on};

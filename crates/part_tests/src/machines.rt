@@ -1,6 +1,6 @@
 //! Machines: what a step draws and needs, a new start, and refused growth.
 
-use crate::tests::playing::{DOT, RED};
+use crate::dot::{DOT, RED};
 use dc_stack::{Draw, Landing, Machine, Needs};
 use draw_ops::{Fault, FillMode, Handle, Object, Op, SavedState};
 use mapping::{Place, Point, Rect};

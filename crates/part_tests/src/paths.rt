@@ -1,6 +1,6 @@
 //! Paths of a machine: the pieces that it lends, what a refused step leaves, and refused growth.
 
-use crate::tests::playing::DOT;
+use crate::dot::DOT;
 use dc_stack::{MAX_PIECES, Machine};
 use draw_ops::{Fault, Op};
 use mapping::{Place, Point};

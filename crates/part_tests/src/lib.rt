@@ -1,0 +1,35 @@
+//! Tests of the crates below the player, with values worked by hand, one file a subject; and the file that
+//! these and the player's play.
+#![tactic(auto)]
+
+#[cfg(test)]
+mod canvases;
+#[cfg(test)]
+mod codes;
+mod dot;
+#[cfg(test)]
+mod faults;
+#[cfg(test)]
+mod headers;
+#[cfg(test)]
+mod lists_of_points;
+#[cfg(test)]
+mod machines;
+#[cfg(test)]
+mod notes;
+#[cfg(test)]
+mod paths;
+#[cfg(test)]
+mod places;
+#[cfg(test)]
+mod records_of_emf;
+#[cfg(test)]
+mod records_of_wmf;
+#[cfg(test)]
+mod rows;
+#[cfg(test)]
+mod sources;
+#[cfg(test)]
+mod tables;
+
+pub use dot::{DOT, RED, changed};
