@@ -28,8 +28,12 @@ mod records_of_wmf;
 #[cfg(test)]
 mod rows;
 #[cfg(test)]
+mod sizes;
+#[cfg(test)]
 mod sources;
 #[cfg(test)]
 mod tables;
+#[cfg(test)]
+mod texts;
 
 pub use dot::{DOT, RED, changed};

@@ -5,3 +5,5 @@
 mod playing;
 #[cfg(test)]
 mod playing_on;
+#[cfg(test)]
+mod sizes;
