@@ -1,5 +1,5 @@
-//! Tests of the crates below the player, with values worked by hand, one file a subject; and the file that
-//! these and the player's play.
+//! Tests of the crates below the playing state, with values worked by hand, one file a subject; and a file
+//! of one dot, which tests above play too.
 #![tactic(auto)]
 
 #[cfg(test)]
@@ -14,11 +14,7 @@ mod headers;
 #[cfg(test)]
 mod lists_of_points;
 #[cfg(test)]
-mod machines;
-#[cfg(test)]
 mod notes;
-#[cfg(test)]
-mod paths;
 #[cfg(test)]
 mod places;
 #[cfg(test)]

@@ -1,17 +1,15 @@
 //! Sizes for which memory is asked, each of many: where there is memory, none is refused.
 
-use crate::dot::DOT;
 use canvas::Canvas;
-use dc_stack::{MAX_PIECES, Machine};
-use mapping::{Colour, Place};
-use meta_headers::open_file;
+use mapping::Colour;
 use object_tables::{Given, LowestFree, Table};
 use span_fill::RowBuf;
 use std::alloc::Global;
 
 /// Powers of two above the counts that are tried one by one, and the counts beside them.
 const BESIDE_POWERS: [usize; 16] = [
-    4095, 4096, 4097, 8191, 8192, 8193, 16383, 16384, 16385, 32767, 32768, 32769, 65534, 65535, 65536, 65537,
+    4095, 4096, 4097, 8191, 8192, 8193, 16383, 16384, 16385, 32767, 32768, 32769, 65534, 65535,
+    65536, 65537,
 ];
 
 /// The same up to 2^20, which no count of lines exceeds.
@@ -38,17 +36,8 @@ fn has_rows(alloc: Global, lines: usize) -> bool {
 /// Whether tables of either kind get room for so many objects.
 fn has_tables(alloc: Global, slots: usize) -> bool {
     let handles = u16::try_from(slots).unwrap_or(u16::MAX);
-    LowestFree::new(alloc).reserve(slots).is_ok() && Given::new(alloc, handles).reserve(slots).is_ok()
-}
-
-/// Whether a machine gets room for so many saved states, objects and pieces.
-fn has_machine(alloc: Global, depth: usize, slots: usize, pieces: usize) -> bool {
-    let Ok(opened) = open_file(&DOT) else {
-        return false;
-    };
-    let place = Place::new(&opened.frame, 2, 2);
-    let mut machine = Machine::new(alloc, &opened, place, LowestFree::new(alloc));
-    machine.reserve(depth, slots, pieces).is_ok()
+    LowestFree::new(alloc).reserve(slots).is_ok()
+        && Given::new(alloc, handles).reserve(slots).is_ok()
 }
 
 #[test]
@@ -90,33 +79,5 @@ fn tables_have_room_for_each_count_of_objects(rt: HostRuntime) {
     }
     for slots in BESIDE_POWERS {
         assert!(rt; has_tables(rt.alloc(), slots), "{slots}");
-    }
-}
-
-#[test]
-fn a_machine_has_room_for_each_depth(rt: HostRuntime) {
-    for depth in 0..257 {
-        assert!(rt; has_machine(rt.alloc(), depth, 0, 0), "{depth}");
-        assert!(rt; has_machine(rt.alloc(), depth, 1024, MAX_PIECES), "{depth}");
-    }
-}
-
-#[test]
-fn a_machine_has_room_for_each_count_of_objects(rt: HostRuntime) {
-    for slots in 0..2050 {
-        assert!(rt; has_machine(rt.alloc(), 256, slots, MAX_PIECES), "{slots}");
-    }
-    for slots in BESIDE_POWERS {
-        assert!(rt; has_machine(rt.alloc(), 256, slots, MAX_PIECES), "{slots}");
-    }
-}
-
-#[test]
-fn a_machine_has_room_for_each_count_of_pieces(rt: HostRuntime) {
-    for pieces in 0..2050 {
-        assert!(rt; has_machine(rt.alloc(), 256, 1024, pieces), "{pieces}");
-    }
-    for pieces in BESIDE_POWERS {
-        assert!(rt; has_machine(rt.alloc(), 256, 1024, pieces), "{pieces}");
     }
 }
