@@ -24,7 +24,7 @@ impl Write for Counter {
 }
 
 /// How many digits a side has.
-fn digits(side: u32) -> usize {
+fn digits(side: u32) -> u8 {
     match side {
         0..=9 => 1,
         10..=99 => 2,
@@ -43,16 +43,18 @@ fn is_text(alloc: Global, width: u32, height: u32) -> bool {
         return false;
     };
     let mut out = Counter { bytes: 0 };
-    let header = 9 + digits(width) + digits(height);
-    let pixels = width as usize * height as usize;
-    canvas.write_ppm(&mut out).is_ok() && out.bytes == header + 3 * pixels
+    let header = 9 + usize::from(digits(width)) + usize::from(digits(height));
+    let colours = (width as usize)
+        .wrapping_mul(height as usize)
+        .wrapping_mul(3);
+    canvas.write_ppm(&mut out).is_ok() && out.bytes.wrapping_sub(header) == colours
 }
 
-/// A width that cuts so many pixels into whole rows, at most 8,192: none for a prime above.
-fn width_of(pixels: u32) -> Option<u32> {
+/// The sides of a surface of so many pixels, of which one is small: none for a prime.
+fn sides_of(pixels: u32) -> Option<(u32, u32)> {
     for width in 2..111 {
         if pixels % width == 0 {
-            return Some(width);
+            return Some((width, pixels / width));
         }
     }
     None
@@ -70,8 +72,7 @@ fn a_text_has_each_count_of_pixels_in_one_row_or_column(rt: HostRuntime) {
 fn a_text_has_each_count_of_pixels_of_three_pieces(rt: HostRuntime) {
     // A piece has 4,096 pixels.
     for pixels in 8193..12290 {
-        if let Some(width) = width_of(pixels) {
-            let height = pixels / width;
+        if let Some((width, height)) = sides_of(pixels) {
             assert!(rt; is_text(rt.alloc(), width, height), "{width} by {height}");
         }
     }
