@@ -39,8 +39,6 @@ mod row_ink;
 mod strips;
 mod stroking;
 mod survey;
-#[cfg(test)]
-mod tests;
 
 pub use laws::run_law;
 pub use play::{play_file, play_on};

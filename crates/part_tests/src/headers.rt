@@ -1,6 +1,6 @@
 //! What opening a file tells, and what it notes.
 
-use crate::tests::playing::{DOT, changed};
+use crate::dot::{DOT, changed};
 use draw_ops::{Note, NoteSet};
 use mapping::Frame;
 use meta_headers::{FileFormat, open_file};

@@ -1,11 +1,11 @@
 //! Machines: what a step draws and needs, a new start, and refused growth.
 
-use crate::tests::playing::{DOT, RED};
 use dc_stack::{Draw, Landing, Machine, Needs};
 use draw_ops::{Fault, FillMode, Handle, Object, Op, SavedState};
 use mapping::{Place, Point, Rect};
 use meta_headers::{Opened, open_file};
 use object_tables::LowestFree;
+use part_tests::{DOT, RED};
 use std::alloc::Global;
 use std::test::Fail;
 

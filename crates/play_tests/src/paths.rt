@@ -1,11 +1,11 @@
 //! Paths of a machine: the pieces that it lends, what a refused step leaves, and refused growth.
 
-use crate::tests::playing::DOT;
 use dc_stack::{MAX_PIECES, Machine};
 use draw_ops::{Fault, Op};
 use mapping::{Place, Point};
 use meta_headers::{Opened, open_file};
 use object_tables::LowestFree;
+use part_tests::DOT;
 use std::alloc::Global;
 use std::test::Fail;
 

@@ -1,6 +1,6 @@
 //! The steps of EMF records, with their numbers and notes.
 
-use crate::tests::headers::NIL_EMF;
+use crate::headers::NIL_EMF;
 use draw_ops::{Fault, Handle, Note, NoteSet, Object, Op, OpSource, Pen, Step};
 use emf_records::EmfOps;
 use point_views::{Points, Polys};

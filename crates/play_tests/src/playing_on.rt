@@ -2,15 +2,15 @@
 
 ghost use Rattle.std.specs.Prelude.{◌≤◌, ◌^◌, IfOk};
 
-use crate::play::play_on;
-use crate::refusal::Refusal;
-use crate::tests::playing::{BLUE, DOT, RED, changed, colour};
+use crate::playing::{BLUE, colour};
 use canvas::Canvas;
 use dc_stack::{MAX_PIECES, Machine};
 use draw_ops::Fault;
 use mapping::Place;
 use meta_headers::open_file;
 use object_tables::LowestFree;
+use part_tests::{DOT, RED, changed};
+use player::{Refusal, play_on};
 use span_fill::RowBuf;
 use std::alloc::Global;
 use std::test::Fail;

@@ -1,38 +1,14 @@
 //! Worked files, whole and broken, with the answers by hand.
 
-use crate::play::play_file;
-use crate::refusal::Refusal;
 use canvas::Canvas;
 use draw_ops::Fault;
 use mapping::Colour;
+use part_tests::{DOT, RED, changed};
+use player::{Refusal, play_file};
 use std::alloc::{AllocError, Global};
 use std::test::Fail;
 
-/// A placeable file with the box (0,0,4,4), a red pixel at (2,1), and an end.
-pub(crate) const DOT: [u8; 60] = [
-    // META_PLACEABLE: key, handle, box, inch, reserved, checksum.
-    0xd7, 0xcd, 0xc6, 0x9a, 0, 0, 0, 0, 0, 0, 4, 0, 4, 0, 0x60, 0, 0, 0, 0, 0, 0x71, 0x57,
-    // META_HEADER: type, header size, version, size, objects, largest record, members.
-    1, 0, 9, 0, 0, 3, 0x13, 0, 0, 0, 0, 0, 7, 0, 0, 0, 0, 0,
-    // META_SETPIXEL: size in words, function, colour, y, x.
-    7, 0, 0, 0, 0x1f, 4, 255, 0, 0, 0, 1, 0, 2, 0,
-    // META_EOF.
-    3, 0, 0, 0, 0, 0,
-];
-
-pub(crate) const RED: Colour = Colour { r: 255, g: 0, b: 0 };
-
 pub(crate) const BLUE: Colour = Colour { r: 0, g: 0, b: 255 };
-
-/// `DOT` with other bytes from a place on.
-pub(crate) fn changed(alloc: Global, place: usize, bytes: &[u8]) -> Result<Vec<u8>, AllocError> {
-    let mut file = Vec::new(alloc);
-    for (k, byte) in DOT.iter().enumerate() {
-        let new = k.checked_sub(place).and_then(|offset| bytes.get(offset));
-        file.push(*new.unwrap_or(byte))?;
-    }
-    Ok(file)
-}
 
 /// The headers of `DOT` and these records.
 fn with_records(alloc: Global, records: &[u8]) -> Result<Vec<u8>, AllocError> {

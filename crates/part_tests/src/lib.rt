@@ -1,0 +1,35 @@
+//! Tests of the crates below the playing state, with values worked by hand, one file a subject; and a file
+//! of one dot, which tests above play too.
+#![tactic(auto)]
+
+#[cfg(test)]
+mod canvases;
+#[cfg(test)]
+mod codes;
+mod dot;
+#[cfg(test)]
+mod faults;
+#[cfg(test)]
+mod headers;
+#[cfg(test)]
+mod lists_of_points;
+#[cfg(test)]
+mod notes;
+#[cfg(test)]
+mod places;
+#[cfg(test)]
+mod records_of_emf;
+#[cfg(test)]
+mod records_of_wmf;
+#[cfg(test)]
+mod rows;
+#[cfg(test)]
+mod sizes;
+#[cfg(test)]
+mod sources;
+#[cfg(test)]
+mod tables;
+#[cfg(test)]
+mod texts;
+
+pub use dot::{DOT, RED, changed};

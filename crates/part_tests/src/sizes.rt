@@ -1,0 +1,83 @@
+//! Sizes for which memory is asked, each of many: where there is memory, none is refused.
+
+use canvas::Canvas;
+use mapping::Colour;
+use object_tables::{Given, LowestFree, Table};
+use span_fill::RowBuf;
+use std::alloc::Global;
+
+/// Powers of two above the counts that are tried one by one, and the counts beside them.
+const BESIDE_POWERS: [usize; 16] = [
+    4095, 4096, 4097, 8191, 8192, 8193, 16383, 16384, 16385, 32767, 32768, 32769, 65534, 65535,
+    65536, 65537,
+];
+
+/// The same up to 2^20, which no count of lines exceeds.
+const GREAT_BESIDE_POWERS: [usize; 11] = [
+    131071, 131072, 131073, 262143, 262144, 262145, 524287, 524288, 524289, 1048575, 1048576,
+];
+
+/// Whether a surface of these sides is made.
+fn is_canvas(alloc: Global, width: u32, height: u32) -> bool {
+    if width == 0 || 8192 < width || height == 0 || 8192 < height {
+        return false;
+    }
+    Canvas::new(alloc, width, height, Colour::WHITE).is_ok()
+}
+
+/// Whether rows get room for so many lines.
+fn has_rows(alloc: Global, lines: usize) -> bool {
+    if 1_048_576 < lines {
+        return false;
+    }
+    RowBuf::new(alloc).reserve(lines).is_ok()
+}
+
+/// Whether tables of either kind get room for so many objects.
+fn has_tables(alloc: Global, slots: usize) -> bool {
+    let handles = u16::try_from(slots).unwrap_or(u16::MAX);
+    LowestFree::new(alloc).reserve(slots).is_ok()
+        && Given::new(alloc, handles).reserve(slots).is_ok()
+}
+
+#[test]
+fn a_canvas_has_each_width_and_each_height(rt: HostRuntime) {
+    for side in 1..8193 {
+        assert!(rt; is_canvas(rt.alloc(), side, 1), "{side} by 1");
+        assert!(rt; is_canvas(rt.alloc(), 1, side), "1 by {side}");
+        assert!(rt; is_canvas(rt.alloc(), side, 2), "{side} by 2");
+        assert!(rt; is_canvas(rt.alloc(), 3, side), "3 by {side}");
+    }
+}
+
+#[test]
+fn a_canvas_has_each_two_small_sides(rt: HostRuntime) {
+    for area in 0..10_000 {
+        let width = area % 100 + 1;
+        let height = area / 100 + 1;
+        assert!(rt; is_canvas(rt.alloc(), width, height), "{width} by {height}");
+    }
+}
+
+#[test]
+fn rows_have_room_for_each_count_of_lines(rt: HostRuntime) {
+    for lines in 0..10_001 {
+        assert!(rt; has_rows(rt.alloc(), lines), "{lines}");
+    }
+    for lines in BESIDE_POWERS {
+        assert!(rt; has_rows(rt.alloc(), lines), "{lines}");
+    }
+    for lines in GREAT_BESIDE_POWERS {
+        assert!(rt; has_rows(rt.alloc(), lines), "{lines}");
+    }
+}
+
+#[test]
+fn tables_have_room_for_each_count_of_objects(rt: HostRuntime) {
+    for slots in 0..2050 {
+        assert!(rt; has_tables(rt.alloc(), slots), "{slots}");
+    }
+    for slots in BESIDE_POWERS {
+        assert!(rt; has_tables(rt.alloc(), slots), "{slots}");
+    }
+}

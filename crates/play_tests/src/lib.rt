@@ -1,0 +1,15 @@
+//! Tests of the playing state and of the player, with files and images worked by hand.
+#![tactic(auto)]
+
+#[cfg(test)]
+mod machine_sizes;
+#[cfg(test)]
+mod machines;
+#[cfg(test)]
+mod paths;
+#[cfg(test)]
+mod playing;
+#[cfg(test)]
+mod playing_on;
+#[cfg(test)]
+mod sizes;

@@ -1,0 +1,52 @@
+//! Room of machines, of each of many sizes: where there is memory, none is refused.
+
+use dc_stack::{MAX_PIECES, Machine};
+use mapping::Place;
+use meta_headers::open_file;
+use object_tables::LowestFree;
+use part_tests::DOT;
+use std::alloc::Global;
+
+/// Powers of two above the counts that are tried one by one, and the counts beside them.
+const BESIDE_POWERS: [usize; 16] = [
+    4095, 4096, 4097, 8191, 8192, 8193, 16383, 16384, 16385, 32767, 32768, 32769, 65534, 65535,
+    65536, 65537,
+];
+
+/// Whether a machine gets room for so many saved states, objects and pieces.
+fn has_machine(alloc: Global, depth: usize, slots: usize, pieces: usize) -> bool {
+    let Ok(opened) = open_file(&DOT) else {
+        return false;
+    };
+    let place = Place::new(&opened.frame, 2, 2);
+    let mut machine = Machine::new(alloc, &opened, place, LowestFree::new(alloc));
+    machine.reserve(depth, slots, pieces).is_ok()
+}
+
+#[test]
+fn a_machine_has_room_for_each_depth(rt: HostRuntime) {
+    for depth in 0..257 {
+        assert!(rt; has_machine(rt.alloc(), depth, 0, 0), "{depth}");
+        assert!(rt; has_machine(rt.alloc(), depth, 1024, MAX_PIECES), "{depth}");
+    }
+}
+
+#[test]
+fn a_machine_has_room_for_each_count_of_objects(rt: HostRuntime) {
+    for slots in 0..2050 {
+        assert!(rt; has_machine(rt.alloc(), 256, slots, MAX_PIECES), "{slots}");
+    }
+    for slots in BESIDE_POWERS {
+        assert!(rt; has_machine(rt.alloc(), 256, slots, MAX_PIECES), "{slots}");
+    }
+}
+
+#[test]
+fn a_machine_has_room_for_each_count_of_pieces(rt: HostRuntime) {
+    for pieces in 0..2050 {
+        assert!(rt; has_machine(rt.alloc(), 256, 1024, pieces), "{pieces}");
+    }
+    for pieces in BESIDE_POWERS {
+        assert!(rt; has_machine(rt.alloc(), 256, 1024, pieces), "{pieces}");
+    }
+}
