@@ -1,32 +1,10 @@
-//! `metaplay`: shows what a Windows metafile draws, as a P6 image.
-//!
-//! # What is promised
-//!
-//! - A command line asks only for surfaces from 1 to 8,192 pixels a side, and for the file and the
-//!   sides that its words give, as `clap` walks over them (`line`).
-//! - What is read of an input is all of it, or it is refused (`read_input`).
-//! - Status 0 comes only where the P6 text of the image that the file's records define was written
-//!   to the output, and nothing else; status 1 only where the file has a fault; status 4 only where
-//!   it opens; and of a file with a fault nothing is written (`show_command`).
-//! - The whole program's statuses 0 and 1 mean the same of some bytes, at sides from 1 to 8,192; 3
-//!   leaves nothing or a front of such a text, 4 nothing, and no status is above 4 (`run`).
-//! - Standard error gets nothing at status 0, and at 1, 3 and 4 a front of the one line that tells
-//!   why (`report`, `run`).
+//! `metaplay`: shows what a Windows metafile draws, as a P6 image. What it promises stands with its
+//! commands (`commands::run`).
 #![tactic(auto)]
-
-mod asked;
-mod command_line;
-mod input;
-mod program;
-mod report;
-mod show;
-mod status;
-#[cfg(test)]
-mod tests;
 
 use std::process::ExitCode;
 
 fn main(rt: HostRuntime) -> ExitCode {
-    let status = program::run(&rt, &mut rt.stdin(), &mut rt.stdout(), &mut rt.stderr());
+    let status = commands::run(&rt, &mut rt.stdin(), &mut rt.stdout(), &mut rt.stderr());
     ExitCode::from(status)
 }

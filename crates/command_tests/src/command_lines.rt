@@ -1,0 +1,125 @@
+//! Command lines, and what each wrong one is answered.
+
+use commands::{Line, line, usage};
+use std::alloc::{AllocError, Global};
+use std::test::Fail;
+
+fn words(alloc: Global, words: &[&str]) -> Result<Vec<String>, AllocError> {
+    let mut list = Vec::new(alloc);
+    for word in words {
+        list.push(String::from_str(alloc, word)?)?;
+    }
+    Ok(list)
+}
+
+#[test]
+fn a_command_line_asks_for_a_file_and_sides(rt: HostRuntime) -> Result<(), Fail> {
+    for (width, height, wide, high) in [("1", "8192", 1, 8192), ("400", "+3", 400, 3)] {
+        let asked = words(rt.alloc(), &["metaplay", "show", "a.wmf", width, height])?;
+        let want = Line::Show {
+            file: "a.wmf",
+            width: wide,
+            height: high,
+        };
+        assert!(rt;
+            line(rt.alloc(), asked.as_slice()).ok() == Some(want),
+            "{width} {height}"
+        );
+    }
+    Ok(())
+}
+
+#[test]
+fn each_wrong_command_line_has_status_2(rt: HostRuntime) -> Result<(), Fail> {
+    let lines: [(&[&str], &str); 12] = [
+        (&["metaplay"], "requires a subcommand"),
+        (
+            &["metaplay", "play", "a.wmf", "4", "4"],
+            "unrecognized subcommand",
+        ),
+        (&["metaplay", "show"], "were not provided"),
+        (&["metaplay", "show", "a.wmf", "4"], "were not provided"),
+        (
+            &["metaplay", "show", "a.wmf", "4", "4", "4"],
+            "unexpected argument",
+        ),
+        (
+            &["metaplay", "show", "a.wmf", "0", "4"],
+            "0 is not in 1..=8192",
+        ),
+        (
+            &["metaplay", "show", "a.wmf", "4", "8193"],
+            "8193 is not in 1..=8192",
+        ),
+        (
+            &["metaplay", "show", "a.wmf", "x", "4"],
+            "invalid value 'x'",
+        ),
+        (
+            &["metaplay", "show", "a.wmf", "4", "-1"],
+            "unexpected argument",
+        ),
+        (
+            &["metaplay", "show", "a.wmf", "4", "4294967296"],
+            "4294967296 is not in 1..=8192",
+        ),
+        (&["metaplay", "show", "a.wmf", "4", ""], "for '<H>'"),
+        (&["metaplay", "--bands"], "unexpected argument"),
+    ];
+    for (list, text) in lines {
+        let asked = words(rt.alloc(), list)?;
+        let Err(error) = line(rt.alloc(), asked.as_slice()) else {
+            return Err(Fail::from("a wrong command line was taken"));
+        };
+        let mut out = Vec::new(rt.alloc());
+        let mut err = Vec::new(rt.alloc());
+        assert_eq!(rt; usage(&error, &mut out, &mut err), 2, "{text}");
+        assert!(rt; out.is_empty(), "{text}");
+        let shown = str::from_utf8(err.as_slice())?;
+        assert!(rt; shown.contains(text), "{text} in {shown}");
+    }
+    Ok(())
+}
+
+#[test]
+fn help_that_was_asked_for_goes_to_standard_output(rt: HostRuntime) -> Result<(), Fail> {
+    let lines: [&[&str]; 3] = [
+        &["metaplay", "--help"],
+        &["metaplay", "show", "--help"],
+        &["metaplay", "help", "show"],
+    ];
+    for list in lines {
+        let asked = words(rt.alloc(), list)?;
+        let Err(error) = line(rt.alloc(), asked.as_slice()) else {
+            return Err(Fail::from("help was taken for work"));
+        };
+        let mut out = Vec::new(rt.alloc());
+        let mut err = Vec::new(rt.alloc());
+        assert_eq!(rt; usage(&error, &mut out, &mut err), 2);
+        assert!(rt; err.is_empty());
+        assert!(rt; str::from_utf8(out.as_slice())?.contains("Usage: metaplay"));
+    }
+    Ok(())
+}
+
+#[test]
+fn a_command_line_under_refused_growth(rt: HostRuntime) -> Result<(), Fail> {
+    // Where the test's own words meet the refusal, no line is read.
+    let Ok(asked) = words(rt.alloc(), &["metaplay", "show", "a.wmf", "4", "5"]) else {
+        return Ok(());
+    };
+    match line(rt.alloc(), asked.as_slice()) {
+        Ok(
+            Line::Show {
+                file,
+                width,
+                height,
+            },
+        ) => {
+            assert_eq!(rt; file, "a.wmf");
+            assert_eq!(rt; (width, height), (4, 5));
+        }
+        Err(error) => assert!(rt; error.kind() == clap::error::ErrorKind::OutOfMemory),
+    }
+    Ok(())
+}

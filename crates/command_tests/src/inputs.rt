@@ -1,0 +1,143 @@
+//! Inputs that are read to their end, and each that isn't.
+
+use commands::{InputFault, read_file, read_input};
+use std::alloc::{AllocError, Global};
+use std::io;
+use std::io::Read;
+use std::test::Fail;
+
+/// A reader of some bytes that gives one at a call, and fails at one call, counted from 0.
+#[derive(Drop)]
+struct Failing<'a> {
+    bytes: &'a [u8],
+    calls_left: u32,
+    kind: io::ErrorKind,
+}
+
+impl Read for Failing<'_> {
+    fn read(&mut self, buf: &mut [u8]) -> io::Result<usize> {
+        if self.calls_left == 0 {
+            self.calls_left = u32::MAX;
+            return Err(io::Error::from(self.kind));
+        }
+        self.calls_left -= 1;
+        let Some((first, others)) = self.bytes.split_first() else {
+            return Ok(0);
+        };
+        if buf.is_empty() {
+            return Ok(0);
+        }
+        buf[0] = *first;
+        self.bytes = others;
+        Ok(1)
+    }
+}
+
+#[test]
+fn a_file_is_read_and_not_standard_input(rt: HostRuntime) -> Result<(), Fail> {
+    let mut input = "from standard input".as_bytes();
+    let bytes = read_file(&rt, "stdin", &mut input)?;
+    assert_eq!(rt; bytes.as_slice(), b"from standard input".as_slice());
+    // A directory can be opened, and not read; this one is there on every machine.
+    let mut input = "from standard input".as_bytes();
+    assert_eq!(rt;
+        read_file(&rt, "/", &mut input).err(),
+        Some(InputFault::CannotRead)
+    );
+    let mut input = "from standard input".as_bytes();
+    assert_eq!(rt;
+        read_file(&rt, "/no/such/file", &mut input).err(),
+        Some(InputFault::CannotRead)
+    );
+    let bytes = read_file(&rt, "/dev/null", &mut input)?;
+    assert!(rt; bytes.is_empty());
+    Ok(())
+}
+
+#[test]
+fn an_input_is_read_to_its_end(rt: HostRuntime) -> Result<(), Fail> {
+    for text in ["", "a", "some more bytes than one"] {
+        let mut at_once = text.as_bytes();
+        let bytes = read_input(rt.alloc(), &mut at_once)?;
+        assert_eq!(rt; bytes.as_slice(), text.as_bytes());
+        let mut slow = Failing {
+            bytes: text.as_bytes(),
+            calls_left: 1000,
+            kind: io::ErrorKind::BrokenPipe,
+        };
+        let bytes = read_input(rt.alloc(), &mut slow)?;
+        assert_eq!(rt; bytes.as_slice(), text.as_bytes());
+    }
+    Ok(())
+}
+
+#[test]
+fn a_reader_that_fails_cannot_be_read(rt: HostRuntime) -> Result<(), Fail> {
+    // Whatever the kind of its error is, it was no refused growth.
+    for kind in [
+        io::ErrorKind::BrokenPipe,
+        io::ErrorKind::Interrupted,
+        io::ErrorKind::OutOfMemory,
+    ] {
+        for calls_left in 0..4 {
+            let mut input = Failing {
+                bytes: b"abc",
+                calls_left,
+                kind,
+            };
+            let read = read_input(rt.alloc(), &mut input);
+            assert_eq!(rt;
+                read.err(),
+                Some(InputFault::CannotRead),
+                "at call {calls_left}"
+            );
+        }
+    }
+    Ok(())
+}
+
+#[test]
+fn an_input_has_at_most_268435456_bytes(rt: HostRuntime) -> Result<(), Fail> {
+    let bytes = read_input(rt.alloc(), &mut io::repeat(0).take(268435456))?;
+    assert_eq!(rt; bytes.len(), 268435456);
+    drop(bytes);
+    let read = read_input(rt.alloc(), &mut io::repeat(0).take(268435457));
+    assert_eq!(rt; read.err(), Some(InputFault::CannotRead));
+    Ok(())
+}
+
+/// As many bytes, which repeat at no power of two.
+fn pattern(alloc: Global, length: usize) -> Result<Vec<u8>, AllocError> {
+    let mut bytes = Vec::new(alloc);
+    for k in 0..length {
+        bytes.push((k % 251) as u8)?;
+    }
+    Ok(bytes)
+}
+
+#[test]
+fn an_input_may_end_at_a_piece_or_beside_it(rt: HostRuntime) -> Result<(), Fail> {
+    for length in [1, 65535, 65536, 65537, 131072] {
+        let wanted = pattern(rt.alloc(), length)?;
+        let mut input = wanted.as_slice();
+        let bytes = read_input(rt.alloc(), &mut input)?;
+        assert_eq!(rt; bytes.len(), length);
+        assert!(rt; bytes.as_slice() == wanted.as_slice(), "{length} bytes");
+        let mut input = wanted.as_slice();
+        let bytes = read_file(&rt, "stdin", &mut input)?;
+        assert!(rt; bytes.as_slice() == wanted.as_slice(), "{length} bytes");
+    }
+    Ok(())
+}
+
+#[test]
+fn an_input_under_refused_growth(rt: HostRuntime) -> Result<(), Fail> {
+    match read_input(rt.alloc(), &mut io::repeat(7).take(300000)) {
+        Ok(bytes) => {
+            assert_eq!(rt; bytes.len(), 300000);
+            assert!(rt; bytes.iter().all(|byte| *byte == 7));
+        }
+        Err(fault) => assert_eq!(rt; fault, InputFault::OutOfMemory),
+    }
+    Ok(())
+}

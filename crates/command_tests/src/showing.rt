@@ -1,0 +1,154 @@
+//! Files that are shown, and files that are refused.
+
+use crate::{DOT, limited};
+use commands::show_command;
+use std::alloc::{AllocError, Global};
+use std::test::Fail;
+
+/// An image of one row or one column, white but for one red pixel.
+#[derive(Clone, Copy)]
+struct Strip {
+    width: u32,
+    height: u32,
+    header: &'static [u8],
+    /// How many pixels stand before the red one.
+    red: usize,
+}
+
+/// The P6 text of a strip.
+fn text_of(alloc: Global, strip: &Strip) -> Result<Vec<u8>, AllocError> {
+    let mut text = Vec::new(alloc);
+    text.extend_from_slice(strip.header)?;
+    for pixel in 0..strip.width as usize * strip.height as usize {
+        let colour = if pixel == strip.red {
+            b"\xff\x00\x00"
+        } else {
+            b"\xff\xff\xff"
+        };
+        text.extend_from_slice(colour)?;
+    }
+    Ok(text)
+}
+
+#[test]
+fn showing_a_dot_writes_its_image(rt: HostRuntime) -> Result<(), Fail> {
+    let mut out = limited(rt.alloc(), 1000, true);
+    let mut err = Vec::new(rt.alloc());
+    let status = show_command(rt.alloc(), DOT, 2, 2, &mut out, &mut err);
+    assert_eq!(rt; status, 0);
+    let want = b"P6\n2 2\n255\n\xff\xff\xff\xff\x00\x00\xff\xff\xff\xff\xff\xff";
+    assert_eq!(rt; out.taken.as_slice(), want.as_slice());
+    assert!(rt; err.is_empty());
+    Ok(())
+}
+
+#[test]
+fn a_file_that_draws_nothing_is_white(rt: HostRuntime) -> Result<(), Fail> {
+    let mut file = Vec::new(rt.alloc());
+    file.extend_from_slice(&DOT[..40])?;
+    file.extend_from_slice(&DOT[54..])?;
+    let mut out = limited(rt.alloc(), 1000, true);
+    let mut err = Vec::new(rt.alloc());
+    let status = show_command(rt.alloc(), file.as_slice(), 2, 1, &mut out, &mut err);
+    assert_eq!(rt; status, 0);
+    let want = b"P6\n2 1\n255\n\xff\xff\xff\xff\xff\xff";
+    assert_eq!(rt; out.taken.as_slice(), want.as_slice());
+    assert!(rt; err.is_empty());
+    Ok(())
+}
+
+#[test]
+fn sides_of_1_8191_and_8192_are_shown(rt: HostRuntime) -> Result<(), Fail> {
+    // Column 2 of 4 begins at half of a width, and row 1 of 4 at a quarter of a height.
+    let strips = [
+        Strip {
+            width: 1,
+            height: 1,
+            header: b"P6\n1 1\n255\n",
+            red: 0,
+        },
+        Strip {
+            width: 1,
+            height: 8191,
+            header: b"P6\n1 8191\n255\n",
+            red: 2047,
+        },
+        Strip {
+            width: 1,
+            height: 8192,
+            header: b"P6\n1 8192\n255\n",
+            red: 2048,
+        },
+        Strip {
+            width: 8191,
+            height: 1,
+            header: b"P6\n8191 1\n255\n",
+            red: 4095,
+        },
+        Strip {
+            width: 8192,
+            height: 1,
+            header: b"P6\n8192 1\n255\n",
+            red: 4096,
+        },
+    ];
+    for strip in strips {
+        let (width, height) = (strip.width, strip.height);
+        let want = text_of(rt.alloc(), &strip)?;
+        let mut out = limited(rt.alloc(), 100000, true);
+        let mut err = Vec::new(rt.alloc());
+        let status = show_command(rt.alloc(), DOT, width, height, &mut out, &mut err);
+        assert_eq!(rt; status, 0);
+        assert!(rt;
+            out.taken.as_slice() == want.as_slice(),
+            "{width} by {height}"
+        );
+        assert!(rt; err.is_empty());
+    }
+    Ok(())
+}
+
+#[test]
+fn a_refused_file_is_reported_in_one_line(rt: HostRuntime) -> Result<(), Fail> {
+    let cases: [(&[u8], &[u8]); 3] = [
+        (b"", b"metaplay: NotMetafile\n"),
+        (&DOT[..54], b"metaplay: NoEnd at record 1\n"),
+        (&DOT[..50], b"metaplay: PastEnd at record 0\n"),
+    ];
+    for (file, text) in cases {
+        let mut out = limited(rt.alloc(), 1000, true);
+        let mut err = Vec::new(rt.alloc());
+        let status = show_command(rt.alloc(), file, 4, 4, &mut out, &mut err);
+        assert_eq!(rt; status, 1);
+        assert_eq!(rt; err.as_slice(), text);
+        assert!(rt; out.taken.is_empty());
+        // A fault of standard error changes no status.
+        let mut closed = limited(rt.alloc(), 0, false);
+        let status = show_command(rt.alloc(), file, 4, 4, &mut out, &mut closed);
+        assert_eq!(rt; status, 1);
+    }
+    Ok(())
+}
+
+#[test]
+fn showing_under_refused_growth(rt: HostRuntime) -> Result<(), Fail> {
+    let mut out = [0u8; 64];
+    let mut err = [0u8; 64];
+    let status = show_command(
+        rt.alloc(),
+        DOT,
+        1,
+        1,
+        &mut out.as_mut_slice(),
+        &mut err.as_mut_slice(),
+    );
+    if status == 0 {
+        assert_eq!(rt; &out[..14], b"P6\n1 1\n255\n\xff\0\0".as_slice());
+        assert_eq!(rt; err[0], 0);
+    } else {
+        assert_eq!(rt; status, 4);
+        assert_eq!(rt; out[0], 0);
+        assert_eq!(rt; &err[..22], b"metaplay: OutOfMemory\n".as_slice());
+    }
+    Ok(())
+}

@@ -1,0 +1,190 @@
+//! Writers that fail, refuse, stop short or are interrupted.
+
+use crate::{DOT, limited};
+use commands::show_command;
+use std::alloc::Global;
+use std::io;
+use std::io::Write;
+use std::test::Fail;
+
+/// The image of `DOT` at 4 by 1: the red pixel is in column 2.
+const ROW: &[u8] = b"P6\n4 1\n255\n\xff\xff\xff\xff\xff\xff\xff\x00\x00\xff\xff\xff";
+
+/// A writer that takes one byte at a call, counts its calls and flushes, and fails at one call,
+/// counted from 0.
+#[derive(Drop)]
+struct Slow {
+    taken: Vec<u8>,
+    calls: u32,
+    fails_at: u32,
+    kind: io::ErrorKind,
+    flushes: u32,
+    taken_at_flush: usize,
+}
+
+impl Slow {
+    fn new(alloc: Global, fails_at: u32, kind: io::ErrorKind) -> Slow {
+        Slow {
+            taken: Vec::new(alloc),
+            calls: 0,
+            fails_at,
+            kind,
+            flushes: 0,
+            taken_at_flush: 0,
+        }
+    }
+}
+
+impl Write for Slow {
+    fn write(&mut self, buf: &[u8]) -> io::Result<usize> {
+        let call = self.calls;
+        self.calls = self.calls.saturating_add(1);
+        if call == self.fails_at {
+            return Err(io::Error::from(self.kind));
+        }
+        let Some(first) = buf.first() else {
+            return Ok(0);
+        };
+        self.taken.push(*first)?;
+        Ok(1)
+    }
+
+    fn flush(&mut self) -> io::Result<()> {
+        self.flushes = self.flushes.saturating_add(1);
+        self.taken_at_flush = self.taken.len();
+        Ok(())
+    }
+}
+
+/// A writer that takes nothing, and is content.
+#[derive(Drop)]
+struct Deaf;
+
+impl Write for Deaf {
+    fn write(&mut self, _buf: &[u8]) -> io::Result<usize> {
+        Ok(0)
+    }
+
+    fn flush(&mut self) -> io::Result<()> {
+        Ok(())
+    }
+}
+
+#[test]
+fn a_failed_write_or_flush_has_status_3(rt: HostRuntime) -> Result<(), Fail> {
+    for (most, can_flush) in [(0, true), (10, true), (58, true), (59, false)] {
+        let mut out = limited(rt.alloc(), most, can_flush);
+        let mut err = Vec::new(rt.alloc());
+        let status = show_command(rt.alloc(), DOT, 4, 4, &mut out, &mut err);
+        assert_eq!(rt; status, 3, "{most} bytes");
+        assert_eq!(rt; err.as_slice(), b"metaplay: cannot write\n".as_slice());
+        assert_eq!(rt; out.taken.len(), most);
+    }
+    Ok(())
+}
+
+#[test]
+fn an_image_is_flushed_once_behind_its_last_byte(rt: HostRuntime) -> Result<(), Fail> {
+    let mut out = Slow::new(rt.alloc(), u32::MAX, io::ErrorKind::Other);
+    let mut err = Slow::new(rt.alloc(), u32::MAX, io::ErrorKind::Other);
+    let status = show_command(rt.alloc(), DOT, 4, 1, &mut out, &mut err);
+    assert_eq!(rt; status, 0);
+    assert_eq!(rt; out.taken.as_slice(), ROW);
+    assert_eq!(rt; (out.flushes, out.taken_at_flush), (1, ROW.len()));
+    assert_eq!(rt; (err.calls, err.flushes), (0, 0));
+    Ok(())
+}
+
+#[test]
+fn a_refused_file_writes_and_flushes_nothing(rt: HostRuntime) -> Result<(), Fail> {
+    let mut out = Slow::new(rt.alloc(), u32::MAX, io::ErrorKind::Other);
+    let mut err = Slow::new(rt.alloc(), u32::MAX, io::ErrorKind::Other);
+    let status = show_command(rt.alloc(), &DOT[..50], 4, 1, &mut out, &mut err);
+    assert_eq!(rt; status, 1);
+    assert_eq!(rt; (out.calls, out.flushes), (0, 0));
+    assert_eq!(rt;
+        err.taken.as_slice(),
+        b"metaplay: PastEnd at record 0\n".as_slice()
+    );
+    Ok(())
+}
+
+#[test]
+fn an_image_of_one_row_may_fail_at_its_flush(rt: HostRuntime) -> Result<(), Fail> {
+    let mut out = limited(rt.alloc(), 1000, false);
+    let mut err = Vec::new(rt.alloc());
+    let status = show_command(rt.alloc(), DOT, 4, 1, &mut out, &mut err);
+    assert_eq!(rt; status, 3);
+    assert_eq!(rt; out.taken.as_slice(), ROW);
+    assert_eq!(rt; err.as_slice(), b"metaplay: cannot write\n".as_slice());
+    Ok(())
+}
+
+#[test]
+fn an_interrupted_write_is_tried_again(rt: HostRuntime) -> Result<(), Fail> {
+    for fails_at in [0, 1, 10, 22] {
+        let mut out = Slow::new(rt.alloc(), fails_at, io::ErrorKind::Interrupted);
+        let mut err = Vec::new(rt.alloc());
+        let status = show_command(rt.alloc(), DOT, 4, 1, &mut out, &mut err);
+        assert_eq!(rt; status, 0, "at call {fails_at}");
+        assert_eq!(rt; out.taken.as_slice(), ROW);
+        assert_eq!(rt; out.flushes, 1);
+        assert!(rt; err.is_empty());
+    }
+    Ok(())
+}
+
+#[test]
+fn a_write_that_fails_otherwise_is_tried_once(rt: HostRuntime) -> Result<(), Fail> {
+    for kind in [
+        io::ErrorKind::WouldBlock,
+        io::ErrorKind::TimedOut,
+        io::ErrorKind::BrokenPipe,
+    ] {
+        for fails_at in [0, 5] {
+            let mut out = Slow::new(rt.alloc(), fails_at, kind);
+            let mut err = Vec::new(rt.alloc());
+            let status = show_command(rt.alloc(), DOT, 4, 1, &mut out, &mut err);
+            assert_eq!(rt; status, 3);
+            assert_eq!(rt; (out.calls, out.flushes), (fails_at + 1, 0));
+            assert_eq!(rt; out.taken.as_slice(), &ROW[..fails_at as usize]);
+            assert_eq!(rt; err.as_slice(), b"metaplay: cannot write\n".as_slice());
+        }
+    }
+    Ok(())
+}
+
+#[test]
+fn a_writer_that_takes_nothing_cannot_be_written(rt: HostRuntime) -> Result<(), Fail> {
+    let mut err = Vec::new(rt.alloc());
+    let status = show_command(rt.alloc(), DOT, 4, 1, &mut Deaf, &mut err);
+    assert_eq!(rt; status, 3);
+    assert_eq!(rt; err.as_slice(), b"metaplay: cannot write\n".as_slice());
+    let mut out = Vec::new(rt.alloc());
+    let status = show_command(rt.alloc(), b"", 4, 1, &mut out, &mut Deaf);
+    assert_eq!(rt; status, 1);
+    Ok(())
+}
+
+#[test]
+fn a_line_is_told_whole_where_standard_error_is_slow(rt: HostRuntime) -> Result<(), Fail> {
+    for fails_at in [0, 3, 21] {
+        let mut out = Vec::new(rt.alloc());
+        let mut err = Slow::new(rt.alloc(), fails_at, io::ErrorKind::Interrupted);
+        let status = show_command(rt.alloc(), b"", 4, 1, &mut out, &mut err);
+        assert_eq!(rt; status, 1);
+        assert_eq!(rt; err.taken.as_slice(), b"metaplay: NotMetafile\n".as_slice());
+    }
+    Ok(())
+}
+
+#[test]
+fn a_line_ends_where_standard_error_fails(rt: HostRuntime) -> Result<(), Fail> {
+    let mut out = Vec::new(rt.alloc());
+    let mut err = Slow::new(rt.alloc(), 4, io::ErrorKind::WouldBlock);
+    let status = show_command(rt.alloc(), b"", 4, 1, &mut out, &mut err);
+    assert_eq!(rt; status, 1);
+    assert_eq!(rt; err.taken.as_slice(), b"meta".as_slice());
+    assert_eq!(rt; err.calls, 5);
+    Ok(())
+}

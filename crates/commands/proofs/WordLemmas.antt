@@ -1,0 +1,97 @@
+-- What clap's walk makes of `show` and three words that are no flags.
+use Rattle.std.proofs.Common.{◌≡◌, ◌∙◌, ap, sym, subst, refl, ℕ, List, [], ◌∷◌, false, Option, Some, None, codes}
+use Rattle.std.proofs.lemmas.Bool.{ne_eqb}
+use Rattle.clap.specs.Lexer.{short_of, without_minus}
+use Rattle.clap.specs.Simple.{Shape, built}
+use Rattle.clap.specs.Walk.{Held, Row, Rule, Step, Text, Walk, after_step, finished, idle, nothing_held, one_of, rows_after, value, walked, word_met}
+use Rattle.clap.specs.Words.{first_of, subcommand_of}
+use Rattle.clap.proofs.OnLiterals.{clap_on_literals}
+use Rattle.commands.specs.declared.asked.Line.{Line}
+use Rattle.commands.specs.declared.asked.Line.TheVariants.{Show}
+use Rattle.commands.specs.CommandLine.{AreOfWords, GivesNumber, HasPlainWords, HasWords, IsAskedByWords, IsPlainWord, IsShow, metaplay_app, number_of}
+
+no_flags : (byte : ℕ) (rest : Text) → (byte ≡ 45 → ⊥) → short_of (byte ∷ rest) ≡ None
+no_flags byte rest plain = rw (ne_eqb byte 45 plain) refl
+
+-- such a word is a value
+plain_met : (c : List Rule) (position : ℕ) (word : Text) (h : Held) → IsPlainWord word → word_met c [] false idle position word h ≡ (h, value)
+plain_met c position [] h plain = refl
+plain_met c position (byte ∷ rest) h plain = rw (ne_eqb byte 45 plain) (rw (no_flags byte rest plain) refl)
+
+-- a walk that has come to a position, with nothing that waits
+abbrev standing : Held → ℕ → Walk
+standing h position = record { held = h; waiting = idle; position = position; is_trailing = false; stopped = None }
+
+walked_plain : (c : List Rule) (h : Held) (position : ℕ) (word : Text) → IsPlainWord word → walked c [] (standing h position) word ≡ after_step c word (standing h position) h value
+unfolding clap_on_literals
+walked_plain c h position word plain = ap (λ (m : Held × Step). after_step c word (standing h position) m.0 m.1) (plain_met c position word h plain)
+
+abbrev rules_of_first : List Shape → List Rule
+rules_of_first [] = []
+rules_of_first (s ∷ others) = s.rules
+
+-- the arguments of `show`, and the flag for help
+abbrev show_rules : List Rule
+show_rules = rules_of_first (built metaplay_app).subs
+
+first_word : (program file wide high : Text) → subcommand_of metaplay_app (program ∷ codes "show" ∷ file ∷ wide ∷ high ∷ []) ≡ Some (codes "show", rows_after show_rules [] (file ∷ wide ∷ high ∷ []))
+unfolding clap_on_literals
+first_word program file wide high = refl
+
+abbrev taken : Walk → Text → Walk
+taken w word = after_step show_rules word w w.held value
+
+abbrev after_file : Text → Walk
+after_file file = taken (standing nothing_held 1) file
+
+abbrev after_wide : Text → Text → Walk
+after_wide file wide = taken (after_file file) wide
+
+abbrev given_all : Text → Text → Text → List Row
+given_all file wide high = finished show_rules (taken (after_wide file wide) high).held
+
+other_words : (file wide high : Text) → IsPlainWord file → IsPlainWord wide → IsPlainWord high → rows_after show_rules [] (file ∷ wide ∷ high ∷ []) ≡ given_all file wide high
+other_words file wide high plain_file plain_wide plain_high =
+    let first : walked show_rules [] (standing nothing_held 1) file ≡ after_file file = walked_plain show_rules nothing_held 1 file plain_file in
+    let second : walked show_rules [] (after_file file) wide ≡ after_wide file wide = walked_plain show_rules (after_file file).held 2 wide plain_wide in
+    let third : walked show_rules [] (after_wide file wide) high ≡ taken (after_wide file wide) high = walked_plain show_rules (after_wide file wide).held 3 high plain_high in
+    ap (λ (w : Walk). finished show_rules w.held)
+    (ap (λ (w : Walk). walked show_rules [] (walked show_rules [] w wide) high) first ∙ ap (λ (w : Walk). walked show_rules [] w high) second ∙ third)
+
+no_minus : (word : Text) → IsPlainWord word → without_minus word ≡ word
+no_minus [] plain = refl
+no_minus (byte ∷ rest) plain = rw (ne_eqb byte 45 plain) refl
+
+number_given : (word : Text) (given : List Row) (id : Text) (number : ℕ) → IsPlainWord word → one_of id given ≡ Some (without_minus word) → GivesNumber given id number → number ≡ number_of word
+number_given word given id number plain is gives =
+    let met : one_of id given ≡ Some gives.text = gives.is_given in
+    let same : without_minus word ≡ gives.text = cc in
+    gives.reads ∙ ap number_of (sym same ∙ no_minus word plain)
+
+-- the rows behind one name
+same_inside : {A : Type 0} {x y : A} → Some x ≡ Some y → x ≡ y
+same_inside e = cc
+
+same_rows : (met : Option (Text × List Row)) (name other : Text) (given all : List Row) → met ≡ Some (name, given) → met ≡ Some (other, all) → given ≡ all
+same_rows met name other given all e f = ap (λ (command : Text × List Row). command.1) (same_inside (sym e ∙ f))
+
+-- what a command says whose rows are known
+by_rows : (met : Option (Text × List Row)) (all : List Row) (file wide high name : Text) (width height : ℕ) → IsPlainWord wide → IsPlainWord high → met ≡ Some (codes "show", all) → first_of (codes "FILE") all ≡ Some file → one_of (codes "W") all ≡ Some (without_minus wide) → one_of (codes "H") all ≡ Some (without_minus high) → IsShow met name width height → AreOfWords file wide high name width height
+by_rows met all file wide high name width height plain_wide plain_high is has_file has_wide has_high show =
+    let same = same_rows met _ _ _ _ show.command is in
+    let named : first_of (codes "FILE") all ≡ Some name = rw same at show.file in
+    record {
+      named = same_inside (sym named ∙ has_file);
+      wide_reads = number_given wide all (codes "W") width plain_wide has_wide (rw same at show.wide);
+      high_reads = number_given high all (codes "H") height plain_high has_high (rw same at show.high);
+    }
+
+given_words : (line : Line) (program file wide high : Text) → IsPlainWord file → IsPlainWord wide → IsPlainWord high → IsAskedByWords (program ∷ codes "show" ∷ file ∷ wide ∷ high ∷ []) line → HasWords file wide high line
+given_words (Show name width height) program file wide high plain_file plain_wide plain_high asked =
+    let rows = first_word program file wide high ∙ ap (λ (r : List Row). Some (codes "show", r)) (other_words file wide high plain_file plain_wide plain_high) in
+    by_rows _ (given_all file wide high) file wide high name.now width height plain_wide plain_high rows refl refl refl asked
+
+-- what five such words ask for
+pub plain_words : (words : List Text) (line : Line) → IsAskedByWords words line → HasPlainWords words line
+plain_words words line asked program file wide high plain_file plain_wide plain_high is =
+    given_words line program file wide high plain_file plain_wide plain_high (subst (λ (l : List Text). IsAskedByWords l line) is asked)

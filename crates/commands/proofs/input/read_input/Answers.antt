@@ -1,0 +1,14 @@
+-- Where memory for a piece is refused, the reader has lost what was kept, and that piece.
+use Rattle.std.proofs.Common.{ℕ, List, ◌++◌, Option, Some, None, ap, sym, ◌∙◌, append_assoc}
+use Rattle.std.specs.Io.KnownBytes.{Consumes}
+use Rattle.commands.proofs.input.read_input.Goals as goal
+
+-- what two reads took is lost together
+both : (a b c : Option (List ℕ)) (bs cs : List ℕ) → Consumes a b bs → Consumes b c cs → Consumes a c (bs ++ cs)
+both None b c bs cs p q = tt
+both (Some x) None c bs cs p q = absurd p
+both (Some x) (Some y) None bs cs p q = absurd q
+both (Some x) (Some y) (Some z) bs cs p q = p ∙ ap (λ l. bs ++ l) q ∙ sym (append_assoc bs cs z)
+
+pub returns-then-is_err-clause-front : goal.returns-then-is_err-clause-front
+returns-then-is_err-clause-front g c = record { front = _; consumed = both _ _ _ _ _ c.loop-piece.invariant c.in-Ok.ensures.bytes.0 }

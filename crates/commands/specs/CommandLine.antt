@@ -1,0 +1,76 @@
+-- The program's command line, as clap reads it.
+use Rattle.std.specs.Prelude.{◌≡◌, ℕ, List, [], ◌∷◌, Option, Some, codes, pos, true}
+use Rattle.mapping.specs.Limits.{surface_side_limit}
+use Rattle.std.specs.Str.Parse.{digits_value, without_leading_plus}
+use Rattle.clap.specs.Words.{App, Row, Rule, Text, first_of, new_app, new_rule, one_of, subcommand_of, with_rule, with_subcommand}
+use Rattle.clap.specs.declared.builder.ArgAction.TheVariants.{Set}
+use Rattle.clap.specs.declared.builder.value_parser.ValueParser.TheVariants.{Signed}
+use Rattle.commands.specs.declared.asked.Line.{Line}
+use Rattle.commands.specs.declared.asked.Line.TheVariants.{Show}
+
+-- FILE, which has to be given
+abbrev pub file_rule : Rule
+file_rule = record (new_rule (codes "FILE")) { required = true; action = Some Set }
+
+-- W or H, which has to be given, from 1 to 8,192
+abbrev pub side_rule : Text → Rule
+side_rule id = record (new_rule id) { required = true; action = Some Set; parser = Some (Signed (pos 1) (pos surface_side_limit)) }
+
+-- show FILE W H
+abbrev pub show_app : App
+show_app = with_rule (with_rule (with_rule (new_app (codes "show")) file_rule) (side_rule (codes "W"))) (side_rule (codes "H"))
+
+-- metaplay alone, which has to have a command
+abbrev pub bare_app : App
+bare_app = record (new_app (codes "metaplay")) { top = record (new_app (codes "metaplay")).top { subcommand_required = true } }
+
+-- metaplay with its command
+abbrev pub metaplay_app : App
+metaplay_app = with_subcommand bare_app show_app.top
+
+-- what a text reads as: its decimal digits, behind a plus, if it has one
+abbrev pub number_of : Text → ℕ
+number_of text = digits_value 10 (without_leading_plus text)
+
+-- the text that was given for an id reads as this number
+pub record GivesNumber (given : List Row) (id : Text) (number : ℕ) : Type 0 where
+  pub text : Text
+  pub is_given : one_of id given ≡ Some text
+  pub reads : number ≡ number_of text
+
+-- the command that was met is `show`, and was given this file and these sides
+pub record IsShow (met : Option (Text × List Row)) (name : Text) (width height : ℕ) : Type 0 where
+  pub given : List Row
+  pub command : met ≡ Some (codes "show", given)
+  pub file : first_of (codes "FILE") given ≡ Some name
+  pub wide : GivesNumber given (codes "W") width
+  pub high : GivesNumber given (codes "H") height
+
+-- the command that was met is the line's, and was given what the line has
+abbrev pub IsAskedBy : Option (Text × List Row) → Line → Type 0
+IsAskedBy met (Show file width height) = IsShow met file.now width height
+
+-- the line has what the words, the program's name first, give the command `show`
+abbrev pub IsAskedByWords : List Text → Line → Type 0
+IsAskedByWords words line = IsAskedBy (subcommand_of metaplay_app words) line
+
+-- the word does not begin with a hyphen
+abbrev pub IsPlainWord : Text → Type 0
+IsPlainWord [] = Unit {0}
+IsPlainWord (byte ∷ rest) = byte ≡ 45 → ⊥
+
+-- the file has this name, and the sides are these texts' numbers
+pub record AreOfWords (file wide high : Text) (name : Text) (width height : ℕ) : Type 0 where
+  pub named : name ≡ file
+  pub wide_reads : width ≡ number_of wide
+  pub high_reads : height ≡ number_of high
+
+-- the line shows the file of this name at these texts' numbers
+abbrev pub HasWords : Text → Text → Text → Line → Type 0
+HasWords file wide high (Show name width height) = AreOfWords file wide high name.now width height
+
+-- where the words are five, the program's name, `show` and three that do not begin with a hyphen, the line has those three
+abbrev pub HasPlainWords : List Text → Line → Type 0
+HasPlainWords words line =
+    (program file wide high : Text) → IsPlainWord file → IsPlainWord wide → IsPlainWord high
+    → words ≡ program ∷ codes "show" ∷ file ∷ wide ∷ high ∷ [] → HasWords file wide high line

@@ -1,0 +1,78 @@
+//! Reading an input to its end.
+
+ghost use Rattle.std.specs.Prelude.{◌≡◌, ◌≤◌, ◌<◌, ◌↔◌, IfOk, IfSome, IsErr, OnOk, OnErr, length, vec_len};
+ghost use Rattle.std.specs.IoError.{error_kind};
+ghost use Rattle.std.specs.Io.KnownBytes.{IsAtEnd};
+ghost use Rattle.commands.specs.Faults.{fault_text};
+ghost use Rattle.commands.specs.Reading.{ConsumesFront, input_limit};
+
+use std::alloc::Global;
+use std::io;
+use std::io::{ErrorKind, Read};
+use thiserror::Error;
+
+/// The longest input, in bytes.
+const INPUT_LIMIT: usize = 268435456;
+
+/// How many bytes a read asks for.
+const PIECE: usize = 65536;
+
+/// Why an input was not read.
+#[derive(Clone, Copy, Debug, PartialEq, Eq, Error)]
+pub enum InputFault {
+    /// The reader failed, or has more than 268,435,456 bytes.
+    #[error("{}", InputFault::CannotRead.text())]
+    CannotRead,
+    /// Memory for the bytes was refused.
+    #[error("{}", InputFault::OutOfMemory.text())]
+    OutOfMemory,
+}
+
+impl InputFault {
+    /// What went wrong, as a line on standard error tells it.
+    pub fn text(self) -> &'static str
+        ensures { result.now ≡ fault_text self }
+    {
+        match self {
+            InputFault::CannotRead => "cannot read",
+            InputFault::OutOfMemory => "OutOfMemory",
+        }
+    }
+
+    /// The fault that an error of the system is, where a file is opened or the command line is read.
+    pub(crate) fn of(error: io::Error) -> InputFault
+        ensures { result ≡ InputFault.OutOfMemory ↔ error_kind error ≡ ErrorKind.OutOfMemory }
+    {
+        if error.kind() == ErrorKind::OutOfMemory {
+            InputFault::OutOfMemory
+        } else {
+            InputFault::CannotRead
+        }
+    }
+}
+
+/// All bytes of a reader, to its end. Any error of a read is `CannotRead`, whatever its kind, and so is
+/// an input of more than 268,435,456 bytes. After an error the reader has lost a front of its bytes.
+#[tactic(auto, unfolding(crate::specs::Reading::input_limit))]
+pub fn read_input<R: Read>(alloc: Global, input: &mut R) -> Result<Vec<u8>, InputFault>
+    ensures bytes { IfOk result (λ bytes. IfSome (R.remaining input.old) (λ all. bytes.items ≡ all)) }
+    ensures end { OnOk result (IsAtEnd (R.remaining input.new)) }
+    ensures within { IfOk result (λ bytes. vec_len bytes ≤ input_limit) }
+    ensures longer { IfSome (R.remaining input.old) (λ all. input_limit < length all → IsErr result) }
+    ensures front { OnErr result (ConsumesFront (R.remaining input.old) (R.remaining input.new)) }
+{
+    let mut bytes = Vec::new(alloc);
+    let mut piece = [0u8; PIECE];
+    while bytes.len() <= INPUT_LIMIT {
+        let Ok(count) = input.read(&mut piece) else {
+            return Err(InputFault::CannotRead);
+        };
+        if count == 0 {
+            return Ok(bytes);
+        }
+        if bytes.extend_from_slice(&piece[..count]).is_err() {
+            return Err(InputFault::OutOfMemory);
+        }
+    }
+    Err(InputFault::CannotRead)
+}

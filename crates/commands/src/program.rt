@@ -1,0 +1,180 @@
+//! The program: the command line, its inputs, and the command that they ask for.
+
+ghost use Rattle.std.specs.Prelude.{◌≡◌, ◌≢◌, ◌≤◌, ◌⊎◌, ◌↔◌, IfOk, IfSome, codes, vec_len};
+ghost use Rattle.std.specs.Io.KnownBytes.{Keeps};
+ghost use Rattle.mapping.specs.Limits.{IsSurfaceSide};
+ghost use Rattle.clap.specs.Words.{kind_of};
+ghost use Rattle.commands.specs.Faults.{fault_text};
+ghost use Rattle.commands.specs.Input.{Does, DoesSome, Fails, FailsInput, FailsSome, Refuses, RefusesInput, RefusesSome};
+ghost use Rattle.commands.specs.Input.{ShowsInput, standard_input};
+ghost use Rattle.commands.specs.Reading.{input_limit};
+ghost use Rattle.commands.specs.Report.{Reports};
+ghost use Rattle.commands.specs.Sides.{HasSides, file_of};
+
+use crate::asked::Line;
+use crate::command_line::line;
+use crate::input::{InputFault, read_input};
+use crate::reporting::report;
+use crate::show::show_command;
+use crate::status::{INPUT_OR_OUTPUT, OUT_OF_MEMORY, USAGE};
+use clap::error::ErrorKind;
+use std::alloc::Global;
+use std::io::{Read, Write};
+use std::rt::{Env, Files};
+use std::{env, fs};
+
+/// The word that names standard input in a file's place.
+const STANDARD_INPUT: &str = "stdin";
+
+/// Runs the program, and answers its status.
+pub fn run<R, I, O, E>(rt: &R, input: &mut I, out: &mut O, err: &mut E) -> u8
+where
+    R: Env + Files + AllocGlobal,
+    I: Read,
+    O: Write,
+    E: Write,
+    ensures done { result ≡ 0 → DoesSome (I.remaining input.old) (O.contents out.old) (O.contents out.new) }
+    ensures done_silent { result ≡ 0 → Keeps (E.contents err.old) (E.contents err.new) }
+    ensures refused { result ≡ 1 → RefusesSome (I.remaining input.old) (E.contents err.old) (E.contents err.new) }
+    ensures refused_unwritten { result ≡ 1 → Keeps (O.contents out.old) (O.contents out.new) }
+    ensures usage_unread { result ≡ 2 → Keeps (I.remaining input.old) (I.remaining input.new) }
+    ensures failed { result ≡ 3 → FailsSome (I.remaining input.old) (O.contents out.old) (O.contents out.new) (E.contents err.old) (E.contents err.new) }
+    ensures memory_unwritten { result ≡ 4 → Keeps (O.contents out.old) (O.contents out.new) }
+    ensures memory_line { result ≡ 4 → Reports (E.contents err.old) (E.contents err.new) (codes "OutOfMemory") }
+    ensures statuses { result ≤ 4 }
+{
+    let words = match words(rt) {
+        Ok(words) => words,
+        Err(InputFault::OutOfMemory) => return no_input(InputFault::OutOfMemory, err),
+        Err(InputFault::CannotRead) => {
+            report(err, "the command line is not UTF-8 text");
+            return USAGE;
+        }
+    };
+    match line(rt.alloc(), words.as_slice()) {
+        Ok(line) => perform(rt, line, input, out, err),
+        Err(error) => usage(&error, out, err),
+    }
+}
+
+/// Does what a command line asks for, and answers the status.
+fn perform<R, I, O, E>(rt: &R, line: Line<'_>, input: &mut I, out: &mut O, err: &mut E) -> u8
+where
+    R: Files + AllocGlobal,
+    I: Read,
+    O: Write,
+    E: Write,
+    requires sides { HasSides line }
+    ensures done { result ≡ 0 → Does line.entry (I.remaining input.old) (O.contents out.old) (O.contents out.new) }
+    ensures done_silent { result ≡ 0 → Keeps (E.contents err.old) (E.contents err.new) }
+    ensures refused { result ≡ 1 → Refuses line.entry (I.remaining input.old) (E.contents err.old) (E.contents err.new) }
+    ensures refused_unwritten { result ≡ 1 → Keeps (O.contents out.old) (O.contents out.new) }
+    ensures failed { result ≡ 3
+        → Fails line.entry (I.remaining input.old) (O.contents out.old) (O.contents out.new) (E.contents err.old) (E.contents err.new) }
+    ensures memory_unwritten { result ≡ 4 → Keeps (O.contents out.old) (O.contents out.new) }
+    ensures memory_line { result ≡ 4 → Reports (E.contents err.old) (E.contents err.new) (codes "OutOfMemory") }
+    ensures statuses { ((result ≡ 0) ⊎ (result ≡ 1)) ⊎ ((result ≡ 3) ⊎ (result ≡ 4)) }
+    ensures unread { file_of line.entry ≢ standard_input → Keeps (I.remaining input.old) (I.remaining input.new) }
+{
+    match line {
+        Line::Show {
+            file,
+            width,
+            height,
+        } => show(rt, file, width, height, input, out, err),
+    }
+}
+
+/// Reads and shows a file.
+fn show<R, I, O, E>(
+    rt: &R,
+    file: &str,
+    width: u32,
+    height: u32,
+    input: &mut I,
+    out: &mut O,
+    err: &mut E,
+) -> u8
+where
+    R: Files + AllocGlobal,
+    I: Read,
+    O: Write,
+    E: Write,
+    requires width { IsSurfaceSide width }
+    requires height { IsSurfaceSide height }
+    ensures done { result ≡ 0
+        → ShowsInput file.now (I.remaining input.old) width height (O.contents out.old) (O.contents out.new) }
+    ensures done_silent { result ≡ 0 → Keeps (E.contents err.old) (E.contents err.new) }
+    ensures refused { result ≡ 1
+        → RefusesInput file.now (I.remaining input.old) width height (E.contents err.old) (E.contents err.new) }
+    ensures refused_unwritten { result ≡ 1 → Keeps (O.contents out.old) (O.contents out.new) }
+    ensures failed { result ≡ 3
+        → FailsInput file.now (I.remaining input.old) width height (O.contents out.old) (O.contents out.new)
+        (E.contents err.old) (E.contents err.new) }
+    ensures memory_unwritten { result ≡ 4 → Keeps (O.contents out.old) (O.contents out.new) }
+    ensures memory_line { result ≡ 4 → Reports (E.contents err.old) (E.contents err.new) (codes "OutOfMemory") }
+    ensures statuses { ((result ≡ 0) ⊎ (result ≡ 1)) ⊎ ((result ≡ 3) ⊎ (result ≡ 4)) }
+    ensures unread { file.now ≢ standard_input → Keeps (I.remaining input.old) (I.remaining input.new) }
+{
+    match read_file(rt, file, input) {
+        Ok(bytes) => show_command(rt.alloc(), bytes.as_slice(), width, height, out, err),
+        Err(fault) => no_input(fault, err),
+    }
+}
+
+/// The words of the command line, the program's name first: `CannotRead` where one isn't UTF-8.
+fn words<R: Env + AllocGlobal>(rt: &R) -> Result<Vec<String>, InputFault> {
+    let words = env::args(rt).map_err(InputFault::of)?;
+    words
+        .collect(rt.alloc())
+        .map_err(|_| InputFault::OutOfMemory)
+}
+
+/// The bytes of a file, or of standard input.
+pub fn read_file<R: Files + AllocGlobal, I: Read>(
+    rt: &R,
+    file: &str,
+    input: &mut I,
+) -> Result<Vec<u8>, InputFault>
+    ensures read { file.entry.now ≡ standard_input → IfOk result (λ bytes. IfSome (I.remaining input.old) (λ all. bytes.items ≡ all)) }
+    ensures within { IfOk result (λ bytes. vec_len bytes ≤ input_limit) }
+    ensures unread { file.entry.now ≢ standard_input → Keeps (I.remaining input.old) (I.remaining input.new) }
+{
+    if file == STANDARD_INPUT {
+        return read_input(rt.alloc(), input);
+    }
+    let mut opened = fs::open(rt, file).map_err(InputFault::of)?;
+    read_input(rt.alloc(), &mut opened)
+}
+
+/// Reports that an input was not read, and answers the status.
+pub fn no_input<E: Write>(fault: InputFault, err: &mut E) -> u8
+    ensures input { result ≡ 3 ↔ fault ≡ InputFault.CannotRead }
+    ensures memory { result ≡ 4 ↔ fault ≡ InputFault.OutOfMemory }
+    ensures statuses { (result ≡ 3) ⊎ (result ≡ 4) }
+    ensures line { Reports (E.contents err.old) (E.contents err.new) (fault_text fault) }
+{
+    report(err, fault.text());
+    match fault {
+        InputFault::CannotRead => INPUT_OR_OUTPUT,
+        InputFault::OutOfMemory => OUT_OF_MEMORY,
+    }
+}
+
+/// Shows the usage, or the help that was asked for, where `clap` says, and answers the status.
+pub fn usage<O: Write, E: Write>(error: &clap::Error, out: &mut O, err: &mut E) -> u8
+    ensures memory { result ≡ 4 ↔ kind_of error.now ≡ ErrorKind.OutOfMemory }
+    ensures statuses { (result ≡ 2) ⊎ (result ≡ 4) }
+    ensures memory_unwritten { result ≡ 4 → Keeps (O.contents out.old) (O.contents out.new) }
+    ensures memory_line { result ≡ 4 → Reports (E.contents err.old) (E.contents err.new) (codes "OutOfMemory") }
+{
+    if error.kind() == ErrorKind::OutOfMemory {
+        return no_input(InputFault::OutOfMemory, err);
+    }
+    if error.use_stderr() {
+        let _ = write!(err, "{error}");
+    } else {
+        let _ = write!(out, "{error}");
+    }
+    USAGE
+}
