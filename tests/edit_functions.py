@@ -108,6 +108,11 @@ def pairs(edit):
             yield path, old, line.removeprefix("new:").removeprefix(" ")
 
 
+def named_functions(edit):
+    """The functions that an edit's text names itself, since what it changes stands in none."""
+    return re.findall(r"(?m)^function: (\S+)$", edit)
+
+
 def changed_functions(crate, edit, sources):
     """The names of the functions that an edit's text changes, and whether it also changes what stands in none. The crate's
     files are given by their paths."""

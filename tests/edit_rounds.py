@@ -6,12 +6,13 @@ from edit_functions import pairs
 
 
 class Edit(NamedTuple):
-    """An edit: its name, its text, and the functions that it changes. Where it also changes what stands in no function, it is
-    tried alone, and so it has none."""
+    """An edit: its name, its text, the functions that have to be refused, and whether it is tried alone, as it is where it
+    changes what stands in no function."""
 
     name: str
     text: str
     functions: tuple
+    is_alone: bool = False
 
 
 class Round(NamedTuple):

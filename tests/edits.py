@@ -8,7 +8,8 @@ An edit is a file edits/CRATE/NAME.edit in the toolchain's form: a line 'file: s
 and 'new: TEXT', each TEXT standing once in that file. Since a body is proved from the contracts of what it calls, and never from
 their bodies, one copy of a crate holds a wrong body for each of many functions, and each function is judged by itself: it has to
 have a goal of its own that isn't proved. That it calls another function that is wrong too doesn't count. In each further round
-the functions that have one more edit get that, and the others stay as they are, so that nothing right is proved again.
+the functions that have one more edit get that, and the others stay as they are, so that nothing right is proved again. An edit
+of what stands in no function, as a constant, is tried alone, and names a function that has to be refused ('function: NAME').
 
 It runs behind `rt ci`, which proves the crates as they are, over the libraries that it leaves.
 """
@@ -28,7 +29,7 @@ from concurrent.futures import ThreadPoolExecutor
 from typing import NamedTuple
 
 import edit_verdicts
-from edit_functions import changed_functions, pairs
+from edit_functions import changed_functions, named_functions, pairs
 from edit_rounds import Edit, beside, placed_in, rounds_of
 
 ROOT = pathlib.Path(__file__).resolve().parent.parent
@@ -77,7 +78,7 @@ def read_edit(name, text, crate, sources):
     if why:
         return None, f"{crate.name}/{name}: BAD EDIT: {why}"
     names, outside = changed_functions(crate.name, text, sources)
-    return Edit(name, text, () if outside else tuple(names)), None
+    return Edit(name, text, tuple(named_functions(text) if outside else names), outside), None
 
 
 def sources_of(crate):
@@ -150,13 +151,13 @@ class Trying:
         self.used = []
 
     def alone(self, edit):
-        """Judges an edit in a copy of the crate that has no other, of which all functions are checked."""
-        ran = check(self, placed_in(self.sources, edit), ())
-        refused = refused_by(ran, "logic=not-proved", [edit])
-        if refused is None or (edit.functions and not refused & set(edit.functions)):
+        """Judges an edit in a copy of the crate that has no other: by its functions, or by all of the crate where it has none."""
+        ran = check(self, placed_in(self.sources, edit), edit.functions)
+        refused = refused_by(ran, "only=" if edit.functions else "logic=not-proved", [edit])
+        if refused is None or not set(edit.functions) <= refused:
             last = ran.said.rstrip("\n").split("\n")[-1]
             return Trial(False, f"{self.crate.name}/{edit.name}: NOT REFUSED: {last[:200]}")
-        return Trial(True, f"{self.crate.name}/{edit.name}: refused alone, by {', '.join(sorted(refused)) or 'the crate'}")
+        return Trial(True, f"{self.crate.name}/{edit.name}: refused alone, by {', '.join(edit.functions) or 'the crate'}")
 
     def together(self, edits, whole):
         """Judges some edits of a round in a copy of the crate that has the whole round's, each by its own function. Those that
@@ -174,12 +175,12 @@ class Trying:
     def each(self, edits):
         """Judges these edits, those of functions in rounds, and gives what came of each and what else was wrong."""
         whole = None
-        for this in rounds_of([edit for edit in edits if edit.functions], self.sources):
+        for this in rounds_of([edit for edit in edits if not edit.is_alone], self.sources):
             whole = beside(this, whole.edits if whole else [])
             for start in range(0, len(this.edits), MOST_AT_A_TIME):
                 yield from self.together(this.edits[start : start + MOST_AT_A_TIME], whole)
         for edit in edits:
-            if not edit.functions:
+            if edit.is_alone:
                 yield self.alone(edit)
 
     def cost(self):

@@ -3,7 +3,7 @@
 import pathlib
 import unittest
 
-from edit_functions import changed_functions, functions, pairs
+from edit_functions import changed_functions, functions, named_functions, pairs
 from edit_rounds import Edit, beside, placed_in, rounds_of
 from edit_verdicts import is_refused, refused
 
@@ -116,6 +116,12 @@ class ChangedFunctions(unittest.TestCase):
         """What stands between functions is told apart, beside a function too."""
         rows = ["file: src/lib.rt", "old: i32 = 8", "new: i32 = 9", "old: * 2", "new: * 3"]
         self.assertEqual(self.changed(*rows), (["shapes::twice"], True))
+
+    def test_an_edit_may_name_its_functions(self):
+        """A line 'function:' names one, and is no part of a pair."""
+        text = "file: src/lib.rt\nfunction: shapes::twice\nold: i32 = 8\nnew: i32 = 9\n"
+        self.assertEqual(named_functions(text), ["shapes::twice"])
+        self.assertEqual(list(pairs(text)), [("src/lib.rt", "i32 = 8", "i32 = 9")])
 
     def test_a_new_text_may_be_empty(self):
         """A line 'new:' without a text takes the old text away, and one space behind the colon isn't part of it."""
