@@ -1,10 +1,11 @@
 -- The program's command line, as clap reads it.
-use Rattle.std.specs.Prelude.{◌≡◌, ℕ, List, [], ◌∷◌, Option, Some, codes, pos, true}
+use Rattle.std.specs.Prelude.{◌≡◌, ◌≤◌, ℕ, List, [], ◌∷◌, Option, Some, IsSome, codes, pos, true}
 use Rattle.mapping.specs.Limits.{surface_side_limit}
-use Rattle.std.specs.Str.Parse.{digits_value, without_leading_plus}
+use Rattle.std.specs.Str.Parse.{IsNumeral, digits_value, without_leading_plus}
 use Rattle.clap.specs.Words.{App, Row, Rule, Text, first_of, new_app, new_rule, one_of, subcommand_of, with_rule, with_subcommand}
 use Rattle.clap.specs.declared.builder.ArgAction.TheVariants.{Set}
 use Rattle.clap.specs.declared.builder.value_parser.ValueParser.TheVariants.{Signed}
+use Rattle.commands.specs.Sides.{HasSides}
 use Rattle.commands.specs.declared.asked.Line.{Line}
 use Rattle.commands.specs.declared.asked.Line.TheVariants.{Show}
 
@@ -74,3 +75,41 @@ abbrev pub HasPlainWords : List Text → Line → Type 0
 HasPlainWords words line =
     (program file wide high : Text) → IsPlainWord file → IsPlainWord wide → IsPlainWord high
     → words ≡ program ∷ codes "show" ∷ file ∷ wide ∷ high ∷ [] → HasWords file wide high line
+
+-- the text is a decimal numeral from 1 to 8,192, without a sign
+pub record IsSideText (text : Text) : Type 0 where
+  pub numeral : IsNumeral 10 text
+  pub least : 1 ≤ digits_value 10 text
+  pub most : digits_value 10 text ≤ surface_side_limit
+
+-- such a text was given for an id
+pub record GivesSide (given : List Row) (id : Text) : Type 0 where
+  pub text : Text
+  pub is_given : one_of id given ≡ Some text
+  pub is_side : IsSideText text
+
+-- the command that was met is `show`, and was given a file and two sides
+pub record IsRightShow (met : Option (Text × List Row)) : Type 0 where
+  pub given : List Row
+  pub command : met ≡ Some (codes "show", given)
+  pub file : IsSome (first_of (codes "FILE") given)
+  pub wide : GivesSide given (codes "W")
+  pub high : GivesSide given (codes "H")
+
+-- five words: the program's name, `show`, a file that does not begin with a hyphen, and two sides
+pub record AreRightWords (words : List Text) : Type 0 where
+  pub program : Text
+  pub file : Text
+  pub wide : Text
+  pub high : Text
+  pub are : words ≡ program ∷ codes "show" ∷ file ∷ wide ∷ high ∷ []
+  pub plain : IsPlainWord file
+  pub wide_side : IsSideText wide
+  pub high_side : IsSideText high
+
+-- it holds of a line that the words ask for, whose sides are sides of a surface
+pub record HoldsOfAsked (words : List Text) (holds : Line → Type 0) : Type 0 where
+  pub line : Line
+  pub sides : HasSides line
+  pub asked : IsAskedByWords words line
+  pub fact : holds line

@@ -8,7 +8,7 @@ use Rattle.meta_headers.specs.Opening.{opened}
 use Rattle.player.specs.Refusal.{refusal_text}
 use Rattle.player.specs.Run.{Refused, Run, shown, white}
 use Rattle.player.specs.declared.refusal.Refusal.{Refusal}
-use Rattle.commands.specs.Report.{Reports}
+use Rattle.commands.specs.Report.{Reports, Told}
 
 -- the run of the file over white ends with an image, and its P6 text was written
 pub record Shows (file : List ℕ) (width height : ℕ) (old new : Option (List ℕ)) : Type 0 where
@@ -29,10 +29,10 @@ pub record IsRefused (file : List ℕ) (width height : ℕ) : Type 0 where
   pub run : Refused file width height number fault
 
 -- the run of the file has the fault of a refusal, and the line that tells it was reported
-pub record ReportsRefusal (file : List ℕ) (width height : ℕ) (old new : Option (List ℕ)) : Type 0 where
+pub record ReportsRefusal (file : List ℕ) (width height : ℕ) (told : Told) (old new : Option (List ℕ)) : Type 0 where
   pub refusal : Refusal
   pub run : Refused file width height refusal.number refusal.fault
-  pub reported : Reports old new (refusal_text refusal)
+  pub reported : Reports told old new (refusal_text refusal)
 
 -- the file opens: its headers have no fault
 abbrev pub Opens : List ℕ → Type 0

@@ -1,9 +1,10 @@
 //! Reading the command line.
 
-ghost use Rattle.std.specs.Prelude.{◌≡◌, IfOk, IfSome, codes, false, map, string_bytes};
-ghost use Rattle.clap.specs.Words.{app_of, found_of, rows_of, rule_of, subcommand_rows_of};
+ghost use Rattle.std.specs.Prelude.{◌≡◌, IfErr, IfOk, IfSome, IsSome, codes, false, map, string_bytes};
+ghost use Rattle.clap.specs.Words.{app_of, found_of, kind_of, rows_of, rule_of, subcommand_rows_of};
 ghost use Rattle.mapping.specs.Limits.{IsSurfaceSide};
-ghost use Rattle.commands.specs.CommandLine.{GivesNumber, HasPlainWords, IsAskedBy, IsAskedByWords};
+ghost use Rattle.commands.specs.CommandLine.{AreRightWords, GivesNumber, GivesSide, HasPlainWords};
+ghost use Rattle.commands.specs.CommandLine.{IsAskedBy, IsAskedByWords, IsRightShow};
 ghost use Rattle.commands.specs.CommandLine.{file_rule, metaplay_app, side_rule};
 ghost use Rattle.commands.specs.Sides.{HasSides};
 
@@ -19,6 +20,7 @@ pub fn line<'a>(alloc: Global, words: &'a [String]) -> Result<Line<'a>, Error>
     ensures sides { IfOk result HasSides }
     ensures asked { IfOk result (IsAskedByWords (map string_bytes words.entry.now)) }
     ensures plain { IfOk result (HasPlainWords (map string_bytes words.entry.now)) }
+    ensures taken { IfErr result (λ error. AreRightWords (map string_bytes words.entry.now) → kind_of error ≡ ErrorKind.OutOfMemory) }
 {
     let mut command = metaplay(alloc)?;
     let matches = command.try_get_matches_from_mut(words)?;
@@ -71,6 +73,7 @@ fn side<'a>(alloc: Global, id: &'a str, help: &'a str) -> Arg<'a>
 fn asked<'a>(matches: &ArgMatches<'a>) -> Option<Line<'a>>
     ensures sides { IfSome result HasSides }
     ensures asked { IfSome result (IsAskedBy (subcommand_rows_of matches.now)) }
+    ensures taken { IsRightShow (subcommand_rows_of matches.now) → IsSome result }
 {
     let Some(shown) = matches.subcommand_matches("show") else {
         return None;
@@ -95,6 +98,7 @@ fn asked<'a>(matches: &ArgMatches<'a>) -> Option<Line<'a>>
 fn side_of(matches: &ArgMatches<'_>, id: &str) -> Option<u32>
     ensures side { IfSome result IsSurfaceSide }
     ensures given { IfSome result (GivesNumber (rows_of (found_of matches.now)) id.now) }
+    ensures taken { GivesSide (rows_of (found_of matches.now)) id.now → IsSome result }
 {
     let Some(side) = matches.get_one::<u32>(id) else {
         return None;

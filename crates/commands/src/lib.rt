@@ -4,17 +4,20 @@
 //! # What is promised
 //!
 //! - A command line asks only for surfaces from 1 to 8,192 pixels a side, and for the file and the
-//!   sides that its words give, as `clap` walks over them (`line`).
+//!   sides that its words give, as `clap` walks over them. Five words of the right form are never
+//!   wrong usage (`line`, `run_words`).
 //! - What is read of an input is all of it, or it is refused (`read_input`).
 //! - Status 0 comes only where the P6 text of the image that the file's records define was written
 //!   to the output, and nothing else; status 1 only where the file has a fault; status 4 only where
 //!   it opens; and of a file with a fault nothing is written (`show_command`).
-//! - The whole program's statuses 0 and 1 mean the same of some bytes, at sides from 1 to 8,192; 3
-//!   leaves nothing or a front of such a text, 4 nothing, and no status is above 4 (`run`).
-//! - Standard error gets nothing at status 0, and at 1, 3 and 4 a front of the one line that tells
-//!   why (`report`, `run`).
+//! - The whole program's statuses 0 and 1 mean the same of some bytes, at the sides that the words
+//!   ask for; 3 leaves nothing or a front of such a text, 4 nothing, and no status is above 4
+//!   (`run_words`, `run`).
+//! - Standard error gets nothing at status 0, and at 1, 3 and 4 the one line that tells why: all of
+//!   it, or a front where the writer failed, which the answer tells (`report`, `run`).
 #![tactic(auto)]
 
+mod answer;
 mod asked;
 mod command_line;
 mod input;
@@ -23,9 +26,10 @@ mod reporting;
 mod show;
 mod status;
 
+pub use answer::Answer;
 pub use asked::Line;
 pub use command_line::line;
 pub use input::{InputFault, read_input};
-pub use program::{no_input, read_file, run, usage};
+pub use program::{no_input, read_file, run, run_words, usage};
 pub use reporting::report;
 pub use show::show_command;

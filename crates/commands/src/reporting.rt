@@ -4,7 +4,7 @@ ghost use Rattle.std.specs.Prelude.{◌≡◌, IfSome};
 ghost use Rattle.std.specs.Fmt.InlineText.{inline_text};
 ghost use Rattle.commands.specs.Report.{Reports, line_of};
 
-use canvas::send;
+use canvas::{WriteFault, send};
 use std::fmt;
 use std::fmt::{Display, InlineText};
 use std::io::Write;
@@ -12,12 +12,14 @@ use std::io::Write;
 /// Room for a line. The program's own have at most 56 bytes.
 const LINE_ROOM: usize = 128;
 
-/// Writes one line about what went wrong. Where that fails too, nothing more can be done.
-pub fn report<E: Write, D: Display + Drop>(err: &mut E, text: D)
-    ensures { IfSome (D.output text) (Reports (E.contents err.old) (E.contents err.new)) }
+/// Writes one line about what went wrong, and answers whether it went out whole. A line that is too
+/// long is a `WriteFault` too, and nothing is written of it.
+pub fn report<E: Write, D: Display + Drop>(err: &mut E, text: D) -> Result<(), WriteFault>
+    ensures { IfSome (D.output text) (Reports result (E.contents err.old) (E.contents err.new)) }
 {
-    if let Some(line) = line(&text) {
-        let _ = send(err, line.as_str().as_bytes());
+    match line(&text) {
+        Some(line) => send(err, line.as_str().as_bytes()),
+        None => Err(WriteFault),
     }
 }
 

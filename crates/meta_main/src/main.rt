@@ -5,6 +5,6 @@
 use std::process::ExitCode;
 
 fn main(rt: HostRuntime) -> ExitCode {
-    let status = commands::run(&rt, &mut rt.stdin(), &mut rt.stdout(), &mut rt.stderr());
-    ExitCode::from(status)
+    let answer = commands::run(&rt, &mut rt.stdin(), &mut rt.stdout(), &mut rt.stderr());
+    ExitCode::from(answer.status)
 }

@@ -1,6 +1,10 @@
 -- What is asked for by five plain words follows of what the words ask for.
-use Rattle.std.proofs.Common.{rules, map, string_bytes}
-use Rattle.commands.specs.CommandLine.{IsAskedByWords}
+use Rattle.std.proofs.Common.{◌≡◌, ◌∙◌, Result, Ok, Err, IfErr, IsErrAnd, ap, false, rules, map, string_bytes, subst, sym, true}
+use Rattle.commands.specs.CommandLine.{AreRightWords, IsAskedByWords, IsRightShow, metaplay_app}
+use Rattle.clap.specs.Words.{App, app_of, is_simple, kind_of, subcommand_of, subcommand_rows_of, takes}
+use Rattle.clap.specs.declared.error.Error.{Error}
+use Rattle.clap.specs.declared.error.kind.ErrorKind.TheVariants.{OutOfMemory}
+use Rattle.commands.proofs.TakenLemmas.{right_show, right_taken}
 use Rattle.commands.proofs.WordLemmas.{plain_words}
 use Rattle.commands.proofs.command_line.line.Goals as goal
 
@@ -8,3 +12,24 @@ pub returns-in-Some-clause-plain : goal.returns-in-Some-clause-plain
 returns-in-Some-clause-plain c =
     let asked : IsAskedByWords (map string_bytes c.args.words.now) c.in-Some.line = search rules in
     plain_words (map string_bytes c.args.words.now) c.in-Some.line asked
+
+-- `?` passes an error up as it is
+passed_up : {T E : Type 0} (r : Result T E) (e : E) (P : E → Type 0) → IsErrAnd r (λ y. y ≡ e) → P e → IfErr r P
+passed_up (Ok x) e P is p = tt
+passed_up (Err y) e P is p = subst P (sym is) p
+
+pub returns-in_err-matches-clause-taken : goal.returns-in_err-matches-clause-taken
+returns-in_err-matches-clause-taken c =
+    let app : app_of c.in_ok-command.command ≡ metaplay_app = c.in_ok-command.ensures in
+    let memory : AreRightWords (map string_bytes c.args.words.now) → kind_of c.in_err-matches.field-0.0 ≡ OutOfMemory = λ right.
+    c.in_err-matches.ensures.passes (ap (λ (a : App). takes a (map string_bytes c.args.words.now)) app ∙ right_taken (map string_bytes c.args.words.now) right) in
+    passed_up c.from_residual-in_err-matches.result c.in_err-matches.field-0.0 (λ (error : Error). AreRightWords (map string_bytes c.args.words.now) → kind_of error ≡ OutOfMemory) c.from_residual-in_err-matches.ensures.1 memory
+
+pub returns-clause-taken : goal.returns-clause-taken
+returns-clause-taken c = λ right.
+    let app : app_of c.in_ok-command.command ≡ metaplay_app = c.in_ok-command.ensures in
+    let met : subcommand_rows_of c.in_ok-matches.matches ≡ subcommand_of metaplay_app (map string_bytes c.args.words.now) =
+    (c.in_ok-matches.ensures.ok.2 (ap is_simple app)).1 ∙ ap (λ (a : App). subcommand_of a (map string_bytes c.args.words.now)) app in
+    let show : IsRightShow (subcommand_rows_of c.in_ok-matches.matches) = subst IsRightShow (sym met) (right_show (map string_bytes c.args.words.now) right) in
+    let bad : false ≡ true = c.in-None.ensures.taken show in
+    cc

@@ -1,14 +1,17 @@
--- What holds of the line that was asked for holds of some line.
+-- What holds of a line that the words ask for holds of some line.
 use Rattle.commands.proofs.program.run.Goals as goal
 
-pub returns-in-Ok-line-clause-done : goal.returns-in-Ok-line-clause-done
-returns-in-Ok-line-clause-done g c = λ status.
-    record { line = c.in-Ok-line.line; sides = c.in-Ok-line.ensures.sides; fact = c.perform.ensures.done status }
+pub returns-in-Ok-clause-done : goal.returns-in-Ok-clause-done
+returns-in-Ok-clause-done g c = λ status.
+    let asked = c.run_words.ensures.done status in
+    record { line = asked.line; sides = asked.sides; fact = asked.fact }
 
-pub returns-in-Ok-line-clause-refused : goal.returns-in-Ok-line-clause-refused
-returns-in-Ok-line-clause-refused g c = λ status.
-    record { line = c.in-Ok-line.line; sides = c.in-Ok-line.ensures.sides; fact = c.perform.ensures.refused status }
+pub returns-in-Ok-clause-refused : goal.returns-in-Ok-clause-refused
+returns-in-Ok-clause-refused g c = λ status.
+    let asked = c.run_words.ensures.refused status in
+    record { line = asked.line; sides = asked.sides; fact = asked.fact }
 
-pub returns-in-Ok-line-clause-failed : goal.returns-in-Ok-line-clause-failed
-returns-in-Ok-line-clause-failed g c = λ status.
-    record { line = c.in-Ok-line.line; sides = c.in-Ok-line.ensures.sides; fact = c.perform.ensures.failed status }
+pub returns-in-Ok-clause-failed : goal.returns-in-Ok-clause-failed
+returns-in-Ok-clause-failed g c = λ status.
+    let asked = c.run_words.ensures.failed status in
+    record { line = asked.line; sides = asked.sides; fact = asked.fact }
