@@ -30,6 +30,41 @@ fn a_command_line_asks_for_a_file_and_sides(rt: HostRuntime) -> Result<(), Fail>
 }
 
 #[test]
+fn each_side_from_1_to_8192_is_taken_in_both_places(rt: HostRuntime) -> Result<(), Fail> {
+    for side in 0..=8193u32 {
+        let text = format!(in rt.alloc(); "{side}")?;
+        let wide = words(
+            rt.alloc(),
+            &["metaplay", "show", "a.wmf", text.as_str(), "4"],
+        )?;
+        let high = words(
+            rt.alloc(),
+            &["metaplay", "show", "a.wmf", "5", text.as_str()],
+        )?;
+        let taken = (
+            line(rt.alloc(), wide.as_slice()).ok(),
+            line(rt.alloc(), high.as_slice()).ok(),
+        );
+        let want = if side == 0 || side == 8193 {
+            (None, None)
+        } else {
+            (Some(shown(side, 4)), Some(shown(5, side)))
+        };
+        assert!(rt; taken == want, "{side}");
+    }
+    Ok(())
+}
+
+/// The line that shows a file at these sides.
+fn shown(width: u32, height: u32) -> Line<'static> {
+    Line::Show {
+        file: "a.wmf",
+        width,
+        height,
+    }
+}
+
+#[test]
 fn each_wrong_command_line_has_status_2(rt: HostRuntime) -> Result<(), Fail> {
     let lines: [(&[&str], &str); 12] = [
         (&["metaplay"], "requires a subcommand"),
@@ -73,7 +108,7 @@ fn each_wrong_command_line_has_status_2(rt: HostRuntime) -> Result<(), Fail> {
         };
         let mut out = Vec::new(rt.alloc());
         let mut err = Vec::new(rt.alloc());
-        assert_eq!(rt; usage(&error, &mut out, &mut err), 2, "{text}");
+        assert_eq!(rt; usage(&error, &mut out, &mut err).status, 2, "{text}");
         assert!(rt; out.is_empty(), "{text}");
         let shown = str::from_utf8(err.as_slice())?;
         assert!(rt; shown.contains(text), "{text} in {shown}");
@@ -95,7 +130,7 @@ fn help_that_was_asked_for_goes_to_standard_output(rt: HostRuntime) -> Result<()
         };
         let mut out = Vec::new(rt.alloc());
         let mut err = Vec::new(rt.alloc());
-        assert_eq!(rt; usage(&error, &mut out, &mut err), 2);
+        assert_eq!(rt; usage(&error, &mut out, &mut err).status, 2);
         assert!(rt; err.is_empty());
         assert!(rt; str::from_utf8(out.as_slice())?.contains("Usage: metaplay"));
     }

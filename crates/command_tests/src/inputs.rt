@@ -131,6 +131,42 @@ fn an_input_may_end_at_a_piece_or_beside_it(rt: HostRuntime) -> Result<(), Fail>
 }
 
 #[test]
+fn an_input_of_any_length_is_read(rt: HostRuntime) -> Result<(), Fail> {
+    // Beside each piece up to 4 MiB, at each length up to 3,000, and at lengths far from a piece.
+    let whole = pattern(rt.alloc(), 64 * 65536 + 1)?;
+    for piece in 1..=64 {
+        for length in [piece * 65536 - 1, piece * 65536, piece * 65536 + 1] {
+            assert!(rt;
+                is_read_whole(rt.alloc(), whole.as_slice(), length)?,
+                "{length} bytes"
+            );
+        }
+        let length = piece * 65521 - 7;
+        assert!(rt;
+            is_read_whole(rt.alloc(), whole.as_slice(), length)?,
+            "{length} bytes"
+        );
+    }
+    for length in 0..3000 {
+        assert!(rt;
+            is_read_whole(rt.alloc(), whole.as_slice(), length)?,
+            "{length} bytes"
+        );
+    }
+    Ok(())
+}
+
+/// Whether an input of the first of these bytes, so many, is read as it is.
+fn is_read_whole(alloc: Global, bytes: &[u8], length: usize) -> Result<bool, InputFault> {
+    let Some(wanted) = bytes.get(..length) else {
+        return Ok(false);
+    };
+    let mut input = wanted;
+    let bytes = read_input(alloc, &mut input)?;
+    Ok(bytes.as_slice() == wanted)
+}
+
+#[test]
 fn an_input_under_refused_growth(rt: HostRuntime) -> Result<(), Fail> {
     match read_input(rt.alloc(), &mut io::repeat(7).take(300000)) {
         Ok(bytes) => {

@@ -1,8 +1,10 @@
 //! Lines on standard error.
 
-use commands::{InputFault, no_input, report};
+use canvas::WriteFault;
+use commands::{Answer, InputFault, no_input, report};
 use draw_ops::Fault;
 use player::Refusal;
+use std::alloc::{AllocError, Global};
 use std::test::Fail;
 
 #[test]
@@ -13,7 +15,13 @@ fn an_input_that_fails_is_reported_in_one_line(rt: HostRuntime) -> Result<(), Fa
     ];
     for (fault, status, text) in cases {
         let mut err = Vec::new(rt.alloc());
-        assert_eq!(rt; no_input(fault, &mut err), status);
+        assert_eq!(rt;
+            no_input(fault, &mut err),
+            Answer {
+                status,
+                told: Ok(())
+            }
+        );
         assert_eq!(rt; err.as_slice(), text);
     }
     Ok(())
@@ -35,9 +43,41 @@ fn the_longest_refusal_has_room(rt: HostRuntime) -> Result<(), Fail> {
         fault: Fault::UnknownRecord(u32::MAX),
     };
     let mut err = Vec::new(rt.alloc());
-    report(&mut err, refusal);
+    assert_eq!(rt; report(&mut err, refusal), Ok(()));
     let line = b"metaplay: UnknownRecord 4294967295 at record 4294967295\n";
     assert_eq!(rt; err.as_slice(), line.as_slice());
+    Ok(())
+}
+
+/// Record numbers: each of the first 3,000, and those beside a power of two.
+fn some_numbers(alloc: Global) -> Result<Vec<u32>, AllocError> {
+    let mut numbers = Vec::new(alloc);
+    for number in 0..3000 {
+        numbers.push(number)?;
+    }
+    let mut power = 4096u32;
+    for _ in 12..32 {
+        numbers.push(power.saturating_sub(1))?;
+        numbers.push(power)?;
+        numbers.push(power.saturating_add(1))?;
+        power = power.saturating_mul(2);
+    }
+    Ok(numbers)
+}
+
+#[test]
+fn a_refusal_in_each_record_is_told_whole(rt: HostRuntime) -> Result<(), Fail> {
+    let numbers = some_numbers(rt.alloc())?;
+    for number in numbers.iter() {
+        let refusal = Refusal {
+            number: Some(*number),
+            fault: Fault::PastEnd,
+        };
+        let want = format!(in rt.alloc(); "metaplay: PastEnd at record {number}\n")?;
+        let mut err = Vec::new(rt.alloc());
+        assert_eq!(rt; report(&mut err, refusal), Ok(()), "record {number}");
+        assert_eq!(rt; err.as_slice(), want.as_bytes(), "record {number}");
+    }
     Ok(())
 }
 
@@ -46,12 +86,12 @@ fn a_line_is_told_whole_or_not_at_all(rt: HostRuntime) -> Result<(), Fail> {
     // 117 bytes, the program's name and the line feed fill a line.
     let text = "0123456789".repeat(rt.alloc(), 12)?;
     let mut err = Vec::new(rt.alloc());
-    report(&mut err, &text.as_str()[..117]);
+    assert_eq!(rt; report(&mut err, &text.as_str()[..117]), Ok(()));
     assert_eq!(rt; err.len(), 128);
     assert_eq!(rt; &err[..13], b"metaplay: 012".as_slice());
     assert_eq!(rt; &err[124..], b"456\n".as_slice());
     let mut err = Vec::new(rt.alloc());
-    report(&mut err, &text.as_str()[..118]);
+    assert_eq!(rt; report(&mut err, &text.as_str()[..118]), Err(WriteFault));
     assert!(rt; err.is_empty());
     Ok(())
 }

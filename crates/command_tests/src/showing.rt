@@ -34,7 +34,7 @@ fn text_of(alloc: Global, strip: &Strip) -> Result<Vec<u8>, AllocError> {
 fn showing_a_dot_writes_its_image(rt: HostRuntime) -> Result<(), Fail> {
     let mut out = limited(rt.alloc(), 1000, true);
     let mut err = Vec::new(rt.alloc());
-    let status = show_command(rt.alloc(), DOT, 2, 2, &mut out, &mut err);
+    let status = show_command(rt.alloc(), DOT, 2, 2, &mut out, &mut err).status;
     assert_eq!(rt; status, 0);
     let want = b"P6\n2 2\n255\n\xff\xff\xff\xff\x00\x00\xff\xff\xff\xff\xff\xff";
     assert_eq!(rt; out.taken.as_slice(), want.as_slice());
@@ -49,7 +49,7 @@ fn a_file_that_draws_nothing_is_white(rt: HostRuntime) -> Result<(), Fail> {
     file.extend_from_slice(&DOT[54..])?;
     let mut out = limited(rt.alloc(), 1000, true);
     let mut err = Vec::new(rt.alloc());
-    let status = show_command(rt.alloc(), file.as_slice(), 2, 1, &mut out, &mut err);
+    let status = show_command(rt.alloc(), file.as_slice(), 2, 1, &mut out, &mut err).status;
     assert_eq!(rt; status, 0);
     let want = b"P6\n2 1\n255\n\xff\xff\xff\xff\xff\xff";
     assert_eq!(rt; out.taken.as_slice(), want.as_slice());
@@ -97,13 +97,31 @@ fn sides_of_1_8191_and_8192_are_shown(rt: HostRuntime) -> Result<(), Fail> {
         let want = text_of(rt.alloc(), &strip)?;
         let mut out = limited(rt.alloc(), 100000, true);
         let mut err = Vec::new(rt.alloc());
-        let status = show_command(rt.alloc(), DOT, width, height, &mut out, &mut err);
+        let status = show_command(rt.alloc(), DOT, width, height, &mut out, &mut err).status;
         assert_eq!(rt; status, 0);
         assert!(rt;
             out.taken.as_slice() == want.as_slice(),
             "{width} by {height}"
         );
         assert!(rt; err.is_empty());
+    }
+    Ok(())
+}
+
+#[test]
+fn each_height_from_1_to_8192_is_shown(rt: HostRuntime) -> Result<(), Fail> {
+    for height in 1..=8192u32 {
+        let header = format!(in rt.alloc(); "P6\n1 {height}\n255\n")?;
+        let mut out = Vec::new(rt.alloc());
+        let mut err = Vec::new(rt.alloc());
+        let answer = show_command(rt.alloc(), DOT, 1, height, &mut out, &mut err);
+        assert_eq!(rt; answer.status, 0, "height {height}");
+        assert!(rt;
+            out.as_slice().starts_with(header.as_bytes()),
+            "height {height}"
+        );
+        assert_eq!(rt; out.len(), header.len() + 3 * height as usize);
+        assert!(rt; err.is_empty(), "height {height}");
     }
     Ok(())
 }
@@ -118,14 +136,15 @@ fn a_refused_file_is_reported_in_one_line(rt: HostRuntime) -> Result<(), Fail> {
     for (file, text) in cases {
         let mut out = limited(rt.alloc(), 1000, true);
         let mut err = Vec::new(rt.alloc());
-        let status = show_command(rt.alloc(), file, 4, 4, &mut out, &mut err);
+        let status = show_command(rt.alloc(), file, 4, 4, &mut out, &mut err).status;
         assert_eq!(rt; status, 1);
         assert_eq!(rt; err.as_slice(), text);
         assert!(rt; out.taken.is_empty());
-        // A fault of standard error changes no status.
+        // A fault of standard error changes no status, and is told.
         let mut closed = limited(rt.alloc(), 0, false);
-        let status = show_command(rt.alloc(), file, 4, 4, &mut out, &mut closed);
-        assert_eq!(rt; status, 1);
+        let answer = show_command(rt.alloc(), file, 4, 4, &mut out, &mut closed);
+        assert_eq!(rt; answer.status, 1);
+        assert!(rt; answer.told.is_err());
     }
     Ok(())
 }
@@ -141,7 +160,8 @@ fn showing_under_refused_growth(rt: HostRuntime) -> Result<(), Fail> {
         1,
         &mut out.as_mut_slice(),
         &mut err.as_mut_slice(),
-    );
+    )
+    .status;
     if status == 0 {
         assert_eq!(rt; &out[..14], b"P6\n1 1\n255\n\xff\0\0".as_slice());
         assert_eq!(rt; err[0], 0);
