@@ -30,7 +30,7 @@ def sources(name):
     """What a program is made of."""
     folders = [ROOT / "crates" / crate for crate in NEEDED[name][0]]
     files = [path for folder in folders for part in ("src", "specs", "proofs") for path in (folder / part).rglob("*")]
-    return [ROOT / "bench" / "programs" / f"{name}.rt", *filter(lambda path: path.is_file(), files)]
+    return [ROOT / "bench" / "programs" / f"{name}.rattle", *filter(lambda path: path.is_file(), files)]
 
 
 def lines_of(name):
@@ -49,7 +49,7 @@ def copy(name):
             if (ROOT / "crates" / crate / part).is_dir():
                 shutil.copytree(ROOT / "crates" / crate / part, root / "crates" / crate / part)
     (root / "crates" / name / "src").mkdir(parents=True)
-    shutil.copy(ROOT / "bench" / "programs" / f"{name}.rt", root / "crates" / name / "src" / "main.rt")
+    shutil.copy(ROOT / "bench" / "programs" / f"{name}.rattle", root / "crates" / name / "src" / "main.rt")
     shutil.copy(ROOT / "HANDLES", root / "HANDLES")
     (root / "crates.txt").write_text("\n".join(lines_of(name)) + "\n")
 
