@@ -109,17 +109,18 @@ def pairs(edit):
 
 
 def named_functions(edit):
-    """The functions that an edit's text names itself, since what it changes stands in none."""
+    """The functions that an edit's text names itself, since what it changes stands in none, or in others too."""
     return re.findall(r"(?m)^function: (\S+)$", edit)
 
 
 def changed_functions(crate, edit, sources):
-    """The names of the functions that an edit's text changes, and whether it also changes what stands in none. The crate's
-    files are given by their paths."""
-    names, outside = [], False
-    for path, old, _ in pairs(edit):
+    """The names of the functions that an edit's text changes, one pair after another, and whether it also changes what stands
+    in none. The crate's files are given by their paths."""
+    names, outside, sources = [], False, dict(sources)
+    for path, old, new in pairs(edit):
         place = sources[path].find(old)
         inside = [it.name for it in functions(crate, sources, path) if it.start <= place < it.end]
         names += [name for name in inside[-1:] if name not in names]
         outside = outside or not inside
+        sources[path] = sources[path].replace(old, new)
     return names, outside

@@ -6,7 +6,7 @@ from edit_functions import pairs
 
 
 class Edit(NamedTuple):
-    """An edit: its name, its text, the functions that have to be refused, and whether it is tried alone, as it is where it
+    """An edit: its name, its text, the functions that have to be refused, and whether it is tried alone, as it is where it names them or
     changes what stands in no function."""
 
     name: str

@@ -4,18 +4,19 @@ import re
 
 LINE = re.compile(r"(?m)^fn (\S+): (.*)$")
 
-CALLS = "it calls "
+# How a reason ends that lies in another function: one that this calls, or whose block it passes on.
+OF_OTHERS = (", which is not proved", ", which are not proved")
 
 
 def is_refused(said):
-    """Whether a function isn't proved for a reason of its own, beside what it calls that isn't proved either."""
+    """Whether a function isn't proved for a reason of its own, beside what it calls or passes on that isn't proved either."""
     if said.startswith("no proof: "):
         reasons = said.removeprefix("no proof: ").split("; ")
     elif said.startswith("not proved"):
         reasons = said.split("; ")
     else:
         return False
-    return any(not reason.startswith(CALLS) for reason in reasons)
+    return any(not reason.endswith(OF_OTHERS) for reason in reasons)
 
 
 def refused(text):

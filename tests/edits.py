@@ -78,7 +78,8 @@ def read_edit(name, text, crate, sources):
     if why:
         return None, f"{crate.name}/{name}: BAD EDIT: {why}"
     names, outside = changed_functions(crate.name, text, sources)
-    return Edit(name, text, tuple(named_functions(text) if outside else names), outside), None
+    named = tuple(named_functions(text))
+    return Edit(name, text, named if outside or named else tuple(names), outside or bool(named)), None
 
 
 def sources_of(crate):

@@ -150,7 +150,7 @@ class Verdicts(unittest.TestCase):
     def test_a_call_alone_is_no_refusal(self):
         """A function that only calls others that aren't proved has no reason of its own."""
         self.assertFalse(is_refused("no proof: it calls `shapes::twice`, which is not proved"))
-        both = "no proof: it calls `shapes::twice`, which is not proved; it calls `shapes::half`, which is not proved"
+        both = "no proof: it calls `shapes::twice` and `shapes::half`, which are not proved; it passes the block `Half`, which is not proved"
         self.assertFalse(is_refused(both))
 
     def test_a_call_hides_no_open_goal(self):
