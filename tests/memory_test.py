@@ -6,9 +6,10 @@ import subprocess
 import tempfile
 import unittest
 
-from bitmap_records import PATCOPY, QUAD, SRCCOPY
 from built import DOT, DOT_IMAGE, Answer, answer, for_each_program
-from machine_records import EMF, FORMS, SIDE, WMF
+from metafile.bitmaps import QUAD
+from metafile.blits import PATCOPY, SRCCOPY
+from metafile.scripts import EMF, FORMS, SIDE, WMF
 
 MIB = 1 << 20
 
@@ -35,12 +36,12 @@ def answer_within(limit, program, words, given=b""):
 
 @functools.cache
 def bare(program):
-    """The fewest addresses, within a page, with which the program tells its help: it reads no file then."""
-    helped = answer(program, ["--help"])
+    """The fewest addresses, within a page, with which the program refuses an empty input: nothing is kept of it then."""
+    refused = answer(program, SHOW)
     least, enough = 0, 1 << 28
     while enough - least > 4096:
         limit = (least + enough) // 2
-        if answer_within(limit, program, ["--help"]) == helped:
+        if answer_within(limit, program, SHOW) == refused:
             enough = limit
         else:
             least = limit

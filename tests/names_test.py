@@ -6,8 +6,8 @@ import unittest
 
 from answers import shown
 from built import DOT, DOT_IMAGE, Answer, answer, for_each_program
-from record_fields import BLUE
-from record_files import WMF_END, placeable_file, wmf_pixel
+from metafile.fields import BLUE
+from metafile.files import WMF_END, placeable_file, wmf_pixel
 
 CANNOT_READ = Answer(3, b"", b"metaplay: cannot read\n")
 

@@ -11,9 +11,10 @@ import unittest
 
 from answers import refused, shown
 from built import answer, for_each_program
-from machine_records import EMF, FORMS, SIDE, WMF, pixels
-from record_fields import RED
-from record_files import WMF_END, placeable_file, wmf_pixel, wmf_record
+from metafile.fields import RED
+from metafile.files import WMF_END, placeable_file, wmf_pixel, wmf_record
+from metafile.scripts import EMF, FORMS, SIDE, WMF
+from script_answers import pixels
 
 SEED = os.environ.get("SIZES_SEED") or os.urandom(8).hex()
 
