@@ -87,6 +87,31 @@ def rectangles():
     return Counted(WMF.file(records, side, 0), side, side)
 
 
+def lists_in_a_path():
+    """A path of as many polygons, lists of lines and rectangles as it has room for, gathered and dropped."""
+    chance, side = random.Random(4), 256
+    records = [EMF.step("begin_path")]
+    for _ in range(16_000):
+        x, y = chance.randrange(side - 4), chance.randrange(side - 4)
+        records.append(EMF.step("polygon", x, y, x + 2, y, x, y + 2))
+        records.append(EMF.step("polyline_to", x, y, x + 3, y))
+        records.append(EMF.step("rectangle", x, y, x + 3, y + 3))
+    records += [EMF.step("end_path"), EMF.step("abort_path")]
+    return Counted(EMF.file(records, side, 16), side, side)
+
+
+def short_lists():
+    """Lists of two to five points on a high surface, in each record that has them: the rows of each are few."""
+    chance, width, height = random.Random(5), 64, 8192
+    records = EMF.records("solid_brush 1 0x206040; select 1")
+    for number in range(4_000):
+        x, y = chance.randrange(width - 4), chance.randrange(height - 4)
+        places = [x, y, x + 3, y, x + 3, y + 3, x, y + 3, x + 1, y + 1][: 4 + number % 4 * 2]
+        records.append(EMF.step("move", x, y))
+        records += [EMF.step(name, *places) for name in ("polyline", "polyline_to", "polygon")]
+    return Counted(EMF.file(records, (width, height), 16), width, height)
+
+
 FILES = {
     "10,000 small triangles, 64 by 8,192": triangles,
     "a zigzag of 20,000 points, 4,096 by 16": zigzag,
@@ -94,4 +119,6 @@ FILES = {
     "a large bitmap, and a mixed one, 1,024 by 1,024": bitmaps,
     "255 saved states, 1,020 objects": states,
     "300 rectangles and lines, 2,048 by 2,048": rectangles,
+    "a path of 16,000 polygons, lists and rectangles": lists_in_a_path,
+    "12,000 lists of two to five points, 64 by 8,192": short_lists,
 }

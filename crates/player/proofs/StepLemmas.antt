@@ -1,9 +1,9 @@
 -- A step that is refused on a machine with full room has the operation's fault.
-use Rattle.std.proofs.Common.{◌≡◌, ℕ, ◌↔◌, IsSome, Option, Some, Result, Ok, inl, inr, refl, ◌∙◌}
+use Rattle.std.proofs.Common.{◌≡◌, ℕ, ◌↔◌, IsSome, Option, Some, Result, Ok, Err, inl, inr, refl, ◌∙◌}
 use Rattle.mapping.specs.Surface.{Surface}
-use Rattle.draw_ops.specs.Content.{Content, StepValue, with_step}
+use Rattle.draw_ops.specs.Content.{Content, StepValue, broken_by, with_step}
 use Rattle.draw_ops.specs.Fault.{IsInRecord}
-use Rattle.draw_ops.specs.Gives.{Gives}
+use Rattle.draw_ops.specs.Gives.{Gives, Stays}
 use Rattle.draw_ops.specs.StepOf.{step_value_of}
 use Rattle.draw_ops.specs.declared.step.Step.{Step}
 use Rattle.draw_ops.specs.Operation.{Operation}
@@ -12,6 +12,7 @@ use Rattle.dc_stack.specs.FaultLaws.{FaultLaws}
 use Rattle.dc_stack.specs.MachineState.{FullRoomIsEnough, HasFullRoom, MachineState, RefusesStep}
 use Rattle.dc_stack.specs.OperationFault.{fault_of}
 use Rattle.dc_stack.specs.State.{State}
+use Rattle.player.specs.Advances.{StopsAfter}
 use Rattle.player.specs.Plays.{StopsBy}
 use Rattle.player.specs.Stop.{stop_at, stop_of, stopped}
 use Rattle.player.specs.declared.refusal.Refusal.{Refusal}
@@ -23,16 +24,33 @@ refused_by_fault enough operation m fault room refuses = elim refuses [
   | inr wants ↦ absurd (enough operation m fault room wants)
 ]
 
--- the content stops at the step
-stops_at : (whole left : Content) (step : StepValue) (before : ℕ) (start state : State) (s : Surface) (fault : Fault) → stop_of whole start s ≡ stopped left.steps left.fault before state s → (rest : Content) → left ≡ with_step step rest → fault_of step.operation state s ≡ Some fault → stop_of whole start s ≡ Some (stop_at step.number fault)
-stops_at whole left step before start state s fault same rest is h = same ∙ rw (is, h) refl
+-- what is left stops where it breaks
+pub stops_where_broken : (before : ℕ) (left new : Content) (state : State) (s : Surface) (result : Result (Option Step) Fault) (fault : Fault) (r : Refusal) → Gives left result new → result ≡ Err fault → r.number ≡ Some before → r.fault ≡ fault → StopsAfter before left state s r
+stops_where_broken before left new state s result fault r gives e number by =
+    let given : Stays (broken_by fault) left new = rw e at gives in
+    record {
+      stop = stop_at before fault;
+      stops = rw given.is refl;
+      number = number;
+      fault = by;
+    }
 
-pub stops_by : (whole left : Content) (step : StepValue) (before : ℕ) (start state : State) (s : Surface) (fault : Fault) (r : Refusal) → stop_of whole start s ≡ stopped left.steps left.fault before state s → (rest : Content) → left ≡ with_step step rest → fault_of step.operation state s ≡ Some fault → r.number ≡ Some step.number → r.fault ≡ fault → StopsBy whole start s r
-stops_by whole left step before start state s fault r same rest is h number by = record {
+-- or at its first step, if that has a fault
+pub stops_at_first : (before : ℕ) (left rest : Content) (step : StepValue) (state : State) (s : Surface) (fault : Fault) (r : Refusal) → left ≡ with_step step rest → fault_of step.operation state s ≡ Some fault → r.number ≡ Some step.number → r.fault ≡ fault → StopsAfter before left state s r
+stops_at_first before left rest step state s fault r is h number by = record {
   stop = stop_at step.number fault;
-  stops = stops_at whole left step before start state s fault same rest is h;
+  stops = rw (is, h) refl;
   number = number;
   fault = by;
+}
+
+-- where what is left stops, the whole does
+pub stops_by : (whole left : Content) (before : ℕ) (start state : State) (s : Surface) (r : Refusal) → stop_of whole start s ≡ stopped left.steps left.fault before state s → StopsAfter before left state s r → StopsBy whole start s r
+stops_by whole left before start state s r same after = record {
+  stop = after.stop;
+  stops = same ∙ after.stops;
+  number = after.number;
+  fault = after.fault;
 }
 
 -- and lies in its record

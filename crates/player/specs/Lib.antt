@@ -15,6 +15,7 @@ pub mod Apply
 pub mod Stop
 pub mod Run
 pub mod After
+pub mod Advances
 pub mod Plays
 pub mod PlacedLines
 pub mod LinesToCome

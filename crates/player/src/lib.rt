@@ -14,6 +14,7 @@
 //!   from (`run_law`).
 #![tactic(auto)]
 
+mod advance;
 mod blits;
 mod dots;
 mod drawing;

@@ -11,6 +11,7 @@ ghost use Rattle.player.specs.After.{HasLines, HasLinesForRecords};
 ghost use Rattle.player.specs.Plays.{IsWhole, Plays, PlaysOpened, PlaysRecords, SameRows, StopsBy, StopsOpenedBy, StopsRecordsBy, WantsMemory};
 ghost use Rattle.player.specs.Run.{Refused, Run, Writes, shown, white};
 
+use crate::advance::advance;
 use crate::drawing::draw;
 use crate::file_table::FileTable;
 use crate::ink_room::InkRoom;
@@ -18,7 +19,7 @@ use crate::refusal::Refusal;
 use crate::room::{reserve_all, rows_for};
 use crate::survey::count_lines;
 use canvas::Canvas;
-use dc_stack::{Machine, fault_law, room_law};
+use dc_stack::Machine;
 use draw_ops::{Fault, OpSource};
 use mapping::{Colour, Place};
 use meta_headers::{Opened, open_file};
@@ -161,21 +162,14 @@ fn play_steps<'a, S: OpSource<'a>, T: Table<'a>>(
     ensures goes_on { GoesOn machine.old machine.new }
     ensures lines { rows.new.room ≡ rows.old.room }
 {
-    room_law();
-    fault_law();
     let mut room = InkRoom::new();
     let mut before: u32 = 0;
     loop {
-        let step = match source.next_op() {
-            Ok(Some(step)) => step,
+        match advance(source, machine, before) {
+            Ok(Some(drawn)) => draw(drawn, machine, rows, &mut room, canvas),
             Ok(None) => return Ok(()),
-            Err(fault) => return Err(Refusal::at(before, fault)),
-        };
-        let drawn = match machine.step(step.op) {
-            Ok(drawn) => drawn,
-            Err(fault) => return Err(Refusal::at(step.number, fault)),
-        };
-        draw(drawn, machine, rows, &mut room, canvas);
+            Err(refusal) => return Err(refusal),
+        }
         before += 1;
     }
 }

@@ -10,8 +10,9 @@ ghost use Rattle.dc_stack.specs.State.{start_state};
 ghost use Rattle.player.specs.After.{AreEnoughForRecords};
 ghost use Rattle.player.specs.Plays.{RunsThrough, StopsBy, StopsRecordsBy};
 
+use crate::advance::advance;
 use crate::refusal::Refusal;
-use dc_stack::{Machine, fault_law, room_law};
+use dc_stack::Machine;
 use draw_ops::{OpSource, content_law};
 use meta_headers::Opened;
 use object_tables::Table;
@@ -54,18 +55,12 @@ fn survey<'a, S: OpSource<'a>, T: Table<'a>>(
     ensures record { IfErr result (λ r. IsSome r.number ↔ IsInRecord r.fault) }
     ensures goes_on { GoesOn machine.old machine.new }
 {
-    room_law();
-    fault_law();
     let mut before: u32 = 0;
     loop {
-        let step = match source.next_op() {
-            Ok(Some(step)) => step,
+        match advance(source, machine, before) {
+            Ok(Some(_)) => before += 1,
             Ok(None) => return Ok(()),
-            Err(fault) => return Err(Refusal::at(before, fault)),
-        };
-        if let Err(fault) = machine.step(step.op) {
-            return Err(Refusal::at(step.number, fault));
+            Err(refusal) => return Err(refusal),
         }
-        before += 1;
     }
 }

@@ -10,8 +10,8 @@ use Rattle.player.specs.Writes.{writes_after}
 use Rattle.player.proofs.play.play_steps.Given as goal
 
 -- what is left of the run ends as the whole run does
-abbrev pub invariant-loop-step : goal.invariant-loop-step
-invariant-loop-step g l =
+abbrev pub invariant-loop-drawn : goal.invariant-loop-drawn
+invariant-loop-drawn g l =
     let content = g.S.HasContent.content in
     let start = l.fn.machine.surface in
     record {
@@ -31,5 +31,5 @@ invariant-loop-step g l =
       writes : l.fn.canvas.writes + writes_after (content l.fn.source).steps l.fn.machine.state start ≡ l.canvas.writes + writes_after (content l.source).steps l.machine.state start;
     }
 
-abbrev pub decreases-loop-step : goal.decreases-loop-step
-decreases-loop-step g l = length (g.S.HasContent.content l.source).steps
+abbrev pub decreases-loop-drawn : goal.decreases-loop-drawn
+decreases-loop-drawn g l = length (g.S.HasContent.content l.source).steps

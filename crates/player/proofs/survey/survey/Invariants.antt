@@ -6,8 +6,8 @@ use Rattle.player.specs.Stop.{stopped}
 use Rattle.player.proofs.survey.survey.Given as goal
 
 -- what is left of the run ends as the whole run does
-abbrev pub invariant-loop-step : goal.invariant-loop-step
-invariant-loop-step g l =
+abbrev pub invariant-loop-before : goal.invariant-loop-before
+invariant-loop-before g l =
     let content = g.S.HasContent.content in
     let start = l.fn.machine.surface in
     record {
@@ -20,5 +20,5 @@ invariant-loop-step g l =
       needs : needs_after (content l.fn.source).steps l.fn.machine.state l.fn.machine.needs ≡ needs_after (content l.source).steps l.machine.state l.machine.needs;
     }
 
-abbrev pub decreases-loop-step : goal.decreases-loop-step
-decreases-loop-step g l = length (g.S.HasContent.content l.source).steps
+abbrev pub decreases-loop-before : goal.decreases-loop-before
+decreases-loop-before g l = length (g.S.HasContent.content l.source).steps

@@ -1,0 +1,28 @@
+-- A step that is refused is where what is left stops.
+use Rattle.std.proofs.Common.{Ok, ap, ◌∙◌}
+use Rattle.draw_ops.specs.OperationOf.{operation_of}
+use Rattle.draw_ops.specs.StepOf.{step_value_of}
+use Rattle.player.proofs.StepLemmas.{begins_with, lies_in_record, refused_by_fault, stops_at_first, stops_where_broken}
+use Rattle.player.proofs.advance.advance.Goals as goal
+
+pub returns-in-Err-clause-advances : goal.returns-in-Err-clause-advances
+returns-in-Err-clause-advances g c =
+    let content = g.S.HasContent.content in
+    let machine = c.args.machine.now in
+    stops_where_broken c.args.before (content c.args.source.now) (content c.next_op.new.self) machine.state machine.surface c.next_op.result c.in-Err.fault c.at.result c.next_op.ensures.gives c.in-Err.is c.at.ensures.number c.at.ensures.fault
+
+pub returns-in-Err-step-clause-advances : goal.returns-in-Err-step-clause-advances
+returns-in-Err-step-clause-advances g c =
+    let content = g.S.HasContent.content in
+    let machine = c.args.machine.now in
+    let step = c.in-Ok-Some.step in
+    let fault = refused_by_fault c.room_law.ensures (operation_of step.op) machine c.in-Err-step.fault c.requires.room c.in-Err-step.ensures.refused in
+    let given = begins_with (content c.args.source.now) (content c.next_op.new.self) c.next_op.result step c.next_op.ensures.gives (c.in-Ok-Some.is ∙ ap Ok c.in-Ok-Some.field-0-is) in
+    stops_at_first c.args.before (content c.args.source.now) (content c.next_op.new.self) (step_value_of step) machine.state machine.surface c.in-Err-step.fault c.at-in-Err-step.result given fault c.at-in-Err-step.ensures.number c.at-in-Err-step.ensures.fault
+
+pub returns-in-Err-step-clause-record : goal.returns-in-Err-step-clause-record
+returns-in-Err-step-clause-record g c =
+    let machine = c.args.machine.now in
+    let step = c.in-Ok-Some.step in
+    let fault = refused_by_fault c.room_law.ensures (operation_of step.op) machine c.in-Err-step.fault c.requires.room c.in-Err-step.ensures.refused in
+    lies_in_record c.fault_law.ensures (operation_of step.op) machine.state machine.surface c.in-Err-step.fault step.number c.at-in-Err-step.result fault c.at-in-Err-step.ensures.number c.at-in-Err-step.ensures.fault

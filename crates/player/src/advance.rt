@@ -1,0 +1,38 @@
+//! Playing one step of a source.
+
+ghost use Rattle.std.specs.Prelude.{◌≡◌, ◌↔◌, IfErr, IsSome};
+ghost use Rattle.draw_ops.specs.Fault.{IsInRecord};
+ghost use Rattle.dc_stack.specs.MachineState.{GoesOn, HasFullRoom};
+ghost use Rattle.player.specs.Advances.{Advances};
+
+use crate::refusal::Refusal;
+use dc_stack::{Draw, Machine, fault_law, room_law};
+use draw_ops::OpSource;
+use object_tables::Table;
+
+/// Plays the next step that is left of a source, and tells what it draws, if it draws; none where no step is left. The
+/// refusal is the first fault with its record, so many records being before what is left.
+///
+/// Looking through records and drawing them share it, so that reading and stepping are compiled once, into it.
+pub(crate) fn advance<'a, S: OpSource<'a>, T: Table<'a>>(
+    source: &mut S,
+    machine: &mut Machine<'a, T>,
+    before: u32,
+) -> Result<Option<Option<Draw<'a>>>, Refusal>
+    requires room { HasFullRoom machine.old }
+    ensures advances { Advances before (S.content source.old) machine.old result (S.content source.new) machine.new }
+    ensures record { IfErr result (λ r. IsSome r.number ↔ IsInRecord r.fault) }
+    ensures goes_on { GoesOn machine.old machine.new }
+{
+    room_law();
+    fault_law();
+    let step = match source.next_op() {
+        Ok(Some(step)) => step,
+        Ok(None) => return Ok(None),
+        Err(fault) => return Err(Refusal::at(before, fault)),
+    };
+    match machine.step(step.op) {
+        Ok(drawn) => Ok(Some(drawn)),
+        Err(fault) => Err(Refusal::at(step.number, fault)),
+    }
+}
