@@ -13,6 +13,7 @@ from edit_functions import functions
 GIVES_UP = re.compile(
     r'\b(?:OutOfMemory|CannotRead|WriteFault|InputFault|REFUSED|USAGE|INPUT_OR_OUTPUT|OUT_OF_MEMORY|ExitCode|AllocError)\b'
     r'|"cannot (?:read|write)"|\breport\(|\bcommand\.error\(|\.then_some\(|\breserve\(|\bmake_room\(|\bfrom_elem\('
+    r'|\bwith_capacity\(|\breserve_exact\('
     r"|\bresize\(|\bextend_from_slice\(|\bgrow\("
 )
 

@@ -8,18 +8,22 @@ with `--update` the list is written anew: reasons stay where the lines are as th
 
 import collections
 import pathlib
+import re
 import sys
 import unittest
 from typing import NamedTuple
 
 from built import CRATES
+from edit_functions import functions
 from refusal_places import Place, places
 
 LIST = pathlib.Path(__file__).with_name("refusals_made.txt")
 
 REASON = "because:"
 
-HEAD = "# Where the sources give up, what leads there, and why it is right. tests/sources_test.py compares.\n"
+HEAD = """# Where the sources give up, what leads there, and why it is right; and the whole bodies of what stands between the system and the
+# proved calls. tests/sources_test.py compares.
+"""
 
 
 class Listed(NamedTuple):
@@ -40,10 +44,50 @@ def sources_of(crate):
     return {str(path): (crate / path).read_text() for path in paths if is_source(path)}
 
 
+# Functions between the system and the proved calls: no clause can know which words, names and bytes the system gives, so each
+# is listed with its whole body.
+BETWEEN = [
+    "commands::input::read_input",
+    "commands::program::perform",
+    "commands::program::read_file",
+    "commands::program::run",
+    "commands::program::run_words",
+    "commands::program::show",
+    "commands::program::words",
+    "meta_main::main",
+]
+
+
+def body(text):
+    """The lines of a function's body, from the line on that opens it."""
+    lines = [line.strip() for line in text.splitlines()]
+    opened = next(at for at, line in enumerate(lines) if line.endswith("{"))
+    return tuple(line for line in lines[opened + 1 : -1] if line)
+
+
+def bodies(crate, sources):
+    """The whole bodies of those functions, each as a place."""
+    found = [(it, path) for path in sources for it in functions(crate, sources, path) if it.name in BETWEEN]
+    return [Place(it.name, body(sources[path][it.start : it.end])) for it, path in found]
+
+
 def all_places():
     """All places of all crates, those of tests left out."""
     crates = [crate for crate in sorted(CRATES.iterdir()) if (crate / "src").is_dir() and not crate.name.endswith("tests")]
-    return [place for crate in crates for place in places(crate.name, sources_of(crate))]
+    texts = [(crate.name, sources_of(crate)) for crate in crates]
+    return [place for name, sources in texts for place in [*places(name, sources), *bodies(name, sources)]]
+
+
+# Another name for what is told where the sources give up, under which a place would not be found.
+ALIAS = re.compile(
+    r"(?m)^ *(?:pub(?:\([^)]*\))? )?(?:use [^;]*\b(?:OutOfMemory|CannotRead|WriteFault|InputFault) as |"
+    r"(?:const|static|type) [^;]*\b(?:OutOfMemory|CannotRead|WriteFault|InputFault)\b)[^\n]*"
+)
+
+
+def aliases(text):
+    """The lines of a source file that give such a fault another name."""
+    return [it[0].strip() for it in ALIAS.finditer(text)]
 
 
 def listed(text):
@@ -101,6 +145,27 @@ class Sources(unittest.TestCase):
     def test_each_place_that_gives_up_is_listed_with_its_reason(self):
         found = complaint(all_places(), listed(LIST.read_text()))
         self.assertFalse(found, f"{LIST.name} isn't what the sources have.\n\n{found}")
+
+    def test_each_function_between_is_there(self):
+        names = [it.function for it in all_places()]
+        self.assertEqual([name for name in BETWEEN if name not in names], [])
+
+    def test_a_body_is_all_lines_of_a_function(self):
+        text = "fn turned(words: &[u8]) -> u8\n    ensures { result ≡ 1 }\n{\n    let one = 1;\n\n    if one > 1 {\n        2\n    }\n}"
+        self.assertEqual(body(text), ("let one = 1;", "if one > 1 {", "2", "}"))
+        self.assertEqual(body("fn one() -> u8 {\n    1\n}"), ("1",))
+
+    def test_no_fault_has_another_name(self):
+        crates = [crate for crate in CRATES.iterdir() if (crate / "src").is_dir()]
+        found = [line for crate in crates for text in sources_of(crate).values() for line in aliases(text)]
+        self.assertEqual(found, [])
+
+    def test_another_name_is_found(self):
+        self.assertEqual(len(aliases("use crate::room::OutOfMemory as Full;\n")), 1)
+        self.assertEqual(len(aliases("use crate::{fault::InputFault as F, b};\n")), 1)
+        self.assertEqual(len(aliases("    pub(crate) const FULL: Fault = Fault::OutOfMemory;\n")), 1)
+        self.assertEqual(len(aliases("type Told = Result<(), WriteFault>;\n")), 1)
+        self.assertEqual(aliases("use span_fill::{OutOfMemory, RowBuf};\nErr(OutOfMemory)\n"), [])
 
     def test_the_list_is_no_trifle(self):
         # The sources have many a place: a reader of sources that finds none would find fault with nothing.
