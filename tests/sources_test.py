@@ -1,12 +1,11 @@
-"""The sources give up only where the list of such places says so, each with its reason, under the conditions that stand there.
+"""The sources give up only where the list of such functions says so, each line with its reason, and these are the list's, line by line.
 
 No clause refuses a program that wants memory, or can't read or write, at one size alone: what leads to such an answer is read
 here.
-`python3 -B tests/sources_test.py --missing` prints the places that the list lacks, and those that it has and the sources haven't;
-with `--update` the list is written anew: reasons stay where the lines are as they were, and each other reason is to be written.
+`python3 -B tests/sources_test.py --missing` prints what the list and the sources don't have in common; with `--update` the list is
+written anew: reasons stay where the lines are as they were, and each other reason is to be written.
 """
 
-import collections
 import pathlib
 import re
 import sys
@@ -14,23 +13,35 @@ import unittest
 from typing import NamedTuple
 
 from built import CRATES
-from edit_functions import functions
-from refusal_places import Place, places
+from refusal_places import bodies
 
 LIST = pathlib.Path(__file__).with_name("refusals_made.txt")
 
-REASON = "because:"
+REASON = "because: "
 
-HEAD = """# Where the sources give up, what leads there, and why it is right; and the whole bodies of what stands between the system and the
-# proved calls. tests/sources_test.py compares.
+HEAD = """# Where the sources give up, and why it is right: each function in which they do, with its whole body, and what stands between the
+# system and the proved calls. A reason is of the line above it. tests/sources_test.py compares.
 """
 
+# Functions between the system and the proved calls: no clause can know which words, names and bytes the system gives, so each
+# is listed, whether it gives up or not.
+BETWEEN = [
+    "commands::input::read_input",
+    "commands::program::perform",
+    "commands::program::read_file",
+    "commands::program::run",
+    "commands::program::run_words",
+    "commands::program::show",
+    "commands::program::words",
+    "meta_main::main",
+]
 
-class Listed(NamedTuple):
-    """A place as it is listed, with its reason."""
 
-    place: Place
-    reason: str
+class Told(NamedTuple):
+    """A line as it is listed, with its reasons."""
+
+    text: str
+    reasons: tuple
 
 
 def is_source(path):
@@ -44,38 +55,11 @@ def sources_of(crate):
     return {str(path): (crate / path).read_text() for path in paths if is_source(path)}
 
 
-# Functions between the system and the proved calls: no clause can know which words, names and bytes the system gives, so each
-# is listed with its whole body.
-BETWEEN = [
-    "commands::input::read_input",
-    "commands::program::perform",
-    "commands::program::read_file",
-    "commands::program::run",
-    "commands::program::run_words",
-    "commands::program::show",
-    "commands::program::words",
-    "meta_main::main",
-]
-
-
-def body(text):
-    """The lines of a function's body, from the line on that opens it."""
-    lines = [line.strip() for line in text.splitlines()]
-    opened = next(at for at, line in enumerate(lines) if line.endswith("{"))
-    return tuple(line for line in lines[opened + 1 : -1] if line)
-
-
-def bodies(crate, sources):
-    """The whole bodies of those functions, each as a place."""
-    found = [(it, path) for path in sources for it in functions(crate, sources, path) if it.name in BETWEEN]
-    return [Place(it.name, body(sources[path][it.start : it.end])) for it, path in found]
-
-
-def all_places():
-    """All places of all crates, those of tests left out."""
+def all_bodies():
+    """The bodies to be listed of all crates, those of tests left out."""
     crates = [crate for crate in sorted(CRATES.iterdir()) if (crate / "src").is_dir() and not crate.name.endswith("tests")]
-    texts = [(crate.name, sources_of(crate)) for crate in crates]
-    return [place for name, sources in texts for place in [*places(name, sources), *bodies(name, sources)]]
+    found = [it for crate in crates for it in bodies(crate.name, sources_of(crate))]
+    return [it for it in found if it.gives_up() or it.function in BETWEEN]
 
 
 # Another name for what is told where the sources give up, under which a place would not be found.
@@ -91,69 +75,79 @@ def aliases(text):
 
 
 def listed(text):
-    """The places of a list, in blocks apart by empty lines."""
-    found = []
+    """The functions of a list, in blocks apart by empty lines: the lines of each by its name."""
+    found = {}
     for block in text.split("\n\n"):
         lines = [line for line in block.splitlines() if line and not line.startswith("#")]
         if lines:
-            name, *steps, reason = lines if lines[-1].startswith(REASON) else [*lines, ""]
-            place = Place(name, tuple(line.strip() for line in steps))
-            found.append(Listed(place, reason.removeprefix(REASON).strip()))
+            found[lines[0]] = told_lines(line.removeprefix("    ") for line in lines[1:])
     return found
 
 
-def block(place, reason=""):
-    """A place as the list has it."""
-    return "\n".join([place.function, *[f"    {line}" for line in place.lines], f"{REASON} {reason}".rstrip()]) + "\n"
+def told_lines(lines):
+    """The lines of a body, each with the reasons that follow it."""
+    told = []
+    for line in lines:
+        _, sign, reason = line.partition(REASON)
+        if sign:
+            told[-1] = Told(told[-1].text, (*told[-1].reasons, reason))
+        else:
+            told.append(Told(line, ()))
+    return tuple(told)
 
 
-def compared(made, told):
-    """The places that the list lacks, and those that it has and the sources haven't."""
-    there = collections.Counter(made)
-    known = collections.Counter(it.place for it in told)
-    return list((there - known).elements()), list((known - there).elements())
+def unreasoned(body, told):
+    """The lines of a body that want a reason and have none, and a line for a body that has none at all."""
+    bare = [line.text.strip() for line, known in zip(body.lines, told) if line.wants_reason() and not known.reasons]
+    return bare if bare or any(it.reasons for it in told) or not body.gives_up() else ["no line has a reason"]
 
 
 def complaint(made, told):
-    """What is to be said where the list isn't that of the sources: blocks to paste, to take out, and to give a reason."""
-    missing, lost = compared(made, told)
-    bare = [it.place for it in told if not it.reason]
-    parts = [
-        ("new or changed, to be listed with a reason", missing),
-        ("no longer in the sources", lost),
-        ("without a reason", bare),
-    ]
-    return "\n".join(f"# {head}:\n\n" + "\n".join(map(block, found)) for head, found in parts if found)
+    """What is to be said where the list isn't that of the sources."""
+    said = [f"{name} is listed, and nothing in it gives up, or it isn't there" for name in told.keys() - {it.function for it in made}]
+    for body in made:
+        known = told.get(body.function)
+        if known is None:
+            said.append(f"{body.function} gives up, and isn't listed")
+        elif [line.text for line in body.lines] != [line.text for line in known]:
+            said.append(f"{body.function} isn't what is listed")
+        else:
+            said += [f"{body.function} has no reason for: {line}" for line in unreasoned(body, known)]
+    return "\n".join(said)
 
 
-def moved(place):
-    """What of a place stays where its function's file gets another name."""
-    return place.function.rpartition("::")[2], place.lines
+def block(body, reasons):
+    """A function as the list has it, with the reasons of its lines by their texts, in order."""
+    lines = [body.function]
+    for line in body.lines:
+        indent = " " * (4 + len(line.text) - len(line.text.lstrip()))
+        known = reasons.get(line.text, [])
+        why = known.pop(0) if known else ("",) * line.wants_reason()
+        lines += [f"    {line.text}", *[f"{indent}{REASON}{reason}".rstrip() for reason in why]]
+    return "\n".join(lines) + "\n"
 
 
 def renewed(made, told):
-    """The list of these places, with the reasons of those that were listed with the same lines."""
-    exact = {it.place: it.reason for it in told}
-    elsewhere = {moved(it.place): it.reason for it in told}
-    reasons = [exact.get(place) or elsewhere.get(moved(place), "") for place in made]
-    return HEAD + "\n" + "\n".join(block(place, reason) for place, reason in zip(made, reasons))
+    """The list of these functions, with the reasons of the lines that were listed with the same text."""
+    blocks = []
+    for body in made:
+        reasons = {}
+        for line in told.get(body.function, ()):
+            reasons.setdefault(line.text, []).append(line.reasons)
+        blocks.append(block(body, reasons))
+    return HEAD + "\n" + "\n".join(blocks)
 
 
 class Sources(unittest.TestCase):
     """The sources of this repository."""
 
-    def test_each_place_that_gives_up_is_listed_with_its_reason(self):
-        found = complaint(all_places(), listed(LIST.read_text()))
+    def test_each_function_that_gives_up_is_listed_with_its_reasons(self):
+        found = complaint(all_bodies(), listed(LIST.read_text()))
         self.assertFalse(found, f"{LIST.name} isn't what the sources have.\n\n{found}")
 
     def test_each_function_between_is_there(self):
-        names = [it.function for it in all_places()]
+        names = [it.function for it in all_bodies()]
         self.assertEqual([name for name in BETWEEN if name not in names], [])
-
-    def test_a_body_is_all_lines_of_a_function(self):
-        text = "fn turned(words: &[u8]) -> u8\n    ensures { result ≡ 1 }\n{\n    let one = 1;\n\n    if one > 1 {\n        2\n    }\n}"
-        self.assertEqual(body(text), ("let one = 1;", "if one > 1 {", "2", "}"))
-        self.assertEqual(body("fn one() -> u8 {\n    1\n}"), ("1",))
 
     def test_no_fault_has_another_name(self):
         crates = [crate for crate in CRATES.iterdir() if (crate / "src").is_dir()]
@@ -169,7 +163,7 @@ class Sources(unittest.TestCase):
 
     def test_the_list_is_no_trifle(self):
         # The sources have many a place: a reader of sources that finds none would find fault with nothing.
-        self.assertGreater(len(all_places()), 50)
+        self.assertGreater(sum(line.wants_reason() for it in all_bodies() for line in it.lines), 50)
 
 
 # A source file, in which every sort of place stands.
@@ -207,21 +201,46 @@ impl Answer {
             DONE
         }
     }
+
+    /// How many.
+    fn count(&self) -> usize {
+        self.count
+    }
 }
 '''
 
-# The places that stand there.
-PLACES = [
-    Place("crate::file::room", ("grow(&mut self.lines, count)?;",)),
-    Place("crate::file::room", ("match self.lines.reserve(count)", "Err(_) => Err(OutOfMemory)")),
-    Place("crate::file::Answer::status", ("let Ok(text) = self.text() else", 'report(err, "cannot read");')),
-    Place("crate::file::Answer::status", ("let Ok(text) = self.text() else", "return 3;")),
-    Place("crate::file::Answer::status", ("if text.is_empty()", "REFUSED")),
-]
+# Its functions, as they are listed.
+LISTED = """crate::file::room
+    if count <= self.room {
+        return Ok(());
+    }
+    grow(&mut self.lines, count)?;
+    because: the lines want room.
+    match self.lines.reserve(count) {
+        Ok(()) => Ok(()),
+        Err(_) => Err(OutOfMemory),
+        because: the allocator refused.
+    }
 
-# Changes that give up at one size, and some that drop a report.
+crate::file::Answer::status
+    let Ok(text) = self.text() else {
+        report(err, "cannot read");
+        because: it is told.
+        return 3;
+        because: no text.
+    };
+    if text.is_empty() {
+        REFUSED
+        because: the text is empty.
+    } else {
+        DONE
+    }
+"""
+
+# Changes that give up at one size, some of them under a turned name, and some that drop a report.
 CHANGES = [
     ("    if count <= self.room {\n", "    if count == 4099 {\n        return Err(OutOfMemory);\n    }\n    if count <= self.room {\n"),
+    ("    if count <= self.room {\n", "    let count = if count == 4099 { 1 << 58 } else { count };\n    if count <= self.room {\n"),
     ("self.lines.reserve(count)", "self.lines.reserve(count + 1_048_576)"),
     ("grow(&mut self.lines, count)", "grow(&mut self.lines, 2 * count)"),
     ("        Ok(()) => Ok(()),\n", "        Ok(()) if count == 7 => Err(OutOfMemory),\n        Ok(()) => Ok(()),\n"),
@@ -231,61 +250,57 @@ CHANGES = [
     ('            report(err, "cannot read");\n', ""),
     ("            DONE\n", "            if odd { REFUSED } else { DONE }\n"),
     ("            DONE\n", "            if odd {\n                4\n            } else {\n                DONE\n            }\n"),
+    ("        self.count\n", "        if self.count == 7 {\n            self.lines.reserve(1 << 40);\n        }\n        self.count\n"),
 ]
 
 # Changes of what gives nothing up.
 OTHERS = [
     ("as the comment says", "where the writer fails by a WriteFault"),
     ("fault ≡ OutOfMemory)", "fault ≡ OutOfMemory) ⊎ WriteFault"),
-    ("        return Ok(());\n", "        self.times += 1;\n        return Ok(());\n"),
+    ("        self.count\n", "        self.times += 1;\n        self.count\n"),
 ]
 
 
 def read(text):
-    """The places of a source file."""
-    return places("crate", {"src/file.rt": text})
+    """The bodies of a source file that give up."""
+    return [it for it in bodies("crate", {"src/file.rt": text}) if it.gives_up()]
 
 
 class Reading(unittest.TestCase):
-    """Places that are read of a source file, and compared with a list."""
+    """Bodies that are read of a source file, and compared with a list."""
 
-    def test_each_sort_of_place_is_read_with_what_leads_there(self):
-        self.assertEqual(read(SOURCE), PLACES)
+    def test_each_function_that_gives_up_is_read_whole(self):
+        self.assertEqual(complaint(read(SOURCE), listed(LISTED)), "")
 
     def test_each_change_of_giving_up_is_told(self):
-        told = [Listed(place, "it is so") for place in PLACES]
         for old, new in CHANGES:
             with self.subTest(new=new):
                 self.assertEqual(SOURCE.count(old), 1)
-                self.assertTrue(complaint(read(SOURCE.replace(old, new)), told))
+                self.assertTrue(complaint(read(SOURCE.replace(old, new)), listed(LISTED)))
 
     def test_nothing_else_is_told(self):
-        told = [Listed(place, "it is so") for place in PLACES]
         for old, new in OTHERS:
             with self.subTest(new=new):
                 self.assertEqual(SOURCE.count(old), 1)
-                self.assertEqual(complaint(read(SOURCE.replace(old, new)), told), "")
+                self.assertEqual(complaint(read(SOURCE.replace(old, new)), listed(LISTED)), "")
 
-    def test_a_place_wants_a_reason_and_has_it_once(self):
-        told = [Listed(place, "it is so") for place in PLACES]
-        self.assertEqual(complaint(PLACES, told), "")
-        self.assertIn("without a reason", complaint(PLACES, [*told[:-1], Listed(PLACES[-1], "")]))
-        self.assertIn("no longer in the sources", complaint(PLACES, [*told, told[-1]]))
-        self.assertIn("new or changed", complaint([*PLACES, PLACES[0]], told))
+    def test_each_line_that_gives_up_wants_a_reason(self):
+        for reason in [line for line in LISTED.splitlines() if REASON in line]:
+            with self.subTest(reason=reason):
+                self.assertIn("has no reason", complaint(read(SOURCE), listed(LISTED.replace(reason + "\n", ""))))
+        self.assertIn("isn't there", complaint(read(SOURCE), listed(LISTED + "\ncrate::file::other\n    DONE\n")))
+        self.assertIn("isn't listed", complaint(read(SOURCE), listed(LISTED.partition("\n\n")[2])))
 
     def test_a_list_is_read_as_it_is_written(self):
-        told = [Listed(place, f"reason {nth}") for nth, place in enumerate(PLACES)]
-        self.assertEqual(listed(renewed(PLACES, told)), told)
-        elsewhere = [place._replace(function=place.function.replace("crate::file", "other")) for place in PLACES]
-        self.assertEqual([it.reason for it in listed(renewed(elsewhere, told))], [it.reason for it in told])
-        changed = [*PLACES[1:], PLACES[0]._replace(lines=("if count == 7",))]
-        self.assertEqual(listed(renewed(changed, told))[-1].reason, "")
+        self.assertEqual(renewed(read(SOURCE), listed(LISTED)), HEAD + "\n" + LISTED)
+        bare = renewed(read(SOURCE), listed(LISTED.replace("because: it is told.", "because:")))
+        self.assertIn('report(err, "cannot read")', complaint(read(SOURCE), listed(bare)))
 
 
 if __name__ == "__main__":
     if sys.argv[1:] == ["--missing"]:
-        print(complaint(all_places(), listed(LIST.read_text())))
+        print(complaint(all_bodies(), listed(LIST.read_text())))
     elif sys.argv[1:] == ["--update"]:
-        LIST.write_text(renewed(all_places(), listed(LIST.read_text())))
+        LIST.write_text(renewed(all_bodies(), listed(LIST.read_text())))
     else:
         unittest.main()

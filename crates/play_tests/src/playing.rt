@@ -52,26 +52,6 @@ fn a_dot_moves_with_the_surface(rt: HostRuntime) -> Result<(), Fail> {
 }
 
 #[test]
-fn a_dot_lands_on_each_width_up_to_8192(rt: HostRuntime) -> Result<(), Fail> {
-    // Column 2 of 4 begins at half of the width.
-    for (width, column) in [(1, 0), (8191, 4095), (8192, 4096)] {
-        let wide = play_file(rt.alloc(), &DOT, width, 1)?;
-        assert_eq!(rt; colour(&wide, column, 0), Some(RED), "{width}");
-    }
-    Ok(())
-}
-
-#[test]
-fn a_dot_lands_on_each_height_up_to_8192(rt: HostRuntime) -> Result<(), Fail> {
-    // Row 1 of 4 begins at a quarter of the height.
-    for (height, row) in [(1, 0), (8191, 2047), (8192, 2048)] {
-        let high = play_file(rt.alloc(), &DOT, 1, height)?;
-        assert_eq!(rt; colour(&high, 0, row), Some(RED), "{height}");
-    }
-    Ok(())
-}
-
-#[test]
 fn each_front_of_a_file_has_its_fault(rt: HostRuntime) -> Result<(), Fail> {
     for (from, to, number, fault) in [
         (0, 4, None, Fault::NotMetafile),
