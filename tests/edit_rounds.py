@@ -32,6 +32,20 @@ def placed_in(texts, edit):
     return texts
 
 
+def parts_of(edits, most):
+    """The edits in parts of about as many functions each, at most so many, those of one function together; last those that are tried alone."""
+    number = -(-len({name for edit in edits for name in edit.functions}) // most) or 1
+    size = -(-len({name for edit in edits for name in edit.functions}) // number)
+    parts, names = [[]], set()
+    for edit in sorted(edits, key=lambda it: (it.is_alone, it.functions, it.name)):
+        if parts[-1] and len(names | set(edit.functions)) > size:
+            parts.append([])
+            names = set()
+        parts[-1].append(edit)
+        names |= set(edit.functions)
+    return parts
+
+
 def with_edit(this, edit):
     """A round with one more edit, or none where one of its edits changes the same function or takes the edit's place."""
     if any(set(edit.functions) & set(other.functions) for other in this.edits):

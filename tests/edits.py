@@ -3,6 +3,7 @@
 
     edits.py [CRATE..]      tries the edits of all crates, or of these, and the judge itself
     edits.py --each CRATE   has the toolchain's own judge try a crate's edits, one by one
+    edits.py --alone FILE.. tries the edits of these files, .../CRATE/NAME.edit, each alone, by the function that it changes
 
 An edit is a file edits/CRATE/NAME.edit in the toolchain's form: a line 'file: src/lib.rt' and then pairs of lines 'old: TEXT'
 and 'new: TEXT', each TEXT standing once in that file. Since a body is proved from the contracts of what it calls, and never from
@@ -11,7 +12,7 @@ have a goal of its own that isn't proved. That it calls another function that is
 the functions that have one more edit get that, and the others stay as they are, so that nothing right is proved again. An edit
 of what stands in no function, as a constant, is tried alone, and names a function that has to be refused ('function: NAME').
 
-It runs behind `rt ci`, which proves the crates as they are, over the libraries that it leaves.
+It runs over the libraries that `rt ci` makes, which proves the crates as they are: behind it, or beside it (gate.py).
 """
 
 import argparse
@@ -30,7 +31,7 @@ from typing import NamedTuple
 
 import edit_verdicts
 from edit_functions import changed_functions, named_functions, pairs
-from edit_rounds import Edit, beside, placed_in, rounds_of
+from edit_rounds import Edit, beside, parts_of, placed_in, rounds_of
 
 ROOT = pathlib.Path(__file__).resolve().parent.parent
 
@@ -39,11 +40,9 @@ EDITS = ROOT / "edits"
 # How many edits there are, so that none is lost.
 COUNT = 539
 
-# How many functions one check judges at most: it may take 5 GB for as many.
-MOST_AT_A_TIME = 30
-
-# The memory that a check may take, in bytes.
-MEMORY = 5_000_000_000
+# How many functions are edited in one part of a crate at most, and how much memory a check of so many may take, in bytes.
+MOST_FUNCTIONS = 20
+MEMORY = 3_000_000_000
 
 # An edit that changes nothing and one that is right: the judge has to say that neither was refused.
 RIGHT_CRATE = "mapping"
@@ -178,8 +177,7 @@ class Trying:
         whole = None
         for this in rounds_of([edit for edit in edits if not edit.is_alone], self.sources):
             whole = beside(this, whole.edits if whole else [])
-            for start in range(0, len(this.edits), MOST_AT_A_TIME):
-                yield from self.together(this.edits[start : start + MOST_AT_A_TIME], whole)
+            yield from self.together(this.edits, whole)
         for edit in edits:
             if edit.is_alone:
                 yield self.alone(edit)
@@ -223,45 +221,70 @@ def build_libraries(crate):
     return not any(it.build_rlib(["--jobs", "2"], anew=False) for it in crate.below())
 
 
-def try_crate(crate):
-    """Tries the edits of a crate, says what came of each, and answers how many there are and what went wrong."""
-    start = time.monotonic()
+class Part(NamedTuple):
+    """Edits of a crate that are judged over what their own checks keep: its name, the crate, the texts of its files, and the edits."""
+
+    name: str
+    crate: object
+    sources: dict
+    edits: list
+
+    def work(self):
+        """About how much work it is: the number of edits by the lines that a check reads."""
+        return len(self.edits) * sum(it.count(rb"\n") for it in [self.crate, *self.crate.below()])
+
+
+def parts_of_crate(crate):
+    """The parts of a crate, and what is wrong with edits that can't be read."""
     sources = sources_of(crate)
     edits, wrong = edits_of(crate, sources)
-    trials, cost = judge(crate, edits, sources)
-    trials += [judge_itself(crate, sources)] if crate.name == RIGHT_CRATE else []
-    wrong += [trial.said for trial in trials if not trial.is_refused]
+    parts = parts_of(edits, MOST_FUNCTIONS)
+    return [Part(f"{crate.name} {at} of {len(parts)}", crate, sources, part) for at, part in enumerate(parts, 1)], wrong
+
+
+def parts_of_crates(names):
+    """The parts of these crates, or of all, those with most work first, and what is wrong with the edits or their number."""
+    folders = sorted(it.name for it in EDITS.iterdir())
+    crates = [it for it in rt.rtlib.crates_below(str(ROOT)) if it.name in (names or folders)]
+    found = [parts_of_crate(it) for it in crates]
+    parts, wrong = [part for parts, _ in found for part in parts], [why for _, its in found for why in its]
+    count = sum(len(part.edits) for part in parts)
+    if not names and (count != COUNT or {it.name for it in crates} != set(folders)):
+        wrong.append(f"there are {count} edits of crates, and not {COUNT}")
+    return sorted(parts, key=lambda part: -part.work()), wrong
+
+
+def try_part(part):
+    """Tries the edits of a part, says what came of each, and answers what went wrong."""
+    start = time.monotonic()
+    trials, cost = judge(part.crate, part.edits, part.sources)
+    if part.name.startswith(f"{RIGHT_CRATE} 1 "):
+        trials.append(judge_itself(part.crate, part.sources))
     said = [trial.said for trial in trials if trial.is_refused]
-    print("\n".join([*said, f"{crate.name}: {len(edits)} edits in {time.monotonic() - start:.0f} s, {cost}"]), flush=True)
-    return len(edits), wrong
+    print("\n".join([*said, f"{part.name}: {len(part.edits)} edits in {time.monotonic() - start:.0f} s, {cost}"]), flush=True)
+    return [trial.said for trial in trials if not trial.is_refused]
 
 
-def lanes():
-    """How many crates to try side by side: as processors and memory allow."""
-    return max(1, min(rt.processors(), int(rt.free() / MEMORY)))
+def ended(parts, wrong):
+    """Says what went wrong with these parts, and answers the status."""
+    print("\n".join([*wrong, f"{sum(len(part.edits) for part in parts)} edits tried, {len(wrong)} things wrong"]), flush=True)
+    return 1 if wrong else 0
 
 
-def work(crate):
-    """About how much work a crate's edits are, so that the most is begun first: their number by the lines that a check reads."""
-    return len(list((EDITS / crate.name).glob("*.edit"))) * sum(it.count(rb"\n") for it in [crate, *crate.below()])
+def lanes(taken=0):
+    """How many parts to try side by side: as processors and memory allow, so much of which something else may take."""
+    return max(1, min(rt.processors(), int((rt.free() - taken) / MEMORY)))
 
 
 def try_all(names):
     """Tries the edits of these crates, or of all, and answers the status."""
-    folders = sorted(it.name for it in EDITS.iterdir())
-    crates = [it for it in rt.rtlib.crates_below(str(ROOT)) if it.name in (names or folders)]
+    parts, wrong = parts_of_crates(names)
     rt.rtlib.guarded()
-    if not all(build_libraries(it) for it in crates):
+    if not all(build_libraries(it) for it in {part.crate.name: part.crate for part in parts}.values()):
         return 1
-    crates.sort(key=lambda it: -work(it))
     with ThreadPoolExecutor(lanes()) as pool:
-        results = list(pool.map(try_crate, crates))
-    count, wrong = sum(it for it, _ in results), [said for _, its in results for said in its]
-    if not names and (count != COUNT or {it.name for it in crates} != set(folders)):
-        wrong.append(f"there are {count} edits of crates, and not {COUNT}")
-    print("\n".join(wrong), flush=True)
-    print(f"{count} edits tried, {len(wrong)} things wrong", flush=True)
-    return 1 if wrong else 0
+        tried = list(pool.map(try_part, parts))
+    return ended(parts, [*wrong, *(said for its in tried for said in its)])
 
 
 def try_each(name):
@@ -275,16 +298,36 @@ def try_each(name):
     return 0 if all(is_refused for is_refused, _ in trials) else 1
 
 
+def try_alone(files):
+    """Tries the edits of these files, each by itself, and answers the status."""
+    crates = {it.name: it for it in rt.rtlib.crates_below(str(ROOT))}
+    rt.rtlib.guarded()
+    are_refused = []
+    for file in files:
+        crate = crates[file.parent.name]
+        edit, why = read_edit(file.stem, file.read_text(encoding="utf-8"), crate, sources_of(crate))
+        with tempfile.TemporaryDirectory(prefix="edits-") as kept:
+            is_tried = edit and build_libraries(crate)
+            trial = Trying(crate, sources_of(crate), kept).alone(edit) if is_tried else Trial(False, why or "the libraries can't be built")
+        are_refused.append(trial.is_refused)
+        print(trial.said, flush=True)
+    return 0 if all(are_refused) else 1
+
+
 def main():
     """Answers the status."""
     words = argparse.ArgumentParser(description=__doc__, formatter_class=argparse.RawDescriptionHelpFormatter)
     words.add_argument("crates", nargs="*", metavar="CRATE")
     words.add_argument("--each", metavar="CRATE")
+    words.add_argument("--alone", metavar="FILE", nargs="+", type=pathlib.Path, default=[])
     asked = words.parse_args()
+    alone = [it.resolve() for it in asked.alone]
     for name in [*asked.crates, *([asked.each] if asked.each else [])]:
         if not (EDITS / name).is_dir():
             words.error(f"there are no edits of {name}")
     os.chdir(ROOT)
+    if alone:
+        return try_alone(alone)
     return try_each(asked.each) if asked.each else try_all(asked.crates)
 
 

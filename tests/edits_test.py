@@ -4,7 +4,7 @@ import pathlib
 import unittest
 
 from edit_functions import changed_functions, functions, named_functions, pairs
-from edit_rounds import Edit, beside, placed_in, rounds_of
+from edit_rounds import Edit, beside, parts_of, placed_in, rounds_of
 from edit_verdicts import is_refused, refused
 
 ROOT = pathlib.Path(__file__).resolve().parent.parent
@@ -206,6 +206,16 @@ class Rounds(unittest.TestCase):
         self.assertEqual(self.named(rounds_of(taken, self.texts)), [["three"], ["three two"]])
         doubled = self.edits(("one", "four", "f"), ("four", "4", "g"))
         self.assertEqual(self.named(rounds_of(doubled, self.texts)), [["one"], ["four"]])
+
+    def test_parts_have_about_as_many_functions_each(self):
+        """Edits of one function stand in one part, those that are tried alone in the last, and each in exactly one."""
+        rows = [("b1", "b"), ("a1", "a"), ("a2", "a"), ("c1", "c"), ("d1", "d"), ("e1", "e")]
+        edits = [edit(name, "src/lib.rt", "one", "1", (function,)) for name, function in rows]
+        alone = edit("alone", "src/lib.rt", "one", "1", ())._replace(is_alone=True)
+        names = [[it.name for it in part] for part in parts_of([alone, *edits], 3)]
+        self.assertEqual(names, [["a1", "a2", "b1", "c1"], ["d1", "e1", "alone"]])
+        self.assertEqual([[it.name for it in part] for part in parts_of(edits, 5)], [["a1", "a2", "b1", "c1", "d1", "e1"]])
+        self.assertEqual([[it.name for it in part] for part in parts_of([alone], 5)], [["alone"]])
 
     def test_a_round_keeps_what_stood_before_it(self):
         """The functions that a round doesn't change stay as the round before left them."""

@@ -2,6 +2,7 @@
 //!
 //! Tests named `.._under_refused_growth` are run once more for each growth refused in turn, by
 //! tests/refused_growth_test.py.
+#![tactic(auto)]
 
 mod command_lines;
 mod inputs;

@@ -16,7 +16,7 @@ use Rattle.dc_stack.specs.declared.needs.Needs.{Needs}
 use Rattle.meta_headers.specs.Opening.{HasContentOf, framing_of, meaning_of}
 use Rattle.meta_headers.specs.declared.opened.FileFormat.{FileFormat}
 use Rattle.mapping.specs.Surface.{Surface}
-use Rattle.player.specs.After.{AreEnoughForRecords, AreEnoughLines, HasLines, needs_after}
+use Rattle.player.specs.After.{AreEnoughForRecords, AreEnoughLines, AreLinesOfRecords, HasLines, needs_after}
 
 -- an operation needs as many lines as its drawing has
 needed_edges : (operation : Operation) (state : State) → drawing_edges (drawing_of operation state) ≡ (needs_of operation state).edges
@@ -107,8 +107,12 @@ room_for_first room content rest step old new draw is drawn placed has = elim ha
       rw drawn (enough_for_step rest.steps step old.state old.needs room whole)
 ]
 
--- what is enough for the one content of records is enough for the records
-pub enough_for_records : ContentIsOne → (lines : ℕ) (format : FileFormat) (records : List ℕ) (m : MachineState) (content : Content) → HasContentOf format records content → AreEnoughLines lines content m → AreEnoughForRecords lines format records m
-enough_for_records one lines format records m content is enough other is_other =
+-- the lines of the one content of records are those of the records
+pub lines_of_records : ContentIsOne → (lines : ℕ) (format : FileFormat) (records : List ℕ) (m : MachineState) (content : Content) → HasContentOf format records content → lines ≡ (needs_after content.steps m.state m.needs).edges → AreLinesOfRecords lines format records m
+lines_of_records one lines format records m content is told other is_other =
     let the_one : ExactlyOne (IsContent (framing_of format) (meaning_of format) records) = one (framing_of format) (meaning_of format) records in
-    subst (λ (c : Content). AreEnoughLines lines c m) (the_one.only content is ∙ sym (the_one.only other is_other)) enough
+    subst (λ (c : Content). lines ≡ (needs_after c.steps m.state m.needs).edges) (the_one.only content is ∙ sym (the_one.only other is_other)) told
+
+-- room for as many lines is enough for the records
+pub enough_for_records : (lines room : ℕ) (format : FileFormat) (records : List ℕ) (m : MachineState) → AreLinesOfRecords lines format records m → lines ≤ room → AreEnoughForRecords room format records m
+enough_for_records lines room format records m told fits content is = let same = told content is in omega (arith, same, fits)

@@ -1,5 +1,5 @@
 -- What steps leave behind them: the state, and the greatest needs; and room for what they draw.
-use Rattle.std.specs.Prelude.{◌⊎◌, ◌≤◌, ℕ, List, [], ◌∷◌}
+use Rattle.std.specs.Prelude.{◌≡◌, ◌⊎◌, ◌≤◌, ℕ, List, [], ◌∷◌}
 use Rattle.draw_ops.specs.Content.{Content, StepValue}
 use Rattle.dc_stack.specs.Drawing.{edge_limit}
 use Rattle.dc_stack.specs.MachineState.{MachineState}
@@ -31,6 +31,10 @@ HasLines room content m = edge_limit ≤ room ⊎ AreEnoughLines room content m
 -- so many lines are enough for each drawing of the records of a file in some format
 abbrev pub AreEnoughForRecords : ℕ → FileFormat → List ℕ → MachineState → Type 0
 AreEnoughForRecords lines format records m = (content : Content) → HasContentOf format records content → AreEnoughLines lines content m
+
+-- the drawings of the records have so many lines at most, or what was needed before them is as much
+abbrev pub AreLinesOfRecords : ℕ → FileFormat → List ℕ → MachineState → Type 0
+AreLinesOfRecords lines format records m = (content : Content) → HasContentOf format records content → lines ≡ (needs_after content.steps m.state m.needs).edges
 
 -- there is room for the lines of any drawing, or of each of those records
 abbrev pub HasLinesForRecords : ℕ → FileFormat → List ℕ → MachineState → Type 0

@@ -7,7 +7,7 @@ ghost use Rattle.draw_ops.specs.Records.{record_limit};
 ghost use Rattle.dc_stack.specs.MachineState.{GoesOn, HasFullRoom};
 ghost use Rattle.dc_stack.specs.Needs.{no_needs};
 ghost use Rattle.dc_stack.specs.State.{start_state};
-ghost use Rattle.player.specs.After.{AreEnoughForRecords};
+ghost use Rattle.player.specs.After.{AreLinesOfRecords};
 ghost use Rattle.player.specs.Plays.{RunsThrough, StopsBy, StopsRecordsBy};
 
 use crate::advance::advance;
@@ -17,7 +17,7 @@ use draw_ops::{OpSource, content_law};
 use meta_headers::Opened;
 use object_tables::Table;
 
-/// How many lines are enough for each drawing of a file's records, or their first fault. Nothing is drawn, and
+/// How many lines a drawing of a file's records has at most, or their first fault. Nothing is drawn, and
 /// the machine is at the start of the file again.
 pub(crate) fn count_lines<'a, T: Table<'a>>(
     opened: &Opened<'a>,
@@ -25,7 +25,7 @@ pub(crate) fn count_lines<'a, T: Table<'a>>(
 ) -> Result<u32, Refusal>
     requires room { HasFullRoom machine.old }
     ensures lines { IfOk result
-        (λ lines. AreEnoughForRecords lines opened.now.format opened.now.records.now machine.old) }
+        (λ lines. AreLinesOfRecords lines opened.now.format opened.now.records.now machine.old) }
     ensures refusal { IfErr result
         (StopsRecordsBy opened.now.format opened.now.records.now machine.old.state machine.old.surface) }
     ensures record { IfErr result (λ r. IsSome r.number ↔ IsInRecord r.fault) }

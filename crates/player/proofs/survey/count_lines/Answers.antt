@@ -1,9 +1,8 @@
--- What the survey needed is enough for each drawing of the records.
-use Rattle.std.proofs.Common.{ap, arith, ◌∙◌}
+-- What the survey needed is what the drawings of the records need.
+use Rattle.std.proofs.Common.{ap, ◌∙◌}
 use Rattle.dc_stack.specs.declared.needs.Needs.{Needs}
 use Rattle.meta_headers.specs.SourceContent.{source_content}
-use Rattle.player.specs.After.{AreEnoughLines}
-use Rattle.player.proofs.AfterLemmas.{enough_for_records}
+use Rattle.player.proofs.AfterLemmas.{lines_of_records}
 use Rattle.player.proofs.survey.count_lines.Goals as goal
 
 pub returns-in-Ok-clause-lines : goal.returns-in-Ok-clause-lines
@@ -13,5 +12,4 @@ returns-in-Ok-clause-lines g c =
     let content = source_content c.source.result in
     let lines = c.needs-lines.result.edges in
     let same = ap (λ (needs : Needs). needs.edges) (c.needs-lines.ensures ∙ c.in-Ok.ensures.played.needs) in
-    let enough : AreEnoughLines lines content machine = omega (arith, same) in
-    enough_for_records c.content_law.ensures lines opened.format opened.records.now machine content c.source.ensures.content enough
+    lines_of_records c.content_law.ensures lines opened.format opened.records.now machine content c.source.ensures.content same
