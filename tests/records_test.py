@@ -6,7 +6,7 @@ from concurrent.futures import ProcessPoolExecutor
 from functools import partial
 
 from answers import refused, shown
-from built import answer, for_each_program
+from built import PROGRAMS, answer, for_each_program
 from metafile.fields import BLUE, RED, colour, joined, u16, u32
 from metafile.files import (
     EMF_END,
@@ -149,10 +149,18 @@ class Numbers(Records):
         self.assertEqual(len(listed["WMF"]), 70)
         self.assertEqual(sorted([*listed["EMF"], *EMF_ABSENT]), list(range(123)))
 
+    def functions(self, program, numbers):
+        """Records of WMF of these functions, without parameters, lead to their outcomes."""
+        self.check(program, WMF, [(number, b"", WMF.outcome_of_empty(number)) for number in numbers])
+
+    def test_every_function_without_parameters(self):
+        # The second program is of the same code by another compiler: it has those below.
+        self.functions(PROGRAMS[0], range(1 << 16))
+
     @for_each_program
-    def test_every_function_without_parameters(self, program):
-        records = [(number, b"", WMF.outcome_of_empty(number)) for number in range(1 << 16)]
-        self.check(program, WMF, records)
+    def test_functions_one_bit_beside_one_that_is_listed(self, program):
+        listed = [*(kind.number for kind in WMF.kinds), *WMF.skipped, *WMF.refused, *WMF.bitmaps]
+        self.functions(program, sorted({number ^ bit for number in listed for bit in [0, *(1 << at for at in range(16))]}))
 
     @for_each_program
     def test_types_without_parameters(self, program):
