@@ -2,3 +2,7 @@ pub mod FloorLemmas
 pub mod LimitLemmas
 pub mod PlacingLemmas
 pub mod WorkedRows
+pub mod BetweenLemmas
+pub mod GrowingLemmas
+pub mod LandsLemmas
+pub mod BoxLemmas

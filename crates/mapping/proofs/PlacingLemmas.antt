@@ -16,7 +16,7 @@ le_trans : (a b c : ℤ) → a ≤ℤ b → b ≤ℤ c → a ≤ℤ c
 le_trans a b c h k = omega (arith, ints)
 
 -- products with a count keep the order
-times_count : (v w : ℤ) (n : ℕ) → v ≤ℤ w → (v *ℤ pos n) ≤ℤ (w *ℤ pos n)
+pub times_count : (v w : ℤ) (n : ℕ) → v ≤ℤ w → (v *ℤ pos n) ≤ℤ (w *ℤ pos n)
 times_count (pos a) (pos b) n h = let le : a ≤ b = omega (arith, ints, h) in omega (arith, ints, mul-le-mul_left n le)
 times_count (pos a) (negsuc b) n h = absurd (omega (arith, ints, h))
 times_count (negsuc a) (pos b) n h = omega (arith, ints)
@@ -33,7 +33,7 @@ not_zero : (side : ℕ) → 1 ≤ side → pos side ≢ pos 0
 not_zero side h e = omega (arith, ints, h, e)
 
 -- floor division over a side keeps the order
-quotients : (a b : ℤ) (side : ℕ) → 1 ≤ side → a ≤ℤ b → floor_div a (pos side) ≤ℤ floor_div b (pos side)
+pub quotients : (a b : ℤ) (side : ℕ) → 1 ≤ side → a ≤ℤ b → floor_div a (pos side) ≤ℤ floor_div b (pos side)
 quotients a b side one h =
     let lower = floor_is_greatest a (pos side) (not_zero side one) in
     let upper = floor_is_greatest b (pos side) (not_zero side one) in

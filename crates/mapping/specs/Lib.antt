@@ -12,3 +12,5 @@ pub mod MapSettings
 pub mod PlacingLaws
 pub mod Pixels
 pub mod Mixes
+pub mod Boxes
+pub mod BoxLaws

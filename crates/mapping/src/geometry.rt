@@ -1,6 +1,7 @@
 //! Points, boxes, colours and frames: plain values that every layer passes on.
 
-ghost use Rattle.std.specs.Prelude.{◌≡◌, ◌↔◌, IsTrue, IsSome, IfSome};
+ghost use Rattle.std.specs.Prelude.{◌≡◌, ◌↔◌, [], ◌∷◌, IsTrue, IsSome, IfSome};
+ghost use Rattle.std.specs.Int.{int_max, int_min};
 ghost use Rattle.mapping.specs.Limits.{IsFrameSide};
 
 use crate::limits::MAX_FRAME_SIDE;
@@ -21,6 +22,33 @@ pub struct Rect {
     pub t: i32,
     pub r: i32,
     pub b: i32,
+}
+
+impl Rect {
+    ghost use Rattle.mapping.specs.Boxes.{IsBoxWith, IsTight};
+
+    /// The box around a point, which is its right and bottom too.
+    pub fn around(point: Point) -> Rect
+        ensures { IsTight result (point ∷ []) }
+    {
+        Rect {
+            l: point.x,
+            t: point.y,
+            r: point.x,
+            b: point.y,
+        }
+    }
+
+    /// The box around this box and a point, the right and the bottom included.
+    pub fn with(self, point: Point) -> Rect
+        ensures { IsBoxWith self point result }
+    {
+        let l = lesser(self.l, point.x);
+        let t = lesser(self.t, point.y);
+        let r = greater(self.r, point.x);
+        let b = greater(self.b, point.y);
+        Rect { l, t, r, b }
+    }
 }
 
 /// A colour of a pixel, each part from 0 (none) to 255 (full).
@@ -74,4 +102,18 @@ fn is_side(side: u32) -> bool
     ensures { IsTrue result ↔ IsFrameSide side }
 {
     1 <= side && side <= MAX_FRAME_SIDE
+}
+
+/// The lesser of two numbers.
+fn lesser(first: i32, second: i32) -> i32
+    ensures { result ≡ int_min first second }
+{
+    if second < first { second } else { first }
+}
+
+/// The greater of two numbers.
+fn greater(first: i32, second: i32) -> i32
+    ensures { result ≡ int_max first second }
+{
+    if second < first { first } else { second }
 }

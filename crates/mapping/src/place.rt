@@ -3,6 +3,7 @@
 ghost use Rattle.std.specs.Prelude.{◌≡◌, ◌≤◌, ◌↔◌, IsTrue, SomeIff, is_some};
 ghost use Rattle.mapping.specs.Limits.{IsSurfaceSide, is_within, place_limit, surface_side_limit};
 ghost use Rattle.mapping.specs.Surface.{placed, FitsPlace, IsPlaceCoordinate, fits_place, placed_point};
+ghost use Rattle.mapping.specs.BoxLaws.{BoxLaws};
 ghost use Rattle.mapping.specs.PlacingLaws.{PlacingLaws};
 
 use crate::geometry::{Frame, Point};
@@ -113,4 +114,10 @@ fn axis_at(coordinate: i32, surface_side: u32, frame_side: u32) -> i32
 /// limits on a surface does so on each that is no larger and shows a frame of the same sides.
 pub fn placing_law()
     ensures { PlacingLaws }
+{}
+
+/// The law of boxes: a page map and a place keep what lies between two coordinates on each axis, and so map the least
+/// box around points to the least box around where they land.
+pub fn box_law()
+    ensures { BoxLaws }
 {}

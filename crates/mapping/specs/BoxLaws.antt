@@ -1,0 +1,26 @@
+-- What page maps and places do to boxes around points.
+use Rattle.std.specs.Prelude.{◌≡◌, ◌≢◌, ◌&&◌, ◌++◌, ℕ, ℤ, pos, List, [], ◌∷◌, map}
+use Rattle.std.specs.List.{list_all}
+use Rattle.mapping.specs.Boxes.{IsBoxWith, IsTight, KeepsBetween, far_corner, mapped_box_by, mapped_by, near_corner}
+use Rattle.mapping.specs.Limits.{IsFrameSide}
+use Rattle.mapping.specs.Plane.{AxisNumbers, plane_coordinate}
+use Rattle.mapping.specs.PlacingLaws.{ShowsFrame}
+use Rattle.mapping.specs.Surface.{Surface, lands_within_limits, placed}
+use Rattle.mapping.specs.declared.geometry.Point.{Point}
+use Rattle.mapping.specs.declared.geometry.Rect.{Rect}
+
+-- The least box around points grows by a point. A page map and a place keep what lies between two coordinates, on each axis. Where each axis is mapped so, the least box around points is
+-- mapped to the least box around their images; and the images all land within the limits exactly where those of two of its corners do.
+pub record BoxLaws : Type 0 where
+  pub grows :
+      (box grown : Rect) (points : List Point) (point : Point) → IsTight box points → IsBoxWith box point grown
+      → IsTight grown (points ++ point ∷ [])
+  pub page_map : (n : AxisNumbers) → n.window_extent ≢ pos 0 → KeepsBetween (plane_coordinate n)
+  pub place : (side frame_side : ℕ) → IsFrameSide frame_side → KeepsBetween (λ v. placed v side frame_side)
+  pub boxes :
+      (f g : ℤ → ℤ) (box : Rect) (points : List Point) → KeepsBetween f → KeepsBetween g
+      → IsTight box points → IsTight (mapped_box_by f g box) (map (mapped_by f g) points)
+  pub lands :
+      (f g : ℤ → ℤ) (s : Surface) (box : Rect) (points : List Point) → ShowsFrame s → KeepsBetween f → KeepsBetween g → IsTight box points
+      → list_all (λ point. lands_within_limits point s) (map (mapped_by f g) points)
+      ≡ (lands_within_limits (mapped_by f g (near_corner box)) s && lands_within_limits (mapped_by f g (far_corner box)) s)

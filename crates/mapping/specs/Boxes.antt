@@ -1,0 +1,64 @@
+-- Boxes around points, and what maps of each axis do to them.
+use Rattle.std.specs.Prelude.{◌≡◌, ◌⊎◌, pos, negsuc, ℤ, ◌≤ℤ◌, List, [], ◌∷◌}
+use Rattle.std.specs.Int.{int_max, int_min}
+use Rattle.std.specs.List.{All, Any}
+use Rattle.mapping.specs.declared.geometry.Point.{Point}
+use Rattle.mapping.specs.declared.geometry.Rect.{Rect}
+
+-- a box has a point, its right and bottom included
+pub record HasPoint (box : Rect) (point : Point) : Type 0 where
+  pub left : box.l ≤ℤ point.x
+  pub top : box.t ≤ℤ point.y
+  pub right : point.x ≤ℤ box.r
+  pub bottom : point.y ≤ℤ box.b
+
+-- a box has all points, and each of its sides has one of them
+pub record IsTight (box : Rect) (points : List Point) : Type 0 where
+  pub all : All (HasPoint box) points
+  pub left : Any (λ point. point.x ≡ box.l) points
+  pub top : Any (λ point. point.y ≡ box.t) points
+  pub right : Any (λ point. point.x ≡ box.r) points
+  pub bottom : Any (λ point. point.y ≡ box.b) points
+
+-- the box around no point
+abbrev pub no_box : Rect
+no_box = record { l = pos 0; t = pos 0; r = negsuc 0; b = negsuc 0 }
+
+-- the least box around points
+abbrev pub IsLeastBox : Rect → List Point → Type 0
+IsLeastBox box [] = box ≡ no_box
+IsLeastBox box (point ∷ points) = IsTight box (point ∷ points)
+
+-- v lies between two coordinates, whichever of them is the lesser
+abbrev pub IsBetween : ℤ → ℤ → ℤ → Type 0
+IsBetween from v to = (from ≤ℤ v × v ≤ℤ to) ⊎ (to ≤ℤ v × v ≤ℤ from)
+
+-- what lies between two coordinates lies between their images
+abbrev pub KeepsBetween : (ℤ → ℤ) → Type 0
+KeepsBetween f = (from v to : ℤ) → IsBetween from v to → IsBetween (f from) (f v) (f to)
+
+-- a point, each of its axes mapped by itself
+abbrev pub mapped_by : (ℤ → ℤ) → (ℤ → ℤ) → Point → Point
+mapped_by f g point = record { x = f point.x; y = g point.y }
+
+-- the box between two points, whichever of them comes first
+abbrev pub box_between : Point → Point → Rect
+box_between p q = record { l = int_min p.x q.x; t = int_min p.y q.y; r = int_max p.x q.x; b = int_max p.y q.y }
+
+-- two corners of a box: the left top, and the right bottom
+abbrev pub near_corner : Rect → Point
+near_corner box = record { x = box.l; y = box.t }
+
+abbrev pub far_corner : Rect → Point
+far_corner box = record { x = box.r; y = box.b }
+
+-- a box, each of its axes mapped by itself, and its sides put in order
+abbrev pub mapped_box_by : (ℤ → ℤ) → (ℤ → ℤ) → Rect → Rect
+mapped_box_by f g box = box_between (mapped_by f g (near_corner box)) (mapped_by f g (far_corner box))
+
+-- a box is the one around another box and a point
+pub record IsBoxWith (box : Rect) (point : Point) (grown : Rect) : Type 0 where
+  pub left : grown.l ≡ int_min box.l point.x
+  pub top : grown.t ≡ int_min box.t point.y
+  pub right : grown.r ≡ int_max box.r point.x
+  pub bottom : grown.b ≡ int_max box.b point.y
