@@ -43,4 +43,4 @@ pub use map_error::{OffPlane, ZeroExtent};
 pub use map_mode::MapMode;
 pub use mix::Mix;
 pub use page_map::{PageAxis, PageMap};
-pub use place::{Place, placing_law};
+pub use place::{Place, box_law, placing_law};

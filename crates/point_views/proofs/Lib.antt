@@ -3,3 +3,4 @@ pub mod NumberLemmas
 pub mod PointLemmas
 pub mod CountLemmas
 pub mod SplitLemmas
+pub mod TakenLemmas

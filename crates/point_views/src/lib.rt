@@ -17,6 +17,7 @@
 //! contract says so.
 #![tactic(auto)]
 
+mod bounds;
 mod counts;
 mod lists;
 mod numbers;
