@@ -10,7 +10,8 @@ use Rattle.mapping.specs.Surface.{Surface, placed, placed_point}
 use Rattle.dc_stack.specs.Values.{IsPlacedOn, clip_value, placed_value}
 use Rattle.dc_stack.specs.declared.clip.Clip.{Clip}
 use Rattle.dc_stack.specs.declared.clip.ClipBox.{ClipBox}
-use Rattle.dc_stack.specs.Clip.{ClipValue, box_between, narrowed, placed_box, placed_clip, with_kept}
+use Rattle.dc_stack.specs.Clip.{ClipValue, narrowed, placed_box, placed_clip, with_kept}
+use Rattle.mapping.specs.Boxes.{box_between}
 
 -- what keeps the order keeps the lesser and the greater
 min_kept : (f : ℤ → ℤ) → ((v w : ℤ) → v ≤ℤ w → f v ≤ℤ f w) → (v w : ℤ) → int_min (f v) (f w) ≡ f (int_min v w)

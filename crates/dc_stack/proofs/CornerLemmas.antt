@@ -6,8 +6,8 @@ use Rattle.std.specs.Int.{int_max, int_min}
 use Rattle.mapping.specs.Surface.{Surface, placed, placed_point}
 use Rattle.mapping.specs.declared.geometry.Point.{Point}
 use Rattle.mapping.specs.declared.geometry.Rect.{Rect}
-use Rattle.dc_stack.specs.Boxes.{HasAll, HasPoint, placed_list}
-use Rattle.dc_stack.specs.Clip.{box_between}
+use Rattle.dc_stack.specs.Boxes.{HasAll, placed_list}
+use Rattle.mapping.specs.Boxes.{HasPoint, box_between}
 use Rattle.dc_stack.specs.Figures.{box_corners}
 
 -- what holds of two coordinates holds of the lesser and of the greater

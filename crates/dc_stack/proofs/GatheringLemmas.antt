@@ -6,7 +6,8 @@ use Rattle.mapping.specs.PageMap.{map_numbers}
 use Rattle.mapping.specs.Surface.{Surface, placed_point}
 use Rattle.mapping.specs.declared.geometry.Point.{Point}
 use Rattle.mapping.specs.declared.geometry.Rect.{Rect}
-use Rattle.dc_stack.specs.Boxes.{HasAll, HasAllOf, HasPoint, placed_list}
+use Rattle.dc_stack.specs.Boxes.{HasAll, HasAllOf, placed_list}
+use Rattle.mapping.specs.Boxes.{HasPoint}
 use Rattle.dc_stack.specs.Drawing.{joined}
 use Rattle.dc_stack.specs.GatheredPath.{LandsInside, addition_fault, gathered_points}
 use Rattle.dc_stack.specs.Mapped.{mapped_list}

@@ -11,7 +11,8 @@ use Rattle.mapping.specs.declared.geometry.Point.{Point}
 use Rattle.mapping.specs.declared.geometry.Rect.{Rect}
 use Rattle.draw_ops.specs.declared.fault.Fault.{Fault}
 use Rattle.draw_ops.specs.declared.fault.Fault.TheVariants.{OffPlane}
-use Rattle.dc_stack.specs.Boxes.{HasAll, HasAllOf, HasPoint, placed_list}
+use Rattle.dc_stack.specs.Boxes.{HasAll, HasAllOf, placed_list}
+use Rattle.mapping.specs.Boxes.{HasPoint}
 use Rattle.dc_stack.specs.Mapped.{mapped_list, mapped_point}
 use Rattle.dc_stack.specs.OperationFault.{off_plane_fault}
 

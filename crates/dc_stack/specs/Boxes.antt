@@ -1,6 +1,7 @@
 -- Boxes around points of a surface.
-use Rattle.std.specs.Prelude.{pos, negsuc, ◌≤ℤ◌, List, map}
+use Rattle.std.specs.Prelude.{pos, negsuc, List, map}
 use Rattle.std.specs.List.{All}
+use Rattle.mapping.specs.Boxes.{HasPoint}
 use Rattle.mapping.specs.Surface.{Surface, placed_point}
 use Rattle.mapping.specs.declared.geometry.Point.{Point}
 use Rattle.mapping.specs.declared.geometry.Rect.{Rect}
@@ -9,14 +10,7 @@ use Rattle.mapping.specs.declared.geometry.Rect.{Rect}
 abbrev pub placed_list : Surface → List Point → List Point
 placed_list s points = map (λ point. placed_point point s) points
 
--- a box has a point, its right and bottom included
-pub record HasPoint (box : Rect) (point : Point) : Type 0 where
-  pub left : box.l ≤ℤ point.x
-  pub top : box.t ≤ℤ point.y
-  pub right : point.x ≤ℤ box.r
-  pub bottom : point.y ≤ℤ box.b
-
--- it has all points of a list
+-- a box has all points of a list
 abbrev pub HasAll : Rect → List Point → Type 0
 HasAll box points = All (HasPoint box) points
 

@@ -20,10 +20,6 @@ unclipped = record { kept = None; cuts = [] }
 abbrev pub cut_limit : ℕ
 cut_limit = 16
 
--- the box between two corners, whichever of them comes first
-abbrev pub box_between : Point → Point → Rect
-box_between p q = record { l = int_min p.x q.x; t = int_min p.y q.y; r = int_max p.x q.x; b = int_max p.y q.y }
-
 -- what two boxes have in common: where they have nothing, it has no pixel
 abbrev pub narrowed : Rect → Rect → Rect
 narrowed first second = record {

@@ -4,7 +4,7 @@ use Rattle.mapping.specs.declared.geometry.Point.{Point}
 use Rattle.mapping.specs.declared.geometry.Rect.{Rect}
 use Rattle.mapping.specs.Plane.{MapNumbers, plane_point}
 use Rattle.draw_ops.specs.Blits.{BlitValue}
-use Rattle.dc_stack.specs.Clip.{box_between}
+use Rattle.mapping.specs.Boxes.{box_between}
 
 -- a point of the page, on the plane
 abbrev pub mapped_point : MapNumbers → Point → Point

@@ -3,7 +3,8 @@
 ghost use Rattle.std.specs.Prelude.{◌≡◌, ◌<◌, length, nat_lt, take};
 ghost use Rattle.std.specs.Int.{int_max, int_min};
 ghost use Rattle.std.specs.List.{list_any};
-ghost use Rattle.dc_stack.specs.Clip.{box_between, cut_limit, in_box, in_boxes, in_kept, is_from_to, narrowed, unclipped, with_cut, with_kept};
+ghost use Rattle.dc_stack.specs.Clip.{cut_limit, in_box, in_boxes, in_kept, is_from_to, narrowed, unclipped, with_cut, with_kept};
+ghost use Rattle.mapping.specs.Boxes.{box_between};
 
 use mapping::{Point, Rect};
 

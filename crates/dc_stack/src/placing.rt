@@ -13,7 +13,8 @@ ghost use Rattle.dc_stack.specs.Clip.{placed_box};
 ghost use Rattle.dc_stack.specs.Drawing.{edge_limit};
 ghost use Rattle.dc_stack.specs.Mapped.{blit_corners, far_corner, left_top_of, mapped_box, mapped_corners, right_bottom_of};
 ghost use Rattle.dc_stack.specs.OperationFault.{off_plane_fault, points_fault};
-ghost use Rattle.dc_stack.specs.Boxes.{HasAllOf, HasPoint};
+ghost use Rattle.dc_stack.specs.Boxes.{HasAllOf};
+ghost use Rattle.mapping.specs.Boxes.{HasPoint};
 ghost use Rattle.dc_stack.specs.Placing.{HasAllPlaced, IsLandingOf, joined_plane_list, plane_list};
 
 use crate::clip::{ClipBox, between, greater, lesser};

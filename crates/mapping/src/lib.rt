@@ -19,6 +19,8 @@
 //! - Each test of a limit holds exactly where the limit does (`limits_law`).
 //! - Placing keeps the order of coordinates, and a point that lands within the limits on a surface does so on
 //!   each that is no larger and shows a frame of the same sides (`placing_law`).
+//! - The least box around points grows by a point (`Rect::around`, `Rect::with`), and page maps and places map it to the
+//!   least box around what the points are mapped to, by two of its corners, which tell whether all land (`box_law`).
 //! - A mix keeps, drops and flips the bits of a colour that it says, and no other (`Mix::apply`, by
 //!   `mixed_by`), and one of them makes a given colour of every colour (`Mix::copy`).
 //!

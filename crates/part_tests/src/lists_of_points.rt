@@ -1,6 +1,6 @@
 //! Views over small files, with every expected number worked by hand.
 
-use mapping::Point;
+use mapping::{Point, Rect};
 use point_views::{Counts, Points, Polys, i16_at, i32_at, u8_at, u16_at, u32_at};
 use std::test::Fail;
 
@@ -186,4 +186,26 @@ fn numbers_begin_with_their_lowest_byte(rt: HostRuntime) {
     // 0xff830201 is 8,191,487 less than 2^32.
     assert_eq!(rt; i32_at(&bytes, 0), -8191487);
     assert_eq!(rt; i32_at(&bytes, 2), -125);
+}
+
+#[test]
+fn has_the_least_box(rt: HostRuntime) -> Result<(), Fail> {
+    let short = Points::new16(&SHORT, 3).ok_or("three points")?;
+    let around_short = Rect {
+        l: -32768,
+        t: -2,
+        r: 300,
+        b: 32767,
+    };
+    assert_eq!(rt; short.bounds(), Some(around_short));
+    let long = Points::new32(&LONG, 3).ok_or("three points")?;
+    let around_long = Rect {
+        l: -2147483648,
+        t: 5,
+        r: -1,
+        b: 2147483647,
+    };
+    assert_eq!(rt; long.bounds(), Some(around_long));
+    assert!(rt; Points::new16(&[], 0).ok_or("no points")?.bounds().is_none());
+    Ok(())
 }

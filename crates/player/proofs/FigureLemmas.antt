@@ -6,7 +6,8 @@ use Rattle.std.specs.List.{All}
 use Rattle.mapping.specs.Surface.{Surface, placed_point}
 use Rattle.mapping.specs.declared.geometry.Point.{Point}
 use Rattle.mapping.specs.declared.geometry.Rect.{Rect}
-use Rattle.dc_stack.specs.Boxes.{HasAll, HasPoint, placed_list}
+use Rattle.dc_stack.specs.Boxes.{HasAll, placed_list}
+use Rattle.mapping.specs.Boxes.{HasPoint}
 use Rattle.dc_stack.specs.Figures.{Figure, lists_of_figures, points_of_figures}
 use Rattle.span_fill.specs.RowLaws.{LiesBetween}
 use Rattle.span_fill.specs.declared.line.Line.{Line}

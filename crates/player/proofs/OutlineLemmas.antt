@@ -8,7 +8,8 @@ use Rattle.mapping.specs.PlaceOf.{surface_of}
 use Rattle.mapping.specs.Surface.{Surface, placed_point}
 use Rattle.mapping.specs.declared.geometry.Point.{Point}
 use Rattle.mapping.specs.declared.geometry.Rect.{Rect}
-use Rattle.dc_stack.specs.Boxes.{HasAll, HasPoint, placed_list}
+use Rattle.dc_stack.specs.Boxes.{HasAll, placed_list}
+use Rattle.mapping.specs.Boxes.{HasPoint}
 use Rattle.dc_stack.specs.Drawing.{joined}
 use Rattle.dc_stack.specs.Mapped.{mapped_list, mapped_lists}
 use Rattle.dc_stack.specs.Projected.{projected}

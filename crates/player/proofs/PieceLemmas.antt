@@ -19,7 +19,8 @@ use Rattle.mapping.specs.declared.page_map.PageMap.{PageMap}
 use Rattle.point_views.specs.PartedPoints.{parts_of}
 use Rattle.point_views.specs.Points.{points_of}
 use Rattle.dc_stack.specs.Boxes.{placed_list}
-use Rattle.dc_stack.specs.Clip.{box_between, placed_box}
+use Rattle.dc_stack.specs.Clip.{placed_box}
+use Rattle.mapping.specs.Boxes.{box_between}
 use Rattle.dc_stack.specs.Figures.{box_corners}
 use Rattle.dc_stack.specs.Mapped.{left_top_of, mapped_list, mapped_lists, mapped_point, right_bottom_of}
 use Rattle.dc_stack.specs.Pieces.{AllLandOn, LandsOn, page_lists, page_points, plane_lists}

@@ -14,7 +14,8 @@ use Rattle.raster_ops.specs.Readers.{column_of}
 use Rattle.raster_ops.specs.Sources.{source_colour}
 use Rattle.raster_ops.specs.TernaryOps.{uses_pattern}
 use Rattle.raster_ops.specs.declared.sources.SourceReader.{SourceReader}
-use Rattle.dc_stack.specs.Clip.{box_between, in_box, in_boxes}
+use Rattle.dc_stack.specs.Clip.{in_box, in_boxes}
+use Rattle.mapping.specs.Boxes.{box_between}
 use Rattle.dc_stack.specs.Values.{placed_value}
 use Rattle.dc_stack.specs.declared.dc.Dc.{Dc}
 use Rattle.dc_stack.specs.declared.draw.PlacedBlit.{PlacedBlit}

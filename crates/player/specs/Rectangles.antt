@@ -5,7 +5,7 @@ use Rattle.mapping.specs.declared.geometry.Rect.{Rect}
 use Rattle.mapping.specs.Surface.{Surface, placed_point}
 use Rattle.draw_ops.specs.declared.operation.RectangleEdges.{RectangleEdges}
 use Rattle.draw_ops.specs.declared.operation.RectangleEdges.TheVariants.{HalfOpen, Inclusive}
-use Rattle.dc_stack.specs.Clip.{box_between}
+use Rattle.mapping.specs.Boxes.{box_between}
 use Rattle.span_fill.specs.declared.line.Line.{Line}
 use Rattle.player.specs.Outlines.{closed_lines}
 

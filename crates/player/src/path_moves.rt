@@ -3,7 +3,7 @@
 ghost use Rattle.std.specs.Prelude.{◌≡◌, [], ◌∷◌, IfSome, IsTrue};
 ghost use Rattle.mapping.specs.PlaceOf.{surface_of};
 ghost use Rattle.point_views.specs.Polys.{lists_of};
-ghost use Rattle.dc_stack.specs.Clip.{box_between};
+ghost use Rattle.mapping.specs.Boxes.{box_between};
 ghost use Rattle.dc_stack.specs.Figures.{box_corners};
 ghost use Rattle.dc_stack.specs.Mapped.{left_top_of, right_bottom_of};
 ghost use Rattle.dc_stack.specs.Pieces.{AllLandOn, LandsOn, page_lists};

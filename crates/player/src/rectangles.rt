@@ -4,7 +4,7 @@ ghost use Rattle.std.specs.Prelude.{◌≡◌, IsTrue};
 ghost use Rattle.std.specs.List.{All};
 ghost use Rattle.mapping.specs.Surface.{FitsPlace, IsPlaceCoordinate};
 ghost use Rattle.span_fill.specs.Lines.{HasNearEnds};
-ghost use Rattle.dc_stack.specs.Clip.{box_between};
+ghost use Rattle.mapping.specs.Boxes.{box_between};
 ghost use Rattle.player.specs.RectangleBoxes.{IsNearBox};
 ghost use Rattle.player.specs.Rectangles.{has_inside, raised, rectangle_lines};
 

@@ -6,6 +6,7 @@
 //!   whatever number of points a file claims (each function is proved safe for all its inputs).
 //! - A view is a list: `Points::get` gives the i-th pair of numbers in the bytes, `part` a part of
 //!   the list, and `len` its length.
+//! - `Points::bounds` is the least box around the points.
 //! - `Polys::new` cuts points into lists that are as long as the counts say and that, one after
 //!   another, are all the points. `get`, `split_first` and `lists` give those lists in order.
 //! - A view is refused exactly where bytes are missing (`Points::new16`, `Points::new32`,

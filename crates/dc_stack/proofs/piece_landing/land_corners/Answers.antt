@@ -3,7 +3,7 @@ use Rattle.mapping.specs.PageMap.{map_numbers}
 use Rattle.mapping.specs.PlaceOf.{surface_of}
 use Rattle.mapping.specs.Surface.{placed_point}
 use Rattle.mapping.specs.declared.geometry.Point.{Point}
-use Rattle.dc_stack.specs.Boxes.{HasPoint}
+use Rattle.mapping.specs.Boxes.{HasPoint}
 use Rattle.dc_stack.specs.Mapped.{left_top, mapped_point, right_bottom}
 use Rattle.dc_stack.proofs.CornerLemmas.{corners_inside}
 use Rattle.dc_stack.proofs.piece_landing.land_corners.Goals as goal

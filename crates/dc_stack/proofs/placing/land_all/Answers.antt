@@ -3,7 +3,7 @@ use Rattle.std.proofs.lemmas.List.Elements.{All-nil}
 use Rattle.mapping.specs.PageMap.{map_numbers}
 use Rattle.mapping.specs.PlaceOf.{surface_of}
 use Rattle.point_views.specs.Points.{points_of}
-use Rattle.dc_stack.specs.Boxes.{HasPoint}
+use Rattle.mapping.specs.Boxes.{HasPoint}
 use Rattle.dc_stack.proofs.LandingLemmas.{all_of_more, last_in, last_lands, one_more_in, one_more_lands, one_off}
 use Rattle.dc_stack.proofs.placing.land_all.Goals as goal
 

@@ -1,7 +1,7 @@
 use Rattle.std.proofs.Common.{ap, subst, sym, ◌∙◌}
 use Rattle.mapping.specs.Surface.{FitsPlace}
 use Rattle.mapping.specs.declared.geometry.Point.{Point}
-use Rattle.dc_stack.specs.Clip.{box_between}
+use Rattle.mapping.specs.Boxes.{box_between}
 use Rattle.dc_stack.specs.Figures.{box_corners}
 use Rattle.dc_stack.specs.Mapped.{left_top_of, right_bottom_of}
 use Rattle.dc_stack.specs.Projected.{projected}
