@@ -8,7 +8,7 @@ import re
 import textwrap
 from typing import NamedTuple
 
-from edit_functions import functions
+from edit_functions import functions, modules_of
 
 # What gives up: by name, as a line that is told, by a status or a wrong usage, or by what is asked of an allocator.
 GIVES_UP = re.compile(
@@ -99,3 +99,18 @@ def bodies(crate, sources):
         for path in sorted(plain)
         for it in functions(crate, plain, path)
     ]
+
+
+# A constant of a source file, on one line.
+CONSTANT = re.compile(r"(?m)^ *(?:pub(?:\([^)]*\))? )?const \w+:[^\n]*;$")
+
+
+def constants(crate, sources, names):
+    """The constants of the files in which functions of these names stand, of each file as a body without a reason."""
+    found = []
+    for path in sorted(sources):
+        here = [it.name for it in functions(crate, sources, path) if it.name in names]
+        lines = [Line(it[0].strip(), False) for it in CONSTANT.finditer(without_comments(sources[path]))]
+        if here and lines:
+            found.append(Body("::".join([crate, *modules_of(path), "const"]), tuple(lines)))
+    return found

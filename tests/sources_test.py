@@ -13,14 +13,14 @@ import unittest
 from typing import NamedTuple
 
 from built import CRATES
-from refusal_places import bodies
+from refusal_places import Body, Line, bodies, constants
 
 LIST = pathlib.Path(__file__).with_name("refusals_made.txt")
 
 REASON = "because: "
 
 HEAD = """# Where the sources give up, and why it is right: each function in which they do, with its whole body, and what stands between the
-# system and the proved calls. A reason is of the line above it. tests/sources_test.py compares.
+# system and the proved calls; and the constants of their files. A reason is of the line above it. tests/sources_test.py compares.
 """
 
 # Functions between the system and the proved calls: no clause can know which words, names and bytes the system gives, so each
@@ -33,6 +33,7 @@ BETWEEN = [
     "commands::program::run_words",
     "commands::program::show",
     "commands::program::words",
+    "commands::reporting::line",
     "meta_main::main",
 ]
 
@@ -59,7 +60,8 @@ def all_bodies():
     """The bodies to be listed of all crates, those of tests left out."""
     crates = [crate for crate in sorted(CRATES.iterdir()) if (crate / "src").is_dir() and not crate.name.endswith("tests")]
     found = [it for crate in crates for it in bodies(crate.name, sources_of(crate))]
-    return [it for it in found if it.gives_up() or it.function in BETWEEN]
+    found = [it for it in found if it.gives_up() or it.function in BETWEEN]
+    return found + [it for crate in crates for it in constants(crate.name, sources_of(crate), {it.function for it in found})]
 
 
 # Another name for what is told where the sources give up, under which a place would not be found.
@@ -108,7 +110,7 @@ def complaint(made, told):
     for body in made:
         known = told.get(body.function)
         if known is None:
-            said.append(f"{body.function} gives up, and isn't listed")
+            said.append(f"{body.function} isn't listed")
         elif [line.text for line in body.lines] != [line.text for line in known]:
             said.append(f"{body.function} isn't what is listed")
         else:
@@ -290,6 +292,11 @@ class Reading(unittest.TestCase):
                 self.assertIn("has no reason", complaint(read(SOURCE), listed(LISTED.replace(reason + "\n", ""))))
         self.assertIn("isn't there", complaint(read(SOURCE), listed(LISTED + "\ncrate::file::other\n    DONE\n")))
         self.assertIn("isn't listed", complaint(read(SOURCE), listed(LISTED.partition("\n\n")[2])))
+
+    def test_the_constants_of_their_files_are_read(self):
+        room = "const ROOM: usize = 128;"
+        sources = {"src/lines.rt": f"/// Room.\n{room}\n\nfn line() -> u8 {{\n    1\n}}\n", "src/other.rt": f"pub {room}\n"}
+        self.assertEqual(constants("crate", sources, {"crate::lines::line"}), [Body("crate::lines::const", (Line(room, False),))])
 
     def test_a_list_is_read_as_it_is_written(self):
         self.assertEqual(renewed(read(SOURCE), listed(LISTED)), HEAD + "\n" + LISTED)

@@ -82,6 +82,20 @@ fn a_refusal_in_each_record_is_told_whole(rt: HostRuntime) -> Result<(), Fail> {
 }
 
 #[test]
+fn a_line_of_each_length_is_told_whole(rt: HostRuntime) -> Result<(), Fail> {
+    // 117 bytes, the program's name and the line feed fill a line.
+    let text = "0123456789".repeat(rt.alloc(), 12)?;
+    for length in 0..118 {
+        let told = text.as_str().get(..length).ok_or("a front")?;
+        let want = format!(in rt.alloc(); "metaplay: {told}\n")?;
+        let mut err = Vec::new(rt.alloc());
+        assert_eq!(rt; report(&mut err, told), Ok(()), "{length} bytes");
+        assert_eq!(rt; err.as_slice(), want.as_bytes(), "{length} bytes");
+    }
+    Ok(())
+}
+
+#[test]
 fn a_line_is_told_whole_or_not_at_all(rt: HostRuntime) -> Result<(), Fail> {
     // 117 bytes, the program's name and the line feed fill a line.
     let text = "0123456789".repeat(rt.alloc(), 12)?;
