@@ -112,6 +112,41 @@ def short_lists():
     return Counted(EMF.file(records, (width, height), 16), width, height)
 
 
+def longer_lists():
+    """Lists of six to two hundred points on a high surface, in each record that has them: the rows of each are few."""
+    chance, width, height = random.Random(6), 64, 8192
+    records = EMF.records("solid_brush 1 0x206040; select 1")
+    for number in range(6, 201):
+        for name in ("polyline", "polyline_to", "polygon"):
+            x, y = chance.randrange(width - 8), chance.randrange(height - 8)
+            places = [part for _ in range(number) for part in (x + chance.randrange(8), y + chance.randrange(8))]
+            records += [EMF.step("move", x, y), EMF.step(name, *places)] * 5
+    return Counted(EMF.file(records, (width, height), 16), width, height)
+
+
+def zigzags():
+    """Polygons as `zigzag` has one, of many numbers of points."""
+    width, height = 4096, 16
+    records = EMF.records("null_pen 0; solid_brush 1 0x206040; select 0; select 1")
+    for points in (10, 100, 1_000, 3_000, 10_000, 30_000, 60_000):
+        places = [part for number in range(points) for part in ((number * 2_654_435_761) % width, height * (number % 2))]
+        records.append(EMF.step("short_polygon", *places))
+    return Counted(EMF.file(records, (width, height), 16), width, height)
+
+
+def painted_paths():
+    """Small paths on a high surface, painted in each way under three boxes that are cut out: the rows of each are few."""
+    chance, width, height = random.Random(7), 64, 8192
+    records = EMF.records("solid_brush 1 0x206040; select 1; cut 3 3 9 9; cut 20 100 40 4000; cut 50 50 60 8000")
+    for number in range(3_000):
+        x, y = chance.randrange(width - 4), chance.randrange(height - 4)
+        records += [EMF.step("begin_path"), EMF.step("polygon", x, y, x + 3, y, x, y + 3), EMF.step("move", x, y)]
+        records += [EMF.step("line", x + 3, y + 3), EMF.step("rectangle", x, y, x + 3, y + 3), EMF.step("end_path")]
+        records.append(EMF.step(("fill_path", "stroke_path", "stroke_and_fill_path")[number % 3]))
+        records.append(EMF.step("polygon", x, y, x + 3, y, x, y + 3))
+    return Counted(EMF.file(records, (width, height), 16), width, height)
+
+
 FILES = {
     "10,000 small triangles, 64 by 8,192": triangles,
     "a zigzag of 20,000 points, 4,096 by 16": zigzag,
@@ -121,4 +156,7 @@ FILES = {
     "300 rectangles and lines, 2,048 by 2,048": rectangles,
     "a path of 16,000 polygons, lists and rectangles": lists_in_a_path,
     "12,000 lists of two to five points, 64 by 8,192": short_lists,
+    "2,925 lists of six to 200 points, 64 by 8,192": longer_lists,
+    "zigzags of 10 to 60,000 points, 4,096 by 16": zigzags,
+    "3,000 painted paths under cuts, 64 by 8,192": painted_paths,
 }
