@@ -13,3 +13,5 @@ mod playing;
 mod playing_on;
 #[cfg(test)]
 mod sizes;
+#[cfg(test)]
+mod stepping;

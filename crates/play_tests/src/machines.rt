@@ -1,19 +1,12 @@
 //! Machines: what a step draws and needs, a new start, and refused growth.
 
-use dc_stack::{Draw, Landing, Machine, Needs};
+use crate::stepping::{machine, step};
+use dc_stack::{Draw, Landing, Needs};
 use draw_ops::{Fault, FillMode, Handle, Object, Op, SavedState};
-use mapping::{Place, Point, Rect};
-use meta_headers::{Opened, open_file};
-use object_tables::LowestFree;
+use mapping::{Point, Rect};
+use meta_headers::open_file;
 use part_tests::{DOT, RED};
-use std::alloc::Global;
 use std::test::Fail;
-
-/// A machine at the start of a file, at 2 by 2.
-fn machine<'a>(alloc: Global, opened: &Opened<'a>) -> Machine<'a, LowestFree<'a>> {
-    let place = Place::new(&opened.frame, 2, 2);
-    Machine::new(alloc, opened, place, LowestFree::new(alloc))
-}
 
 const PIXEL: Op<'static> = Op::Pixel {
     point: Point { x: 3, y: -1 },
@@ -41,7 +34,7 @@ fn a_pixel_is_drawn_where_it_lands(rt: HostRuntime) -> Result<(), Fail> {
         r: 0,
         b: 0,
     };
-    assert_eq!(rt; machine.step(Op::IntersectClip(left)), Ok(None));
+    assert_eq!(rt; step(&mut machine, Op::IntersectClip(left)), Ok(false));
     let clip = &machine.dc().clip;
     assert!(rt; clip.has(0, 0) && clip.has(0, 1) && !clip.has(1, 0));
     Ok(())
@@ -62,7 +55,7 @@ fn needs_are_the_greatest_since_the_start(rt: HostRuntime) -> Result<(), Fail> {
         FONT,
         PIXEL,
     ] {
-        machine.step(op)?;
+        step(&mut machine, op)?;
     }
     let needs = Needs {
         depth: 2,
@@ -71,18 +64,16 @@ fn needs_are_the_greatest_since_the_start(rt: HostRuntime) -> Result<(), Fail> {
         pieces: 0,
     };
     assert_eq!(rt; machine.needs(), needs);
-    machine.step(Op::SetFillMode(FillMode::Winding))?;
+    step(&mut machine, Op::SetFillMode(FillMode::Winding))?;
     machine.restart(&opened);
     assert_eq!(rt; machine.needs(), none);
     assert_eq!(rt; machine.dc().modes.fill_mode, FillMode::Alternate);
-    assert_eq!(rt;
-        machine.step(Op::Select(Handle(0))),
-        Err(Fault::NoSuchHandle)
-    );
-    assert_eq!(rt;
-        machine.step(Op::Restore(SavedState(-1))),
-        Err(Fault::NoSavedState)
-    );
+    for (op, fault) in [
+        (Op::Select(Handle(0)), Fault::NoSuchHandle),
+        (Op::Restore(SavedState(-1)), Fault::NoSavedState),
+    ] {
+        assert_eq!(rt; step(&mut machine, op), Err(fault));
+    }
     Ok(())
 }
 
@@ -95,10 +86,10 @@ fn steps_under_refused_growth(rt: HostRuntime) -> Result<(), Fail> {
     for count in 1..100 {
         for op in [FONT, Op::Save] {
             let before = machine.needs();
-            if let Err(fault) = machine.step(op) {
+            if let Err(fault) = step(&mut machine, op) {
                 assert_eq!(rt; fault, Fault::OutOfMemory);
                 assert_eq!(rt; machine.needs(), before);
-                assert_eq!(rt; machine.step(op), Ok(None));
+                assert_eq!(rt; step(&mut machine, op), Ok(false));
             }
         }
         let needs = machine.needs();
@@ -117,8 +108,8 @@ fn reserved_steps_under_refused_growth(rt: HostRuntime) -> Result<(), Fail> {
         machine.reserve(100, 100, 0)?;
     }
     for _ in 0..100 {
-        assert_eq!(rt; machine.step(FONT), Ok(None));
-        assert_eq!(rt; machine.step(Op::Save), Ok(None));
+        assert_eq!(rt; step(&mut machine, FONT), Ok(false));
+        assert_eq!(rt; step(&mut machine, Op::Save), Ok(false));
     }
     Ok(())
 }

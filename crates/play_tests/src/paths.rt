@@ -1,19 +1,12 @@
 //! Paths of a machine: the pieces that it lends, what a refused step leaves, and refused growth.
 
-use dc_stack::{MAX_PIECES, Machine};
+use crate::stepping::{machine, step};
+use dc_stack::MAX_PIECES;
 use draw_ops::{Fault, Op};
-use mapping::{Place, Point};
-use meta_headers::{Opened, open_file};
-use object_tables::LowestFree;
+use mapping::Point;
+use meta_headers::open_file;
 use part_tests::DOT;
-use std::alloc::Global;
 use std::test::Fail;
-
-/// A machine at the start of a file, at 2 by 2.
-fn machine<'a>(alloc: Global, opened: &Opened<'a>) -> Machine<'a, LowestFree<'a>> {
-    let place = Place::new(&opened.frame, 2, 2);
-    Machine::new(alloc, opened, place, LowestFree::new(alloc))
-}
 
 const LINE: Op<'static> = Op::LineTo(Point { x: 1, y: 2 });
 
@@ -27,16 +20,17 @@ const FAR: Point = Point {
 fn pieces_are_lent_until_the_next_accepted_step(rt: HostRuntime) -> Result<(), Fail> {
     let opened = open_file(&DOT)?;
     let mut machine = machine(rt.alloc(), &opened);
-    for op in [Op::BeginPath, LINE, Op::EndPath] {
-        assert_eq!(rt; machine.step(op), Ok(None));
-        assert_eq!(rt; machine.painted().len(), 0);
+    for (op, answer, lent) in [
+        (Op::BeginPath, Ok(false), 0),
+        (LINE, Ok(false), 0),
+        (Op::EndPath, Ok(false), 0),
+        (Op::FillPath, Ok(true), 2),
+        (Op::EndPath, Err(Fault::PathState), 2),
+        (Op::NoEffect, Ok(false), 0),
+    ] {
+        assert_eq!(rt; step(&mut machine, op), answer);
+        assert_eq!(rt; machine.painted().len(), lent);
     }
-    assert!(rt; machine.step(Op::FillPath).is_ok());
-    assert_eq!(rt; machine.painted().len(), 2);
-    assert_eq!(rt; machine.step(Op::EndPath), Err(Fault::PathState));
-    assert_eq!(rt; machine.painted().len(), 2);
-    assert_eq!(rt; machine.step(Op::NoEffect), Ok(None));
-    assert_eq!(rt; machine.painted().len(), 0);
     Ok(())
 }
 
@@ -44,9 +38,9 @@ fn pieces_are_lent_until_the_next_accepted_step(rt: HostRuntime) -> Result<(), F
 fn a_new_start_has_no_path(rt: HostRuntime) -> Result<(), Fail> {
     let opened = open_file(&DOT)?;
     let mut machine = machine(rt.alloc(), &opened);
-    assert_eq!(rt; machine.step(Op::BeginPath), Ok(None));
+    assert_eq!(rt; step(&mut machine, Op::BeginPath), Ok(false));
     machine.restart(&opened);
-    assert_eq!(rt; machine.step(Op::EndPath), Err(Fault::PathState));
+    assert_eq!(rt; step(&mut machine, Op::EndPath), Err(Fault::PathState));
     assert_eq!(rt; machine.needs().pieces, 0);
     Ok(())
 }
@@ -55,14 +49,16 @@ fn a_new_start_has_no_path(rt: HostRuntime) -> Result<(), Fail> {
 fn a_refused_line_begins_no_figure(rt: HostRuntime) -> Result<(), Fail> {
     let opened = open_file(&DOT)?;
     let mut machine = machine(rt.alloc(), &opened);
-    assert_eq!(rt; machine.step(Op::BeginPath), Ok(None));
-    assert_eq!(rt; machine.step(Op::LineTo(FAR)), Err(Fault::OffPlane));
-    assert_eq!(rt; machine.needs().pieces, 0);
-    assert_eq!(rt; machine.step(LINE), Ok(None));
-    assert_eq!(rt; machine.needs().pieces, 2);
-    assert_eq!(rt; machine.step(Op::LineTo(FAR)), Err(Fault::OffPlane));
-    assert_eq!(rt; machine.step(LINE), Ok(None));
-    assert_eq!(rt; machine.needs().pieces, 3);
+    for (op, answer, pieces) in [
+        (Op::BeginPath, Ok(false), 0),
+        (Op::LineTo(FAR), Err(Fault::OffPlane), 0),
+        (LINE, Ok(false), 2),
+        (Op::LineTo(FAR), Err(Fault::OffPlane), 2),
+        (LINE, Ok(false), 3),
+    ] {
+        assert_eq!(rt; step(&mut machine, op), answer);
+        assert_eq!(rt; machine.needs().pieces, pieces);
+    }
     Ok(())
 }
 
@@ -71,13 +67,13 @@ fn a_refused_line_begins_no_figure(rt: HostRuntime) -> Result<(), Fail> {
 fn path_steps_under_refused_growth(rt: HostRuntime) -> Result<(), Fail> {
     let opened = open_file(&DOT)?;
     let mut machine = machine(rt.alloc(), &opened);
-    assert_eq!(rt; machine.step(Op::BeginPath), Ok(None));
+    assert_eq!(rt; step(&mut machine, Op::BeginPath), Ok(false));
     for count in 1..100 {
         let before = machine.needs();
-        if let Err(fault) = machine.step(LINE) {
+        if let Err(fault) = step(&mut machine, LINE) {
             assert_eq!(rt; fault, Fault::OutOfMemory);
             assert_eq!(rt; machine.needs(), before);
-            assert_eq!(rt; machine.step(LINE), Ok(None));
+            assert_eq!(rt; step(&mut machine, LINE), Ok(false));
         }
         assert_eq!(rt; machine.needs().pieces, count + 1);
     }
@@ -93,10 +89,10 @@ fn reserved_path_steps_under_refused_growth(rt: HostRuntime) -> Result<(), Fail>
         assert_eq!(rt; fault, Fault::OutOfMemory);
         machine.reserve(0, 0, MAX_PIECES)?;
     }
-    assert_eq!(rt; machine.step(Op::BeginPath), Ok(None));
+    assert_eq!(rt; step(&mut machine, Op::BeginPath), Ok(false));
     for _ in 1..MAX_PIECES {
-        assert_eq!(rt; machine.step(LINE), Ok(None));
+        assert_eq!(rt; step(&mut machine, LINE), Ok(false));
     }
-    assert_eq!(rt; machine.step(LINE), Err(Fault::TooManyPieces));
+    assert_eq!(rt; step(&mut machine, LINE), Err(Fault::TooManyPieces));
     Ok(())
 }
