@@ -1,11 +1,13 @@
-"""What runs the edits beside `rt ci`, without the prover: a part begins once all crates below it are proved."""
+"""What runs the steps of the gate, without the prover: parts of edits begin once all crates below them are proved, those of high crates first;
+what is said of times; and which files of tests are well."""
 
 import contextlib
 import io
 import unittest
 from typing import NamedTuple
 
-from gate import Beside
+from gate import Beside, Processors
+from run import judged
 
 
 class Crate(NamedTuple):
@@ -27,16 +29,15 @@ class Part(NamedTuple):
 
 
 class Pool:
-    """What notes which parts it was given."""
+    """What tries only what it is told to, one part each time."""
 
     def __init__(self):
-        """Begins with none."""
+        """Begins with nothing to try."""
         self.given = []
 
-    def submit(self, _, part):
-        """Notes a part."""
-        self.given.append(part.name)
-        return part.name
+    def submit(self, trying):
+        """Keeps what it has to try."""
+        self.given.append(trying)
 
 
 LOW = Crate("low")
@@ -48,28 +49,44 @@ class BesideTest(unittest.TestCase):
     """Parts that wait for crates."""
 
     def begun(self, *lines):
-        """The parts that are begun after these lines of `rt ci`, those that wait still, and what was passed on."""
+        """The parts that are tried after these lines of `rt ci`, in order, and those that wait still."""
         pool, said = Pool(), io.StringIO()
         with contextlib.redirect_stdout(said):
-            beside = Beside([Part("high 1", HIGH), Part("high 2", HIGH), Part("low 1", LOW), Part("middle 1", MIDDLE)], pool)
+            beside = Beside([Part("low 1", LOW), Part("middle 1", MIDDLE), Part("high 1", HIGH), Part("high 2", HIGH)], pool, lambda part: part.name)
             beside.follow(line + "\n" for line in lines)
-        self.assertEqual(beside.begun, pool.given)
         self.assertEqual(said.getvalue(), "".join(line + "\n" for line in lines))
-        return pool.given, [part.name for part in beside.waiting]
+        return [trying() for trying in pool.given], [part.name for part in beside.waiting]
 
     def test_what_stands_on_nothing_begins_at_once(self):
-        self.assertEqual(self.begun(), (["low 1"], ["high 1", "high 2", "middle 1"]))
+        self.assertEqual(self.begun(), (["low 1"], ["middle 1", "high 1", "high 2"]))
 
     def test_a_part_begins_once_all_below_it_is_proved(self):
-        self.assertEqual(self.begun("rt: low proved"), (["low 1", "middle 1"], ["high 1", "high 2"]))
-        self.assertEqual(self.begun("rt: middle proved"), (["low 1"], ["high 1", "high 2", "middle 1"]))
-        all_begun = ["low 1", "middle 1", "high 1", "high 2"]
-        self.assertEqual(self.begun("== low", "rt: low proved", "rt: middle proved"), (all_begun, []))
+        self.assertEqual(self.begun("rt: low proved"), (["middle 1", "low 1"], ["high 1", "high 2"]))
+        self.assertEqual(self.begun("rt: middle proved"), (["low 1"], ["middle 1", "high 1", "high 2"]))
+
+    def test_parts_of_the_crate_with_most_below_it_go_first(self):
+        in_order = ["high 1", "high 2", "middle 1", "low 1"]
+        self.assertEqual(self.begun("== low", "rt: low proved", "rt: middle proved"), (in_order, []))
 
     def test_no_other_line_says_that_a_crate_is_proved(self):
         for line in ("rt: low NOT PROVED", "rt: low: its tests are proved", "fn low: proved", "rt: low proved?", "note: rt: low proved"):
             with self.subTest(line=line):
                 self.assertEqual(self.begun(line)[0], ["low 1"])
+
+
+class SaidTest(unittest.TestCase):
+    """What is said of times and tests."""
+
+    def test_the_host_s_share_is_of_what_was_asked_for(self):
+        self.assertEqual(Processors(150, 30).since(Processors(30, 0)), "2 min of processor, and the host kept 20 % of what was asked for")
+        self.assertEqual(Processors(1, 1).since(Processors(1, 1)), "0 min of processor, and the host kept 0 % of what was asked for")
+
+    def test_a_file_is_well_that_ran_tests_and_passed(self):
+        self.assertEqual(judged("a_test", 0, "..\nRan 2 tests in 0.1s\n\nOK\n", 1)[:3], ("a_test", 2, True))
+        self.assertEqual(judged("a_test", 0, ".\nRan 1 test in 0.1s\n\nOK\n", 1)[:3], ("a_test", 1, True))
+        self.assertEqual(judged("a_test", 1, ".F\nRan 2 tests in 0.1s\n\nFAILED\n", 1)[:3], ("a_test", 2, False))
+        self.assertEqual(judged("a_test", 0, "Ran 0 tests in 0.0s\n\nOK\n", 1)[:3], ("a_test", 0, False))
+        self.assertFalse(judged("a_test", 1, "ImportError: no module", 1).is_well)
 
 
 if __name__ == "__main__":

@@ -10,7 +10,7 @@ use Rattle.mapping.specs.BoxLaws.{BoxLaws}
 use Rattle.mapping.specs.declared.geometry.Point.{Point}
 use Rattle.mapping.specs.declared.geometry.Rect.{Rect}
 use Rattle.mapping.proofs.BetweenLemmas.{map_keeps_between, place_keeps_between}
-use Rattle.mapping.proofs.GrowingLemmas.{grows_by}
+use Rattle.mapping.proofs.GrowingLemmas.{greater_is, grows_by, lesser_is}
 use Rattle.mapping.proofs.LandsLemmas.{lands_by_corners}
 
 -- what some element has, its image has some
@@ -18,13 +18,6 @@ any_mapped : (f : Point → Point) (P Q : Point → Type 0) → ((x : Point) →
 any_mapped f P Q step xs (k, x, below, at, holds) =
     let inside : k < length (map f xs) = rw (length-map xs f) below in
     (k, f x, inside, get_or-map f xs k x (f x) below ∙ ap f at, step x holds)
-
--- the lesser and the greater of two are one of them
-lesser_is : (v w : ℤ) → (int_min v w ≡ v) ⊎ (int_min v w ≡ w)
-lesser_is v w = grind (arith, ints)
-
-greater_is : (v w : ℤ) → (int_max v w ≡ v) ⊎ (int_max v w ≡ w)
-greater_is v w = grind (arith, ints)
 
 -- what lies between two lies from the lesser to the greater
 above_lesser : (u v w : ℤ) → IsBetween u v w → int_min u w ≤ℤ v

@@ -24,10 +24,11 @@ side_of part points point side old is some = elim is [
   | inr same ↦ rw same (Any-push (λ p. part p ≡ part point) points point refl)
 ]
 
-lesser_is : (v w : ℤ) → (int_min v w ≡ v) ⊎ (int_min v w ≡ w)
+-- the lesser and the greater of two are one of them
+pub lesser_is : (v w : ℤ) → (int_min v w ≡ v) ⊎ (int_min v w ≡ w)
 lesser_is v w = grind (arith, ints)
 
-greater_is : (v w : ℤ) → (int_max v w ≡ v) ⊎ (int_max v w ≡ w)
+pub greater_is : (v w : ℤ) → (int_max v w ≡ v) ⊎ (int_max v w ≡ w)
 greater_is v w = grind (arith, ints)
 
 low_first : (v w : ℤ) → int_min v w ≤ℤ v

@@ -1,0 +1,54 @@
+#!/usr/bin/env python3
+"""Runs the tests over the built programs: each file tests/*_test.py in a process of its own, as many side by side as there are processors."""
+
+import os
+import pathlib
+import re
+import subprocess
+import sys
+import time
+from concurrent.futures import ThreadPoolExecutor
+from typing import NamedTuple
+
+TESTS = pathlib.Path(__file__).resolve().parent
+
+RAN = re.compile(r"^Ran (\d+) tests? in", re.MULTILINE)
+
+
+class Ran(NamedTuple):
+    """What came of a file of tests: its name, how many tests it ran, whether all of them passed, what it said, and its seconds."""
+
+    name: str
+    count: int
+    is_well: bool
+    said: str
+    seconds: float
+
+
+def judged(name, status, said, seconds):
+    """What came of a file of tests that ended with this status and said this. One that ran no test is not well."""
+    count = sum(int(number) for number in RAN.findall(said))
+    return Ran(name, count, status == 0 and count > 0, said, seconds)
+
+
+def run(file):
+    """Runs the tests of a file."""
+    start = time.monotonic()
+    words = [sys.executable, "-B", "-m", "unittest", file.stem]
+    ran = subprocess.run(words, cwd=TESTS, stdin=subprocess.DEVNULL, stdout=subprocess.PIPE, stderr=subprocess.STDOUT, text=True, errors="replace")
+    return judged(file.stem, ran.returncode, ran.stdout, time.monotonic() - start)
+
+
+def run_all():
+    """Runs all files, says what came of each, and answers the status."""
+    with ThreadPoolExecutor(os.cpu_count()) as pool:
+        ended = list(pool.map(run, sorted(TESTS.glob("*_test.py"))))
+    for it in ended:
+        print(f"{it.name}: {it.count} tests in {it.seconds:.0f} s" if it.is_well else f"{it.said}\n{it.name}: NOT PASSED", flush=True)
+    failed = sum(not it.is_well for it in ended)
+    print(f"{sum(it.count for it in ended)} tests ran, {failed} of {len(ended)} files failed", flush=True)
+    return 1 if failed else 0
+
+
+if __name__ == "__main__":
+    sys.exit(run_all())
