@@ -10,7 +10,7 @@ use Rattle.mapping.specs.BoxLaws.{BoxLaws}
 use Rattle.mapping.specs.declared.geometry.Point.{Point}
 use Rattle.mapping.specs.declared.geometry.Rect.{Rect}
 use Rattle.mapping.proofs.BetweenLemmas.{map_keeps_between, place_keeps_between}
-use Rattle.mapping.proofs.GrowingLemmas.{greater_is, grows_by, lesser_is}
+use Rattle.mapping.proofs.JoiningLemmas.{greater_is, joins_over, lesser_is, single_tight}
 use Rattle.mapping.proofs.LandsLemmas.{lands_by_corners}
 
 -- what some element has, its image has some
@@ -44,7 +44,8 @@ has_image f g box point of_x of_y has =
 
 pub box_laws : BoxLaws
 box_laws = record {
-  grows = λ box grown points point tight is. grows_by box grown point is points tight;
+  single = single_tight;
+  joins = λ first second both points others tight other is. joins_over first second both is points others tight other;
   page_map = map_keeps_between;
   place = place_keeps_between;
   lands = lands_by_corners;

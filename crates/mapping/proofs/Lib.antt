@@ -3,6 +3,6 @@ pub mod LimitLemmas
 pub mod PlacingLemmas
 pub mod WorkedRows
 pub mod BetweenLemmas
-pub mod GrowingLemmas
+pub mod JoiningLemmas
 pub mod LandsLemmas
 pub mod BoxLemmas

@@ -1,7 +1,7 @@
 -- What page maps and places do to boxes around points.
 use Rattle.std.specs.Prelude.{◌≡◌, ◌≢◌, ◌&&◌, ◌++◌, ℕ, ℤ, pos, List, [], ◌∷◌, map}
 use Rattle.std.specs.List.{list_all}
-use Rattle.mapping.specs.Boxes.{IsBoxWith, IsTight, KeepsBetween, far_corner, mapped_box_by, mapped_by, near_corner}
+use Rattle.mapping.specs.Boxes.{IsBoxOver, IsTight, KeepsBetween, box_at, far_corner, mapped_box_by, mapped_by, near_corner}
 use Rattle.mapping.specs.Limits.{IsFrameSide}
 use Rattle.mapping.specs.Plane.{AxisNumbers, plane_coordinate}
 use Rattle.mapping.specs.PlacingLaws.{ShowsFrame}
@@ -9,12 +9,13 @@ use Rattle.mapping.specs.Surface.{Surface, lands_within_limits, placed}
 use Rattle.mapping.specs.declared.geometry.Point.{Point}
 use Rattle.mapping.specs.declared.geometry.Rect.{Rect}
 
--- The least box around points grows by a point. A page map and a place keep what lies between two coordinates, on each axis. Where each axis is mapped so, the least box around points is
+-- The box around the least boxes of two lists of points is the least of both, also where one is a single point. A page map and a place keep what lies between two coordinates, on each axis. Where each axis is mapped so, the least box around points is
 -- mapped to the least box around their images; and the images all land within the limits exactly where those of two of its corners do.
 pub record BoxLaws : Type 0 where
-  pub grows :
-      (box grown : Rect) (points : List Point) (point : Point) → IsTight box points → IsBoxWith box point grown
-      → IsTight grown (points ++ point ∷ [])
+  pub single : (point : Point) → IsTight (box_at point) (point ∷ [])
+  pub joins :
+      (first second both : Rect) (points others : List Point) → IsTight first points → IsTight second others → IsBoxOver first second both
+      → IsTight both (points ++ others)
   pub page_map : (n : AxisNumbers) → n.window_extent ≢ pos 0 → KeepsBetween (plane_coordinate n)
   pub place : (side frame_side : ℕ) → IsFrameSide frame_side → KeepsBetween (λ v. placed v side frame_side)
   pub boxes :

@@ -1,5 +1,5 @@
 -- Boxes around points, and what maps of each axis do to them.
-use Rattle.std.specs.Prelude.{◌≡◌, ◌⊎◌, pos, negsuc, ℤ, ◌≤ℤ◌, List, [], ◌∷◌}
+use Rattle.std.specs.Prelude.{◌≡◌, ◌⊎◌, pos, negsuc, ℤ, ◌≤ℤ◌, List, [], ◌∷◌, Option, Some, None}
 use Rattle.std.specs.Int.{int_max, int_min}
 use Rattle.std.specs.List.{All, Any}
 use Rattle.mapping.specs.declared.geometry.Point.{Point}
@@ -29,6 +29,11 @@ abbrev pub IsLeastBox : Rect → List Point → Type 0
 IsLeastBox box [] = box ≡ no_box
 IsLeastBox box (point ∷ points) = IsTight box (point ∷ points)
 
+-- the least box around points, or none where there is no point
+abbrev pub IsBoxOf : Option Rect → List Point → Type 0
+IsBoxOf None points = points ≡ []
+IsBoxOf (Some box) points = IsTight box points
+
 -- v lies between two coordinates, whichever of them is the lesser
 abbrev pub IsBetween : ℤ → ℤ → ℤ → Type 0
 IsBetween from v to = (from ≤ℤ v × v ≤ℤ to) ⊎ (to ≤ℤ v × v ≤ℤ from)
@@ -56,9 +61,13 @@ far_corner box = record { x = box.r; y = box.b }
 abbrev pub mapped_box_by : (ℤ → ℤ) → (ℤ → ℤ) → Rect → Rect
 mapped_box_by f g box = box_between (mapped_by f g (near_corner box)) (mapped_by f g (far_corner box))
 
--- a box is the one around another box and a point
-pub record IsBoxWith (box : Rect) (point : Point) (grown : Rect) : Type 0 where
-  pub left : grown.l ≡ int_min box.l point.x
-  pub top : grown.t ≡ int_min box.t point.y
-  pub right : grown.r ≡ int_max box.r point.x
-  pub bottom : grown.b ≡ int_max box.b point.y
+-- the box of one point
+abbrev pub box_at : Point → Rect
+box_at point = record { l = point.x; t = point.y; r = point.x; b = point.y }
+
+-- a box is the one around two others
+pub record IsBoxOver (first second both : Rect) : Type 0 where
+  pub left : both.l ≡ int_min first.l second.l
+  pub top : both.t ≡ int_min first.t second.t
+  pub right : both.r ≡ int_max first.r second.r
+  pub bottom : both.b ≡ int_max first.b second.b

@@ -1,6 +1,6 @@
 //! Points, boxes, colours and frames: plain values that every layer passes on.
 
-ghost use Rattle.std.specs.Prelude.{◌≡◌, ◌↔◌, [], ◌∷◌, IsTrue, IsSome, IfSome};
+ghost use Rattle.std.specs.Prelude.{◌≡◌, ◌↔◌, IsTrue, IsSome, IfSome};
 ghost use Rattle.std.specs.Int.{int_max, int_min};
 ghost use Rattle.mapping.specs.Limits.{IsFrameSide};
 
@@ -25,11 +25,19 @@ pub struct Rect {
 }
 
 impl Rect {
-    ghost use Rattle.mapping.specs.Boxes.{IsBoxWith, IsTight};
+    ghost use Rattle.mapping.specs.Boxes.{IsBoxOver, box_at, box_between};
+
+    /// The box around no point.
+    pub const NONE: Rect = Rect {
+        l: 0,
+        t: 0,
+        r: -1,
+        b: -1,
+    };
 
     /// The box around a point, which is its right and bottom too.
     pub fn around(point: Point) -> Rect
-        ensures { IsTight result (point ∷ []) }
+        ensures { result ≡ box_at point }
     {
         Rect {
             l: point.x,
@@ -41,13 +49,32 @@ impl Rect {
 
     /// The box around this box and a point, the right and the bottom included.
     pub fn with(self, point: Point) -> Rect
-        ensures { IsBoxWith self point result }
+        ensures { IsBoxOver self (box_at point) result }
     {
-        let l = lesser(self.l, point.x);
-        let t = lesser(self.t, point.y);
-        let r = greater(self.r, point.x);
-        let b = greater(self.b, point.y);
+        self.joined(Rect::around(point))
+    }
+
+    /// The box around this box and another, the right and the bottom included.
+    pub fn joined(self, other: Rect) -> Rect
+        ensures { IsBoxOver self other result }
+    {
+        let l = lesser(self.l, other.l);
+        let t = lesser(self.t, other.t);
+        let r = greater(self.r, other.r);
+        let b = greater(self.b, other.b);
         Rect { l, t, r, b }
+    }
+
+    /// The box between two points, whichever of them comes first, the right and the bottom included.
+    pub fn between(first: Point, second: Point) -> Rect
+        ensures { result ≡ box_between first second }
+    {
+        Rect {
+            l: lesser(first.x, second.x),
+            t: lesser(first.y, second.y),
+            r: greater(first.x, second.x),
+            b: greater(first.y, second.y),
+        }
     }
 }
 
