@@ -2,6 +2,7 @@ pub mod BoxLemmas
 pub mod CoordinateLemmas
 pub mod BlitLemmas
 pub mod LandingLemmas
+pub mod PlaneBoxLemmas
 pub mod ListLemmas
 pub mod FigureLemmas
 pub mod CornerLemmas

@@ -5,6 +5,7 @@ use Rattle.std.proofs.lemmas.List.Elements.{All-head, All-tail}
 use Rattle.std.proofs.lemmas.List.Folds.{flat_map-map, list_all-append}
 use Rattle.std.specs.List.{flat_map, list_all}
 use Rattle.std.specs.Option.{option_or}
+use Rattle.mapping.specs.Boxes.{IsLeastBox}
 use Rattle.mapping.specs.Limits.{is_within, place_limit, plane_limit}
 use Rattle.mapping.specs.PageMap.{map_numbers}
 use Rattle.mapping.specs.PlaceOf.{surface_of}
@@ -16,7 +17,6 @@ use Rattle.draw_ops.specs.declared.fault.Fault.{Fault}
 use Rattle.draw_ops.specs.declared.fault.Fault.TheVariants.{TooManyEdges}
 use Rattle.point_views.specs.PartedPoints.{parts_of}
 use Rattle.point_views.specs.Points.{points_of}
-use Rattle.dc_stack.specs.Boxes.{HasAll, placed_list}
 use Rattle.dc_stack.specs.Drawing.{drawing_of, edge_limit, joined, mark_edges, mark_points, tools_of}
 use Rattle.dc_stack.specs.Draws.{mark_painted}
 use Rattle.dc_stack.specs.Figures.{Figure, all_figures, box_corners, lists_of_figures, points_of_figures}
@@ -157,8 +157,8 @@ module _ (s : Surface) where
   gathered_lands pieces h = ap all_lands (points_gathered pieces) ∙ pieces_land pieces h
 
 -- a finished path is painted
-pub plays_painting : (old new : MachineState) (path : PaintedPath) (pieces : List Piece) → old.state.path ≡ finished_path (all_figures (figures_of pieces)) → new.state ≡ with_path no_path old.state → new.painted ≡ pieces → new.needs ≡ greater_needs old.needs (points_needed path.count) → path.count ≡ length (gathered_points pieces) → length (gathered_points pieces) ≤ edge_limit → surface_of path.place ≡ old.surface → AllLandOn old.surface pieces → HasAll path.bounds (placed_list old.surface (gathered_points pieces)) → HasPlayed (painting_operation path.painting) old new (Some (Path path))
-plays_painting old new path pieces at state lent needs counted few here land inside =
+pub plays_painting : (old new : MachineState) (path : PaintedPath) (pieces : List Piece) → old.state.path ≡ finished_path (all_figures (figures_of pieces)) → new.state ≡ with_path no_path old.state → new.painted ≡ pieces → new.needs ≡ greater_needs old.needs (points_needed path.count) → path.count ≡ length (gathered_points pieces) → length (gathered_points pieces) ≤ edge_limit → surface_of path.place ≡ old.surface → AllLandOn old.surface pieces → IsLeastBox path.bounds (gathered_points pieces) → HasPlayed (painting_operation path.painting) old new (Some (Path path))
+plays_painting old new path pieces at state lent needs counted few here land least =
     let painting = path.painting in
     let figures = all_figures (figures_of pieces) in
     let lands = gathered_lands old.surface pieces land in
@@ -172,7 +172,8 @@ plays_painting old new path pieces at state lent needs counted few here land ins
       };
       drawn = rw (lent, state) (sym (painting_drawn old.state figures at painting));
       placed = rw lent (record {
-        places = record { surface = here; land = land; counted = counted; inside = inside };
+        places = record { surface = here; land = land; counted = counted };
+        least = subst (IsLeastBox path.bounds) (sym points) least;
         within = ap (λ (ps : List Point). list_all (λ point. lands_within_limits point old.surface) ps) points ∙ lands;
         few = subst (λ (n : ℕ). n ≤ edge_limit) (sym (painted_edges painting figures)) few;
       });

@@ -1,5 +1,5 @@
 -- Boxes around points of a surface.
-use Rattle.std.specs.Prelude.{pos, negsuc, List, map}
+use Rattle.std.specs.Prelude.{List, map}
 use Rattle.std.specs.List.{All}
 use Rattle.mapping.specs.Boxes.{HasPoint}
 use Rattle.mapping.specs.Surface.{Surface, placed_point}
@@ -13,11 +13,3 @@ placed_list s points = map (λ point. placed_point point s) points
 -- a box has all points of a list
 abbrev pub HasAll : Rect → List Point → Type 0
 HasAll box points = All (HasPoint box) points
-
--- it has what another box has
-abbrev pub HasAllOf : Rect → Rect → Type 0
-HasAllOf box other = (point : Point) → HasPoint other point → HasPoint box point
-
--- the box around no point, which has none
-abbrev pub nowhere : Rect
-nowhere = record { l = pos 2147483647; t = pos 2147483647; r = negsuc 2147483647; b = negsuc 2147483647 }

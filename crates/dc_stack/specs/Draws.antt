@@ -1,6 +1,7 @@
 -- The value of what a step draws.
 use Rattle.std.specs.Prelude.{◌≡◌, ◌≤◌, ℕ, Bool, true, false, [], ◌∷◌, length, IsTrue, List, Option, Some, None}
 use Rattle.std.specs.List.{list_all}
+use Rattle.mapping.specs.Boxes.{IsLeastBox, box_at, box_between}
 use Rattle.mapping.specs.PageMap.{map_numbers}
 use Rattle.mapping.specs.PlaceOf.{surface_of}
 use Rattle.mapping.specs.Surface.{Surface, lands_within_limits, placed_point}
@@ -13,7 +14,6 @@ use Rattle.point_views.specs.declared.polys.Polys.{Polys}
 use Rattle.draw_ops.specs.Blits.{source_of}
 use Rattle.raster_ops.specs.Sources.{is_readable}
 use Rattle.raster_ops.specs.TernaryOps.{uses_source}
-use Rattle.dc_stack.specs.Boxes.{HasAll, placed_list}
 use Rattle.dc_stack.specs.Drawing.{Mark, along_figures, dot, edge_limit, insides_of, joined, lines_through, mark_edges, mark_points, polygons_of, rectangle_between, blit_between}
 use Rattle.dc_stack.specs.Figures.{Figure, all_figures, lists_of_figures, points_of_figures}
 use Rattle.dc_stack.specs.Mapped.{mapped_list, mapped_lists}
@@ -57,17 +57,11 @@ mark_of pieces (Path path) = mark_painted path.painting (all_figures (figures_of
 abbrev pub IsLanding : Surface → Landing → Type 0
 IsLanding s landing = landing.placed ≡ placed_point landing.plane s
 
--- points land on this surface, and in this box of it
-pub record LandsWithin (s : Surface) (by : Projection) (bounds : Rect) (points : List Point) : Type 0 where
-  pub surface : surface_of by.place ≡ s
-  pub inside : HasAll bounds (placed_list s points)
-
--- the pieces of a path that is painted land on this surface, and so many points in its box
+-- the pieces of a path that is painted land on this surface, and have so many points
 pub record TellsPath (s : Surface) (path : PaintedPath) (pieces : List Piece) : Type 0 where
   pub surface : surface_of path.place ≡ s
   pub land : AllLandOn s pieces
   pub counted : path.count ≡ length (points_of_figures (all_figures (figures_of pieces)))
-  pub inside : HasAll path.bounds (placed_list s (points_of_figures (all_figures (figures_of pieces))))
 
 -- the corners of a blit's box land on this surface, and where its operation depends on the source, there is something to read
 pub record TellsBlit (s : Surface) (blit : PlacedBlit) : Type 0 where
@@ -79,16 +73,28 @@ pub record TellsBlit (s : Surface) (blit : PlacedBlit) : Type 0 where
 abbrev pub TellsPlaces : Surface → List Piece → Draw → Type 0
 TellsPlaces s pieces (Dot at colour) = IsLanding s at
 TellsPlaces s pieces (Line from to) = IsLanding s from × IsLanding s to
-TellsPlaces s pieces (LinesFrom from points by bounds) = IsLanding s from × LandsWithin s by bounds (from.plane ∷ points_on_plane by points)
-TellsPlaces s pieces (Polylines lists by bounds) = LandsWithin s by bounds (joined (lists_on_plane by lists))
-TellsPlaces s pieces (Polygons lists by bounds) = LandsWithin s by bounds (joined (lists_on_plane by lists))
+TellsPlaces s pieces (LinesFrom from points by bounds) = IsLanding s from × (surface_of by.place ≡ s)
+TellsPlaces s pieces (Polylines lists by bounds) = surface_of by.place ≡ s
+TellsPlaces s pieces (Polygons lists by bounds) = surface_of by.place ≡ s
 TellsPlaces s pieces (Rectangle first second edges) = IsLanding s first × IsLanding s second
 TellsPlaces s pieces (Blit blit) = TellsBlit s blit
 TellsPlaces s pieces (Path path) = TellsPath s path pieces
 
--- it is so, all its points land within the limits, and there are at most so many
+-- the box with which what a step draws is told
+abbrev pub bounds_of : Draw → Rect
+bounds_of (Dot at colour) = box_at at.plane
+bounds_of (Line from to) = box_between from.plane to.plane
+bounds_of (LinesFrom from points by bounds) = bounds
+bounds_of (Polylines lists by bounds) = bounds
+bounds_of (Polygons lists by bounds) = bounds
+bounds_of (Rectangle first second edges) = box_between first.plane second.plane
+bounds_of (Blit blit) = box_between blit.first.plane blit.second.plane
+bounds_of (Path path) = path.bounds
+
+-- it is so, its box is the least one on the plane, all its points land within the limits, and there are at most so many
 pub record IsPlacedDraw (s : Surface) (pieces : List Piece) (draw : Draw) : Type 0 where
   pub places : TellsPlaces s pieces draw
+  pub least : IsLeastBox (bounds_of draw) (mark_points (mark_of pieces draw))
   pub within : IsTrue (list_all (λ point. lands_within_limits point s) (mark_points (mark_of pieces draw)))
   pub few : mark_edges (mark_of pieces draw) ≤ edge_limit
 

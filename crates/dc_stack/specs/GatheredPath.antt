@@ -1,13 +1,13 @@
 -- The value of a path as a machine gathers it.
 use Rattle.std.specs.Prelude.{◌≡◌, ◌≢◌, ◌⊎◌, ⊤, ℕ, ◌<◌, ◌≤◌, Option, Some, None, Result, Ok, Err, Bool, true, false, List, [], length, vec_capacity}
 use Rattle.std.specs.Option.{option_or}
+use Rattle.mapping.specs.Boxes.{IsBoxOf}
 use Rattle.mapping.specs.Plane.{MapNumbers}
 use Rattle.mapping.specs.Surface.{Surface}
 use Rattle.mapping.specs.declared.geometry.Point.{Point}
 use Rattle.mapping.specs.declared.page_map.PageMap.{PageMap}
 use Rattle.draw_ops.specs.declared.fault.Fault.{Fault}
 use Rattle.draw_ops.specs.declared.fault.Fault.TheVariants.{OutOfMemory}
-use Rattle.dc_stack.specs.Boxes.{HasAll, placed_list}
 use Rattle.dc_stack.specs.Drawing.{joined}
 use Rattle.dc_stack.specs.Figures.{all_figures, points_gone_on, points_of_figures}
 use Rattle.dc_stack.specs.Mapped.{mapped_list, mapped_point}
@@ -75,10 +75,10 @@ pub record IsGathered (path : GatheredPath) : Type 0 where
 abbrev pub gathered_points : List Piece → List Point
 gathered_points pieces = points_of_figures (all_figures (figures_of pieces))
 
--- all points land on a surface, within the bounds
+-- all points land on a surface, and the bounds are the least box around them on the plane
 pub record LandsInside (s : Surface) (path : GatheredPath) : Type 0 where
   pub pieces : AllLandOn s path.pieces.items
-  pub inside : HasAll path.bounds (placed_list s (gathered_points path.pieces.items))
+  pub least : IsBoxOf path.bounds (gathered_points path.pieces.items)
 
 -- paths that differ in their room alone
 pub record IsSamePath (old new : GatheredPath) : Type 0 where

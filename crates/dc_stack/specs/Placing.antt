@@ -1,14 +1,10 @@
 -- Where points of the page land, as the code tells it.
 use Rattle.std.specs.Prelude.{◌≡◌, List}
 use Rattle.mapping.specs.PageMap.{map_numbers}
-use Rattle.mapping.specs.PlaceOf.{surface_of}
 use Rattle.mapping.specs.Plane.{MapNumbers}
 use Rattle.mapping.specs.Surface.{Surface, placed_point}
 use Rattle.mapping.specs.declared.geometry.Point.{Point}
-use Rattle.mapping.specs.declared.geometry.Rect.{Rect}
 use Rattle.mapping.specs.declared.page_map.PageMap.{PageMap}
-use Rattle.mapping.specs.declared.place.Place.{Place}
-use Rattle.dc_stack.specs.Boxes.{HasAll, placed_list}
 use Rattle.dc_stack.specs.Drawing.{joined}
 use Rattle.dc_stack.specs.Mapped.{mapped_list, mapped_lists, mapped_point}
 use Rattle.dc_stack.specs.declared.placing.Landing.{Landing}
@@ -25,7 +21,3 @@ plane_list map points = mapped_list (map_numbers map) points
 -- those of several lists, one list's after another's
 abbrev pub joined_plane_list : PageMap → List (List Point) → List Point
 joined_plane_list map lists = joined (mapped_lists (map_numbers map) lists)
-
--- a box has all points of the plane where they land
-abbrev pub HasAllPlaced : Rect → Place → List Point → Type 0
-HasAllPlaced box place points = HasAll box (placed_list (surface_of place) points)

@@ -4,9 +4,8 @@ ghost use Rattle.std.specs.Prelude.{◌≡◌, ◌<◌, length, nat_lt, take};
 ghost use Rattle.std.specs.Int.{int_max, int_min};
 ghost use Rattle.std.specs.List.{list_any};
 ghost use Rattle.dc_stack.specs.Clip.{cut_limit, in_box, in_boxes, in_kept, is_from_to, narrowed, unclipped, with_cut, with_kept};
-ghost use Rattle.mapping.specs.Boxes.{box_between};
 
-use mapping::{Point, Rect};
+use mapping::Rect;
 
 /// How many boxes are cut out at most at a time.
 const CUT_LIMIT: usize = 16;
@@ -131,27 +130,15 @@ fn common(first: Rect, second: Rect) -> Rect
     Rect { l, t, r, b }
 }
 
-/// The box between two corners, whichever of them comes first.
-pub(crate) fn between(p: Point, q: Point) -> Rect
-    ensures { result ≡ box_between p q }
-{
-    Rect {
-        l: lesser(p.x, q.x),
-        t: lesser(p.y, q.y),
-        r: greater(p.x, q.x),
-        b: greater(p.y, q.y),
-    }
-}
-
 /// The lesser of two coordinates.
-pub(crate) fn lesser(first: i32, second: i32) -> i32
+fn lesser(first: i32, second: i32) -> i32
     ensures { result ≡ int_min first second }
 {
     if second < first { second } else { first }
 }
 
 /// The greater of two coordinates.
-pub(crate) fn greater(first: i32, second: i32) -> i32
+fn greater(first: i32, second: i32) -> i32
     ensures { result ≡ int_max first second }
 {
     if second < first { first } else { second }

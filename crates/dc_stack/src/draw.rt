@@ -39,11 +39,12 @@ pub struct PaintedPath {
     pub place: Place,
     /// How many points the figures have.
     pub count: u32,
+    /// The least box around them on the plane.
     pub bounds: Rect,
 }
 
 /// What a step draws. Points are those of the file's record, as it has them, and how they land; all of
-/// them land within the limits, and within `bounds`, the right and the bottom included. Pen, brush, modes
+/// them land within the limits. `bounds` is the least box around them on the plane, the right and the bottom included. Pen, brush, modes
 /// and clip of its moment are those that the machine lends still (`Machine::dc`), since no drawing changes
 /// them.
 #[derive(Clone, Copy, Debug, PartialEq, Eq)]
@@ -87,6 +88,26 @@ pub enum Draw<'a> {
     Blit(PlacedBlit<'a>),
     /// The figures of a path.
     Path(PaintedPath),
+}
+
+impl Draw<'_> {
+    ghost use Rattle.dc_stack.specs.Draws.{bounds_of};
+
+    /// The least box around the drawing's points on the plane, its right and bottom included: `Rect::NONE` where there is no point.
+    pub fn bounds(&self) -> Rect
+        ensures { result ≡ bounds_of self.now }
+    {
+        match self {
+            Draw::Dot { at, .. } => Rect::around(at.plane),
+            Draw::Line { from, to } => Rect::between(from.plane, to.plane),
+            Draw::LinesFrom { bounds, .. }
+            | Draw::Polylines { bounds, .. }
+            | Draw::Polygons { bounds, .. } => *bounds,
+            Draw::Rectangle { first, second, .. } => Rect::between(first.plane, second.plane),
+            Draw::Blit(blit) => Rect::between(blit.first.plane, blit.second.plane),
+            Draw::Path(path) => path.bounds,
+        }
+    }
 }
 
 /// Whether a path is painted.

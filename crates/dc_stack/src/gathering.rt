@@ -19,6 +19,7 @@ ghost use Rattle.dc_stack.specs.declared.piece.PiecePoints.TheVariants.{Point as
 use crate::path::{GatheredPath, PathPhase};
 use crate::piece::{Joining, PiecePoints};
 use crate::piece_landing::land_piece;
+use crate::plane_box::joined;
 use crate::projection::Projection;
 use draw_ops::Fault;
 use mapping::Point;
@@ -44,8 +45,8 @@ impl<'a> GatheredPath<'a> {
         if !self.may_add(1) {
             return Err(Fault::TooManyPieces);
         }
-        let bounds = match land_piece(by, points, self.bounds) {
-            Ok(bounds) => bounds,
+        let bounds = match land_piece(by, points) {
+            Ok(added) => joined(self.bounds, added),
             Err(fault) => return Err(fault),
         };
         match self.make_room(1) {
@@ -77,12 +78,12 @@ impl<'a> GatheredPath<'a> {
             return Err(Fault::TooManyPieces);
         }
         let start = PiecePoints::Point(position);
-        let first = match land_piece(by, start, self.bounds) {
-            Ok(bounds) => bounds,
+        let first = match land_piece(by, start) {
+            Ok(added) => joined(self.bounds, added),
             Err(fault) => return Err(fault),
         };
-        let bounds = match land_piece(by, points, first) {
-            Ok(bounds) => bounds,
+        let bounds = match land_piece(by, points) {
+            Ok(added) => joined(first, added),
             Err(fault) => return Err(fault),
         };
         match self.make_room(2) {

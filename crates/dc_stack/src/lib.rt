@@ -31,6 +31,7 @@ mod path;
 mod piece;
 mod piece_landing;
 mod placing;
+mod plane_box;
 mod projection;
 mod saved;
 mod selected;

@@ -1,9 +1,8 @@
 //! The path that records gather.
 
-ghost use Rattle.std.specs.Prelude.{◌≡◌, ◌≢◌, ◌+◌, ◌<◌, ◌≤◌, [], ◌∷◌, ◌++◌, Bool, true, length, nat_le, vec_capacity, OnOk, OnErr, IfErr, IsTrue};
+ghost use Rattle.std.specs.Prelude.{◌≡◌, ◌≢◌, ◌+◌, ◌<◌, ◌≤◌, [], ◌∷◌, ◌++◌, Bool, true, length, nat_le, None, vec_capacity, OnOk, OnErr, IfErr, IsTrue};
 ghost use Rattle.mapping.specs.Surface.{Surface};
 ghost use Rattle.draw_ops.specs.declared.fault.Fault.TheVariants.{OutOfMemory};
-ghost use Rattle.dc_stack.specs.Boxes.{nowhere};
 ghost use Rattle.dc_stack.specs.Figures.{no_figures};
 ghost use Rattle.dc_stack.specs.GatheredPath.{IsGathered, IsSamePath, LandsInside, is_open_phase, open_piece, painted_of, path_of, phase_behind};
 ghost use Rattle.dc_stack.specs.Path.{after_closing, after_ending, after_moving, is_finished, is_open, no_path, open_path, piece_limit};
@@ -19,14 +18,6 @@ use std::alloc::Global;
 /// How many pieces a path has at most.
 pub const MAX_PIECES: usize = 65_536;
 
-/// The box of no point.
-pub(crate) const NOWHERE: Rect = Rect {
-    l: i32::MAX,
-    t: i32::MAX,
-    r: i32::MIN,
-    b: i32::MIN,
-};
-
 /// Where a path stands.
 #[derive(Clone, Copy, Debug, PartialEq, Eq)]
 pub(crate) enum PathPhase {
@@ -41,13 +32,13 @@ pub(crate) enum PathPhase {
     Painted,
 }
 
-/// A path: where it stands, its pieces, and the box around all their points where they land, the right
+/// A path: where it stands, its pieces, and the least box around all their points on the plane, the right
 /// and bottom included.
 #[derive(Drop)]
 pub(crate) struct GatheredPath<'a> {
     pub(crate) phase: PathPhase,
     pub(crate) pieces: Vec<Piece<'a>>,
-    pub(crate) bounds: Rect,
+    pub(crate) bounds: Option<Rect>,
 }
 
 impl<'a> GatheredPath<'a> {
@@ -57,12 +48,12 @@ impl<'a> GatheredPath<'a> {
         ensures painted { painted_of result ≡ [] }
         ensures gathered { IsGathered result }
         ensures pieces { result.pieces.items ≡ [] }
-        ensures bounds { result.bounds ≡ nowhere }
+        ensures bounds { result.bounds ≡ None }
     {
         GatheredPath {
             phase: PathPhase::NoPath,
             pieces: Vec::new(alloc),
-            bounds: NOWHERE,
+            bounds: None,
         }
     }
 
@@ -72,12 +63,12 @@ impl<'a> GatheredPath<'a> {
         ensures painted { painted_of self.new ≡ [] }
         ensures gathered { IsGathered self.new }
         ensures pieces { self.new.pieces.items ≡ [] }
-        ensures bounds { self.new.bounds ≡ nowhere }
+        ensures bounds { self.new.bounds ≡ None }
         ensures room { vec_capacity self.new.pieces ≡ vec_capacity self.old.pieces }
     {
         self.phase = PathPhase::NoPath;
         self.pieces.clear();
-        self.bounds = NOWHERE;
+        self.bounds = None;
     }
 
     /// Opens an empty path, in place of what there is. The room is kept.
@@ -86,7 +77,7 @@ impl<'a> GatheredPath<'a> {
         ensures painted { painted_of self.new ≡ [] }
         ensures gathered { IsGathered self.new }
         ensures pieces { self.new.pieces.items ≡ [] }
-        ensures bounds { self.new.bounds ≡ nowhere }
+        ensures bounds { self.new.bounds ≡ None }
         ensures room { vec_capacity self.new.pieces ≡ vec_capacity self.old.pieces }
     {
         self.abort();
@@ -208,13 +199,13 @@ impl<'a> GatheredPath<'a> {
         }
     }
 
-    /// Adds a piece to an open path, for which there is room. All points lie in the bounds then.
+    /// Adds a piece to an open path, for which there is room. This is the box around all points then.
     pub(crate) fn push(
         &mut self,
         points: PiecePoints<'a>,
         map: PageMap,
         joining: Joining,
-        bounds: Rect,
+        bounds: Option<Rect>,
     )
         requires room { length self.old.pieces.items < vec_capacity self.old.pieces }
         ensures pieces { self.new.pieces.items ≡ self.old.pieces.items ++ open_piece points.entry map joining ∷ [] }

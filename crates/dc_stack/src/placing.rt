@@ -13,14 +13,13 @@ ghost use Rattle.dc_stack.specs.Clip.{placed_box};
 ghost use Rattle.dc_stack.specs.Drawing.{edge_limit};
 ghost use Rattle.dc_stack.specs.Mapped.{blit_corners, far_corner, left_top_of, mapped_box, mapped_corners, right_bottom_of};
 ghost use Rattle.dc_stack.specs.OperationFault.{off_plane_fault, points_fault};
-ghost use Rattle.dc_stack.specs.Boxes.{HasAllOf};
-ghost use Rattle.mapping.specs.Boxes.{HasPoint};
-ghost use Rattle.dc_stack.specs.Placing.{HasAllPlaced, IsLandingOf, joined_plane_list, plane_list};
+ghost use Rattle.mapping.specs.Boxes.{IsLeastBox};
+ghost use Rattle.dc_stack.specs.Placing.{IsLandingOf, joined_plane_list, plane_list};
 
-use crate::clip::{ClipBox, between, greater, lesser};
-use crate::path::NOWHERE;
+use crate::clip::ClipBox;
+use crate::plane_box::{joined, least, plane_box};
 use draw_ops::{Blit, Fault};
-use mapping::{PageMap, Place, Point, Rect, placing_law};
+use mapping::{PageMap, Place, Point, Rect, box_law, placing_law};
 use point_views::{Points, Polys};
 
 /// How many points one drawing has at most.
@@ -129,41 +128,7 @@ fn far_corner(asked: &Blit<'_>) -> WidePoint
     }
 }
 
-/// The box around some page points where they land and what an earlier box has, or `OffPlane` where one of
-/// them doesn't land.
-pub(crate) fn land_all(
-    map: &PageMap,
-    place: Place,
-    points: Points<'_>,
-    before: Rect,
-) -> Result<Rect, Fault>
-    ensures fault { result_err result ≡ off_plane_fault (plane_list map.now (points_of points.entry)) (surface_of place) }
-    ensures all { IfOk result (λ bounds. HasAllPlaced bounds place (plane_list map.now (points_of points.entry))) }
-    ensures more { IfOk result (λ bounds. HasAllOf bounds before) }
-{
-    let mut bounds = before;
-    for index in 0..points.len() {
-        match land(map, place, points.get(index)) {
-            Ok(landing) => bounds = grown(bounds, landing.placed),
-            Err(fault) => return Err(fault),
-        }
-    }
-    Ok(bounds)
-}
-
-/// The box that has a point beside what another has.
-pub(crate) fn grown(before: Rect, point: Point) -> Rect
-    ensures point { HasPoint result point }
-    ensures more { HasAllOf result before }
-{
-    let l = lesser(before.l, point.x);
-    let t = lesser(before.t, point.y);
-    let r = greater(before.r, point.x);
-    let b = greater(before.b, point.y);
-    Rect { l, t, r, b }
-}
-
-/// What a drawing of several points is told with: how many they are, and the box around them where they land,
+/// What a drawing of several points is told with: how many they are, and the least box around them on the plane,
 /// its right and bottom included.
 #[derive(Clone, Copy, Debug)]
 pub(crate) struct Extent {
@@ -177,16 +142,16 @@ pub(crate) fn land_lists(map: &PageMap, place: Place, lists: Polys<'_>) -> Resul
     ensures fault { result_err result ≡ points_fault (joined_plane_list map.now (lists_of lists.entry)) (surface_of place) }
     ensures count { IfOk result (λ e. e.count ≡ length (joined_plane_list map.now (lists_of lists.entry))) }
     ensures few { IfOk result (λ e. length (joined_plane_list map.now (lists_of lists.entry)) ≤ edge_limit) }
-    ensures bounds { IfOk result (λ e. HasAllPlaced e.bounds place (joined_plane_list map.now (lists_of lists.entry))) }
+    ensures bounds { IfOk result (λ e. IsLeastBox e.bounds (joined_plane_list map.now (lists_of lists.entry))) }
 {
     let points = lists.points();
     if points.len() > MAX_EDGES {
         return Err(Fault::TooManyEdges);
     }
-    match land_all(map, place, points, NOWHERE) {
+    match plane_box(map, place, points) {
         Ok(bounds) => Ok(Extent {
             count: points.len() as u32,
-            bounds,
+            bounds: least(bounds),
         }),
         Err(fault) => Err(fault),
     }
@@ -203,7 +168,7 @@ pub(crate) fn land_through(
     ensures fault { result_err result ≡ points_fault (plane_list map.now (start ∷ points_of points.entry)) (surface_of place) }
     ensures from { IfOk result (λ r. IsLandingOf (map_numbers map.now) (surface_of place) start r.0) }
     ensures count { IfOk result (λ r. r.1.count ≡ suc (length (points_of points.entry))) }
-    ensures bounds { IfOk result (λ r. HasAllPlaced r.1.bounds place (plane_list map.now (start ∷ points_of points.entry))) }
+    ensures bounds { IfOk result (λ r. IsLeastBox r.1.bounds (plane_list map.now (start ∷ points_of points.entry))) }
 {
     if points.len() >= MAX_EDGES {
         return Err(Fault::TooManyEdges);
@@ -212,12 +177,14 @@ pub(crate) fn land_through(
         Ok(from) => from,
         Err(fault) => return Err(fault),
     };
-    match land_all(map, place, points, grown(NOWHERE, from.placed)) {
+    box_law();
+    let first = Some(Rect::around(from.plane));
+    match plane_box(map, place, points) {
         Ok(bounds) => Ok((
             from,
             Extent {
                 count: points.len() as u32 + 1,
-                bounds,
+                bounds: least(joined(first, bounds)),
             },
         )),
         Err(fault) => Err(fault),
@@ -241,8 +208,8 @@ pub(crate) fn land_box(map: &PageMap, place: Place, corners: Rect) -> Result<Cli
     };
     placing_law();
     Ok(ClipBox {
-        plane: between(first.plane, second.plane),
-        placed: between(first.placed, second.placed),
+        plane: Rect::between(first.plane, second.plane),
+        placed: Rect::between(first.placed, second.placed),
     })
 }
 

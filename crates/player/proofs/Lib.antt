@@ -10,6 +10,7 @@ pub mod StepLemmas
 pub mod AfterLemmas
 pub mod RowLemmas
 pub mod LandingLemmas
+pub mod LandedBoxLemmas
 pub mod CountLemmas
 pub mod OutlineLemmas
 pub mod DrawingLemmas

@@ -1,8 +1,20 @@
--- Columns and rows of surfaces.
-use Rattle.std.specs.Prelude.{◌≤◌}
+-- Columns and rows of surfaces, and the boxes that drawings take there.
+use Rattle.std.specs.Prelude.{◌≤◌, List, IsTrue}
+use Rattle.std.specs.List.{list_all}
+use Rattle.mapping.specs.Boxes.{IsLeastBox}
+use Rattle.mapping.specs.Surface.{Surface, lands_within_limits}
+use Rattle.mapping.specs.declared.geometry.Point.{Point}
+use Rattle.mapping.specs.declared.geometry.Rect.{Rect}
+use Rattle.dc_stack.specs.Boxes.{HasAll, placed_list}
 use Rattle.span_fill.specs.declared.span.Span.{Span}
 
 -- the ends of a span are at most 8,192, the longest side of a surface
 pub record IsOfSide (span : Span) : Type 0 where
   pub from : span.from ≤ 8192
   pub to : span.to ≤ 8192
+
+-- a box of the surface has where points land that have this least box on the plane, if all of them land within the limits
+abbrev pub HasLanded : Surface → Rect → Rect → Type 0
+HasLanded s bounds box =
+    (points : List Point) → IsLeastBox bounds points → IsTrue (list_all (λ point. lands_within_limits point s) points)
+    → HasAll box (placed_list s points)

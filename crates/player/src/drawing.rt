@@ -18,7 +18,7 @@ use crate::list_lines::Ends;
 use crate::paint::Paint;
 use crate::placed_lines::PlacedLines;
 use crate::rectangles::rectangle_box;
-use crate::regions::whole_law;
+use crate::regions::{landed_box, whole_law};
 use crate::stroking::{stroke_box, stroke_line, stroke_lines};
 use canvas::{Canvas, writing_law};
 use dc_stack::{Draw, Machine};
@@ -80,7 +80,8 @@ fn fill<'a, T: Table<'a>>(
         Draw::Polygons { lists, by, bounds } => {
             let outline = PlacedLines::of_lists(by, Ends::Closed, lists);
             let rule = rule_of(dc.modes.fill_mode);
-            fill_lines(canvas, rows, outline, rule, bounds, &paint, room);
+            let landed = landed_box(by.place, bounds);
+            fill_lines(canvas, rows, outline, rule, landed, &paint, room);
         }
         Draw::Rectangle {
             first,
@@ -90,7 +91,10 @@ fn fill<'a, T: Table<'a>>(
             let inside = rectangle_box(first.placed, second.placed, edges);
             fill_box(canvas, inside, &paint, room);
         }
-        Draw::Path(path) => fill_figures(path, machine, rows, room, canvas),
+        Draw::Path(path) => {
+            let landed = landed_box(path.place, path.bounds);
+            fill_figures(path, landed, machine, rows, room, canvas);
+        }
         Draw::Dot { .. }
         | Draw::Line { .. }
         | Draw::LinesFrom { .. }
@@ -171,15 +175,18 @@ fn stroke_outline<'a, T: Table<'a>>(
             bounds,
         } => {
             let outline = PlacedLines::from(from.placed, by, points);
-            stroke_lines(canvas, rows, outline, bounds, &paint, colour);
+            let landed = landed_box(by.place, bounds);
+            stroke_lines(canvas, rows, outline, landed, &paint, colour);
         }
         Draw::Polylines { lists, by, bounds } => {
             let outline = PlacedLines::of_lists(by, Ends::Open, lists);
-            stroke_lines(canvas, rows, outline, bounds, &paint, colour);
+            let landed = landed_box(by.place, bounds);
+            stroke_lines(canvas, rows, outline, landed, &paint, colour);
         }
         Draw::Polygons { lists, by, bounds } => {
             let outline = PlacedLines::of_lists(by, Ends::Closed, lists);
-            stroke_lines(canvas, rows, outline, bounds, &paint, colour);
+            let landed = landed_box(by.place, bounds);
+            stroke_lines(canvas, rows, outline, landed, &paint, colour);
         }
         Draw::Rectangle {
             first,
@@ -189,6 +196,9 @@ fn stroke_outline<'a, T: Table<'a>>(
             let inside = rectangle_box(first.placed, second.placed, edges);
             stroke_box(canvas, rows, inside, &paint, colour);
         }
-        Draw::Path(path) => stroke_figures(path, colour, machine, rows, canvas),
+        Draw::Path(path) => {
+            let landed = landed_box(path.place, path.bounds);
+            stroke_figures(path, landed, colour, machine, rows, canvas);
+        }
     }
 }

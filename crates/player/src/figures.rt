@@ -2,9 +2,10 @@
 
 ghost use Rattle.std.specs.Prelude.{◌≡◌, ◌+◌, ◌<◌, ◌≤◌, ◌^◌};
 ghost use Rattle.draw_ops.specs.declared.objects.Pen.TheVariants.{Solid};
+ghost use Rattle.dc_stack.specs.Boxes.{HasAll, placed_list};
 ghost use Rattle.dc_stack.specs.Draws.{TellsPath, mark_painted};
 ghost use Rattle.dc_stack.specs.Drawing.{tools_of};
-ghost use Rattle.dc_stack.specs.Figures.{all_figures};
+ghost use Rattle.dc_stack.specs.Figures.{all_figures, points_of_figures};
 ghost use Rattle.dc_stack.specs.Pieces.{figures_of};
 ghost use Rattle.player.specs.FigureLines.{stroked_ends};
 ghost use Rattle.player.specs.Layer.{fills_of, outlines_of};
@@ -20,13 +21,14 @@ use crate::stroking::stroke_lines;
 use canvas::{Canvas, writing_law};
 use dc_stack::{Machine, PaintedPath, Painting};
 use draw_ops::Brush;
-use mapping::Colour;
+use mapping::{Colour, Rect};
 use object_tables::Table;
 use span_fill::RowBuf;
 
-/// Fills what is inside of the figures, if the painting fills and the brush paints.
+/// Fills what is inside of the figures, all points of which land in a box, if the painting fills and the brush paints.
 pub(crate) fn fill_figures<'a, T: Table<'a>>(
     path: PaintedPath,
+    bounds: Rect,
     machine: &Machine<'a, T>,
     rows: &mut RowBuf,
     room: &mut InkRoom,
@@ -35,6 +37,7 @@ pub(crate) fn fill_figures<'a, T: Table<'a>>(
     requires whole { IsWhole canvas.old machine.now.surface }
     requires countable { canvas.old.writes + 2 ^ 27 < 2 ^ 64 }
     requires placed { TellsPath machine.now.surface path machine.now.painted }
+    requires bounds { HasAll bounds (placed_list machine.now.surface (points_of_figures (all_figures (figures_of machine.now.painted)))) }
     requires lines { path.count ≤ rows.old.room }
     ensures drawn { DrawsLayers (fills_of (mark_painted path.painting (all_figures (figures_of machine.now.painted))) (tools_of machine.now.state.dc)) machine.now.surface canvas.old canvas.new }
     ensures rows { SameRows canvas.old canvas.new }
@@ -53,13 +56,14 @@ pub(crate) fn fill_figures<'a, T: Table<'a>>(
     let outline = PieceLines::new(path.place, Ends::Closed, machine.painted());
     let paint = Paint::with(dc.selected.brush, dc);
     let rule = rule_of(dc.modes.fill_mode);
-    fill_lines(canvas, rows, outline, rule, path.bounds, &paint, room);
+    fill_lines(canvas, rows, outline, rule, bounds, &paint, room);
 }
 
-/// Strokes the lines of the figures in the colour of the pen, if the painting strokes: every figure is
+/// Strokes the lines of the figures, all points of which land in a box, in the colour of the pen, if the painting strokes: every figure is
 /// closed where it fills them, too.
 pub(crate) fn stroke_figures<'a, T: Table<'a>>(
     path: PaintedPath,
+    bounds: Rect,
     colour: Colour,
     machine: &Machine<'a, T>,
     rows: &mut RowBuf,
@@ -68,6 +72,7 @@ pub(crate) fn stroke_figures<'a, T: Table<'a>>(
     requires whole { IsWhole canvas.old machine.now.surface }
     requires countable { canvas.old.writes + 2 ^ 27 < 2 ^ 64 }
     requires placed { TellsPath machine.now.surface path machine.now.painted }
+    requires bounds { HasAll bounds (placed_list machine.now.surface (points_of_figures (all_figures (figures_of machine.now.painted)))) }
     requires lines { path.count ≤ rows.old.room }
     requires pen { machine.now.state.dc.selected.pen.object ≡ Solid colour }
     ensures drawn { DrawsLayers (outlines_of (mark_painted path.painting (all_figures (figures_of machine.now.painted))) (tools_of machine.now.state.dc)) machine.now.surface canvas.old canvas.new }
@@ -82,7 +87,7 @@ pub(crate) fn stroke_figures<'a, T: Table<'a>>(
     };
     let outline = PieceLines::new(path.place, ends, machine.painted());
     let paint = Paint::with(Brush::Solid(colour), machine.dc());
-    stroke_lines(canvas, rows, outline, path.bounds, &paint, colour);
+    stroke_lines(canvas, rows, outline, bounds, &paint, colour);
 }
 
 /// Whether the figures that a painting strokes are all closed, if it strokes them.

@@ -4,12 +4,13 @@ ghost use Rattle.std.specs.Prelude.{◌≡◌, ◌≤◌, ◌<◌, ◌*◌, ◌^
 ghost use Rattle.canvas.specs.WritingLaws.{IsWhole};
 ghost use Rattle.dc_stack.specs.Clip.{in_kept, is_from_to};
 ghost use Rattle.dc_stack.specs.Values.{placed_value};
-ghost use Rattle.player.specs.Regions.{IsOfSide};
+ghost use Rattle.mapping.specs.PlaceOf.{surface_of};
+ghost use Rattle.player.specs.Regions.{HasLanded, IsOfSide};
 ghost use Rattle.span_fill.specs.Spans.{in_region, in_span};
 
 use canvas::Canvas;
 use dc_stack::Clip;
-use mapping::Rect;
+use mapping::{Place, Point, Rect, box_law};
 use span_fill::{Region, Span};
 
 /// The longest side of a surface.
@@ -65,6 +66,27 @@ pub(crate) fn common(region: Region, inside: Rect) -> Region
     Region {
         columns: narrowed(region.columns, i64::from(inside.l), i64::from(inside.r)),
         rows: narrowed(region.rows, i64::from(inside.t), i64::from(inside.b)),
+    }
+}
+
+/// The box around where the points of a drawing land, whose least box on the plane this is: its two corners land where they do, since
+/// a place keeps what lies between.
+pub(crate) fn landed_box(place: Place, bounds: Rect) -> Rect
+    ensures { HasLanded (surface_of place) bounds result }
+{
+    box_law();
+    let near = place.place(Point {
+        x: bounds.l,
+        y: bounds.t,
+    });
+    let far = place.place(Point {
+        x: bounds.r,
+        y: bounds.b,
+    });
+    match (near, far) {
+        (Some(near), Some(far)) => Rect::between(near, far),
+        // (there is no point)
+        _ => Rect::NONE,
     }
 }
 

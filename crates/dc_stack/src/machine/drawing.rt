@@ -22,7 +22,7 @@ use crate::placing::{
 };
 use crate::projection::Projection;
 use draw_ops::{Blit, BlitSource, Fault, RectangleEdges, TernaryOp};
-use mapping::{Colour, Point, Rect};
+use mapping::{Colour, Point, Rect, box_law};
 use object_tables::Table;
 use point_views::{Points, Polys};
 use raster_ops::{is_readable, uses_source};
@@ -33,6 +33,7 @@ impl<'a, T: Table<'a>> Machine<'a, T> {
         ensures plays { Plays (pixel point colour) self.old result self.new }
         ensures goes_on { GoesOn self.old self.new }
     {
+        box_law();
         match land(&self.dc.map, self.place, point) {
             Ok(at) => Ok(Some(Draw::Dot { at, colour })),
             Err(fault) => Err(fault),
@@ -47,6 +48,7 @@ impl<'a, T: Table<'a>> Machine<'a, T> {
         if let Some(fault) = source_fault(asked.operation, &asked.source) {
             return Err(fault);
         }
+        box_law();
         match land_blit(&self.dc.map, self.place, &asked) {
             Ok((first, second)) => Ok(Some(Draw::Blit(PlacedBlit {
                 first,
@@ -129,6 +131,7 @@ impl<'a, T: Table<'a>> Machine<'a, T> {
         ensures draws { DrawsApart (lines_through (mapped_lists self.old.state.dc.map (going_on self.old.state.dc.position (point ∷ [])))) point self.old result self.new }
         ensures goes_on { GoesOn self.old self.new }
     {
+        box_law();
         match land_pair(&self.dc.map, self.place, self.dc.position, point) {
             Ok((from, to)) => {
                 self.needs.raise_edges(2);
@@ -150,6 +153,7 @@ impl<'a, T: Table<'a>> Machine<'a, T> {
     {
         let left_top = left_top_of(corners);
         let right_bottom = right_bottom_of(corners);
+        box_law();
         match land_pair(&self.dc.map, self.place, left_top, right_bottom) {
             Ok((first, second)) => {
                 self.needs.raise_edges(4);

@@ -5,6 +5,7 @@ ghost use Rattle.dc_stack.specs.MachineState.{GoesOn, Plays, painting_operation}
 
 use crate::draw::{Draw, PaintedPath, Painting};
 use crate::machine::Machine;
+use crate::plane_box::least;
 use draw_ops::Fault;
 use mapping::Point;
 use object_tables::Table;
@@ -77,7 +78,7 @@ impl<'a, T: Table<'a>> Machine<'a, T> {
             Some(count) => count,
             None => return Err(Fault::TooManyEdges),
         };
-        let bounds = self.path.bounds;
+        let bounds = least(self.path.bounds);
         self.needs.raise_edges(count);
         self.path.lend();
         Ok(Some(Draw::Path(PaintedPath {

@@ -1,14 +1,14 @@
 use Rattle.std.proofs.Common.{List, subst}
 use Rattle.std.specs.Prelude.{IfOk}
+use Rattle.mapping.specs.Boxes.{IsBoxOf}
 use Rattle.mapping.specs.PageMap.{map_numbers}
 use Rattle.mapping.specs.declared.geometry.Point.{Point}
 use Rattle.point_views.specs.PartedPoints.{parts_of}
 use Rattle.point_views.specs.Points.{points_of}
-use Rattle.dc_stack.specs.Placing.{HasAllPlaced}
 use Rattle.dc_stack.proofs.ListLemmas.{points_mapped}
 use Rattle.dc_stack.proofs.piece_landing.land_piece.Goals as goal
 
-pub returns-in-Lists-clause-all : goal.returns-in-Lists-clause-all
-returns-in-Lists-clause-all c =
+pub returns-in-Lists-clause-least : goal.returns-in-Lists-clause-least
+returns-in-Lists-clause-least c =
     let all = points_mapped (map_numbers c.args.by.now.map) (points_of c.points-points.result) (parts_of c.in-Lists.parted) c.points-points.ensures in
-    rw c.in-Lists.is (subst (λ (points : List Point). IfOk c.land_all-in-Lists.result (λ bounds. HasAllPlaced bounds c.args.by.now.place points)) all c.land_all-in-Lists.ensures.all)
+    rw c.in-Lists.is (subst (λ (points : List Point). IfOk c.plane_box-in-Lists.result (λ bounds. IsBoxOf bounds points)) all c.plane_box-in-Lists.ensures.least)

@@ -1,11 +1,11 @@
 use Rattle.std.proofs.Common.{List, length, ap, sym, ◌∙◌, subst}
 use Rattle.std.proofs.lemmas.List.{length-map}
+use Rattle.mapping.specs.Boxes.{IsBoxOf}
 use Rattle.mapping.specs.PageMap.{map_numbers}
 use Rattle.mapping.specs.PlaceOf.{surface_of}
 use Rattle.mapping.specs.declared.geometry.Point.{Point}
 use Rattle.point_views.specs.Points.{points_of}
 use Rattle.point_views.specs.Polys.{lists_of}
-use Rattle.dc_stack.specs.Boxes.{HasAll, placed_list}
 use Rattle.dc_stack.specs.Mapped.{mapped_point}
 use Rattle.dc_stack.specs.OperationFault.{points_fault}
 use Rattle.dc_stack.specs.Placing.{joined_plane_list}
@@ -43,7 +43,7 @@ pub returns-in-Ok-clause-bounds : goal.returns-in-Ok-clause-bounds
 returns-in-Ok-clause-bounds c =
     let points = points_of c.points-points.result in
     let all = points_mapped (map_numbers c.args.map.now) points (lists_of c.args.lists) c.points-points.ensures in
-    subst (λ (ps : List Point). HasAll c.in-Ok.bounds (placed_list (surface_of c.args.place) ps)) all c.in-Ok.ensures.all
+    c.least.ensures (joined_plane_list c.args.map.now (lists_of c.args.lists)) (subst (IsBoxOf c.in-Ok.bounds) all c.in-Ok.ensures.least)
 
 pub returns-in-Err-clause-fault : goal.returns-in-Err-clause-fault
 returns-in-Err-clause-fault c =

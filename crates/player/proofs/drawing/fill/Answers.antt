@@ -13,15 +13,15 @@ use Rattle.player.specs.declared.list_lines.Ends.TheVariants.{Closed}
 use Rattle.player.specs.declared.raster_operation.RasterOperation.TheVariants.{Binary}
 use Rattle.player.proofs.CountLemmas.{lines_on_plane_few}
 use Rattle.player.proofs.DrawingLemmas.{brush_drawn, brush_fills, clip_placed}
-use Rattle.player.proofs.LandingLemmas.{landed_fits, lists_land, two_land}
+use Rattle.player.proofs.LandingLemmas.{landed_fits, landed_inside, lists_land, two_land}
 use Rattle.player.proofs.OutlineLemmas.{closed_placed, placed_lines_lie}
-use Rattle.player.proofs.PaintedFigureLemmas.{few_painted}
+use Rattle.player.proofs.PaintedFigureLemmas.{few_painted, painting_inside}
 use Rattle.player.proofs.drawing.fill.Goals as goal
 
 pub of_lists-outline-requires : goal.of_lists-outline-requires
 of_lists-outline-requires g c =
     let placed = rw c.in-Polygons.is at c.requires.placed in
-    lists_land c.in-Polygons.by c.args.machine.now.surface placed.places.surface (lists_of c.in-Polygons.lists) placed.within
+    lists_land c.in-Polygons.by c.args.machine.now.surface placed.places (lists_of c.in-Polygons.lists) placed.within
 
 pub fill_lines-requires-clause-room : goal.fill_lines-requires-clause-room
 fill_lines-requires-clause-room g c =
@@ -33,9 +33,10 @@ fill_lines-requires-clause-room g c =
 pub fill_lines-requires-clause-bounds : goal.fill_lines-requires-clause-bounds
 fill_lines-requires-clause-bounds g c =
     let s = c.args.machine.now.surface in
-    let bounds = c.in-Polygons.bounds in
+    let box = c.landed_box-landed.result in
     let placed = rw c.in-Polygons.is at c.requires.placed in
-    subst (All (LiesBetween bounds.t bounds.b)) (sym c.of_lists-outline.ensures) (placed_lines_lie c.in-Polygons.by s placed.places.surface bounds Closed (lists_of c.in-Polygons.lists) placed.places.inside)
+    let inside = landed_inside c.in-Polygons.by.place s placed.places c.in-Polygons.bounds box c.landed_box-landed.ensures _ placed.least placed.within in
+    subst (All (LiesBetween box.t box.b)) (sym c.of_lists-outline.ensures) (placed_lines_lie c.in-Polygons.by s placed.places box Closed (lists_of c.in-Polygons.lists) inside)
 
 pub rectangle_box-inside-requires : goal.rectangle_box-inside-requires
 rectangle_box-inside-requires g c =
@@ -62,7 +63,7 @@ returns-in-Polygons-clause-drawn g c =
     let clip = clip_placed s paint.clip.now dc c.args.machine.now.state.dc c.with-paint.ensures.clip value c.dc-dc.ensures.placed in
     let brush = ap (λ (d : DcValue). d.selected.brush.object) value in
     let shape = inside_polygons tools.modes.fill_mode (lists_on_plane by c.in-Polygons.lists) in
-    let lines = c.of_lists-outline.ensures ∙ closed_placed by s placed.places.surface lists in
+    let lines = c.of_lists-outline.ensures ∙ closed_placed by s placed.places lists in
     let rule = c.rule_of-rule.ensures ∙ ap (λ (d : DcValue). fill_rule_of d.modes.fill_mode) value in
     let drawn = brush_drawn c.writing_law.ensures s c.args.canvas.now c.fill_lines.new.canvas c.whole_law.ensures c.requires.whole paint tools modes operation clip _ shape (ap brush_value_of c.with-paint.ensures.brush ∙ brush) (λ x y. rw (rule, lines) refl) c.fill_lines.ensures.pixels in
     rw (c.in-Polygons.is, brush_fills dc.selected.brush shape tools c.in_default.not-Null brush) drawn
@@ -91,6 +92,9 @@ pub fill_figures-requires : goal.fill_figures-requires
 fill_figures-requires g c =
     let drawn = rw c.in-Path.is at c.requires.placed in
     let room = rw c.in-Path.is at c.requires.lines in
-    let few = few_painted c.args.machine.now.surface c.in-Path.path c.args.machine.now.painted c.args.rows.now.room drawn.places room in
+    let s = c.args.machine.now.surface in
+    let pieces = c.args.machine.now.painted in
     let places = drawn.places in
-    search (places, few, rules)
+    let few = few_painted s c.in-Path.path pieces c.args.rows.now.room places room in
+    let inside = painting_inside s c.in-Path.path pieces c.landed_box-landed-in-Path.result c.landed_box-landed-in-Path.ensures places.surface drawn.least drawn.within in
+    search (places, inside, few, rules)

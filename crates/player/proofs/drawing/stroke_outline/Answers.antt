@@ -1,6 +1,7 @@
-use Rattle.std.proofs.Common.{◌≡◌, ◌∙◌, ap, refl, rules, sym, arith, subst, length, List, [], ◌∷◌}
-use Rattle.std.specs.List.{All}
-use Rattle.mapping.specs.Surface.{FitsPlace, placed_point}
+use Rattle.std.proofs.Common.{◌≡◌, ◌∙◌, ap, refl, rules, sym, arith, subst, length, List, [], ◌∷◌, true}
+use Rattle.std.specs.List.{All, list_all}
+use Rattle.mapping.specs.Boxes.{IsLeastBox}
+use Rattle.mapping.specs.Surface.{FitsPlace, lands_within_limits, placed_point}
 use Rattle.mapping.specs.declared.geometry.Point.{Point}
 use Rattle.point_views.specs.Points.{points_of}
 use Rattle.point_views.specs.Polys.{lists_of}
@@ -17,9 +18,9 @@ use Rattle.player.specs.declared.list_lines.Ends.TheVariants.{Open, Closed}
 use Rattle.player.specs.declared.raster_operation.RasterOperation.TheVariants.{Binary}
 use Rattle.player.proofs.CountLemmas.{from_start_few, lines_on_plane_few}
 use Rattle.player.proofs.DrawingLemmas.{clip_placed, lone_stroke, pen_drawn, pen_strokes}
-use Rattle.player.proofs.LandingLemmas.{landed_fits, landed_near, lists_land, start_and_list_land, two_land}
+use Rattle.player.proofs.LandingLemmas.{joined_one, landed_fits, landed_inside, landed_near, lists_land, start_and_list_land, two_land}
 use Rattle.player.proofs.OutlineLemmas.{closed_placed, from_start_lies, from_start_placed, open_placed, placed_lines_lie}
-use Rattle.player.proofs.PaintedFigureLemmas.{few_painted}
+use Rattle.player.proofs.PaintedFigureLemmas.{few_painted, painting_inside}
 use Rattle.player.proofs.drawing.stroke_outline.Goals as goal
 
 pub stroke_line-requires-clause-near : goal.stroke_line-requires-clause-near
@@ -39,7 +40,7 @@ from-outline-requires-clause-near g c =
     let s = c.args.machine.now.surface in
     let from = c.in-LinesFrom.from in
     let placed = rw c.in-LinesFrom.is at c.requires.placed in
-    let land = start_and_list_land c.in-LinesFrom.by s placed.places.1.surface from.plane (points_of c.in-LinesFrom.points) placed.within in
+    let land = start_and_list_land c.in-LinesFrom.by s placed.places.1 from.plane (points_of c.in-LinesFrom.points) placed.within in
     subst IsNearPoint (sym placed.places.0) land.0
 
 pub from-outline-requires-clause-land : goal.from-outline-requires-clause-land
@@ -47,7 +48,7 @@ from-outline-requires-clause-land g c =
     let s = c.args.machine.now.surface in
     let from = c.in-LinesFrom.from in
     let placed = rw c.in-LinesFrom.is at c.requires.placed in
-    (start_and_list_land c.in-LinesFrom.by s placed.places.1.surface from.plane (points_of c.in-LinesFrom.points) placed.within).1
+    (start_and_list_land c.in-LinesFrom.by s placed.places.1 from.plane (points_of c.in-LinesFrom.points) placed.within).1
 
 pub stroke_lines-requires-clause-room : goal.stroke_lines-requires-clause-room
 stroke_lines-requires-clause-room g c =
@@ -60,15 +61,19 @@ pub stroke_lines-requires-clause-bounds : goal.stroke_lines-requires-clause-boun
 stroke_lines-requires-clause-bounds g c =
     let s = c.args.machine.now.surface in
     let from = c.in-LinesFrom.from in
-    let bounds = c.in-LinesFrom.bounds in
+    let box = c.landed_box-landed.result in
     let placed = rw c.in-LinesFrom.is at c.requires.placed in
-    let lie = from_start_lies c.in-LinesFrom.by s placed.places.1.surface bounds from.placed from.plane (points_of c.in-LinesFrom.points) placed.places.0 placed.places.1.inside in
-    subst (All (LiesBetween bounds.t bounds.b)) (sym c.from-outline.ensures) lie
+    let points = from.plane ∷ points_on_plane c.in-LinesFrom.by c.in-LinesFrom.points in
+    let least = subst (IsLeastBox c.in-LinesFrom.bounds) (joined_one points) placed.least in
+    let within = subst (λ (ps : List Point). list_all (λ point. lands_within_limits point s) ps ≡ true) (joined_one points) placed.within in
+    let inside = landed_inside c.in-LinesFrom.by.place s placed.places.1 c.in-LinesFrom.bounds box c.landed_box-landed.ensures points least within in
+    let lie = from_start_lies c.in-LinesFrom.by s placed.places.1 box from.placed from.plane (points_of c.in-LinesFrom.points) placed.places.0 inside in
+    subst (All (LiesBetween box.t box.b)) (sym c.from-outline.ensures) lie
 
 pub of_lists-outline-requires : goal.of_lists-outline-requires
 of_lists-outline-requires g c =
     let placed = rw c.in-Polylines.is at c.requires.placed in
-    lists_land c.in-Polylines.by c.args.machine.now.surface placed.places.surface (lists_of c.in-Polylines.lists) placed.within
+    lists_land c.in-Polylines.by c.args.machine.now.surface placed.places (lists_of c.in-Polylines.lists) placed.within
 
 pub stroke_lines-requires-in-Polylines-clause-room : goal.stroke_lines-requires-in-Polylines-clause-room
 stroke_lines-requires-in-Polylines-clause-room g c =
@@ -79,15 +84,17 @@ stroke_lines-requires-in-Polylines-clause-room g c =
 
 pub stroke_lines-requires-in-Polylines-clause-bounds : goal.stroke_lines-requires-in-Polylines-clause-bounds
 stroke_lines-requires-in-Polylines-clause-bounds g c =
-    let bounds = c.in-Polylines.bounds in
+    let s = c.args.machine.now.surface in
+    let box = c.landed_box-landed-in-Polylines.result in
     let placed = rw c.in-Polylines.is at c.requires.placed in
-    let lie = placed_lines_lie c.in-Polylines.by c.args.machine.now.surface placed.places.surface bounds Open (lists_of c.in-Polylines.lists) placed.places.inside in
-    subst (All (LiesBetween bounds.t bounds.b)) (sym c.of_lists-outline.ensures) lie
+    let inside = landed_inside c.in-Polylines.by.place s placed.places c.in-Polylines.bounds box c.landed_box-landed-in-Polylines.ensures _ placed.least placed.within in
+    let lie = placed_lines_lie c.in-Polylines.by s placed.places box Open (lists_of c.in-Polylines.lists) inside in
+    subst (All (LiesBetween box.t box.b)) (sym c.of_lists-outline.ensures) lie
 
 pub of_lists-outline-requires-in-Polygons : goal.of_lists-outline-requires-in-Polygons
 of_lists-outline-requires-in-Polygons g c =
     let placed = rw c.in-Polygons.is at c.requires.placed in
-    lists_land c.in-Polygons.by c.args.machine.now.surface placed.places.surface (lists_of c.in-Polygons.lists) placed.within
+    lists_land c.in-Polygons.by c.args.machine.now.surface placed.places (lists_of c.in-Polygons.lists) placed.within
 
 pub stroke_lines-requires-in-Polygons-clause-room : goal.stroke_lines-requires-in-Polygons-clause-room
 stroke_lines-requires-in-Polygons-clause-room g c =
@@ -98,10 +105,12 @@ stroke_lines-requires-in-Polygons-clause-room g c =
 
 pub stroke_lines-requires-in-Polygons-clause-bounds : goal.stroke_lines-requires-in-Polygons-clause-bounds
 stroke_lines-requires-in-Polygons-clause-bounds g c =
-    let bounds = c.in-Polygons.bounds in
+    let s = c.args.machine.now.surface in
+    let box = c.landed_box-landed-in-Polygons.result in
     let placed = rw c.in-Polygons.is at c.requires.placed in
-    let lie = placed_lines_lie c.in-Polygons.by c.args.machine.now.surface placed.places.surface bounds Closed (lists_of c.in-Polygons.lists) placed.places.inside in
-    subst (All (LiesBetween bounds.t bounds.b)) (sym c.of_lists-outline-in-Polygons.ensures) lie
+    let inside = landed_inside c.in-Polygons.by.place s placed.places c.in-Polygons.bounds box c.landed_box-landed-in-Polygons.ensures _ placed.least placed.within in
+    let lie = placed_lines_lie c.in-Polygons.by s placed.places box Closed (lists_of c.in-Polygons.lists) inside in
+    subst (All (LiesBetween box.t box.b)) (sym c.of_lists-outline-in-Polygons.ensures) lie
 
 pub rectangle_box-inside-requires-clause-first : goal.rectangle_box-inside-requires-clause-first
 rectangle_box-inside-requires-clause-first g c =
@@ -152,7 +161,7 @@ returns-in-LinesFrom-clause-drawn g c =
     let clip = clip_placed s paint.clip.now dc state c.with-paint.ensures.clip value c.dc-dc.ensures.placed in
     let by = c.in-LinesFrom.by in
     let from = c.in-LinesFrom.from in
-    let lines = c.from-outline.ensures ∙ from_start_placed by s placed.places.1.surface from.placed from.plane (points_of c.in-LinesFrom.points) placed.places.0 in
+    let lines = c.from-outline.ensures ∙ from_start_placed by s placed.places.1 from.placed from.plane (points_of c.in-LinesFrom.points) placed.places.0 in
     let shape = on_lines ((from.plane ∷ points_on_plane by c.in-LinesFrom.points) ∷ []) in
     let drawn = pen_drawn c.writing_law.ensures s c.args.canvas.now c.stroke_lines.new.canvas c.whole_law.ensures c.requires.whole paint tools modes operation clip _ shape c.args.colour c.with-paint.ensures.brush (λ x y. ap (λ (list : List Line). in_stroke list x y) lines) c.stroke_lines.ensures.pixels in
     rw (c.in-LinesFrom.is, pen_strokes shape tools c.args.colour c.requires.pen) drawn
@@ -170,7 +179,7 @@ returns-in-Polylines-clause-drawn g c =
     let operation = c.with-paint.ensures.operation ∙ ap (λ (d : DcValue). Binary d.modes.raster_op) value in
     let clip = clip_placed s paint.clip.now dc state c.with-paint.ensures.clip value c.dc-dc.ensures.placed in
     let by = c.in-Polylines.by in
-    let lines = c.of_lists-outline.ensures ∙ open_placed by s placed.places.surface (lists_of c.in-Polylines.lists) in
+    let lines = c.of_lists-outline.ensures ∙ open_placed by s placed.places (lists_of c.in-Polylines.lists) in
     let shape = on_lines (lists_on_plane by c.in-Polylines.lists) in
     let drawn = pen_drawn c.writing_law.ensures s c.args.canvas.now c.stroke_lines-in-Polylines.new.canvas c.whole_law.ensures c.requires.whole paint tools modes operation clip _ shape c.args.colour c.with-paint.ensures.brush (λ x y. ap (λ (list : List Line). in_stroke list x y) lines) c.stroke_lines-in-Polylines.ensures.pixels in
     rw (c.in-Polylines.is, pen_strokes shape tools c.args.colour c.requires.pen) drawn
@@ -188,7 +197,7 @@ returns-in-Polygons-clause-drawn g c =
     let operation = c.with-paint.ensures.operation ∙ ap (λ (d : DcValue). Binary d.modes.raster_op) value in
     let clip = clip_placed s paint.clip.now dc state c.with-paint.ensures.clip value c.dc-dc.ensures.placed in
     let by = c.in-Polygons.by in
-    let lines = c.of_lists-outline-in-Polygons.ensures ∙ closed_placed by s placed.places.surface (lists_of c.in-Polygons.lists) in
+    let lines = c.of_lists-outline-in-Polygons.ensures ∙ closed_placed by s placed.places (lists_of c.in-Polygons.lists) in
     let shape = round_polygons (lists_on_plane by c.in-Polygons.lists) in
     let drawn = pen_drawn c.writing_law.ensures s c.args.canvas.now c.stroke_lines-in-Polygons.new.canvas c.whole_law.ensures c.requires.whole paint tools modes operation clip _ shape c.args.colour c.with-paint.ensures.brush (λ x y. ap (λ (list : List Line). in_stroke list x y) lines) c.stroke_lines-in-Polygons.ensures.pixels in
     rw (c.in-Polygons.is, pen_strokes shape tools c.args.colour c.requires.pen) drawn
@@ -219,6 +228,9 @@ pub stroke_figures-requires : goal.stroke_figures-requires
 stroke_figures-requires g c =
     let drawn = rw c.in-Path.is at c.requires.placed in
     let room = rw c.in-Path.is at c.requires.lines in
-    let few = few_painted c.args.machine.now.surface c.in-Path.path c.args.machine.now.painted c.args.rows.now.room drawn.places room in
+    let s = c.args.machine.now.surface in
+    let pieces = c.args.machine.now.painted in
     let places = drawn.places in
-    search (places, few, rules)
+    let few = few_painted s c.in-Path.path pieces c.args.rows.now.room places room in
+    let inside = painting_inside s c.in-Path.path pieces c.landed_box-landed-in-Path.result c.landed_box-landed-in-Path.ensures places.surface drawn.least drawn.within in
+    search (places, inside, few, rules)

@@ -21,7 +21,7 @@ stroke_lines-requires-clause-room g c =
 
 pub stroke_lines-requires-clause-bounds : goal.stroke_lines-requires-clause-bounds
 stroke_lines-requires-clause-bounds g c =
-    lines_lie c.args.machine.now.surface c.args.path c.args.machine.now.painted c.requires.placed c.in-Some.ends c.painted.result.now c.painted.ensures (piece_lines_left c.new-outline.result) c.new-outline.ensures
+    lines_lie c.args.machine.now.surface c.args.path c.args.machine.now.painted c.requires.placed c.in-Some.ends c.painted.result.now c.painted.ensures (piece_lines_left c.new-outline.result) c.new-outline.ensures c.args.bounds c.requires.bounds
 
 pub returns-clause-drawn : goal.returns-clause-drawn
 returns-clause-drawn g c =

@@ -7,6 +7,7 @@ use Rattle.dc_stack.specs.OperationFault.{source_fault}
 use Rattle.dc_stack.proofs.BlitLemmas.{readable}
 use Rattle.dc_stack.proofs.LandingLemmas.{all_land}
 use Rattle.dc_stack.proofs.ListLemmas.{never_too_many}
+use Rattle.dc_stack.proofs.PlaneBoxLemmas.{pair_tight}
 use Rattle.dc_stack.proofs.machine.Machine.blit.Goals as goal
 use Rattle.dc_stack.proofs.machine.Machine.blit.Goals.{in-Ok, in-Err}
 
@@ -26,6 +27,7 @@ returns-clause-plays g c =
             drawn = rw (first.plane, second.plane) refl;
             placed = record {
               places = record { first = first.placed; second = second.placed; readable = readable asked.operation.table (source_of asked.source) none };
+              least = pair_tight c.box_law.ensures w.in-Ok.first.plane w.in-Ok.second.plane;
               within = rw (first.plane, second.plane) (all_land s corners lands);
               few = never_too_many 0 (omega arith);
             };

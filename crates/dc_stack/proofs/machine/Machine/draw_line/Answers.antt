@@ -4,6 +4,7 @@ use Rattle.mapping.specs.PlaceOf.{surface_of}
 use Rattle.dc_stack.specs.Mapped.{mapped_list}
 use Rattle.dc_stack.proofs.LandingLemmas.{all_land}
 use Rattle.dc_stack.proofs.ListLemmas.{few_then, never_too_many}
+use Rattle.dc_stack.proofs.PlaneBoxLemmas.{pair_tight}
 use Rattle.dc_stack.proofs.machine.Machine.draw_line.Goals as goal
 
 pub returns-in-Ok-clause-draws : goal.returns-in-Ok-clause-draws
@@ -20,6 +21,7 @@ returns-in-Ok-clause-draws g c =
       drawn = rw (first.plane, second.plane) refl;
       placed = record {
         places = (first.placed, second.placed);
+        least = pair_tight c.box_law.ensures c.in-Ok.from.plane c.in-Ok.to.plane;
         within = rw (first.plane, second.plane) (all_land surface points c.in-Ok.ensures.fault);
         few = never_too_many 2 (omega arith);
       };

@@ -1,15 +1,15 @@
 use Rattle.std.proofs.Common.{◌≡◌, List, [], ◌∷◌, Some, None, ap, refl, sym, ◌∙◌, subst}
+use Rattle.mapping.specs.Boxes.{IsLeastBox}
 use Rattle.mapping.specs.PageMap.{map_numbers}
 use Rattle.mapping.specs.PlaceOf.{surface_of}
 use Rattle.mapping.specs.declared.geometry.Point.{Point}
 use Rattle.point_views.specs.Points.{points_of}
-use Rattle.dc_stack.specs.Boxes.{HasAll, placed_list}
 use Rattle.dc_stack.specs.Drawing.{lines_through, tools_of}
 use Rattle.dc_stack.specs.Mapped.{mapped_list}
 use Rattle.dc_stack.specs.Needs.{greater_needs, points_needed}
 use Rattle.dc_stack.specs.OperationFault.{points_fault}
 use Rattle.dc_stack.specs.Values.{dc_value}
-use Rattle.dc_stack.proofs.ListLemmas.{has_points, one_list_few, one_list_lands, same_lines, through, through_count, through_fault}
+use Rattle.dc_stack.proofs.ListLemmas.{has_points, joined_one, one_list_few, one_list_lands, same_lines, through, through_count, through_fault}
 use Rattle.dc_stack.proofs.machine.Machine.draw_lines.Goals as goal
 
 pub returns-in-Ok-clause-draws : goal.returns-in-Ok-clause-draws
@@ -32,7 +32,8 @@ returns-in-Ok-clause-draws g c =
       needs = c.raise_edges.ensures ∙ ap (λ n. greater_needs c.self.inside.needs (points_needed n)) counted;
       drawn = ap (λ lists. Some (record { mark = lines_through lists; tools = tools_of (dc_value c.self.inside.dc) })) (ap (λ list. list ∷ []) same ∙ sym (through map start points some));
       placed = record {
-        places = (from.placed, record { surface = c.projection-by.ensures.place; inside = subst (λ (list : List Point). HasAll bounds (placed_list surface list)) (sym same) c.in-Ok.ensures.bounds });
+        places = (from.placed, c.projection-by.ensures.place);
+        least = rw (joined_one on_plane) (subst (IsLeastBox bounds) (sym same) c.in-Ok.ensures.bounds);
         within = one_list_lands on_plane surface lands;
         few = one_list_few on_plane surface lands;
       };

@@ -4,6 +4,7 @@ use Rattle.mapping.specs.PlaceOf.{surface_of}
 use Rattle.dc_stack.specs.Mapped.{mapped_corners}
 use Rattle.dc_stack.proofs.LandingLemmas.{all_land}
 use Rattle.dc_stack.proofs.ListLemmas.{few_then, never_too_many}
+use Rattle.dc_stack.proofs.PlaneBoxLemmas.{pair_tight}
 use Rattle.dc_stack.proofs.machine.Machine.draw_rectangle.Goals as goal
 
 pub returns-in-Ok-clause-draws : goal.returns-in-Ok-clause-draws
@@ -19,6 +20,7 @@ returns-in-Ok-clause-draws g c =
       drawn = rw (first, second) refl;
       placed = record {
         places = (c.in-Ok.ensures.first.placed, c.in-Ok.ensures.second.placed);
+        least = pair_tight c.box_law.ensures c.in-Ok.first.plane c.in-Ok.second.plane;
         within = rw (first, second) (all_land (surface_of c.self.inside.place) corners lands);
         few = never_too_many 4 (omega arith);
       };

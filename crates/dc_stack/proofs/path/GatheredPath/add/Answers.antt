@@ -1,10 +1,10 @@
 use Rattle.std.proofs.Common.{List, [], ◌∷◌, ◌++◌, ap, subst, sym, ◌∙◌}
+use Rattle.mapping.specs.Boxes.{IsBoxOf}
 use Rattle.mapping.specs.PageMap.{map_numbers}
 use Rattle.mapping.specs.PlaceOf.{surface_of}
 use Rattle.mapping.specs.declared.geometry.Rect.{Rect}
-use Rattle.dc_stack.specs.Boxes.{HasAll, HasAllOf, placed_list}
 use Rattle.dc_stack.specs.Drawing.{joined}
-use Rattle.dc_stack.specs.GatheredPath.{open_piece}
+use Rattle.dc_stack.specs.GatheredPath.{gathered_points, open_piece}
 use Rattle.dc_stack.specs.Pieces.{plane_lists}
 use Rattle.dc_stack.specs.declared.piece.Piece.{Piece}
 use Rattle.dc_stack.proofs.GatheringLemmas.{lands_with}
@@ -17,7 +17,7 @@ returns-in-Ok-make_room-clause-lands c =
     let before = c.args.self.now in
     let new = c.push.new.self in
     let items = c.push.ensures.pieces ∙ ap (λ (pieces : List Piece). pieces ++ piece ∷ []) c.in-Ok-make_room.ensures.same.pieces in
-    let bounds = sym c.push.ensures.bounds in
-    let more = subst (λ (box : Rect). HasAllOf box before.bounds) bounds c.in-Ok.ensures.more in
-    let all = subst (λ (box : Rect). HasAll box (placed_list s (joined (plane_lists (map_numbers piece.map) piece.points)))) bounds c.in-Ok.ensures.all in
-    lands_with s before new piece items more all c.in-Ok.ensures.fault
+    let gathered = gathered_points before.pieces.items in
+    let added = joined (plane_lists (map_numbers piece.map) piece.points) in
+    let grows = λ (h : IsBoxOf before.bounds gathered). subst (λ box. IsBoxOf box (gathered ++ added)) (sym c.push.ensures.bounds) (c.joined-bounds.ensures gathered added h c.in-Ok.ensures.least) in
+    lands_with s before new piece items grows c.in-Ok.ensures.fault

@@ -1,10 +1,10 @@
 use Rattle.std.proofs.Common.{◌≡◌, ◌+◌, List, [], ◌∷◌, ◌++◌, length, Some, nat_le, rules, true, inl, ap, subst, sym, ◌∙◌}
+use Rattle.mapping.specs.Boxes.{IsBoxOf}
 use Rattle.mapping.specs.PageMap.{map_numbers}
 use Rattle.mapping.specs.PlaceOf.{surface_of}
 use Rattle.mapping.specs.declared.geometry.Rect.{Rect}
-use Rattle.dc_stack.specs.Boxes.{HasAll, HasAllOf, placed_list}
 use Rattle.dc_stack.specs.Drawing.{joined}
-use Rattle.dc_stack.specs.GatheredPath.{open_piece}
+use Rattle.dc_stack.specs.GatheredPath.{gathered_points, open_piece}
 use Rattle.dc_stack.specs.Mapped.{mapped_list, mapped_point}
 use Rattle.dc_stack.specs.Path.{piece_limit}
 use Rattle.dc_stack.specs.Pieces.{page_points, plane_lists}
@@ -43,11 +43,11 @@ returns-in-Ok-make_room-clause-lands c = λ h.
     let between = c.push.new.self in
     let new = c.push-in-Ok-make_room.new.self in
     let first_items = c.push.ensures.pieces ∙ ap (λ (pieces : List Piece). pieces ++ first ∷ []) c.in-Ok-make_room.ensures.same.pieces in
-    let first_bounds = sym c.push.ensures.bounds in
-    let first_more = subst (λ (box : Rect). HasAllOf box old.bounds) first_bounds c.in-Ok.ensures.more in
-    let first_all = subst (λ (box : Rect). HasAll box (placed_list s (joined (plane_lists map first.points)))) first_bounds c.in-Ok.ensures.all in
-    let one = lands_with s old between first first_items first_more first_all c.in-Ok.ensures.fault h in
-    let second_bounds = sym c.push-in-Ok-make_room.ensures.bounds in
-    let second_more = subst (λ (box : Rect). HasAllOf new.bounds box) first_bounds (subst (λ (box : Rect). HasAllOf box c.in-Ok.bounds) second_bounds c.in-Ok-land_piece.ensures.more) in
-    let second_all = subst (λ (box : Rect). HasAll box (placed_list s (joined (plane_lists map second.points)))) second_bounds c.in-Ok-land_piece.ensures.all in
-    lands_with s between new second c.push-in-Ok-make_room.ensures.pieces second_more second_all c.in-Ok-land_piece.ensures.fault one
+    let gathered = gathered_points old.pieces.items in
+    let first_added = joined (plane_lists map first.points) in
+    let first_grows = λ (h : IsBoxOf old.bounds gathered). subst (λ box. IsBoxOf box (gathered ++ first_added)) (sym c.push.ensures.bounds) (c.joined-first.ensures gathered first_added h c.in-Ok.ensures.least) in
+    let one = lands_with s old between first first_items first_grows c.in-Ok.ensures.fault h in
+    let behind = gathered_points between.pieces.items in
+    let added = joined (plane_lists map second.points) in
+    let second_grows = λ (h : IsBoxOf between.bounds behind). subst (λ box. IsBoxOf box (behind ++ added)) (sym c.push-in-Ok-make_room.ensures.bounds) (c.joined-bounds.ensures behind added (subst (λ box. IsBoxOf box behind) c.push.ensures.bounds h) c.in-Ok-land_piece.ensures.least) in
+    lands_with s between new second c.push-in-Ok-make_room.ensures.pieces second_grows c.in-Ok-land_piece.ensures.fault one

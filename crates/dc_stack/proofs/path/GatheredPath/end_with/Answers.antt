@@ -1,6 +1,6 @@
 use Rattle.std.proofs.Common.{◌≢◌, List, [], ap, subst, sym, ◌∙◌}
+use Rattle.mapping.specs.Boxes.{IsBoxOf}
 use Rattle.mapping.specs.declared.geometry.Point.{Point}
-use Rattle.dc_stack.specs.Boxes.{HasAll, placed_list}
 use Rattle.dc_stack.specs.Figures.{Figures, all_figures, points_of_figures}
 use Rattle.dc_stack.specs.Pieces.{AllLandOn, LandsOn, figures_of, with_end}
 use Rattle.dc_stack.specs.declared.piece.Piece.{Piece}
@@ -25,5 +25,5 @@ returns-clause-lands c = λ s h.
     let same = ap (λ (f : Figures). points_of_figures (all_figures f)) figures ∙ points in
     record {
       pieces = subst (AllLandOn s) (sym c.push_reserved.ensures.items) after;
-      inside = subst (λ (ps : List Point). HasAll c.args.self.now.bounds (placed_list s ps)) (sym same) h.inside;
+      least = subst (IsBoxOf c.args.self.now.bounds) (sym same) h.least;
     }
