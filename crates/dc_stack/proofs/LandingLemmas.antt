@@ -1,8 +1,7 @@
 -- Points that land, or don't.
-use Rattle.std.proofs.Common.{◌≡◌, Bool, true, false, cond, ◌&&◌, List, [], ◌∷◌, Option, Some, None, arith, refl, sym, subst}
+use Rattle.std.proofs.Common.{◌≡◌, Bool, true, false, cond, ◌&&◌, List, [], ◌∷◌, Option, Some, None, refl}
 use Rattle.std.specs.List.{list_all}
-use Rattle.mapping.specs.Plane.{is_on_plane}
-use Rattle.mapping.specs.Surface.{Surface, fits_place, lands_within_limits, placed_point}
+use Rattle.mapping.specs.Surface.{Surface, lands_within_limits}
 use Rattle.mapping.specs.declared.geometry.Point.{Point}
 use Rattle.draw_ops.specs.declared.fault.Fault.{Fault}
 use Rattle.draw_ops.specs.declared.fault.Fault.TheVariants.{OffPlane}
@@ -15,10 +14,6 @@ off_unless test = cond test None (Some OffPlane)
 passed : (test : Bool) → None ≡ off_unless test → test ≡ true
 passed true e = refl
 passed false e = cc
-
-and_false : (a : Bool) → a && false ≡ false
-and_false true = refl
-and_false false = refl
 
 module _ (s : Surface) where
   -- all points of the plane land
@@ -46,18 +41,3 @@ module _ (s : Surface) where
       others_fail : (a : Bool) → None ≡ off_unless (a && true) → fault ≡ off_unless (a && all_lands points)
       others_fail true e = h
       others_fail false e = cc
-
-  -- a point whose place isn't within the limits is off, and one of the plane whose place is lands
-  pub off_where : (p plane : Point) → plane ≡ p → false ≡ fits_place (placed_point plane s) → Some OffPlane ≡ off_plane_fault (p ∷ []) s
-  off_where p plane same h =
-      let out : fits_place (placed_point p s) ≡ false = subst (λ (q : Point). fits_place (placed_point q s) ≡ false) same (sym h) in
-      fails (is_on_plane p) (fits_place (placed_point p s)) out
-    where
-      fails : (a b : Bool) → b ≡ false → Some OffPlane ≡ off_unless ((a && b) && true)
-      fails true b e = rw e refl
-      fails false b e = refl
-
-  pub lands_at : (p plane : Point) → plane ≡ p → true ≡ is_on_plane p → true ≡ fits_place (placed_point plane s) → None ≡ off_plane_fault (p ∷ []) s
-  lands_at p plane same on h =
-      let fits : fits_place (placed_point p s) ≡ true = subst (λ (q : Point). fits_place (placed_point q s) ≡ true) same (sym h) in
-      rw (← on, fits) refl

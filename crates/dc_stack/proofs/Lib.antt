@@ -1,5 +1,4 @@
 pub mod BoxLemmas
-pub mod CoordinateLemmas
 pub mod BlitLemmas
 pub mod LandingLemmas
 pub mod PlaneBoxLemmas

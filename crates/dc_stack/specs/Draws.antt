@@ -1,5 +1,5 @@
 -- The value of what a step draws.
-use Rattle.std.specs.Prelude.{◌≡◌, ◌≤◌, ℕ, Bool, true, false, [], ◌∷◌, length, IsTrue, List, Option, Some, None}
+use Rattle.std.specs.Prelude.{◌≡◌, ◌≤◌, Bool, true, false, [], ◌∷◌, length, IsTrue, List, Option, Some, None}
 use Rattle.std.specs.List.{list_all}
 use Rattle.mapping.specs.Boxes.{IsLeastBox, box_at, box_between}
 use Rattle.mapping.specs.PageMap.{map_numbers}
@@ -14,7 +14,7 @@ use Rattle.point_views.specs.declared.polys.Polys.{Polys}
 use Rattle.draw_ops.specs.Blits.{source_of}
 use Rattle.raster_ops.specs.Sources.{is_readable}
 use Rattle.raster_ops.specs.TernaryOps.{uses_source}
-use Rattle.dc_stack.specs.Drawing.{Mark, along_figures, dot, edge_limit, insides_of, joined, lines_through, mark_edges, mark_points, polygons_of, rectangle_between, blit_between}
+use Rattle.dc_stack.specs.Drawing.{Mark, along_figures, dot, edge_limit, insides_of, lines_through, mark_edges, mark_points, polygons_of, rectangle_between, blit_between}
 use Rattle.dc_stack.specs.Figures.{Figure, all_figures, lists_of_figures, points_of_figures}
 use Rattle.dc_stack.specs.Mapped.{mapped_list, mapped_lists}
 use Rattle.dc_stack.specs.Pieces.{AllLandOn, figures_of}

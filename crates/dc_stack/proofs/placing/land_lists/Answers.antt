@@ -1,9 +1,8 @@
-use Rattle.std.proofs.Common.{List, length, ap, sym, ◌∙◌, subst}
+use Rattle.std.proofs.Common.{length, ap, sym, ◌∙◌, subst}
 use Rattle.std.proofs.lemmas.List.{length-map}
 use Rattle.mapping.specs.Boxes.{IsBoxOf}
 use Rattle.mapping.specs.PageMap.{map_numbers}
 use Rattle.mapping.specs.PlaceOf.{surface_of}
-use Rattle.mapping.specs.declared.geometry.Point.{Point}
 use Rattle.point_views.specs.Points.{points_of}
 use Rattle.point_views.specs.Polys.{lists_of}
 use Rattle.dc_stack.specs.Mapped.{mapped_point}

@@ -1,5 +1,4 @@
-use Rattle.std.proofs.Common.{◌≡◌, [], ◌∷◌, arith, inl, refl, rules, sym}
-use Rattle.mapping.specs.PageMap.{map_numbers}
+use Rattle.std.proofs.Common.{[], ◌∷◌, arith, inl, refl, rules, sym}
 use Rattle.mapping.specs.PlaceOf.{surface_of}
 use Rattle.dc_stack.specs.Placing.{plane_list}
 use Rattle.dc_stack.proofs.LandingLemmas.{all_land}

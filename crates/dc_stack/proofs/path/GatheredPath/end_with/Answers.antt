@@ -1,6 +1,5 @@
 use Rattle.std.proofs.Common.{◌≢◌, List, [], ap, subst, sym, ◌∙◌}
 use Rattle.mapping.specs.Boxes.{IsBoxOf}
-use Rattle.mapping.specs.declared.geometry.Point.{Point}
 use Rattle.dc_stack.specs.Figures.{Figures, all_figures, points_of_figures}
 use Rattle.dc_stack.specs.Pieces.{AllLandOn, LandsOn, figures_of, with_end}
 use Rattle.dc_stack.specs.declared.piece.Piece.{Piece}
