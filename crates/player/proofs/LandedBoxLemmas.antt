@@ -1,5 +1,5 @@
 -- The points of a drawing land in the box between where two corners of its least box do.
-use Rattle.std.proofs.Common.{◌≡◌, Bool, true, false, ◌&&◌, ℤ, List, [], ◌∷◌, map, refl, ap, subst, sym, ◌∙◌}
+use Rattle.std.proofs.Common.{◌≡◌, Bool, true, false, ◌&&◌, List, [], ◌∷◌, map, refl, ap, sym, ◌∙◌}
 use Rattle.std.proofs.lemmas.Bool.{and_parts}
 use Rattle.std.proofs.lemmas.List.Elements.{All-nil}
 use Rattle.std.specs.List.{list_all}
