@@ -147,6 +147,16 @@ def painted_paths():
     return Counted(EMF.file(records, (width, height), 16), width, height)
 
 
+def scaled_lists():
+    """Lists on a map that scales, of which all but the first point lie below the surface: where points land is most of the work."""
+    chance, side = random.Random(8), 64
+    records = EMF.records("map_mode 8; window_extent 3000 3000; viewport_extent 2000 2000")
+    for _ in range(20):
+        below = [part for _ in range(5_000) for part in (chance.randrange(9_000), 1_000 + chance.randrange(9_000))]
+        records.append(EMF.step("polyline", 0, 0, *below))
+    return Counted(EMF.file(records, side, 16), side, side)
+
+
 FILES = {
     "10,000 small triangles, 64 by 8,192": triangles,
     "a zigzag of 20,000 points, 4,096 by 16": zigzag,
@@ -159,4 +169,5 @@ FILES = {
     "2,925 lists of six to 200 points, 64 by 8,192": longer_lists,
     "zigzags of 10 to 60,000 points, 4,096 by 16": zigzags,
     "3,000 painted paths under cuts, 64 by 8,192": painted_paths,
+    "100,000 points on a map that scales, 64 by 64": scaled_lists,
 }

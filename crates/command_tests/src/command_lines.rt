@@ -1,5 +1,6 @@
 //! Command lines, and what each wrong one is answered.
 
+use crate::comparing::same;
 use commands::{Line, line, usage};
 use std::alloc::{AllocError, Global};
 use std::test::Fail;
@@ -108,7 +109,11 @@ fn each_wrong_command_line_has_status_2(rt: HostRuntime) -> Result<(), Fail> {
         };
         let mut out = Vec::new(rt.alloc());
         let mut err = Vec::new(rt.alloc());
-        assert_eq!(rt; usage(&error, &mut out, &mut err).status, 2, "{text}");
+        same(
+            &rt,
+            (text, usage(&error, &mut out, &mut err).status),
+            (text, 2),
+        );
         assert!(rt; out.is_empty(), "{text}");
         let shown = str::from_utf8(err.as_slice())?;
         assert!(rt; shown.contains(text), "{text} in {shown}");
@@ -130,7 +135,7 @@ fn help_that_was_asked_for_goes_to_standard_output(rt: HostRuntime) -> Result<()
         };
         let mut out = Vec::new(rt.alloc());
         let mut err = Vec::new(rt.alloc());
-        assert_eq!(rt; usage(&error, &mut out, &mut err).status, 2);
+        same(&rt, usage(&error, &mut out, &mut err).status, 2);
         assert!(rt; err.is_empty());
         assert!(rt; str::from_utf8(out.as_slice())?.contains("Usage: metaplay"));
     }
@@ -151,8 +156,8 @@ fn a_command_line_under_refused_growth(rt: HostRuntime) -> Result<(), Fail> {
                 height,
             },
         ) => {
-            assert_eq!(rt; file, "a.wmf");
-            assert_eq!(rt; (width, height), (4, 5));
+            same(&rt, file, "a.wmf");
+            same(&rt, (width, height), (4, 5));
         }
         Err(error) => assert!(rt; error.kind() == clap::error::ErrorKind::OutOfMemory),
     }

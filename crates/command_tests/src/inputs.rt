@@ -1,5 +1,6 @@
 //! Inputs that are read to their end, and each that isn't.
 
+use crate::comparing::same;
 use commands::{InputFault, read_file, read_input};
 use std::alloc::{AllocError, Global};
 use std::io;
@@ -37,17 +38,19 @@ impl Read for Failing<'_> {
 fn a_file_is_read_and_not_standard_input(rt: HostRuntime) -> Result<(), Fail> {
     let mut input = "from standard input".as_bytes();
     let bytes = read_file(&rt, "stdin", &mut input)?;
-    assert_eq!(rt; bytes.as_slice(), b"from standard input".as_slice());
+    same(&rt, bytes.as_slice(), b"from standard input".as_slice());
     // A directory can be opened, and not read; this one is there on every machine.
     let mut input = "from standard input".as_bytes();
-    assert_eq!(rt;
+    same(
+        &rt,
         read_file(&rt, "/", &mut input).err(),
-        Some(InputFault::CannotRead)
+        Some(InputFault::CannotRead),
     );
     let mut input = "from standard input".as_bytes();
-    assert_eq!(rt;
+    same(
+        &rt,
         read_file(&rt, "/no/such/file", &mut input).err(),
-        Some(InputFault::CannotRead)
+        Some(InputFault::CannotRead),
     );
     let bytes = read_file(&rt, "/dev/null", &mut input)?;
     assert!(rt; bytes.is_empty());
@@ -59,14 +62,14 @@ fn an_input_is_read_to_its_end(rt: HostRuntime) -> Result<(), Fail> {
     for text in ["", "a", "some more bytes than one"] {
         let mut at_once = text.as_bytes();
         let bytes = read_input(rt.alloc(), &mut at_once)?;
-        assert_eq!(rt; bytes.as_slice(), text.as_bytes());
+        same(&rt, bytes.as_slice(), text.as_bytes());
         let mut slow = Failing {
             bytes: text.as_bytes(),
             calls_left: 1000,
             kind: io::ErrorKind::BrokenPipe,
         };
         let bytes = read_input(rt.alloc(), &mut slow)?;
-        assert_eq!(rt; bytes.as_slice(), text.as_bytes());
+        same(&rt, bytes.as_slice(), text.as_bytes());
     }
     Ok(())
 }
@@ -86,10 +89,10 @@ fn a_reader_that_fails_cannot_be_read(rt: HostRuntime) -> Result<(), Fail> {
                 kind,
             };
             let read = read_input(rt.alloc(), &mut input);
-            assert_eq!(rt;
-                read.err(),
-                Some(InputFault::CannotRead),
-                "at call {calls_left}"
+            same(
+                &rt,
+                (calls_left, read.err()),
+                (calls_left, Some(InputFault::CannotRead)),
             );
         }
     }
@@ -99,10 +102,10 @@ fn a_reader_that_fails_cannot_be_read(rt: HostRuntime) -> Result<(), Fail> {
 #[test]
 fn an_input_has_at_most_268435456_bytes(rt: HostRuntime) -> Result<(), Fail> {
     let bytes = read_input(rt.alloc(), &mut io::repeat(0).take(268435456))?;
-    assert_eq!(rt; bytes.len(), 268435456);
+    same(&rt, bytes.len(), 268435456);
     drop(bytes);
     let read = read_input(rt.alloc(), &mut io::repeat(0).take(268435457));
-    assert_eq!(rt; read.err(), Some(InputFault::CannotRead));
+    same(&rt, read.err(), Some(InputFault::CannotRead));
     Ok(())
 }
 
@@ -121,7 +124,7 @@ fn an_input_may_end_at_a_piece_or_beside_it(rt: HostRuntime) -> Result<(), Fail>
         let wanted = pattern(rt.alloc(), length)?;
         let mut input = wanted.as_slice();
         let bytes = read_input(rt.alloc(), &mut input)?;
-        assert_eq!(rt; bytes.len(), length);
+        same(&rt, bytes.len(), length);
         assert!(rt; bytes.as_slice() == wanted.as_slice(), "{length} bytes");
         let mut input = wanted.as_slice();
         let bytes = read_file(&rt, "stdin", &mut input)?;
@@ -170,10 +173,10 @@ fn is_read_whole(alloc: Global, bytes: &[u8], length: usize) -> Result<bool, Inp
 fn an_input_under_refused_growth(rt: HostRuntime) -> Result<(), Fail> {
     match read_input(rt.alloc(), &mut io::repeat(7).take(300000)) {
         Ok(bytes) => {
-            assert_eq!(rt; bytes.len(), 300000);
+            same(&rt, bytes.len(), 300000);
             assert!(rt; bytes.iter().all(|byte| *byte == 7));
         }
-        Err(fault) => assert_eq!(rt; fault, InputFault::OutOfMemory),
+        Err(fault) => same(&rt, fault, InputFault::OutOfMemory),
     }
     Ok(())
 }

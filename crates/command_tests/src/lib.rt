@@ -5,6 +5,8 @@
 #![tactic(auto)]
 
 mod command_lines;
+#[cfg(test)]
+mod comparing;
 mod inputs;
 mod reports;
 mod showing;

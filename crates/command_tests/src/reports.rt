@@ -1,5 +1,6 @@
 //! Lines on standard error.
 
+use crate::comparing::same;
 use canvas::WriteFault;
 use commands::{Answer, InputFault, no_input, report};
 use draw_ops::Fault;
@@ -15,14 +16,15 @@ fn an_input_that_fails_is_reported_in_one_line(rt: HostRuntime) -> Result<(), Fa
     ];
     for (fault, status, text) in cases {
         let mut err = Vec::new(rt.alloc());
-        assert_eq!(rt;
+        same(
+            &rt,
             no_input(fault, &mut err),
             Answer {
                 status,
-                told: Ok(())
-            }
+                told: Ok(()),
+            },
         );
-        assert_eq!(rt; err.as_slice(), text);
+        same(&rt, err.as_slice(), text);
     }
     Ok(())
 }
@@ -30,9 +32,9 @@ fn an_input_that_fails_is_reported_in_one_line(rt: HostRuntime) -> Result<(), Fa
 #[test]
 fn the_faults_of_an_input_show_their_lines(rt: HostRuntime) -> Result<(), Fail> {
     let read = format!(in rt.alloc(); "{}", InputFault::CannotRead)?;
-    assert_eq!(rt; read.as_str(), "cannot read");
+    same(&rt, read.as_str(), "cannot read");
     let memory = format!(in rt.alloc(); "{}", InputFault::OutOfMemory)?;
-    assert_eq!(rt; memory.as_str(), "OutOfMemory");
+    same(&rt, memory.as_str(), "OutOfMemory");
     Ok(())
 }
 
@@ -43,9 +45,9 @@ fn the_longest_refusal_has_room(rt: HostRuntime) -> Result<(), Fail> {
         fault: Fault::UnknownRecord(u32::MAX),
     };
     let mut err = Vec::new(rt.alloc());
-    assert_eq!(rt; report(&mut err, refusal), Ok(()));
+    same(&rt, report(&mut err, refusal), Ok(()));
     let line = b"metaplay: UnknownRecord 4294967295 at record 4294967295\n";
-    assert_eq!(rt; err.as_slice(), line.as_slice());
+    same(&rt, err.as_slice(), line.as_slice());
     Ok(())
 }
 
@@ -75,8 +77,8 @@ fn a_refusal_in_each_record_is_told_whole(rt: HostRuntime) -> Result<(), Fail> {
         };
         let want = format!(in rt.alloc(); "metaplay: PastEnd at record {number}\n")?;
         let mut err = Vec::new(rt.alloc());
-        assert_eq!(rt; report(&mut err, refusal), Ok(()), "record {number}");
-        assert_eq!(rt; err.as_slice(), want.as_bytes(), "record {number}");
+        same(&rt, (number, report(&mut err, refusal)), (number, Ok(())));
+        same(&rt, (number, err.as_slice()), (number, want.as_bytes()));
     }
     Ok(())
 }
@@ -89,8 +91,8 @@ fn a_line_of_each_length_is_told_whole(rt: HostRuntime) -> Result<(), Fail> {
         let told = text.as_str().get(..length).ok_or("a front")?;
         let want = format!(in rt.alloc(); "metaplay: {told}\n")?;
         let mut err = Vec::new(rt.alloc());
-        assert_eq!(rt; report(&mut err, told), Ok(()), "{length} bytes");
-        assert_eq!(rt; err.as_slice(), want.as_bytes(), "{length} bytes");
+        same(&rt, (length, report(&mut err, told)), (length, Ok(())));
+        same(&rt, (length, err.as_slice()), (length, want.as_bytes()));
     }
     Ok(())
 }
@@ -100,12 +102,16 @@ fn a_line_is_told_whole_or_not_at_all(rt: HostRuntime) -> Result<(), Fail> {
     // 117 bytes, the program's name and the line feed fill a line.
     let text = "0123456789".repeat(rt.alloc(), 12)?;
     let mut err = Vec::new(rt.alloc());
-    assert_eq!(rt; report(&mut err, &text.as_str()[..117]), Ok(()));
-    assert_eq!(rt; err.len(), 128);
-    assert_eq!(rt; &err[..13], b"metaplay: 012".as_slice());
-    assert_eq!(rt; &err[124..], b"456\n".as_slice());
+    same(&rt, report(&mut err, &text.as_str()[..117]), Ok(()));
+    assert!(rt; err.len() == 128);
+    same(&rt, &err[..13], b"metaplay: 012".as_slice());
+    same(&rt, &err[124..], b"456\n".as_slice());
     let mut err = Vec::new(rt.alloc());
-    assert_eq!(rt; report(&mut err, &text.as_str()[..118]), Err(WriteFault));
+    same(
+        &rt,
+        report(&mut err, &text.as_str()[..118]),
+        Err(WriteFault),
+    );
     assert!(rt; err.is_empty());
     Ok(())
 }

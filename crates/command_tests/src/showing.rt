@@ -1,5 +1,6 @@
 //! Files that are shown, and files that are refused.
 
+use crate::comparing::same;
 use crate::{DOT, limited};
 use commands::show_command;
 use std::alloc::{AllocError, Global};
@@ -35,9 +36,9 @@ fn showing_a_dot_writes_its_image(rt: HostRuntime) -> Result<(), Fail> {
     let mut out = limited(rt.alloc(), 1000, true);
     let mut err = Vec::new(rt.alloc());
     let status = show_command(rt.alloc(), DOT, 2, 2, &mut out, &mut err).status;
-    assert_eq!(rt; status, 0);
+    same(&rt, status, 0);
     let want = b"P6\n2 2\n255\n\xff\xff\xff\xff\x00\x00\xff\xff\xff\xff\xff\xff";
-    assert_eq!(rt; out.taken.as_slice(), want.as_slice());
+    same(&rt, out.taken.as_slice(), want.as_slice());
     assert!(rt; err.is_empty());
     Ok(())
 }
@@ -50,9 +51,9 @@ fn a_file_that_draws_nothing_is_white(rt: HostRuntime) -> Result<(), Fail> {
     let mut out = limited(rt.alloc(), 1000, true);
     let mut err = Vec::new(rt.alloc());
     let status = show_command(rt.alloc(), file.as_slice(), 2, 1, &mut out, &mut err).status;
-    assert_eq!(rt; status, 0);
+    same(&rt, status, 0);
     let want = b"P6\n2 1\n255\n\xff\xff\xff\xff\xff\xff";
-    assert_eq!(rt; out.taken.as_slice(), want.as_slice());
+    same(&rt, out.taken.as_slice(), want.as_slice());
     assert!(rt; err.is_empty());
     Ok(())
 }
@@ -98,7 +99,7 @@ fn sides_of_1_8191_and_8192_are_shown(rt: HostRuntime) -> Result<(), Fail> {
         let mut out = limited(rt.alloc(), 100000, true);
         let mut err = Vec::new(rt.alloc());
         let status = show_command(rt.alloc(), DOT, width, height, &mut out, &mut err).status;
-        assert_eq!(rt; status, 0);
+        same(&rt, status, 0);
         assert!(rt;
             out.taken.as_slice() == want.as_slice(),
             "{width} by {height}"
@@ -115,12 +116,12 @@ fn each_height_from_1_to_8192_is_shown(rt: HostRuntime) -> Result<(), Fail> {
         let mut out = Vec::new(rt.alloc());
         let mut err = Vec::new(rt.alloc());
         let answer = show_command(rt.alloc(), DOT, 1, height, &mut out, &mut err);
-        assert_eq!(rt; answer.status, 0, "height {height}");
+        same(&rt, (height, answer.status), (height, 0));
         assert!(rt;
             out.as_slice().starts_with(header.as_bytes()),
             "height {height}"
         );
-        assert_eq!(rt; out.len(), header.len() + 3 * height as usize);
+        same(&rt, out.len(), header.len() + 3 * height as usize);
         assert!(rt; err.is_empty(), "height {height}");
     }
     Ok(())
@@ -137,13 +138,13 @@ fn a_refused_file_is_reported_in_one_line(rt: HostRuntime) -> Result<(), Fail> {
         let mut out = limited(rt.alloc(), 1000, true);
         let mut err = Vec::new(rt.alloc());
         let status = show_command(rt.alloc(), file, 4, 4, &mut out, &mut err).status;
-        assert_eq!(rt; status, 1);
-        assert_eq!(rt; err.as_slice(), text);
+        same(&rt, status, 1);
+        same(&rt, err.as_slice(), text);
         assert!(rt; out.taken.is_empty());
         // A fault of standard error changes no status, and is told.
         let mut closed = limited(rt.alloc(), 0, false);
         let answer = show_command(rt.alloc(), file, 4, 4, &mut out, &mut closed);
-        assert_eq!(rt; answer.status, 1);
+        same(&rt, answer.status, 1);
         assert!(rt; answer.told.is_err());
     }
     Ok(())
@@ -163,12 +164,12 @@ fn showing_under_refused_growth(rt: HostRuntime) -> Result<(), Fail> {
     )
     .status;
     if status == 0 {
-        assert_eq!(rt; &out[..14], b"P6\n1 1\n255\n\xff\0\0".as_slice());
-        assert_eq!(rt; err[0], 0);
+        same(&rt, &out[..14], b"P6\n1 1\n255\n\xff\0\0".as_slice());
+        same(&rt, err[0], 0);
     } else {
-        assert_eq!(rt; status, 4);
-        assert_eq!(rt; out[0], 0);
-        assert_eq!(rt; &err[..22], b"metaplay: OutOfMemory\n".as_slice());
+        same(&rt, status, 4);
+        same(&rt, out[0], 0);
+        same(&rt, &err[..22], b"metaplay: OutOfMemory\n".as_slice());
     }
     Ok(())
 }

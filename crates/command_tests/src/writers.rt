@@ -1,5 +1,6 @@
 //! Writers that fail, refuse, stop short or are interrupted.
 
+use crate::comparing::same;
 use crate::{DOT, limited};
 use commands::show_command;
 use std::alloc::Global;
@@ -76,9 +77,9 @@ fn a_failed_write_or_flush_has_status_3(rt: HostRuntime) -> Result<(), Fail> {
         let mut out = limited(rt.alloc(), most, can_flush);
         let mut err = Vec::new(rt.alloc());
         let status = show_command(rt.alloc(), DOT, 4, 4, &mut out, &mut err).status;
-        assert_eq!(rt; status, 3, "{most} bytes");
-        assert_eq!(rt; err.as_slice(), b"metaplay: cannot write\n".as_slice());
-        assert_eq!(rt; out.taken.len(), most);
+        same(&rt, (most, status), (most, 3));
+        same(&rt, err.as_slice(), b"metaplay: cannot write\n".as_slice());
+        same(&rt, out.taken.len(), most);
     }
     Ok(())
 }
@@ -88,10 +89,10 @@ fn an_image_is_flushed_once_behind_its_last_byte(rt: HostRuntime) -> Result<(), 
     let mut out = Slow::new(rt.alloc(), u32::MAX, io::ErrorKind::Other);
     let mut err = Slow::new(rt.alloc(), u32::MAX, io::ErrorKind::Other);
     let status = show_command(rt.alloc(), DOT, 4, 1, &mut out, &mut err).status;
-    assert_eq!(rt; status, 0);
-    assert_eq!(rt; out.taken.as_slice(), ROW);
-    assert_eq!(rt; (out.flushes, out.taken_at_flush), (1, ROW.len()));
-    assert_eq!(rt; (err.calls, err.flushes), (0, 0));
+    same(&rt, status, 0);
+    same(&rt, out.taken.as_slice(), ROW);
+    same(&rt, (out.flushes, out.taken_at_flush), (1, ROW.len()));
+    same(&rt, (err.calls, err.flushes), (0, 0));
     Ok(())
 }
 
@@ -100,11 +101,12 @@ fn a_refused_file_writes_and_flushes_nothing(rt: HostRuntime) -> Result<(), Fail
     let mut out = Slow::new(rt.alloc(), u32::MAX, io::ErrorKind::Other);
     let mut err = Slow::new(rt.alloc(), u32::MAX, io::ErrorKind::Other);
     let status = show_command(rt.alloc(), &DOT[..50], 4, 1, &mut out, &mut err).status;
-    assert_eq!(rt; status, 1);
-    assert_eq!(rt; (out.calls, out.flushes), (0, 0));
-    assert_eq!(rt;
+    same(&rt, status, 1);
+    same(&rt, (out.calls, out.flushes), (0, 0));
+    same(
+        &rt,
         err.taken.as_slice(),
-        b"metaplay: PastEnd at record 0\n".as_slice()
+        b"metaplay: PastEnd at record 0\n".as_slice(),
     );
     Ok(())
 }
@@ -114,9 +116,9 @@ fn an_image_of_one_row_may_fail_at_its_flush(rt: HostRuntime) -> Result<(), Fail
     let mut out = limited(rt.alloc(), 1000, false);
     let mut err = Vec::new(rt.alloc());
     let status = show_command(rt.alloc(), DOT, 4, 1, &mut out, &mut err).status;
-    assert_eq!(rt; status, 3);
-    assert_eq!(rt; out.taken.as_slice(), ROW);
-    assert_eq!(rt; err.as_slice(), b"metaplay: cannot write\n".as_slice());
+    same(&rt, status, 3);
+    same(&rt, out.taken.as_slice(), ROW);
+    same(&rt, err.as_slice(), b"metaplay: cannot write\n".as_slice());
     Ok(())
 }
 
@@ -126,9 +128,9 @@ fn an_interrupted_write_is_tried_again(rt: HostRuntime) -> Result<(), Fail> {
         let mut out = Slow::new(rt.alloc(), fails_at, io::ErrorKind::Interrupted);
         let mut err = Vec::new(rt.alloc());
         let status = show_command(rt.alloc(), DOT, 4, 1, &mut out, &mut err).status;
-        assert_eq!(rt; status, 0, "at call {fails_at}");
-        assert_eq!(rt; out.taken.as_slice(), ROW);
-        assert_eq!(rt; out.flushes, 1);
+        same(&rt, (fails_at, status), (fails_at, 0));
+        same(&rt, out.taken.as_slice(), ROW);
+        same(&rt, out.flushes, 1);
         assert!(rt; err.is_empty());
     }
     Ok(())
@@ -145,10 +147,10 @@ fn a_write_that_fails_otherwise_is_tried_once(rt: HostRuntime) -> Result<(), Fai
             let mut out = Slow::new(rt.alloc(), fails_at, kind);
             let mut err = Vec::new(rt.alloc());
             let status = show_command(rt.alloc(), DOT, 4, 1, &mut out, &mut err).status;
-            assert_eq!(rt; status, 3);
-            assert_eq!(rt; (out.calls, out.flushes), (fails_at + 1, 0));
-            assert_eq!(rt; out.taken.as_slice(), &ROW[..fails_at as usize]);
-            assert_eq!(rt; err.as_slice(), b"metaplay: cannot write\n".as_slice());
+            same(&rt, status, 3);
+            same(&rt, (out.calls, out.flushes), (fails_at + 1, 0));
+            same(&rt, out.taken.as_slice(), &ROW[..fails_at as usize]);
+            same(&rt, err.as_slice(), b"metaplay: cannot write\n".as_slice());
         }
     }
     Ok(())
@@ -158,11 +160,11 @@ fn a_write_that_fails_otherwise_is_tried_once(rt: HostRuntime) -> Result<(), Fai
 fn a_writer_that_takes_nothing_cannot_be_written(rt: HostRuntime) -> Result<(), Fail> {
     let mut err = Vec::new(rt.alloc());
     let status = show_command(rt.alloc(), DOT, 4, 1, &mut Deaf, &mut err).status;
-    assert_eq!(rt; status, 3);
-    assert_eq!(rt; err.as_slice(), b"metaplay: cannot write\n".as_slice());
+    same(&rt, status, 3);
+    same(&rt, err.as_slice(), b"metaplay: cannot write\n".as_slice());
     let mut out = Vec::new(rt.alloc());
     let status = show_command(rt.alloc(), b"", 4, 1, &mut out, &mut Deaf).status;
-    assert_eq!(rt; status, 1);
+    same(&rt, status, 1);
     Ok(())
 }
 
@@ -172,8 +174,12 @@ fn a_line_is_told_whole_where_standard_error_is_slow(rt: HostRuntime) -> Result<
         let mut out = Vec::new(rt.alloc());
         let mut err = Slow::new(rt.alloc(), fails_at, io::ErrorKind::Interrupted);
         let status = show_command(rt.alloc(), b"", 4, 1, &mut out, &mut err).status;
-        assert_eq!(rt; status, 1);
-        assert_eq!(rt; err.taken.as_slice(), b"metaplay: NotMetafile\n".as_slice());
+        same(&rt, status, 1);
+        same(
+            &rt,
+            err.taken.as_slice(),
+            b"metaplay: NotMetafile\n".as_slice(),
+        );
     }
     Ok(())
 }
@@ -183,8 +189,8 @@ fn a_line_ends_where_standard_error_fails(rt: HostRuntime) -> Result<(), Fail> {
     let mut out = Vec::new(rt.alloc());
     let mut err = Slow::new(rt.alloc(), 4, io::ErrorKind::WouldBlock);
     let status = show_command(rt.alloc(), b"", 4, 1, &mut out, &mut err).status;
-    assert_eq!(rt; status, 1);
-    assert_eq!(rt; err.taken.as_slice(), b"meta".as_slice());
-    assert_eq!(rt; err.calls, 5);
+    same(&rt, status, 1);
+    same(&rt, err.taken.as_slice(), b"meta".as_slice());
+    same(&rt, err.calls, 5);
     Ok(())
 }

@@ -11,7 +11,7 @@ use Rattle.point_views.specs.PartedPoints.{parts_of}
 use Rattle.point_views.specs.Points.{points_of}
 use Rattle.draw_ops.specs.Operation.{Operation, polygon, polyline}
 use Rattle.dc_stack.specs.Adding.{Adds, AddsLists, HasNotAdded}
-use Rattle.dc_stack.specs.Drawing.{Drawing, drawing_now, drawing_of, edge_limit, joined, lines_through, polygons_of}
+use Rattle.dc_stack.specs.Drawing.{Drawing, drawing_now, drawing_of, edge_limit, joined, lists_painted}
 use Rattle.dc_stack.specs.Figures.{Figures, points_gone_on}
 use Rattle.dc_stack.specs.GatheredPath.{WantsPieceRoom, after_lists, path_in}
 use Rattle.dc_stack.specs.MachineState.{IsUnchanged, MachineState, Plays}
@@ -23,6 +23,7 @@ use Rattle.dc_stack.specs.Path.{Path, after_lines, after_polygons, after_polylin
 use Rattle.dc_stack.specs.Pieces.{page_points, plane_lists, with_lists}
 use Rattle.dc_stack.specs.State.{with_path, with_position}
 use Rattle.dc_stack.specs.declared.draw.Draw.{Draw}
+use Rattle.dc_stack.specs.declared.draw.Painting.TheVariants.{Stroke, StrokeAndFill}
 use Rattle.dc_stack.specs.declared.path.PathPhase.{PathPhase}
 use Rattle.dc_stack.specs.declared.path.PathPhase.TheVariants.{NoPath, BetweenFigures, InFigure, Finished, Painted}
 use Rattle.dc_stack.specs.declared.piece.Joining.{Joining}
@@ -165,9 +166,9 @@ module _ (old new : MachineState) (at : is_open old.state.path ≡ true) (points
       let on_plane = mapped_lists old.state.dc.map lists in
       let after = after_polylines on_plane old.state.path in
       plays_added (polyline lists) after (joined on_plane) old.state.dc.position old result new refl
-      (rw (nothing_drawn old.state.path at (drawing_now (lines_through on_plane) old.state)) refl)
-      (nothing_drawn old.state.path at (drawing_now (lines_through on_plane) old.state))
-      (added_fault old.state.path at (piece_count after) (joined on_plane) (drawing_now (lines_through on_plane) old.state) old.surface)
+      (rw (nothing_drawn old.state.path at (drawing_now (lists_painted Stroke on_plane) old.state)) refl)
+      (nothing_drawn old.state.path at (drawing_now (lists_painted Stroke on_plane) old.state))
+      (added_fault old.state.path at (piece_count after) (joined on_plane) (drawing_now (lists_painted Stroke on_plane) old.state) old.surface)
       (rw (plane, same_points) at h)
 
   pub plays_polygons : AddsLists Polygons points old result new → Plays (polygon lists) old result new
@@ -175,7 +176,7 @@ module _ (old new : MachineState) (at : is_open old.state.path ≡ true) (points
       let on_plane = mapped_lists old.state.dc.map lists in
       let after = after_polygons on_plane old.state.path in
       plays_added (polygon lists) after (joined on_plane) old.state.dc.position old result new refl
-      (rw (nothing_drawn old.state.path at (drawing_now (polygons_of on_plane) old.state)) refl)
-      (nothing_drawn old.state.path at (drawing_now (polygons_of on_plane) old.state))
-      (added_fault old.state.path at (piece_count after) (joined on_plane) (drawing_now (polygons_of on_plane) old.state) old.surface)
+      (rw (nothing_drawn old.state.path at (drawing_now (lists_painted StrokeAndFill on_plane) old.state)) refl)
+      (nothing_drawn old.state.path at (drawing_now (lists_painted StrokeAndFill on_plane) old.state))
+      (added_fault old.state.path at (piece_count after) (joined on_plane) (drawing_now (lists_painted StrokeAndFill on_plane) old.state) old.surface)
       (rw (plane, same_points) at h)

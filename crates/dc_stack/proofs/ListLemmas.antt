@@ -2,6 +2,7 @@
 use Rattle.std.proofs.Common.{◌≡◌, ◌↔◌, ℕ, zero, suc, ◌<◌, ◌≤◌, Bool, true, false, cond, nat_le, List, [], ◌∷◌, ◌++◌, length, Option, Some, None, IsTrue, arith, refl, ap, sym, ◌∙◌}
 use Rattle.std.proofs.lemmas.Bool.{false≢true, le-leb, leb-true, lt-leb}
 use Rattle.std.proofs.lemmas.List.{append-nil, length-map}
+use Rattle.std.proofs.lemmas.List.Folds.{flat_map-map}
 use Rattle.std.proofs.lemmas.Option.{same_Some}
 use Rattle.std.specs.List.{list_all, slice_get}
 use Rattle.std.specs.Option.{option_or}
@@ -11,6 +12,7 @@ use Rattle.mapping.specs.declared.geometry.Point.{Point}
 use Rattle.draw_ops.specs.declared.fault.Fault.{Fault}
 use Rattle.draw_ops.specs.declared.fault.Fault.TheVariants.{TooManyEdges}
 use Rattle.dc_stack.specs.Drawing.{edge_limit, going_on, joined}
+use Rattle.dc_stack.specs.Figures.{Figure, figures_of_lists, points_of_figures}
 use Rattle.dc_stack.specs.Mapped.{mapped_list, mapped_lists, mapped_point}
 use Rattle.dc_stack.specs.Next.{end_of}
 use Rattle.dc_stack.specs.OperationFault.{off_plane_fault, points_fault}
@@ -33,6 +35,10 @@ points_mapped m points lists h = ap (mapped_list m) h ∙ sym (mapped_joined m l
 pub through : (m : MapNumbers) (start : Point) (points : List Point) → 0 < length points → mapped_lists m (going_on start points) ≡ mapped_list m (start ∷ points) ∷ []
 through m start [] h = absurd (omega arith)
 through m start (p ∷ ps) h = refl
+
+-- the points of figures through lists are those of the lists
+pub points_listed : (lists : List (List Point)) → points_of_figures (figures_of_lists lists) ≡ joined lists
+points_listed lists = flat_map-map (λ (figure : Figure). figure.points) (λ (points : List Point). record { points = points; is_closed = false }) lists
 
 pub joined_one : (points : List Point) → joined (points ∷ []) ≡ points
 joined_one points = append-nil points

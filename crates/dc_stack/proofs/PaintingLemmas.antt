@@ -1,8 +1,8 @@
 -- Paintings of a path that waits for it.
-use Rattle.std.proofs.Common.{◌≡◌, ℕ, ℤ, ◌<◌, ◌≤◌, Bool, true, ◌&&◌, nat_le, if◌then◌else◌, List, [], ◌∷◌, length, Option, Some, None, inl, refl, ap, subst, sym, ◌∙◌}
+use Rattle.std.proofs.Common.{◌≡◌, ℤ, ◌<◌, ◌≤◌, Bool, true, ◌&&◌, nat_le, if◌then◌else◌, List, [], ◌∷◌, length, Option, Some, None, inl, refl, ap, sym, ◌∙◌}
 use Rattle.std.proofs.lemmas.Bool.{and_from, and_parts, le-leb, lt-leb}
 use Rattle.std.proofs.lemmas.List.Elements.{All-head, All-tail}
-use Rattle.std.proofs.lemmas.List.Folds.{flat_map-map, list_all-append}
+use Rattle.std.proofs.lemmas.List.Folds.{list_all-append}
 use Rattle.std.specs.List.{flat_map, list_all}
 use Rattle.std.specs.Option.{option_or}
 use Rattle.mapping.specs.Boxes.{IsLeastBox}
@@ -17,9 +17,8 @@ use Rattle.draw_ops.specs.declared.fault.Fault.{Fault}
 use Rattle.draw_ops.specs.declared.fault.Fault.TheVariants.{TooManyEdges}
 use Rattle.point_views.specs.PartedPoints.{parts_of}
 use Rattle.point_views.specs.Points.{points_of}
-use Rattle.dc_stack.specs.Drawing.{drawing_of, edge_limit, joined, mark_edges, mark_points, tools_of}
-use Rattle.dc_stack.specs.Draws.{mark_painted}
-use Rattle.dc_stack.specs.Figures.{Figure, all_figures, box_corners, lists_of_figures, points_of_figures}
+use Rattle.dc_stack.specs.Drawing.{drawing_of, edge_limit, figures_painted, joined, tools_of}
+use Rattle.dc_stack.specs.Figures.{Figure, all_figures, box_corners, points_of_figures}
 use Rattle.dc_stack.specs.GatheredPath.{gathered_points}
 use Rattle.dc_stack.specs.MachineState.{HasPlayed, IsUnchanged, HasRefused, MachineState, painting_operation}
 use Rattle.dc_stack.specs.Mapped.{left_top, mapped_box, mapped_corners, mapped_list, right_bottom}
@@ -41,27 +40,13 @@ use Rattle.dc_stack.proofs.FigureLemmas.{plane_points, points_gathered}
 use Rattle.dc_stack.proofs.LandingLemmas.{none_off}
 use Rattle.dc_stack.proofs.ListLemmas.{mapped_joined}
 
--- what figures of a painting have of points
-figures_joined : (figures : List Figure) → joined (lists_of_figures figures) ≡ points_of_figures figures
-figures_joined figures = flat_map-map (λ (list : List Point). list) (λ (figure : Figure). figure.points) figures
-
-painted_points : (painting : Painting) (figures : List Figure) → mark_points (mark_painted painting figures) ≡ points_of_figures figures
-painted_points Fill figures = figures_joined figures
-painted_points Stroke figures = refl
-painted_points StrokeAndFill figures = figures_joined figures
-
-painted_edges : (painting : Painting) (figures : List Figure) → mark_edges (mark_painted painting figures) ≡ length (points_of_figures figures)
-painted_edges Fill figures = ap length (figures_joined figures)
-painted_edges Stroke figures = refl
-painted_edges StrokeAndFill figures = ap length (figures_joined figures)
-
 -- more points than there may be, or else points off the plane
 abbrev figures_fault : List Figure → Surface → Option Fault
 figures_fault figures s =
     option_or (if nat_le (length (points_of_figures figures)) edge_limit then None else Some TooManyEdges) (off_plane_fault (points_of_figures figures) s)
 
 module _ (state : State) (figures : List Figure) (at : state.path ≡ finished_path figures) where
-  painting_drawn : (painting : Painting) → drawing_of (painting_operation painting) state ≡ Some (record { mark = mark_painted painting figures; tools = tools_of state.dc })
+  painting_drawn : (painting : Painting) → drawing_of (painting_operation painting) state ≡ Some (record { mark = figures_painted painting figures; tools = tools_of state.dc })
   painting_drawn Fill = rw at refl
   painting_drawn Stroke = rw at refl
   painting_drawn StrokeAndFill = rw at refl
@@ -72,14 +57,14 @@ module _ (state : State) (figures : List Figure) (at : state.path ≡ finished_p
   painting_next StrokeAndFill = refl
 
   painting_fault : (painting : Painting) (s : Surface) → fault_of (painting_operation painting) state s ≡ figures_fault figures s
-  painting_fault Fill s = rw (at, figures_joined figures) refl
+  painting_fault Fill s = rw at refl
   painting_fault Stroke s = rw at refl
-  painting_fault StrokeAndFill s = rw (at, figures_joined figures) refl
+  painting_fault StrokeAndFill s = rw at refl
 
   painting_needs : (painting : Painting) → needs_of (painting_operation painting) state ≡ points_needed (length (points_of_figures figures))
-  painting_needs Fill = rw (at, figures_joined figures) refl
+  painting_needs Fill = rw at refl
   painting_needs Stroke = rw at refl
-  painting_needs StrokeAndFill = rw (at, figures_joined figures) refl
+  painting_needs StrokeAndFill = rw at refl
 
 -- the points of pieces on the plane land, where those of the page do
 module _ (s : Surface) where
@@ -163,7 +148,6 @@ plays_painting old new path pieces at state lent needs counted few here land lea
     let figures = all_figures (figures_of pieces) in
     let lands = gathered_lands old.surface pieces land in
     let none : figures_fault figures old.surface ≡ None = rw (le-leb (length (gathered_points pieces)) edge_limit few) (sym (none_off old.surface (gathered_points pieces) lands)) in
-    let points = painted_points painting figures in
     record {
       stepped = record {
         no_fault = painting_fault old.state figures at painting old.surface ∙ none;
@@ -173,9 +157,9 @@ plays_painting old new path pieces at state lent needs counted few here land lea
       drawn = rw (lent, state) (sym (painting_drawn old.state figures at painting));
       placed = rw lent (record {
         places = record { surface = here; land = land; counted = counted };
-        least = subst (IsLeastBox path.bounds) (sym points) least;
-        within = ap (λ (ps : List Point). list_all (λ point. lands_within_limits point old.surface) ps) points ∙ lands;
-        few = subst (λ (n : ℕ). n ≤ edge_limit) (sym (painted_edges painting figures)) few;
+        least = least;
+        within = lands;
+        few = few;
       });
       figures = λ e. rw (lent, at) refl;
     }

@@ -10,7 +10,8 @@ use Rattle.mapping.specs.Colours.{white_colour}
 use Rattle.mapping.specs.Limits.{place_limit, plane_limit}
 use Rattle.mapping.specs.declared.geometry.Point.{Point}
 use Rattle.mapping.specs.declared.map_mode.MapMode.TheVariants.{Anisotropic}
-use Rattle.dc_stack.specs.Drawing.{Mark, Tools, dot, drawing_of, edge_limit, lines_through, polygons_of, rectangle_between, tools_of}
+use Rattle.dc_stack.specs.Drawing.{Mark, Tools, dot, drawing_of, edge_limit, lists_painted, rectangle_between, tools_of}
+use Rattle.dc_stack.specs.declared.draw.Painting.TheVariants.{Stroke, StrokeAndFill}
 use Rattle.dc_stack.specs.Needs.{needs_of, no_needs, points_needed}
 use Rattle.dc_stack.specs.Next.{next}
 use Rattle.dc_stack.specs.OperationFault.{fault_of}
@@ -46,19 +47,19 @@ scaled =
     set_map_mode Anisotropic ∷ set_window_origin (at (pos 1) (pos 1)) ∷ set_window_extent (at (pos 2) (pos 2)) ∷ set_viewport_extent (at (pos 4) (negsuc 1)) ∷ []
 
 -- LINETO draws a line from the position to its point
-line_mark : mark_behind (move_to p ∷ []) (line_to q) ≡ Some (lines_through ((p ∷ q ∷ []) ∷ []))
+line_mark : mark_behind (move_to p ∷ []) (line_to q) ≡ Some (lists_painted Stroke ((p ∷ q ∷ []) ∷ []))
 line_mark = refl
 
 -- at first that is from the origin
-first_line_mark : mark_behind [] (line_to q) ≡ Some (lines_through ((at (pos 0) (pos 0) ∷ q ∷ []) ∷ []))
+first_line_mark : mark_behind [] (line_to q) ≡ Some (lists_painted Stroke ((at (pos 0) (pos 0) ∷ q ∷ []) ∷ []))
 first_line_mark = refl
 
 -- the next goes on from there
-next_line_mark : mark_behind (move_to p ∷ line_to q ∷ []) (line_to r) ≡ Some (lines_through ((q ∷ r ∷ []) ∷ []))
+next_line_mark : mark_behind (move_to p ∷ line_to q ∷ []) (line_to r) ≡ Some (lists_painted Stroke ((q ∷ r ∷ []) ∷ []))
 next_line_mark = refl
 
 -- both ends are where the map puts them at the line, and not where it did at MOVETO
-scaled_line_mark : mark_behind (move_to p ∷ scaled) (line_to q) ≡ Some (lines_through ((at (pos 0) (negsuc 0) ∷ at (pos 4) (pos 1) ∷ []) ∷ []))
+scaled_line_mark : mark_behind (move_to p ∷ scaled) (line_to q) ≡ Some (lists_painted Stroke ((at (pos 0) (negsuc 0) ∷ at (pos 4) (pos 1) ∷ []) ∷ []))
 scaled_line_mark = refl
 
 -- it needs room for two points
@@ -92,11 +93,11 @@ unfolding place_limit plane_limit piece_limit edge_limit
 line_on_plane = refl
 
 -- POLYLINE draws each list
-polyline_mark : mark_behind (move_to r ∷ []) (polyline ((p ∷ q ∷ []) ∷ (q ∷ r ∷ p ∷ []) ∷ [])) ≡ Some (lines_through ((p ∷ q ∷ []) ∷ (q ∷ r ∷ p ∷ []) ∷ []))
+polyline_mark : mark_behind (move_to r ∷ []) (polyline ((p ∷ q ∷ []) ∷ (q ∷ r ∷ p ∷ []) ∷ [])) ≡ Some (lists_painted Stroke ((p ∷ q ∷ []) ∷ (q ∷ r ∷ p ∷ []) ∷ []))
 polyline_mark = refl
 
 -- where the map puts its points
-scaled_polyline_mark : mark_behind scaled (polyline ((p ∷ q ∷ []) ∷ (r ∷ []) ∷ [])) ≡ Some (lines_through ((at (pos 0) (negsuc 0) ∷ at (pos 4) (pos 1) ∷ []) ∷ (at (negsuc 3) (negsuc 3) ∷ []) ∷ []))
+scaled_polyline_mark : mark_behind scaled (polyline ((p ∷ q ∷ []) ∷ (r ∷ []) ∷ [])) ≡ Some (lists_painted Stroke ((at (pos 0) (negsuc 0) ∷ at (pos 4) (pos 1) ∷ []) ∷ (at (negsuc 3) (negsuc 3) ∷ []) ∷ []))
 scaled_polyline_mark = refl
 
 -- it needs room for the points of all lists
@@ -118,14 +119,14 @@ unfolding place_limit plane_limit edge_limit piece_limit
 polyline_to_far = refl
 
 -- no list is drawn as none, without a fault
-no_polyline_mark : mark_behind [] (polyline []) ≡ Some (lines_through [])
+no_polyline_mark : mark_behind [] (polyline []) ≡ Some (lists_painted Stroke [])
 no_polyline_mark = refl
 
 no_polyline_needs : needs_of (polyline []) start ≡ no_needs
 no_polyline_needs = refl
 
 -- POLYLINETO draws lines from the position through its points
-through_mark : mark_behind (move_to p ∷ []) (polyline_to (q ∷ r ∷ [])) ≡ Some (lines_through ((p ∷ q ∷ r ∷ []) ∷ []))
+through_mark : mark_behind (move_to p ∷ []) (polyline_to (q ∷ r ∷ [])) ≡ Some (lists_painted Stroke ((p ∷ q ∷ r ∷ []) ∷ []))
 through_mark = refl
 
 -- through one point it draws LINETO's line
@@ -150,7 +151,7 @@ unfolding place_limit plane_limit edge_limit piece_limit
 through_to_far = refl
 
 -- without points it draws no line
-no_through_mark : mark_behind (move_to p ∷ []) (polyline_to []) ≡ Some (lines_through [])
+no_through_mark : mark_behind (move_to p ∷ []) (polyline_to []) ≡ Some (lists_painted Stroke [])
 no_through_mark = refl
 
 -- needs nothing
@@ -167,7 +168,7 @@ unfolding edge_limit piece_limit
 no_through_from_far = refl
 
 -- POLYGON draws each list as a polygon
-polygon_mark : mark_behind [] (polygon ((p ∷ q ∷ r ∷ []) ∷ (q ∷ r ∷ p ∷ []) ∷ [])) ≡ Some (polygons_of ((p ∷ q ∷ r ∷ []) ∷ (q ∷ r ∷ p ∷ []) ∷ []))
+polygon_mark : mark_behind [] (polygon ((p ∷ q ∷ r ∷ []) ∷ (q ∷ r ∷ p ∷ []) ∷ [])) ≡ Some (lists_painted StrokeAndFill ((p ∷ q ∷ r ∷ []) ∷ (q ∷ r ∷ p ∷ []) ∷ []))
 polygon_mark = refl
 
 -- its last point needn't be its first, and needs no room if it isn't there

@@ -7,7 +7,8 @@ use Rattle.draw_ops.specs.Operation.{Operation, abort_path, begin_path, close_fi
 use Rattle.draw_ops.specs.declared.fault.Fault.TheVariants.{OffPlane, PathState, TooManyPieces}
 use Rattle.draw_ops.specs.declared.operation.RectangleEdges.TheVariants.{Inclusive}
 use Rattle.mapping.specs.Colours.{black_colour}
-use Rattle.dc_stack.specs.Drawing.{Mark, along_figures, dot, drawing_of, edge_limit, insides_of, polygons_of}
+use Rattle.dc_stack.specs.Drawing.{Mark, dot, drawing_of, edge_limit, figures_painted}
+use Rattle.dc_stack.specs.declared.draw.Painting.TheVariants.{Fill, Stroke, StrokeAndFill}
 use Rattle.dc_stack.specs.Figures.{Figure, Figures, no_figures}
 use Rattle.dc_stack.specs.Needs.{needs_of}
 use Rattle.dc_stack.specs.OperationFault.{fault_of}
@@ -144,13 +145,13 @@ pixel_draws = refl
 abbrev waiting : List Operation
 waiting = begin_path ∷ polygon ((p ∷ q ∷ r ∷ []) ∷ []) ∷ polyline ((q ∷ r ∷ []) ∷ []) ∷ end_path ∷ []
 
-filled : mark_behind waiting fill_path ≡ Some (insides_of ((p ∷ q ∷ r ∷ []) ∷ (q ∷ r ∷ []) ∷ []))
+filled : mark_behind waiting fill_path ≡ Some (figures_painted Fill (closed (p ∷ q ∷ r ∷ []) ∷ apart (q ∷ r ∷ []) ∷ []))
 filled = refl
 
-stroked : mark_behind waiting stroke_path ≡ Some (along_figures (closed (p ∷ q ∷ r ∷ []) ∷ apart (q ∷ r ∷ []) ∷ []))
+stroked : mark_behind waiting stroke_path ≡ Some (figures_painted Stroke (closed (p ∷ q ∷ r ∷ []) ∷ apart (q ∷ r ∷ []) ∷ []))
 stroked = refl
 
-stroked_and_filled : mark_behind waiting stroke_and_fill_path ≡ Some (polygons_of ((p ∷ q ∷ r ∷ []) ∷ (q ∷ r ∷ []) ∷ []))
+stroked_and_filled : mark_behind waiting stroke_and_fill_path ≡ Some (figures_painted StrokeAndFill (closed (p ∷ q ∷ r ∷ []) ∷ apart (q ∷ r ∷ []) ∷ []))
 stroked_and_filled = refl
 
 -- a painting drops the path

@@ -10,24 +10,25 @@ use Rattle.draw_ops.specs.Blits.{SourceValue}
 use Rattle.draw_ops.specs.Objects.{BrushValue}
 use Rattle.draw_ops.specs.Operation.{Operation, no_effect, save, restore, set_background_mode, set_map_mode, set_raster_op, set_fill_mode, set_background_colour, set_window_origin, set_window_extent, set_viewport_origin, set_viewport_extent, offset_window_origin, offset_viewport_origin, exclude_clip, intersect_clip, remove_clip, move_to, line_to, pixel, rectangle, polyline, polygon, polyline_to, blit, create, select, select_palette, delete, begin_path, end_path, close_figure, abort_path, fill_path, stroke_path, stroke_and_fill_path}
 use Rattle.dc_stack.specs.Clip.{ClipValue}
-use Rattle.dc_stack.specs.Figures.{Figure, lists_of_figures, points_of_figures}
+use Rattle.dc_stack.specs.Figures.{Figure, figures_of_lists, points_of_figures}
 use Rattle.dc_stack.specs.Mapped.{far_corner, left_top, mapped_lists, mapped_point, right_bottom}
 use Rattle.dc_stack.specs.Path.{figures_to_paint, unless_open}
 use Rattle.dc_stack.specs.State.{DcValue, State}
+use Rattle.dc_stack.specs.declared.draw.Painting.{Painting}
+use Rattle.dc_stack.specs.declared.draw.Painting.TheVariants.{Fill, Stroke, StrokeAndFill}
 use Rattle.dc_stack.specs.declared.modes.Modes.{Modes}
 
--- What is marked on the plane: a point in a colour, lines from point to point of each list, polygons, each list one, the insides of
--- polygons without their outlines, the lines of figures, of a closed one from its last point back to its first too, the rectangle
--- between two corners, whichever of them comes first, or the box between two, of which each pixel becomes what a ternary raster
--- operation makes of it.
+-- What is marked on the plane: a point in a colour, the insides or the lines of figures or both, the rectangle between two corners,
+-- whichever of them comes first, or the box between two, of which each pixel becomes what a ternary raster operation makes of it.
 pub data Mark : Type 0 where
   dot : Point → Colour → Mark
-  lines_through : List (List Point) → Mark
-  polygons_of : List (List Point) → Mark
-  insides_of : List (List Point) → Mark
-  along_figures : List Figure → Mark
+  figures_painted : Painting → List Figure → Mark
   rectangle_between : Point → Point → RectangleEdges → Mark
   blit_between : Point → Point → ℕ → Option SourceValue → Mark
+
+-- lists of points that are painted
+abbrev pub lists_painted : Painting → List (List Point) → Mark
+lists_painted painting lists = figures_painted painting (figures_of_lists lists)
 
 -- what is drawn with: the pen, the brush, the modes, and the clip
 pub record Tools : Type 0 where
@@ -64,9 +65,9 @@ abbrev drawing_unless_open : Mark → State → Option Drawing
 drawing_unless_open mark state = unless_open state.path (drawing_now mark state)
 
 -- the painting of the figures of a path that waits for it
-abbrev painting_now : (List Figure → Mark) → State → Option Drawing
-painting_now mark state =
-    option_map (λ (figures : List Figure). record { mark = mark figures; tools = tools_of state.dc }) (figures_to_paint state.path)
+abbrev painting_now : Painting → State → Option Drawing
+painting_now painting state =
+    option_map (λ (figures : List Figure). record { mark = figures_painted painting figures; tools = tools_of state.dc }) (figures_to_paint state.path)
 
 -- the drawing of an operation, if it draws
 abbrev pub drawing_of : Operation → State → Option Drawing
@@ -89,14 +90,14 @@ drawing_of (intersect_clip corners) state = None
 drawing_of remove_clip state = None
 drawing_of (move_to point) state = None
 drawing_of (line_to point) state =
-    drawing_unless_open (lines_through (mapped_lists state.dc.map (going_on state.dc.position (point ∷ [])))) state
+    drawing_unless_open (lists_painted Stroke (mapped_lists state.dc.map (going_on state.dc.position (point ∷ [])))) state
 drawing_of (pixel point colour) state = drawing_now (dot (mapped_point state.dc.map point) colour) state
 drawing_of (rectangle corners edges) state =
     drawing_unless_open (rectangle_between (left_top state.dc.map corners) (right_bottom state.dc.map corners) edges) state
-drawing_of (polyline lists) state = drawing_unless_open (lines_through (mapped_lists state.dc.map lists)) state
-drawing_of (polygon lists) state = drawing_unless_open (polygons_of (mapped_lists state.dc.map lists)) state
+drawing_of (polyline lists) state = drawing_unless_open (lists_painted Stroke (mapped_lists state.dc.map lists)) state
+drawing_of (polygon lists) state = drawing_unless_open (lists_painted StrokeAndFill (mapped_lists state.dc.map lists)) state
 drawing_of (polyline_to points) state =
-    drawing_unless_open (lines_through (mapped_lists state.dc.map (going_on state.dc.position points))) state
+    drawing_unless_open (lists_painted Stroke (mapped_lists state.dc.map (going_on state.dc.position points))) state
 drawing_of (blit asked) state =
     drawing_now (blit_between (mapped_point state.dc.map asked.corner) (mapped_point state.dc.map (far_corner asked)) asked.table asked.source) state
 drawing_of (create at object) state = None
@@ -107,9 +108,9 @@ drawing_of begin_path state = None
 drawing_of end_path state = None
 drawing_of close_figure state = None
 drawing_of abort_path state = None
-drawing_of fill_path state = painting_now (λ figures. insides_of (lists_of_figures figures)) state
-drawing_of stroke_path state = painting_now along_figures state
-drawing_of stroke_and_fill_path state = painting_now (λ figures. polygons_of (lists_of_figures figures)) state
+drawing_of fill_path state = painting_now Fill state
+drawing_of stroke_path state = painting_now Stroke state
+drawing_of stroke_and_fill_path state = painting_now StrokeAndFill state
 
 -- the points of some lists, one list's after another's
 abbrev pub joined : List (List Point) → List Point
@@ -118,10 +119,7 @@ joined lists = flat_map (λ list. list) lists
 -- the points of a mark: of a rectangle and of a blit's box the two corners
 abbrev pub mark_points : Mark → List Point
 mark_points (dot point colour) = point ∷ []
-mark_points (lines_through lists) = joined lists
-mark_points (polygons_of lists) = joined lists
-mark_points (insides_of lists) = joined lists
-mark_points (along_figures figures) = points_of_figures figures
+mark_points (figures_painted painting figures) = points_of_figures figures
 mark_points (rectangle_between p q edges) = p ∷ q ∷ []
 mark_points (blit_between p q table source) = p ∷ q ∷ []
 
@@ -132,10 +130,7 @@ drawing_points drawing = mark_points drawing.mark
 -- how many points a mark needs room for: a dot and a blit need none, a rectangle its four corners
 abbrev pub mark_edges : Mark → ℕ
 mark_edges (dot point colour) = 0
-mark_edges (lines_through lists) = length (joined lists)
-mark_edges (polygons_of lists) = length (joined lists)
-mark_edges (insides_of lists) = length (joined lists)
-mark_edges (along_figures figures) = length (points_of_figures figures)
+mark_edges (figures_painted painting figures) = length (points_of_figures figures)
 mark_edges (rectangle_between p q edges) = 4
 mark_edges (blit_between p q table source) = 0
 

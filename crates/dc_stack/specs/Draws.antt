@@ -14,15 +14,14 @@ use Rattle.point_views.specs.declared.polys.Polys.{Polys}
 use Rattle.draw_ops.specs.Blits.{source_of}
 use Rattle.raster_ops.specs.Sources.{is_readable}
 use Rattle.raster_ops.specs.TernaryOps.{uses_source}
-use Rattle.dc_stack.specs.Drawing.{Mark, along_figures, dot, edge_limit, insides_of, lines_through, mark_edges, mark_points, polygons_of, rectangle_between, blit_between}
-use Rattle.dc_stack.specs.Figures.{Figure, all_figures, lists_of_figures, points_of_figures}
+use Rattle.dc_stack.specs.Drawing.{Mark, blit_between, dot, edge_limit, figures_painted, lists_painted, mark_edges, mark_points, rectangle_between}
+use Rattle.dc_stack.specs.Figures.{all_figures, points_of_figures}
 use Rattle.dc_stack.specs.Mapped.{mapped_list, mapped_lists}
 use Rattle.dc_stack.specs.Pieces.{AllLandOn, figures_of}
 use Rattle.dc_stack.specs.declared.draw.Draw.{Draw}
-use Rattle.dc_stack.specs.declared.draw.Draw.TheVariants.{Blit, Dot, Line, LinesFrom, Path, Polygons, Polylines, Rectangle}
+use Rattle.dc_stack.specs.declared.draw.Draw.TheVariants.{Blit, Dot, Line, LinesFrom, Lists, Path, Rectangle}
 use Rattle.dc_stack.specs.declared.draw.PaintedPath.{PaintedPath}
-use Rattle.dc_stack.specs.declared.draw.Painting.{Painting}
-use Rattle.dc_stack.specs.declared.draw.Painting.TheVariants.{Fill, Stroke, StrokeAndFill}
+use Rattle.dc_stack.specs.declared.draw.Painting.TheVariants.{Stroke}
 use Rattle.dc_stack.specs.declared.draw.PlacedBlit.{PlacedBlit}
 use Rattle.dc_stack.specs.declared.piece.Piece.{Piece}
 use Rattle.dc_stack.specs.declared.placing.Landing.{Landing}
@@ -36,22 +35,15 @@ points_on_plane by points = mapped_list (map_numbers by.map) (points_of points)
 abbrev pub lists_on_plane : Projection → Polys → List (List Point)
 lists_on_plane by lists = mapped_lists (map_numbers by.map) (lists_of lists)
 
--- the mark of figures that are painted: what is filled is closed, and figures that are stroked alone are as they are
-abbrev pub mark_painted : Painting → List Figure → Mark
-mark_painted Fill figures = insides_of (lists_of_figures figures)
-mark_painted Stroke figures = along_figures figures
-mark_painted StrokeAndFill figures = polygons_of (lists_of_figures figures)
-
 -- the mark of what a step draws, these pieces being lent
 abbrev pub mark_of : List Piece → Draw → Mark
 mark_of pieces (Dot at colour) = dot at.plane colour
-mark_of pieces (Line from to) = lines_through ((from.plane ∷ to.plane ∷ []) ∷ [])
-mark_of pieces (LinesFrom from points by bounds) = lines_through ((from.plane ∷ points_on_plane by points) ∷ [])
-mark_of pieces (Polylines lists by bounds) = lines_through (lists_on_plane by lists)
-mark_of pieces (Polygons lists by bounds) = polygons_of (lists_on_plane by lists)
+mark_of pieces (Line from to) = lists_painted Stroke ((from.plane ∷ to.plane ∷ []) ∷ [])
+mark_of pieces (LinesFrom from points by bounds) = lists_painted Stroke ((from.plane ∷ points_on_plane by points) ∷ [])
+mark_of pieces (Lists painting lists by bounds) = lists_painted painting (lists_on_plane by lists)
 mark_of pieces (Rectangle first second edges) = rectangle_between first.plane second.plane edges
 mark_of pieces (Blit blit) = blit_between blit.first.plane blit.second.plane blit.operation.table (source_of blit.source)
-mark_of pieces (Path path) = mark_painted path.painting (all_figures (figures_of pieces))
+mark_of pieces (Path path) = figures_painted path.painting (all_figures (figures_of pieces))
 
 -- a point of the plane is told with the place where it lands
 abbrev pub IsLanding : Surface → Landing → Type 0
@@ -74,8 +66,7 @@ abbrev pub TellsPlaces : Surface → List Piece → Draw → Type 0
 TellsPlaces s pieces (Dot at colour) = IsLanding s at
 TellsPlaces s pieces (Line from to) = IsLanding s from × IsLanding s to
 TellsPlaces s pieces (LinesFrom from points by bounds) = IsLanding s from × (surface_of by.place ≡ s)
-TellsPlaces s pieces (Polylines lists by bounds) = surface_of by.place ≡ s
-TellsPlaces s pieces (Polygons lists by bounds) = surface_of by.place ≡ s
+TellsPlaces s pieces (Lists painting lists by bounds) = surface_of by.place ≡ s
 TellsPlaces s pieces (Rectangle first second edges) = IsLanding s first × IsLanding s second
 TellsPlaces s pieces (Blit blit) = TellsBlit s blit
 TellsPlaces s pieces (Path path) = TellsPath s path pieces
@@ -85,8 +76,7 @@ abbrev pub bounds_of : Draw → Rect
 bounds_of (Dot at colour) = box_at at.plane
 bounds_of (Line from to) = box_between from.plane to.plane
 bounds_of (LinesFrom from points by bounds) = bounds
-bounds_of (Polylines lists by bounds) = bounds
-bounds_of (Polygons lists by bounds) = bounds
+bounds_of (Lists painting lists by bounds) = bounds
 bounds_of (Rectangle first second edges) = box_between first.plane second.plane
 bounds_of (Blit blit) = box_between blit.first.plane blit.second.plane
 bounds_of (Path path) = path.bounds
@@ -104,8 +94,7 @@ paints_path None = false
 paints_path (Some (Dot at colour)) = false
 paints_path (Some (Line from to)) = false
 paints_path (Some (LinesFrom from points by bounds)) = false
-paints_path (Some (Polylines lists by bounds)) = false
-paints_path (Some (Polygons lists by bounds)) = false
+paints_path (Some (Lists painting lists by bounds)) = false
 paints_path (Some (Rectangle first second edges)) = false
 paints_path (Some (Blit blit)) = false
 paints_path (Some (Path path)) = true

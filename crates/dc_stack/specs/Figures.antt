@@ -64,10 +64,10 @@ abbrev pub box_corners : Rect → List Point
 box_corners box =
     record { x = box.l; y = box.t } ∷ record { x = box.r; y = box.t } ∷ record { x = box.r; y = box.b } ∷ record { x = box.l; y = box.b } ∷ []
 
--- the lists of points of some figures
-abbrev pub lists_of_figures : List Figure → List (List Point)
-lists_of_figures figures = map (λ (figure : Figure). figure.points) figures
+-- lists of points, each an open figure
+abbrev pub figures_of_lists : List (List Point) → List Figure
+figures_of_lists lists = map (λ (points : List Point). record { points = points; is_closed = false }) lists
 
--- all their points
+-- all points of some figures
 abbrev pub points_of_figures : List Figure → List Point
 points_of_figures figures = flat_map (λ (figure : Figure). figure.points) figures

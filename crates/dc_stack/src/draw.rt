@@ -9,14 +9,14 @@ use draw_ops::{BlitSource, RectangleEdges, TernaryOp};
 use mapping::{Colour, Place, Rect};
 use point_views::{Points, Polys};
 
-/// Which parts of a path are painted.
+/// Which parts of figures are painted.
 #[derive(Clone, Copy, Debug, PartialEq, Eq)]
 pub enum Painting {
-    /// Its inside, each figure closed.
+    /// Their inside, each closed.
     Fill,
-    /// Its figures' lines.
+    /// Their lines.
     Stroke,
-    /// Its inside, and then its figures' lines, each figure closed.
+    /// Their inside, and then their lines, each closed.
     StrokeAndFill,
 }
 
@@ -66,14 +66,9 @@ pub enum Draw<'a> {
         by: Projection,
         bounds: Rect,
     },
-    /// Lines from point to point, for each list.
-    Polylines {
-        lists: Polys<'a>,
-        by: Projection,
-        bounds: Rect,
-    },
-    /// Polygons, one for each list.
-    Polygons {
+    /// Figures, one for each list: open ones where they are stroked alone.
+    Lists {
+        painting: Painting,
         lists: Polys<'a>,
         by: Projection,
         bounds: Rect,
@@ -100,9 +95,7 @@ impl Draw<'_> {
         match self {
             Draw::Dot { at, .. } => Rect::around(at.plane),
             Draw::Line { from, to } => Rect::between(from.plane, to.plane),
-            Draw::LinesFrom { bounds, .. }
-            | Draw::Polylines { bounds, .. }
-            | Draw::Polygons { bounds, .. } => *bounds,
+            Draw::LinesFrom { bounds, .. } | Draw::Lists { bounds, .. } => *bounds,
             Draw::Rectangle { first, second, .. } => Rect::between(first.plane, second.plane),
             Draw::Blit(blit) => Rect::between(blit.first.plane, blit.second.plane),
             Draw::Path(path) => path.bounds,

@@ -1,5 +1,5 @@
 -- The box around the least boxes of two lists of points is the least of both.
-use Rattle.std.proofs.Common.{◌≡◌, ◌⊎◌, ℕ, ℤ, ◌<◌, ◌+◌, ◌≤ℤ◌, List, [], ◌∷◌, ◌++◌, length, Some, arith, inl, inr, refl, ◌∙◌}
+use Rattle.std.proofs.Common.{◌≡◌, ◌⊎◌, ℤ, ◌+◌, ◌≤ℤ◌, List, [], ◌∷◌, ◌++◌, length, arith, inl, inr, refl, ◌∙◌}
 use Rattle.std.specs.Int.{int_max, int_min}
 use Rattle.std.specs.List.{Any}
 use Rattle.std.proofs.lemmas.Int.{ints}

@@ -1,5 +1,6 @@
 pub mod FloorLemmas
 pub mod LimitLemmas
+pub mod PageAxisLemmas
 pub mod PlacingLemmas
 pub mod WorkedRows
 pub mod BetweenLemmas

@@ -3,9 +3,22 @@
 ghost use Rattle.std.specs.Prelude.{◌≡◌, ◌≢◌, ◌<◌, ◌≤◌, ◌^◌, pos, unsigned_abs};
 ghost use Rattle.mapping.specs.Floor.{floor_div, FloorDivisionIsGreatest};
 
-/// The greatest whole number not above `dividend / divisor`. Both are far from the type's ends, so
-/// the quotient and both negations fit.
-pub(crate) fn floor_quotient(dividend: i128, divisor: i128) -> i128
+/// The greatest whole number not above `dividend / divisor`. Neither is the type's least number, so both negations fit.
+pub(crate) fn floor_quotient(dividend: i64, divisor: i64) -> i64
+    requires not_zero { divisor ≢ pos 0 }
+    requires dividend_fits { unsigned_abs dividend < 2 ^ 63 }
+    requires divisor_fits { unsigned_abs divisor < 2 ^ 63 }
+    ensures { result ≡ floor_div dividend divisor }
+{
+    if divisor > 0 {
+        dividend.div_euclid(divisor)
+    } else {
+        (-dividend).div_euclid(-divisor)
+    }
+}
+
+/// The same for numbers of more than 64 bits, which are far from the type's ends.
+pub(crate) fn wide_floor_quotient(dividend: i128, divisor: i128) -> i128
     requires not_zero { divisor ≢ pos 0 }
     requires dividend_fits { unsigned_abs dividend < 2 ^ 100 }
     requires divisor_fits { unsigned_abs divisor < 2 ^ 100 }

@@ -3,7 +3,7 @@
 ghost use Rattle.mapping.specs.LimitTests.{TestsAreLimits};
 
 /// The farthest that a plane coordinate is from 0.
-pub(crate) const PLANE_LIMIT: i128 = 1 << 30;
+pub(crate) const PLANE_LIMIT: i64 = 1 << 30;
 
 /// The farthest that a placed coordinate is from 0.
 pub(crate) const PLACE_LIMIT: i64 = 1 << 28;

@@ -5,7 +5,7 @@ ghost use Rattle.mapping.specs.Floor.{floor_div};
 ghost use Rattle.mapping.specs.Limits.{is_within, plane_limit};
 ghost use Rattle.mapping.specs.Plane.{IsPlaneCoordinate};
 
-use crate::floor::floor_quotient;
+use crate::floor::{floor_quotient, wide_floor_quotient};
 use crate::geometry::Point;
 use crate::limits::PLANE_LIMIT;
 use crate::map_mode::MapMode;
@@ -64,7 +64,18 @@ impl PageAxis {
         ensures value { let there = axis_coordinate self.now coordinate in SomeIff result (IsPlaneCoordinate there) there }
         ensures test { is_some result ≡ is_within plane_limit (axis_coordinate self.now coordinate) }
     {
-        on_plane(self.coordinate(coordinate))
+        match i32::try_from(coordinate) {
+            Ok(coordinate) => on_plane(self.scaled(coordinate), self.shift()),
+            Err(_) => self.wide_plane(coordinate),
+        }
+    }
+
+    /// The same of a coordinate that may have more than 32 bits, as the far corner of a blit.
+    fn wide_plane(&self, coordinate: i64) -> Option<i32>
+        ensures value { let there = axis_coordinate self.now coordinate in SomeIff result (IsPlaneCoordinate there) there }
+        ensures test { is_some result ≡ is_within plane_limit (axis_coordinate self.now coordinate) }
+    {
+        wide_on_plane(self.wide_scaled(coordinate), self.shift())
     }
 
     /// The plane coordinate of a page coordinate that doesn't leave the plane.
@@ -72,44 +83,69 @@ impl PageAxis {
         requires { IsPlaneCoordinate (axis_coordinate self.now coordinate) }
         ensures { result ≡ axis_coordinate self.now coordinate }
     {
-        plane_number(self.coordinate(i64::from(coordinate)))
+        plane_number(self.scaled(coordinate), self.shift())
     }
 
-    /// Where a page coordinate would lie on an endless plane.
-    fn coordinate(&self, coordinate: i64) -> i128
-        ensures { result ≡ axis_coordinate self.now coordinate }
+    /// A coordinate's distance from the window's origin, scaled from the window's extent to the viewport's and rounded down: of
+    /// a coordinate of 32 bits in 64. A map whose extents are the same on the axis, as at the start of every file that isn't turned,
+    /// scales nothing, and then nothing is divided.
+    fn scaled(&self, coordinate: i32) -> i64
+        ensures { result ≡ floor_div ((coordinate -ℤ self.now.window_origin) *ℤ self.now.viewport_extent) self.now.window_extent }
     {
         let distance = distance(coordinate, self.window_origin);
-        let scaled = self.scaled(distance);
-        moved(scaled, self.viewport_origin, self.corner)
-    }
-
-    /// A distance on the page, scaled from the window's extent to the viewport's and rounded down.
-    /// A map whose extents are the same on the axis, as at the start of every file that isn't turned,
-    /// scales nothing, and then nothing is divided.
-    fn scaled(&self, distance: i128) -> i128
-        requires { unsigned_abs distance ≤ 2 ^ 65 }
-        ensures value { result ≡ floor_div (distance *ℤ self.now.viewport_extent) self.now.window_extent }
-        ensures bound { unsigned_abs result ≤ 2 ^ 96 }
-    {
         if self.viewport_extent == self.window_extent {
             return distance;
         }
-        let product = product(distance, i128::from(self.viewport_extent));
-        floor_quotient(product, i128::from(self.window_extent))
+        let product = product(distance, i64::from(self.viewport_extent));
+        floor_quotient(product, i64::from(self.window_extent))
+    }
+
+    /// The same of a coordinate that may have more than 32 bits, in 128.
+    fn wide_scaled(&self, coordinate: i64) -> i128
+        ensures { result ≡ floor_div ((coordinate -ℤ self.now.window_origin) *ℤ self.now.viewport_extent) self.now.window_extent }
+    {
+        let distance = wide_distance(coordinate, self.window_origin);
+        let product = wide_product(distance, i128::from(self.viewport_extent));
+        wide_floor_quotient(product, i128::from(self.window_extent))
+    }
+
+    /// How far what is scaled moves on: to the viewport's origin, seen from the frame's corner.
+    fn shift(&self) -> i64
+        ensures value { result ≡ self.now.viewport_origin -ℤ self.now.corner }
+        ensures bound { unsigned_abs result < 2 ^ 32 }
+    {
+        i64::from(self.viewport_origin) - i64::from(self.corner)
     }
 }
 
 /// How far a page coordinate is from the window's origin.
-fn distance(coordinate: i64, origin: i32) -> i128
+fn distance(coordinate: i32, origin: i32) -> i64
+    ensures value { result ≡ coordinate -ℤ origin }
+    ensures bound { unsigned_abs result < 2 ^ 32 }
+{
+    i64::from(coordinate) - i64::from(origin)
+}
+
+/// A distance on the page times a viewport's extent.
+fn product(distance: i64, extent: i64) -> i64
+    requires distance_fits { unsigned_abs distance < 2 ^ 32 }
+    requires extent_fits { unsigned_abs extent ≤ 2 ^ 31 }
+    ensures value { result ≡ distance *ℤ extent }
+    ensures bound { unsigned_abs result < 2 ^ 63 }
+{
+    distance * extent
+}
+
+/// How far a page coordinate of more than 32 bits is from the window's origin.
+fn wide_distance(coordinate: i64, origin: i32) -> i128
     ensures value { result ≡ coordinate -ℤ origin }
     ensures bound { unsigned_abs result ≤ 2 ^ 65 }
 {
     i128::from(coordinate) - i128::from(origin)
 }
 
-/// A distance on the page times a viewport's extent.
-fn product(distance: i128, extent: i128) -> i128
+/// Such a distance times a viewport's extent.
+fn wide_product(distance: i128, extent: i128) -> i128
     requires distance_fits { unsigned_abs distance ≤ 2 ^ 65 }
     requires extent_fits { unsigned_abs extent ≤ 2 ^ 31 }
     ensures value { result ≡ distance *ℤ extent }
@@ -118,34 +154,37 @@ fn product(distance: i128, extent: i128) -> i128
     distance * extent
 }
 
-/// A scaled distance from the viewport's origin on, seen from the frame's corner.
-fn moved(scaled: i128, origin: i32, corner: i32) -> i128
-    requires { unsigned_abs scaled ≤ 2 ^ 96 }
-    ensures { result ≡ scaled +ℤ origin -ℤ corner }
+/// The number of a plane coordinate, which is a scaled distance and a shift.
+#[tactic(auto, unfolding(crate::specs::Limits::plane_limit))]
+fn plane_number(scaled: i64, shift: i64) -> i32
+    requires there { IsPlaneCoordinate (scaled +ℤ shift) }
+    ensures { result ≡ scaled +ℤ shift }
 {
-    scaled + i128::from(origin) - i128::from(corner)
+    (scaled + shift) as i32
 }
 
-/// The number of a plane coordinate.
+/// The number of a scaled distance and a shift as a plane coordinate, or none where it is outside the plane.
 #[tactic(auto, unfolding(crate::specs::Limits::plane_limit))]
-fn plane_number(coordinate: i128) -> i32
-    requires { IsPlaneCoordinate coordinate }
-    ensures { result ≡ coordinate }
+fn on_plane(scaled: i64, shift: i64) -> Option<i32>
+    ensures value { SomeIff result (IsPlaneCoordinate (scaled +ℤ shift)) (scaled +ℤ shift) }
+    ensures test { is_some result ≡ is_within plane_limit (scaled +ℤ shift) }
 {
-    coordinate as i32
-}
-
-/// The number as a plane coordinate, or none where it is outside the plane.
-#[tactic(auto, unfolding(crate::specs::Limits::plane_limit))]
-fn on_plane(coordinate: i128) -> Option<i32>
-    ensures value { SomeIff result (IsPlaneCoordinate coordinate) coordinate }
-    ensures test { is_some result ≡ is_within plane_limit coordinate }
-{
-    if -PLANE_LIMIT <= coordinate && coordinate <= PLANE_LIMIT {
-        Some(coordinate as i32)
+    let there = scaled.checked_add(shift)?;
+    if -PLANE_LIMIT <= there && there <= PLANE_LIMIT {
+        Some(there as i32)
     } else {
         None
     }
+}
+
+/// The same of a distance that may have more than 64 bits, which lies outside the plane then.
+#[tactic(auto, unfolding(crate::specs::Limits::plane_limit))]
+fn wide_on_plane(scaled: i128, shift: i64) -> Option<i32>
+    requires { unsigned_abs shift < 2 ^ 32 }
+    ensures value { SomeIff result (IsPlaneCoordinate (scaled +ℤ shift)) (scaled +ℤ shift) }
+    ensures test { is_some result ≡ is_within plane_limit (scaled +ℤ shift) }
+{
+    on_plane(i64::try_from(scaled).ok()?, shift)
 }
 
 /// Where page coordinates land on the plane, each axis by itself. The mode says which records may change

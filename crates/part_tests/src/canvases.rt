@@ -1,5 +1,6 @@
 //! Texts byte by byte, and writers that are slow or fail.
 
+use crate::comparing::same;
 use canvas::{Canvas, OutOfMemory, WriteFault};
 use mapping::Colour;
 use std::io;
@@ -71,7 +72,11 @@ fn one_pixel_as_text(rt: HostRuntime) -> Result<(), Fail> {
     let canvas = Canvas::new(rt.alloc(), 1, 1, Colour { r: 1, g: 2, b: 255 })?;
     let mut out = Vec::new(rt.alloc());
     canvas.write_ppm(&mut out)?;
-    assert_eq!(rt; out.as_slice(), b"P6\n1 1\n255\n\x01\x02\xff".as_slice());
+    same(
+        &rt,
+        out.as_slice(),
+        b"P6\n1 1\n255\n\x01\x02\xff".as_slice(),
+    );
     Ok(())
 }
 
@@ -82,9 +87,10 @@ fn two_pixels_as_text(rt: HostRuntime) -> Result<(), Fail> {
     canvas.put(1, 0, RED);
     let mut out = Vec::new(rt.alloc());
     canvas.write_ppm(&mut out)?;
-    assert_eq!(rt;
+    same(
+        &rt,
         out.as_slice(),
-        b"P6\n2 1\n255\n\xff\xff\xff\xff\x00\x00".as_slice()
+        b"P6\n2 1\n255\n\xff\xff\xff\xff\x00\x00".as_slice(),
     );
     Ok(())
 }
@@ -92,12 +98,12 @@ fn two_pixels_as_text(rt: HostRuntime) -> Result<(), Fail> {
 #[test]
 fn a_write_changes_one_pixel_and_counts_once(rt: HostRuntime) -> Result<(), Fail> {
     let mut canvas = Canvas::new(rt.alloc(), 3, 2, Colour::WHITE)?;
-    assert_eq!(rt; canvas.writes(), 0);
+    same(&rt, canvas.writes(), 0);
     for (x, y) in [(2, 1), (0, 1), (2, 1)] {
         assert!(rt; canvas.has_pixel(x, y) && canvas.writes() < 1000);
         canvas.put(x, y, RED);
     }
-    assert_eq!(rt; canvas.writes(), 3);
+    same(&rt, canvas.writes(), 3);
     for (x, y, want) in [
         (0, 0, Colour::WHITE),
         (2, 0, Colour::WHITE),
@@ -106,10 +112,14 @@ fn a_write_changes_one_pixel_and_counts_once(rt: HostRuntime) -> Result<(), Fail
         (2, 1, RED),
     ] {
         assert!(rt; canvas.has_pixel(x, y));
-        assert_eq!(rt; canvas.colour(x, y), want, "at ({x}, {y})");
+        same(&rt, (x, y, canvas.colour(x, y)), (x, y, want));
     }
     assert!(rt; !canvas.has_pixel(3, 0) && !canvas.has_pixel(0, 2));
-    assert_eq!(rt; (canvas.width(), canvas.first(), canvas.rows()), (3, 0, 2));
+    same(
+        &rt,
+        (canvas.width(), canvas.first(), canvas.rows()),
+        (3, 0, 2),
+    );
     Ok(())
 }
 
@@ -118,14 +128,14 @@ fn a_slow_writer_gets_the_same_text(rt: HostRuntime) -> Result<(), Fail> {
     let canvas = Canvas::new(rt.alloc(), 7, 3, RED)?;
     let mut whole = Vec::new(rt.alloc());
     canvas.write_ppm(&mut whole)?;
-    assert_eq!(rt; whole.len(), 11 + 63);
+    same(&rt, whole.len(), 11 + 63);
     for a_call in [1, 2, 5] {
         let mut slow = Slow::new(Vec::new(rt.alloc()), a_call, 1000);
         canvas.write_ppm(&mut slow)?;
-        assert_eq!(rt;
-            slow.taken.as_slice(),
-            whole.as_slice(),
-            "{a_call} bytes a call"
+        same(
+            &rt,
+            (a_call, slow.taken.as_slice()),
+            (a_call, whole.as_slice()),
         );
     }
     Ok(())
@@ -136,20 +146,20 @@ fn a_writer_that_fails_has_a_front_of_the_text(rt: HostRuntime) -> Result<(), Fa
     let canvas = Canvas::new(rt.alloc(), 2, 2, RED)?;
     let mut whole = Vec::new(rt.alloc());
     canvas.write_ppm(&mut whole)?;
-    assert_eq!(rt; whole.len(), 23);
+    same(&rt, whole.len(), 23);
     for most in 0..23 {
         let mut slow = Slow::new(Vec::new(rt.alloc()), 4, most);
-        assert_eq!(rt;
-            canvas.write_ppm(&mut slow),
-            Err(WriteFault),
-            "at {most} bytes"
+        same(
+            &rt,
+            (most, canvas.write_ppm(&mut slow)),
+            (most, Err(WriteFault)),
         );
-        assert_eq!(rt; slow.taken.len(), most);
+        same(&rt, slow.taken.len(), most);
         assert!(rt; whole.starts_with(slow.taken.as_slice()));
     }
     // One that takes no byte, and doesn't fail, is a fault too.
     let mut idle = Slow::new(Vec::new(rt.alloc()), 0, 1000);
-    assert_eq!(rt; canvas.write_ppm(&mut idle), Err(WriteFault));
+    same(&rt, canvas.write_ppm(&mut idle), Err(WriteFault));
     Ok(())
 }
 
@@ -161,7 +171,11 @@ fn a_large_text_goes_out_in_large_pieces(rt: HostRuntime) -> Result<(), Fail> {
     };
     canvas.write_ppm(&mut pieces)?;
     // The header "P6\n1 8192\n255\n" goes with the first 4,096 pixels.
-    assert_eq!(rt; pieces.lengths.as_slice(), [14 + 12288, 12288].as_slice());
+    same(
+        &rt,
+        pieces.lengths.as_slice(),
+        [14 + 12288, 12288].as_slice(),
+    );
     Ok(())
 }
 
@@ -181,7 +195,7 @@ fn a_text_ends_with_its_last_pixel(rt: HostRuntime) -> Result<(), Fail> {
             lengths: Vec::new(rt.alloc()),
         };
         canvas.write_ppm(&mut pieces)?;
-        assert_eq!(rt; pieces.lengths.as_slice(), lengths, "{width} pixels");
+        same(&rt, (width, pieces.lengths.as_slice()), (width, lengths));
         let mut text = Vec::new(rt.alloc());
         canvas.write_ppm(&mut text)?;
         let end = b"\xff\xff\xff\xff\x00\x00".as_slice();
@@ -198,13 +212,13 @@ fn a_canvas_has_each_side_up_to_8192(rt: HostRuntime) -> Result<(), Fail> {
             wide.has_pixel(side - 1, 0) && !wide.has_pixel(side, 0),
             "{side}"
         );
-        assert_eq!(rt; wide.colour(side - 1, 0), RED, "{side}");
+        same(&rt, (side, wide.colour(side - 1, 0)), (side, RED));
         let high = Canvas::new(rt.alloc(), 1, side, RED)?;
         assert!(rt;
             high.has_pixel(0, side - 1) && !high.has_pixel(0, side),
             "{side}"
         );
-        assert_eq!(rt; high.colour(0, side - 1), RED, "{side}");
+        same(&rt, (side, high.colour(0, side - 1)), (side, RED));
     }
     Ok(())
 }
@@ -212,9 +226,9 @@ fn a_canvas_has_each_side_up_to_8192(rt: HostRuntime) -> Result<(), Fail> {
 #[test]
 fn the_faults_show_their_names(rt: HostRuntime) -> Result<(), Fail> {
     let memory = format!(in rt.alloc(); "{OutOfMemory}")?;
-    assert_eq!(rt; memory.as_str(), "OutOfMemory");
+    same(&rt, memory.as_str(), "OutOfMemory");
     let writer = format!(in rt.alloc(); "{WriteFault}")?;
-    assert_eq!(rt; writer.as_str(), "WriteFault");
+    same(&rt, writer.as_str(), "WriteFault");
     Ok(())
 }
 
@@ -224,7 +238,7 @@ fn a_large_piece_goes_out_byte_by_byte(rt: HostRuntime) -> Result<(), Fail> {
     let mut out = Slow::new(Vec::new(rt.alloc()), 1, usize::MAX);
     canvas.write_ppm(&mut out)?;
     // The header has 14 bytes, and each of 4,100 pixels 3.
-    assert_eq!(rt; out.taken.len(), 12314);
+    same(&rt, out.taken.len(), 12314);
     Ok(())
 }
 
@@ -235,11 +249,11 @@ fn a_canvas_under_refused_growth(rt: HostRuntime) -> Result<(), Fail> {
         Ok(canvas) => {
             for (x, y) in [(0, 0), (1, 0), (0, 1), (1, 1), (0, 2), (1, 2)] {
                 assert!(rt; canvas.has_pixel(x, y), "{x} {y}");
-                assert_eq!(rt; canvas.colour(x, y), RED, "{x} {y}");
+                same(&rt, (x, y, canvas.colour(x, y)), (x, y, RED));
             }
-            assert_eq!(rt; canvas.writes(), 0);
+            same(&rt, canvas.writes(), 0);
         }
-        Err(error) => assert_eq!(rt; error, OutOfMemory),
+        Err(error) => same(&rt, error, OutOfMemory),
     }
     Ok(())
 }

@@ -1,5 +1,6 @@
 //! Numbers of settings, raster operations and hatches: the first, the last, and the ones beside them.
 
+use crate::comparing::same;
 use draw_ops::{BackgroundMode, FillMode, Hatch, RasterOp};
 use mapping::MapMode;
 use std::test::Fail;
@@ -13,9 +14,9 @@ fn background_modes_are_1_and_2(rt: HostRuntime) -> Result<(), Fail> {
         (3, None),
         (u32::MAX, None),
     ] {
-        assert_eq!(rt; BackgroundMode::from_code(code), mode, "{code}");
+        same(&rt, (code, BackgroundMode::from_code(code)), (code, mode));
         if let Some(mode) = mode {
-            assert_eq!(rt; u32::from(mode.code()), code);
+            same(&rt, u32::from(mode.code()), code);
         }
     }
     Ok(())
@@ -30,9 +31,9 @@ fn fill_modes_are_1_and_2(rt: HostRuntime) -> Result<(), Fail> {
         (3, None),
         (u32::MAX, None),
     ] {
-        assert_eq!(rt; FillMode::from_code(code), mode, "{code}");
+        same(&rt, (code, FillMode::from_code(code)), (code, mode));
         if let Some(mode) = mode {
-            assert_eq!(rt; u32::from(mode.code()), code);
+            same(&rt, u32::from(mode.code()), code);
         }
     }
     Ok(())
@@ -50,9 +51,9 @@ fn map_modes_leave_out_2_to_6(rt: HostRuntime) -> Result<(), Fail> {
         (9, None),
         (u32::MAX, None),
     ] {
-        assert_eq!(rt; MapMode::from_code(code), mode, "{code}");
+        same(&rt, (code, MapMode::from_code(code)), (code, mode));
         if let Some(mode) = mode {
-            assert_eq!(rt; u32::from(mode.code()), code);
+            same(&rt, u32::from(mode.code()), code);
         }
     }
     Ok(())
@@ -67,11 +68,15 @@ fn raster_operations_are_1_to_16(rt: HostRuntime) -> Result<(), Fail> {
         (13, RasterOp::CopyPen),
         (16, RasterOp::White),
     ] {
-        assert_eq!(rt; RasterOp::from_code(u32::from(code)), Some(op), "{code}");
-        assert_eq!(rt; op.code(), code);
+        same(
+            &rt,
+            (code, RasterOp::from_code(u32::from(code))),
+            (code, Some(op)),
+        );
+        same(&rt, op.code(), code);
     }
     for code in [0, 17, 257, u32::MAX] {
-        assert_eq!(rt; RasterOp::from_code(code), None, "{code}");
+        same(&rt, (code, RasterOp::from_code(code)), (code, None));
     }
     Ok(())
 }
@@ -84,11 +89,15 @@ fn hatches_are_0_to_5(rt: HostRuntime) -> Result<(), Fail> {
         (3, Hatch::BackwardDiagonal),
         (5, Hatch::DiagonalCross),
     ] {
-        assert_eq!(rt; Hatch::from_code(u32::from(code)), Some(hatch), "{code}");
-        assert_eq!(rt; hatch.code(), code);
+        same(
+            &rt,
+            (code, Hatch::from_code(u32::from(code))),
+            (code, Some(hatch)),
+        );
+        same(&rt, hatch.code(), code);
     }
     for code in [6, 256, u32::MAX] {
-        assert_eq!(rt; Hatch::from_code(code), None, "{code}");
+        same(&rt, (code, Hatch::from_code(code)), (code, None));
     }
     Ok(())
 }

@@ -1,5 +1,6 @@
 //! What faults show to users.
 
+use crate::comparing::same;
 use draw_ops::Fault;
 use std::test::Fail;
 
@@ -29,13 +30,13 @@ fn a_fault_shows_its_name_and_the_record_that_it_speaks_of(rt: HostRuntime) -> R
         ),
         (Fault::OutOfMemory, 45, "OutOfMemory", "OutOfMemory"),
     ] {
-        assert_eq!(rt; fault.code(), code);
-        assert_eq!(rt; fault.name(), name);
+        same(&rt, fault.code(), code);
+        same(&rt, fault.name(), name);
         let shown = format!(in rt.alloc(); "{fault}")?;
-        assert_eq!(rt; shown.as_str(), text);
+        same(&rt, shown.as_str(), text);
     }
-    assert_eq!(rt; Fault::Unsupported(2610).number(), Some(2610));
-    assert_eq!(rt; Fault::UnknownRecord(0).number(), Some(0));
-    assert_eq!(rt; Fault::NoEnd.number(), None);
+    same(&rt, Fault::Unsupported(2610).number(), Some(2610));
+    same(&rt, Fault::UnknownRecord(0).number(), Some(0));
+    same(&rt, Fault::NoEnd.number(), None);
     Ok(())
 }

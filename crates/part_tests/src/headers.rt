@@ -1,5 +1,6 @@
 //! What opening a file tells, and what it notes.
 
+use crate::comparing::same;
 use crate::dot::{DOT, changed};
 use draw_ops::{Note, NoteSet};
 use mapping::Frame;
@@ -23,20 +24,20 @@ pub(crate) const NIL_EMF: [u8; 108] = [
 #[test]
 fn a_placeable_file_has_its_box_for_a_frame(rt: HostRuntime) -> Result<(), Fail> {
     let opened = open_file(&DOT)?;
-    assert_eq!(rt; opened.format, FileFormat::Placeable);
-    assert_eq!(rt; Some(opened.frame), Frame::new(4, 4));
-    assert_eq!(rt; opened.handles, None);
-    assert_eq!(rt; opened.notes, NoteSet::none());
+    same(&rt, opened.format, FileFormat::Placeable);
+    same(&rt, Some(opened.frame), Frame::new(4, 4));
+    same(&rt, opened.handles, None);
+    same(&rt, opened.notes, NoteSet::none());
     Ok(())
 }
 
 #[test]
 fn an_emf_file_has_its_bounds_for_a_frame(rt: HostRuntime) -> Result<(), Fail> {
     let opened = open_file(&NIL_EMF)?;
-    assert_eq!(rt; opened.format, FileFormat::Emf);
-    assert_eq!(rt; Some(opened.frame), Frame::new(1, 1));
-    assert_eq!(rt; opened.handles, Some(1));
-    assert_eq!(rt; opened.notes, NoteSet::none());
+    same(&rt, opened.format, FileFormat::Emf);
+    same(&rt, Some(opened.frame), Frame::new(1, 1));
+    same(&rt, opened.handles, Some(1));
+    same(&rt, opened.notes, NoteSet::none());
     Ok(())
 }
 
@@ -44,7 +45,7 @@ fn an_emf_file_has_its_bounds_for_a_frame(rt: HostRuntime) -> Result<(), Fail> {
 fn another_checksum_is_noted(rt: HostRuntime) -> Result<(), Fail> {
     let file = changed(rt.alloc(), 20, &[0x70])?;
     let noted = NoteSet::none().with(Note::PlaceableChecksum);
-    assert_eq!(rt; open_file(file.as_slice())?.notes, noted);
+    same(&rt, open_file(file.as_slice())?.notes, noted);
     Ok(())
 }
 
@@ -53,7 +54,7 @@ fn a_reserved_field_is_noted(rt: HostRuntime) -> Result<(), Fail> {
     // Both words are 1, so the checksum is as it was.
     let file = changed(rt.alloc(), 16, &[1, 0, 1, 0])?;
     let noted = NoteSet::none().with(Note::PlaceableFields);
-    assert_eq!(rt; open_file(file.as_slice())?.notes, noted);
+    same(&rt, open_file(file.as_slice())?.notes, noted);
     Ok(())
 }
 
@@ -61,6 +62,6 @@ fn a_reserved_field_is_noted(rt: HostRuntime) -> Result<(), Fail> {
 fn another_size_is_noted(rt: HostRuntime) -> Result<(), Fail> {
     let file = changed(rt.alloc(), 28, &[0x14])?;
     let noted = NoteSet::none().with(Note::SizeField);
-    assert_eq!(rt; open_file(file.as_slice())?.notes, noted);
+    same(&rt, open_file(file.as_slice())?.notes, noted);
     Ok(())
 }

@@ -6,6 +6,8 @@
 mod canvases;
 #[cfg(test)]
 mod codes;
+#[cfg(test)]
+mod comparing;
 mod dot;
 #[cfg(test)]
 mod faults;

@@ -1,5 +1,6 @@
 //! Views over small files, with every expected number worked by hand.
 
+use crate::comparing::same;
 use mapping::{Point, Rect};
 use point_views::{Counts, Points, Polys, i16_at, i32_at, u8_at, u16_at, u32_at};
 use std::test::Fail;
@@ -46,7 +47,7 @@ fn is_row(points: Points<'_>, first: i32, count: usize) -> bool {
 #[test]
 fn reads_short_points(rt: HostRuntime) -> Result<(), Fail> {
     let points = Points::new16(&SHORT, 3).ok_or("three points")?;
-    assert_eq!(rt; points.len(), 3);
+    same(&rt, points.len(), 3);
     assert!(rt; !points.is_empty());
     for (i, x, y) in [(0, -1, 1), (1, -32768, 32767), (2, 300, -2)] {
         assert!(rt; has(points, i, x, y), "at {i}");
@@ -57,7 +58,7 @@ fn reads_short_points(rt: HostRuntime) -> Result<(), Fail> {
 #[test]
 fn reads_long_points(rt: HostRuntime) -> Result<(), Fail> {
     let points = Points::new32(&LONG, 3).ok_or("three points")?;
-    assert_eq!(rt; points.len(), 3);
+    same(&rt, points.len(), 3);
     for (i, x, y) in [(0, -1, 65536), (1, -2147483648, 2147483647), (2, -70000, 5)] {
         assert!(rt; has(points, i, x, y), "at {i}");
     }
@@ -75,7 +76,7 @@ fn refuses_points_that_are_not_there(rt: HostRuntime) -> Result<(), Fail> {
     }
     let none = Points::new16(&[], 0).ok_or("no points")?;
     assert!(rt; none.is_empty());
-    assert_eq!(rt; none.len(), 0);
+    same(&rt, none.len(), 0);
     Ok(())
 }
 
@@ -83,10 +84,10 @@ fn refuses_points_that_are_not_there(rt: HostRuntime) -> Result<(), Fail> {
 fn takes_a_part_of_a_part(rt: HostRuntime) -> Result<(), Fail> {
     let row = Points::new16(&ROW, 5).ok_or("five points")?;
     assert!(rt; is_row(row, 10, 5));
-    assert_eq!(rt; row.len(), 5);
+    same(&rt, row.len(), 5);
     let last_four = row.part(1, 5);
     assert!(rt; is_row(last_four, 11, 4));
-    assert_eq!(rt; last_four.len(), 4);
+    same(&rt, last_four.len(), 4);
     assert!(rt; is_row(last_four.part(1, 3), 12, 2));
     assert!(rt; is_row(last_four.part(4, 4), 0, 0));
     assert!(rt; last_four.part(1, 3) == row.part(2, 4));
@@ -96,13 +97,13 @@ fn takes_a_part_of_a_part(rt: HostRuntime) -> Result<(), Fail> {
 #[test]
 fn reads_counts_without_a_sign(rt: HostRuntime) -> Result<(), Fail> {
     let short = Counts::new16(&[0xff, 0xff, 0x04, 0x00], 2).ok_or("two counts")?;
-    assert_eq!(rt; short.len(), 2);
-    assert_eq!(rt; short.get(0), 65535);
-    assert_eq!(rt; short.get(1), 4);
+    same(&rt, short.len(), 2);
+    same(&rt, short.get(0), 65535);
+    same(&rt, short.get(1), 4);
     let long = Counts::new32(&[4, 0, 0, 0, 0xff, 0xff, 0xff, 0xff], 2).ok_or("two counts")?;
-    assert_eq!(rt; long.len(), 2);
-    assert_eq!(rt; long.get(0), 4);
-    assert_eq!(rt; long.get(1), 4294967295);
+    same(&rt, long.len(), 2);
+    same(&rt, long.get(0), 4);
+    same(&rt, long.get(1), 4294967295);
     assert!(rt; Counts::new16(&[0; 3], 2).is_none());
     assert!(rt; Counts::new32(&[0; 7], 2).is_none());
     // 2 or 4 times these counts is 2^64 or more
@@ -127,7 +128,7 @@ fn refuses_counts_that_do_not_add_up(rt: HostRuntime) -> Result<(), Fail> {
         ([0xff, 0xff, 6, 0], false),
     ] {
         let counts = Counts::new16(&counts, 2).ok_or("two counts")?;
-        assert_eq!(rt; Polys::new(counts, row).is_some(), fits);
+        same(&rt, Polys::new(counts, row).is_some(), fits);
     }
     // 4294967295 + 6, which is 5 in 32 bits
     let counts = Counts::new32(&[0xff, 0xff, 0xff, 0xff, 6, 0, 0, 0], 2).ok_or("two counts")?;
@@ -140,7 +141,7 @@ fn cuts_points_into_lists(rt: HostRuntime) -> Result<(), Fail> {
     let row = Points::new16(&ROW, 5).ok_or("five points")?;
     let counts = Counts::new32(&[2, 0, 0, 0, 0, 0, 0, 0, 3, 0, 0, 0], 3).ok_or("three counts")?;
     let polys = Polys::new(counts, row).ok_or("they add up")?;
-    assert_eq!(rt; polys.len(), 3);
+    same(&rt, polys.len(), 3);
     assert!(rt; is_row(polys.get(0), 10, 2));
     assert!(rt; polys.get(1).is_empty());
     assert!(rt; is_row(polys.get(2), 12, 3));
@@ -150,10 +151,10 @@ fn cuts_points_into_lists(rt: HostRuntime) -> Result<(), Fail> {
             lengths[i] = list.len();
         }
     }
-    assert_eq!(rt; lengths, [2, 0, 3, 9]);
+    same(&rt, lengths, [2, 0, 3, 9]);
     let (first, rest) = polys.split_first().ok_or("a first list")?;
     assert!(rt; is_row(first, 10, 2));
-    assert_eq!(rt; rest.len(), 2);
+    same(&rt, rest.len(), 2);
     assert!(rt; is_row(rest.get(1), 12, 3));
     Ok(())
 }
@@ -162,14 +163,14 @@ fn cuts_points_into_lists(rt: HostRuntime) -> Result<(), Fail> {
 fn takes_points_as_one_list(rt: HostRuntime) -> Result<(), Fail> {
     let row = Points::new16(&ROW, 5).ok_or("five points")?;
     let polys = Polys::one(row);
-    assert_eq!(rt; polys.len(), 1);
+    same(&rt, polys.len(), 1);
     assert!(rt; !polys.is_empty());
     assert!(rt; is_row(polys.get(0), 10, 5));
     let (first, rest) = polys.split_first().ok_or("a first list")?;
     assert!(rt; is_row(first, 10, 5));
     assert!(rt; rest.is_empty());
     assert!(rt; rest.split_first().is_none());
-    assert_eq!(rt; polys.lists().count(), 1);
+    same(&rt, polys.lists().count(), 1);
     assert!(rt; Polys::empty().is_empty());
     Ok(())
 }
@@ -177,15 +178,15 @@ fn takes_points_as_one_list(rt: HostRuntime) -> Result<(), Fail> {
 #[test]
 fn numbers_begin_with_their_lowest_byte(rt: HostRuntime) {
     let bytes = [0x01, 0x02, 0x83, 0xff, 0xff, 0xff];
-    assert_eq!(rt; u8_at(&bytes, 2), 0x83);
-    assert_eq!(rt; u16_at(&bytes, 0), 0x0201);
-    assert_eq!(rt; u16_at(&bytes, 1), 0x8302);
-    assert_eq!(rt; u32_at(&bytes, 0), 0xff830201);
-    assert_eq!(rt; i16_at(&bytes, 1), -31998);
-    assert_eq!(rt; i16_at(&bytes, 0), 513);
+    same(&rt, u8_at(&bytes, 2), 0x83);
+    same(&rt, u16_at(&bytes, 0), 0x0201);
+    same(&rt, u16_at(&bytes, 1), 0x8302);
+    same(&rt, u32_at(&bytes, 0), 0xff830201);
+    same(&rt, i16_at(&bytes, 1), -31998);
+    same(&rt, i16_at(&bytes, 0), 513);
     // 0xff830201 is 8,191,487 less than 2^32.
-    assert_eq!(rt; i32_at(&bytes, 0), -8191487);
-    assert_eq!(rt; i32_at(&bytes, 2), -125);
+    same(&rt, i32_at(&bytes, 0), -8191487);
+    same(&rt, i32_at(&bytes, 2), -125);
 }
 
 #[test]
@@ -197,7 +198,7 @@ fn has_the_least_box(rt: HostRuntime) -> Result<(), Fail> {
         r: 300,
         b: 32767,
     };
-    assert_eq!(rt; short.bounds(), Some(around_short));
+    same(&rt, short.bounds(), Some(around_short));
     let long = Points::new32(&LONG, 3).ok_or("three points")?;
     let around_long = Rect {
         l: -2147483648,
@@ -205,7 +206,7 @@ fn has_the_least_box(rt: HostRuntime) -> Result<(), Fail> {
         r: -1,
         b: 2147483647,
     };
-    assert_eq!(rt; long.bounds(), Some(around_long));
+    same(&rt, long.bounds(), Some(around_long));
     assert!(rt; Points::new16(&[], 0).ok_or("no points")?.bounds().is_none());
     Ok(())
 }

@@ -1,5 +1,6 @@
 //! Names of notes, and counts of them.
 
+use crate::comparing::same;
 use draw_ops::{Note, NoteSet, Notes};
 use std::test::Fail;
 
@@ -19,8 +20,8 @@ const KINDS: [(Note, &str); 9] = [
 #[test]
 fn each_note_has_a_name_and_none_is_noted_at_first(rt: HostRuntime) -> Result<(), Fail> {
     for (note, name) in KINDS {
-        assert_eq!(rt; note.name(), name);
-        assert_eq!(rt; Notes::none().count(note), 0);
+        same(&rt, note.name(), name);
+        same(&rt, Notes::none().count(note), 0);
     }
     Ok(())
 }
@@ -37,7 +38,7 @@ fn a_note_is_counted_under_its_kind(rt: HostRuntime) -> Result<(), Fail> {
             Note::SizeField => 1,
             _ => 0,
         };
-        assert_eq!(rt; noted.count(note), expected, "{note:?}");
+        same(&rt, (note, noted.count(note)), (note, expected));
     }
     assert!(rt; noted != Notes::none());
     assert!(rt;
@@ -63,7 +64,7 @@ fn notes_are_added_kind_by_kind(rt: HostRuntime) -> Result<(), Fail> {
             Note::PlaceableChecksum | Note::AfterEnd => 1,
             _ => 0,
         };
-        assert_eq!(rt; both.count(note), expected, "{note:?}");
+        same(&rt, (note, both.count(note)), (note, expected));
     }
     assert!(rt; first.plus(Notes::none()) == first);
     Ok(())
@@ -79,10 +80,14 @@ fn a_set_has_each_kind_at_most_once(rt: HostRuntime) -> Result<(), Fail> {
             Note::Skipped | Note::AfterEnd => true,
             _ => false,
         };
-        assert_eq!(rt; set.contains(note), noted, "{note:?}");
+        same(&rt, (note, set.contains(note)), (note, noted));
         assert!(rt; !NoteSet::none().contains(note), "{note:?}");
         assert!(rt; NoteSet::none().with(note).contains(note), "{note:?}");
-        assert_eq!(rt; Notes::of(set).count(note), u32::from(noted), "{note:?}");
+        same(
+            &rt,
+            (note, Notes::of(set).count(note)),
+            (note, u32::from(noted)),
+        );
     }
     Ok(())
 }

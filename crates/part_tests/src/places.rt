@@ -1,5 +1,6 @@
 //! Worked values, by hand, and each limit from both sides.
 
+use crate::comparing::same;
 use mapping::{Frame, MapMode, PageAxis, PageMap, Place, Point};
 use std::test::Fail;
 
@@ -31,8 +32,8 @@ fn scaling_rounds_towards_the_lesser_number(rt: HostRuntime) -> Result<(), Fail>
     let page = map(upright, mirrored);
     for (x, y, want_x, want_y) in [(2, 3, 6, 0), (-1, 1, -4, 6), (0, 0, 0, 10), (1, 2, 3, 3)] {
         let point = page.plane(x, y).ok_or("a point of the plane")?;
-        assert_eq!(rt; point.x, want_x, "at x = {x}");
-        assert_eq!(rt; point.y, want_y, "at y = {y}");
+        same(&rt, (x, point.x), (x, want_x));
+        same(&rt, (y, point.y), (y, want_y));
     }
     Ok(())
 }
@@ -49,19 +50,19 @@ fn origins_and_corner_move_the_page(rt: HostRuntime) -> Result<(), Fail> {
     let page = map(moved, moved);
     // (8 - 5) * 3 / 2 is 4.5, and (4 - 5) * 3 / 2 is -1.5.
     let point = page.plane(8, 4).ok_or("a point of the plane")?;
-    assert_eq!(rt; point.x, 97);
-    assert_eq!(rt; point.y, 91);
+    same(&rt, point.x, 97);
+    same(&rt, point.y, 91);
     Ok(())
 }
 
 #[test]
 fn the_plane_ends_at_its_limit(rt: HostRuntime) -> Result<(), Fail> {
-    let same = axis(0, 1, 1).ok_or("an axis")?;
-    let page = map(same, same);
+    let unchanged = axis(0, 1, 1).ok_or("an axis")?;
+    let page = map(unchanged, unchanged);
     let limit = 1073741824;
     let corner = page.plane(limit, -limit).ok_or("a corner of the plane")?;
-    assert_eq!(rt; corner.x, 1073741824);
-    assert_eq!(rt; corner.y, -1073741824);
+    same(&rt, corner.x, 1073741824);
+    same(&rt, corner.y, -1073741824);
     for (x, y) in [
         (limit + 1, 0),
         (0, limit + 1),
@@ -81,8 +82,8 @@ fn a_placeable_box_lands_on_its_frame(rt: HostRuntime) -> Result<(), Fail> {
     let page = PageMap::placeable(Point { x: 10, y: -2 }, Point { x: -4, y: 8 });
     for (x, y, want_x, want_y) in [(10, -2, 0, 0), (6, 6, 4, 8), (9, -1, 1, 1), (11, 0, -1, 2)] {
         let point = page.plane(x, y).ok_or("a point of the plane")?;
-        assert_eq!(rt; point.x, want_x, "at x = {x}");
-        assert_eq!(rt; point.y, want_y, "at y = {y}");
+        same(&rt, (x, point.x), (x, want_x));
+        same(&rt, (y, point.y), (y, want_y));
     }
     Ok(())
 }
@@ -98,10 +99,10 @@ fn a_frame_has_sides_from_1_to_its_limit(rt: HostRuntime) {
         (limit + 1, 1, false),
         (1, limit + 1, false),
     ] {
-        assert_eq!(rt;
-            Frame::new(width, height).is_some(),
-            is_frame,
-            "{width} by {height}"
+        same(
+            &rt,
+            (width, height, Frame::new(width, height).is_some()),
+            (width, height, is_frame),
         );
     }
 }
@@ -113,13 +114,17 @@ fn placing_scales_the_frame_to_the_surface(rt: HostRuntime) -> Result<(), Fail> 
     for (x, y, want_x, want_y) in [(2, 1, 1, 0), (3, 7, 1, 1), (-1, -1, -1, -1), (4, -9, 2, -3)] {
         let point = Point { x, y };
         assert!(rt; place.fits(point));
-        assert_eq!(rt;
-            place.at(point),
-            Point {
-                x: want_x,
-                y: want_y
-            },
-            "of ({x}, {y})"
+        same(
+            &rt,
+            (x, y, place.at(point)),
+            (
+                x,
+                y,
+                Point {
+                    x: want_x,
+                    y: want_y,
+                },
+            ),
         );
     }
     Ok(())
@@ -137,7 +142,7 @@ fn a_point_fits_up_to_the_limit_of_places(rt: HostRuntime) -> Result<(), Fail> {
         (0, 32769, false),
         (0, -32769, false),
     ] {
-        assert_eq!(rt; place.fits(Point { x, y }), fits, "({x}, {y})");
+        same(&rt, (x, y, place.fits(Point { x, y })), (x, y, fits));
     }
     Ok(())
 }

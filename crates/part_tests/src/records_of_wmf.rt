@@ -1,5 +1,6 @@
 //! The steps of WMF records, with their numbers and notes.
 
+use crate::comparing::same;
 use draw_ops::{Fault, Note, NoteSet, Object, Op, OpSource, Pen, Step};
 use mapping::{Colour, MapMode, Point};
 use std::test::Fail;
@@ -59,16 +60,16 @@ fn a_fault_comes_again_at_each_call(rt: HostRuntime) -> Result<(), Fail> {
     let front = PIXEL_AND_END.get(..19).ok_or("a front")?;
     let mut source = WmfOps::new(front);
     assert!(rt; source.next_op()? == Some(pixel()));
-    assert_eq!(rt; source.next_op().err(), Some(Fault::NoEnd));
-    assert_eq!(rt; source.next_op().err(), Some(Fault::NoEnd));
-    assert_eq!(rt; source.next_op().err(), Some(Fault::NoEnd));
+    same(&rt, source.next_op().err(), Some(Fault::NoEnd));
+    same(&rt, source.next_op().err(), Some(Fault::NoEnd));
+    same(&rt, source.next_op().err(), Some(Fault::NoEnd));
     Ok(())
 }
 
 #[test]
 fn no_bytes_have_no_end(rt: HostRuntime) -> Result<(), Fail> {
     let empty: [u8; 0] = [];
-    assert_eq!(rt; WmfOps::new(&empty).next_op().err(), Some(Fault::NoEnd));
+    same(&rt, WmfOps::new(&empty).next_op().err(), Some(Fault::NoEnd));
     Ok(())
 }
 

@@ -1,5 +1,6 @@
 //! Rows of spans: room for lines, and refused growth.
 
+use crate::comparing::same;
 use span_fill::{OutOfMemory, RowBuf};
 use std::test::Fail;
 
@@ -8,16 +9,16 @@ use std::test::Fail;
 #[test]
 fn room_is_made_under_refused_growth(rt: HostRuntime) -> Result<(), Fail> {
     let mut rows = RowBuf::new(rt.alloc());
-    assert_eq!(rt; rows.reserve(0), Ok(()));
+    same(&rt, rows.reserve(0), Ok(()));
     if rows.reserve(4) == Err(OutOfMemory) {
         assert!(rt; rows.spans().is_empty());
-        assert_eq!(rt; rows.reserve(4), Ok(()));
+        same(&rt, rows.reserve(4), Ok(()));
     }
-    assert_eq!(rt; rows.reserve(3), Ok(()));
+    same(&rt, rows.reserve(3), Ok(()));
     if rows.reserve(1 << 20) == Err(OutOfMemory) {
         assert!(rt; rows.spans().is_empty());
-        assert_eq!(rt; rows.reserve(1 << 20), Ok(()));
+        same(&rt, rows.reserve(1 << 20), Ok(()));
     }
-    assert_eq!(rt; rows.reserve(1_000_000), Ok(()));
+    same(&rt, rows.reserve(1_000_000), Ok(()));
     Ok(())
 }

@@ -1,5 +1,6 @@
 //! What a listed source gives, and how many steps it has.
 
+use crate::comparing::same;
 use draw_ops::{Fault, Listed, Note, NoteSet, Op, OpSource, Step, count_steps};
 use mapping::Point;
 use point_views::{Points, Polys};
@@ -57,17 +58,17 @@ fn gives_its_steps_and_then_the_fault_twice(rt: HostRuntime) -> Result<(), Fail>
     let steps = [move_to()];
     let mut source = Listed::new(&steps, Some(Fault::ShortRecord));
     assert!(rt; source.next_op()? == Some(move_to()));
-    assert_eq!(rt; source.next_op().err(), Some(Fault::ShortRecord));
-    assert_eq!(rt; source.next_op().err(), Some(Fault::ShortRecord));
+    same(&rt, source.next_op().err(), Some(Fault::ShortRecord));
+    same(&rt, source.next_op().err(), Some(Fault::ShortRecord));
     Ok(())
 }
 
 #[test]
 fn counts_the_steps_of_a_list(rt: HostRuntime) -> Result<(), Fail> {
-    assert_eq!(rt; count_steps(&mut Listed::new(&[], None)), Ok(0));
-    assert_eq!(rt; count_steps(&mut Listed::new(&[save()], None)), Ok(1));
+    same(&rt, count_steps(&mut Listed::new(&[], None)), Ok(0));
+    same(&rt, count_steps(&mut Listed::new(&[save()], None)), Ok(1));
     let steps = [save(), move_to(), skipped()];
-    assert_eq!(rt; count_steps(&mut Listed::new(&steps, None)), Ok(3));
+    same(&rt, count_steps(&mut Listed::new(&steps, None)), Ok(3));
     Ok(())
 }
 
@@ -75,16 +76,18 @@ fn counts_the_steps_of_a_list(rt: HostRuntime) -> Result<(), Fail> {
 fn gives_the_fault_in_place_of_a_count(rt: HostRuntime) -> Result<(), Fail> {
     let steps = [save(), move_to(), skipped()];
     let fault = Some(Fault::UnknownRecord(2457));
-    assert_eq!(rt;
+    same(
+        &rt,
         count_steps(&mut Listed::new(&steps, fault)),
-        Err(Fault::UnknownRecord(2457))
+        Err(Fault::UnknownRecord(2457)),
     );
-    assert_eq!(rt;
+    same(
+        &rt,
         count_steps(&mut Listed::new(&[], Some(Fault::NoEnd))),
-        Err(Fault::NoEnd)
+        Err(Fault::NoEnd),
     );
     let mut counted = Listed::new(&steps, None);
-    assert_eq!(rt; count_steps(&mut counted), Ok(3));
-    assert_eq!(rt; count_steps(&mut counted), Ok(0));
+    same(&rt, count_steps(&mut counted), Ok(3));
+    same(&rt, count_steps(&mut counted), Ok(0));
     Ok(())
 }

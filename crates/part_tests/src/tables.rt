@@ -1,5 +1,6 @@
 //! Tables of objects: indexes, and refused growth.
 
+use crate::comparing::same;
 use draw_ops::{Brush, Fault, Handle, Object, Pen};
 use object_tables::{Given, LowestFree, Table};
 use std::test::Fail;
@@ -10,14 +11,14 @@ const FONT: Object<'static> = Object::Font;
 fn the_least_free_index_is_taken(rt: HostRuntime) -> Result<(), Fail> {
     let mut table = LowestFree::new(rt.alloc());
     for index in 0..3 {
-        assert_eq!(rt; table.create(None, FONT), Ok(Handle(index)));
+        same(&rt, table.create(None, FONT), Ok(Handle(index)));
     }
-    assert_eq!(rt; table.remove(Handle(0)), Ok(()));
-    assert_eq!(rt; table.remove(Handle(1)), Ok(()));
+    same(&rt, table.remove(Handle(0)), Ok(()));
+    same(&rt, table.remove(Handle(1)), Ok(()));
     for index in [0, 1, 3] {
-        assert_eq!(rt; table.create(None, FONT), Ok(Handle(index)));
+        same(&rt, table.create(None, FONT), Ok(Handle(index)));
     }
-    assert_eq!(rt; table.remove(Handle(4)), Err(Fault::NoSuchHandle));
+    same(&rt, table.remove(Handle(4)), Err(Fault::NoSuchHandle));
     Ok(())
 }
 
@@ -26,12 +27,12 @@ fn a_table_has_1024_objects(rt: HostRuntime) -> Result<(), Fail> {
     let mut table = LowestFree::new(rt.alloc());
     table.reserve(1024)?;
     for index in 0..1024 {
-        assert_eq!(rt; table.create(None, FONT), Ok(Handle(index)));
+        same(&rt, table.create(None, FONT), Ok(Handle(index)));
     }
-    assert_eq!(rt; table.create(None, FONT), Err(Fault::TableFull));
+    same(&rt, table.create(None, FONT), Err(Fault::TableFull));
     table.clear();
-    assert_eq!(rt; table.get(Handle(0)), Err(Fault::NoSuchHandle));
-    assert_eq!(rt; table.create(None, FONT), Ok(Handle(0)));
+    same(&rt, table.get(Handle(0)), Err(Fault::NoSuchHandle));
+    same(&rt, table.create(None, FONT), Ok(Handle(0)));
     Ok(())
 }
 
@@ -40,22 +41,23 @@ fn an_index_is_given_once(rt: HostRuntime) -> Result<(), Fail> {
     let mut table = Given::new(rt.alloc(), 3);
     let pen = Object::Pen(Pen::Null);
     let brush = Object::Brush(Brush::Null);
-    assert_eq!(rt; table.create(Some(Handle(2)), pen), Ok(Handle(2)));
-    assert_eq!(rt;
+    same(&rt, table.create(Some(Handle(2)), pen), Ok(Handle(2)));
+    same(
+        &rt,
         table.create(Some(Handle(2)), brush),
-        Err(Fault::HandleTaken)
+        Err(Fault::HandleTaken),
     );
-    assert_eq!(rt; table.get(Handle(2)), Ok(pen));
+    same(&rt, table.get(Handle(2)), Ok(pen));
     for absent in [
         Some(Handle(0)),
         Some(Handle(3)),
         Some(Handle(u32::MAX)),
         None,
     ] {
-        assert_eq!(rt; table.create(absent, brush), Err(Fault::NoSuchHandle));
+        same(&rt, table.create(absent, brush), Err(Fault::NoSuchHandle));
     }
-    assert_eq!(rt; table.get(Handle(1)), Err(Fault::NoSuchHandle));
-    assert_eq!(rt; table.create(Some(Handle(1)), brush), Ok(Handle(1)));
+    same(&rt, table.get(Handle(1)), Err(Fault::NoSuchHandle));
+    same(&rt, table.create(Some(Handle(1)), brush), Ok(Handle(1)));
     Ok(())
 }
 
@@ -66,13 +68,13 @@ fn a_create_under_refused_growth(rt: HostRuntime) -> Result<(), Fail> {
     for index in 0..100 {
         let mut made = table.create(None, FONT);
         if made == Err(Fault::OutOfMemory) {
-            assert_eq!(rt; table.get(Handle(index)), Err(Fault::NoSuchHandle));
+            same(&rt, table.get(Handle(index)), Err(Fault::NoSuchHandle));
             if index > 0 {
-                assert_eq!(rt; table.get(Handle(index - 1)), Ok(FONT));
+                same(&rt, table.get(Handle(index - 1)), Ok(FONT));
             }
             made = table.create(None, FONT);
         }
-        assert_eq!(rt; made, Ok(Handle(index)));
+        same(&rt, made, Ok(Handle(index)));
     }
     Ok(())
 }
@@ -85,11 +87,11 @@ fn a_given_index_under_refused_growth(rt: HostRuntime) -> Result<(), Fail> {
         let at = Handle(index);
         let mut made = table.create(Some(at), FONT);
         if made == Err(Fault::OutOfMemory) {
-            assert_eq!(rt; table.get(at), Err(Fault::NoSuchHandle));
+            same(&rt, table.get(at), Err(Fault::NoSuchHandle));
             made = table.create(Some(at), FONT);
         }
-        assert_eq!(rt; made, Ok(at));
-        assert_eq!(rt; table.get(Handle(2)), Ok(FONT));
+        same(&rt, made, Ok(at));
+        same(&rt, table.get(Handle(2)), Ok(FONT));
     }
     Ok(())
 }
@@ -99,11 +101,15 @@ fn a_given_index_under_refused_growth(rt: HostRuntime) -> Result<(), Fail> {
 fn a_reserve_under_refused_growth(rt: HostRuntime) -> Result<(), Fail> {
     let mut table = Given::new(rt.alloc(), 500);
     if let Err(fault) = table.reserve(500) {
-        assert_eq!(rt; fault, Fault::OutOfMemory);
-        assert_eq!(rt; table.reserve(500), Ok(()));
+        same(&rt, fault, Fault::OutOfMemory);
+        same(&rt, table.reserve(500), Ok(()));
     }
     for index in [499, 1, 250] {
-        assert_eq!(rt; table.create(Some(Handle(index)), FONT), Ok(Handle(index)));
+        same(
+            &rt,
+            table.create(Some(Handle(index)), FONT),
+            Ok(Handle(index)),
+        );
     }
     Ok(())
 }

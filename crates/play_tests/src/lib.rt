@@ -2,6 +2,8 @@
 #![tactic(auto)]
 
 #[cfg(test)]
+mod comparing;
+#[cfg(test)]
 mod machine_sizes;
 #[cfg(test)]
 mod machines;

@@ -1,5 +1,6 @@
 //! Machines: what a step draws and needs, a new start, and refused growth.
 
+use crate::comparing::same;
 use crate::stepping::{machine, step};
 use dc_stack::{Draw, Landing, Needs};
 use draw_ops::{Fault, FillMode, Handle, Object, Op, SavedState};
@@ -27,14 +28,14 @@ fn a_pixel_is_drawn_where_it_lands(rt: HostRuntime) -> Result<(), Fail> {
         placed: Point { x: 1, y: -1 },
     };
     let drawn = Draw::Dot { at, colour: RED };
-    assert_eq!(rt; machine.step(PIXEL), Ok(Some(drawn)));
+    same(&rt, machine.step(PIXEL), Ok(Some(drawn)));
     let left = Rect {
         l: 2,
         t: 4,
         r: 0,
         b: 0,
     };
-    assert_eq!(rt; step(&mut machine, Op::IntersectClip(left)), Ok(false));
+    same(&rt, step(&mut machine, Op::IntersectClip(left)), Ok(false));
     let clip = &machine.dc().clip;
     assert!(rt; clip.has(0, 0) && clip.has(0, 1) && !clip.has(1, 0));
     Ok(())
@@ -63,16 +64,16 @@ fn needs_are_the_greatest_since_the_start(rt: HostRuntime) -> Result<(), Fail> {
         edges: 0,
         pieces: 0,
     };
-    assert_eq!(rt; machine.needs(), needs);
+    same(&rt, machine.needs(), needs);
     step(&mut machine, Op::SetFillMode(FillMode::Winding))?;
     machine.restart(&opened);
-    assert_eq!(rt; machine.needs(), none);
-    assert_eq!(rt; machine.dc().modes.fill_mode, FillMode::Alternate);
+    same(&rt, machine.needs(), none);
+    same(&rt, machine.dc().modes.fill_mode, FillMode::Alternate);
     for (op, fault) in [
         (Op::Select(Handle(0)), Fault::NoSuchHandle),
         (Op::Restore(SavedState(-1)), Fault::NoSavedState),
     ] {
-        assert_eq!(rt; step(&mut machine, op), Err(fault));
+        same(&rt, step(&mut machine, op), Err(fault));
     }
     Ok(())
 }
@@ -87,9 +88,9 @@ fn steps_under_refused_growth(rt: HostRuntime) -> Result<(), Fail> {
         for op in [FONT, Op::Save] {
             let before = machine.needs();
             if let Err(fault) = step(&mut machine, op) {
-                assert_eq!(rt; fault, Fault::OutOfMemory);
-                assert_eq!(rt; machine.needs(), before);
-                assert_eq!(rt; step(&mut machine, op), Ok(false));
+                same(&rt, fault, Fault::OutOfMemory);
+                same(&rt, machine.needs(), before);
+                same(&rt, step(&mut machine, op), Ok(false));
             }
         }
         let needs = machine.needs();
@@ -104,12 +105,12 @@ fn reserved_steps_under_refused_growth(rt: HostRuntime) -> Result<(), Fail> {
     let opened = open_file(&DOT)?;
     let mut machine = machine(rt.alloc(), &opened);
     if let Err(fault) = machine.reserve(100, 100, 0) {
-        assert_eq!(rt; fault, Fault::OutOfMemory);
+        same(&rt, fault, Fault::OutOfMemory);
         machine.reserve(100, 100, 0)?;
     }
     for _ in 0..100 {
-        assert_eq!(rt; step(&mut machine, FONT), Ok(false));
-        assert_eq!(rt; step(&mut machine, Op::Save), Ok(false));
+        same(&rt, step(&mut machine, FONT), Ok(false));
+        same(&rt, step(&mut machine, Op::Save), Ok(false));
     }
     Ok(())
 }

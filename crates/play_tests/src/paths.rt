@@ -1,5 +1,6 @@
 //! Paths of a machine: the pieces that it lends, what a refused step leaves, and refused growth.
 
+use crate::comparing::same;
 use crate::stepping::{machine, step};
 use dc_stack::MAX_PIECES;
 use draw_ops::{Fault, Op};
@@ -28,8 +29,8 @@ fn pieces_are_lent_until_the_next_accepted_step(rt: HostRuntime) -> Result<(), F
         (Op::EndPath, Err(Fault::PathState), 2),
         (Op::NoEffect, Ok(false), 0),
     ] {
-        assert_eq!(rt; step(&mut machine, op), answer);
-        assert_eq!(rt; machine.painted().len(), lent);
+        same(&rt, step(&mut machine, op), answer);
+        same(&rt, machine.painted().len(), lent);
     }
     Ok(())
 }
@@ -38,10 +39,10 @@ fn pieces_are_lent_until_the_next_accepted_step(rt: HostRuntime) -> Result<(), F
 fn a_new_start_has_no_path(rt: HostRuntime) -> Result<(), Fail> {
     let opened = open_file(&DOT)?;
     let mut machine = machine(rt.alloc(), &opened);
-    assert_eq!(rt; step(&mut machine, Op::BeginPath), Ok(false));
+    same(&rt, step(&mut machine, Op::BeginPath), Ok(false));
     machine.restart(&opened);
-    assert_eq!(rt; step(&mut machine, Op::EndPath), Err(Fault::PathState));
-    assert_eq!(rt; machine.needs().pieces, 0);
+    same(&rt, step(&mut machine, Op::EndPath), Err(Fault::PathState));
+    same(&rt, machine.needs().pieces, 0);
     Ok(())
 }
 
@@ -56,8 +57,8 @@ fn a_refused_line_begins_no_figure(rt: HostRuntime) -> Result<(), Fail> {
         (Op::LineTo(FAR), Err(Fault::OffPlane), 2),
         (LINE, Ok(false), 3),
     ] {
-        assert_eq!(rt; step(&mut machine, op), answer);
-        assert_eq!(rt; machine.needs().pieces, pieces);
+        same(&rt, step(&mut machine, op), answer);
+        same(&rt, machine.needs().pieces, pieces);
     }
     Ok(())
 }
@@ -67,15 +68,15 @@ fn a_refused_line_begins_no_figure(rt: HostRuntime) -> Result<(), Fail> {
 fn path_steps_under_refused_growth(rt: HostRuntime) -> Result<(), Fail> {
     let opened = open_file(&DOT)?;
     let mut machine = machine(rt.alloc(), &opened);
-    assert_eq!(rt; step(&mut machine, Op::BeginPath), Ok(false));
+    same(&rt, step(&mut machine, Op::BeginPath), Ok(false));
     for count in 1..100 {
         let before = machine.needs();
         if let Err(fault) = step(&mut machine, LINE) {
-            assert_eq!(rt; fault, Fault::OutOfMemory);
-            assert_eq!(rt; machine.needs(), before);
-            assert_eq!(rt; step(&mut machine, LINE), Ok(false));
+            same(&rt, fault, Fault::OutOfMemory);
+            same(&rt, machine.needs(), before);
+            same(&rt, step(&mut machine, LINE), Ok(false));
         }
-        assert_eq!(rt; machine.needs().pieces, count + 1);
+        same(&rt, machine.needs().pieces, count + 1);
     }
     Ok(())
 }
@@ -86,13 +87,13 @@ fn reserved_path_steps_under_refused_growth(rt: HostRuntime) -> Result<(), Fail>
     let opened = open_file(&DOT)?;
     let mut machine = machine(rt.alloc(), &opened);
     if let Err(fault) = machine.reserve(0, 0, MAX_PIECES) {
-        assert_eq!(rt; fault, Fault::OutOfMemory);
+        same(&rt, fault, Fault::OutOfMemory);
         machine.reserve(0, 0, MAX_PIECES)?;
     }
-    assert_eq!(rt; step(&mut machine, Op::BeginPath), Ok(false));
+    same(&rt, step(&mut machine, Op::BeginPath), Ok(false));
     for _ in 1..MAX_PIECES {
-        assert_eq!(rt; step(&mut machine, LINE), Ok(false));
+        same(&rt, step(&mut machine, LINE), Ok(false));
     }
-    assert_eq!(rt; step(&mut machine, LINE), Err(Fault::TooManyPieces));
+    same(&rt, step(&mut machine, LINE), Err(Fault::TooManyPieces));
     Ok(())
 }

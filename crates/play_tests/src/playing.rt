@@ -1,5 +1,6 @@
 //! Worked files, whole and broken, with the answers by hand.
 
+use crate::comparing::same;
 use canvas::Canvas;
 use draw_ops::Fault;
 use mapping::Colour;
@@ -24,13 +25,17 @@ pub(crate) fn colour(canvas: &Canvas, x: u32, y: u32) -> Option<Colour> {
 #[test]
 fn a_dot_is_one_red_pixel(rt: HostRuntime) -> Result<(), Fail> {
     let canvas = play_file(rt.alloc(), &DOT, 4, 4)?;
-    assert_eq!(rt; canvas.writes(), 1);
+    same(&rt, canvas.writes(), 1);
     let mut text = Vec::new(rt.alloc());
     canvas.write_ppm(&mut text)?;
-    assert_eq!(rt; text.len(), 59);
+    same(&rt, text.len(), 59);
     for (k, byte) in text.as_slice().iter().enumerate() {
         if k >= 11 {
-            assert_eq!(rt; *byte, if k == 30 || k == 31 { 0 } else { 255 }, "at {k}");
+            same(
+                &rt,
+                (k, *byte),
+                (k, if k == 30 || k == 31 { 0 } else { 255 }),
+            );
         }
     }
     Ok(())
@@ -39,14 +44,14 @@ fn a_dot_is_one_red_pixel(rt: HostRuntime) -> Result<(), Fail> {
 #[test]
 fn a_dot_moves_with_the_surface(rt: HostRuntime) -> Result<(), Fail> {
     let canvas = play_file(rt.alloc(), &DOT, 2, 2)?;
-    assert_eq!(rt; canvas.writes(), 1);
+    same(&rt, canvas.writes(), 1);
     for (x, y, want) in [
         (0, 0, Colour::WHITE),
         (1, 0, RED),
         (0, 1, Colour::WHITE),
         (1, 1, Colour::WHITE),
     ] {
-        assert_eq!(rt; colour(&canvas, x, y), Some(want), "at ({x}, {y})");
+        same(&rt, (x, y, colour(&canvas, x, y)), (x, y, Some(want)));
     }
     Ok(())
 }
@@ -63,7 +68,11 @@ fn each_front_of_a_file_has_its_fault(rt: HostRuntime) -> Result<(), Fail> {
         for length in from..to {
             let front = DOT.get(..length).ok_or("a front")?;
             let refusal = play_file(rt.alloc(), front, 4, 4).err();
-            assert_eq!(rt; refusal, Some(Refusal { number, fault }), "{length} bytes");
+            same(
+                &rt,
+                (length, refusal),
+                (length, Some(Refusal { number, fault })),
+            );
         }
     }
     Ok(())
@@ -93,7 +102,11 @@ fn each_change_of_a_file_has_its_fault(rt: HostRuntime) -> Result<(), Fail> {
     for (place, bytes, number, fault) in changes {
         let file = changed(rt.alloc(), place, bytes)?;
         let refusal = play_file(rt.alloc(), file.as_slice(), 4, 4).err();
-        assert_eq!(rt; refusal, Some(Refusal { number, fault }), "at {place}");
+        same(
+            &rt,
+            (place, refusal),
+            (place, Some(Refusal { number, fault })),
+        );
     }
     Ok(())
 }
@@ -111,7 +124,7 @@ fn what_the_standard_allows_is_played(rt: HostRuntime) -> Result<(), Fail> {
     for (place, bytes) in changes {
         let file = changed(rt.alloc(), place, bytes)?;
         let canvas = play_file(rt.alloc(), file.as_slice(), 4, 4)?;
-        assert_eq!(rt; colour(&canvas, 2, 1), Some(RED), "at {place}");
+        same(&rt, (place, colour(&canvas, 2, 1)), (place, Some(RED)));
     }
     Ok(())
 }
@@ -128,10 +141,14 @@ fn a_pixel_off_the_surface_is_not_written(rt: HostRuntime) -> Result<(), Fail> {
     for place in places {
         let file = changed(rt.alloc(), 50, place)?;
         let canvas = play_file(rt.alloc(), file.as_slice(), 4, 4)?;
-        assert_eq!(rt; canvas.writes(), 0);
+        same(&rt, canvas.writes(), 0);
         for y in 0..4 {
             for x in 0..4 {
-                assert_eq!(rt; colour(&canvas, x, y), Some(Colour::WHITE), "at ({x}, {y})");
+                same(
+                    &rt,
+                    (x, y, colour(&canvas, x, y)),
+                    (x, y, Some(Colour::WHITE)),
+                );
             }
         }
     }
@@ -147,8 +164,8 @@ fn the_later_of_two_writes_wins_and_both_count(rt: HostRuntime) -> Result<(), Fa
           \x03\x00\x00\x00\x00\x00",
     )?;
     let canvas = play_file(rt.alloc(), file.as_slice(), 4, 4)?;
-    assert_eq!(rt; canvas.writes(), 2);
-    assert_eq!(rt; colour(&canvas, 2, 1), Some(BLUE));
+    same(&rt, canvas.writes(), 2);
+    same(&rt, colour(&canvas, 2, 1), Some(BLUE));
     Ok(())
 }
 
@@ -156,7 +173,7 @@ fn the_later_of_two_writes_wins_and_both_count(rt: HostRuntime) -> Result<(), Fa
 fn bytes_behind_the_end_are_not_read(rt: HostRuntime) -> Result<(), Fail> {
     let file = with_records(rt.alloc(), b"\x03\x00\x00\x00\x00\x00\xff\xff\xff")?;
     let canvas = play_file(rt.alloc(), file.as_slice(), 4, 4)?;
-    assert_eq!(rt; canvas.writes(), 0);
+    same(&rt, canvas.writes(), 0);
     Ok(())
 }
 
@@ -165,8 +182,8 @@ fn a_box_with_turned_sides_mirrors(rt: HostRuntime) -> Result<(), Fail> {
     // Left 4, top 4, right 0, bottom 0: x = 2 lands in column 2, and y = 1 in row 3.
     let file = changed(rt.alloc(), 6, b"\x04\x00\x04\x00\x00\x00\x00\x00")?;
     let canvas = play_file(rt.alloc(), file.as_slice(), 4, 4)?;
-    assert_eq!(rt; canvas.writes(), 1);
-    assert_eq!(rt; colour(&canvas, 2, 3), Some(RED));
+    same(&rt, canvas.writes(), 1);
+    same(&rt, colour(&canvas, 2, 3), Some(RED));
     Ok(())
 }
 
@@ -184,9 +201,9 @@ fn a_point_far_outside_is_off_the_plane(rt: HostRuntime) -> Result<(), Fail> {
         number: Some(0),
         fault: Fault::OffPlane,
     };
-    assert_eq!(rt; refusal, Some(off_plane));
+    same(&rt, refusal, Some(off_plane));
     let canvas = play_file(rt.alloc(), file.as_slice(), 4096, 1)?;
-    assert_eq!(rt; canvas.writes(), 0);
+    same(&rt, canvas.writes(), 0);
     Ok(())
 }
 
@@ -200,7 +217,7 @@ fn a_file_has_at_most_1048576_records(rt: HostRuntime) -> Result<(), Fail> {
     let pixels = file.len();
     file.extend_from_slice(b"\x03\x00\x00\x00\x00\x00")?;
     let canvas = play_file(rt.alloc(), file.as_slice(), 4, 4)?;
-    assert_eq!(rt; canvas.writes(), 1048575);
+    same(&rt, canvas.writes(), 1048575);
     // One pixel more, and the end record is at place 1,048,576.
     file.truncate(pixels);
     file.extend_from_slice(pixel)?;
@@ -210,7 +227,7 @@ fn a_file_has_at_most_1048576_records(rt: HostRuntime) -> Result<(), Fail> {
         fault: Fault::TooManyRecords,
     };
     let refusal = play_file(rt.alloc(), file.as_slice(), 4, 4).err();
-    assert_eq!(rt; refusal, Some(too_many));
+    same(&rt, refusal, Some(too_many));
     Ok(())
 }
 
@@ -219,14 +236,14 @@ fn a_file_has_at_most_67108864_bytes(rt: HostRuntime) -> Result<(), Fail> {
     let mut file = Vec::from_slice(rt.alloc(), &DOT)?;
     file.resize(67108864, 0)?;
     let canvas = play_file(rt.alloc(), file.as_slice(), 4, 4)?;
-    assert_eq!(rt; canvas.writes(), 1);
+    same(&rt, canvas.writes(), 1);
     file.push(0)?;
     let too_long = Refusal {
         number: None,
         fault: Fault::TooLong,
     };
     let refusal = play_file(rt.alloc(), file.as_slice(), 4, 4).err();
-    assert_eq!(rt; refusal, Some(too_long));
+    same(&rt, refusal, Some(too_long));
     Ok(())
 }
 
@@ -243,7 +260,7 @@ fn a_refusal_shows_its_record(rt: HostRuntime) -> Result<(), Fail> {
     ] {
         let refusal = Refusal { number, fault };
         let shown = format!(in rt.alloc(); "{refusal}")?;
-        assert_eq!(rt; shown.as_str(), text);
+        same(&rt, shown.as_str(), text);
     }
     Ok(())
 }
@@ -253,15 +270,15 @@ fn a_refusal_shows_its_record(rt: HostRuntime) -> Result<(), Fail> {
 fn a_dot_under_refused_growth(rt: HostRuntime) -> Result<(), Fail> {
     match play_file(rt.alloc(), &DOT, 4, 4) {
         Ok(canvas) => {
-            assert_eq!(rt; canvas.writes(), 1);
-            assert_eq!(rt; colour(&canvas, 2, 1), Some(RED));
+            same(&rt, canvas.writes(), 1);
+            same(&rt, colour(&canvas, 2, 1), Some(RED));
         }
         Err(refusal) => {
             let want = Refusal {
                 number: None,
                 fault: Fault::OutOfMemory,
             };
-            assert_eq!(rt; refusal, want);
+            same(&rt, refusal, want);
         }
     }
     Ok(())

@@ -2,6 +2,7 @@
 
 ghost use Rattle.std.specs.Prelude.{◌≤◌, ◌^◌, IfOk};
 
+use crate::comparing::same;
 use crate::playing::{BLUE, colour};
 use canvas::Canvas;
 use dc_stack::{MAX_PIECES, Machine};
@@ -45,12 +46,12 @@ fn play_over(
 fn a_dot_leaves_the_rest_and_counts_on(rt: HostRuntime) -> Result<(), Fail> {
     let mut canvas = Canvas::new(rt.alloc(), 4, 4, BLUE)?;
     for played in 1..4 {
-        assert_eq!(rt; play_over(rt.alloc(), &DOT, &mut canvas)?, Ok(1));
-        assert_eq!(rt; canvas.writes(), played);
+        same(&rt, play_over(rt.alloc(), &DOT, &mut canvas)?, Ok(1));
+        same(&rt, canvas.writes(), played);
         for y in 0..4 {
             for x in 0..4 {
                 let want = if (x, y) == (2, 1) { RED } else { BLUE };
-                assert_eq!(rt; colour(&canvas, x, y), Some(want), "at ({x}, {y})");
+                same(&rt, (x, y, colour(&canvas, x, y)), (x, y, Some(want)));
             }
         }
     }
@@ -65,9 +66,10 @@ fn a_broken_file_has_its_fault(rt: HostRuntime) -> Result<(), Fail> {
         number: Some(1),
         fault: Fault::ShortRecord,
     };
-    assert_eq!(rt;
+    same(
+        &rt,
         play_over(rt.alloc(), broken.as_slice(), &mut canvas)?,
-        Err(short)
+        Err(short),
     );
     Ok(())
 }

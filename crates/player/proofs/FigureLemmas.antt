@@ -1,5 +1,5 @@
 -- In which rows the lines of figures lie, and how many there are.
-use Rattle.std.proofs.Common.{◌≡◌, ◌≤◌, List, [], ◌∷◌, ◌++◌, length, arith, refl, ap, subst, length-append}
+use Rattle.std.proofs.Common.{◌≡◌, ◌≤◌, Bool, true, false, if◌then◌else◌, List, [], ◌∷◌, ◌++◌, length, arith, refl, ap, subst, ◌∙◌, length-append}
 use Rattle.std.proofs.lemmas.List.{length-map, map-append}
 use Rattle.std.proofs.lemmas.List.Elements.{All-append, All-nil}
 use Rattle.std.specs.List.{All}
@@ -8,13 +8,13 @@ use Rattle.mapping.specs.declared.geometry.Point.{Point}
 use Rattle.mapping.specs.declared.geometry.Rect.{Rect}
 use Rattle.dc_stack.specs.Boxes.{HasAll, placed_list}
 use Rattle.mapping.specs.Boxes.{HasPoint}
-use Rattle.dc_stack.specs.Figures.{Figure, lists_of_figures, points_of_figures}
+use Rattle.dc_stack.specs.Figures.{Figure, points_of_figures}
 use Rattle.span_fill.specs.RowLaws.{LiesBetween}
 use Rattle.span_fill.specs.declared.line.Line.{Line}
-use Rattle.player.specs.FigureLines.{figure_ends, lines_of_figure, lines_of_figures, placed_figure, placed_figures}
-use Rattle.player.specs.Outlines.{closed_lines, closed_lines_of}
+use Rattle.player.specs.FigureEnds.{figure_ends, lines_of_figure, lines_of_figures}
+use Rattle.player.specs.FigureLines.{all_closed, lines_along, placed_figure, placed_figures}
+use Rattle.player.specs.Outlines.{closed_lines, open_lines}
 use Rattle.player.specs.PlacedLines.{lines_between}
-use Rattle.player.specs.Shape.{placed_lists}
 use Rattle.player.specs.declared.list_lines.Ends.{Ends}
 use Rattle.player.specs.declared.list_lines.Ends.TheVariants.{Open, Closed}
 use Rattle.player.proofs.CountLemmas.{length-closed_lines, open_lines_few}
@@ -52,7 +52,18 @@ module _ (s : Surface) where
       (list_lies box (figure_ends ends f.is_closed) first (all_front (HasPoint box) first others all))
       (figure_lines_lie box ends fs (all_behind (HasPoint box) first others all))
 
-  -- where all figures are closed, the lines are those round their points
-  pub closed_figure_lines : (figures : List Figure) → lines_of_figures Closed (placed_figures s figures) ≡ closed_lines_of (placed_lists s (lists_of_figures figures))
-  closed_figure_lines [] = refl
-  closed_figure_lines (f ∷ fs) = ap (λ (rest : List Line). closed_lines (placed_list s f.points) ++ rest) (closed_figure_lines fs)
+  -- the lines of figures that are closed or not as they say
+  as_they_say : (is_closed : Bool) (ps : List Point) → lines_between (figure_ends Open is_closed) ps ≡ (if is_closed then closed_lines ps else open_lines ps)
+  as_they_say true ps = refl
+  as_they_say false ps = refl
+
+  pub said_lines : (figures : List Figure) → lines_of_figures Open (placed_figures s figures) ≡ lines_along (placed_figures s figures)
+  said_lines [] = refl
+  said_lines (f ∷ fs) =
+      ap (λ (first : List Line). first ++ lines_of_figures Open (placed_figures s fs)) (as_they_say f.is_closed (placed_list s f.points))
+      ∙ ap (λ (rest : List Line). (if f.is_closed then closed_lines (placed_list s f.points) else open_lines (placed_list s f.points)) ++ rest) (said_lines fs)
+
+  -- and of figures that are all closed
+  pub closed_lines_along : (figures : List Figure) → lines_of_figures Closed (placed_figures s figures) ≡ lines_along (placed_figures s (all_closed figures))
+  closed_lines_along [] = refl
+  closed_lines_along (f ∷ fs) = ap (λ (rest : List Line). closed_lines (placed_list s f.points) ++ rest) (closed_lines_along fs)

@@ -15,7 +15,8 @@ use Rattle.dc_stack.specs.declared.piece.Joining.{Joining}
 use Rattle.dc_stack.specs.declared.piece.Joining.TheVariants.{GoesOn, Polylines, Polygons}
 use Rattle.dc_stack.specs.declared.piece.Piece.{Piece}
 use Rattle.span_fill.specs.declared.line.Line.{Line}
-use Rattle.player.specs.FigureLines.{lines_of_figure, lines_of_figures, placed_figure, placed_figures}
+use Rattle.player.specs.FigureEnds.{lines_of_figure, lines_of_figures}
+use Rattle.player.specs.FigureLines.{placed_figure, placed_figures}
 use Rattle.player.specs.Moves.{Drawn, drawn, lines_at_end, lines_of_moves, moves_of_list, moves_of_lists, moves_of_piece, moves_of_pieces, nothing}
 use Rattle.player.specs.Outlines.{line_from, lines_after, lines_round, open_lines}
 use Rattle.player.specs.Shape.{placed_lists}

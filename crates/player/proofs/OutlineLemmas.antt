@@ -16,7 +16,7 @@ use Rattle.dc_stack.specs.Projected.{projected}
 use Rattle.dc_stack.specs.declared.projection.Projection.{Projection}
 use Rattle.span_fill.specs.RowLaws.{LiesBetween}
 use Rattle.span_fill.specs.declared.line.Line.{Line}
-use Rattle.player.specs.Outlines.{closed_lines_of, line_from, lines_after, lines_round, open_lines_of}
+use Rattle.player.specs.Outlines.{line_from, lines_after, lines_round, open_lines_of}
 use Rattle.player.specs.PlacedLines.{lines_between, lines_from_start, lines_of_lists, projected_list}
 use Rattle.player.specs.Shape.{placed_lists}
 use Rattle.player.specs.declared.list_lines.Ends.{Ends}
@@ -86,14 +86,7 @@ module _ (by : Projection) where
     placed_lines ends ls =
         subst (λ (r : Surface). lines_of_lists by ends ls ≡ flat_map (lines_between ends) (placed_lists r (mapped_lists (map_numbers by.map) ls))) e (placed_lines_of ends ls)
 
-    -- the lines of lists of the page are those of where the plane's points land
-    pub open_placed : (ls : List (List Point)) → lines_of_lists by Open ls ≡ open_lines_of (placed_lists s (mapped_lists (map_numbers by.map) ls))
-    open_placed ls = placed_lines Open ls
-
-    pub closed_placed : (ls : List (List Point)) → lines_of_lists by Closed ls ≡ closed_lines_of (placed_lists s (mapped_lists (map_numbers by.map) ls))
-    closed_placed ls = placed_lines Closed ls
-
-    -- so are those from a placed point through points of the page
+    -- lines from a placed point through points of the page are those of where the plane's points land
     pub from_start_placed : (start p : Point) (ps : List Point) → start ≡ placed_point p s → lines_from_start by start ps ≡ open_lines_of (placed_lists s ((p ∷ mapped_list (map_numbers by.map) ps) ∷ []))
     from_start_placed start p ps at =
         let points = subst (λ (r : Surface). projected_list by ps ≡ placed_list r (mapped_list (map_numbers by.map) ps)) e (placed_list_of ps) in

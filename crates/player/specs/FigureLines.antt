@@ -1,29 +1,11 @@
--- The lines of figures.
-use Rattle.std.specs.Prelude.{Bool, true, false, List, map, Option, Some, None}
+-- The lines of figures, where they land.
+use Rattle.std.specs.Prelude.{true, if◌then◌else◌, List, map}
 use Rattle.std.specs.List.{flat_map}
 use Rattle.mapping.specs.Surface.{Surface}
 use Rattle.dc_stack.specs.Boxes.{placed_list}
 use Rattle.dc_stack.specs.Figures.{Figure}
-use Rattle.dc_stack.specs.declared.draw.Painting.{Painting}
-use Rattle.dc_stack.specs.declared.draw.Painting.TheVariants.{Fill, Stroke, StrokeAndFill}
 use Rattle.span_fill.specs.declared.line.Line.{Line}
-use Rattle.player.specs.PlacedLines.{lines_between}
-use Rattle.player.specs.declared.list_lines.Ends.{Ends}
-use Rattle.player.specs.declared.list_lines.Ends.TheVariants.{Open, Closed}
-
--- the last point of a figure is joined to its first where it is closed, or where all figures are
-abbrev pub figure_ends : Ends → Bool → Ends
-figure_ends Closed is_closed = Closed
-figure_ends Open true = Closed
-figure_ends Open false = Open
-
--- the lines of a figure: all figures are closed, or those that say so
-abbrev pub lines_of_figure : Ends → Figure → List Line
-lines_of_figure ends figure = lines_between (figure_ends ends figure.is_closed) figure.points
-
--- one figure's lines after another's
-abbrev pub lines_of_figures : Ends → List Figure → List Line
-lines_of_figures ends figures = flat_map (lines_of_figure ends) figures
+use Rattle.player.specs.Outlines.{closed_lines, open_lines}
 
 -- a figure, where its points land on a surface
 abbrev pub placed_figure : Surface → Figure → Figure
@@ -33,8 +15,14 @@ placed_figure s figure = record { points = placed_list s figure.points; is_close
 abbrev pub placed_figures : Surface → List Figure → List Figure
 placed_figures s figures = map (placed_figure s) figures
 
--- the figures that a painting strokes are closed or not as they say, and all closed where it fills them too
-abbrev pub stroked_ends : Painting → Option Ends
-stroked_ends Fill = None
-stroked_ends Stroke = Some Open
-stroked_ends StrokeAndFill = Some Closed
+-- figures, each closed
+abbrev pub all_closed : List Figure → List Figure
+all_closed figures = map (λ (figure : Figure). record { points = figure.points; is_closed = true }) figures
+
+-- the lines from point to point of a figure, and from its last back to its first where it is closed
+abbrev pub figure_lines : Figure → List Line
+figure_lines figure = if figure.is_closed then closed_lines figure.points else open_lines figure.points
+
+-- one figure's lines after another's
+abbrev pub lines_along : List Figure → List Line
+lines_along figures = flat_map figure_lines figures

@@ -5,7 +5,10 @@ use Rattle.mapping.specs.declared.geometry.Point.{Point}
 use Rattle.draw_ops.specs.Blits.{SourceValue}
 use Rattle.draw_ops.specs.Operation.{Operation}
 use Rattle.dc_stack.specs.Clip.{ClipValue}
-use Rattle.dc_stack.specs.Drawing.{Drawing, Mark, Tools, along_figures, blit_between, dot, drawing_of, insides_of, lines_through, polygons_of, rectangle_between}
+use Rattle.dc_stack.specs.Drawing.{Drawing, Mark, Tools, blit_between, dot, drawing_of, figures_painted, rectangle_between}
+use Rattle.dc_stack.specs.Figures.{Figure}
+use Rattle.dc_stack.specs.declared.draw.Painting.{Painting}
+use Rattle.dc_stack.specs.declared.draw.Painting.TheVariants.{Fill, Stroke, StrokeAndFill}
 use Rattle.draw_ops.specs.Objects.{BrushValue, hatched_brush, null_brush, solid_brush, tile_brush}
 use Rattle.draw_ops.specs.declared.objects.Pen.{Pen}
 use Rattle.draw_ops.specs.declared.objects.Pen.TheVariants.{Null, Solid}
@@ -13,7 +16,8 @@ use Rattle.draw_ops.specs.declared.operation.RectangleEdges.TheVariants.{HalfOpe
 use Rattle.raster_ops.specs.TernaryOps.{uses_pattern}
 use Rattle.player.specs.Mixing.{Mixing, binary, copied, ternary}
 use Rattle.player.specs.Paint.{Paint, brushed, solid}
-use Rattle.player.specs.Shape.{Shape, along, inside_polygons, inside_rectangle, on_lines, pixel_under, round_polygons, round_rectangle}
+use Rattle.player.specs.FigureLines.{all_closed}
+use Rattle.player.specs.Shape.{Shape, along_figures, inside_figures, inside_rectangle, pixel_under, round_rectangle}
 use Rattle.dc_stack.specs.State.{State}
 
 -- which pixels, in which paint, joined how, within which clip
@@ -51,23 +55,29 @@ stroked shape tools = stroked_with tools.pen shape tools
 abbrev pub filled : Shape → Tools → List Layer
 filled shape tools = filled_with tools.brush shape tools
 
+-- what of painted figures is filled: each is closed then
+abbrev pub figures_filled : Painting → List Figure → Tools → List Layer
+figures_filled Fill figures tools = filled (inside_figures tools.modes.fill_mode (all_closed figures)) tools
+figures_filled Stroke figures tools = []
+figures_filled StrokeAndFill figures tools = filled (inside_figures tools.modes.fill_mode (all_closed figures)) tools
+
+-- what of them is stroked: each is closed where it is filled, too
+abbrev pub figures_stroked : Painting → List Figure → Tools → List Layer
+figures_stroked Fill figures tools = []
+figures_stroked Stroke figures tools = stroked (along_figures figures) tools
+figures_stroked StrokeAndFill figures tools = stroked (along_figures (all_closed figures)) tools
+
 -- what of a mark is filled
 abbrev pub fills_of : Mark → Tools → List Layer
 fills_of (dot point colour) tools = []
-fills_of (lines_through lists) tools = []
-fills_of (polygons_of lists) tools = filled (inside_polygons tools.modes.fill_mode lists) tools
-fills_of (insides_of lists) tools = filled (inside_polygons tools.modes.fill_mode lists) tools
-fills_of (along_figures figures) tools = []
+fills_of (figures_painted painting figures) tools = figures_filled painting figures tools
 fills_of (rectangle_between p q edges) tools = filled (inside_rectangle p q edges) tools
 fills_of (blit_between p q table source) tools = []
 
 -- its outline, which a pen strokes: a dot and a blit have none
 abbrev pub outlines_of : Mark → Tools → List Layer
 outlines_of (dot point colour) tools = []
-outlines_of (lines_through lists) tools = stroked (on_lines lists) tools
-outlines_of (polygons_of lists) tools = stroked (round_polygons lists) tools
-outlines_of (insides_of lists) tools = []
-outlines_of (along_figures figures) tools = stroked (along figures) tools
+outlines_of (figures_painted painting figures) tools = figures_stroked painting figures tools
 outlines_of (rectangle_between p q edges) tools = stroked (round_rectangle p q edges) tools
 outlines_of (blit_between p q table source) tools = []
 
@@ -83,10 +93,7 @@ blit_layer p q table source tools =
 -- what has neither an inside nor an outline: a dot is a pixel in its own colour, whatever is there, and a blit a box
 abbrev pub plain_layers_of : Mark → Tools → List Layer
 plain_layers_of (dot point colour) tools = record { shape = pixel_under point; paint = solid colour; mixing = copied; clip = tools.clip } ∷ []
-plain_layers_of (lines_through lists) tools = []
-plain_layers_of (polygons_of lists) tools = []
-plain_layers_of (insides_of lists) tools = []
-plain_layers_of (along_figures figures) tools = []
+plain_layers_of (figures_painted painting figures) tools = []
 plain_layers_of (rectangle_between p q edges) tools = []
 plain_layers_of (blit_between p q table source) tools = blit_layer p q table source tools ∷ []
 

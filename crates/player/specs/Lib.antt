@@ -1,5 +1,6 @@
 pub mod Outlines
 pub mod Rectangles
+pub mod FigureEnds
 pub mod FigureLines
 pub mod Shape
 pub mod FewPoints

@@ -12,21 +12,17 @@ use Rattle.span_fill.specs.Fill.{in_fill}
 use Rattle.span_fill.specs.Strokes.{in_stroke}
 use Rattle.span_fill.specs.declared.fill_rule.FillRule.{FillRule}
 use Rattle.span_fill.specs.declared.fill_rule.FillRule.TheVariants.{EvenOdd, NonZero}
-use Rattle.player.specs.FigureLines.{lines_of_figures, placed_figures}
-use Rattle.player.specs.Outlines.{closed_lines_of, open_lines_of}
+use Rattle.player.specs.FigureLines.{lines_along, placed_figures}
 use Rattle.player.specs.Rectangles.{rectangle_lines, rectangle_on}
-use Rattle.player.specs.declared.list_lines.Ends.TheVariants.{Open}
 
--- by points of the plane: the pixel on which one lands, what is inside of polygons or of a rectangle, and what is on lines through points,
--- round polygons, round a rectangle, or along figures
+-- by points of the plane: the pixel on which one lands, what is inside of figures or of a rectangle, and what is on the lines along figures
+-- or round a rectangle
 pub data Shape : Type 0 where
   pixel_under : Point → Shape
-  inside_polygons : FillMode → List (List Point) → Shape
+  inside_figures : FillMode → List Figure → Shape
   inside_rectangle : Point → Point → RectangleEdges → Shape
-  on_lines : List (List Point) → Shape
-  round_polygons : List (List Point) → Shape
+  along_figures : List Figure → Shape
   round_rectangle : Point → Point → RectangleEdges → Shape
-  along : List Figure → Shape
 
 -- what a fill mode says is inside ([MS-WMF] 2.1.1.25)
 abbrev pub fill_rule_of : FillMode → FillRule
@@ -40,9 +36,7 @@ placed_lists s lists = map (placed_list s) lists
 -- the shape has the pixel (x, y)
 abbrev pub in_shape : Shape → Surface → ℕ → ℕ → Bool
 in_shape (pixel_under point) s x y = is_pixel (placed_point point s) x y
-in_shape (inside_polygons mode lists) s x y = in_fill (fill_rule_of mode) (closed_lines_of (placed_lists s lists)) x y
+in_shape (inside_figures mode figures) s x y = in_fill (fill_rule_of mode) (lines_along (placed_figures s figures)) x y
 in_shape (inside_rectangle p q edges) s x y = in_box (rectangle_on s p q edges) x y
-in_shape (on_lines lists) s x y = in_stroke (open_lines_of (placed_lists s lists)) x y
-in_shape (round_polygons lists) s x y = in_stroke (closed_lines_of (placed_lists s lists)) x y
+in_shape (along_figures figures) s x y = in_stroke (lines_along (placed_figures s figures)) x y
 in_shape (round_rectangle p q edges) s x y = in_stroke (rectangle_lines (rectangle_on s p q edges)) x y
-in_shape (along figures) s x y = in_stroke (lines_of_figures Open (placed_figures s figures)) x y

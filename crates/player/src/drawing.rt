@@ -11,7 +11,7 @@ ghost use Rattle.player.specs.Plays.{DrawsDrawing, DrawsLayers, IsWhole, SameRow
 
 use crate::blits::blit;
 use crate::dots::put;
-use crate::figures::{fill_figures, stroke_figures};
+use crate::figures::{fill_figures, stroke_figures, stroked_ends};
 use crate::filling::{fill_box, fill_lines, rule_of};
 use crate::ink_room::InkRoom;
 use crate::list_lines::Ends;
@@ -21,7 +21,7 @@ use crate::rectangles::rectangle_box;
 use crate::regions::{landed_box, whole_law};
 use crate::stroking::{stroke_box, stroke_line, stroke_lines};
 use canvas::{Canvas, writing_law};
-use dc_stack::{Draw, Machine};
+use dc_stack::{Draw, Machine, Painting};
 use draw_ops::{Brush, Pen};
 use mapping::Colour;
 use object_tables::Table;
@@ -77,7 +77,15 @@ fn fill<'a, T: Table<'a>>(
     }
     let paint = Paint::with(dc.selected.brush, dc);
     match drawn {
-        Draw::Polygons { lists, by, bounds } => {
+        Draw::Lists {
+            painting,
+            lists,
+            by,
+            bounds,
+        } => {
+            if let Painting::Stroke = painting {
+                return;
+            }
             let outline = PlacedLines::of_lists(by, Ends::Closed, lists);
             let rule = rule_of(dc.modes.fill_mode);
             let landed = landed_box(by.place, bounds);
@@ -95,11 +103,7 @@ fn fill<'a, T: Table<'a>>(
             let landed = landed_box(path.place, path.bounds);
             fill_figures(path, landed, machine, rows, room, canvas);
         }
-        Draw::Dot { .. }
-        | Draw::Line { .. }
-        | Draw::LinesFrom { .. }
-        | Draw::Polylines { .. }
-        | Draw::Blit(_) => {}
+        Draw::Dot { .. } | Draw::Line { .. } | Draw::LinesFrom { .. } | Draw::Blit(_) => {}
     }
 }
 
@@ -178,13 +182,16 @@ fn stroke_outline<'a, T: Table<'a>>(
             let landed = landed_box(by.place, bounds);
             stroke_lines(canvas, rows, outline, landed, &paint, colour);
         }
-        Draw::Polylines { lists, by, bounds } => {
-            let outline = PlacedLines::of_lists(by, Ends::Open, lists);
-            let landed = landed_box(by.place, bounds);
-            stroke_lines(canvas, rows, outline, landed, &paint, colour);
-        }
-        Draw::Polygons { lists, by, bounds } => {
-            let outline = PlacedLines::of_lists(by, Ends::Closed, lists);
+        Draw::Lists {
+            painting,
+            lists,
+            by,
+            bounds,
+        } => {
+            let Some(ends) = stroked_ends(painting) else {
+                return;
+            };
+            let outline = PlacedLines::of_lists(by, ends, lists);
             let landed = landed_box(by.place, bounds);
             stroke_lines(canvas, rows, outline, landed, &paint, colour);
         }

@@ -3,11 +3,11 @@
 ghost use Rattle.std.specs.Prelude.{◌≡◌, ◌+◌, ◌<◌, ◌≤◌, ◌^◌};
 ghost use Rattle.draw_ops.specs.declared.objects.Pen.TheVariants.{Solid};
 ghost use Rattle.dc_stack.specs.Boxes.{HasAll, placed_list};
-ghost use Rattle.dc_stack.specs.Draws.{TellsPath, mark_painted};
-ghost use Rattle.dc_stack.specs.Drawing.{tools_of};
+ghost use Rattle.dc_stack.specs.Draws.{TellsPath};
+ghost use Rattle.dc_stack.specs.Drawing.{figures_painted, tools_of};
 ghost use Rattle.dc_stack.specs.Figures.{all_figures, points_of_figures};
 ghost use Rattle.dc_stack.specs.Pieces.{figures_of};
-ghost use Rattle.player.specs.FigureLines.{stroked_ends};
+ghost use Rattle.player.specs.FigureEnds.{stroked_ends};
 ghost use Rattle.player.specs.Layer.{fills_of, outlines_of};
 ghost use Rattle.player.specs.Plays.{DrawsLayers, IsWhole, SameRows};
 
@@ -39,7 +39,7 @@ pub(crate) fn fill_figures<'a, T: Table<'a>>(
     requires placed { TellsPath machine.now.surface path machine.now.painted }
     requires bounds { HasAll bounds (placed_list machine.now.surface (points_of_figures (all_figures (figures_of machine.now.painted)))) }
     requires lines { path.count ≤ rows.old.room }
-    ensures drawn { DrawsLayers (fills_of (mark_painted path.painting (all_figures (figures_of machine.now.painted))) (tools_of machine.now.state.dc)) machine.now.surface canvas.old canvas.new }
+    ensures drawn { DrawsLayers (fills_of (figures_painted path.painting (all_figures (figures_of machine.now.painted))) (tools_of machine.now.state.dc)) machine.now.surface canvas.old canvas.new }
     ensures rows { SameRows canvas.old canvas.new }
     ensures few { canvas.new.writes ≤ canvas.old.writes + 2 ^ 26 }
     ensures room { rows.new.room ≡ rows.old.room }
@@ -75,7 +75,7 @@ pub(crate) fn stroke_figures<'a, T: Table<'a>>(
     requires bounds { HasAll bounds (placed_list machine.now.surface (points_of_figures (all_figures (figures_of machine.now.painted)))) }
     requires lines { path.count ≤ rows.old.room }
     requires pen { machine.now.state.dc.selected.pen.object ≡ Solid colour }
-    ensures drawn { DrawsLayers (outlines_of (mark_painted path.painting (all_figures (figures_of machine.now.painted))) (tools_of machine.now.state.dc)) machine.now.surface canvas.old canvas.new }
+    ensures drawn { DrawsLayers (outlines_of (figures_painted path.painting (all_figures (figures_of machine.now.painted))) (tools_of machine.now.state.dc)) machine.now.surface canvas.old canvas.new }
     ensures rows { SameRows canvas.old canvas.new }
     ensures few { canvas.new.writes ≤ canvas.old.writes + 2 ^ 26 }
     ensures room { rows.new.room ≡ rows.old.room }
@@ -91,7 +91,7 @@ pub(crate) fn stroke_figures<'a, T: Table<'a>>(
 }
 
 /// Whether the figures that a painting strokes are all closed, if it strokes them.
-fn stroked_ends(painting: Painting) -> Option<Ends>
+pub(crate) fn stroked_ends(painting: Painting) -> Option<Ends>
     ensures { result ≡ stroked_ends painting }
 {
     match painting {

@@ -7,14 +7,15 @@ ghost use Rattle.draw_ops.specs.Blits.{blit_value_of, source_of};
 ghost use Rattle.draw_ops.specs.Operation.{blit, line_to, pixel, polygon, polyline, polyline_to, rectangle};
 ghost use Rattle.point_views.specs.Points.{points_of};
 ghost use Rattle.point_views.specs.Polys.{lists_of};
-ghost use Rattle.dc_stack.specs.Drawing.{going_on, lines_through, polygons_of, rectangle_between};
+ghost use Rattle.dc_stack.specs.Drawing.{going_on, lists_painted, rectangle_between};
 ghost use Rattle.dc_stack.specs.DrawsApart.{DrawsApart};
+ghost use Rattle.dc_stack.specs.declared.draw.Painting.TheVariants.{Stroke};
 ghost use Rattle.dc_stack.specs.MachineState.{GoesOn, Plays};
 ghost use Rattle.dc_stack.specs.Mapped.{left_top, mapped_lists, right_bottom};
 ghost use Rattle.dc_stack.specs.Next.{end_of};
 ghost use Rattle.dc_stack.specs.OperationFault.{source_fault};
 
-use crate::draw::{Draw, PlacedBlit};
+use crate::draw::{Draw, Painting, PlacedBlit};
 use crate::machine::Machine;
 use crate::piece::{Joining, PiecePoints};
 use crate::placing::{
@@ -96,7 +97,7 @@ impl<'a, T: Table<'a>> Machine<'a, T> {
         if self.path.is_open() {
             self.add_lists(PiecePoints::of(lists), Joining::Polylines)
         } else {
-            self.draw_polylines(lists)
+            self.draw_lists(Painting::Stroke, lists)
         }
     }
 
@@ -108,7 +109,7 @@ impl<'a, T: Table<'a>> Machine<'a, T> {
         if self.path.is_open() {
             self.add_lists(PiecePoints::of(lists), Joining::Polygons)
         } else {
-            self.draw_polygons(lists)
+            self.draw_lists(Painting::StrokeAndFill, lists)
         }
     }
 
@@ -128,7 +129,7 @@ impl<'a, T: Table<'a>> Machine<'a, T> {
 
     /// Draws a line from the position to a point, which is then the position.
     fn draw_line(&mut self, point: Point) -> Result<Option<Draw<'a>>, Fault>
-        ensures draws { DrawsApart (lines_through (mapped_lists self.old.state.dc.map (going_on self.old.state.dc.position (point ∷ [])))) point self.old result self.new }
+        ensures draws { DrawsApart (lists_painted Stroke (mapped_lists self.old.state.dc.map (going_on self.old.state.dc.position (point ∷ [])))) point self.old result self.new }
         ensures goes_on { GoesOn self.old self.new }
     {
         box_law();
@@ -167,33 +168,24 @@ impl<'a, T: Table<'a>> Machine<'a, T> {
         }
     }
 
-    /// Draws lines from point to point, for each list.
-    fn draw_polylines(&mut self, lists: Polys<'a>) -> Result<Option<Draw<'a>>, Fault>
-        ensures draws { DrawsApart (lines_through (mapped_lists self.old.state.dc.map (lists_of lists.entry))) self.old.state.dc.position self.old result self.new }
+    /// Draws figures, one for each list.
+    fn draw_lists(
+        &mut self,
+        painting: Painting,
+        lists: Polys<'a>,
+    ) -> Result<Option<Draw<'a>>, Fault>
+        ensures draws { DrawsApart (lists_painted painting (mapped_lists self.old.state.dc.map (lists_of lists.entry))) self.old.state.dc.position self.old result self.new }
         ensures goes_on { GoesOn self.old self.new }
     {
         match land_lists(&self.dc.map, self.place, lists) {
             Ok(extent) => {
                 self.needs.raise_edges(extent.count);
-                let by = self.projection();
-                let bounds = extent.bounds;
-                Ok(Some(Draw::Polylines { lists, by, bounds }))
-            }
-            Err(fault) => Err(fault),
-        }
-    }
-
-    /// Draws polygons, one for each list.
-    fn draw_polygons(&mut self, lists: Polys<'a>) -> Result<Option<Draw<'a>>, Fault>
-        ensures draws { DrawsApart (polygons_of (mapped_lists self.old.state.dc.map (lists_of lists.entry))) self.old.state.dc.position self.old result self.new }
-        ensures goes_on { GoesOn self.old self.new }
-    {
-        match land_lists(&self.dc.map, self.place, lists) {
-            Ok(extent) => {
-                self.needs.raise_edges(extent.count);
-                let by = self.projection();
-                let bounds = extent.bounds;
-                Ok(Some(Draw::Polygons { lists, by, bounds }))
+                Ok(Some(Draw::Lists {
+                    painting,
+                    lists,
+                    by: self.projection(),
+                    bounds: extent.bounds,
+                }))
             }
             Err(fault) => Err(fault),
         }
@@ -201,11 +193,11 @@ impl<'a, T: Table<'a>> Machine<'a, T> {
 
     /// Draws lines from the position through points, of which the last is then the position.
     fn draw_lines(&mut self, points: Points<'a>) -> Result<Option<Draw<'a>>, Fault>
-        ensures draws { DrawsApart (lines_through (mapped_lists self.old.state.dc.map (going_on self.old.state.dc.position (points_of points.entry)))) (end_of self.old.state.dc.position (points_of points.entry)) self.old result self.new }
+        ensures draws { DrawsApart (lists_painted Stroke (mapped_lists self.old.state.dc.map (going_on self.old.state.dc.position (points_of points.entry)))) (end_of self.old.state.dc.position (points_of points.entry)) self.old result self.new }
         ensures goes_on { GoesOn self.old self.new }
     {
         if points.is_empty() {
-            return self.draw_polylines(Polys::empty());
+            return self.draw_lists(Painting::Stroke, Polys::empty());
         }
         let position = self.dc.position;
         match land_through(&self.dc.map, self.place, position, points) {

@@ -6,7 +6,7 @@ use Rattle.dc_stack.specs.State.{DcValue}
 use Rattle.span_fill.specs.Strokes.{in_stroke}
 use Rattle.span_fill.specs.declared.line.Line.{Line}
 use Rattle.player.specs.FiguresToCome.{piece_lines_left}
-use Rattle.player.specs.FigureLines.{stroked_ends}
+use Rattle.player.specs.FigureEnds.{stroked_ends}
 use Rattle.player.specs.declared.raster_operation.RasterOperation.TheVariants.{Binary}
 use Rattle.player.proofs.DrawingLemmas.{clip_placed, pen_drawn, pen_strokes}
 use Rattle.player.proofs.PaintedFigureLemmas.{lines_are, lines_few, lines_lie, stroked_lines, stroked_shape, strokes_figures}
