@@ -4,12 +4,17 @@
 //! tests/refused_growth_test.py.
 #![tactic(auto)]
 
+#[cfg(test)]
 mod command_lines;
 #[cfg(test)]
 mod comparing;
+#[cfg(test)]
 mod inputs;
+#[cfg(test)]
 mod reports;
+#[cfg(test)]
 mod showing;
+#[cfg(test)]
 mod writers;
 
 use std::alloc::Global;
