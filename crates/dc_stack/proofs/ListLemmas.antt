@@ -100,10 +100,6 @@ one_list_lands points s h = rw (joined_one points) (all_land s points (none_off_
 pub one_list_few : (points : List Point) (s : Surface) → None ≡ points_fault points s → length (joined (points ∷ [])) ≤ edge_limit
 one_list_few points s h = rw (joined_one points) (few_points points s h)
 
--- a point on the plane and others by the same map
-pub same_lines : (m n : MapNumbers) (start : Point) (points : List Point) (p : Point) → p ≡ mapped_point m start → n ≡ m → p ∷ mapped_list n points ≡ mapped_list m (start ∷ points)
-same_lines m n start points p here same = rw (here, same) refl
-
 -- the last point
 pub end_at : (start : Point) (points : List Point) (i : ℕ) (p : Point) → suc i ≡ length points → slice_get points i ≡ Some p → p ≡ end_of start points
 end_at start [] i p last at = cc

@@ -1,5 +1,5 @@
 -- Paintings of a path that waits for it.
-use Rattle.std.proofs.Common.{◌≡◌, ℤ, ◌<◌, ◌≤◌, Bool, true, ◌&&◌, nat_le, if◌then◌else◌, List, [], ◌∷◌, length, Option, Some, None, inl, refl, ap, sym, ◌∙◌}
+use Rattle.std.proofs.Common.{◌≡◌, ℕ, ℤ, ◌<◌, ◌≤◌, Bool, true, ◌&&◌, nat_le, if◌then◌else◌, List, [], ◌∷◌, length, Option, Some, None, inl, refl, ap, sym, ◌∙◌}
 use Rattle.std.proofs.lemmas.Bool.{and_from, and_parts, le-leb, lt-leb}
 use Rattle.std.proofs.lemmas.List.Elements.{All-head, All-tail}
 use Rattle.std.proofs.lemmas.List.Folds.{list_all-append}
@@ -8,7 +8,6 @@ use Rattle.std.specs.Option.{option_or}
 use Rattle.mapping.specs.Boxes.{IsLeastBox}
 use Rattle.mapping.specs.Limits.{is_within, place_limit, plane_limit}
 use Rattle.mapping.specs.PageMap.{map_numbers}
-use Rattle.mapping.specs.PlaceOf.{surface_of}
 use Rattle.mapping.specs.Plane.{MapNumbers}
 use Rattle.mapping.specs.Surface.{Surface, lands_within_limits, placed}
 use Rattle.mapping.specs.declared.geometry.Point.{Point}
@@ -28,8 +27,8 @@ use Rattle.dc_stack.specs.OperationFault.{fault_of, off_plane_fault}
 use Rattle.dc_stack.specs.Path.{finished_path, no_path}
 use Rattle.dc_stack.specs.Pieces.{AllLandOn, LandsOn, figures_of, page_points, plane_lists}
 use Rattle.dc_stack.specs.State.{State, with_path}
-use Rattle.dc_stack.specs.declared.draw.Draw.TheVariants.{Path}
-use Rattle.dc_stack.specs.declared.draw.PaintedPath.{PaintedPath}
+use Rattle.dc_stack.specs.declared.draw.FigurePoints.TheVariants.{Path}
+use Rattle.dc_stack.specs.declared.draw.Mark.TheVariants.{Figures}
 use Rattle.dc_stack.specs.declared.draw.Painting.{Painting}
 use Rattle.dc_stack.specs.declared.draw.Painting.TheVariants.{Fill, Stroke, StrokeAndFill}
 use Rattle.dc_stack.specs.declared.piece.Piece.{Piece}
@@ -142,9 +141,8 @@ module _ (s : Surface) where
   gathered_lands pieces h = ap all_lands (points_gathered pieces) ∙ pieces_land pieces h
 
 -- a finished path is painted
-pub plays_painting : (old new : MachineState) (path : PaintedPath) (pieces : List Piece) → old.state.path ≡ finished_path (all_figures (figures_of pieces)) → new.state ≡ with_path no_path old.state → new.painted ≡ pieces → new.needs ≡ greater_needs old.needs (points_needed path.count) → path.count ≡ length (gathered_points pieces) → length (gathered_points pieces) ≤ edge_limit → surface_of path.place ≡ old.surface → AllLandOn old.surface pieces → IsLeastBox path.bounds (gathered_points pieces) → HasPlayed (painting_operation path.painting) old new (Some (Path path))
-plays_painting old new path pieces at state lent needs counted few here land least =
-    let painting = path.painting in
+pub plays_painting : (old new : MachineState) (painting : Painting) (bounds : Rect) (edges : ℕ) (pieces : List Piece) → old.state.path ≡ finished_path (all_figures (figures_of pieces)) → new.state ≡ with_path no_path old.state → new.painted ≡ pieces → new.needs ≡ greater_needs old.needs (points_needed edges) → edges ≡ length (gathered_points pieces) → length (gathered_points pieces) ≤ edge_limit → AllLandOn old.surface pieces → IsLeastBox bounds (gathered_points pieces) → HasPlayed (painting_operation painting) old new (Some (record { mark = Figures painting Path; bounds = bounds; edges = edges }))
+plays_painting old new painting bounds edges pieces at state lent needs counted few land least =
     let figures = all_figures (figures_of pieces) in
     let lands = gathered_lands old.surface pieces land in
     let none : figures_fault figures old.surface ≡ None = rw (le-leb (length (gathered_points pieces)) edge_limit few) (sym (none_off old.surface (gathered_points pieces) lands)) in
@@ -156,7 +154,8 @@ plays_painting old new path pieces at state lent needs counted few here land lea
       };
       drawn = rw (lent, state) (sym (painting_drawn old.state figures at painting));
       placed = rw lent (record {
-        places = record { surface = here; land = land; counted = counted };
+        places = land;
+        counted = counted;
         least = least;
         within = lands;
         few = few;

@@ -9,7 +9,7 @@ use Rattle.dib_views.specs.Pictures.{Picture}
 use Rattle.draw_ops.specs.Blits.{CountedFrom, SourceValue, bottom, top}
 use Rattle.draw_ops.specs.Operation.{Operation, begin_path, blit, set_map_mode, set_viewport_extent, set_window_extent}
 use Rattle.draw_ops.specs.declared.fault.Fault.TheVariants.{OffPlane, SourceMissing, SourceOutside}
-use Rattle.dc_stack.specs.Drawing.{Mark, blit_between, drawing_of, edge_limit}
+use Rattle.dc_stack.specs.Drawing.{MarkValue, blit_between, drawing_of, edge_limit}
 use Rattle.dc_stack.specs.Needs.{needs_of, no_needs}
 use Rattle.dc_stack.specs.Next.{next}
 use Rattle.dc_stack.specs.Path.{piece_limit}
@@ -85,7 +85,7 @@ outside_first : fault_behind [] (block_at (at (pos (2 ^ 30)) (pos 0)) (at (pos 1
 outside_first = refl
 
 -- corner and extent are added on the page, beyond its own numbers too, and then mapped
-abbrev mark_behind : List Operation → Operation → Option Mark
+abbrev mark_behind : List Operation → Operation → Option MarkValue
 mark_behind before operation = option_map (λ drawing. drawing.mark) (drawing_of operation (played before start))
 
 beyond_the_page :

@@ -10,7 +10,7 @@ use Rattle.mapping.specs.Colours.{white_colour}
 use Rattle.mapping.specs.Limits.{place_limit, plane_limit}
 use Rattle.mapping.specs.declared.geometry.Point.{Point}
 use Rattle.mapping.specs.declared.map_mode.MapMode.TheVariants.{Anisotropic}
-use Rattle.dc_stack.specs.Drawing.{Mark, Tools, dot, drawing_of, edge_limit, lists_painted, rectangle_between, tools_of}
+use Rattle.dc_stack.specs.Drawing.{MarkValue, Tools, dot, drawing_of, edge_limit, lists_painted, rectangle_between, tools_of}
 use Rattle.dc_stack.specs.declared.draw.Painting.TheVariants.{Stroke, StrokeAndFill}
 use Rattle.dc_stack.specs.Needs.{needs_of, no_needs, points_needed}
 use Rattle.dc_stack.specs.Next.{next}
@@ -20,7 +20,7 @@ use Rattle.dc_stack.specs.State.{with_position}
 use Rattle.dc_stack.proofs.WorkedStart.{at, box, fault_behind, half, played, start}
 
 -- the mark of an operation behind others
-abbrev mark_behind : List Operation → Operation → Option Mark
+abbrev mark_behind : List Operation → Operation → Option MarkValue
 mark_behind before operation = option_map (λ drawing. drawing.mark) (drawing_of operation (played before start))
 
 -- and the tools that it is drawn with

@@ -7,7 +7,7 @@ use Rattle.draw_ops.specs.Operation.{Operation, abort_path, begin_path, close_fi
 use Rattle.draw_ops.specs.declared.fault.Fault.TheVariants.{OffPlane, PathState, TooManyPieces}
 use Rattle.draw_ops.specs.declared.operation.RectangleEdges.TheVariants.{Inclusive}
 use Rattle.mapping.specs.Colours.{black_colour}
-use Rattle.dc_stack.specs.Drawing.{Mark, dot, drawing_of, edge_limit, figures_painted}
+use Rattle.dc_stack.specs.Drawing.{MarkValue, dot, drawing_of, edge_limit, figures_painted}
 use Rattle.dc_stack.specs.declared.draw.Painting.TheVariants.{Fill, Stroke, StrokeAndFill}
 use Rattle.dc_stack.specs.Figures.{Figure, Figures, no_figures}
 use Rattle.dc_stack.specs.Needs.{needs_of}
@@ -47,7 +47,7 @@ abbrev path_behind : List Operation → Path
 path_behind operations = (played operations start).path
 
 -- the mark of an operation behind others
-abbrev mark_behind : List Operation → Operation → Option Mark
+abbrev mark_behind : List Operation → Operation → Option MarkValue
 mark_behind before operation = option_map (λ drawing. drawing.mark) (drawing_of operation (played before start))
 
 -- BEGINPATH opens a path without figures, also in place of one that is finished

@@ -20,14 +20,14 @@ use Rattle.dc_stack.specs.declared.modes.Modes.{Modes}
 
 -- What is marked on the plane: a point in a colour, the insides or the lines of figures or both, the rectangle between two corners,
 -- whichever of them comes first, or the box between two, of which each pixel becomes what a ternary raster operation makes of it.
-pub data Mark : Type 0 where
-  dot : Point → Colour → Mark
-  figures_painted : Painting → List Figure → Mark
-  rectangle_between : Point → Point → RectangleEdges → Mark
-  blit_between : Point → Point → ℕ → Option SourceValue → Mark
+pub data MarkValue : Type 0 where
+  dot : Point → Colour → MarkValue
+  figures_painted : Painting → List Figure → MarkValue
+  rectangle_between : Point → Point → RectangleEdges → MarkValue
+  blit_between : Point → Point → ℕ → Option SourceValue → MarkValue
 
 -- lists of points that are painted
-abbrev pub lists_painted : Painting → List (List Point) → Mark
+abbrev pub lists_painted : Painting → List (List Point) → MarkValue
 lists_painted painting lists = figures_painted painting (figures_of_lists lists)
 
 -- what is drawn with: the pen, the brush, the modes, and the clip
@@ -48,11 +48,11 @@ tools_of dc = record {
 
 -- a drawing: its mark, and the tools of its moment
 pub record Drawing : Type 0 where
-  pub mark : Mark
+  pub mark : MarkValue
   pub tools : Tools
 
 -- the drawing of a mark, with the tools of the moment
-abbrev pub drawing_now : Mark → State → Option Drawing
+abbrev pub drawing_now : MarkValue → State → Option Drawing
 drawing_now mark state = Some (record { mark = mark; tools = tools_of state.dc })
 
 -- lines go on from a point through others, if there are others
@@ -61,7 +61,7 @@ going_on start [] = []
 going_on start (point ∷ points) = (start ∷ point ∷ points) ∷ []
 
 -- the drawing of a mark where no path is open: an open one is added to in place of that
-abbrev drawing_unless_open : Mark → State → Option Drawing
+abbrev drawing_unless_open : MarkValue → State → Option Drawing
 drawing_unless_open mark state = unless_open state.path (drawing_now mark state)
 
 -- the painting of the figures of a path that waits for it
@@ -117,7 +117,7 @@ abbrev pub joined : List (List Point) → List Point
 joined lists = flat_map (λ list. list) lists
 
 -- the points of a mark: of a rectangle and of a blit's box the two corners
-abbrev pub mark_points : Mark → List Point
+abbrev pub mark_points : MarkValue → List Point
 mark_points (dot point colour) = point ∷ []
 mark_points (figures_painted painting figures) = points_of_figures figures
 mark_points (rectangle_between p q edges) = p ∷ q ∷ []
@@ -128,7 +128,7 @@ abbrev pub drawing_points : Drawing → List Point
 drawing_points drawing = mark_points drawing.mark
 
 -- how many points a mark needs room for: a dot and a blit need none, a rectangle its four corners
-abbrev pub mark_edges : Mark → ℕ
+abbrev pub mark_edges : MarkValue → ℕ
 mark_edges (dot point colour) = 0
 mark_edges (figures_painted painting figures) = length (points_of_figures figures)
 mark_edges (rectangle_between p q edges) = 4

@@ -3,7 +3,7 @@ use Rattle.std.specs.Prelude.{◌≡◌, false, Option, None, Some, IfSome, Resu
 use Rattle.std.specs.Option.{option_map, option_or}
 use Rattle.mapping.specs.declared.geometry.Point.{Point}
 use Rattle.draw_ops.specs.declared.fault.Fault.{Fault}
-use Rattle.dc_stack.specs.Drawing.{Mark, drawing_now, mark_edges, mark_points}
+use Rattle.dc_stack.specs.Drawing.{MarkValue, drawing_now, mark_edges, mark_points}
 use Rattle.dc_stack.specs.Draws.{IsPlacedDraw, paints_path}
 use Rattle.dc_stack.specs.MachineState.{IsUnchanged, MachineState, drawing_with}
 use Rattle.dc_stack.specs.Needs.{greater_needs, points_needed}
@@ -13,11 +13,11 @@ use Rattle.mapping.specs.Surface.{Surface}
 use Rattle.dc_stack.specs.declared.draw.Draw.{Draw}
 
 -- the first fault of a mark
-abbrev pub mark_fault : Mark → State → Surface → Option Fault
+abbrev pub mark_fault : MarkValue → State → Surface → Option Fault
 mark_fault mark state s = option_or (edges_fault (drawing_now mark state)) (off_plane_fault (mark_points mark) s)
 
 -- a mark was drawn, which isn't of a path, and the position is this
-pub record HasDrawn (mark : Mark) (position : Point) (old new : MachineState) (draw : Option Draw) : Type 0 where
+pub record HasDrawn (mark : MarkValue) (position : Point) (old new : MachineState) (draw : Option Draw) : Type 0 where
   pub no_fault : mark_fault mark old.state old.surface ≡ None
   pub state : new.state ≡ with_position position old.state
   pub needs : new.needs ≡ greater_needs old.needs (points_needed (mark_edges mark))
@@ -26,11 +26,11 @@ pub record HasDrawn (mark : Mark) (position : Point) (old new : MachineState) (d
   pub apart : paints_path draw ≡ false
 
 -- it has a fault: nothing has changed
-pub record HasNotDrawn (mark : Mark) (old new : MachineState) (fault : Fault) : Type 0 where
+pub record HasNotDrawn (mark : MarkValue) (old new : MachineState) (fault : Fault) : Type 0 where
   pub refused : mark_fault mark old.state old.surface ≡ Some fault
   pub kept : IsUnchanged old new
 
 -- one of both
-abbrev pub DrawsApart : Mark → Point → MachineState → Result (Option Draw) Fault → MachineState → Type 0
+abbrev pub DrawsApart : MarkValue → Point → MachineState → Result (Option Draw) Fault → MachineState → Type 0
 DrawsApart mark position old (Ok draw) new = HasDrawn mark position old new draw
 DrawsApart mark position old (Err fault) new = HasNotDrawn mark old new fault

@@ -1,12 +1,11 @@
 //! What a step draws.
 
 ghost use Rattle.std.specs.Prelude.{◌≡◌};
-ghost use Rattle.dc_stack.specs.Draws.{paints_path};
+ghost use Rattle.dc_stack.specs.Draws.{is_of_path, lends_path, paints_path};
 
 use crate::placing::Landing;
-use crate::projection::Projection;
 use draw_ops::{BlitSource, RectangleEdges, TernaryOp};
-use mapping::{Colour, Place, Rect};
+use mapping::{Colour, PageMap, Rect};
 use point_views::{Points, Polys};
 
 /// Which parts of figures are painted.
@@ -20,7 +19,26 @@ pub enum Painting {
     StrokeAndFill,
 }
 
-/// The box between two placed corners, whichever of them comes first, of which each pixel becomes what the
+/// The points of figures, as a record or a path has them.
+#[derive(Clone, Copy, Debug, PartialEq, Eq)]
+pub enum FigurePoints<'a> {
+    /// An open figure from a point through others of the page, of which there is at least one.
+    Through {
+        from: Landing,
+        points: Points<'a>,
+        map: PageMap,
+    },
+    /// An open figure for each list of points of the page.
+    Lists {
+        lists: Polys<'a>,
+        map: PageMap,
+    },
+    /// The figures of the path whose pieces the machine lends (`Machine::painted`): how their points land is by the page map of each
+    /// piece.
+    Path,
+}
+
+/// The box between two corners, whichever of them comes first, of which each pixel becomes what the
 /// operation makes of the brush, of what is read, and of the colour that is there. Where the operation depends
 /// on the source, what is read lies inside of its picture.
 #[derive(Clone, Copy, Debug, PartialEq, Eq)]
@@ -31,47 +49,23 @@ pub struct PlacedBlit<'a> {
     pub source: BlitSource<'a>,
 }
 
-/// The figures of a path that is painted, which the pieces that the machine lends make (`Machine::painted`).
-/// How their points land is by the page map of each piece, and this place.
+/// What is marked on the plane, and where it lands.
 #[derive(Clone, Copy, Debug, PartialEq, Eq)]
-pub struct PaintedPath {
-    pub painting: Painting,
-    pub place: Place,
-    /// How many points the figures have.
-    pub count: u32,
-    /// The least box around them on the plane.
-    pub bounds: Rect,
-}
-
-/// What a step draws. Points are those of the file's record, as it has them, and how they land; all of
-/// them land within the limits. `bounds` is the least box around them on the plane, the right and the bottom included. Pen, brush, modes
-/// and clip of its moment are those that the machine lends still (`Machine::dc`), since no drawing changes
-/// them.
-#[derive(Clone, Copy, Debug, PartialEq, Eq)]
-pub enum Draw<'a> {
+pub enum Mark<'a> {
     /// One pixel.
     Dot {
         at: Landing,
         colour: Colour,
     },
-    /// A line.
+    /// A line: a figure of two points, which is stroked.
     Line {
         from: Landing,
         to: Landing,
     },
-    /// Lines from a point through others, of which there is at least one.
-    LinesFrom {
-        from: Landing,
-        points: Points<'a>,
-        by: Projection,
-        bounds: Rect,
-    },
-    /// Figures, one for each list: open ones where they are stroked alone.
-    Lists {
+    /// Figures.
+    Figures {
         painting: Painting,
-        lists: Polys<'a>,
-        by: Projection,
-        bounds: Rect,
+        points: FigurePoints<'a>,
     },
     /// The rectangle between two corners, whichever of them comes first.
     Rectangle {
@@ -81,25 +75,36 @@ pub enum Draw<'a> {
     },
     /// The box of a blit.
     Blit(PlacedBlit<'a>),
-    /// The figures of a path.
-    Path(PaintedPath),
 }
 
-impl Draw<'_> {
-    ghost use Rattle.dc_stack.specs.Draws.{bounds_of};
+/// What a step draws. All its points land within the limits. Pen, brush, modes and clip of its moment are those that the machine lends
+/// still (`Machine::dc`), since no drawing changes them.
+#[derive(Clone, Copy, Debug, PartialEq, Eq)]
+pub struct Draw<'a> {
+    pub mark: Mark<'a>,
+    /// The least box around its points on the plane, its right and bottom included: `Rect::NONE` where there is no point.
+    pub bounds: Rect,
+    /// How many points it needs room for.
+    pub edges: u32,
+}
 
-    /// The least box around the drawing's points on the plane, its right and bottom included: `Rect::NONE` where there is no point.
-    pub fn bounds(&self) -> Rect
-        ensures { result ≡ bounds_of self.now }
-    {
-        match self {
-            Draw::Dot { at, .. } => Rect::around(at.plane),
-            Draw::Line { from, to } => Rect::between(from.plane, to.plane),
-            Draw::LinesFrom { bounds, .. } | Draw::Lists { bounds, .. } => *bounds,
-            Draw::Rectangle { first, second, .. } => Rect::between(first.plane, second.plane),
-            Draw::Blit(blit) => Rect::between(blit.first.plane, blit.second.plane),
-            Draw::Path(path) => path.bounds,
-        }
+/// Whether figures are those of a path.
+fn is_of_path(points: FigurePoints<'_>) -> bool
+    ensures { result ≡ is_of_path points.entry }
+{
+    match points {
+        FigurePoints::Through { .. } | FigurePoints::Lists { .. } => false,
+        FigurePoints::Path => true,
+    }
+}
+
+/// Whether a mark is of a path.
+fn lends_path(mark: Mark<'_>) -> bool
+    ensures { result ≡ lends_path mark.entry }
+{
+    match mark {
+        Mark::Figures { points, .. } => is_of_path(points),
+        Mark::Dot { .. } | Mark::Line { .. } | Mark::Rectangle { .. } | Mark::Blit(_) => false,
     }
 }
 
@@ -107,5 +112,8 @@ impl Draw<'_> {
 pub(crate) fn paints_path(drawn: Option<Draw<'_>>) -> bool
     ensures { result ≡ paints_path drawn.entry }
 {
-    matches!(drawn, Some(Draw::Path(_)))
+    match drawn {
+        None => false,
+        Some(drawn) => lends_path(drawn.mark),
+    }
 }

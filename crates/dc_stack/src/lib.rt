@@ -6,7 +6,7 @@
 //! - Each step has the first fault that the definition says, and then nothing has changed, or leaves the
 //!   next state (`Machine::step`, by `fault_of` and `next`).
 //! - What a step draws is the operation's drawing, with the tools of its moment (`Machine::step`, `dc`).
-//! - All its points land within the limits, each where it is told, and in the bounds that it is told with
+//! - All its points land within the limits, each where it is told, and the bounds that it is told with are the least box around them
 //!   (`Machine::step`, `Projection::at`).
 //! - The pieces of a path that is painted are lent until the next step is accepted, and make the path's figures
 //!   (`Machine::step`, `painted`).
@@ -24,6 +24,7 @@ mod dc;
 mod draw;
 mod gathering;
 mod laws;
+mod lone_line;
 mod machine;
 mod modes;
 mod needs;
@@ -39,7 +40,7 @@ mod stock;
 
 pub use clip::{Clip, ClipBox};
 pub use dc::Dc;
-pub use draw::{Draw, PaintedPath, Painting, PlacedBlit};
+pub use draw::{Draw, FigurePoints, Mark, Painting, PlacedBlit};
 pub use laws::{fault_law, room_law};
 pub use machine::{MAX_SAVED_STATES, Machine};
 pub use modes::Modes;

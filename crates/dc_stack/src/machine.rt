@@ -201,6 +201,13 @@ impl<'a, T: Table<'a>> Machine<'a, T> {
         self.path.painted()
     }
 
+    /// Where it shows its frame.
+    pub fn place(&self) -> Place
+        ensures { surface_of result ≡ self.now.surface }
+    {
+        self.place
+    }
+
     /// What drawings depend on. The boxes of its clip are placed on the machine's surface.
     pub fn dc(&self) -> &Dc<'a>
         ensures value { dc_value result.now ≡ self.now.state.dc }

@@ -2,7 +2,7 @@
 
 use crate::comparing::same;
 use crate::stepping::{machine, step};
-use dc_stack::{Draw, Landing, Needs};
+use dc_stack::{Draw, Landing, Mark, Needs};
 use draw_ops::{Fault, FillMode, Handle, Object, Op, SavedState};
 use mapping::{Point, Rect};
 use meta_headers::open_file;
@@ -27,7 +27,16 @@ fn a_pixel_is_drawn_where_it_lands(rt: HostRuntime) -> Result<(), Fail> {
         plane: Point { x: 3, y: -1 },
         placed: Point { x: 1, y: -1 },
     };
-    let drawn = Draw::Dot { at, colour: RED };
+    let drawn = Draw {
+        mark: Mark::Dot { at, colour: RED },
+        bounds: Rect {
+            l: 3,
+            t: -1,
+            r: 3,
+            b: -1,
+        },
+        edges: 0,
+    };
     same(&rt, machine.step(PIXEL), Ok(Some(drawn)));
     let left = Rect {
         l: 2,

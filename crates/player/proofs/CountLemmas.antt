@@ -7,14 +7,12 @@ use Rattle.point_views.specs.Numbers.{point_size}
 use Rattle.point_views.specs.Points.{points_in}
 use Rattle.point_views.specs.declared.numbers.NumberWidth.{NumberWidth}
 use Rattle.point_views.specs.declared.numbers.NumberWidth.TheVariants.{Short, Long}
-use Rattle.mapping.specs.PageMap.{map_numbers}
 use Rattle.dc_stack.specs.Drawing.{joined}
-use Rattle.dc_stack.specs.Mapped.{mapped_list, mapped_lists, mapped_point}
 use Rattle.dc_stack.specs.Projected.{projected}
 use Rattle.dc_stack.specs.declared.projection.Projection.{Projection}
 use Rattle.player.specs.LinesToCome.{lines_if_on}
 use Rattle.player.specs.Outlines.{closed_lines, closed_lines_of, lines_after, lines_round, open_lines, open_lines_of}
-use Rattle.player.specs.PlacedLines.{lines_from_start, lines_of_lists, projected_list}
+use Rattle.player.specs.PlacedLines.{lines_of_lists, projected_list}
 use Rattle.player.specs.declared.list_lines.Course.{Course}
 use Rattle.player.specs.declared.list_lines.Ends.{Ends}
 use Rattle.player.specs.declared.list_lines.Ends.TheVariants.{Open, Closed}
@@ -106,9 +104,6 @@ module _ (by : Projection) where
   pub length-projected_list : (ps : List Point) → length (projected_list by ps) ≡ length ps
   length-projected_list ps = length-map ps (projected by)
 
-  pub length-lines_from_start : (start : Point) (ps : List Point) → length (lines_from_start by start ps) ≡ length ps
-  length-lines_from_start start ps = length-lines_after start (projected_list by ps) ∙ length-projected_list ps
-
   -- where points land doesn't change how many lines there are
   open_projected : (ps : List Point) → length (open_lines (projected_list by ps)) ≡ length (open_lines ps)
   open_projected [] = refl
@@ -136,22 +131,3 @@ module _ (by : Projection) where
   pub lines_few : (ends : Ends) (ls : List (List Point)) → length (lines_of_lists by ends ls) ≤ length (joined ls)
   lines_few Open ls = let e = length-open_lists ls in let few = open_lines_of_few ls in omega arith
   lines_few Closed ls = let e = length-closed_lists ls in omega arith
-
-  -- nor than points of the plane
-  length-joined_mapped : (ls : List (List Point)) → length (joined (mapped_lists (map_numbers by.map) ls)) ≡ length (joined ls)
-  length-joined_mapped [] = refl
-  length-joined_mapped (ps ∷ ls) =
-      let first = length-map ps (mapped_point (map_numbers by.map)) in
-      let others = length-joined_mapped ls in
-      let a = length-append (mapped_list (map_numbers by.map) ps) (joined (mapped_lists (map_numbers by.map) ls)) in
-      let b = length-append ps (joined ls) in omega arith
-
-  pub lines_on_plane_few : (ends : Ends) (ls : List (List Point)) → length (lines_of_lists by ends ls) ≤ length (joined (mapped_lists (map_numbers by.map) ls))
-  lines_on_plane_few ends ls = let e = length-joined_mapped ls in let few = lines_few ends ls in omega arith
-
-  pub from_start_few : (start p : Point) (ps : List Point) → length (lines_from_start by start ps) ≤ length (joined ((p ∷ mapped_list (map_numbers by.map) ps) ∷ []))
-  from_start_few start p ps =
-      let lines = length-lines_from_start start ps in
-      let mapped = length-map ps (mapped_point (map_numbers by.map)) in
-      let all = length-append (p ∷ mapped_list (map_numbers by.map) ps) [] in
-      omega (arith, lines, mapped, all)

@@ -1,7 +1,6 @@
 -- Lines of lists of points, where they land on a surface and in which rows.
-use Rattle.std.proofs.Common.{◌≡◌, List, [], ◌∷◌, ◌++◌, refl, ap, subst, sym, ◌∙◌}
-use Rattle.std.proofs.lemmas.List.{append-nil, map-append}
-use Rattle.std.proofs.lemmas.List.Elements.{All-append, All-cons, All-head, All-nil, All-tail}
+use Rattle.std.proofs.Common.{◌≡◌, List, [], ◌∷◌, ◌++◌, refl, ap, subst, ◌∙◌}
+use Rattle.std.proofs.lemmas.List.Elements.{All-cons, All-head, All-nil, All-tail}
 use Rattle.std.specs.List.{All, flat_map}
 use Rattle.mapping.specs.PageMap.{map_numbers}
 use Rattle.mapping.specs.PlaceOf.{surface_of}
@@ -10,14 +9,13 @@ use Rattle.mapping.specs.declared.geometry.Point.{Point}
 use Rattle.mapping.specs.declared.geometry.Rect.{Rect}
 use Rattle.dc_stack.specs.Boxes.{HasAll, placed_list}
 use Rattle.mapping.specs.Boxes.{HasPoint}
-use Rattle.dc_stack.specs.Drawing.{joined}
 use Rattle.dc_stack.specs.Mapped.{mapped_list, mapped_lists}
 use Rattle.dc_stack.specs.Projected.{projected}
 use Rattle.dc_stack.specs.declared.projection.Projection.{Projection}
 use Rattle.span_fill.specs.RowLaws.{LiesBetween}
 use Rattle.span_fill.specs.declared.line.Line.{Line}
-use Rattle.player.specs.Outlines.{line_from, lines_after, lines_round, open_lines_of}
-use Rattle.player.specs.PlacedLines.{lines_between, lines_from_start, lines_of_lists, projected_list}
+use Rattle.player.specs.Outlines.{line_from, lines_after, lines_round}
+use Rattle.player.specs.PlacedLines.{lines_between, lines_of_lists, projected_list}
 use Rattle.player.specs.Shape.{placed_lists}
 use Rattle.player.specs.declared.list_lines.Ends.{Ends}
 use Rattle.player.specs.declared.list_lines.Ends.TheVariants.{Open, Closed}
@@ -57,18 +55,6 @@ module _ (box : Rect) where
   list_lies Closed (p ∷ ps) h =
       let first = All-head (HasPoint box) p ps h in lines_round_lie p p ps first first (All-tail (HasPoint box) p ps h)
 
-  lists_lie : (ends : Ends) (ls : List (List Point)) → HasAll box (joined ls) → All (LiesBetween box.t box.b) (flat_map (lines_between ends) ls)
-  lists_lie ends [] h = All-nil (LiesBetween box.t box.b)
-  lists_lie ends (ps ∷ ls) h =
-      All-append (LiesBetween box.t box.b) (lines_between ends ps) (flat_map (lines_between ends) ls)
-      (list_lies ends ps (all_front (HasPoint box) ps (joined ls) h)) (lists_lie ends ls (all_behind (HasPoint box) ps (joined ls) h))
-
--- where the points of lists land, one list's after another's
-joined_placed : (s : Surface) (ls : List (List Point)) → placed_list s (joined ls) ≡ joined (placed_lists s ls)
-joined_placed s [] = refl
-joined_placed s (ps ∷ ls) =
-    map-append (λ p. placed_point p s) ps (joined ls) ∙ ap (λ (rest : List Point). placed_list s ps ++ rest) (joined_placed s ls)
-
 module _ (by : Projection) where
   -- points of the page land where their points of the plane do
   pub placed_list_of : (ps : List Point) → projected_list by ps ≡ placed_list (surface_of by.place) (mapped_list (map_numbers by.map) ps)
@@ -86,25 +72,8 @@ module _ (by : Projection) where
     placed_lines ends ls =
         subst (λ (r : Surface). lines_of_lists by ends ls ≡ flat_map (lines_between ends) (placed_lists r (mapped_lists (map_numbers by.map) ls))) e (placed_lines_of ends ls)
 
-    -- lines from a placed point through points of the page are those of where the plane's points land
-    pub from_start_placed : (start p : Point) (ps : List Point) → start ≡ placed_point p s → lines_from_start by start ps ≡ open_lines_of (placed_lists s ((p ∷ mapped_list (map_numbers by.map) ps) ∷ []))
-    from_start_placed start p ps at =
-        let points = subst (λ (r : Surface). projected_list by ps ≡ placed_list r (mapped_list (map_numbers by.map) ps)) e (placed_list_of ps) in
-        ap (λ (list : List Point). lines_after start list) points
-        ∙ ap (λ (first : Point). lines_after first (placed_list s (mapped_list (map_numbers by.map) ps))) at
-        ∙ sym (append-nil (lines_after (placed_point p s) (placed_list s (mapped_list (map_numbers by.map) ps))))
-
-    -- where a box has all the points where they land, the lines lie in its rows
-    pub placed_lines_lie : (box : Rect) (ends : Ends) (ls : List (List Point)) → HasAll box (placed_list s (joined (mapped_lists (map_numbers by.map) ls))) → All (LiesBetween box.t box.b) (lines_of_lists by ends ls)
-    placed_lines_lie box ends ls h =
-        let points = subst (HasAll box) (joined_placed s (mapped_lists (map_numbers by.map) ls)) h in
-        subst (All (LiesBetween box.t box.b)) (sym (placed_lines ends ls)) (lists_lie box ends (placed_lists s (mapped_lists (map_numbers by.map) ls)) points)
-
-    pub from_start_lies : (box : Rect) (start p : Point) (ps : List Point) → start ≡ placed_point p s → HasAll box (placed_list s (p ∷ mapped_list (map_numbers by.map) ps)) → All (LiesBetween box.t box.b) (lines_from_start by start ps)
-    from_start_lies box start p ps at h =
-        let there = placed_list s (mapped_list (map_numbers by.map) ps) in
-        let first = All-head (HasPoint box) (placed_point p s) there h in
-        let others = All-tail (HasPoint box) (placed_point p s) there h in
-        let points = subst (λ (r : Surface). projected_list by ps ≡ placed_list r (mapped_list (map_numbers by.map) ps)) e (placed_list_of ps) in
-        lines_after_lie box start (projected_list by ps)
-        (subst (HasPoint box) (sym at) first) (subst (HasAll box) (sym points) others)
+    -- so do points of the page behind a placed one
+    pub placed_through : (start p : Point) (ps : List Point) → start ≡ placed_point p s → start ∷ projected_list by ps ≡ placed_list s (p ∷ mapped_list (map_numbers by.map) ps)
+    placed_through start p ps at =
+        let others = subst (λ (r : Surface). projected_list by ps ≡ placed_list r (mapped_list (map_numbers by.map) ps)) e (placed_list_of ps) in
+        ap (λ (first : Point). first ∷ projected_list by ps) at ∙ ap (λ (rest : List Point). placed_point p s ∷ rest) others

@@ -6,6 +6,7 @@ use Rattle.draw_ops.specs.ExactlyOne.{ExactlyOne}
 use Rattle.draw_ops.specs.RecordContent.{ContentIsOne}
 use Rattle.mapping.specs.Image.{Image}
 use Rattle.player.specs.Apply.{image_after}
+use Rattle.player.specs.Drawings.{drawings_of}
 use Rattle.meta_headers.specs.Headers.{OpenedValue}
 use Rattle.meta_headers.specs.Opening.{framing_of, meaning_of, opened, record_bytes, surface_for}
 use Rattle.meta_headers.specs.declared.opened.FileFormat.{FileFormat}
@@ -44,7 +45,7 @@ module _ (one : ContentIsOne) (o : OpenedValue) (file : List ℕ) (width height 
   stop c = stop_of c (start_of o) (surface_for o width height)
 
   abbrev shows : Content → Image
-  shows c = image_after c.steps (start_of o) (surface_for o width height) image
+  shows c = image_after (drawings_of c.steps (start_of o)) (surface_for o width height) image
 
   -- another content is that one
   same : (c : Content) → IsFileContent o.format file c → c ≡ the_one.value
@@ -107,7 +108,7 @@ by_writes : ContentIsOne → (o : Result OpenedValue Fault) (file : List ℕ) (w
 by_writes one (Err fault) file width height image after h = absurd h
 by_writes one (Ok o) file width height image after h =
     let content = one_file_content one o.format file in
-    let count : Content → ℕ = λ content. writes_after content.steps (start_of o) (surface_for o width height) in
+    let count : Content → ℕ = λ content. writes_after (drawings_of content.steps (start_of o)) (surface_for o width height) in
     record {
       value = count h.content;
       holds = record { content = h.content; of_file = h.of_file; unstopped = h.unstopped; count = refl };

@@ -21,6 +21,7 @@ use Rattle.draw_ops.specs.declared.settings.FillMode.TheVariants.{Winding}
 use Rattle.object_tables.specs.Table.{by_lowest_free}
 use Rattle.dc_stack.specs.State.{State, start_state}
 use Rattle.player.specs.Apply.{image_after}
+use Rattle.player.specs.Drawings.{drawings_of}
 use Rattle.player.specs.Writes.{writes_after}
 
 abbrev pub red : Colour
@@ -64,7 +65,7 @@ step_of operation = record { number = 0; operation = operation; notes = no_notes
 -- what operations leave of a white surface, and how many pixels they write
 abbrev pub drawn : Surface → List Operation → List Colour × ℕ
 drawn s operations =
-    ((image_after (map step_of operations) start s (blank s.width s.height white_colour)).colours, writes_after (map step_of operations) start s)
+    ((image_after (drawings_of (map step_of operations) start) s (blank s.width s.height white_colour)).colours, writes_after (drawings_of (map step_of operations) start) s)
 
 abbrev pub at : ℕ → ℕ → Point
 at x y = record { x = pos x; y = pos y }

@@ -15,6 +15,7 @@ use Rattle.draw_ops.specs.declared.operation.RectangleEdges.TheVariants.{Inclusi
 use Rattle.object_tables.specs.Table.{by_lowest_free}
 use Rattle.dc_stack.specs.State.{State, start_state}
 use Rattle.player.specs.Apply.{image_after}
+use Rattle.player.specs.Drawings.{drawings_of}
 use Rattle.player.specs.Writes.{writes_after}
 
 abbrev red : Colour
@@ -42,7 +43,7 @@ step_of operation = record { number = 0; operation = operation; notes = no_notes
 abbrev drawn : List Operation → List Colour × ℕ
 drawn operations =
     let steps = map step_of (create None (brush_object (solid_brush red)) ∷ select 0 ∷ operations) in
-    ((image_after steps start four (blank 4 4 white_colour)).colours, writes_after steps start four)
+    ((image_after (drawings_of steps start) four (blank 4 4 white_colour)).colours, writes_after (drawings_of steps start) four)
 
 abbrev at : ℕ → ℕ → Point
 at x y = record { x = pos x; y = pos y }

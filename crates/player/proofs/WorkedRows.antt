@@ -15,6 +15,7 @@ use Rattle.draw_ops.specs.declared.fault.Fault.TheVariants.{PaletteColour}
 use Rattle.draw_ops.specs.declared.note.Note.TheVariants.{AfterEnd}
 use Rattle.draw_ops.specs.declared.raster_op.RasterOp.TheVariants.{CopyPen, Not, XorPen}
 use Rattle.player.specs.Apply.{image_after}
+use Rattle.player.specs.Drawings.{drawings_of}
 use Rattle.dc_stack.specs.Clip.{ClipValue, in_clip}
 use Rattle.raster_ops.specs.RasterOps.{mixed_colour}
 use Rattle.object_tables.specs.Table.{by_lowest_free}
@@ -63,10 +64,10 @@ abbrev two_by_two : Surface
 two_by_two = record { width = 2; height = 2; frame_width = 4; frame_height = 4 }
 
 -- at 2 by 2 the pixel is in column 1 of row 0, and it is one write
-dot_at_2_by_2 : image_after (red_step ∷ []) start two_by_two (blank 2 2 white_colour) ≡ record { width = 2; height = 2; colours = white_colour ∷ red ∷ white_colour ∷ white_colour ∷ [] }
+dot_at_2_by_2 : image_after (drawings_of (red_step ∷ []) start) two_by_two (blank 2 2 white_colour) ≡ record { width = 2; height = 2; colours = white_colour ∷ red ∷ white_colour ∷ white_colour ∷ [] }
 dot_at_2_by_2 = refl
 
-dot_writes_once : writes_after (red_step ∷ []) start two_by_two ≡ 1
+dot_writes_once : writes_after (drawings_of (red_step ∷ []) start) two_by_two ≡ 1
 dot_writes_once = refl
 
 -- a fault behind one step lies in record 1

@@ -4,13 +4,10 @@ use Rattle.mapping.specs.Pixels.{repainted}
 use Rattle.mapping.specs.declared.geometry.Colour.{Colour}
 use Rattle.mapping.specs.Image.{Image}
 use Rattle.mapping.specs.Surface.{Surface}
-use Rattle.draw_ops.specs.Content.{StepValue}
-use Rattle.draw_ops.specs.Operation.{Operation}
-use Rattle.player.specs.Layer.{Layer, layers_drawn}
+use Rattle.player.specs.Drawings.{NumberedDrawing}
+use Rattle.player.specs.Layer.{Layer, layers_of}
 use Rattle.player.specs.Mixing.{Mixing, mixed}
-use Rattle.dc_stack.specs.Next.{next}
 use Rattle.player.specs.Paint.{paint_at}
-use Rattle.dc_stack.specs.State.{State}
 use Rattle.player.specs.Writes.{writes_pixel}
 
 -- the paint joined with the old colour, where the paint gives one
@@ -35,11 +32,7 @@ abbrev pub apply_all : List Layer → Surface → Image → Image
 apply_all [] s image = image
 apply_all (layer ∷ layers) s image = apply_all layers s (apply layer s image)
 
--- the image after an operation: after its layers, one after another
-abbrev pub drawn : Operation → State → Surface → Image → Image
-drawn operation state s image = apply_all (layers_drawn operation state) s image
-
--- the image after the steps, each drawn in the state before it
-abbrev pub image_after : List StepValue → State → Surface → Image → Image
-image_after [] state s image = image
-image_after (step ∷ steps) state s image = image_after steps (next step.operation state) s (drawn step.operation state s image)
+-- the image after some drawings, one after another
+abbrev pub image_after : List NumberedDrawing → Surface → Image → Image
+image_after [] s image = image
+image_after (first ∷ later) s image = image_after later s (apply_all (layers_of first.drawing) s image)

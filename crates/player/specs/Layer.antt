@@ -3,9 +3,8 @@ use Rattle.std.specs.Prelude.{ℕ, if◌then◌else◌, List, [], ◌∷◌, ◌
 use Rattle.mapping.specs.Colours.{black_colour}
 use Rattle.mapping.specs.declared.geometry.Point.{Point}
 use Rattle.draw_ops.specs.Blits.{SourceValue}
-use Rattle.draw_ops.specs.Operation.{Operation}
 use Rattle.dc_stack.specs.Clip.{ClipValue}
-use Rattle.dc_stack.specs.Drawing.{Drawing, Mark, Tools, blit_between, dot, drawing_of, figures_painted, rectangle_between}
+use Rattle.dc_stack.specs.Drawing.{Drawing, MarkValue, Tools, blit_between, dot, figures_painted, rectangle_between}
 use Rattle.dc_stack.specs.Figures.{Figure}
 use Rattle.dc_stack.specs.declared.draw.Painting.{Painting}
 use Rattle.dc_stack.specs.declared.draw.Painting.TheVariants.{Fill, Stroke, StrokeAndFill}
@@ -18,7 +17,6 @@ use Rattle.player.specs.Mixing.{Mixing, binary, copied, ternary}
 use Rattle.player.specs.Paint.{Paint, brushed, solid}
 use Rattle.player.specs.FigureLines.{all_closed}
 use Rattle.player.specs.Shape.{Shape, along_figures, inside_figures, inside_rectangle, pixel_under, round_rectangle}
-use Rattle.dc_stack.specs.State.{State}
 
 -- which pixels, in which paint, joined how, within which clip
 pub record Layer : Type 0 where
@@ -68,14 +66,14 @@ figures_stroked Stroke figures tools = stroked (along_figures figures) tools
 figures_stroked StrokeAndFill figures tools = stroked (along_figures (all_closed figures)) tools
 
 -- what of a mark is filled
-abbrev pub fills_of : Mark → Tools → List Layer
+abbrev pub fills_of : MarkValue → Tools → List Layer
 fills_of (dot point colour) tools = []
 fills_of (figures_painted painting figures) tools = figures_filled painting figures tools
 fills_of (rectangle_between p q edges) tools = filled (inside_rectangle p q edges) tools
 fills_of (blit_between p q table source) tools = []
 
 -- its outline, which a pen strokes: a dot and a blit have none
-abbrev pub outlines_of : Mark → Tools → List Layer
+abbrev pub outlines_of : MarkValue → Tools → List Layer
 outlines_of (dot point colour) tools = []
 outlines_of (figures_painted painting figures) tools = figures_stroked painting figures tools
 outlines_of (rectangle_between p q edges) tools = stroked (round_rectangle p q edges) tools
@@ -91,14 +89,14 @@ blit_layer p q table source tools =
     record { shape = inside_rectangle p q HalfOpen; paint = blit_paint table tools; mixing = ternary table source p q; clip = tools.clip }
 
 -- what has neither an inside nor an outline: a dot is a pixel in its own colour, whatever is there, and a blit a box
-abbrev pub plain_layers_of : Mark → Tools → List Layer
+abbrev pub plain_layers_of : MarkValue → Tools → List Layer
 plain_layers_of (dot point colour) tools = record { shape = pixel_under point; paint = solid colour; mixing = copied; clip = tools.clip } ∷ []
 plain_layers_of (figures_painted painting figures) tools = []
 plain_layers_of (rectangle_between p q edges) tools = []
 plain_layers_of (blit_between p q table source) tools = blit_layer p q table source tools ∷ []
 
 -- what of it is drawn above what is filled: a dot, a blit or an outline
-abbrev pub strokes_of : Mark → Tools → List Layer
+abbrev pub strokes_of : MarkValue → Tools → List Layer
 strokes_of mark tools = plain_layers_of mark tools ++ outlines_of mark tools
 
 -- the layers of a drawing, the first drawn first: what is filled, and then what is stroked
@@ -109,7 +107,3 @@ layers_of drawing = fills_of drawing.mark drawing.tools ++ strokes_of drawing.ma
 abbrev pub layers_if_drawn : Option Drawing → List Layer
 layers_if_drawn None = []
 layers_if_drawn (Some drawing) = layers_of drawing
-
--- the layers of an operation: those of its drawing, if it draws
-abbrev pub layers_drawn : Operation → State → List Layer
-layers_drawn operation state = layers_if_drawn (drawing_of operation state)

@@ -11,6 +11,7 @@ pub mod FiguresToCome
 pub mod Paint
 pub mod Mixing
 pub mod Layer
+pub mod Drawings
 pub mod Writes
 pub mod Apply
 pub mod Stop
@@ -20,6 +21,7 @@ pub mod Advances
 pub mod Plays
 pub mod PlacedLines
 pub mod LinesToCome
+pub mod FigureOutlines
 pub mod RowInks
 pub mod RasterOperation
 pub mod Painted

@@ -5,7 +5,7 @@ use Rattle.mapping.specs.declared.geometry.Point.{Point}
 use Rattle.dc_stack.specs.Projected.{is_projected, projected}
 use Rattle.dc_stack.specs.declared.projection.Projection.{Projection}
 use Rattle.span_fill.specs.declared.line.Line.{Line}
-use Rattle.player.specs.Outlines.{closed_lines, lines_after, open_lines}
+use Rattle.player.specs.Outlines.{closed_lines, open_lines}
 use Rattle.player.specs.declared.list_lines.Ends.{Ends}
 use Rattle.player.specs.declared.list_lines.Ends.TheVariants.{Open, Closed}
 
@@ -33,7 +33,3 @@ lines_of_list by ends points = lines_between ends (projected_list by points)
 -- those of several lists
 abbrev pub lines_of_lists : Projection → Ends → List (List Point) → List Line
 lines_of_lists by ends lists = flat_map (lines_of_list by ends) lists
-
--- from a placed point through points of the page
-abbrev pub lines_from_start : Projection → Point → List Point → List Line
-lines_from_start by start points = lines_after start (projected_list by points)

@@ -10,6 +10,7 @@ use Rattle.meta_headers.specs.Opening.{HasContentOf, opened, surface_for}
 use Rattle.meta_headers.specs.declared.opened.FileFormat.{FileFormat}
 use Rattle.dc_stack.specs.Drawing.{Drawing}
 use Rattle.dc_stack.specs.MachineState.{MachineState}
+use Rattle.player.specs.Drawings.{drawings_of}
 use Rattle.player.specs.Layer.{Layer, layers_if_drawn}
 use Rattle.meta_headers.specs.Headers.{OpenedValue}
 use Rattle.dc_stack.specs.State.{State, start_of}
@@ -57,8 +58,8 @@ pub record RunsThrough (content : Content) (start end : MachineState) : Type 0 w
 -- and drawn on a canvas
 pub record Plays (content : Content) (start end : MachineState) (old new : CanvasState) : Type 0 where
   pub runs : RunsThrough content start end
-  pub image : image_of new ≡ image_after content.steps start.state start.surface (image_of old)
-  pub writes : new.writes ≡ old.writes + writes_after content.steps start.state start.surface
+  pub image : image_of new ≡ image_after (drawings_of content.steps start.state) start.surface (image_of old)
+  pub writes : new.writes ≡ old.writes + writes_after (drawings_of content.steps start.state) start.surface
 
 -- the content stops at the refusal's record, by its fault
 pub record StopsBy (content : Content) (state : State) (s : Surface) (r : Refusal) : Type 0 where
@@ -84,8 +85,8 @@ pub record PlaysOpened (o : OpenedValue) (records : List ℕ) (old new : CanvasS
   pub content : Content
   pub of_records : HasContentOf o.format records content
   pub unstopped : stop_of content (start_of o) (surface_for o old.width old.rows) ≡ None
-  pub image : image_of new ≡ image_after content.steps (start_of o) (surface_for o old.width old.rows) (image_of old)
-  pub writes : new.writes ≡ old.writes + writes_after content.steps (start_of o) (surface_for o old.width old.rows)
+  pub image : image_of new ≡ image_after (drawings_of content.steps (start_of o)) (surface_for o old.width old.rows) (image_of old)
+  pub writes : new.writes ≡ old.writes + writes_after (drawings_of content.steps (start_of o)) (surface_for o old.width old.rows)
 
 -- the records of an opened file stop so, played from their start on
 abbrev pub StopsOpenedBy : OpenedValue → List ℕ → CanvasState → Refusal → Type 0

@@ -6,6 +6,7 @@ use Rattle.draw_ops.specs.declared.fault.Fault.{Fault}
 use Rattle.draw_ops.specs.Content.{Content}
 use Rattle.draw_ops.specs.ExactlyOne.{ExactlyOne}
 use Rattle.player.specs.Apply.{image_after}
+use Rattle.player.specs.Drawings.{drawings_of}
 use Rattle.meta_headers.specs.Headers.{OpenedValue}
 use Rattle.meta_headers.specs.Opening.{HasContentOf, opened, record_bytes, surface_for}
 use Rattle.meta_headers.specs.declared.opened.FileFormat.{FileFormat}
@@ -43,7 +44,7 @@ pub record OpenedShows (o : OpenedValue) (file : List ℕ) (width height : ℕ) 
   pub content : Content
   pub of_file : IsFileContent o.format file content
   pub unstopped : stop_of content (start_of o) (surface_for o width height) ≡ None
-  pub shows : after ≡ image_after content.steps (start_of o) (surface_for o width height) image
+  pub shows : after ≡ image_after (drawings_of content.steps (start_of o)) (surface_for o width height) image
 
 -- only an opened file shows an image
 abbrev pub ShowsIfOpened : Result OpenedValue Fault → List ℕ → ℕ → ℕ → Image → Image → Type 0
@@ -70,7 +71,7 @@ pub record OpenedWrites (o : OpenedValue) (file : List ℕ) (width height writes
   pub content : Content
   pub of_file : IsFileContent o.format file content
   pub unstopped : stop_of content (start_of o) (surface_for o width height) ≡ None
-  pub count : writes ≡ writes_after content.steps (start_of o) (surface_for o width height)
+  pub count : writes ≡ writes_after (drawings_of content.steps (start_of o)) (surface_for o width height)
 
 -- only an opened file has writes
 abbrev pub WritesIfOpened : Result OpenedValue Fault → List ℕ → ℕ → ℕ → ℕ → Type 0

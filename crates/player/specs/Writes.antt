@@ -2,14 +2,11 @@
 use Rattle.std.specs.Prelude.{ℕ, ◌+◌, Bool, ◌&&◌, List, [], ◌∷◌, is_some}
 use Rattle.mapping.specs.Pixels.{count_pixels}
 use Rattle.mapping.specs.Surface.{Surface}
-use Rattle.draw_ops.specs.Content.{StepValue}
-use Rattle.draw_ops.specs.Operation.{Operation}
 use Rattle.dc_stack.specs.Clip.{in_clip}
-use Rattle.player.specs.Layer.{Layer, layers_drawn}
-use Rattle.dc_stack.specs.Next.{next}
+use Rattle.player.specs.Drawings.{NumberedDrawing}
+use Rattle.player.specs.Layer.{Layer, layers_of}
 use Rattle.player.specs.Paint.{paint_at}
 use Rattle.player.specs.Shape.{in_shape}
-use Rattle.dc_stack.specs.State.{State}
 
 -- the layer writes the surface's pixel (x, y): it is in the clip and in the shape, and the paint there isn't nothing
 abbrev pub writes_pixel : Layer → Surface → ℕ → ℕ → Bool
@@ -24,11 +21,7 @@ abbrev pub writes_of_layers : List Layer → Surface → ℕ
 writes_of_layers [] s = 0
 writes_of_layers (layer ∷ layers) s = writes_of_layer layer s + writes_of_layers layers s
 
--- how many pixels an operation writes
-abbrev pub writes_of : Operation → State → Surface → ℕ
-writes_of operation state s = writes_of_layers (layers_drawn operation state) s
-
--- how many pixels the steps write
-abbrev pub writes_after : List StepValue → State → Surface → ℕ
-writes_after [] state s = 0
-writes_after (step ∷ steps) state s = writes_of step.operation state s + writes_after steps (next step.operation state) s
+-- how many pixels some drawings write
+abbrev pub writes_after : List NumberedDrawing → Surface → ℕ
+writes_after [] s = 0
+writes_after (first ∷ later) s = writes_of_layers (layers_of first.drawing) s + writes_after later s

@@ -11,17 +11,16 @@ ghost use Rattle.player.specs.Plays.{DrawsDrawing, DrawsLayers, IsWhole, SameRow
 
 use crate::blits::blit;
 use crate::dots::put;
-use crate::figures::{fill_figures, stroke_figures, stroked_ends};
+use crate::figure_outline::{FigureOutline, stroked_ends};
 use crate::filling::{fill_box, fill_lines, rule_of};
 use crate::ink_room::InkRoom;
 use crate::list_lines::Ends;
 use crate::paint::Paint;
-use crate::placed_lines::PlacedLines;
 use crate::rectangles::rectangle_box;
 use crate::regions::{landed_box, whole_law};
 use crate::stroking::{stroke_box, stroke_line, stroke_lines};
 use canvas::{Canvas, writing_law};
-use dc_stack::{Draw, Machine, Painting};
+use dc_stack::{Draw, Machine, Mark, Painting};
 use draw_ops::{Brush, Pen};
 use mapping::Colour;
 use object_tables::Table;
@@ -76,22 +75,17 @@ fn fill<'a, T: Table<'a>>(
         return;
     }
     let paint = Paint::with(dc.selected.brush, dc);
-    match drawn {
-        Draw::Lists {
-            painting,
-            lists,
-            by,
-            bounds,
-        } => {
+    match drawn.mark {
+        Mark::Figures { painting, points } => {
             if let Painting::Stroke = painting {
                 return;
             }
-            let outline = PlacedLines::of_lists(by, Ends::Closed, lists);
+            let outline = FigureOutline::new(points, Ends::Closed, machine);
             let rule = rule_of(dc.modes.fill_mode);
-            let landed = landed_box(by.place, bounds);
+            let landed = landed_box(machine.place(), drawn.bounds);
             fill_lines(canvas, rows, outline, rule, landed, &paint, room);
         }
-        Draw::Rectangle {
+        Mark::Rectangle {
             first,
             second,
             edges,
@@ -99,11 +93,7 @@ fn fill<'a, T: Table<'a>>(
             let inside = rectangle_box(first.placed, second.placed, edges);
             fill_box(canvas, inside, &paint, room);
         }
-        Draw::Path(path) => {
-            let landed = landed_box(path.place, path.bounds);
-            fill_figures(path, landed, machine, rows, room, canvas);
-        }
-        Draw::Dot { .. } | Draw::Line { .. } | Draw::LinesFrom { .. } | Draw::Blit(_) => {}
+        Mark::Dot { .. } | Mark::Line { .. } | Mark::Blit(_) => {}
     }
 }
 
@@ -127,11 +117,11 @@ fn stroke<'a, T: Table<'a>>(
     writing_law();
     whole_law(canvas);
     let dc = machine.dc();
-    if let Draw::Dot { at, colour } = drawn {
+    if let Mark::Dot { at, colour } = drawn.mark {
         put(at.placed, colour, &dc.clip, canvas);
         return;
     }
-    if let Draw::Blit(asked) = drawn {
+    if let Mark::Blit(asked) = drawn.mark {
         blit(&asked, dc, room, canvas);
         return;
     }
@@ -163,49 +153,30 @@ fn stroke_outline<'a, T: Table<'a>>(
     whole_law(canvas);
     let dc = machine.dc();
     let paint = Paint::with(Brush::Solid(colour), dc);
-    match drawn {
-        Draw::Dot { .. } | Draw::Blit(_) => {}
-        Draw::Line { from, to } => {
+    match drawn.mark {
+        Mark::Dot { .. } | Mark::Blit(_) => {}
+        Mark::Line { from, to } => {
             let line = Line {
                 from: from.placed,
                 to: to.placed,
             };
             stroke_line(canvas, line, &paint, colour);
         }
-        Draw::LinesFrom {
-            from,
-            points,
-            by,
-            bounds,
-        } => {
-            let outline = PlacedLines::from(from.placed, by, points);
-            let landed = landed_box(by.place, bounds);
-            stroke_lines(canvas, rows, outline, landed, &paint, colour);
-        }
-        Draw::Lists {
-            painting,
-            lists,
-            by,
-            bounds,
-        } => {
+        Mark::Figures { painting, points } => {
             let Some(ends) = stroked_ends(painting) else {
                 return;
             };
-            let outline = PlacedLines::of_lists(by, ends, lists);
-            let landed = landed_box(by.place, bounds);
+            let outline = FigureOutline::new(points, ends, machine);
+            let landed = landed_box(machine.place(), drawn.bounds);
             stroke_lines(canvas, rows, outline, landed, &paint, colour);
         }
-        Draw::Rectangle {
+        Mark::Rectangle {
             first,
             second,
             edges,
         } => {
             let inside = rectangle_box(first.placed, second.placed, edges);
             stroke_box(canvas, rows, inside, &paint, colour);
-        }
-        Draw::Path(path) => {
-            let landed = landed_box(path.place, path.bounds);
-            stroke_figures(path, landed, colour, machine, rows, canvas);
         }
     }
 }

@@ -18,7 +18,7 @@ mod advance;
 mod blits;
 mod dots;
 mod drawing;
-mod figures;
+mod figure_outline;
 mod file_table;
 mod filling;
 mod ink_room;

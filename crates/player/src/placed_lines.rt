@@ -1,12 +1,12 @@
 //! The lines of lists of points of the page, where they land, one list's after another's.
 
-ghost use Rattle.std.specs.Prelude.{◌≡◌, ◌<◌, ◌^◌, length, IfSome};
+ghost use Rattle.std.specs.Prelude.{◌≡◌, ◌∷◌, ◌<◌, ◌^◌, length, IfSome};
 ghost use Rattle.mapping.specs.declared.geometry.Point.{Point};
 ghost use Rattle.point_views.specs.Points.{points_of};
 ghost use Rattle.point_views.specs.Polys.{lists_of};
 ghost use Rattle.span_fill.specs.Lines.{GivesLine, HasNearEnds, IsNearPoint};
 ghost use Rattle.player.specs.Outlines.{open_lines_of};
-ghost use Rattle.player.specs.PlacedLines.{AllLand, AllListsLand, lines_from_start, lines_of_lists};
+ghost use Rattle.player.specs.PlacedLines.{AllLand, AllListsLand, lines_between, lines_of_lists, projected_list};
 
 use crate::list_lines::{Course, Ends, ListLines, count_points};
 use dc_stack::Projection;
@@ -43,15 +43,20 @@ impl<'a> PlacedLines<'a> {
     }
 
     /// The lines from a placed point through points of the page.
-    pub(crate) fn from(start: Point, by: Projection, points: Points<'a>) -> PlacedLines<'a>
+    pub(crate) fn from(
+        start: Point,
+        ends: Ends,
+        by: Projection,
+        points: Points<'a>,
+    ) -> PlacedLines<'a>
         requires near { IsNearPoint start }
         requires land { AllLand by (points_of points) }
-        ensures { lines_to_come result ≡ lines_from_start by start (points_of points.entry) }
+        ensures { lines_to_come result ≡ lines_between ends (start ∷ projected_list by (points_of points.entry)) }
     {
         PlacedLines {
             current: Some(ListLines {
                 by,
-                ends: Ends::Open,
+                ends,
                 course: Some(Course {
                     first: start,
                     last: start,
@@ -59,7 +64,7 @@ impl<'a> PlacedLines<'a> {
                 points,
             }),
             by,
-            ends: Ends::Open,
+            ends,
             lists: Polys::empty(),
         }
     }

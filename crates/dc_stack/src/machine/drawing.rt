@@ -1,8 +1,6 @@
 //! Steps that draw.
 
 ghost use Rattle.std.specs.Prelude.{◌≡◌, [], ◌∷◌};
-ghost use Rattle.mapping.specs.PageMap.{map_numbers};
-ghost use Rattle.mapping.specs.PlaceOf.{surface_of};
 ghost use Rattle.draw_ops.specs.Blits.{blit_value_of, source_of};
 ghost use Rattle.draw_ops.specs.Operation.{blit, line_to, pixel, polygon, polyline, polyline_to, rectangle};
 ghost use Rattle.point_views.specs.Points.{points_of};
@@ -15,13 +13,13 @@ ghost use Rattle.dc_stack.specs.Mapped.{left_top, mapped_lists, right_bottom};
 ghost use Rattle.dc_stack.specs.Next.{end_of};
 ghost use Rattle.dc_stack.specs.OperationFault.{source_fault};
 
-use crate::draw::{Draw, Painting, PlacedBlit};
+use crate::draw::{Draw, FigurePoints, Mark, Painting, PlacedBlit};
+use crate::lone_line::lone_line;
 use crate::machine::Machine;
 use crate::piece::{Joining, PiecePoints};
 use crate::placing::{
     land, land_blit, land_lists, land_pair, land_through, left_top_of, right_bottom_of,
 };
-use crate::projection::Projection;
 use draw_ops::{Blit, BlitSource, Fault, RectangleEdges, TernaryOp};
 use mapping::{Colour, Point, Rect, box_law};
 use object_tables::Table;
@@ -36,7 +34,11 @@ impl<'a, T: Table<'a>> Machine<'a, T> {
     {
         box_law();
         match land(&self.dc.map, self.place, point) {
-            Ok(at) => Ok(Some(Draw::Dot { at, colour })),
+            Ok(at) => Ok(Some(Draw {
+                mark: Mark::Dot { at, colour },
+                bounds: Rect::around(at.plane),
+                edges: 0,
+            })),
             Err(fault) => Err(fault),
         }
     }
@@ -51,12 +53,16 @@ impl<'a, T: Table<'a>> Machine<'a, T> {
         }
         box_law();
         match land_blit(&self.dc.map, self.place, &asked) {
-            Ok((first, second)) => Ok(Some(Draw::Blit(PlacedBlit {
-                first,
-                second,
-                operation: asked.operation,
-                source: asked.source,
-            }))),
+            Ok((first, second)) => Ok(Some(Draw {
+                mark: Mark::Blit(PlacedBlit {
+                    first,
+                    second,
+                    operation: asked.operation,
+                    source: asked.source,
+                }),
+                bounds: Rect::between(first.plane, second.plane),
+                edges: 0,
+            })),
             Err(fault) => Err(fault),
         }
     }
@@ -97,7 +103,7 @@ impl<'a, T: Table<'a>> Machine<'a, T> {
         if self.path.is_open() {
             self.add_lists(PiecePoints::of(lists), Joining::Polylines)
         } else {
-            self.draw_lists(Painting::Stroke, lists)
+            self.draw_polylines(lists)
         }
     }
 
@@ -132,12 +138,29 @@ impl<'a, T: Table<'a>> Machine<'a, T> {
         ensures draws { DrawsApart (lists_painted Stroke (mapped_lists self.old.state.dc.map (going_on self.old.state.dc.position (point ∷ [])))) point self.old result self.new }
         ensures goes_on { GoesOn self.old self.new }
     {
+        match self.draw_pair(self.dc.position, point) {
+            Ok(drawn) => {
+                self.dc.position = point;
+                Ok(drawn)
+            }
+            Err(fault) => Err(fault),
+        }
+    }
+
+    /// Draws a line from one point to another.
+    fn draw_pair(&mut self, from: Point, to: Point) -> Result<Option<Draw<'a>>, Fault>
+        ensures draws { DrawsApart (lists_painted Stroke (mapped_lists self.old.state.dc.map ((from ∷ to ∷ []) ∷ []))) self.old.state.dc.position self.old result self.new }
+        ensures goes_on { GoesOn self.old self.new }
+    {
         box_law();
-        match land_pair(&self.dc.map, self.place, self.dc.position, point) {
+        match land_pair(&self.dc.map, self.place, from, to) {
             Ok((from, to)) => {
                 self.needs.raise_edges(2);
-                self.dc.position = point;
-                Ok(Some(Draw::Line { from, to }))
+                Ok(Some(Draw {
+                    mark: Mark::Line { from, to },
+                    bounds: Rect::between(from.plane, to.plane),
+                    edges: 2,
+                }))
             }
             Err(fault) => Err(fault),
         }
@@ -158,13 +181,28 @@ impl<'a, T: Table<'a>> Machine<'a, T> {
         match land_pair(&self.dc.map, self.place, left_top, right_bottom) {
             Ok((first, second)) => {
                 self.needs.raise_edges(4);
-                Ok(Some(Draw::Rectangle {
-                    first,
-                    second,
-                    edges,
+                Ok(Some(Draw {
+                    mark: Mark::Rectangle {
+                        first,
+                        second,
+                        edges,
+                    },
+                    bounds: Rect::between(first.plane, second.plane),
+                    edges: 4,
                 }))
             }
             Err(fault) => Err(fault),
+        }
+    }
+
+    /// Draws lines from point to point, for each list.
+    fn draw_polylines(&mut self, lists: Polys<'a>) -> Result<Option<Draw<'a>>, Fault>
+        ensures draws { DrawsApart (lists_painted Stroke (mapped_lists self.old.state.dc.map (lists_of lists.entry))) self.old.state.dc.position self.old result self.new }
+        ensures goes_on { GoesOn self.old self.new }
+    {
+        match lone_line(lists) {
+            Some((from, to)) => self.draw_pair(from, to),
+            None => self.draw_lists(Painting::Stroke, lists),
         }
     }
 
@@ -177,14 +215,17 @@ impl<'a, T: Table<'a>> Machine<'a, T> {
         ensures draws { DrawsApart (lists_painted painting (mapped_lists self.old.state.dc.map (lists_of lists.entry))) self.old.state.dc.position self.old result self.new }
         ensures goes_on { GoesOn self.old self.new }
     {
-        match land_lists(&self.dc.map, self.place, lists) {
+        let map = self.dc.map;
+        match land_lists(&map, self.place, lists) {
             Ok(extent) => {
                 self.needs.raise_edges(extent.count);
-                Ok(Some(Draw::Lists {
-                    painting,
-                    lists,
-                    by: self.projection(),
+                Ok(Some(Draw {
+                    mark: Mark::Figures {
+                        painting,
+                        points: FigurePoints::Lists { lists, map },
+                    },
                     bounds: extent.bounds,
+                    edges: extent.count,
                 }))
             }
             Err(fault) => Err(fault),
@@ -200,31 +241,21 @@ impl<'a, T: Table<'a>> Machine<'a, T> {
             return self.draw_lists(Painting::Stroke, Polys::empty());
         }
         let position = self.dc.position;
-        match land_through(&self.dc.map, self.place, position, points) {
+        let map = self.dc.map;
+        match land_through(&map, self.place, position, points) {
             Ok((from, extent)) => {
                 self.needs.raise_edges(extent.count);
                 self.dc.position = end_of(position, points);
-                let by = self.projection();
-                let bounds = extent.bounds;
-                Ok(Some(Draw::LinesFrom {
-                    from,
-                    points,
-                    by,
-                    bounds,
+                Ok(Some(Draw {
+                    mark: Mark::Figures {
+                        painting: Painting::Stroke,
+                        points: FigurePoints::Through { from, points, map },
+                    },
+                    bounds: extent.bounds,
+                    edges: extent.count,
                 }))
             }
             Err(fault) => Err(fault),
-        }
-    }
-
-    /// How points of the page land at the moment.
-    pub(super) fn projection(&self) -> Projection
-        ensures map { map_numbers result.map ≡ self.now.state.dc.map }
-        ensures place { surface_of result.place ≡ self.now.surface }
-    {
-        Projection {
-            map: self.dc.map,
-            place: self.place,
         }
     }
 }

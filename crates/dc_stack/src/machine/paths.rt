@@ -3,7 +3,7 @@
 ghost use Rattle.draw_ops.specs.Operation.{abort_path, begin_path, close_figure, end_path, move_to};
 ghost use Rattle.dc_stack.specs.MachineState.{GoesOn, Plays, painting_operation};
 
-use crate::draw::{Draw, PaintedPath, Painting};
+use crate::draw::{Draw, FigurePoints, Mark, Painting};
 use crate::machine::Machine;
 use crate::plane_box::least;
 use draw_ops::Fault;
@@ -74,18 +74,20 @@ impl<'a, T: Table<'a>> Machine<'a, T> {
         if !self.path.is_finished() {
             return Err(Fault::PathState);
         }
-        let count = match self.path.count_points() {
+        let edges = match self.path.count_points() {
             Some(count) => count,
             None => return Err(Fault::TooManyEdges),
         };
         let bounds = least(self.path.bounds);
-        self.needs.raise_edges(count);
+        self.needs.raise_edges(edges);
         self.path.lend();
-        Ok(Some(Draw::Path(PaintedPath {
-            painting,
-            place: self.place,
-            count,
+        Ok(Some(Draw {
+            mark: Mark::Figures {
+                painting,
+                points: FigurePoints::Path,
+            },
             bounds,
-        })))
+            edges,
+        }))
     }
 }

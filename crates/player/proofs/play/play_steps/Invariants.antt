@@ -4,6 +4,7 @@ use Rattle.draw_ops.specs.Records.{record_limit}
 use Rattle.dc_stack.specs.MachineState.{GoesOn, HasFullRoom}
 use Rattle.player.specs.After.{HasLines, needs_after, state_after}
 use Rattle.player.specs.Apply.{image_after}
+use Rattle.player.specs.Drawings.{drawings_of}
 use Rattle.player.specs.Plays.{IsWhole, SameRows}
 use Rattle.player.specs.Stop.{stopped}
 use Rattle.player.specs.Writes.{writes_after}
@@ -27,8 +28,8 @@ invariant-loop-drawn g l =
       stops : stopped (content l.fn.source).steps (content l.fn.source).fault 0 l.fn.machine.state start ≡ stopped (content l.source).steps (content l.source).fault l.before l.machine.state start;
       state : state_after (content l.fn.source).steps l.fn.machine.state ≡ state_after (content l.source).steps l.machine.state;
       needs : needs_after (content l.fn.source).steps l.fn.machine.state l.fn.machine.needs ≡ needs_after (content l.source).steps l.machine.state l.machine.needs;
-      image : image_after (content l.fn.source).steps l.fn.machine.state start (image_of l.fn.canvas) ≡ image_after (content l.source).steps l.machine.state start (image_of l.canvas);
-      writes : l.fn.canvas.writes + writes_after (content l.fn.source).steps l.fn.machine.state start ≡ l.canvas.writes + writes_after (content l.source).steps l.machine.state start;
+      image : image_after (drawings_of (content l.fn.source).steps l.fn.machine.state) start (image_of l.fn.canvas) ≡ image_after (drawings_of (content l.source).steps l.machine.state) start (image_of l.canvas);
+      writes : l.fn.canvas.writes + writes_after (drawings_of (content l.fn.source).steps l.fn.machine.state) start ≡ l.canvas.writes + writes_after (drawings_of (content l.source).steps l.machine.state) start;
     }
 
 abbrev pub decreases-loop-drawn : goal.decreases-loop-drawn

@@ -27,7 +27,8 @@ returns-clause-plays g c =
             drawn = rw (first.plane, second.plane) refl;
             placed = record {
               places = record { first = first.placed; second = second.placed; readable = readable asked.operation.table (source_of asked.source) none };
-              least = pair_tight c.box_law.ensures w.in-Ok.first.plane w.in-Ok.second.plane;
+              counted = refl;
+              least = rw w.between.ensures (pair_tight c.box_law.ensures w.in-Ok.first.plane w.in-Ok.second.plane);
               within = rw (first.plane, second.plane) (all_land s corners lands);
               few = never_too_many 0 (omega arith);
             };

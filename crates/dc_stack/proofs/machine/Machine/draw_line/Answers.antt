@@ -1,36 +1,17 @@
-use Rattle.std.proofs.Common.{[], ◌∷◌, arith, refl, sym}
-use Rattle.mapping.specs.PageMap.{map_numbers}
-use Rattle.mapping.specs.PlaceOf.{surface_of}
-use Rattle.dc_stack.specs.Mapped.{mapped_list}
-use Rattle.dc_stack.proofs.LandingLemmas.{all_land}
-use Rattle.dc_stack.proofs.ListLemmas.{few_then, never_too_many}
-use Rattle.dc_stack.proofs.PlaneBoxLemmas.{pair_tight}
+use Rattle.std.proofs.Common.{ap}
+use Rattle.dc_stack.specs.MachineState.{MachineState}
+use Rattle.dc_stack.specs.State.{with_position}
 use Rattle.dc_stack.proofs.machine.Machine.draw_line.Goals as goal
 
 pub returns-in-Ok-clause-draws : goal.returns-in-Ok-clause-draws
 returns-in-Ok-clause-draws g c =
-    let map = map_numbers c.self.inside.dc.map in
-    let surface = surface_of c.self.inside.place in
-    let points = mapped_list map (c.self.inside.dc.position ∷ c.args.point ∷ []) in
-    let first = c.in-Ok.ensures.first in
-    let second = c.in-Ok.ensures.second in
-    rw (← c.self.view_is) (record {
-      no_fault = rw (few_then 2 (omega arith)) (sym c.in-Ok.ensures.fault);
-      state = refl;
-      needs = c.raise_edges.ensures;
-      drawn = rw (first.plane, second.plane) refl;
-      placed = record {
-        places = (first.placed, second.placed);
-        least = pair_tight c.box_law.ensures c.in-Ok.from.plane c.in-Ok.to.plane;
-        within = rw (first.plane, second.plane) (all_land surface points c.in-Ok.ensures.fault);
-        few = never_too_many 2 (omega arith);
-      };
-      apart = refl;
-    })
-
-pub returns-in-Err-clause-draws : goal.returns-in-Err-clause-draws
-returns-in-Err-clause-draws g c =
-    rw (← c.self.view_is) (record {
-      refused = rw (few_then 2 (omega arith)) (sym c.in-Err.ensures.fault);
-      kept = record { state = refl; painted = refl; needs = refl };
-    })
+    let start = ap (λ (m : MachineState). m.state.dc.position) c.draw_pair.view_is in
+    let drawn = rw (← c.self.view_is, start) at c.in-Ok.ensures.draws in
+    record {
+      no_fault = drawn.no_fault;
+      state = ap (with_position c.args.point) drawn.state;
+      needs = drawn.needs;
+      drawn = drawn.drawn;
+      placed = drawn.placed;
+      apart = drawn.apart;
+    }

@@ -5,12 +5,13 @@ use Rattle.mapping.specs.PlaceOf.{surface_of}
 use Rattle.mapping.specs.declared.geometry.Point.{Point}
 use Rattle.point_views.specs.Points.{points_of}
 use Rattle.dc_stack.specs.Drawing.{going_on, lists_painted, tools_of}
+use Rattle.dc_stack.specs.Figures.{figures_of_lists, points_of_figures}
 use Rattle.dc_stack.specs.Mapped.{mapped_list, mapped_lists}
 use Rattle.dc_stack.specs.Needs.{greater_needs, points_needed}
 use Rattle.dc_stack.specs.OperationFault.{points_fault}
 use Rattle.dc_stack.specs.Values.{dc_value}
 use Rattle.dc_stack.specs.declared.draw.Painting.TheVariants.{Stroke}
-use Rattle.dc_stack.proofs.ListLemmas.{has_points, joined_one, one_list_few, one_list_lands, points_listed, same_lines, through, through_count, through_fault}
+use Rattle.dc_stack.proofs.ListLemmas.{has_points, joined_one, one_list_few, one_list_lands, points_listed, through, through_count, through_fault}
 use Rattle.dc_stack.proofs.machine.Machine.draw_lines.Goals as goal
 
 pub returns-in-Ok-clause-draws : goal.returns-in-Ok-clause-draws
@@ -22,19 +23,20 @@ returns-in-Ok-clause-draws g c =
     let bounds = c.in-Ok.extent.bounds in
     let some = has_points points _ c.is_empty.ensures c.if-is_empty.false in
     let from = c.in-Ok.ensures.from in
-    let by = map_numbers c.projection-by.result.map in
-    let same = same_lines map by start points c.in-Ok.from.plane from.plane c.projection-by.ensures.map in
+    let same : c.in-Ok.from.plane ∷ mapped_list map points ≡ mapped_list map (start ∷ points) = ap (λ p. p ∷ mapped_list map points) from.plane in
+    let one = ap (λ list. list ∷ []) same ∙ sym (through map start points some) in
     let listed = points_listed (mapped_lists map (going_on start points)) in
     let counted = c.in-Ok.ensures.count ∙ through_count map start points some ∙ sym (ap length listed) in
-    let on_plane = c.in-Ok.from.plane ∷ mapped_list by points in
+    let on_plane = c.in-Ok.from.plane ∷ mapped_list map points in
     let lands = subst (λ (list : List Point). None ≡ points_fault list surface) (sym same) c.in-Ok.ensures.fault in
     rw (← c.self.view_is) (record {
       no_fault = ap (λ ps. points_fault ps surface) listed ∙ through_fault map start points surface some ∙ sym c.in-Ok.ensures.fault;
       state = rw c.end_of-self-inside.ensures refl;
       needs = c.raise_edges.ensures ∙ ap (λ n. greater_needs c.self.inside.needs (points_needed n)) counted;
-      drawn = ap (λ lists. Some (record { mark = lists_painted Stroke lists; tools = tools_of (dc_value c.self.inside.dc) })) (ap (λ list. list ∷ []) same ∙ sym (through map start points some));
+      drawn = ap (λ lists. Some (record { mark = lists_painted Stroke lists; tools = tools_of (dc_value c.self.inside.dc) })) one;
       placed = record {
-        places = (from.placed, c.projection-by.ensures.place);
+        places = from.placed;
+        counted = counted ∙ ap (λ lists. length (points_of_figures (figures_of_lists lists))) (sym one);
         least = rw (joined_one on_plane) (subst (IsLeastBox bounds) (sym same) c.in-Ok.ensures.bounds);
         within = one_list_lands on_plane surface lands;
         few = one_list_few on_plane surface lands;

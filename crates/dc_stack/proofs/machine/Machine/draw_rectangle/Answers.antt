@@ -20,7 +20,8 @@ returns-in-Ok-clause-draws g c =
       drawn = rw (first, second) refl;
       placed = record {
         places = (c.in-Ok.ensures.first.placed, c.in-Ok.ensures.second.placed);
-        least = pair_tight c.box_law.ensures c.in-Ok.first.plane c.in-Ok.second.plane;
+        counted = refl;
+        least = rw c.between.ensures (pair_tight c.box_law.ensures c.in-Ok.first.plane c.in-Ok.second.plane);
         within = rw (first, second) (all_land (surface_of c.self.inside.place) corners lands);
         few = never_too_many 4 (omega arith);
       };

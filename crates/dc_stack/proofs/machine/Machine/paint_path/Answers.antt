@@ -3,7 +3,6 @@ use Rattle.dc_stack.specs.Figures.{all_figures}
 use Rattle.dc_stack.specs.GatheredPath.{gathered_points, path_in, path_of}
 use Rattle.dc_stack.specs.Path.{finished_path}
 use Rattle.dc_stack.specs.Pieces.{figures_of}
-use Rattle.dc_stack.specs.declared.draw.PaintedPath.{PaintedPath}
 use Rattle.dc_stack.specs.declared.path.PathPhase.{PathPhase}
 use Rattle.dc_stack.specs.declared.path.PathPhase.TheVariants.{Finished}
 use Rattle.dc_stack.proofs.PaintingLemmas.{plays_painting, refuses_painting}
@@ -21,5 +20,4 @@ returns-clause-plays g c =
     let pieces = c.self.inside.path.pieces.items in
     let phase : c.self.inside.path.phase ≡ Finished = search rules in
     let at : path_of c.self.inside.path ≡ finished_path (all_figures (figures_of pieces)) = ap (λ (p : PathPhase). path_in p pieces) phase in
-    let painted : PaintedPath = record { painting = c.args.painting; place = c.self.inside.place; count = c.in-Some.count; bounds = c.least-bounds.result } in
-    rw (← c.self.view_is) (plays_painting _ _ painted pieces at (rw c.lend.ensures.path refl) c.lend.ensures.painted c.raise_edges.ensures c.in-Some.ensures.count c.in-Some.ensures.few refl c.self.invariant.points.pieces (c.least-bounds.ensures (gathered_points pieces) c.self.invariant.points.least))
+    rw (← c.self.view_is) (plays_painting _ _ c.args.painting c.least-bounds.result c.in-Some.count pieces at (rw c.lend.ensures.path refl) c.lend.ensures.painted c.raise_edges.ensures c.in-Some.ensures.count c.in-Some.ensures.few c.self.invariant.points.pieces (c.least-bounds.ensures (gathered_points pieces) c.self.invariant.points.least))

@@ -20,7 +20,8 @@ returns-clause-plays g c =
             drawn = rw plane refl;
             placed = record {
               places = w.in-Ok.ensures.placed;
-              least = c.box_law.ensures.single at.plane;
+              counted = refl;
+              least = rw w.around.ensures (c.box_law.ensures.single at.plane);
               within = rw plane (all_land s points lands);
               few = never_too_many 0 (omega arith);
             };

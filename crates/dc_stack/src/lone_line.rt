@@ -1,0 +1,38 @@
+//! Lists that are one line.
+
+ghost use Rattle.std.specs.Prelude.{◌≡◌, [], ◌∷◌, IfSome};
+ghost use Rattle.point_views.specs.Points.{points_of};
+ghost use Rattle.point_views.specs.Polys.{lists_of};
+
+use mapping::Point;
+use point_views::{Points, Polys};
+
+/// The ends of a line, where the lists are one list of two points: such a line goes by its steps, without any rows.
+pub(crate) fn lone_line(lists: Polys<'_>) -> Option<(Point, Point)>
+    ensures { IfSome result (λ line. lists_of lists.entry ≡ (line.0 ∷ line.1 ∷ []) ∷ []) }
+{
+    let Some((points, rest)) = lists.split_first() else {
+        return None;
+    };
+    if rest.is_empty() {
+        two_points(points)
+    } else {
+        None
+    }
+}
+
+/// Both points, where there are two.
+fn two_points(points: Points<'_>) -> Option<(Point, Point)>
+    ensures { IfSome result (λ line. points_of points.entry ≡ line.0 ∷ line.1 ∷ []) }
+{
+    let Some((from, rest)) = points.split_first() else {
+        return None;
+    };
+    let Some((to, rest)) = rest.split_first() else {
+        return None;
+    };
+    if !rest.is_empty() {
+        return None;
+    }
+    Some((from, to))
+}

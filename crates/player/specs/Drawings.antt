@@ -1,0 +1,21 @@
+-- The drawings of a run, a list that knows no surface.
+use Rattle.std.specs.Prelude.{ℕ, List, [], ◌∷◌, Option, Some, None}
+use Rattle.draw_ops.specs.Content.{StepValue}
+use Rattle.dc_stack.specs.Drawing.{Drawing, drawing_of}
+use Rattle.dc_stack.specs.Next.{next}
+use Rattle.dc_stack.specs.State.{State}
+
+-- a drawing, and the number of the record that draws it
+pub record NumberedDrawing : Type 0 where
+  pub number : ℕ
+  pub drawing : Drawing
+
+-- the drawing of the record with this number, if there is one, and the later ones
+abbrev pub drawing_then : ℕ → Option Drawing → List NumberedDrawing → List NumberedDrawing
+drawing_then number None later = later
+drawing_then number (Some drawing) later = record { number = number; drawing = drawing } ∷ later
+
+-- the drawings of the steps, each in the state before its step
+abbrev pub drawings_of : List StepValue → State → List NumberedDrawing
+drawings_of [] state = []
+drawings_of (step ∷ steps) state = drawing_then step.number (drawing_of step.operation state) (drawings_of steps (next step.operation state))
