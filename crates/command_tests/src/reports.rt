@@ -4,7 +4,7 @@ use crate::comparing::same;
 use canvas::WriteFault;
 use commands::{Answer, InputFault, no_input, report};
 use draw_ops::Fault;
-use player::Refusal;
+use preflight_cert::Refusal;
 use std::alloc::{AllocError, Global};
 use std::test::Fail;
 

@@ -5,9 +5,9 @@ use Rattle.draw_ops.specs.declared.fault.Fault.{Fault}
 use Rattle.mapping.specs.Image.{Image}
 use Rattle.canvas.specs.Ppm.{AppendsFront, ppm_text}
 use Rattle.meta_headers.specs.Opening.{opened}
-use Rattle.player.specs.Refusal.{refusal_text}
-use Rattle.player.specs.Run.{Refused, Run, shown, white}
-use Rattle.player.specs.declared.refusal.Refusal.{Refusal}
+use Rattle.preflight_cert.specs.Refusal.{refusal_text}
+use Rattle.preflight_cert.specs.Run.{Refused, Run, shown, white}
+use Rattle.preflight_cert.specs.declared.refusal.Refusal.{Refusal}
 use Rattle.commands.specs.Report.{Reports, Told}
 
 -- the run of the file over white ends with an image, and its P6 text was written

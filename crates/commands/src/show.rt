@@ -5,7 +5,7 @@ ghost use Rattle.std.specs.Io.KnownBytes.{Appends, Keeps};
 ghost use Rattle.mapping.specs.Limits.{IsSurfaceSide};
 ghost use Rattle.canvas.specs.CanvasState.{image_of};
 ghost use Rattle.canvas.specs.Ppm.{AppendsFront, ppm_text};
-ghost use Rattle.player.specs.Refusal.{refusal_text};
+ghost use Rattle.preflight_cert.specs.Refusal.{refusal_text};
 ghost use Rattle.commands.specs.Report.{Reports};
 ghost use Rattle.commands.specs.Show.{IsRefused, Opens, ReportsRefusal, Shows, ShowsFront};
 
@@ -14,7 +14,8 @@ use crate::reporting::report;
 use crate::status::{DONE, INPUT_OR_OUTPUT, OUT_OF_MEMORY, REFUSED};
 use canvas::{Canvas, WriteFault};
 use draw_ops::Fault;
-use player::{Refusal, play_file};
+use player::play_file;
+use preflight_cert::Refusal;
 use std::alloc::Global;
 use std::io::Write;
 

@@ -5,7 +5,8 @@ use canvas::Canvas;
 use draw_ops::Fault;
 use mapping::Colour;
 use part_tests::{DOT, RED, changed};
-use player::{Refusal, play_file};
+use player::play_file;
+use preflight_cert::Refusal;
 use std::alloc::{AllocError, Global};
 use std::test::Fail;
 

@@ -4,7 +4,8 @@
 use crate::playing::colour;
 use draw_ops::Fault;
 use part_tests::{DOT, RED};
-use player::{Refusal, play_file};
+use player::play_file;
+use preflight_cert::Refusal;
 use std::alloc::{AllocError, Global};
 use std::test::Fail;
 

@@ -28,15 +28,15 @@ use Rattle.dc_stack.specs.declared.clip.Clip.{Clip}
 use Rattle.dc_stack.specs.declared.dc.Dc.{Dc}
 use Rattle.dc_stack.specs.declared.draw.PlacedBlit.{PlacedBlit}
 use Rattle.dc_stack.specs.declared.modes.Modes.{Modes}
-use Rattle.player.specs.Apply.{ink_of, joined}
+use Rattle.preflight_cert.specs.Apply.{ink_of, joined}
 use Rattle.player.specs.Blits.{blit_colour, blit_made, blit_paints}
-use Rattle.player.specs.Layer.{blit_layer, blit_paint, brushed_now}
-use Rattle.player.specs.Mixing.{ternary}
-use Rattle.player.specs.Paint.{paint_at, solid}
+use Rattle.preflight_cert.specs.Layer.{blit_layer, blit_paint, brushed_now}
+use Rattle.preflight_cert.specs.Mixing.{ternary}
+use Rattle.preflight_cert.specs.Paint.{paint_at, solid}
 use Rattle.player.specs.Painted.{colour_of, colour_seen, made, paints}
 use Rattle.player.specs.Plays.{DrawsLayers, IsWhole}
 use Rattle.player.specs.RasterOperation.{joined_if}
-use Rattle.player.specs.Writes.{writes_pixel}
+use Rattle.preflight_cert.specs.Writes.{writes_pixel}
 use Rattle.player.specs.declared.paint.Paint.{Paint as Brushing}
 use Rattle.player.specs.declared.raster_operation.RasterOperation.{RasterOperation}
 use Rattle.player.specs.declared.raster_operation.RasterOperation.TheVariants.{Ternary}

@@ -11,7 +11,7 @@ use Rattle.dc_stack.specs.Drawing.{joined}
 use Rattle.dc_stack.specs.Projected.{projected}
 use Rattle.dc_stack.specs.declared.projection.Projection.{Projection}
 use Rattle.player.specs.LinesToCome.{lines_if_on}
-use Rattle.player.specs.Outlines.{closed_lines, closed_lines_of, lines_after, lines_round, open_lines, open_lines_of}
+use Rattle.preflight_cert.specs.Outlines.{closed_lines, closed_lines_of, lines_after, lines_round, open_lines, open_lines_of}
 use Rattle.player.specs.PlacedLines.{lines_of_lists, projected_list}
 use Rattle.player.specs.declared.list_lines.Course.{Course}
 use Rattle.player.specs.declared.list_lines.Ends.{Ends}

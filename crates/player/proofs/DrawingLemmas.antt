@@ -22,14 +22,14 @@ use Rattle.dc_stack.specs.declared.clip.Clip.{Clip}
 use Rattle.dc_stack.specs.declared.dc.Dc.{Dc}
 use Rattle.span_fill.specs.Strokes.{in_stroke, on_line}
 use Rattle.span_fill.specs.declared.line.Line.{Line}
-use Rattle.player.specs.Apply.{apply_all, ink_of, joined}
-use Rattle.player.specs.Layer.{Layer, brushed_now, filled, layer_now, stroked}
-use Rattle.player.specs.Mixing.{binary, copied}
-use Rattle.player.specs.Paint.{Paint, paint_at, solid}
+use Rattle.preflight_cert.specs.Apply.{apply_all, ink_of, joined}
+use Rattle.preflight_cert.specs.Layer.{Layer, brushed_now, filled, layer_now, stroked}
+use Rattle.preflight_cert.specs.Mixing.{binary, copied}
+use Rattle.preflight_cert.specs.Paint.{Paint, paint_at, solid}
 use Rattle.player.specs.Painted.{colour_of, colour_seen, made, paints}
 use Rattle.player.specs.Plays.{DrawsLayers, IsWhole, SameRows}
-use Rattle.player.specs.Shape.{Shape, in_shape, pixel_under}
-use Rattle.player.specs.Writes.{writes_of_layers, writes_pixel}
+use Rattle.preflight_cert.specs.Shape.{Shape, in_shape, pixel_under}
+use Rattle.preflight_cert.specs.Writes.{writes_of_layers, writes_pixel}
 use Rattle.player.specs.RasterOperation.{joined_if}
 use Rattle.player.specs.declared.paint.Paint.{Paint as Brushing}
 use Rattle.player.specs.declared.raster_operation.RasterOperation.{RasterOperation}

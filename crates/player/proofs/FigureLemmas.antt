@@ -12,8 +12,8 @@ use Rattle.dc_stack.specs.Figures.{Figure, points_of_figures}
 use Rattle.span_fill.specs.RowLaws.{LiesBetween}
 use Rattle.span_fill.specs.declared.line.Line.{Line}
 use Rattle.player.specs.FigureEnds.{figure_ends, lines_of_figure, lines_of_figures}
-use Rattle.player.specs.FigureLines.{all_closed, lines_along, placed_figure, placed_figures}
-use Rattle.player.specs.Outlines.{closed_lines, open_lines}
+use Rattle.preflight_cert.specs.FigureLines.{all_closed, lines_along, placed_figure, placed_figures}
+use Rattle.preflight_cert.specs.Outlines.{closed_lines, open_lines}
 use Rattle.player.specs.PlacedLines.{lines_between}
 use Rattle.player.specs.declared.list_lines.Ends.{Ends}
 use Rattle.player.specs.declared.list_lines.Ends.TheVariants.{Open, Closed}

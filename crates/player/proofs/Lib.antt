@@ -2,7 +2,6 @@ pub mod MixLemmas
 pub mod StripLemmas
 pub mod LineStepLemmas
 pub mod TestLemmas
-pub mod RunLemmas
 pub mod WorkedRows
 mod WorkedLayers
 mod WorkedBlits

@@ -16,10 +16,10 @@ use Rattle.dc_stack.specs.declared.piece.Joining.TheVariants.{GoesOn, Polylines,
 use Rattle.dc_stack.specs.declared.piece.Piece.{Piece}
 use Rattle.span_fill.specs.declared.line.Line.{Line}
 use Rattle.player.specs.FigureEnds.{lines_of_figure, lines_of_figures}
-use Rattle.player.specs.FigureLines.{placed_figure, placed_figures}
+use Rattle.preflight_cert.specs.FigureLines.{placed_figure, placed_figures}
 use Rattle.player.specs.Moves.{Drawn, drawn, lines_at_end, lines_of_moves, moves_of_list, moves_of_lists, moves_of_piece, moves_of_pieces, nothing}
-use Rattle.player.specs.Outlines.{line_from, lines_after, lines_round, open_lines}
-use Rattle.player.specs.Shape.{placed_lists}
+use Rattle.preflight_cert.specs.Outlines.{line_from, lines_after, lines_round, open_lines}
+use Rattle.preflight_cert.specs.Shape.{placed_lists}
 use Rattle.player.specs.declared.list_lines.Ends.{Ends}
 use Rattle.player.specs.declared.list_lines.Ends.TheVariants.{Open, Closed}
 use Rattle.player.specs.declared.moves.Move.{Move}

@@ -14,9 +14,9 @@ use Rattle.dc_stack.specs.Projected.{projected}
 use Rattle.dc_stack.specs.declared.projection.Projection.{Projection}
 use Rattle.span_fill.specs.RowLaws.{LiesBetween}
 use Rattle.span_fill.specs.declared.line.Line.{Line}
-use Rattle.player.specs.Outlines.{line_from, lines_after, lines_round}
+use Rattle.preflight_cert.specs.Outlines.{line_from, lines_after, lines_round}
 use Rattle.player.specs.PlacedLines.{lines_between, lines_of_lists, projected_list}
-use Rattle.player.specs.Shape.{placed_lists}
+use Rattle.preflight_cert.specs.Shape.{placed_lists}
 use Rattle.player.specs.declared.list_lines.Ends.{Ends}
 use Rattle.player.specs.declared.list_lines.Ends.TheVariants.{Open, Closed}
 

@@ -19,11 +19,11 @@ use Rattle.span_fill.specs.RowLaws.{LiesBetween}
 use Rattle.span_fill.specs.Strokes.{in_stroke}
 use Rattle.span_fill.specs.declared.line.Line.{Line}
 use Rattle.player.specs.FigureEnds.{figure_ends, lines_of_figures, stroked_ends}
-use Rattle.player.specs.FigureLines.{all_closed, placed_figures}
-use Rattle.player.specs.Layer.{figures_filled, figures_stroked, filled, stroked}
-use Rattle.player.specs.Outlines.{closed_lines, open_lines}
+use Rattle.preflight_cert.specs.FigureLines.{all_closed, placed_figures}
+use Rattle.preflight_cert.specs.Layer.{figures_filled, figures_stroked, filled, stroked}
+use Rattle.preflight_cert.specs.Outlines.{closed_lines, open_lines}
 use Rattle.player.specs.PlacedLines.{AllListsLand, lines_between, lines_of_lists, projected_list}
-use Rattle.player.specs.Shape.{Shape, along_figures, in_shape, inside_figures, placed_lists}
+use Rattle.preflight_cert.specs.Shape.{Shape, along_figures, in_shape, inside_figures, placed_lists}
 use Rattle.player.specs.declared.list_lines.Ends.{Ends}
 use Rattle.player.specs.declared.list_lines.Ends.TheVariants.{Open, Closed}
 use Rattle.player.proofs.FigureLemmas.{closed_lines_along, figure_lines_few, figure_lines_lie, said_lines}

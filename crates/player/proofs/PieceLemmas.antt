@@ -33,7 +33,7 @@ use Rattle.dc_stack.specs.declared.projection.Projection.{Projection}
 use Rattle.player.specs.Moves.{moves_of_list, moves_of_lists}
 use Rattle.player.specs.PieceParts.{page_part, placed_part}
 use Rattle.player.specs.PlacedLines.{AllLand, AllListsLand, projected_list}
-use Rattle.player.specs.Shape.{placed_lists}
+use Rattle.preflight_cert.specs.Shape.{placed_lists}
 use Rattle.player.specs.declared.moves.Move.{Move}
 use Rattle.player.proofs.LandingLemmas.{landed_fits, list_lands}
 use Rattle.player.proofs.OutlineLemmas.{placed_list_of}

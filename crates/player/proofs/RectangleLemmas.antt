@@ -9,8 +9,8 @@ use Rattle.span_fill.specs.Lines.{HasNearEnds, IsNear, IsNearPoint}
 use Rattle.span_fill.specs.RowLaws.{LiesBetween}
 use Rattle.span_fill.specs.Strokes.{in_stroke}
 use Rattle.span_fill.specs.declared.line.Line.{Line}
-use Rattle.player.specs.Outlines.{line_from}
-use Rattle.player.specs.Rectangles.{has_inside, rectangle_lines}
+use Rattle.preflight_cert.specs.Outlines.{line_from}
+use Rattle.preflight_cert.specs.Rectangles.{has_inside, rectangle_lines}
 use Rattle.player.specs.RectangleBoxes.{IsNearBox}
 use Rattle.player.proofs.TestLemmas.{int_lt-true}
 

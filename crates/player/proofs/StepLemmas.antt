@@ -14,8 +14,8 @@ use Rattle.dc_stack.specs.OperationFault.{fault_of}
 use Rattle.dc_stack.specs.State.{State}
 use Rattle.player.specs.Advances.{StopsAfter}
 use Rattle.player.specs.Plays.{StopsBy}
-use Rattle.player.specs.Stop.{stop_at, stop_of, stopped}
-use Rattle.player.specs.declared.refusal.Refusal.{Refusal}
+use Rattle.preflight_cert.specs.Stop.{stop_at, stop_of, stopped}
+use Rattle.preflight_cert.specs.declared.refusal.Refusal.{Refusal}
 
 -- no memory is wanted
 pub refused_by_fault : FullRoomIsEnough → (operation : Operation) (m : MachineState) (fault : Fault) → HasFullRoom m → RefusesStep operation m fault → fault_of operation m.state m.surface ≡ Some fault

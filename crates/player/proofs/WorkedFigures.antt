@@ -16,8 +16,8 @@ use Rattle.dc_stack.specs.declared.piece.PiecePoints.{PiecePoints}
 use Rattle.dc_stack.specs.declared.piece.PiecePoints.TheVariants.{Point as OnePoint, Corners}
 use Rattle.span_fill.specs.declared.line.Line.{Line}
 use Rattle.player.specs.FigureEnds.{lines_of_figures}
-use Rattle.player.specs.FigureLines.{placed_figures}
-use Rattle.player.specs.Outlines.{line_from}
+use Rattle.preflight_cert.specs.FigureLines.{placed_figures}
+use Rattle.preflight_cert.specs.Outlines.{line_from}
 use Rattle.player.specs.declared.list_lines.Ends.{Ends}
 use Rattle.player.specs.declared.list_lines.Ends.TheVariants.{Open, Closed}
 

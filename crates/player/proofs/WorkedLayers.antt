@@ -20,9 +20,9 @@ use Rattle.draw_ops.specs.declared.settings.BackgroundMode.TheVariants.{Transpar
 use Rattle.draw_ops.specs.declared.settings.FillMode.TheVariants.{Winding}
 use Rattle.object_tables.specs.Table.{by_lowest_free}
 use Rattle.dc_stack.specs.State.{State, start_state}
-use Rattle.player.specs.Apply.{image_after}
-use Rattle.player.specs.Drawings.{drawings_of}
-use Rattle.player.specs.Writes.{writes_after}
+use Rattle.preflight_cert.specs.Apply.{image_after}
+use Rattle.preflight_cert.specs.Drawings.{drawings_of}
+use Rattle.preflight_cert.specs.Writes.{writes_after}
 
 abbrev pub red : Colour
 red = record { r = 255; g = 0; b = 0 }

@@ -14,9 +14,9 @@ use Rattle.draw_ops.specs.Operation.{Operation, begin_path, close_figure, create
 use Rattle.draw_ops.specs.declared.operation.RectangleEdges.TheVariants.{Inclusive}
 use Rattle.object_tables.specs.Table.{by_lowest_free}
 use Rattle.dc_stack.specs.State.{State, start_state}
-use Rattle.player.specs.Apply.{image_after}
-use Rattle.player.specs.Drawings.{drawings_of}
-use Rattle.player.specs.Writes.{writes_after}
+use Rattle.preflight_cert.specs.Apply.{image_after}
+use Rattle.preflight_cert.specs.Drawings.{drawings_of}
+use Rattle.preflight_cert.specs.Writes.{writes_after}
 
 abbrev red : Colour
 red = record { r = 255; g = 0; b = 0 }

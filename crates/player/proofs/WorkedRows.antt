@@ -14,14 +14,14 @@ use Rattle.draw_ops.specs.Records.{Record}
 use Rattle.draw_ops.specs.declared.fault.Fault.TheVariants.{PaletteColour}
 use Rattle.draw_ops.specs.declared.note.Note.TheVariants.{AfterEnd}
 use Rattle.draw_ops.specs.declared.raster_op.RasterOp.TheVariants.{CopyPen, Not, XorPen}
-use Rattle.player.specs.Apply.{image_after}
-use Rattle.player.specs.Drawings.{drawings_of}
+use Rattle.preflight_cert.specs.Apply.{image_after}
+use Rattle.preflight_cert.specs.Drawings.{drawings_of}
 use Rattle.dc_stack.specs.Clip.{ClipValue, in_clip}
 use Rattle.raster_ops.specs.RasterOps.{mixed_colour}
 use Rattle.object_tables.specs.Table.{by_lowest_free}
 use Rattle.dc_stack.specs.State.{State, start_state}
-use Rattle.player.specs.Stop.{stop_at, stop_of}
-use Rattle.player.specs.Writes.{writes_after}
+use Rattle.preflight_cert.specs.Stop.{stop_at, stop_of}
+use Rattle.preflight_cert.specs.Writes.{writes_after}
 use Rattle.wmf_records.specs.Framing.{wmf_framing}
 use Rattle.wmf_records.specs.Wmf.{wmf_meaning, wmf_record}
 

@@ -6,8 +6,8 @@ use Rattle.dc_stack.specs.Draws.{IsPlacedDraw}
 use Rattle.dc_stack.specs.MachineState.{HasStepped, IsDrawingOf, MachineState}
 use Rattle.dc_stack.specs.State.{State}
 use Rattle.dc_stack.specs.declared.draw.Draw.{Draw}
-use Rattle.player.specs.Stop.{Stop, stopped}
-use Rattle.player.specs.declared.refusal.Refusal.{Refusal}
+use Rattle.preflight_cert.specs.Stop.{Stop, stopped}
+use Rattle.preflight_cert.specs.declared.refusal.Refusal.{Refusal}
 
 -- the first step of what was left was played, and what it draws is told by where it lands
 pub record PlaysFirst (old new : Content) (start end : MachineState) (draw : Option Draw) : Type 0 where

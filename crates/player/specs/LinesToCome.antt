@@ -4,7 +4,7 @@ use Rattle.mapping.specs.declared.geometry.Point.{Point}
 use Rattle.point_views.specs.Points.{points_of}
 use Rattle.point_views.specs.Polys.{lists_of}
 use Rattle.span_fill.specs.declared.line.Line.{Line}
-use Rattle.player.specs.Outlines.{lines_after, lines_round}
+use Rattle.preflight_cert.specs.Outlines.{lines_after, lines_round}
 use Rattle.player.specs.PlacedLines.{lines_of_lists, projected_list}
 use Rattle.player.specs.declared.list_lines.Course.{Course}
 use Rattle.player.specs.declared.list_lines.Ends.{Ends}

@@ -12,8 +12,8 @@ use Rattle.dc_stack.specs.declared.piece.Joining.TheVariants.{GoesOn, Polylines,
 use Rattle.dc_stack.specs.declared.piece.Piece.{Piece}
 use Rattle.span_fill.specs.Lines.{IsNearPoint}
 use Rattle.span_fill.specs.declared.line.Line.{Line}
-use Rattle.player.specs.Outlines.{line_from}
-use Rattle.player.specs.Shape.{placed_lists}
+use Rattle.preflight_cert.specs.Outlines.{line_from}
+use Rattle.preflight_cert.specs.Shape.{placed_lists}
 use Rattle.player.specs.declared.list_lines.Ends.{Ends}
 use Rattle.player.specs.declared.list_lines.Ends.TheVariants.{Open, Closed}
 use Rattle.player.specs.declared.moves.Move.{Move}

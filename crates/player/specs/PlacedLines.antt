@@ -5,7 +5,7 @@ use Rattle.mapping.specs.declared.geometry.Point.{Point}
 use Rattle.dc_stack.specs.Projected.{is_projected, projected}
 use Rattle.dc_stack.specs.declared.projection.Projection.{Projection}
 use Rattle.span_fill.specs.declared.line.Line.{Line}
-use Rattle.player.specs.Outlines.{closed_lines, open_lines}
+use Rattle.preflight_cert.specs.Outlines.{closed_lines, open_lines}
 use Rattle.player.specs.declared.list_lines.Ends.{Ends}
 use Rattle.player.specs.declared.list_lines.Ends.TheVariants.{Open, Closed}
 

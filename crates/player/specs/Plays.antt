@@ -5,18 +5,18 @@ use Rattle.draw_ops.specs.Content.{Content}
 use Rattle.draw_ops.specs.declared.fault.Fault.TheVariants.{OutOfMemory}
 use Rattle.canvas.specs.CanvasState.{CanvasState, image_of}
 use Rattle.player.specs.After.{needs_after, state_after}
-use Rattle.player.specs.Apply.{apply_all, image_after}
+use Rattle.preflight_cert.specs.Apply.{apply_all, image_after}
 use Rattle.meta_headers.specs.Opening.{HasContentOf, opened, surface_for}
 use Rattle.meta_headers.specs.declared.opened.FileFormat.{FileFormat}
 use Rattle.dc_stack.specs.Drawing.{Drawing}
 use Rattle.dc_stack.specs.MachineState.{MachineState}
-use Rattle.player.specs.Drawings.{drawings_of}
-use Rattle.player.specs.Layer.{Layer, layers_if_drawn}
+use Rattle.preflight_cert.specs.Drawings.{drawings_of}
+use Rattle.preflight_cert.specs.Layer.{Layer, layers_if_drawn}
 use Rattle.meta_headers.specs.Headers.{OpenedValue}
 use Rattle.dc_stack.specs.State.{State, start_of}
-use Rattle.player.specs.Stop.{Stop, stop_of}
-use Rattle.player.specs.Writes.{writes_after, writes_of_layers}
-use Rattle.player.specs.declared.refusal.Refusal.{Refusal}
+use Rattle.preflight_cert.specs.Stop.{Stop, stop_of}
+use Rattle.preflight_cert.specs.Writes.{writes_after, writes_of_layers}
+use Rattle.preflight_cert.specs.declared.refusal.Refusal.{Refusal}
 
 -- memory was refused: no record is told
 pub record IsWantOfMemory (r : Refusal) : Type 0 where

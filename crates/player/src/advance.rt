@@ -5,7 +5,7 @@ ghost use Rattle.draw_ops.specs.Fault.{IsInRecord};
 ghost use Rattle.dc_stack.specs.MachineState.{GoesOn, HasFullRoom};
 ghost use Rattle.player.specs.Advances.{Advances};
 
-use crate::refusal::Refusal;
+use preflight_cert::Refusal;
 use dc_stack::{Draw, Machine, fault_law, room_law};
 use draw_ops::OpSource;
 use object_tables::Table;

@@ -6,7 +6,7 @@ ghost use Rattle.dc_stack.specs.Draws.{IsPlacedDraw, mark_of};
 ghost use Rattle.dc_stack.specs.Drawing.{drawing_edges, mark_edges, tools_of};
 ghost use Rattle.dc_stack.specs.MachineState.{drawing_with};
 ghost use Rattle.draw_ops.specs.declared.objects.Pen.TheVariants.{Solid};
-ghost use Rattle.player.specs.Layer.{fills_of, outlines_of, strokes_of};
+ghost use Rattle.preflight_cert.specs.Layer.{fills_of, outlines_of, strokes_of};
 ghost use Rattle.player.specs.Plays.{DrawsDrawing, DrawsLayers, IsWhole, SameRows};
 
 use crate::blits::blit;

@@ -6,7 +6,7 @@ ghost use Rattle.mapping.specs.Surface.{lands_within_limits};
 ghost use Rattle.dc_stack.specs.Draws.{TellsPoints, figures_drawn};
 ghost use Rattle.dc_stack.specs.Figures.{points_of_figures};
 ghost use Rattle.player.specs.FigureEnds.{lines_of_figures, stroked_ends};
-ghost use Rattle.player.specs.FigureLines.{placed_figures};
+ghost use Rattle.preflight_cert.specs.FigureLines.{placed_figures};
 
 use crate::list_lines::Ends;
 use crate::piece_lines::PieceLines;

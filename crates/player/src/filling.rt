@@ -7,7 +7,7 @@ ghost use Rattle.dc_stack.specs.Clip.{in_box};
 ghost use Rattle.span_fill.specs.Fill.{in_fill};
 ghost use Rattle.span_fill.specs.RowLaws.{LiesBetween};
 ghost use Rattle.player.specs.Painted.{made, paints};
-ghost use Rattle.player.specs.Shape.{fill_rule_of};
+ghost use Rattle.preflight_cert.specs.Shape.{fill_rule_of};
 
 use crate::ink_room::InkRoom;
 use crate::paint::Paint;

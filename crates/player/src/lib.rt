@@ -10,8 +10,6 @@
 //!   refused, before the first of its records was drawn (`play_file`, by `WantsMemory`).
 //! - Playing on a machine with full room, with rows that have room for any drawing, and on a canvas that
 //!   is there is never refused for memory (`play_on`).
-//! - A run ends in one way, and whether it is refused doesn't depend on the image that it starts
-//!   from (`run_law`).
 #![tactic(auto)]
 
 mod advance;
@@ -19,10 +17,8 @@ mod blits;
 mod dots;
 mod drawing;
 mod figure_outline;
-mod file_table;
 mod filling;
 mod ink_room;
-mod laws;
 mod line_steps;
 mod list_lines;
 mod moves;
@@ -33,7 +29,6 @@ mod placed_lines;
 mod play;
 mod raster_operation;
 mod rectangles;
-mod refusal;
 mod regions;
 mod room;
 mod row_ink;
@@ -41,6 +36,4 @@ mod strips;
 mod stroking;
 mod survey;
 
-pub use laws::run_law;
 pub use play::{play_file, play_on};
-pub use refusal::Refusal;

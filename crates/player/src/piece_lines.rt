@@ -6,7 +6,7 @@ ghost use Rattle.dc_stack.specs.Figures.{all_figures, points_of_figures};
 ghost use Rattle.dc_stack.specs.Pieces.{AllLandOn, figures_of};
 ghost use Rattle.span_fill.specs.Lines.{GivesLine, HasNearEnds, IsNearPoint};
 ghost use Rattle.player.specs.FigureEnds.{lines_of_figures};
-ghost use Rattle.player.specs.FigureLines.{placed_figures};
+ghost use Rattle.preflight_cert.specs.FigureLines.{placed_figures};
 ghost use Rattle.player.specs.Moves.{Gives, IsNearMove, after_move, lines_at_end, lines_of_move};
 ghost use Rattle.player.specs.MovesToCome.{drawn_of, figure_lines_left};
 ghost use Rattle.player.specs.declared.moves.Move.TheVariants.{To, End};

@@ -5,7 +5,7 @@ ghost use Rattle.mapping.specs.declared.geometry.Point.{Point};
 ghost use Rattle.point_views.specs.Points.{points_of};
 ghost use Rattle.point_views.specs.Polys.{lists_of};
 ghost use Rattle.span_fill.specs.Lines.{GivesLine, HasNearEnds, IsNearPoint};
-ghost use Rattle.player.specs.Outlines.{open_lines_of};
+ghost use Rattle.preflight_cert.specs.Outlines.{open_lines_of};
 ghost use Rattle.player.specs.PlacedLines.{AllLand, AllListsLand, lines_between, lines_of_lists, projected_list};
 
 use crate::list_lines::{Course, Ends, ListLines, count_points};

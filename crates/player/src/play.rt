@@ -9,13 +9,13 @@ ghost use Rattle.meta_headers.specs.OpenedOf.{opened_of};
 ghost use Rattle.dc_stack.specs.MachineState.{GoesOn, HasFullRoom};
 ghost use Rattle.player.specs.After.{HasLines, HasLinesForRecords};
 ghost use Rattle.player.specs.Plays.{IsWhole, Plays, PlaysOpened, PlaysRecords, SameRows, StopsBy, StopsOpenedBy, StopsRecordsBy, WantsMemory};
-ghost use Rattle.player.specs.Run.{Refused, Run, Writes, shown, white};
+ghost use Rattle.preflight_cert.specs.Run.{Refused, Run, Writes, shown, white};
 
 use crate::advance::advance;
 use crate::drawing::draw;
-use crate::file_table::FileTable;
+use preflight_cert::FileTable;
 use crate::ink_room::InkRoom;
-use crate::refusal::Refusal;
+use preflight_cert::Refusal;
 use crate::room::{reserve_all, rows_for};
 use crate::survey::count_lines;
 use canvas::Canvas;

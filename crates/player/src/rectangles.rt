@@ -6,7 +6,7 @@ ghost use Rattle.mapping.specs.Surface.{FitsPlace, IsPlaceCoordinate};
 ghost use Rattle.span_fill.specs.Lines.{HasNearEnds};
 ghost use Rattle.mapping.specs.Boxes.{box_between};
 ghost use Rattle.player.specs.RectangleBoxes.{IsNearBox};
-ghost use Rattle.player.specs.Rectangles.{has_inside, raised, rectangle_lines};
+ghost use Rattle.preflight_cert.specs.Rectangles.{has_inside, raised, rectangle_lines};
 
 use draw_ops::RectangleEdges;
 use mapping::{Point, Rect};

@@ -8,7 +8,7 @@ ghost use Rattle.span_fill.specs.RowLaws.{LiesBetween};
 ghost use Rattle.span_fill.specs.Strokes.{in_stroke, on_line};
 ghost use Rattle.player.specs.Painted.{made, paints};
 ghost use Rattle.player.specs.Pens.{IsPen};
-ghost use Rattle.player.specs.Rectangles.{rectangle_lines};
+ghost use Rattle.preflight_cert.specs.Rectangles.{rectangle_lines};
 ghost use Rattle.player.specs.RectangleBoxes.{IsNearBox};
 
 use crate::line_steps::mix_line;

@@ -11,7 +11,7 @@ ghost use Rattle.player.specs.After.{AreLinesOfRecords};
 ghost use Rattle.player.specs.Plays.{RunsThrough, StopsBy, StopsRecordsBy};
 
 use crate::advance::advance;
-use crate::refusal::Refusal;
+use preflight_cert::Refusal;
 use dc_stack::Machine;
 use draw_ops::{OpSource, content_law};
 use meta_headers::Opened;

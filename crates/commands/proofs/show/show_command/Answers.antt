@@ -2,7 +2,7 @@
 use Rattle.std.proofs.Common.{◌≡◌, ℕ, List, Option, None, codes, inl, inr, refl, subst}
 use Rattle.draw_ops.specs.declared.fault.Fault.{Fault}
 use Rattle.draw_ops.specs.declared.fault.Fault.TheVariants.{OutOfMemory}
-use Rattle.player.specs.Refusal.{refusal_text}
+use Rattle.preflight_cert.specs.Refusal.{refusal_text}
 use Rattle.commands.specs.Report.{Reports, Told}
 use Rattle.commands.proofs.show.show_command.Goals as goal
 

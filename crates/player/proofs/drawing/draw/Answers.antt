@@ -1,6 +1,6 @@
 use Rattle.dc_stack.specs.Drawing.{tools_of}
 use Rattle.dc_stack.specs.Draws.{mark_of}
-use Rattle.player.specs.Layer.{fills_of, strokes_of}
+use Rattle.preflight_cert.specs.Layer.{fills_of, strokes_of}
 use Rattle.player.proofs.DrawingLemmas.{drawn_in_turn}
 use Rattle.player.proofs.drawing.draw.Goals as goal
 

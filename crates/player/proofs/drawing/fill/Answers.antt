@@ -4,9 +4,9 @@ use Rattle.draw_ops.specs.Objects.{brush_value_of}
 use Rattle.dc_stack.specs.State.{DcValue}
 use Rattle.dc_stack.specs.Draws.{figures_drawn}
 use Rattle.dc_stack.specs.Drawing.{tools_of}
-use Rattle.player.specs.FigureLines.{all_closed}
+use Rattle.preflight_cert.specs.FigureLines.{all_closed}
 use Rattle.player.specs.FigureOutlines.{outline_left}
-use Rattle.player.specs.Shape.{fill_rule_of, inside_figures, inside_rectangle}
+use Rattle.preflight_cert.specs.Shape.{fill_rule_of, inside_figures, inside_rectangle}
 use Rattle.player.specs.declared.list_lines.Ends.TheVariants.{Closed}
 use Rattle.player.specs.declared.raster_operation.RasterOperation.TheVariants.{Binary}
 use Rattle.player.proofs.DrawingLemmas.{brush_drawn, brush_fills, clip_placed, same_rows}

@@ -10,8 +10,8 @@ use Rattle.span_fill.specs.Strokes.{in_stroke}
 use Rattle.span_fill.specs.declared.line.Line.{Line}
 use Rattle.player.specs.FigureEnds.{stroked_ends}
 use Rattle.player.specs.FigureOutlines.{outline_left}
-use Rattle.player.specs.Outlines.{line_from}
-use Rattle.player.specs.Shape.{along_figures, round_rectangle}
+use Rattle.preflight_cert.specs.Outlines.{line_from}
+use Rattle.preflight_cert.specs.Shape.{along_figures, round_rectangle}
 use Rattle.player.specs.declared.raster_operation.RasterOperation.TheVariants.{Binary}
 use Rattle.player.proofs.DrawingLemmas.{clip_placed, lone_stroke, pen_drawn, pen_strokes}
 use Rattle.player.proofs.LandingLemmas.{landed_fits, landed_inside, landed_near, two_land}

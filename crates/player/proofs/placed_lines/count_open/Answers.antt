@@ -4,7 +4,7 @@ use Rattle.std.specs.Prelude.{min}
 use Rattle.point_views.specs.Points.{points_of}
 use Rattle.point_views.specs.Polys.{lists_of}
 use Rattle.dc_stack.specs.Drawing.{joined}
-use Rattle.player.specs.Outlines.{open_lines_of}
+use Rattle.preflight_cert.specs.Outlines.{open_lines_of}
 use Rattle.player.proofs.CountLemmas.{none_left, one_is_left, one_list_counted, open_lines_of_few}
 use Rattle.player.proofs.placed_lines.count_open.Goals as goal
 

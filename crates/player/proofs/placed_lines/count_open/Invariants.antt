@@ -1,7 +1,7 @@
 use Rattle.std.proofs.Common.{◌≡◌, ◌+◌, length}
 use Rattle.point_views.specs.Polys.{lists_of}
 use Rattle.dc_stack.specs.Drawing.{joined}
-use Rattle.player.specs.Outlines.{open_lines_of}
+use Rattle.preflight_cert.specs.Outlines.{open_lines_of}
 use Rattle.player.proofs.placed_lines.count_open.Given as goal
 
 -- what is counted beyond the lines are the points of the lists to come, less their lines

@@ -3,11 +3,11 @@ use Rattle.canvas.specs.CanvasState.{image_of}
 use Rattle.draw_ops.specs.Records.{record_limit}
 use Rattle.dc_stack.specs.MachineState.{GoesOn, HasFullRoom}
 use Rattle.player.specs.After.{HasLines, needs_after, state_after}
-use Rattle.player.specs.Apply.{image_after}
-use Rattle.player.specs.Drawings.{drawings_of}
+use Rattle.preflight_cert.specs.Apply.{image_after}
+use Rattle.preflight_cert.specs.Drawings.{drawings_of}
 use Rattle.player.specs.Plays.{IsWhole, SameRows}
-use Rattle.player.specs.Stop.{stopped}
-use Rattle.player.specs.Writes.{writes_after}
+use Rattle.preflight_cert.specs.Stop.{stopped}
+use Rattle.preflight_cert.specs.Writes.{writes_after}
 use Rattle.player.proofs.play.play_steps.Given as goal
 
 -- what is left of the run ends as the whole run does

@@ -3,7 +3,7 @@ use Rattle.std.proofs.lemmas.Int.{ints}
 use Rattle.std.proofs.lemmas.List.Elements.{All-same}
 use Rattle.mapping.specs.Limits.{place_limit}
 use Rattle.span_fill.specs.Lines.{HasNearEnds}
-use Rattle.player.specs.Rectangles.{rectangle_lines}
+use Rattle.preflight_cert.specs.Rectangles.{rectangle_lines}
 use Rattle.player.proofs.RectangleLemmas.{lines_are, lines_near}
 use Rattle.player.proofs.rectangles.box_lines.Goals as goal
 

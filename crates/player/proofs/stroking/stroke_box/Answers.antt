@@ -6,7 +6,7 @@ use Rattle.dc_stack.specs.Values.{placed_value}
 use Rattle.span_fill.specs.RowLaws.{LiesBetween}
 use Rattle.span_fill.specs.Strokes.{in_stroke}
 use Rattle.player.specs.Painted.{colour_of}
-use Rattle.player.specs.Rectangles.{has_inside, rectangle_lines}
+use Rattle.preflight_cert.specs.Rectangles.{has_inside, rectangle_lines}
 use Rattle.player.proofs.RectangleLemmas.{lines_between, no_stroke}
 use Rattle.player.proofs.RowLemmas.{nothing_painted}
 use Rattle.player.proofs.stroking.stroke_box.Goals as goal

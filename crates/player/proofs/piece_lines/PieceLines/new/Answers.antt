@@ -3,7 +3,7 @@ use Rattle.mapping.specs.PlaceOf.{surface_of}
 use Rattle.dc_stack.specs.Figures.{all_figures}
 use Rattle.dc_stack.specs.Pieces.{figures_of}
 use Rattle.player.specs.FigureEnds.{lines_of_figures}
-use Rattle.player.specs.FigureLines.{placed_figures}
+use Rattle.preflight_cert.specs.FigureLines.{placed_figures}
 use Rattle.player.specs.Moves.{lines_of_moves, nothing}
 use Rattle.player.specs.MovesToCome.{path_moves_left}
 use Rattle.player.proofs.FigureLemmas.{figure_lines_few}

@@ -7,7 +7,7 @@ use Rattle.draw_ops.specs.declared.operation.RectangleEdges.{RectangleEdges}
 use Rattle.draw_ops.specs.declared.operation.RectangleEdges.TheVariants.{HalfOpen, Inclusive}
 use Rattle.mapping.specs.Boxes.{box_between}
 use Rattle.span_fill.specs.declared.line.Line.{Line}
-use Rattle.player.specs.Outlines.{closed_lines}
+use Rattle.preflight_cert.specs.Outlines.{closed_lines}
 
 -- a box with its right and bottom raised by one where they belong to it, so that they don't any more
 abbrev pub raised : RectangleEdges → Rect → Rect

@@ -1,6 +1,6 @@
 //! Laws of runs.
 
-ghost use Rattle.player.specs.Run.{RefusedOverAnyImage, RunEndsInOneWay, WritesAreOne};
+ghost use Rattle.preflight_cert.specs.Run.{RefusedOverAnyImage, RunEndsInOneWay, WritesAreOne};
 
 use draw_ops::content_law;
 

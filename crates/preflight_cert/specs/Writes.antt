@@ -3,10 +3,10 @@ use Rattle.std.specs.Prelude.{ℕ, ◌+◌, Bool, ◌&&◌, List, [], ◌∷◌,
 use Rattle.mapping.specs.Pixels.{count_pixels}
 use Rattle.mapping.specs.Surface.{Surface}
 use Rattle.dc_stack.specs.Clip.{in_clip}
-use Rattle.player.specs.Drawings.{NumberedDrawing}
-use Rattle.player.specs.Layer.{Layer, layers_of}
-use Rattle.player.specs.Paint.{paint_at}
-use Rattle.player.specs.Shape.{in_shape}
+use Rattle.preflight_cert.specs.Drawings.{NumberedDrawing}
+use Rattle.preflight_cert.specs.Layer.{Layer, layers_of}
+use Rattle.preflight_cert.specs.Paint.{paint_at}
+use Rattle.preflight_cert.specs.Shape.{in_shape}
 
 -- the layer writes the surface's pixel (x, y): it is in the clip and in the shape, and the paint there isn't nothing
 abbrev pub writes_pixel : Layer → Surface → ℕ → ℕ → Bool

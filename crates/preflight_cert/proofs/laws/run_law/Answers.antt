@@ -1,5 +1,5 @@
-use Rattle.player.proofs.RunLemmas.{run_ends, refused_over_any, writes_are_one}
-use Rattle.player.proofs.laws.run_law.Goals as goal
+use Rattle.preflight_cert.proofs.RunLemmas.{run_ends, refused_over_any, writes_are_one}
+use Rattle.preflight_cert.proofs.laws.run_law.Goals as goal
 
 pub returns-clause-end : goal.returns-clause-end
 returns-clause-end c = run_ends c.content_law.ensures

@@ -5,7 +5,7 @@ use Rattle.mapping.specs.Surface.{Surface}
 use Rattle.dc_stack.specs.Boxes.{placed_list}
 use Rattle.dc_stack.specs.Figures.{Figure}
 use Rattle.span_fill.specs.declared.line.Line.{Line}
-use Rattle.player.specs.Outlines.{closed_lines, open_lines}
+use Rattle.preflight_cert.specs.Outlines.{closed_lines, open_lines}
 
 -- a figure, where its points land on a surface
 abbrev pub placed_figure : Surface → Figure → Figure

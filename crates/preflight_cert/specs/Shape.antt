@@ -12,8 +12,8 @@ use Rattle.span_fill.specs.Fill.{in_fill}
 use Rattle.span_fill.specs.Strokes.{in_stroke}
 use Rattle.span_fill.specs.declared.fill_rule.FillRule.{FillRule}
 use Rattle.span_fill.specs.declared.fill_rule.FillRule.TheVariants.{EvenOdd, NonZero}
-use Rattle.player.specs.FigureLines.{lines_along, placed_figures}
-use Rattle.player.specs.Rectangles.{rectangle_lines, rectangle_on}
+use Rattle.preflight_cert.specs.FigureLines.{lines_along, placed_figures}
+use Rattle.preflight_cert.specs.Rectangles.{rectangle_lines, rectangle_on}
 
 -- by points of the plane: the pixel on which one lands, what is inside of figures or of a rectangle, and what is on the lines along figures
 -- or round a rectangle

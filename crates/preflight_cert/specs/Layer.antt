@@ -13,10 +13,10 @@ use Rattle.draw_ops.specs.declared.objects.Pen.{Pen}
 use Rattle.draw_ops.specs.declared.objects.Pen.TheVariants.{Null, Solid}
 use Rattle.draw_ops.specs.declared.operation.RectangleEdges.TheVariants.{HalfOpen}
 use Rattle.raster_ops.specs.TernaryOps.{uses_pattern}
-use Rattle.player.specs.Mixing.{Mixing, binary, copied, ternary}
-use Rattle.player.specs.Paint.{Paint, brushed, solid}
-use Rattle.player.specs.FigureLines.{all_closed}
-use Rattle.player.specs.Shape.{Shape, along_figures, inside_figures, inside_rectangle, pixel_under, round_rectangle}
+use Rattle.preflight_cert.specs.Mixing.{Mixing, binary, copied, ternary}
+use Rattle.preflight_cert.specs.Paint.{Paint, brushed, solid}
+use Rattle.preflight_cert.specs.FigureLines.{all_closed}
+use Rattle.preflight_cert.specs.Shape.{Shape, along_figures, inside_figures, inside_rectangle, pixel_under, round_rectangle}
 
 -- which pixels, in which paint, joined how, within which clip
 pub record Layer : Type 0 where

@@ -5,7 +5,7 @@ ghost use Rattle.draw_ops.specs.Objects.{index_of};
 ghost use Rattle.object_tables.specs.Slots.{Slots};
 ghost use Rattle.object_tables.specs.Table.{TableKind, index_bound};
 ghost use Rattle.dc_stack.specs.State.{table_kind_of};
-ghost use Rattle.player.specs.FileTable.{kind_of, room_of, slots_of};
+ghost use Rattle.preflight_cert.specs.FileTable.{kind_of, room_of, slots_of};
 
 use draw_ops::{Fault, Handle, Object};
 use object_tables::{Contents, Given, LowestFree, MAX_SLOTS, Table};
@@ -13,14 +13,14 @@ use std::alloc::Global;
 
 /// The objects of a file. One type for all formats lets what reads and plays a record be compiled as one.
 #[derive(Debug, Drop)]
-pub(crate) enum FileTable<'a> {
+pub enum FileTable<'a> {
     LowestFree(LowestFree<'a>),
     Given(Given<'a>),
 }
 
 impl<'a> FileTable<'a> {
     /// The table of a file that may use so many indexes, if it says so.
-    pub(crate) fn new(alloc: Global, handles: Option<u16>) -> FileTable<'a>
+    pub fn new(alloc: Global, handles: Option<u16>) -> FileTable<'a>
         ensures { kind_of result ≡ table_kind_of handles }
     {
         match handles {
@@ -31,7 +31,7 @@ impl<'a> FileTable<'a> {
 }
 
 /// For how many objects a file with so many indexes may ask.
-pub(crate) fn full_slots(handles: Option<u16>) -> usize
+pub fn full_slots(handles: Option<u16>) -> usize
     ensures { result ≡ index_bound (table_kind_of handles) }
 {
     match handles {

@@ -5,15 +5,15 @@ use Rattle.draw_ops.specs.Content.{Content}
 use Rattle.draw_ops.specs.ExactlyOne.{ExactlyOne}
 use Rattle.draw_ops.specs.RecordContent.{ContentIsOne}
 use Rattle.mapping.specs.Image.{Image}
-use Rattle.player.specs.Apply.{image_after}
-use Rattle.player.specs.Drawings.{drawings_of}
+use Rattle.preflight_cert.specs.Apply.{image_after}
+use Rattle.preflight_cert.specs.Drawings.{drawings_of}
 use Rattle.meta_headers.specs.Headers.{OpenedValue}
 use Rattle.meta_headers.specs.Opening.{framing_of, meaning_of, opened, record_bytes, surface_for}
 use Rattle.meta_headers.specs.declared.opened.FileFormat.{FileFormat}
 use Rattle.dc_stack.specs.State.{start_of}
-use Rattle.player.specs.Stop.{Stop, stop_of}
-use Rattle.player.specs.Writes.{writes_after}
-use Rattle.player.specs.Run.{Outcome, shown, refused, IsFileContent, RefusedIfOpened, ShowsIfOpened, WritesIfOpened, Run, RunEndsInOneWay, RefusedOverAnyImage, WritesAreOne}
+use Rattle.preflight_cert.specs.Stop.{Stop, stop_of}
+use Rattle.preflight_cert.specs.Writes.{writes_after}
+use Rattle.preflight_cert.specs.Run.{Outcome, shown, refused, IsFileContent, RefusedIfOpened, ShowsIfOpened, WritesIfOpened, Run, RunEndsInOneWay, RefusedOverAnyImage, WritesAreOne}
 
 -- a file of any format has one content
 one_file_content : ContentIsOne → (format : FileFormat) (file : List ℕ) → ExactlyOne (IsFileContent format file)

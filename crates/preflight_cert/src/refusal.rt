@@ -15,7 +15,7 @@ pub struct Refusal {
 
 impl Refusal {
     /// A fault that lies in no record.
-    pub(crate) fn of_file(fault: Fault) -> Refusal
+    pub fn of_file(fault: Fault) -> Refusal
         ensures number { result.number ≡ None }
         ensures fault { result.fault ≡ fault }
     {
@@ -26,7 +26,7 @@ impl Refusal {
     }
 
     /// A fault in a record.
-    pub(crate) fn at(number: u32, fault: Fault) -> Refusal
+    pub fn at(number: u32, fault: Fault) -> Refusal
         ensures number { result.number ≡ Some number }
         ensures fault { result.fault ≡ fault }
     {
@@ -38,7 +38,7 @@ impl Refusal {
 }
 
 impl fmt::Display for Refusal {
-    ghost use Rattle.player.specs.Refusal.{refusal_text};
+    ghost use Rattle.preflight_cert.specs.Refusal.{refusal_text};
 
     ghost output = { λ refusal. Some (refusal_text refusal) };
 

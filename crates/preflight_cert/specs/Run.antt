@@ -5,14 +5,14 @@ use Rattle.mapping.specs.Image.{Image, blank}
 use Rattle.draw_ops.specs.declared.fault.Fault.{Fault}
 use Rattle.draw_ops.specs.Content.{Content}
 use Rattle.draw_ops.specs.ExactlyOne.{ExactlyOne}
-use Rattle.player.specs.Apply.{image_after}
-use Rattle.player.specs.Drawings.{drawings_of}
+use Rattle.preflight_cert.specs.Apply.{image_after}
+use Rattle.preflight_cert.specs.Drawings.{drawings_of}
 use Rattle.meta_headers.specs.Headers.{OpenedValue}
 use Rattle.meta_headers.specs.Opening.{HasContentOf, opened, record_bytes, surface_for}
 use Rattle.meta_headers.specs.declared.opened.FileFormat.{FileFormat}
 use Rattle.dc_stack.specs.State.{start_of}
-use Rattle.player.specs.Stop.{stop_at, stop_of}
-use Rattle.player.specs.Writes.{writes_after}
+use Rattle.preflight_cert.specs.Stop.{stop_at, stop_of}
+use Rattle.preflight_cert.specs.Writes.{writes_after}
 
 -- the content of an opened file's records, by its format
 abbrev pub IsFileContent : FileFormat → List ℕ → Content → Type 0

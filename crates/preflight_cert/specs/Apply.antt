@@ -4,11 +4,11 @@ use Rattle.mapping.specs.Pixels.{repainted}
 use Rattle.mapping.specs.declared.geometry.Colour.{Colour}
 use Rattle.mapping.specs.Image.{Image}
 use Rattle.mapping.specs.Surface.{Surface}
-use Rattle.player.specs.Drawings.{NumberedDrawing}
-use Rattle.player.specs.Layer.{Layer, layers_of}
-use Rattle.player.specs.Mixing.{Mixing, mixed}
-use Rattle.player.specs.Paint.{paint_at}
-use Rattle.player.specs.Writes.{writes_pixel}
+use Rattle.preflight_cert.specs.Drawings.{NumberedDrawing}
+use Rattle.preflight_cert.specs.Layer.{Layer, layers_of}
+use Rattle.preflight_cert.specs.Mixing.{Mixing, mixed}
+use Rattle.preflight_cert.specs.Paint.{paint_at}
+use Rattle.preflight_cert.specs.Writes.{writes_pixel}
 
 -- the paint joined with the old colour, where the paint gives one
 abbrev pub joined : Mixing → Surface → ℕ → ℕ → Option Colour → Colour → Colour

@@ -1,0 +1,14 @@
+pub mod Outlines
+pub mod FigureLines
+pub mod Rectangles
+pub mod Shape
+pub mod Paint
+pub mod Mixing
+pub mod Layer
+pub mod Drawings
+pub mod Writes
+pub mod Apply
+pub mod Stop
+pub mod Run
+pub mod Refusal
+pub mod FileTable
