@@ -12,3 +12,8 @@ pub mod Stop
 pub mod Run
 pub mod Refusal
 pub mod FileTable
+pub mod After
+pub mod Budget
+pub mod DrawingBoxLaws
+pub mod SizeLaws
+pub mod NeedLaws

@@ -1,0 +1,22 @@
+-- What steps leave behind them, whatever the surface: the state, and the greatest needs.
+use Rattle.std.specs.Prelude.{List, [], ◌∷◌}
+use Rattle.draw_ops.specs.Content.{Content, StepValue}
+use Rattle.dc_stack.specs.Needs.{greater_needs, needs_of, no_needs}
+use Rattle.dc_stack.specs.Next.{next}
+use Rattle.dc_stack.specs.State.{State, start_of}
+use Rattle.dc_stack.specs.declared.needs.Needs.{Needs}
+use Rattle.meta_headers.specs.Headers.{OpenedValue}
+
+-- the state after the steps
+abbrev pub state_after : List StepValue → State → State
+state_after [] state = state
+state_after (step ∷ steps) state = state_after steps (next step.operation state)
+
+-- the greatest needs of the steps, and of what came before them
+abbrev pub needs_after : List StepValue → State → Needs → Needs
+needs_after [] state needs = needs
+needs_after (step ∷ steps) state needs = needs_after steps (next step.operation state) (greater_needs needs (needs_of step.operation state))
+
+-- the needs of a file's records, from their start on
+abbrev pub file_needs : Content → OpenedValue → Needs
+file_needs content o = needs_after content.steps (start_of o) no_needs

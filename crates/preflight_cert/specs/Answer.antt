@@ -1,0 +1,109 @@
+-- What a check answers, and what an accepted certificate promises.
+use Rattle.std.specs.Prelude.{◌≡◌, ◌≤◌, ◌↔◌, ℕ, Bool, ◌&&◌, nat_le, if◌then◌else◌, List, Option, Some, None, Result, Ok, Err}
+use Rattle.mapping.specs.Image.{Image}
+use Rattle.mapping.specs.PlacingLaws.{ShowsFrame}
+use Rattle.mapping.specs.Surface.{Surface}
+use Rattle.draw_ops.specs.Content.{Content}
+use Rattle.draw_ops.specs.ExactlyOne.{ExactlyOne}
+use Rattle.draw_ops.specs.declared.fault.Fault.{Fault}
+use Rattle.draw_ops.specs.declared.fault.Fault.TheVariants.{BudgetTooSmall, NeedTooSmall}
+use Rattle.meta_headers.specs.Headers.{OpenedValue}
+use Rattle.meta_headers.specs.Opening.{HasContentOf, opened, record_bytes, surface_for}
+use Rattle.dc_stack.specs.State.{start_of}
+use Rattle.dc_stack.specs.declared.needs.Needs.{Needs}
+use Rattle.preflight_cert.specs.After.{file_needs}
+use Rattle.preflight_cert.specs.CertificateReading.{CertificateValue, read_certificate}
+use Rattle.preflight_cert.specs.Checked.{checked}
+use Rattle.preflight_cert.specs.Drawings.{drawings_of}
+use Rattle.preflight_cert.specs.Entries.{AreCovered, budget_of}
+use Rattle.preflight_cert.specs.NeedLaws.{AreWithin}
+use Rattle.preflight_cert.specs.Run.{Run, Writes, refused, shown}
+use Rattle.preflight_cert.specs.Stop.{Stop, stop_of}
+
+-- the surface of a certificate's bound, with a file's frame
+abbrev pub bound_of : OpenedValue → CertificateValue → Surface
+bound_of o c = surface_for o c.max_width c.max_height
+
+-- how many pixels the drawings of a file's records write at most, by a certificate's entries at its bound
+abbrev pub file_budget : Content → OpenedValue → CertificateValue → ℕ
+file_budget content o c = budget_of (drawings_of content.steps (start_of o)) c.entries (bound_of o c)
+
+-- A certificate fits a file's records: they have no fault at the bound, its entries cover their drawings one for one, and its needs and writes
+-- are at least theirs.
+pub record Fits (c : CertificateValue) (o : OpenedValue) (content : Content) : Type 0 where
+  pub unstopped : stop_of content (start_of o) (bound_of o c) ≡ None
+  pub covered : AreCovered (drawings_of content.steps (start_of o)) c.entries
+  pub needs : AreWithin (file_needs content o) c.needs
+  pub budget : file_budget content o c ≤ c.writes
+
+-- accepted, or refused by a fault, in a record or in none
+pub data Answer : Type 0 where
+  accepted : Answer
+  refuses : Option ℕ → Fault → Answer
+
+-- needs are at most others, as a test
+abbrev pub are_within : Needs → Needs → Bool
+are_within needs others =
+    nat_le needs.depth others.depth && nat_le needs.slots others.slots && nat_le needs.edges others.edges && nat_le needs.pieces others.pieces
+
+-- the fault of the numbers that are told of the whole: a need, or else the writes
+abbrev pub total_fault : Needs → ℕ → CertificateValue → Option Fault
+total_fault needs budget c =
+    if are_within needs c.needs then (if nat_le budget c.writes then None else Some BudgetTooSmall) else Some NeedTooSmall
+
+-- where the steps and entries stop, or else the fault of the whole
+abbrev pub answer_from : Option Stop → Option Fault → Answer
+answer_from (Some stop) total = refuses (Some stop.number) stop.fault
+answer_from None (Some fault) = refuses None fault
+answer_from None None = accepted
+
+-- the answer to a certificate for a file's records
+abbrev pub answer_to : Content → OpenedValue → CertificateValue → Answer
+answer_to content o c =
+    answer_from (checked content.steps content.fault 0 (start_of o) (bound_of o c) c.entries)
+    (total_fault (file_needs content o) (file_budget content o c) c)
+
+-- records of an opened file have a content that is answered so
+pub record RecordsAnswer (o : OpenedValue) (records : List ℕ) (c : CertificateValue) (answer : Answer) : Type 0 where
+  pub content : Content
+  pub of_records : HasContentOf o.format records content
+  pub answers : answer ≡ answer_to content o c
+
+-- the certificate's own fault comes first
+abbrev pub AnswersRead : Result CertificateValue Fault → OpenedValue → List ℕ → Answer → Type 0
+AnswersRead (Err fault) o records answer = answer ≡ refuses None fault
+AnswersRead (Ok c) o records answer = RecordsAnswer o records c answer
+
+-- and opening's before it
+abbrev pub AnswersOpened : Result OpenedValue Fault → List ℕ → List ℕ → Answer → Type 0
+AnswersOpened (Err fault) file certificate answer = answer ≡ refuses None fault
+AnswersOpened (Ok o) file certificate answer = AnswersRead (read_certificate certificate) o (record_bytes o.format file) answer
+
+-- The answer to a file and a certificate.
+abbrev pub IsAnswer : List ℕ → List ℕ → Answer → Type 0
+IsAnswer file certificate answer = AnswersOpened (opened file) file certificate answer
+
+-- the certificate fits whatever content records of an opened file have
+abbrev pub IsCleared : OpenedValue → List ℕ → CertificateValue → Type 0
+IsCleared o records c = (content : Content) → HasContentOf o.format records content → Fits c o content
+
+-- a run shows some image
+pub record Shows (file : List ℕ) (width height : ℕ) (image : Image) : Type 0 where
+  pub after : Image
+  pub ends : Run file width height image (shown after)
+
+-- On each surface up to these sides, and over each image, the run of a file has no fault, and it writes at most so many pixels.
+pub record Sound (file : List ℕ) (max_width max_height most : ℕ) : Type 0 where
+  pub shows : (width height : ℕ) (image : Image) → width ≤ max_width → height ≤ max_height → Shows file width height image
+  pub faultless :
+      (width height : ℕ) (image : Image) (number : Option ℕ) (fault : Fault) → width ≤ max_width → height ≤ max_height
+      → Run file width height image (refused number fault) → ⊥
+  pub few : (width height writes : ℕ) → width ≤ max_width → height ≤ max_height → Writes file width height writes → writes ≤ most
+
+-- There is one answer. Records are accepted exactly where the certificate fits them, and then the file is sound within its bound and writes.
+pub record AnswerLaws : Type 0 where
+  pub one : (file certificate : List ℕ) → ExactlyOne (IsAnswer file certificate)
+  pub fits : (content : Content) (o : OpenedValue) (c : CertificateValue) → (accepted ≡ answer_to content o c) ↔ Fits c o content
+  pub sound :
+      (file bytes : List ℕ) (o : OpenedValue) (c : CertificateValue) → opened file ≡ Ok o → read_certificate bytes ≡ Ok c
+      → ShowsFrame (bound_of o c) → IsAnswer file bytes accepted → Sound file c.max_width c.max_height c.writes

@@ -1,0 +1,15 @@
+-- How many pixels a drawing writes at most, by a box of the plane that has its points.
+use Rattle.std.specs.Prelude.{ℕ, ◌+◌, ◌*◌, List, [], ◌∷◌}
+use Rattle.mapping.specs.Surface.{Surface}
+use Rattle.mapping.specs.declared.geometry.Rect.{Rect}
+use Rattle.preflight_cert.specs.Cells.{cells}
+use Rattle.preflight_cert.specs.Layer.{Layer}
+
+-- how many pixels of a surface a box of the plane meets at most
+abbrev pub box_cells : Rect → Surface → ℕ
+box_cells box s = cells box.l box.r s.width s.frame_width * cells box.t box.b s.height s.frame_height
+
+-- how many pixels layers write at most, whose points the box has: each those that the box meets
+abbrev pub layers_budget : List Layer → Rect → Surface → ℕ
+layers_budget [] box s = 0
+layers_budget (layer ∷ layers) box s = box_cells box s + layers_budget layers box s

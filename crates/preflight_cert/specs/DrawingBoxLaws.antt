@@ -1,0 +1,41 @@
+-- What a box of the plane that has a drawing's points says of its pixels.
+use Rattle.std.specs.Prelude.{◌≡◌, ◌≤◌, ℕ, ◌≤ℤ◌, true, List, [], ◌∷◌}
+use Rattle.std.specs.List.{All}
+use Rattle.mapping.specs.Boxes.{HasPoint}
+use Rattle.mapping.specs.PlacingLaws.{IsNoLarger, ShowsFrame}
+use Rattle.mapping.specs.Surface.{Surface}
+use Rattle.mapping.specs.declared.geometry.Point.{Point}
+use Rattle.mapping.specs.declared.geometry.Rect.{Rect}
+use Rattle.dc_stack.specs.Clip.{placed_box}
+use Rattle.dc_stack.specs.Drawing.{Drawing, drawing_points}
+use Rattle.dc_stack.specs.Figures.{points_of_figures}
+use Rattle.preflight_cert.specs.Budget.{layers_budget}
+use Rattle.preflight_cert.specs.Layer.{layers_of}
+use Rattle.preflight_cert.specs.PixelBoxes.{HasPixel}
+use Rattle.preflight_cert.specs.Shape.{Shape, along_figures, in_shape, inside_figures, inside_rectangle, pixel_under, round_rectangle}
+use Rattle.preflight_cert.specs.Writes.{writes_of_layers}
+
+-- the points of the plane by which a shape is told
+abbrev pub shape_points : Shape → List Point
+shape_points (pixel_under point) = point ∷ []
+shape_points (inside_figures mode figures) = points_of_figures figures
+shape_points (inside_rectangle p q edges) = p ∷ q ∷ []
+shape_points (along_figures figures) = points_of_figures figures
+shape_points (round_rectangle p q edges) = p ∷ q ∷ []
+
+-- a box of the plane has a point, and where it lands it has the pixel
+pub record Reaches (box : Rect) (s : Surface) (x y : ℕ) : Type 0 where
+  pub wide : box.l ≤ℤ box.r
+  pub high : box.t ≤ℤ box.b
+  pub pixel : HasPixel (placed_box s box) x y
+
+-- A shape has pixels only where a box that has its points lands. So a drawing writes at most its layers' budget by such a box, on this
+-- surface and on each that is no larger.
+pub record DrawingBoxLaws : Type 0 where
+  pub shape :
+      (shape : Shape) (box : Rect) (s : Surface) (x y : ℕ) → ShowsFrame s → All (HasPoint box) (shape_points shape)
+      → in_shape shape s x y ≡ true → Reaches box s x y
+  pub drawing :
+      (drawing : Drawing) (box : Rect) (smaller larger : Surface) → ShowsFrame larger → IsNoLarger smaller larger
+      → All (HasPoint box) (drawing_points drawing)
+      → writes_of_layers (layers_of drawing) smaller ≤ layers_budget (layers_of drawing) box larger
