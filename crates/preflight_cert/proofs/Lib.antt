@@ -1,1 +1,7 @@
 pub mod RunLemmas
+pub mod TestLemmas
+pub mod OutlineLemmas
+pub mod ShapeLemmas
+pub mod LayerLemmas
+pub mod SizeLemmas
+pub mod NeedLemmas

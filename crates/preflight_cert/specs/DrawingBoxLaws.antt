@@ -8,7 +8,7 @@ use Rattle.mapping.specs.declared.geometry.Point.{Point}
 use Rattle.mapping.specs.declared.geometry.Rect.{Rect}
 use Rattle.dc_stack.specs.Clip.{placed_box}
 use Rattle.dc_stack.specs.Drawing.{Drawing, drawing_points}
-use Rattle.dc_stack.specs.Figures.{points_of_figures}
+use Rattle.dc_stack.specs.Figures.{Figure, points_of_figures}
 use Rattle.preflight_cert.specs.Budget.{layers_budget}
 use Rattle.preflight_cert.specs.Layer.{layers_of}
 use Rattle.preflight_cert.specs.PixelBoxes.{HasPixel}
@@ -23,17 +23,29 @@ shape_points (inside_rectangle p q edges) = p ∷ q ∷ []
 shape_points (along_figures figures) = points_of_figures figures
 shape_points (round_rectangle p q edges) = p ∷ q ∷ []
 
+-- a figure is closed
+abbrev pub IsClosedFigure : Figure → Type 0
+IsClosedFigure figure = figure.is_closed ≡ true
+
+-- a shape that is the inside of figures is that of closed ones, as each layer's is
+abbrev pub IsClosedShape : Shape → Type 0
+IsClosedShape (pixel_under point) = Unit
+IsClosedShape (inside_figures mode figures) = All IsClosedFigure figures
+IsClosedShape (inside_rectangle p q edges) = Unit
+IsClosedShape (along_figures figures) = Unit
+IsClosedShape (round_rectangle p q edges) = Unit
+
 -- a box of the plane has a point, and where it lands it has the pixel
 pub record Reaches (box : Rect) (s : Surface) (x y : ℕ) : Type 0 where
   pub wide : box.l ≤ℤ box.r
   pub high : box.t ≤ℤ box.b
   pub pixel : HasPixel (placed_box s box) x y
 
--- A shape has pixels only where a box that has its points lands. So a drawing writes at most its layers' budget by such a box, on this
--- surface and on each that is no larger.
+-- A shape that isn't the inside of open figures has pixels only where a box that has its points lands. So a drawing writes at most its layers'
+-- budget by such a box, on this surface and on each that is no larger.
 pub record DrawingBoxLaws : Type 0 where
   pub shape :
-      (shape : Shape) (box : Rect) (s : Surface) (x y : ℕ) → ShowsFrame s → All (HasPoint box) (shape_points shape)
+      (shape : Shape) (box : Rect) (s : Surface) (x y : ℕ) → ShowsFrame s → IsClosedShape shape → All (HasPoint box) (shape_points shape)
       → in_shape shape s x y ≡ true → Reaches box s x y
   pub drawing :
       (drawing : Drawing) (box : Rect) (smaller larger : Surface) → ShowsFrame larger → IsNoLarger smaller larger

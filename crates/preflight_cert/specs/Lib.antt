@@ -13,7 +13,14 @@ pub mod Run
 pub mod Refusal
 pub mod FileTable
 pub mod After
+pub mod Cells
+pub mod CellLaws
+pub mod PixelBoxes
+pub mod LineBoxes
 pub mod Budget
+pub mod Entries
+pub mod Checked
+pub mod Checks
 pub mod DrawingBoxLaws
 pub mod SizeLaws
 pub mod NeedLaws

@@ -1,8 +1,15 @@
-//! Laws of runs.
+//! Laws of runs, of what drawings paint, and of needs.
 
+ghost use Rattle.preflight_cert.specs.CellLaws.{CellLaws};
+ghost use Rattle.preflight_cert.specs.DrawingBoxLaws.{DrawingBoxLaws};
+ghost use Rattle.preflight_cert.specs.LineBoxes.{LineBoxLaws};
+ghost use Rattle.preflight_cert.specs.NeedLaws.{NeedLaws};
 ghost use Rattle.preflight_cert.specs.Run.{RefusedOverAnyImage, RunEndsInOneWay, WritesAreOne};
+ghost use Rattle.preflight_cert.specs.SizeLaws.{SizeLaws};
 
+use dc_stack::fault_law;
 use draw_ops::content_law;
+use mapping::placing_law;
 
 /// A run ends in one way, and whether it is refused, and by which fault, doesn't depend on the image
 /// that it starts from; without a fault it writes one number of pixels.
@@ -13,3 +20,38 @@ pub fn run_law()
 {
     content_law();
 }
+
+/// The law of drawings' boxes: a shape that isn't the inside of open figures has pixels only where a box
+/// that has its points lands, and a drawing writes at most its layers' budget by such a box, on this
+/// surface and on each that is no larger.
+pub fn drawing_box_law()
+    ensures { DrawingBoxLaws }
+{
+    cell_law();
+    line_box_law();
+    placing_law();
+}
+
+/// The law of sizes: records without a fault on a surface have none on one that is no larger, and
+/// drawings that entries cover write no more pixels there than the entries' budget on the larger one.
+pub fn size_law()
+    ensures { SizeLaws }
+{
+    drawing_box_law();
+    fault_law();
+}
+
+/// The law of needs: an operation for whose needs there is room wants no more, and what was needed
+/// before is within the needs of all steps.
+pub fn need_law()
+    ensures { NeedLaws }
+{}
+
+// stand-ins
+fn cell_law()
+    ensures { CellLaws }
+{}
+
+fn line_box_law()
+    ensures { LineBoxLaws }
+{}

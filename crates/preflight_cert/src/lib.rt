@@ -4,12 +4,19 @@
 //!
 //! - A run ends in one way, and whether it is refused doesn't depend on the image that it starts
 //!   from (`run_law`).
+//! - A drawing writes only pixels of a box that has its points, and so at most as many as its layers'
+//!   budget by that box says, on this surface and on each that is no larger (`drawing_box_law`).
+//! - Records without a fault at one size have none at a smaller one, and their drawings write there no
+//!   more pixels than the budget of entries that cover them (`size_law`).
+//! - Room for an operation's needs is enough for it (`need_law`).
 #![tactic(auto)]
 
+mod entry;
 mod file_table;
 mod laws;
 mod refusal;
 
+pub use entry::Entry;
 pub use file_table::{FileTable, full_slots};
-pub use laws::run_law;
+pub use laws::{drawing_box_law, need_law, run_law, size_law};
 pub use refusal::Refusal;
