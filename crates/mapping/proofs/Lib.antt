@@ -7,3 +7,7 @@ pub mod BetweenLemmas
 pub mod JoiningLemmas
 pub mod LandsLemmas
 pub mod BoxLemmas
+pub mod IntTestLemmas
+pub mod CountLemmas
+pub mod CellLemmas
+pub mod MetLemmas

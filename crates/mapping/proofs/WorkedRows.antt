@@ -3,6 +3,7 @@ use Rattle.std.proofs.Common.{◌≡◌, ◌^◌, ◌-◌, ℤ, pos, negsuc, neg
 use Rattle.mapping.specs.declared.geometry.Point.{Point}
 use Rattle.mapping.specs.declared.map_mode.MapMode.{MapMode}
 use Rattle.mapping.specs.declared.map_mode.MapMode.TheVariants.{Text, Isotropic, Anisotropic}
+use Rattle.mapping.specs.Cells.{cells}
 use Rattle.mapping.specs.MapSettings.{is_page_point, offset_by, sets_zero_extent, with_mode, with_offset_viewport_origin, with_offset_window_origin, with_viewport_extent, with_viewport_origin, with_window_extent, with_window_origin}
 use Rattle.mapping.specs.PageMap.{unscaled_map}
 use Rattle.mapping.specs.Plane.{AxisNumbers, MapNumbers, plane_coordinate, plane_point}
@@ -129,3 +130,19 @@ first_by_minus_1_on_y = refl
 
 first_by_0 : is_page_point (offset_by (at (pos 0) (pos 0)) (at first first)) ≡ true
 first_by_0 = refl
+
+-- of a frame of four, all of it, one line, and what lies behind it; half of a frame of eight; and no part
+all_of_four : cells (pos 0) (pos 4) 4 4 ≡ 4
+all_of_four = refl
+
+one_of_four : cells (pos 2) (pos 2) 4 4 ≡ 1
+one_of_four = refl
+
+one_of_eight : cells (pos 3) (pos 4) 2 8 ≡ 2
+one_of_eight = refl
+
+behind_four : cells (pos 4) (pos 9) 4 4 ≡ 0
+behind_four = refl
+
+none_of_four : cells (pos 0) (negsuc 0) 4 4 ≡ 0
+none_of_four = refl

@@ -14,3 +14,6 @@ pub mod Pixels
 pub mod Mixes
 pub mod Boxes
 pub mod BoxLaws
+pub mod PixelBoxes
+pub mod Cells
+pub mod CellLaws

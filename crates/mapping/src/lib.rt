@@ -21,6 +21,7 @@
 //!   each that is no larger and shows a frame of the same sides (`placing_law`).
 //! - The least box around points grows by a point (`Rect::around`, `Rect::with`), and page maps and places map it to the
 //!   least box around what the points are mapped to, by two of its corners, which tell whether all land (`box_law`).
+//! - A part of the plane meets at most so many columns, or rows, of a surface (`cells`), and no fewer of a larger one (`cell_law`).
 //! - A mix keeps, drops and flips the bits of a colour that it says, and no other (`Mix::apply`, by
 //!   `mixed_by`), and one of them makes a given colour of every colour (`Mix::copy`).
 //!
@@ -28,6 +29,7 @@
 //! over the built program counts its calls for memory.
 #![tactic(auto)]
 
+mod cell_count;
 mod floor;
 mod geometry;
 mod limits;
@@ -38,6 +40,7 @@ mod mix;
 mod page_map;
 mod place;
 
+pub use cell_count::{cell_law, cells};
 pub use floor::floor_division_law;
 pub use geometry::{Colour, Frame, Point, Rect};
 pub use limits::{MAX_FRAME_SIDE, MAX_SURFACE_SIDE, limits_law};

@@ -24,3 +24,4 @@ pub mod JoiningLemmas
 pub mod StrokingLemmas
 pub mod StripStart
 pub mod RowLawLemmas
+pub mod LineBoxLemmas

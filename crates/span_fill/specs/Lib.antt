@@ -22,3 +22,4 @@ pub mod RowFields
 pub mod Insertion
 pub mod Joining
 pub mod Stroking
+pub mod LineBoxes

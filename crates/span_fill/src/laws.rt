@@ -1,5 +1,6 @@
 //! What the definitions of pixels mean.
 
+ghost use Rattle.span_fill.specs.LineBoxes.{LineBoxLaws};
 ghost use Rattle.span_fill.specs.RowLaws.{RowLaws};
 ghost use Rattle.span_fill.specs.Strokes.{OnePixelForEachStep};
 
@@ -11,4 +12,9 @@ pub fn line_law()
 /// The law of rows: above and below the rows in which lines lie, there is nothing of them.
 pub fn row_law()
     ensures { RowLaws }
+{}
+
+/// The law of boxes around lines: the pixels of lines lie in each box that has the lines, and so do those inside of polygons that do.
+pub fn line_box_law()
+    ensures { LineBoxLaws }
 {}

@@ -11,7 +11,8 @@
 //! - Within its room a row buffer wants no memory, and after a refusal it is what it was (`RowBuf::reserve`).
 //! - A line's pixels within a region are given in order, each once, and no other (`Steps::new`, `Steps::next`).
 //! - A line has one pixel for each step along its longer axis (`line_law`).
-//! - Above and below the rows in which lines lie there is nothing of them (`row_law`).
+//! - Above and below the rows in which lines lie there is nothing of them (`row_law`), and all their pixels lie in each box that
+//!   has the lines (`line_box_law`).
 #![tactic(auto)]
 
 mod active_edges;
@@ -48,7 +49,7 @@ mod walk;
 
 pub use crossing::Crossing;
 pub use fill_rule::FillRule;
-pub use laws::{line_law, row_law};
+pub use laws::{line_box_law, line_law, row_law};
 pub use line::Line;
 pub use outline::Outline;
 pub use pixel::Pixel;

@@ -1,0 +1,8 @@
+-- Boxes and pixels.
+use Rattle.std.specs.Prelude.{ℕ, pos}
+use Rattle.mapping.specs.Boxes.{HasPoint}
+use Rattle.mapping.specs.declared.geometry.Rect.{Rect}
+
+-- a box of a surface has the pixel in this column and row
+abbrev pub HasPixel : Rect → ℕ → ℕ → Type 0
+HasPixel box x y = HasPoint box (record { x = pos x; y = pos y })

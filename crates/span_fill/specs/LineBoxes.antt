@@ -1,0 +1,35 @@
+-- Boxes around lines, and what the pixels of lines are to them.
+use Rattle.std.specs.Prelude.{◌≡◌, ℕ, ◌+◌, true, if◌then◌else◌, List, [], ◌∷◌}
+use Rattle.std.specs.List.{All}
+use Rattle.mapping.specs.Boxes.{HasPoint}
+use Rattle.mapping.specs.PixelBoxes.{HasPixel}
+use Rattle.mapping.specs.declared.geometry.Rect.{Rect}
+use Rattle.span_fill.specs.Fill.{has_row, in_fill}
+use Rattle.span_fill.specs.Strokes.{in_stroke}
+use Rattle.span_fill.specs.declared.fill_rule.FillRule.{FillRule}
+use Rattle.span_fill.specs.declared.line.Line.{Line}
+
+-- a box has both ends of a line
+pub record HasLine (box : Rect) (line : Line) : Type 0 where
+  pub from : HasPoint box line.from
+  pub to : HasPoint box line.to
+
+-- how many lines run downwards past the middle of a row, and how many upwards
+abbrev pub met_downwards : List Line → ℕ → ℕ
+met_downwards [] y = 0
+met_downwards (line ∷ lines) y = (if has_row line.from line.to y then 1 else 0) + met_downwards lines y
+
+abbrev pub met_upwards : List Line → ℕ → ℕ
+met_upwards [] y = 0
+met_upwards (line ∷ lines) y = (if has_row line.to line.from y then 1 else 0) + met_upwards lines y
+
+-- as many run downwards as upwards past each row, as those round polygons do
+abbrev pub IsBalanced : List Line → Type 0
+IsBalanced lines = (y : ℕ) → met_downwards lines y ≡ met_upwards lines y
+
+-- The pixels of lines that lie in a box, and those inside of polygons that do, lie in it, too.
+pub record LineBoxLaws : Type 0 where
+  pub stroke : (box : Rect) (lines : List Line) (x y : ℕ) → All (HasLine box) lines → in_stroke lines x y ≡ true → HasPixel box x y
+  pub fill :
+      (rule : FillRule) (box : Rect) (lines : List Line) (x y : ℕ) → IsBalanced lines → All (HasLine box) lines
+      → in_fill rule lines x y ≡ true → HasPixel box x y
