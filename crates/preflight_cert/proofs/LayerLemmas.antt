@@ -20,12 +20,12 @@ use Rattle.dc_stack.specs.Figures.{Figure, points_of_figures}
 use Rattle.dc_stack.specs.declared.draw.Painting.{Painting}
 use Rattle.dc_stack.specs.declared.draw.Painting.TheVariants.{Fill, Stroke, StrokeAndFill}
 use Rattle.preflight_cert.specs.Budget.{box_cells, layers_budget}
-use Rattle.preflight_cert.specs.CellLaws.{CellLaws}
-use Rattle.preflight_cert.specs.Cells.{lies_from_to}
+use Rattle.mapping.specs.CellLaws.{CellLaws}
+use Rattle.mapping.specs.Cells.{lies_from_to}
 use Rattle.preflight_cert.specs.DrawingBoxLaws.{DrawingBoxLaws, IsClosedShape, Reaches, shape_points}
 use Rattle.preflight_cert.specs.FigureLines.{all_closed}
 use Rattle.preflight_cert.specs.Layer.{Layer, figures_filled, figures_stroked, fills_of, filled_with, layers_of, outlines_of, plain_layers_of, stroked_with, strokes_of}
-use Rattle.preflight_cert.specs.LineBoxes.{LineBoxLaws}
+use Rattle.span_fill.specs.LineBoxes.{LineBoxLaws}
 use Rattle.preflight_cert.specs.Paint.{paint_at}
 use Rattle.preflight_cert.specs.Shape.{Shape, in_shape}
 use Rattle.preflight_cert.specs.Writes.{writes_of_layer, writes_of_layers, writes_pixel}

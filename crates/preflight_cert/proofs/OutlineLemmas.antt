@@ -9,7 +9,7 @@ use Rattle.dc_stack.specs.Boxes.{placed_list}
 use Rattle.dc_stack.specs.Figures.{Figure, points_of_figures}
 use Rattle.span_fill.specs.Fill.{has_row}
 use Rattle.span_fill.specs.declared.line.Line.{Line}
-use Rattle.preflight_cert.specs.LineBoxes.{IsBalanced, met_downwards, met_upwards}
+use Rattle.span_fill.specs.LineBoxes.{IsBalanced, met_downwards, met_upwards}
 use Rattle.preflight_cert.specs.DrawingBoxLaws.{IsClosedFigure}
 use Rattle.preflight_cert.specs.FigureLines.{all_closed, figure_lines, lines_along, placed_figure, placed_figures}
 use Rattle.preflight_cert.specs.Outlines.{closed_lines, line_from, lines_after, lines_round, open_lines}

@@ -20,9 +20,9 @@ use Rattle.span_fill.specs.declared.line.Line.{Line}
 use Rattle.dc_stack.specs.Clip.{in_box, is_from_to, placed_box}
 use Rattle.preflight_cert.specs.DrawingBoxLaws.{IsClosedShape, Reaches, shape_points}
 use Rattle.preflight_cert.specs.FigureLines.{lines_along, placed_figures}
-use Rattle.preflight_cert.specs.LineBoxes.{HasLine, IsBalanced, LineBoxLaws}
+use Rattle.span_fill.specs.LineBoxes.{HasLine, IsBalanced, LineBoxLaws}
 use Rattle.preflight_cert.specs.Outlines.{closed_lines}
-use Rattle.preflight_cert.specs.PixelBoxes.{HasPixel}
+use Rattle.mapping.specs.PixelBoxes.{HasPixel}
 use Rattle.preflight_cert.specs.Rectangles.{corner_pixels, has_inside, raised, rectangle_on}
 use Rattle.preflight_cert.specs.Shape.{Shape, along_figures, fill_rule_of, in_shape, inside_figures, inside_rectangle, pixel_under, round_rectangle}
 use Rattle.preflight_cert.proofs.OutlineLemmas.{BothEnds, ends_along, ends_closed, figures_balanced}

@@ -2,7 +2,7 @@
 use Rattle.std.specs.Prelude.{ℕ, ◌+◌, ◌*◌, List, [], ◌∷◌}
 use Rattle.mapping.specs.Surface.{Surface}
 use Rattle.mapping.specs.declared.geometry.Rect.{Rect}
-use Rattle.preflight_cert.specs.Cells.{cells}
+use Rattle.mapping.specs.Cells.{cells}
 use Rattle.preflight_cert.specs.Layer.{Layer}
 
 -- how many pixels of a surface a box of the plane meets at most

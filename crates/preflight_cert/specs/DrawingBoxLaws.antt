@@ -11,7 +11,7 @@ use Rattle.dc_stack.specs.Drawing.{Drawing, drawing_points}
 use Rattle.dc_stack.specs.Figures.{Figure, points_of_figures}
 use Rattle.preflight_cert.specs.Budget.{layers_budget}
 use Rattle.preflight_cert.specs.Layer.{layers_of}
-use Rattle.preflight_cert.specs.PixelBoxes.{HasPixel}
+use Rattle.mapping.specs.PixelBoxes.{HasPixel}
 use Rattle.preflight_cert.specs.Shape.{Shape, along_figures, in_shape, inside_figures, inside_rectangle, pixel_under, round_rectangle}
 use Rattle.preflight_cert.specs.Writes.{writes_of_layers}
 

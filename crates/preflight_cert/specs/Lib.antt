@@ -13,10 +13,6 @@ pub mod Run
 pub mod Refusal
 pub mod FileTable
 pub mod After
-pub mod Cells
-pub mod CellLaws
-pub mod PixelBoxes
-pub mod LineBoxes
 pub mod Budget
 pub mod Entries
 pub mod Checked

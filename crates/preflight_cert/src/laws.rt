@@ -1,15 +1,14 @@
 //! Laws of runs, of what drawings paint, and of needs.
 
-ghost use Rattle.preflight_cert.specs.CellLaws.{CellLaws};
 ghost use Rattle.preflight_cert.specs.DrawingBoxLaws.{DrawingBoxLaws};
-ghost use Rattle.preflight_cert.specs.LineBoxes.{LineBoxLaws};
 ghost use Rattle.preflight_cert.specs.NeedLaws.{NeedLaws};
 ghost use Rattle.preflight_cert.specs.Run.{RefusedOverAnyImage, RunEndsInOneWay, WritesAreOne};
 ghost use Rattle.preflight_cert.specs.SizeLaws.{SizeLaws};
 
 use dc_stack::fault_law;
 use draw_ops::content_law;
-use mapping::placing_law;
+use mapping::{cell_law, placing_law};
+use span_fill::line_box_law;
 
 /// A run ends in one way, and whether it is refused, and by which fault, doesn't depend on the image
 /// that it starts from; without a fault it writes one number of pixels.
@@ -45,13 +44,4 @@ pub fn size_law()
 /// before is within the needs of all steps.
 pub fn need_law()
     ensures { NeedLaws }
-{}
-
-// stand-ins
-fn cell_law()
-    ensures { CellLaws }
-{}
-
-fn line_box_law()
-    ensures { LineBoxLaws }
 {}
