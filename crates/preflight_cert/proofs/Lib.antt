@@ -1,1 +1,7 @@
 pub mod RunLemmas
+pub mod EntryLemmas
+pub mod TextPartLemmas
+pub mod NumberTextLemmas
+pub mod WrittenLemmas
+pub mod ReadLemmas
+pub mod WorkedCertificates

@@ -12,3 +12,9 @@ pub mod Stop
 pub mod Run
 pub mod Refusal
 pub mod FileTable
+pub mod CertificateReading
+pub mod EntriesOf
+pub mod CertificateOf
+pub mod CertificateText
+pub mod TextLaws
+pub mod TextParts

@@ -1,6 +1,7 @@
-//! Laws of runs.
+//! Laws of runs, and of a certificate's text.
 
 ghost use Rattle.preflight_cert.specs.Run.{RefusedOverAnyImage, RunEndsInOneWay, WritesAreOne};
+ghost use Rattle.preflight_cert.specs.TextLaws.{TextLaws};
 
 use draw_ops::content_law;
 
@@ -13,3 +14,9 @@ pub fn run_law()
 {
     content_law();
 }
+
+/// What is written as a certificate's text is read as it was, and bytes that are read are the text of the
+/// certificate that they say, whose numbers are within their limits.
+pub fn text_law()
+    ensures { TextLaws }
+{}
