@@ -10,7 +10,7 @@ use Rattle.dc_stack.specs.SavedStates.{depth_limit}
 use Rattle.dc_stack.specs.declared.needs.Needs.{Needs}
 use Rattle.preflight_cert.specs.declared.entry.Entry.{Entry}
 
--- what a certificate says: the longest sides of a surface, the most pixels written, what is needed, and an entry for each drawing
+-- a certificate: the longest sides of a surface, the most pixels written, what is needed, and an entry for each drawing
 pub record CertificateValue : Type 0 where
   pub max_width : ℕ
   pub max_height : ℕ
@@ -66,7 +66,8 @@ entries_in (suc n) bytes = first_entry bytes ∷ entries_in n (drop entry_size b
 -- needs are within their limits
 abbrev pub are_bounded_needs : Needs → Bool
 are_bounded_needs needs =
-    nat_le needs.depth depth_limit && nat_le needs.slots slot_limit && nat_le needs.edges edge_limit && nat_le needs.pieces piece_limit
+    nat_le needs.depth depth_limit && nat_le needs.slots slot_limit
+    && nat_le needs.edges edge_limit && nat_le needs.pieces piece_limit
 
 -- the sides, the needs and the number of entries are within their limits
 abbrev pub is_bounded : List ℕ → Bool

@@ -14,8 +14,8 @@ number_text n = to_le_bytes w32 n
 -- a box: its left, top, right and bottom, each in two's complement
 abbrev pub box_text : Rect → List ℕ
 box_text box =
-    number_text (cast_unsigned w32 box.l)
-    ++ (number_text (cast_unsigned w32 box.t) ++ (number_text (cast_unsigned w32 box.r) ++ number_text (cast_unsigned w32 box.b)))
+    number_text (cast_unsigned w32 box.l) ++ (number_text (cast_unsigned w32 box.t)
+    ++ (number_text (cast_unsigned w32 box.r) ++ number_text (cast_unsigned w32 box.b)))
 
 -- an entry: the number of its record, and its box
 abbrev pub entry_text : Entry → List ℕ
@@ -24,12 +24,14 @@ entry_text entry = number_text entry.number ++ box_text entry.bounds
 -- the numbers of needs, in front of what follows
 abbrev pub needs_text : Needs → List ℕ → List ℕ
 needs_text needs behind =
-    number_text needs.depth ++ (number_text needs.slots ++ (number_text needs.edges ++ (number_text needs.pieces ++ behind)))
+    number_text needs.depth ++ (number_text needs.slots
+    ++ (number_text needs.edges ++ (number_text needs.pieces ++ behind)))
 
 -- the mark, the sides, the most pixels written, the needs and the number of entries, in front of the entries' bytes
 abbrev pub text_with : ℕ → ℕ → ℕ → Needs → ℕ → List ℕ → List ℕ
 text_with max_width max_height writes needs count entries =
-    codes "MPC1" ++ (number_text max_width ++ (number_text max_height ++ (to_le_bytes w64 writes ++ needs_text needs (number_text count ++ entries))))
+    codes "MPC1" ++ (number_text max_width ++ (number_text max_height
+    ++ (to_le_bytes w64 writes ++ needs_text needs (number_text count ++ entries))))
 
 -- the bytes of a certificate
 abbrev pub certificate_text : CertificateValue → List ℕ

@@ -34,8 +34,10 @@ pub record IsCertificate (c : CertificateValue) : Type 0 where
   pub few : length c.entries ≤ entry_limit
   pub entries : All IsEntry c.entries
 
--- what is written is read, and what is read is what was written: bytes that are read say a certificate, whose text they are
+-- what is written is read as it was; bytes that are read are the text of what they say, and that is a certificate
 pub record TextLaws : Type 0 where
   pub reads_back : (c : CertificateValue) → IsCertificate c → read_certificate (certificate_text c) ≡ Ok c
-  pub is_text : (bytes : List ℕ) (c : CertificateValue) → AreBytes bytes → read_certificate bytes ≡ Ok c → bytes ≡ certificate_text c
-  pub is_certificate : (bytes : List ℕ) (c : CertificateValue) → AreBytes bytes → read_certificate bytes ≡ Ok c → IsCertificate c
+  pub is_text :
+      (bytes : List ℕ) (c : CertificateValue) → AreBytes bytes → read_certificate bytes ≡ Ok c → bytes ≡ certificate_text c
+  pub is_certificate :
+      (bytes : List ℕ) (c : CertificateValue) → AreBytes bytes → read_certificate bytes ≡ Ok c → IsCertificate c

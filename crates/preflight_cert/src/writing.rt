@@ -2,8 +2,9 @@
 
 ghost use Rattle.std.specs.Prelude.{◌≡◌, ◌<◌, ◌^◌, ◌/◌, ◌++◌, [], IfOk, OnOk, length};
 ghost use Rattle.std.specs.Int.{to_le_bytes, w64};
-ghost use Rattle.preflight_cert.specs.CertificateText.{box_text, entry_text, needs_text, number_text, text_with};
-ghost use Rattle.preflight_cert.specs.TextParts.{bound_text, totals_text};
+ghost use Rattle.preflight_cert.specs.CertificateReading.{entry_size};
+ghost use Rattle.preflight_cert.specs.CertificateText.{box_text, entry_text, needs_text, number_text};
+ghost use Rattle.preflight_cert.specs.TextParts.{bound_text, four_text, totals_text, whole_text};
 
 use crate::certificate::MARK;
 use crate::entry::{ENTRY_SIZE, Entry};
@@ -40,8 +41,7 @@ fn put_four(
     third: u32,
     fourth: u32,
 ) -> Result<(), OutOfMemory>
-    ensures { OnOk result
-        (text.new.items ≡ text.old.items ++ (number_text first ++ (number_text second ++ (number_text third ++ number_text fourth)))) }
+    ensures { OnOk result (text.new.items ≡ text.old.items ++ four_text first second third fourth) }
 {
     put_number(text, first)?;
     put_number(text, second)?;
@@ -115,9 +115,8 @@ fn put_totals(text: &mut Vec<u8>, writes: u64, needs: Needs, count: u32) -> Resu
 /// The text of a certificate whose entries have these bytes.
 #[tactic(auto, using(crate::proofs::TextPartLemmas::parts))]
 pub(crate) fn put_text(alloc: Global, head: Head, entries: &[u8]) -> Result<Vec<u8>, OutOfMemory>
-    requires { length entries.now / 20 < 2 ^ 32 }
-    ensures { IfOk result
-        (λ text. text.items ≡ text_with head.max_width head.max_height head.writes head.needs (length entries.now / 20) entries.now) }
+    requires { length entries.now / entry_size < 2 ^ 32 }
+    ensures { IfOk result (λ text. text.items ≡ whole_text head.max_width head.max_height head.writes head.needs entries.now) }
 {
     let mut text = Vec::new(alloc);
     put_bound(&mut text, head.max_width, head.max_height)?;
