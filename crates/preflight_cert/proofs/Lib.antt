@@ -2,6 +2,6 @@ pub mod RunLemmas
 pub mod EntryLemmas
 pub mod TextPartLemmas
 pub mod NumberTextLemmas
-pub mod WrittenLemmas
-pub mod ReadLemmas
+pub mod CertificateTextLemmas
+pub mod CertificateReadingLemmas
 pub mod WorkedCertificates

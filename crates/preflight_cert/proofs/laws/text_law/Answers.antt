@@ -1,6 +1,6 @@
 -- The law, part by part.
-use Rattle.preflight_cert.proofs.ReadLemmas.{is_certificate, is_text}
-use Rattle.preflight_cert.proofs.WrittenLemmas.{reads_back}
+use Rattle.preflight_cert.proofs.CertificateReadingLemmas.{is_certificate, is_text}
+use Rattle.preflight_cert.proofs.CertificateTextLemmas.{reads_back}
 use Rattle.preflight_cert.proofs.laws.text_law.Goals as goal
 
 pub returns : goal.returns
