@@ -5,3 +5,9 @@ pub mod ShapeLemmas
 pub mod LayerLemmas
 pub mod SizeLemmas
 pub mod NeedLemmas
+pub mod EntryLemmas
+pub mod TextPartLemmas
+pub mod NumberTextLemmas
+pub mod CertificateTextLemmas
+pub mod CertificateReadingLemmas
+pub mod WorkedCertificates

@@ -20,3 +20,9 @@ pub mod Checks
 pub mod DrawingBoxLaws
 pub mod SizeLaws
 pub mod NeedLaws
+pub mod CertificateReading
+pub mod EntriesOf
+pub mod CertificateOf
+pub mod CertificateText
+pub mod TextLaws
+pub mod TextParts

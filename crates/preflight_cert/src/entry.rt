@@ -1,10 +1,87 @@
-//! The entries of a certificate.
+//! The entries of a certificate, read in place.
+
+ghost use Rattle.std.specs.Prelude.{◌≡◌, ◌+◌, ◌<◌, ◌≤◌, ◌%◌, ◌∷◌, ◌↔◌, [], length, IsNone, IsTrue, IfSome, Some, slice_get};
+ghost use Rattle.preflight_cert.specs.CertificateReading.{entry_size, first_entry};
 
 use mapping::Rect;
+use point_views::{i32_at, u32_at};
 
-/// The number of a record that draws, and a box of the plane.
+/// How many bytes an entry takes.
+pub(crate) const ENTRY_SIZE: usize = 20;
+
+/// An entry of a certificate: the number of a record that draws, and a box of the plane that has the points of its
+/// drawing, its right and bottom included.
 #[derive(Clone, Copy, Debug, PartialEq, Eq)]
 pub struct Entry {
     pub number: u32,
     pub bounds: Rect,
+}
+
+/// Entries, one after another in a certificate's bytes.
+///
+/// # Guarantees
+///
+/// - `bytes` holds the entries and nothing else, so two views are equal exactly where their bytes are.
+#[derive(Clone, Copy, Debug, PartialEq, Eq)]
+pub struct Entries<'a> {
+    /// The entries' bytes.
+    pub bytes: &'a [u8],
+    pub ghost whole: { length bytes.now % entry_size ≡ 0 },
+}
+
+#[tactic(auto, using(crate::proofs::EntryLemmas::entries))]
+impl<'a> Entries<'a> {
+    ghost use Rattle.preflight_cert.specs.EntriesOf.{entries_of};
+
+    /// How many entries.
+    pub fn len(self) -> usize
+        ensures { result ≡ length (entries_of self.entry) }
+    {
+        self.bytes.len() / ENTRY_SIZE
+    }
+
+    /// Whether there is no entry.
+    pub fn is_empty(self) -> bool
+        ensures { IsTrue result ↔ (entries_of self.entry ≡ []) }
+    {
+        self.len() == 0
+    }
+
+    /// The entry at an index.
+    pub(crate) fn get(self, i: usize) -> Entry
+        requires { i < length (entries_of self) }
+        ensures { slice_get (entries_of self.entry) i ≡ Some result }
+    {
+        first_entry(&self.bytes[ENTRY_SIZE * i..])
+    }
+
+    /// The first entry, and the entries after it: none exactly where there is no entry.
+    pub fn split_first(self) -> Option<(Entry, Entries<'a>)>
+        ensures none { IsNone result ↔ (entries_of self.entry ≡ []) }
+        ensures entries { IfSome result (λ split. entries_of self.entry ≡ split.0 ∷ entries_of split.1) }
+    {
+        if self.bytes.len() < ENTRY_SIZE {
+            return None;
+        }
+        let rest = Entries {
+            bytes: &self.bytes[ENTRY_SIZE..],
+        };
+        Some((first_entry(self.bytes), rest))
+    }
+}
+
+/// The entry in the first bytes.
+fn first_entry(bytes: &[u8]) -> Entry
+    requires { entry_size ≤ length bytes.now }
+    ensures { result ≡ first_entry bytes.now }
+{
+    Entry {
+        number: u32_at(bytes, 0),
+        bounds: Rect {
+            l: i32_at(bytes, 4),
+            t: i32_at(bytes, 8),
+            r: i32_at(bytes, 12),
+            b: i32_at(bytes, 16),
+        },
+    }
 }

@@ -1,9 +1,10 @@
-//! Laws of runs, of what drawings paint, and of needs.
+//! Laws of runs, of what drawings paint, of sizes and needs, and of a certificate's text.
 
 ghost use Rattle.preflight_cert.specs.DrawingBoxLaws.{DrawingBoxLaws};
 ghost use Rattle.preflight_cert.specs.NeedLaws.{NeedLaws};
 ghost use Rattle.preflight_cert.specs.Run.{RefusedOverAnyImage, RunEndsInOneWay, WritesAreOne};
 ghost use Rattle.preflight_cert.specs.SizeLaws.{SizeLaws};
+ghost use Rattle.preflight_cert.specs.TextLaws.{TextLaws};
 
 use dc_stack::fault_law;
 use draw_ops::content_law;
@@ -44,4 +45,10 @@ pub fn size_law()
 /// before is within the needs of all steps.
 pub fn need_law()
     ensures { NeedLaws }
+{}
+
+/// What is written as a certificate's text is read as it was, and bytes that are read are the text of the
+/// certificate that they say, whose numbers are within their limits.
+pub fn text_law()
+    ensures { TextLaws }
 {}

@@ -1,4 +1,4 @@
-//! What a drawing paints, what the records of a file make of an image, and why a file is refused.
+//! What a drawing paints, what the records of a file make of an image, why a file is refused, and certificates.
 //!
 //! # What is promised
 //!
@@ -9,14 +9,21 @@
 //! - Records without a fault at one size have none at a smaller one, and their drawings write there no
 //!   more pixels than the budget of entries that cover them (`size_law`).
 //! - Room for an operation's needs is enough for it (`need_law`).
+//! - A certificate's bytes are read whole or refused by their first fault (`Certificate::read`), and its entries are
+//!   those of the bytes, by their index and from the front (`Certificate::entry`, `Entries`).
+//! - Reading gives back what was written, and bytes that are read are the text of what they say (`text_law`).
 #![tactic(auto)]
 
+mod certificate;
+mod certificate_reading;
 mod entry;
 mod file_table;
 mod laws;
 mod refusal;
+mod writing;
 
-pub use entry::Entry;
+pub use certificate::Certificate;
+pub use entry::{Entries, Entry};
 pub use file_table::{FileTable, full_slots};
-pub use laws::{drawing_box_law, need_law, run_law, size_law};
+pub use laws::{drawing_box_law, need_law, run_law, size_law, text_law};
 pub use refusal::Refusal;

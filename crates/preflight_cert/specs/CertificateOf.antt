@@ -1,0 +1,14 @@
+-- The value of a certificate of the code.
+use Rattle.preflight_cert.specs.CertificateReading.{CertificateValue}
+use Rattle.preflight_cert.specs.EntriesOf.{entries_of}
+use Rattle.preflight_cert.specs.declared.certificate.Certificate.{Certificate}
+
+-- its parts, each by its value
+abbrev pub certificate_of : Certificate → CertificateValue
+certificate_of c = record {
+  max_width = c.max_width;
+  max_height = c.max_height;
+  writes = c.writes;
+  needs = c.needs;
+  entries = entries_of c.entries;
+}

@@ -1,0 +1,43 @@
+-- The law of a certificate's text: writing and reading undo one another.
+use Rattle.std.specs.Prelude.{FitsSigned, ◌≡◌, ◌<◌, ◌≤◌, ◌^◌, ℕ, List, length, Ok}
+use Rattle.std.specs.Int.{w32}
+use Rattle.std.specs.List.{All}
+use Rattle.mapping.specs.Limits.{IsSurfaceSide}
+use Rattle.dc_stack.specs.Drawing.{edge_limit}
+use Rattle.dc_stack.specs.Path.{piece_limit}
+use Rattle.dc_stack.specs.SavedStates.{depth_limit}
+use Rattle.preflight_cert.specs.CertificateReading.{CertificateValue, entry_limit, read_certificate, slot_limit}
+use Rattle.preflight_cert.specs.CertificateText.{certificate_text}
+use Rattle.preflight_cert.specs.declared.entry.Entry.{Entry}
+
+-- the numbers are bytes
+abbrev pub AreBytes : List ℕ → Type 0
+AreBytes bytes = All (λ byte. byte < 2 ^ 8) bytes
+
+-- an entry's numbers are of 32 bits
+pub record IsEntry (entry : Entry) : Type 0 where
+  pub number : entry.number < 2 ^ 32
+  pub left : FitsSigned w32 entry.bounds.l
+  pub top : FitsSigned w32 entry.bounds.t
+  pub right : FitsSigned w32 entry.bounds.r
+  pub bottom : FitsSigned w32 entry.bounds.b
+
+-- a certificate's numbers are within their limits
+pub record IsCertificate (c : CertificateValue) : Type 0 where
+  pub wide : IsSurfaceSide c.max_width
+  pub high : IsSurfaceSide c.max_height
+  pub writes : c.writes < 2 ^ 64
+  pub depth : c.needs.depth ≤ depth_limit
+  pub slots : c.needs.slots ≤ slot_limit
+  pub edges : c.needs.edges ≤ edge_limit
+  pub pieces : c.needs.pieces ≤ piece_limit
+  pub few : length c.entries ≤ entry_limit
+  pub entries : All IsEntry c.entries
+
+-- what is written is read as it was; bytes that are read are the text of what they say, and that is a certificate
+pub record TextLaws : Type 0 where
+  pub reads_back : (c : CertificateValue) → IsCertificate c → read_certificate (certificate_text c) ≡ Ok c
+  pub is_text :
+      (bytes : List ℕ) (c : CertificateValue) → AreBytes bytes → read_certificate bytes ≡ Ok c → bytes ≡ certificate_text c
+  pub is_certificate :
+      (bytes : List ℕ) (c : CertificateValue) → AreBytes bytes → read_certificate bytes ≡ Ok c → IsCertificate c

@@ -1,0 +1,71 @@
+//! Certificates, read in place.
+
+ghost use Rattle.std.specs.Prelude.{◌≡◌, ◌<◌, length, Some, slice_get};
+ghost use Rattle.mapping.specs.Limits.{IsSurfaceSide};
+
+use crate::certificate_reading::{HEAD_SIZE, is_bounded, read_whole};
+use crate::entry::{Entries, Entry};
+use dc_stack::Needs;
+use draw_ops::Fault;
+use point_views::u32_at;
+
+/// The first four bytes, `MPC1`, as a number.
+pub(crate) const MARK: u32 = 0x3143_504d;
+
+/// A certificate of a file: for surfaces of at most these sides, how many pixels playing it writes at most, what it
+/// needs room for, and an entry for each of its drawings.
+///
+/// # Guarantees
+///
+/// - The sides are from 1 to 8,192.
+#[derive(Clone, Copy, Debug, PartialEq, Eq)]
+pub struct Certificate<'a> {
+    pub max_width: u32,
+    pub max_height: u32,
+    pub writes: u64,
+    pub needs: Needs,
+    pub entries: Entries<'a>,
+    pub ghost wide: { IsSurfaceSide max_width },
+    pub ghost high: { IsSurfaceSide max_height },
+}
+
+impl<'a> Certificate<'a> {
+    ghost use Rattle.draw_ops.specs.Results.{result_map};
+    ghost use Rattle.preflight_cert.specs.CertificateOf.{certificate_of};
+    ghost use Rattle.preflight_cert.specs.CertificateReading.{read_certificate};
+    ghost use Rattle.preflight_cert.specs.EntriesOf.{entries_of};
+
+    /// Reads a certificate, or tells the first fault of its bytes: `NotCertificate` where they don't begin with the
+    /// mark, `ShortCertificate` where numbers are missing, `BadBound` where one is above its limit or a side is 0,
+    /// `ShortCertificate` where entries are missing, and `TrailingBytes` where bytes stand behind them.
+    #[tactic(auto, unfolding(crate::specs::CertificateReading::mark))]
+    pub fn read(bytes: &'a [u8]) -> Result<Certificate<'a>, Fault>
+        ensures { read_certificate bytes.now ≡ result_map certificate_of result }
+    {
+        if bytes.len() < 4 || u32_at(bytes, 0) != MARK {
+            return Err(Fault::NotCertificate);
+        }
+        if bytes.len() < HEAD_SIZE {
+            return Err(Fault::ShortCertificate);
+        }
+        if !is_bounded(bytes) {
+            return Err(Fault::BadBound);
+        }
+        read_whole(bytes)
+    }
+
+    /// How many entries there are.
+    pub fn len(self) -> usize
+        ensures { result ≡ length (entries_of self.entry.entries) }
+    {
+        self.entries.len()
+    }
+
+    /// The entry at an index.
+    pub fn entry(self, i: usize) -> Entry
+        requires { i < length (entries_of self.entries) }
+        ensures { slice_get (entries_of self.entry.entries) i ≡ Some result }
+    {
+        self.entries.get(i)
+    }
+}

@@ -1,0 +1,130 @@
+//! The parts of a certificate's bytes.
+
+ghost use Rattle.std.specs.Prelude.{◌≡◌, ◌≤◌, ◌+◌, length, IsTrue, nat_le};
+ghost use Rattle.mapping.specs.Limits.{IsSurfaceSide, is_surface_side};
+ghost use Rattle.point_views.specs.Numbers.{number_at};
+ghost use Rattle.draw_ops.specs.Results.{result_map};
+ghost use Rattle.dc_stack.specs.Drawing.{edge_limit};
+ghost use Rattle.dc_stack.specs.Path.{piece_limit};
+ghost use Rattle.preflight_cert.specs.CertificateOf.{certificate_of};
+ghost use Rattle.preflight_cert.specs.CertificateReading.{are_bounded_needs, count_in, entry_limit, head_size, is_bounded, needs_in, read_whole};
+
+use crate::certificate::Certificate;
+use crate::entry::{ENTRY_SIZE, Entries};
+use byteorder::{ByteOrder, LittleEndian};
+use dc_stack::{MAX_PIECES, MAX_SAVED_STATES, Needs};
+use draw_ops::Fault;
+use mapping::MAX_SURFACE_SIDE;
+use point_views::u32_at;
+
+/// How many bytes stand in front of the entries.
+pub(crate) const HEAD_SIZE: usize = 40;
+
+/// The most slots of objects that a certificate may tell.
+const MAX_NEEDED_SLOTS: u32 = 65_535;
+
+/// The most points of one drawing that it may tell.
+const MAX_NEEDED_EDGES: u32 = 1_048_576;
+
+/// The most entries that it may have.
+const MAX_ENTRIES: u32 = 1_048_576;
+
+/// Whether the numbers in front of the entries are within their limits.
+pub(crate) fn is_bounded(bytes: &[u8]) -> bool
+    requires { head_size ≤ length bytes.now }
+    ensures test { result ≡ is_bounded bytes.now }
+    ensures wide { IsTrue result → IsSurfaceSide (number_at bytes.now 4 4) }
+    ensures high { IsTrue result → IsSurfaceSide (number_at bytes.now 8 4) }
+{
+    is_side(u32_at(bytes, 4))
+        && is_side(u32_at(bytes, 8))
+        && are_bounded_needs(needs_in(bytes))
+        && has_few_entries(bytes)
+}
+
+/// Whether needs are within their limits.
+fn are_bounded_needs(needs: Needs) -> bool
+    ensures { result ≡ are_bounded_needs needs }
+{
+    needs.depth as usize <= MAX_SAVED_STATES
+        && needs.slots <= MAX_NEEDED_SLOTS
+        && are_few_edges(needs.edges)
+        && are_few_pieces(needs.pieces)
+}
+
+/// Whether so many points of one drawing are.
+fn are_few_edges(edges: u32) -> bool
+    ensures { result ≡ nat_le edges edge_limit }
+{
+    edges <= MAX_NEEDED_EDGES
+}
+
+/// Whether so many pieces of a path are.
+fn are_few_pieces(pieces: u32) -> bool
+    ensures { result ≡ nat_le pieces piece_limit }
+{
+    pieces as usize <= MAX_PIECES
+}
+
+/// Whether the number of entries is.
+#[tactic(auto, unfolding(crate::specs::CertificateReading::entry_limit))]
+fn has_few_entries(bytes: &[u8]) -> bool
+    requires { head_size ≤ length bytes.now }
+    ensures { result ≡ nat_le (count_in bytes.now) entry_limit }
+{
+    u32_at(bytes, 36) <= MAX_ENTRIES
+}
+
+/// Whether a surface may have this side.
+pub(crate) fn is_side(side: u32) -> bool
+    ensures test { result ≡ is_surface_side side }
+    ensures fact { IsTrue result → IsSurfaceSide side }
+{
+    1 <= side && side <= MAX_SURFACE_SIDE
+}
+
+/// What the bytes of a certificate say, if they end where the entries do.
+pub(crate) fn read_whole(bytes: &[u8]) -> Result<Certificate<'_>, Fault>
+    requires head { head_size ≤ length bytes.now }
+    requires wide { IsSurfaceSide (number_at bytes.now 4 4) }
+    requires high { IsSurfaceSide (number_at bytes.now 8 4) }
+    ensures { read_whole bytes.now ≡ result_map certificate_of result }
+{
+    let end = HEAD_SIZE + ENTRY_SIZE * u32_at(bytes, 36) as usize;
+    if bytes.len() < end {
+        return Err(Fault::ShortCertificate);
+    }
+    if end < bytes.len() {
+        return Err(Fault::TrailingBytes);
+    }
+    Ok(Certificate {
+        max_width: u32_at(bytes, 4),
+        max_height: u32_at(bytes, 8),
+        writes: u64_at(bytes, 12),
+        needs: needs_in(bytes),
+        entries: Entries {
+            bytes: &bytes[HEAD_SIZE..],
+        },
+    })
+}
+
+/// What is needed.
+fn needs_in(bytes: &[u8]) -> Needs
+    requires { head_size ≤ length bytes.now }
+    ensures { result ≡ needs_in bytes.now }
+{
+    Needs {
+        depth: u32_at(bytes, 20),
+        slots: u32_at(bytes, 24),
+        edges: u32_at(bytes, 28),
+        pieces: u32_at(bytes, 32),
+    }
+}
+
+/// The number of eight bytes at a place.
+fn u64_at(bytes: &[u8], place: usize) -> u64
+    requires { place + 8 ≤ length bytes.now }
+    ensures { result ≡ number_at bytes.now place 8 }
+{
+    LittleEndian::read_u64(&bytes[place..])
+}
