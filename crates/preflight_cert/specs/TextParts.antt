@@ -18,5 +18,6 @@ abbrev pub totals_text : ℕ → Needs → ℕ → List ℕ
 totals_text writes needs count = to_le_bytes w64 writes ++ (needs_text needs [] ++ number_text count)
 
 -- the whole, whose entries have these bytes
-abbrev pub whole_text : ℕ → ℕ → ℕ → Needs → List ℕ → List ℕ
-whole_text max_width max_height writes needs entries = text_with max_width max_height writes needs (length entries / entry_size) entries
+abbrev pub full_text : ℕ → ℕ → ℕ → Needs → List ℕ → List ℕ
+full_text max_width max_height writes needs entries =
+    text_with max_width max_height writes needs (length entries / entry_size) entries

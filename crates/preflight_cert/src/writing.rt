@@ -4,7 +4,7 @@ ghost use Rattle.std.specs.Prelude.{◌≡◌, ◌<◌, ◌^◌, ◌/◌, ◌++�
 ghost use Rattle.std.specs.Int.{to_le_bytes, w64};
 ghost use Rattle.preflight_cert.specs.CertificateReading.{entry_size};
 ghost use Rattle.preflight_cert.specs.CertificateText.{box_text, entry_text, needs_text, number_text};
-ghost use Rattle.preflight_cert.specs.TextParts.{bound_text, four_text, totals_text, whole_text};
+ghost use Rattle.preflight_cert.specs.TextParts.{bound_text, four_text, full_text, totals_text};
 
 use crate::certificate::MARK;
 use crate::entry::{ENTRY_SIZE, Entry};
@@ -116,7 +116,7 @@ fn put_totals(text: &mut Vec<u8>, writes: u64, needs: Needs, count: u32) -> Resu
 #[tactic(auto, using(crate::proofs::TextPartLemmas::parts))]
 pub(crate) fn put_text(alloc: Global, head: Head, entries: &[u8]) -> Result<Vec<u8>, OutOfMemory>
     requires { length entries.now / entry_size < 2 ^ 32 }
-    ensures { IfOk result (λ text. text.items ≡ whole_text head.max_width head.max_height head.writes head.needs entries.now) }
+    ensures { IfOk result (λ v. v.items ≡ full_text head.max_width head.max_height head.writes head.needs entries.now) }
 {
     let mut text = Vec::new(alloc);
     put_bound(&mut text, head.max_width, head.max_height)?;
