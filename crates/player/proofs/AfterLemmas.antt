@@ -16,7 +16,8 @@ use Rattle.dc_stack.specs.declared.needs.Needs.{Needs}
 use Rattle.meta_headers.specs.Opening.{HasContentOf, framing_of, meaning_of}
 use Rattle.meta_headers.specs.declared.opened.FileFormat.{FileFormat}
 use Rattle.mapping.specs.Surface.{Surface}
-use Rattle.player.specs.After.{AreEnoughForRecords, AreEnoughLines, AreLinesOfRecords, HasLines, needs_after}
+use Rattle.player.specs.After.{AreEnoughForRecords, AreEnoughLines, AreLinesOfRecords, HasLines}
+use Rattle.preflight_cert.specs.After.{needs_after}
 
 -- an operation needs as many lines as its drawing has
 needed_edges : (operation : Operation) (state : State) → drawing_edges (drawing_of operation state) ≡ (needs_of operation state).edges

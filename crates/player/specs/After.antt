@@ -1,24 +1,11 @@
--- What steps leave behind them: the state, and the greatest needs; and room for what they draw.
-use Rattle.std.specs.Prelude.{◌≡◌, ◌⊎◌, ◌≤◌, ℕ, List, [], ◌∷◌}
-use Rattle.draw_ops.specs.Content.{Content, StepValue}
+-- Room for the lines of what steps draw.
+use Rattle.std.specs.Prelude.{◌≡◌, ◌⊎◌, ◌≤◌, ℕ, List}
+use Rattle.draw_ops.specs.Content.{Content}
 use Rattle.dc_stack.specs.Drawing.{edge_limit}
 use Rattle.dc_stack.specs.MachineState.{MachineState}
-use Rattle.dc_stack.specs.Needs.{greater_needs, needs_of}
-use Rattle.dc_stack.specs.Next.{next}
-use Rattle.dc_stack.specs.State.{State}
-use Rattle.dc_stack.specs.declared.needs.Needs.{Needs}
 use Rattle.meta_headers.specs.Opening.{HasContentOf}
 use Rattle.meta_headers.specs.declared.opened.FileFormat.{FileFormat}
-
--- the state after the steps
-abbrev pub state_after : List StepValue → State → State
-state_after [] state = state
-state_after (step ∷ steps) state = state_after steps (next step.operation state)
-
--- the greatest needs of the steps, and of what came before them
-abbrev pub needs_after : List StepValue → State → Needs → Needs
-needs_after [] state needs = needs
-needs_after (step ∷ steps) state needs = needs_after steps (next step.operation state) (greater_needs needs (needs_of step.operation state))
+use Rattle.preflight_cert.specs.After.{needs_after}
 
 -- so many lines are enough for each drawing of the steps that are left
 abbrev pub AreEnoughLines : ℕ → Content → MachineState → Type 0

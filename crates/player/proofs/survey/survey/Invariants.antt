@@ -1,7 +1,7 @@
 use Rattle.std.proofs.Common.{◌≡◌, ◌+◌, ◌≤◌, length}
 use Rattle.draw_ops.specs.Records.{record_limit}
 use Rattle.dc_stack.specs.MachineState.{GoesOn, HasFullRoom}
-use Rattle.player.specs.After.{needs_after, state_after}
+use Rattle.preflight_cert.specs.After.{needs_after, state_after}
 use Rattle.preflight_cert.specs.Stop.{stopped}
 use Rattle.player.proofs.survey.survey.Given as goal
 
