@@ -19,7 +19,8 @@ from typing import NamedTuple
 import edits
 import run
 
-PROVED = re.compile(r"rt: (\w+) proved")
+# A crate is proved by this run, or an earlier one proved the same files on this machine.
+PROVED = re.compile(r"rt: (\w+) (?:proved|is kept: .*)")
 
 # The memory that `rt ci` may take, in bytes.
 CI_MEMORY = 10_000_000_000

@@ -5,10 +5,10 @@ ghost use Rattle.draw_ops.specs.Fault.{IsInRecord};
 ghost use Rattle.dc_stack.specs.MachineState.{GoesOn, HasFullRoom};
 ghost use Rattle.player.specs.Advances.{Advances};
 
-use preflight_cert::Refusal;
 use dc_stack::{Draw, Machine, fault_law, room_law};
 use draw_ops::OpSource;
 use object_tables::Table;
+use preflight_cert::Refusal;
 
 /// Plays the next step that is left of a source, and tells what it draws, if it draws; none where no step is left. The
 /// refusal is the first fault with its record, so many records being before what is left.

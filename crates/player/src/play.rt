@@ -13,9 +13,7 @@ ghost use Rattle.preflight_cert.specs.Run.{Refused, Run, Writes, shown, white};
 
 use crate::advance::advance;
 use crate::drawing::draw;
-use preflight_cert::FileTable;
 use crate::ink_room::InkRoom;
-use preflight_cert::Refusal;
 use crate::room::{reserve_all, rows_for};
 use crate::survey::count_lines;
 use canvas::Canvas;
@@ -24,6 +22,7 @@ use draw_ops::{Fault, OpSource};
 use mapping::{Colour, Place};
 use meta_headers::{Opened, open_file};
 use object_tables::Table;
+use preflight_cert::{FileTable, Refusal};
 use span_fill::{OutOfMemory, RowBuf};
 use std::alloc::Global;
 

@@ -5,9 +5,9 @@ ghost use Rattle.dc_stack.specs.Drawing.{edge_limit};
 ghost use Rattle.dc_stack.specs.MachineState.{GoesOn, HasFullRoom, IsUnchanged};
 ghost use Rattle.dc_stack.specs.State.{table_kind_of};
 
-use preflight_cert::full_slots;
 use dc_stack::{MAX_PIECES, MAX_SAVED_STATES, Machine};
 use object_tables::Table;
+use preflight_cert::full_slots;
 use span_fill::{OutOfMemory, RowBuf};
 use std::alloc::Global;
 

@@ -11,11 +11,11 @@ ghost use Rattle.player.specs.After.{AreLinesOfRecords};
 ghost use Rattle.player.specs.Plays.{RunsThrough, StopsBy, StopsRecordsBy};
 
 use crate::advance::advance;
-use preflight_cert::Refusal;
 use dc_stack::Machine;
 use draw_ops::{OpSource, content_law};
 use meta_headers::Opened;
 use object_tables::Table;
+use preflight_cert::Refusal;
 
 /// How many lines a drawing of a file's records has at most, or their first fault. Nothing is drawn, and
 /// the machine is at the start of the file again.

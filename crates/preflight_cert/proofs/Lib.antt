@@ -11,3 +11,6 @@ pub mod NumberTextLemmas
 pub mod CertificateTextLemmas
 pub mod CertificateReadingLemmas
 pub mod WorkedCertificates
+pub mod BudgetLemmas
+pub mod CoverLemmas
+pub mod AnswerLemmas

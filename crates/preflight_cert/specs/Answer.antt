@@ -1,5 +1,5 @@
 -- What a check answers, and what an accepted certificate promises.
-use Rattle.std.specs.Prelude.{◌≡◌, ◌≤◌, ◌↔◌, ℕ, Bool, ◌&&◌, nat_le, if◌then◌else◌, List, Option, Some, None, Result, Ok, Err}
+use Rattle.std.specs.Prelude.{◌≡◌, ◌≤◌, ◌↔◌, ℕ, Bool, ◌&&◌, nat_le, if◌then◌else◌, List, length, Option, Some, None, Result, Ok, Err}
 use Rattle.mapping.specs.Image.{Image}
 use Rattle.mapping.specs.PlacingLaws.{ShowsFrame}
 use Rattle.mapping.specs.Surface.{Surface}
@@ -11,7 +11,7 @@ use Rattle.meta_headers.specs.Headers.{OpenedValue}
 use Rattle.meta_headers.specs.Opening.{HasContentOf, opened, record_bytes, surface_for}
 use Rattle.dc_stack.specs.State.{start_of}
 use Rattle.dc_stack.specs.declared.needs.Needs.{Needs}
-use Rattle.preflight_cert.specs.After.{file_needs}
+use Rattle.preflight_cert.specs.After.{file_needs, file_notes}
 use Rattle.preflight_cert.specs.CertificateReading.{CertificateValue, read_certificate}
 use Rattle.preflight_cert.specs.Checked.{checked}
 use Rattle.preflight_cert.specs.Drawings.{drawings_of}
@@ -83,9 +83,14 @@ AnswersOpened (Ok o) file certificate answer = AnswersRead (read_certificate cer
 abbrev pub IsAnswer : List ℕ → List ℕ → Answer → Type 0
 IsAnswer file certificate answer = AnswersOpened (opened file) file certificate answer
 
--- the certificate fits whatever content records of an opened file have
+-- the certificate is accepted for whatever content records of an opened file have
 abbrev pub IsCleared : OpenedValue → List ℕ → CertificateValue → Type 0
-IsCleared o records c = (content : Content) → HasContentOf o.format records content → Fits c o content
+IsCleared o records c = (content : Content) → HasContentOf o.format records content → accepted ≡ answer_to content o c
+
+-- so many records do an opened file's have, whatever content that is, and so often is each kind noted of the file
+pub record CountsRecords (o : OpenedValue) (records : List ℕ) (count : ℕ) (noted : List ℕ) : Type 0 where
+  pub all : (content : Content) → HasContentOf o.format records content → count ≡ length content.steps
+  pub notes : (content : Content) → HasContentOf o.format records content → noted ≡ file_notes content o
 
 -- a run shows some image
 pub record Shows (file : List ℕ) (width height : ℕ) (image : Image) : Type 0 where

@@ -33,7 +33,7 @@ budget_of (one ∷ later) (entry ∷ entries) s = layers_budget (layers_of one.d
 
 -- a box has a point of the plane, its right and bottom included, as a test
 abbrev pub has_point : Rect → Point → Bool
-has_point box point = int_le box.l point.x && int_le box.t point.y && int_le point.x box.r && int_le point.y box.b
+has_point box point = (int_le box.l point.x && int_le point.x box.r) && (int_le box.t point.y && int_le point.y box.b)
 
 -- it has each of some points
 abbrev pub covers : Rect → List Point → Bool

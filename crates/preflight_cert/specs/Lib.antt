@@ -26,3 +26,5 @@ pub mod CertificateOf
 pub mod CertificateText
 pub mod TextLaws
 pub mod TextParts
+pub mod Corners
+pub mod Answer

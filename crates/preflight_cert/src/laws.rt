@@ -1,5 +1,6 @@
 //! Laws of runs, of what drawings paint, of sizes and needs, and of a certificate's text.
 
+ghost use Rattle.preflight_cert.specs.Answer.{AnswerLaws};
 ghost use Rattle.preflight_cert.specs.DrawingBoxLaws.{DrawingBoxLaws};
 ghost use Rattle.preflight_cert.specs.NeedLaws.{NeedLaws};
 ghost use Rattle.preflight_cert.specs.Run.{RefusedOverAnyImage, RunEndsInOneWay, WritesAreOne};
@@ -39,6 +40,15 @@ pub fn size_law()
 {
     drawing_box_law();
     fault_law();
+}
+
+/// There is one answer to a file and a certificate; it is accepted exactly where the certificate fits the file's records, and then
+/// the file is sound within the certificate's bound and writes.
+pub fn answer_law()
+    ensures { AnswerLaws }
+{
+    content_law();
+    size_law();
 }
 
 /// The law of needs: an operation for whose needs there is room wants no more, and what was needed

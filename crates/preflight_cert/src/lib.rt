@@ -11,19 +11,25 @@
 //! - Room for an operation's needs is enough for it (`need_law`).
 //! - A certificate's bytes are read whole or refused by their first fault (`Certificate::read`), and its entries are
 //!   those of the bytes, by their index and from the front (`Certificate::entry`, `Entries`).
+//! - There is one answer to a file and a certificate. It is accepted exactly where the certificate fits the file's records, and then the
+//!   file is sound within the certificate's bound and writes (`answer_law`).
 //! - Reading gives back what was written, and bytes that are read are the text of what they say (`text_law`).
 #![tactic(auto)]
 
+mod budget;
 mod certificate;
 mod certificate_reading;
+mod covering;
 mod entry;
 mod file_table;
 mod laws;
+mod layer_count;
 mod refusal;
+mod walk;
 mod writing;
 
 pub use certificate::Certificate;
 pub use entry::{Entries, Entry};
 pub use file_table::{FileTable, full_slots};
-pub use laws::{drawing_box_law, need_law, run_law, size_law, text_law};
+pub use laws::{answer_law, drawing_box_law, need_law, run_law, size_law, text_law};
 pub use refusal::Refusal;

@@ -1,0 +1,250 @@
+-- There is one answer, it is 'accepted' where the certificate fits, and what is accepted is sound.
+use Rattle.std.proofs.Common.{◌≡◌, ℕ, suc, ◌≤◌, Bool, true, false, ◌&&◌, ◌==◌, cond, List, [], ◌∷◌, Option, Some, None, Result, Ok, Err, refl, ap, sym, ◌∙◌, arith}
+use Rattle.std.specs.Prelude.{nat_le}
+use Rattle.std.specs.Option.{option_or}
+use Rattle.std.proofs.lemmas.Bool.{and_from, and_parts, eq-eqb, eqb-true, le-leb, leb-true}
+use Rattle.mapping.specs.Image.{Image}
+use Rattle.mapping.specs.PlacingLaws.{IsNoLarger, ShowsFrame}
+use Rattle.mapping.specs.Surface.{Surface}
+use Rattle.draw_ops.specs.Content.{Content, StepValue}
+use Rattle.draw_ops.specs.ExactlyOne.{ExactlyOne}
+use Rattle.draw_ops.specs.RecordContent.{ContentIsOne}
+use Rattle.draw_ops.specs.declared.fault.Fault.{Fault}
+use Rattle.draw_ops.specs.declared.fault.Fault.TheVariants.{BoxTooSmall, BudgetTooSmall, NeedTooSmall, WrongEntry}
+use Rattle.meta_headers.specs.Headers.{OpenedValue}
+use Rattle.meta_headers.specs.Opening.{HasContentOf, framing_of, meaning_of, opened, record_bytes, surface_for}
+use Rattle.meta_headers.specs.declared.opened.FileFormat.{FileFormat}
+use Rattle.dc_stack.specs.Drawing.{Drawing, drawing_of, drawing_points}
+use Rattle.dc_stack.specs.Next.{next}
+use Rattle.dc_stack.specs.OperationFault.{fault_of}
+use Rattle.dc_stack.specs.State.{State, start_of}
+use Rattle.dc_stack.specs.declared.needs.Needs.{Needs}
+use Rattle.preflight_cert.specs.After.{file_needs}
+use Rattle.preflight_cert.specs.Answer.{Answer, AnswerLaws, AnswersOpened, AnswersRead, Fits, IsAnswer, RecordsAnswer, Shows, Sound, accepted, answer_from, answer_to, are_within, bound_of, file_budget, refuses, total_fault}
+use Rattle.preflight_cert.specs.Apply.{image_after}
+use Rattle.preflight_cert.specs.CertificateReading.{CertificateValue, read_certificate}
+use Rattle.preflight_cert.specs.Checked.{checked, checked_end}
+use Rattle.preflight_cert.specs.Drawings.{NumberedDrawing, drawing_then, drawings_of}
+use Rattle.preflight_cert.specs.Entries.{AreCovered, Covers, covers, entries_behind, entry_fault}
+use Rattle.preflight_cert.specs.NeedLaws.{AreWithin}
+use Rattle.preflight_cert.specs.Run.{IsFileContent, OpenedShows, OpenedStops, OpenedWrites, RefusedIfOpened, ShowsIfOpened, WritesIfOpened}
+use Rattle.preflight_cert.specs.SizeLaws.{SizeLaws}
+use Rattle.preflight_cert.specs.Stop.{Stop, stop_at, stop_of, stopped, stopped_or}
+use Rattle.preflight_cert.specs.Writes.{writes_after}
+use Rattle.preflight_cert.specs.declared.entry.Entry.{Entry}
+use Rattle.preflight_cert.proofs.CoverLemmas.{points_in, points_of}
+
+-- no stop here, and none later
+none_here : (number : ℕ) (fault : Option Fault) (later : Option Stop) → stopped_or number fault later ≡ None → fault ≡ None
+none_here number None later h = refl
+none_here number (Some fault) later h = absurd (cc)
+
+none_later : (number : ℕ) (fault : Option Fault) (later : Option Stop) → stopped_or number fault later ≡ None → later ≡ None
+none_later number None later h = h
+none_later number (Some fault) later h = absurd (cc)
+
+none_first : (first second : Option Fault) → option_or first second ≡ None → first ≡ None
+none_first None second h = refl
+none_first (Some fault) second h = absurd (cc)
+
+none_second : (first second : Option Fault) → option_or first second ≡ None → second ≡ None
+none_second None second h = h
+none_second (Some fault) second h = absurd (cc)
+
+none_at_end : (fault : Option Fault) (before : ℕ) (entries : List Entry) → checked_end fault before entries ≡ None → fault ≡ None
+none_at_end None before entries h = refl
+none_at_end (Some fault) before entries h = absurd (cc)
+
+covered_end : (fault : Option Fault) (before : ℕ) (entries : List Entry) → checked_end fault before entries ≡ None → AreCovered [] entries
+covered_end None before [] h = tt
+covered_end None before (entry ∷ entries) h = absurd (cc)
+covered_end (Some fault) before entries h = absurd (cc)
+
+-- an entry that is in order covers its drawing, and the other way round
+boxed : (number : ℕ) (drawing : Drawing) (entry : Entry) (test : Bool) → covers entry.bounds (drawing_points drawing) ≡ test → entry.number ≡ number
+    → cond test None (Some BoxTooSmall) ≡ None → Covers entry (record { number = number; drawing = drawing })
+boxed number drawing entry true t same h = record { number = same; box = points_in entry.bounds (drawing_points drawing) t }
+boxed number drawing entry false t same h = absurd (cc)
+
+numbered : (number : ℕ) (drawing : Drawing) (entry : Entry) (test : Bool) → (entry.number == number) ≡ test
+    → cond test (cond (covers entry.bounds (drawing_points drawing)) None (Some BoxTooSmall)) (Some WrongEntry) ≡ None
+    → Covers entry (record { number = number; drawing = drawing })
+numbered number drawing entry true t h = boxed number drawing entry (covers entry.bounds (drawing_points drawing)) refl (eqb-true _ _ t) h
+numbered number drawing entry false t h = absurd (cc)
+
+covered_then : (number : ℕ) (drawing : Option Drawing) (later : List NumberedDrawing) (entries : List Entry) → entry_fault number drawing entries ≡ None
+    → AreCovered later (entries_behind drawing entries) → AreCovered (drawing_then number drawing later) entries
+covered_then number None later entries h rest = rest
+covered_then number (Some drawing) later [] h rest = absurd (cc)
+covered_then number (Some drawing) later (entry ∷ entries) h rest = (numbered number drawing entry (entry.number == number) refl h, rest)
+
+faultless : (number : ℕ) (drawing : Option Drawing) (later : List NumberedDrawing) (entries : List Entry) → AreCovered (drawing_then number drawing later) entries → entry_fault number drawing entries ≡ None
+faultless number None later entries h = refl
+faultless number (Some drawing) later [] h = absurd h
+faultless number (Some drawing) later (entry ∷ entries) h =
+    let right = eq-eqb _ _ h.0.number in
+    let boxed = points_of entry.bounds (drawing_points drawing) h.0.box in rw (right, boxed) refl
+
+covered_behind : (number : ℕ) (drawing : Option Drawing) (later : List NumberedDrawing) (entries : List Entry) → AreCovered (drawing_then number drawing later) entries → AreCovered later (entries_behind drawing entries)
+covered_behind number None later entries h = h
+covered_behind number (Some drawing) later [] h = absurd h
+covered_behind number (Some drawing) later (entry ∷ entries) h = h.1
+
+module _ (s : Surface) where
+  unstopped_of : (steps : List StepValue) (fault : Option Fault) (before : ℕ) (state : State) (entries : List Entry) →
+      checked steps fault before state s entries ≡ None → stopped steps fault before state s ≡ None
+  unstopped_of [] fault before state entries h = rw (none_at_end fault before entries h) refl
+  unstopped_of (step ∷ steps) fault before state entries h =
+      let here : fault_of step.operation state s ≡ None = none_first (fault_of step.operation state s) (entry_fault step.number (drawing_of step.operation state) entries) (none_here _ _ _ h) in
+      let rest = unstopped_of steps fault (suc before) (next step.operation state) (entries_behind (drawing_of step.operation state) entries) (none_later _ _ _ h) in
+      rw (here, rest) refl
+
+  covered_of : (steps : List StepValue) (fault : Option Fault) (before : ℕ) (state : State) (entries : List Entry) →
+      checked steps fault before state s entries ≡ None → AreCovered (drawings_of steps state) entries
+  covered_of [] fault before state entries h = covered_end fault before entries h
+  covered_of (step ∷ steps) fault before state entries h =
+      let fits = none_second (fault_of step.operation state s) (entry_fault step.number (drawing_of step.operation state) entries) (none_here _ _ _ h) in
+      covered_then step.number (drawing_of step.operation state) (drawings_of steps (next step.operation state)) entries fits
+      (covered_of steps fault (suc before) (next step.operation state) (entries_behind (drawing_of step.operation state) entries) (none_later _ _ _ h))
+
+  checked_at_end : (fault : Option Fault) (before : ℕ) (state : State) (entries : List Entry) → stopped [] fault before state s ≡ None → AreCovered [] entries → checked_end fault before entries ≡ None
+  checked_at_end None before state [] h covered = refl
+  checked_at_end None before state (entry ∷ entries) h covered = absurd covered
+  checked_at_end (Some fault) before state entries h covered = absurd (cc)
+
+  checked_from : (steps : List StepValue) (fault : Option Fault) (before : ℕ) (state : State) (entries : List Entry) →
+      stopped steps fault before state s ≡ None → AreCovered (drawings_of steps state) entries → checked steps fault before state s entries ≡ None
+  checked_from [] fault before state entries h covered = checked_at_end fault before state entries h covered
+  checked_from (step ∷ steps) fault before state entries h covered =
+      let here : fault_of step.operation state s ≡ None = none_here step.number (fault_of step.operation state s) _ h in
+      let fits = faultless step.number (drawing_of step.operation state) (drawings_of steps (next step.operation state)) entries covered in
+      let behind = covered_behind step.number (drawing_of step.operation state) (drawings_of steps (next step.operation state)) entries covered in
+      let rest = checked_from steps fault (suc before) (next step.operation state) (entries_behind (drawing_of step.operation state) entries) (none_later _ _ _ h) behind in
+      rw (here, fits, rest) refl
+
+-- needs within others, as a test and as a fact
+within_of : (needs others : Needs) → are_within needs others ≡ true → AreWithin needs others
+within_of needs others t =
+    let a = and_parts (nat_le needs.depth others.depth && nat_le needs.slots others.slots && nat_le needs.edges others.edges) (nat_le needs.pieces others.pieces) t in
+    let b = and_parts (nat_le needs.depth others.depth && nat_le needs.slots others.slots) (nat_le needs.edges others.edges) a.0 in
+    let c = and_parts (nat_le needs.depth others.depth) (nat_le needs.slots others.slots) b.0 in
+    record { depth = leb-true _ _ c.0; slots = leb-true _ _ c.1; edges = leb-true _ _ b.1; pieces = leb-true _ _ a.1 }
+
+within_from : (needs others : Needs) → AreWithin needs others → are_within needs others ≡ true
+within_from needs others h =
+    and_from (nat_le needs.depth others.depth && nat_le needs.slots others.slots && nat_le needs.edges others.edges) (nat_le needs.pieces others.pieces)
+    (and_from (nat_le needs.depth others.depth && nat_le needs.slots others.slots) (nat_le needs.edges others.edges)
+    (and_from (nat_le needs.depth others.depth) (nat_le needs.slots others.slots) (le-leb _ _ h.depth) (le-leb _ _ h.slots)) (le-leb _ _ h.edges)) (le-leb _ _ h.pieces)
+
+both_none : (stop : Option Stop) (total : Option Fault) → accepted ≡ answer_from stop total → (stop ≡ None) × (total ≡ None)
+both_none None None h = (refl, refl)
+both_none None (Some fault) h = absurd (cc)
+both_none (Some stop) total h = absurd (cc)
+
+both_true : (within few : Bool) → cond within (cond few None (Some BudgetTooSmall)) (Some NeedTooSmall) ≡ None → (within ≡ true) × (few ≡ true)
+both_true true true h = (refl, refl)
+both_true true false h = absurd (cc)
+both_true false few h = absurd (cc)
+
+pub fits_of : (content : Content) (o : OpenedValue) (c : CertificateValue) → accepted ≡ answer_to content o c → Fits c o content
+fits_of content o c h =
+    let none = both_none _ _ h in
+    let pair = both_true (are_within (file_needs content o) c.needs) (nat_le (file_budget content o c) c.writes) none.1 in
+    record {
+      unstopped = unstopped_of (bound_of o c) content.steps content.fault 0 (start_of o) c.entries none.0;
+      covered = covered_of (bound_of o c) content.steps content.fault 0 (start_of o) c.entries none.0;
+      needs = within_of (file_needs content o) c.needs pair.0;
+      budget = leb-true _ _ pair.1;
+    }
+
+accepted_of : (content : Content) (o : OpenedValue) (c : CertificateValue) → Fits c o content → accepted ≡ answer_to content o c
+accepted_of content o c fits =
+    let order = checked_from (bound_of o c) content.steps content.fault 0 (start_of o) c.entries fits.unstopped fits.covered in
+    let within = within_from (file_needs content o) c.needs fits.needs in
+    let few = le-leb _ _ fits.budget in
+    rw (order, within, few) refl
+
+-- a file of any format has one content
+one_file_content : ContentIsOne → (format : FileFormat) (file : List ℕ) → ExactlyOne (IsFileContent format file)
+one_file_content one format file = one (framing_of format) (meaning_of format) (record_bytes format file)
+
+one_of : (answer : Answer) → ExactlyOne (λ (other : Answer). other ≡ answer)
+one_of answer = record { value = answer; holds = refl; only = λ other h. h }
+
+one_read : ContentIsOne → (read : Result CertificateValue Fault) (o : OpenedValue) (file : List ℕ) → ExactlyOne (AnswersRead read o (record_bytes o.format file))
+one_read one (Err fault) o file = one_of (refuses None fault)
+one_read one (Ok c) o file =
+    let content = one_file_content one o.format file in
+    record {
+      value = answer_to content.value o c;
+      holds = record { content = content.value; of_records = content.holds; answers = refl };
+      only = λ other h. h.answers ∙ ap (λ (k : Content). answer_to k o c) (content.only h.content h.of_records);
+    }
+
+one_opened : ContentIsOne → (o : Result OpenedValue Fault) (file certificate : List ℕ) → ExactlyOne (AnswersOpened o file certificate)
+one_opened one (Err fault) file certificate = one_of (refuses None fault)
+one_opened one (Ok o) file certificate = one_read one (read_certificate certificate) o file
+
+some_none : (stop : Option Stop) (at : Stop) → stop ≡ Some at → stop ≡ None → ⊥
+some_none stop at h k = cc
+
+no_larger : (o : OpenedValue) (c : CertificateValue) (width height : ℕ) → width ≤ c.max_width → height ≤ c.max_height → IsNoLarger (surface_for o width height) (bound_of o c)
+no_larger o c width height w h = record { width = w; height = h; frame_width = refl; frame_height = refl }
+
+module _ (one : ContentIsOne) (laws : SizeLaws) (o : OpenedValue) (file : List ℕ) (c : CertificateValue) (frame : ShowsFrame (bound_of o c)) (answer : RecordsAnswer o (record_bytes o.format file) c accepted) where
+  abbrev fits : Fits c o answer.content
+  fits = fits_of answer.content o c answer.answers
+
+  same : (content : Content) → IsFileContent o.format file content → content ≡ answer.content
+  same content h = let the_one = one_file_content one o.format file in the_one.only content h ∙ sym (the_one.only answer.content answer.of_records)
+
+  unstopped : (width height : ℕ) → width ≤ c.max_width → height ≤ c.max_height → stop_of answer.content (start_of o) (surface_for o width height) ≡ None
+  unstopped width height w h = laws.unstopped answer.content (start_of o) (surface_for o width height) (bound_of o c) frame (no_larger o c width height w h) fits.unstopped
+
+  shows_opened : (width height : ℕ) (image : Image) → width ≤ c.max_width → height ≤ c.max_height
+      → OpenedShows o file width height image (image_after (drawings_of answer.content.steps (start_of o)) (surface_for o width height) image)
+  shows_opened width height image w h = record { content = answer.content; of_file = answer.of_records; unstopped = unstopped width height w h; shows = refl }
+
+  never_stops : (width height number : ℕ) (fault : Fault) → width ≤ c.max_width → height ≤ c.max_height → OpenedStops o file width height number fault → ⊥
+  never_stops width height number fault w h k =
+      let e = ap (λ (content : Content). stop_of content (start_of o) (surface_for o width height)) (same k.content k.of_file) in
+      let none = unstopped width height w h in
+      let some = k.stops in some_none _ (stop_at number fault) some (e ∙ none)
+
+  few_opened : (width height writes : ℕ) → width ≤ c.max_width → height ≤ c.max_height → OpenedWrites o file width height writes → writes ≤ c.writes
+  few_opened width height writes w h k =
+      let e = ap (λ (content : Content). writes_after (drawings_of content.steps (start_of o)) (surface_for o width height)) (same k.content k.of_file) in
+      let few = laws.few (drawings_of answer.content.steps (start_of o)) c.entries (surface_for o width height) (bound_of o c) frame (no_larger o c width height w h) fits.covered in
+      let budget = fits.budget in
+      let count = k.count in omega (arith, e, few, budget, count)
+
+-- the same at the definitions
+to_shows : (o : Result OpenedValue Fault) (v : OpenedValue) (file : List ℕ) (width height : ℕ) (image after : Image) → o ≡ Ok v → OpenedShows v file width height image after → ShowsIfOpened o file width height image after
+to_shows o v file width height image after e h = rw e h
+
+from_refused : (o : Result OpenedValue Fault) (v : OpenedValue) (file : List ℕ) (width height : ℕ) (number : Option ℕ) (fault : Fault) → o ≡ Ok v → RefusedIfOpened o file width height number fault
+    → ((n : ℕ) → OpenedStops v file width height n fault → ⊥) → ⊥
+from_refused o v file width height None fault e h never = rw e at h
+from_refused o v file width height (Some n) fault e h never = never n (rw e at h)
+
+from_writes : (o : Result OpenedValue Fault) (v : OpenedValue) (file : List ℕ) (width height writes : ℕ) → o ≡ Ok v → WritesIfOpened o file width height writes → OpenedWrites v file width height writes
+from_writes o v file width height writes e h = rw e at h
+
+from_answer : (o : Result OpenedValue Fault) (v : OpenedValue) (c : CertificateValue) (file bytes : List ℕ) (answer : Answer) → o ≡ Ok v → read_certificate bytes ≡ Ok c → AnswersOpened o file bytes answer → RecordsAnswer v (record_bytes v.format file) c answer
+from_answer o v c file bytes answer e f h = let k : AnswersRead (read_certificate bytes) v (record_bytes v.format file) answer = rw e at h in rw f at k
+
+sound : ContentIsOne → SizeLaws → (file bytes : List ℕ) (o : OpenedValue) (c : CertificateValue) → opened file ≡ Ok o → read_certificate bytes ≡ Ok c → ShowsFrame (bound_of o c) → IsAnswer file bytes accepted → Sound file c.max_width c.max_height c.writes
+sound one laws file bytes o c e f frame h =
+    let answer = from_answer (opened file) o c file bytes accepted e f h in
+    record {
+      shows = λ width height image w k. record { after = _; ends = to_shows (opened file) o file width height image _ e (shows_opened one laws o file c frame answer width height image w k) };
+      faultless = λ width height image number fault w k r. from_refused (opened file) o file width height number fault e r (λ n s. never_stops one laws o file c frame answer width height n fault w k s);
+      few = λ width height writes w k r. few_opened one laws o file c frame answer width height writes w k (from_writes (opened file) o file width height writes e r);
+    }
+
+pub answer_laws : ContentIsOne → SizeLaws → AnswerLaws
+answer_laws one laws = record {
+  one = λ file certificate. one_opened one (opened file) file certificate;
+  fits = λ content o c. (fits_of content o c, accepted_of content o c);
+  sound = sound one laws;
+}

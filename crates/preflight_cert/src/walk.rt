@@ -1,0 +1,79 @@
+//! Checking a certificate's entries against the records of a file.
+
+ghost use Rattle.std.specs.Prelude.{◌≡◌, ◌≤◌, ◌⊎◌, IfErr, IfOk, length};
+ghost use Rattle.mapping.specs.PlaceOf.{surface_of};
+ghost use Rattle.draw_ops.specs.Records.{record_limit};
+ghost use Rattle.preflight_cert.specs.Checks.{Checks, EndsCheck, IsWantOfMemory, StopsCheck};
+ghost use Rattle.preflight_cert.specs.EntriesOf.{entries_of};
+
+use crate::covering::take_entry;
+use crate::entry::Entries;
+use crate::refusal::Refusal;
+use dc_stack::{Machine, fault_law};
+use draw_ops::{Fault, Notes, OpSource};
+use mapping::Place;
+use object_tables::Table;
+
+/// What the records of a file come to.
+#[derive(Clone, Copy, Debug, PartialEq, Eq)]
+pub struct Totals {
+    /// How many pixels the drawings write at most, by their entries.
+    pub writes: u64,
+    /// How many records there are, the end record among them.
+    pub records: u32,
+    /// How often each kind is noted.
+    pub notes: Notes,
+}
+
+/// Checks the steps that are left of a source against entries, and tells what they come to, beside notes from before. The refusal is
+/// the first fault of a step or of an entry, with its record, or `OutOfMemory` without one.
+#[tactic(auto, using(crate::proofs::BudgetLemmas::drawn))]
+pub(crate) fn check_steps<'a, S: OpSource<'a>, T: Table<'a>>(
+    source: &mut S,
+    machine: &mut Machine<'a, T>,
+    place: Place,
+    given: Entries<'_>,
+    noted: Notes,
+) -> Result<Totals, Refusal>
+    requires short { length (S.content source.old).steps ≤ record_limit }
+    requires place { surface_of place ≡ machine.old.surface }
+    ensures checked { IfOk result
+        (λ totals. Checks (S.content source.old) machine.old (entries_of given.entry) noted.counts totals machine.new) }
+    ensures refusal { IfErr result (λ r. StopsCheck (S.content source.old) machine.old (entries_of given.entry) r ⊎ IsWantOfMemory r) }
+{
+    fault_law();
+    let mut entries = given;
+    let mut totals = Totals {
+        writes: 0,
+        records: 0,
+        notes: noted,
+    };
+    loop {
+        let step = match source.next_op() {
+            Ok(Some(step)) => step,
+            Ok(None) => return checked_end(entries, totals),
+            Err(fault) => return Err(Refusal::at(totals.records, fault)),
+        };
+        let drawn = match machine.step(step.op) {
+            Ok(drawn) => drawn,
+            Err(Fault::OutOfMemory) => return Err(Refusal::of_file(Fault::OutOfMemory)),
+            Err(fault) => return Err(Refusal::at(step.number, fault)),
+        };
+        match take_entry(step.number, drawn, machine, place, &mut entries) {
+            Ok(more) => totals.writes += more,
+            Err(fault) => return Err(Refusal::at(step.number, fault)),
+        }
+        totals.notes = totals.notes.plus(Notes::of(step.notes));
+        totals.records += 1;
+    }
+}
+
+/// Behind the last record no entry is left.
+fn checked_end(entries: Entries<'_>, totals: Totals) -> Result<Totals, Refusal>
+    ensures end { EndsCheck totals.records (entries_of entries.entry) totals result }
+{
+    if entries.is_empty() {
+        return Ok(totals);
+    }
+    Err(Refusal::at(totals.records.saturating_sub(1), Fault::WrongEntry))
+}
