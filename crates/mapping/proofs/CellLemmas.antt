@@ -6,7 +6,7 @@ use Rattle.std.proofs.lemmas.Bool.{and_parts, false_from_ne_true}
 use Rattle.std.proofs.lemmas.Int.{ints, by_lt_z}
 use Rattle.std.proofs.lemmas.Nat.{le-div}
 use Rattle.mapping.proofs.FloorLemmas.{floor_is_greatest}
-use Rattle.mapping.proofs.IntTestLemmas.{int_le-true, int_le-from, int_lt-true, int_lt-false, int_le-not}
+use Rattle.mapping.proofs.IntTestLemmas.{int_le-true, int_le-false, int_le-from, int_lt-true, int_lt-false, int_le-not}
 use Rattle.mapping.specs.Floor.{floor_div}
 use Rattle.mapping.specs.Limits.{IsFrameSide}
 use Rattle.mapping.specs.Pixels.{count_indexes}
@@ -157,9 +157,40 @@ grows l r w longer side allowed h =
     let more = rounded_grows (min (count_of r) side - count_of l) w longer side allowed.not_empty h in
     cond_most (is_away l r side) _ _ (omega (arith, more, h))
 
+-- unless one of three tests holds
+unless : (a b c : Bool) (m n : ℕ) → (a ≡ false → b ≡ false → c ≡ false → m ≤ n) → cond (a || (b || c)) 0 m ≤ n
+unless false false false m n h = h refl refl refl
+unless true b c m n h = omega arith
+unless false true c m n h = omega arith
+unless false false true m n h = omega arith
+
+rounded_widens : (d e w side : ℕ) → 1 ≤ side → d ≤ e → rounded_up (d * w) side ≤ rounded_up (e * w) side
+rounded_widens d e w side one h =
+    let product : d * w ≤ e * w = mul-le-mul_right w h in
+    le-div (rounded_up (d * w) side) (e * w + (side - 1)) side one (omega (arith, div-mul-le_self (d * w + (side - 1)) side, product))
+
+counts_grow : (u v : ℤ) → u ≤ℤ v → count_of u ≤ count_of v
+counts_grow (negsuc m) v h = omega arith
+counts_grow (pos m) (negsuc n) h = absurd (omega (arith, ints, h))
+counts_grow (pos m) (pos n) h = omega (arith, ints, h)
+
+near_widens : (l k r q : ℤ) (w side : ℕ) → 1 ≤ side → l ≤ℤ k → q ≤ℤ r → k ≤ℤ q → pos 0 ≤ℤ q → k <ℤ pos side
+    → min w (rounded_up ((min (count_of q) side - count_of k) * w) side + 1) ≤ cells l r w side
+near_widens l k r q w side one low high order reaches before =
+    let from = counts_grow l k low in
+    let to = counts_grow q r high in
+    let more = rounded_widens (min (count_of q) side - count_of k) (min (count_of r) side - count_of l) w side one (omega (arith, from, to)) in
+    rw (isnt_away l r side (omega (arith, ints, low, order, high)) (omega (arith, ints, reaches, high)) (omega (arith, ints, low, before))) (omega (arith, more))
+
+widens : (l k r q : ℤ) (w side : ℕ) → IsFrameSide side → l ≤ℤ k → q ≤ℤ r → cells k q w side ≤ cells l r w side
+widens l k r q w side allowed low high =
+    unless (int_lt q k) (int_lt q (pos 0)) (int_le (pos side) k) (min w (rounded_up ((min (count_of q) side - count_of k) * w) side + 1)) (cells l r w side)
+    (λ a b c. near_widens l k r q w side allowed.not_empty low high (int_lt-false q k a) (int_lt-false q (pos 0) b) (int_le-false (pos side) k c))
+
 pub cells_law : CellLaws
 cells_law = record {
   few = few;
   grows = grows;
+  widens = widens;
   pixels = λ row column test w n both. pixels_few test column row w both n;
 }

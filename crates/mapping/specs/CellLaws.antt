@@ -4,11 +4,13 @@ use Rattle.mapping.specs.Cells.{cells, lies_from_to}
 use Rattle.mapping.specs.Limits.{IsFrameSide}
 use Rattle.mapping.specs.Pixels.{count_indexes, count_pixels}
 
--- Where l isn't behind r, at most so many columns lie from where l lands to where r does, and no fewer on a longer side. Pixels that lie in
--- certain columns and in certain rows are at most as many as those columns times those rows.
+-- Where l isn't behind r, at most so many columns lie from where l lands to where r does, and no fewer on a longer side; no fewer also from
+-- what lies no later than l, to what lies no earlier than r. Pixels that lie in certain columns and in certain rows are at most as many as
+-- those columns times those rows.
 pub record CellLaws : Type 0 where
   pub few : (l r : ℤ) (w side : ℕ) → IsFrameSide side → l ≤ℤ r → count_indexes (lies_from_to l r w side) 0 w ≤ cells l r w side
   pub grows : (l r : ℤ) (w longer side : ℕ) → IsFrameSide side → w ≤ longer → cells l r w side ≤ cells l r longer side
+  pub widens : (l k r q : ℤ) (w side : ℕ) → IsFrameSide side → l ≤ℤ k → q ≤ℤ r → cells k q w side ≤ cells l r w side
   pub pixels :
       (row column : ℕ → Bool) (test : ℕ → ℕ → Bool) (w n : ℕ)
       → ((x y : ℕ) → test x y ≡ true → (column x ≡ true) × (row y ≡ true))

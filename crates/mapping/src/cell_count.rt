@@ -53,7 +53,9 @@ fn met(from: u32, to: u32, surface_side: u32, frame_side: u32) -> u32
     u64::from(surface_side).min(met) as u32
 }
 
-/// The law of cells: at most so many columns lie between where two coordinates land, and no fewer on a longer side.
+/// The law of cells: where one coordinate isn't behind another, at most so many columns lie from where it lands to where the other
+/// does, no fewer on a longer side or from an earlier coordinate to a later one; and pixels in certain columns and rows are at most
+/// as many as those columns times those rows.
 pub fn cell_law()
     ensures { CellLaws }
 {}

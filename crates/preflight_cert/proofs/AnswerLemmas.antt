@@ -1,7 +1,6 @@
 -- There is one answer, it is 'accepted' where the certificate fits, and what is accepted is sound.
 use Rattle.std.proofs.Common.{◌≡◌, ℕ, suc, ◌≤◌, Bool, true, false, ◌&&◌, ◌==◌, cond, List, [], ◌∷◌, Option, Some, None, Result, Ok, Err, refl, ap, sym, ◌∙◌, arith}
 use Rattle.std.specs.Prelude.{nat_le}
-use Rattle.std.specs.Option.{option_or}
 use Rattle.std.proofs.lemmas.Bool.{and_from, and_parts, eq-eqb, eqb-true, le-leb, leb-true}
 use Rattle.mapping.specs.Image.{Image}
 use Rattle.mapping.specs.PlacingLaws.{IsNoLarger, ShowsFrame}
@@ -12,7 +11,7 @@ use Rattle.draw_ops.specs.RecordContent.{ContentIsOne}
 use Rattle.draw_ops.specs.declared.fault.Fault.{Fault}
 use Rattle.draw_ops.specs.declared.fault.Fault.TheVariants.{BoxTooSmall, BudgetTooSmall, NeedTooSmall, WrongEntry}
 use Rattle.meta_headers.specs.Headers.{OpenedValue}
-use Rattle.meta_headers.specs.Opening.{HasContentOf, framing_of, meaning_of, opened, record_bytes, surface_for}
+use Rattle.meta_headers.specs.Opening.{framing_of, meaning_of, opened, record_bytes, surface_for}
 use Rattle.meta_headers.specs.declared.opened.FileFormat.{FileFormat}
 use Rattle.dc_stack.specs.Drawing.{Drawing, drawing_of, drawing_points}
 use Rattle.dc_stack.specs.Next.{next}
@@ -20,7 +19,7 @@ use Rattle.dc_stack.specs.OperationFault.{fault_of}
 use Rattle.dc_stack.specs.State.{State, start_of}
 use Rattle.dc_stack.specs.declared.needs.Needs.{Needs}
 use Rattle.preflight_cert.specs.After.{file_needs}
-use Rattle.preflight_cert.specs.Answer.{Answer, AnswerLaws, AnswersOpened, AnswersRead, Fits, IsAnswer, RecordsAnswer, Shows, Sound, accepted, answer_from, answer_to, are_within, bound_of, file_budget, refuses, total_fault}
+use Rattle.preflight_cert.specs.Answer.{Answer, AnswerLaws, AnswersOpened, AnswersRead, Fits, IsAnswer, RecordsAnswer, Sound, accepted, answer_from, answer_to, are_within, bound_of, file_budget, refuses}
 use Rattle.preflight_cert.specs.Apply.{image_after}
 use Rattle.preflight_cert.specs.CertificateReading.{CertificateValue, read_certificate}
 use Rattle.preflight_cert.specs.Checked.{checked, checked_end}
@@ -29,28 +28,13 @@ use Rattle.preflight_cert.specs.Entries.{AreCovered, Covers, covers, entries_beh
 use Rattle.preflight_cert.specs.NeedLaws.{AreWithin}
 use Rattle.preflight_cert.specs.Run.{IsFileContent, OpenedShows, OpenedStops, OpenedWrites, RefusedIfOpened, ShowsIfOpened, WritesIfOpened}
 use Rattle.preflight_cert.specs.SizeLaws.{SizeLaws}
-use Rattle.preflight_cert.specs.Stop.{Stop, stop_at, stop_of, stopped, stopped_or}
+use Rattle.preflight_cert.specs.Stop.{Stop, stop_at, stop_of, stopped}
 use Rattle.preflight_cert.specs.Writes.{writes_after}
 use Rattle.preflight_cert.specs.declared.entry.Entry.{Entry}
 use Rattle.preflight_cert.proofs.CoverLemmas.{points_in, points_of}
+use Rattle.preflight_cert.proofs.StopLemmas.{none_first, none_here, none_later, none_second}
 
--- no stop here, and none later
-none_here : (number : ℕ) (fault : Option Fault) (later : Option Stop) → stopped_or number fault later ≡ None → fault ≡ None
-none_here number None later h = refl
-none_here number (Some fault) later h = absurd (cc)
-
-none_later : (number : ℕ) (fault : Option Fault) (later : Option Stop) → stopped_or number fault later ≡ None → later ≡ None
-none_later number None later h = h
-none_later number (Some fault) later h = absurd (cc)
-
-none_first : (first second : Option Fault) → option_or first second ≡ None → first ≡ None
-none_first None second h = refl
-none_first (Some fault) second h = absurd (cc)
-
-none_second : (first second : Option Fault) → option_or first second ≡ None → second ≡ None
-none_second None second h = h
-none_second (Some fault) second h = absurd (cc)
-
+-- behind the last step
 none_at_end : (fault : Option Fault) (before : ℕ) (entries : List Entry) → checked_end fault before entries ≡ None → fault ≡ None
 none_at_end None before entries h = refl
 none_at_end (Some fault) before entries h = absurd (cc)

@@ -1,10 +1,10 @@
 -- A box has all points exactly where it has two corners of the least box around them.
-use Rattle.std.proofs.Common.{◌≡◌, ℕ, ℤ, ◌≤ℤ◌, ◌<ℤ◌, Bool, true, false, ◌&&◌, ◌||◌, int_le, int_lt, List, [], ◌∷◌, length, get_or, refl, sym, ap, ◌∙◌, arith}
+use Rattle.std.proofs.Common.{◌≡◌, ℤ, ◌≤ℤ◌, ◌<ℤ◌, Bool, true, false, ◌&&◌, int_le, int_lt, List, [], ◌∷◌, get_or, refl, sym, ap, arith}
 use Rattle.std.specs.List.{All, Any, list_all}
-use Rattle.std.proofs.lemmas.Bool.{and_from, and_parts, false_from_ne_true, true_from_ne_false}
+use Rattle.std.proofs.lemmas.Bool.{and_from, and_parts}
 use Rattle.std.proofs.lemmas.Int.{ints}
 use Rattle.std.proofs.lemmas.List.Elements.{All-cons, All-head, All-nil, All-tail}
-use Rattle.mapping.specs.Boxes.{HasPoint, IsLeastBox, IsTight, no_box}
+use Rattle.mapping.specs.Boxes.{HasPoint, IsLeastBox, IsTight}
 use Rattle.mapping.specs.declared.geometry.Point.{Point}
 use Rattle.mapping.specs.declared.geometry.Rect.{Rect}
 use Rattle.preflight_cert.specs.Corners.{has_corners, has_span}
@@ -54,13 +54,13 @@ of_some : {R : Type 0} (P Q : Point → Type 0) (ps : List Point) → Any P ps �
 of_some P Q ps (k, x, below, at, holds) all step = step x holds (rw at at (all k x below))
 
 -- two boxes, of which the one has two corners of the other
-record HasCorners (box least : Rect) : Type 0 where
-  left : box.l ≤ℤ least.l
-  top : box.t ≤ℤ least.t
-  right : least.r ≤ℤ box.r
-  bottom : least.b ≤ℤ box.b
+pub record HasCorners (box least : Rect) : Type 0 where
+  pub left : box.l ≤ℤ least.l
+  pub top : box.t ≤ℤ least.t
+  pub right : least.r ≤ℤ box.r
+  pub bottom : least.b ≤ℤ box.b
 
-corners : (box least : Rect) (ps : List Point) → IsTight least ps → All (HasPoint box) ps → HasCorners box least
+pub corners : (box least : Rect) (ps : List Point) → IsTight least ps → All (HasPoint box) ps → HasCorners box least
 corners box least ps tight all = record {
   left = of_some (λ p. p.x ≡ least.l) (HasPoint box) ps tight.left all (λ p is has. rw is at has.left);
   top = of_some (λ p. p.y ≡ least.t) (HasPoint box) ps tight.top all (λ p is has. rw is at has.top);
@@ -68,7 +68,7 @@ corners box least ps tight all = record {
   bottom = of_some (λ p. p.y ≡ least.b) (HasPoint box) ps tight.bottom all (λ p is has. rw is at has.bottom);
 }
 
-has_within : (box least : Rect) → HasCorners box least → (p : Point) → HasPoint least p → HasPoint box p
+pub has_within : (box least : Rect) → HasCorners box least → (p : Point) → HasPoint least p → HasPoint box p
 has_within box least c p h =
     let a = c.left in let b = c.top in let d = c.right in let e = c.bottom in
     let i = h.left in let j = h.top in let k = h.right in let m = h.bottom in

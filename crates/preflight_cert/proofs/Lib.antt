@@ -3,7 +3,9 @@ pub mod TestLemmas
 pub mod OutlineLemmas
 pub mod ShapeLemmas
 pub mod LayerLemmas
+pub mod StopLemmas
 pub mod SizeLemmas
+pub mod NeedLimitLemmas
 pub mod NeedLemmas
 pub mod EntryLemmas
 pub mod TextPartLemmas
@@ -14,3 +16,9 @@ pub mod WorkedCertificates
 pub mod BudgetLemmas
 pub mod CoverLemmas
 pub mod AnswerLemmas
+pub mod StartLemmas
+pub mod ClearedLemmas
+pub mod LeastBoxLemmas
+pub mod PreparationLemmas
+pub mod GatheredLemmas
+pub mod PreparedLemmas

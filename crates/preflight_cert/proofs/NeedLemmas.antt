@@ -2,6 +2,7 @@
 use Rattle.std.proofs.Common.{◌≡◌, ℕ, ◌<◌, ◌≤◌, Bool, true, false, List, [], ◌∷◌, length, Option, Some, None, inl, inr, arith, refl}
 use Rattle.draw_ops.specs.Content.{StepValue}
 use Rattle.draw_ops.specs.Operation.{Operation, no_effect, save, restore, set_background_mode, set_map_mode, set_raster_op, set_fill_mode, set_background_colour, set_window_origin, set_window_extent, set_viewport_origin, set_viewport_extent, offset_window_origin, offset_viewport_origin, exclude_clip, intersect_clip, remove_clip, move_to, line_to, pixel, rectangle, polyline, polygon, polyline_to, blit, create, select, select_palette, delete, begin_path, end_path, close_figure, abort_path, fill_path, stroke_path, stroke_and_fill_path}
+use Rattle.object_tables.specs.Table.{CreatedIndexIsBelowBound}
 use Rattle.dc_stack.specs.Figures.{with_current_done}
 use Rattle.dc_stack.specs.MachineState.{MachineState, WantsRoom}
 use Rattle.draw_ops.specs.declared.fault.Fault.{Fault}
@@ -13,6 +14,7 @@ use Rattle.dc_stack.specs.State.{State}
 use Rattle.dc_stack.specs.declared.needs.Needs.{Needs}
 use Rattle.preflight_cert.specs.After.{needs_after}
 use Rattle.preflight_cert.specs.NeedLaws.{AreWithin, HasRoomFor, NeedLaws}
+use Rattle.preflight_cert.proofs.NeedLimitLemmas.{limited}
 
 -- these leave the count of a path's pieces as it is, or make it less
 same_count : (path : Path) → piece_count path < piece_count path → ⊥
@@ -82,14 +84,14 @@ enough operation m fault room wants = elim wants.lacks [
 ]
 
 -- needs are within themselves and, as each step only adds to them, within those of all steps
-same : (needs : Needs) → AreWithin needs needs
-same needs = record { depth = omega arith; slots = omega arith; edges = omega arith; pieces = omega arith }
+pub within_same : (needs : Needs) → AreWithin needs needs
+within_same needs = record { depth = omega arith; slots = omega arith; edges = omega arith; pieces = omega arith }
 
 before : (steps : List StepValue) (state : State) (needs : Needs) → AreWithin needs (needs_after steps state needs)
-before [] state needs = same needs
+before [] state needs = within_same needs
 before (step ∷ steps) state needs =
     let rest = before steps (next step.operation state) (greater_needs needs (needs_of step.operation state)) in
     record { depth = omega (arith, rest.depth); slots = omega (arith, rest.slots); edges = omega (arith, rest.edges); pieces = omega (arith, rest.pieces) }
 
-pub need_laws : NeedLaws
-need_laws = record { enough = enough; before = before }
+pub need_laws : CreatedIndexIsBelowBound → NeedLaws
+need_laws laws = record { enough = enough; before = before; limited = limited laws }

@@ -1,5 +1,5 @@
 -- What holds at one size holds at each that is no larger.
-use Rattle.std.proofs.Common.{◌≡◌, ℕ, suc, ◌≤◌, List, [], ◌∷◌, Option, Some, None, refl, arith}
+use Rattle.std.proofs.Common.{◌≡◌, ℕ, suc, ◌≤◌, List, [], ◌∷◌, Option, None, refl, arith}
 use Rattle.mapping.specs.PlacingLaws.{IsNoLarger, ShowsFrame}
 use Rattle.mapping.specs.Surface.{Surface}
 use Rattle.draw_ops.specs.Content.{StepValue}
@@ -11,18 +11,10 @@ use Rattle.preflight_cert.specs.DrawingBoxLaws.{DrawingBoxLaws}
 use Rattle.preflight_cert.specs.Drawings.{NumberedDrawing}
 use Rattle.preflight_cert.specs.Entries.{AreCovered, budget_of}
 use Rattle.preflight_cert.specs.SizeLaws.{SizeLaws}
-use Rattle.preflight_cert.specs.Stop.{Stop, stopped, stopped_or}
+use Rattle.preflight_cert.specs.Stop.{stopped}
 use Rattle.preflight_cert.specs.Writes.{writes_after}
 use Rattle.preflight_cert.specs.declared.entry.Entry.{Entry}
-
--- where nothing stops, neither a fault does nor what comes later
-none_here : (number : ℕ) (fault : Option Fault) (later : Option Stop) → stopped_or number fault later ≡ None → fault ≡ None
-none_here number None later h = refl
-none_here number (Some fault) later h = absurd (cc)
-
-none_later : (number : ℕ) (fault : Option Fault) (later : Option Stop) → stopped_or number fault later ≡ None → later ≡ None
-none_later number None later h = h
-none_later number (Some fault) later h = absurd (cc)
+use Rattle.preflight_cert.proofs.StopLemmas.{none_here, none_later}
 
 -- faults and budgets from the larger surface to the smaller
 module _ (faults : FaultLaws) (boxes : DrawingBoxLaws) (smaller larger : Surface) (shows : ShowsFrame larger) (no_larger : IsNoLarger smaller larger) where

@@ -28,3 +28,7 @@ pub mod TextLaws
 pub mod TextParts
 pub mod Corners
 pub mod Answer
+pub mod Preparation
+pub mod PreparationLaws
+pub mod Gathered
+pub mod PreparedRecords

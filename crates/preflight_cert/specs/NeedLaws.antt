@@ -1,13 +1,20 @@
 -- Room for needs.
-use Rattle.std.specs.Prelude.{◌≤◌, List}
-use Rattle.draw_ops.specs.Content.{StepValue}
+use Rattle.std.specs.Prelude.{◌≡◌, ◌≤◌, List, None}
+use Rattle.mapping.specs.Surface.{Surface}
+use Rattle.draw_ops.specs.Content.{Content, StepValue}
 use Rattle.draw_ops.specs.Operation.{Operation}
 use Rattle.draw_ops.specs.declared.fault.Fault.{Fault}
+use Rattle.meta_headers.specs.Headers.{OpenedValue}
+use Rattle.object_tables.specs.Table.{TableKind, index_bound}
+use Rattle.dc_stack.specs.Drawing.{edge_limit}
 use Rattle.dc_stack.specs.MachineState.{MachineState, WantsRoom}
 use Rattle.dc_stack.specs.Needs.{needs_of}
-use Rattle.dc_stack.specs.State.{State}
+use Rattle.dc_stack.specs.Path.{piece_limit}
+use Rattle.dc_stack.specs.SavedStates.{depth_limit}
+use Rattle.dc_stack.specs.State.{State, start_of, table_kind_of}
 use Rattle.dc_stack.specs.declared.needs.Needs.{Needs}
-use Rattle.preflight_cert.specs.After.{needs_after}
+use Rattle.preflight_cert.specs.After.{file_needs, needs_after}
+use Rattle.preflight_cert.specs.Stop.{stop_of}
 
 -- needs are at most these
 pub record AreWithin (needs others : Needs) : Type 0 where
@@ -22,9 +29,17 @@ pub record HasRoomFor (needs : Needs) (m : MachineState) : Type 0 where
   pub slots : needs.slots ≤ m.room.slots
   pub pieces : needs.pieces ≤ m.room.pieces
 
--- An operation for whose needs there is room wants no more, and what was needed before is within the needs of all steps.
+-- the most that a file needs whose table is of a kind
+abbrev pub most_needs : TableKind → Needs
+most_needs kind = record { depth = depth_limit; slots = index_bound kind; edges = edge_limit; pieces = piece_limit }
+
+-- An operation for whose needs there is room wants no more; what was needed before is within the needs of all steps; and those of records
+-- without a fault are within what any file needs.
 pub record NeedLaws : Type 0 where
   pub enough :
       (operation : Operation) (m : MachineState) (fault : Fault)
       → HasRoomFor (needs_of operation m.state) m → WantsRoom operation m fault → ⊥
   pub before : (steps : List StepValue) (state : State) (needs : Needs) → AreWithin needs (needs_after steps state needs)
+  pub limited :
+      (content : Content) (o : OpenedValue) (s : Surface) → stop_of content (start_of o) s ≡ None
+      → AreWithin (file_needs content o) (most_needs (table_kind_of o.handles))

@@ -3,6 +3,7 @@
 ghost use Rattle.preflight_cert.specs.Answer.{AnswerLaws};
 ghost use Rattle.preflight_cert.specs.DrawingBoxLaws.{DrawingBoxLaws};
 ghost use Rattle.preflight_cert.specs.NeedLaws.{NeedLaws};
+ghost use Rattle.preflight_cert.specs.PreparationLaws.{PreparationLaws};
 ghost use Rattle.preflight_cert.specs.Run.{RefusedOverAnyImage, RunEndsInOneWay, WritesAreOne};
 ghost use Rattle.preflight_cert.specs.SizeLaws.{SizeLaws};
 ghost use Rattle.preflight_cert.specs.TextLaws.{TextLaws};
@@ -10,6 +11,7 @@ ghost use Rattle.preflight_cert.specs.TextLaws.{TextLaws};
 use dc_stack::fault_law;
 use draw_ops::content_law;
 use mapping::{cell_law, placing_law};
+use object_tables::created_index_law;
 use span_fill::line_box_law;
 
 /// A run ends in one way, and whether it is refused, and by which fault, doesn't depend on the image
@@ -51,11 +53,21 @@ pub fn answer_law()
     size_law();
 }
 
-/// The law of needs: an operation for whose needs there is room wants no more, and what was needed
-/// before is within the needs of all steps.
+/// The law of needs: an operation for whose needs there is room wants no more; what was needed before is
+/// within the needs of all steps; and those of records without a fault are within what any file needs.
 pub fn need_law()
     ensures { NeedLaws }
-{}
+{
+    created_index_law();
+}
+
+/// The law of preparation: the certificate that is prepared for records that don't stop at its bound fits
+/// them; there is only one, and each other one that fits them at that bound asks for no less.
+pub fn preparation_law()
+    ensures { PreparationLaws }
+{
+    cell_law();
+}
 
 /// What is written as a certificate's text is read as it was, and bytes that are read are the text of the
 /// certificate that they say, whose numbers are within their limits.

@@ -1,0 +1,84 @@
+-- What checking steps tells is the answer.
+use Rattle.std.proofs.Common.{◌≡◌, ◌⊎◌, inl, inr, ℕ, List, length, Option, Some, None, Ok, refl, ap, sym, ◌∙◌}
+use Rattle.mapping.specs.Surface.{Surface}
+use Rattle.draw_ops.specs.Content.{Content}
+use Rattle.draw_ops.specs.RecordContent.{ContentIsOne}
+use Rattle.draw_ops.specs.declared.fault.Fault.{Fault}
+use Rattle.meta_headers.specs.Headers.{OpenedValue}
+use Rattle.meta_headers.specs.Opening.{HasContentOf, framing_of, meaning_of, opened, record_bytes}
+use Rattle.dc_stack.specs.MachineState.{MachineState}
+use Rattle.dc_stack.specs.State.{State, start_of}
+use Rattle.dc_stack.specs.declared.needs.Needs.{Needs}
+use Rattle.preflight_cert.specs.After.{file_notes, needs_after, notes_after}
+use Rattle.preflight_cert.specs.Answer.{Answer, CountsRecords, IsAnswer, IsCleared, RecordsAnswer, accepted, answer_from, answer_to, bound_of, refuses, total_fault}
+use Rattle.preflight_cert.specs.CertificateReading.{CertificateValue, read_certificate}
+use Rattle.preflight_cert.specs.Checked.{checked}
+use Rattle.preflight_cert.specs.Checks.{Checks, StopsCheck}
+use Rattle.preflight_cert.specs.Drawings.{drawings_of}
+use Rattle.preflight_cert.specs.Entries.{budget_of}
+use Rattle.preflight_cert.specs.declared.refusal.Refusal.{Refusal}
+use Rattle.preflight_cert.specs.declared.walk.Totals.{Totals}
+use Rattle.preflight_cert.proofs.StartLemmas.{IsAtStart}
+
+-- the answer from a state on, on a surface, beside needs from before
+abbrev answer_on : Content → State → Surface → Needs → CertificateValue → Answer
+answer_on content state s needs c =
+    answer_from (checked content.steps content.fault 0 state s c.entries)
+    (total_fault (needs_after content.steps state needs) (budget_of (drawings_of content.steps state) c.entries s) c)
+
+module _ (content : Content) (c : CertificateValue) (noted : List ℕ) (m new : MachineState) (totals : Totals) (checks : Checks content m c.entries noted totals new) where
+  total_on : (fault : Option Fault) → total_fault new.needs totals.writes c ≡ fault
+      → total_fault (needs_after content.steps m.state m.needs) (budget_of (drawings_of content.steps m.state) c.entries m.surface) c ≡ fault
+  total_on fault e = rw (checks.needs, checks.is_budget) at e
+
+  accepted_on : total_fault new.needs totals.writes c ≡ None → accepted ≡ answer_on content m.state m.surface m.needs c
+  accepted_on e = rw (checks.in_order, total_on None e) refl
+
+  refused_on : (fault : Fault) → total_fault new.needs totals.writes c ≡ Some fault → refuses None fault ≡ answer_on content m.state m.surface m.needs c
+  refused_on fault e = rw (checks.in_order, total_on (Some fault) e) refl
+
+stopped_on : (content : Content) (c : CertificateValue) (m : MachineState) (r : Refusal) → StopsCheck content m c.entries r → refuses r.number r.fault ≡ answer_on content m.state m.surface m.needs c
+stopped_on content c m r h = rw (h.stops, h.number, h.fault) refl
+
+same_answer : (content : Content) (o : OpenedValue) (c : CertificateValue) (m : MachineState) → IsAtStart o (bound_of o c) m → answer_on content m.state m.surface m.needs c ≡ answer_to content o c
+same_answer content o c m at =
+    ap (λ (state : State). answer_on content state m.surface m.needs c) at.state
+    ∙ ap (λ (s : Surface). answer_on content (start_of o) s m.needs c) at.surface
+    ∙ ap (λ (needs : Needs). answer_on content (start_of o) (bound_of o c) needs c) at.needs
+
+module _ (content : Content) (o : OpenedValue) (records : List ℕ) (c : CertificateValue) (m : MachineState) (of_records : HasContentOf o.format records content) (at : IsAtStart o (bound_of o c) m) where
+  pub records_accepted : (noted : List ℕ) (new : MachineState) (totals : Totals) → Checks content m c.entries noted totals new → total_fault new.needs totals.writes c ≡ None → RecordsAnswer o records c accepted
+  records_accepted noted new totals checks none =
+      record { content = content; of_records = of_records; answers = accepted_on content c noted m new totals checks none ∙ same_answer content o c m at }
+
+  pub records_refused : (noted : List ℕ) (new : MachineState) (totals : Totals) (fault : Fault) → Checks content m c.entries noted totals new → total_fault new.needs totals.writes c ≡ Some fault → RecordsAnswer o records c (refuses None fault)
+  records_refused noted new totals fault checks some =
+      record { content = content; of_records = of_records; answers = refused_on content c noted m new totals checks fault some ∙ same_answer content o c m at }
+
+  pub records_stopped : (r : Refusal) → StopsCheck content m c.entries r → RecordsAnswer o records c (refuses r.number r.fault)
+  records_stopped r stops = record { content = content; of_records = of_records; answers = stopped_on content c m r stops ∙ same_answer content o c m at }
+
+  pub records_counted : ContentIsOne → (noted : List ℕ) (new : MachineState) (totals : Totals) → noted ≡ o.notes → Checks content m c.entries noted totals new → CountsRecords o records totals.records totals.notes.counts
+  records_counted one noted new totals of_headers checks =
+      let the_one = one (framing_of o.format) (meaning_of o.format) records in
+      let same : (other : Content) → HasContentOf o.format records other → content ≡ other =
+      λ (other : Content) (h : HasContentOf o.format records other). the_one.only content of_records ∙ sym (the_one.only other h) in
+      record {
+        all = λ other h. checks.records ∙ ap (λ (k : Content). length k.steps) (same other h);
+        notes = λ other h. checks.notes ∙ ap (λ (counts : List ℕ). notes_after content.steps counts) of_headers ∙ ap (λ (k : Content). file_notes k o) (same other h);
+      }
+
+pub cleared : ContentIsOne → (o : OpenedValue) (records : List ℕ) (c : CertificateValue) → RecordsAnswer o records c accepted → IsCleared o records c
+cleared one o records c answer content h =
+    let the_one = one (framing_of o.format) (meaning_of o.format) records in
+    answer.answers ∙ ap (λ (k : Content). answer_to k o c) (the_one.only answer.content answer.of_records ∙ sym (the_one.only content h))
+
+-- the answer to records is that to the file
+pub file_answer : (file bytes records : List ℕ) (o : OpenedValue) (c : CertificateValue) (answer : Answer) → opened file ≡ Ok o → read_certificate bytes ≡ Ok c → records ≡ record_bytes o.format file
+    → RecordsAnswer o records c answer → IsAnswer file bytes answer
+file_answer file bytes records o c answer e f g h = rw (e, f, sym g) h
+
+pub file_refusal : {W : Type 0} (file bytes records : List ℕ) (o : OpenedValue) (c : CertificateValue) (answer : Answer) → opened file ≡ Ok o → read_certificate bytes ≡ Ok c → records ≡ record_bytes o.format file
+    → RecordsAnswer o records c answer ⊎ W → IsAnswer file bytes answer ⊎ W
+file_refusal file bytes records o c answer e f g (inl h) = inl (file_answer file bytes records o c answer e f g h)
+file_refusal file bytes records o c answer e f g (inr w) = inr w

@@ -1,0 +1,135 @@
+-- What is gathered of an opened file's records is the text of the certificate for it, and that is accepted.
+use Rattle.std.proofs.Common.{◌≡◌, ℕ, ◌*◌, ◌/◌, ◌<◌, ◌≤◌, ◌^◌, List, [], ◌∷◌, length, Option, Some, None, Ok, refl, ap, sym, subst, ◌∙◌, arith}
+use Rattle.std.specs.Prelude.{IfSome}
+use Rattle.std.specs.List.{All, flat_map}
+use Rattle.mapping.specs.BoxLaws.{BoxLaws}
+use Rattle.mapping.specs.Limits.{IsSurfaceSide}
+use Rattle.mapping.specs.Surface.{Surface}
+use Rattle.draw_ops.specs.Content.{Content}
+use Rattle.dc_stack.specs.Drawing.{drawing_points}
+use Rattle.dc_stack.specs.MachineState.{MachineState}
+use Rattle.dc_stack.specs.State.{State, start_of, table_kind_of}
+use Rattle.dc_stack.specs.declared.needs.Needs.{Needs}
+use Rattle.meta_headers.specs.Headers.{OpenedValue}
+use Rattle.meta_headers.specs.Opening.{HasContentOf, surface_for}
+use Rattle.object_tables.specs.Table.{index_bound}
+use Rattle.preflight_cert.specs.After.{file_needs, needs_after}
+use Rattle.preflight_cert.specs.Answer.{AnswerLaws, AnswersRead, RecordsAnswer, accepted}
+use Rattle.preflight_cert.specs.CertificateReading.{CertificateValue, entry_limit, read_certificate, slot_limit}
+use Rattle.preflight_cert.specs.CertificateText.{certificate_text, entry_text, text_with}
+use Rattle.preflight_cert.specs.Drawings.{NumberedDrawing, drawings_of}
+use Rattle.preflight_cert.specs.Gathered.{Gathers, StopsGathering, least_budget, least_entries, least_texts}
+use Rattle.preflight_cert.specs.NeedLaws.{NeedLaws}
+use Rattle.preflight_cert.specs.Preparation.{AreLeast, IsPrepared, PreparesRecords}
+use Rattle.preflight_cert.specs.PreparationLaws.{PreparationLaws}
+use Rattle.preflight_cert.specs.PreparedRecords.{StopsRecords}
+use Rattle.preflight_cert.specs.Stop.{stop_of}
+use Rattle.preflight_cert.specs.TextLaws.{IsCertificate, IsEntry, TextLaws}
+use Rattle.preflight_cert.specs.TextParts.{full_text}
+use Rattle.preflight_cert.specs.declared.refusal.Refusal.{Refusal}
+use Rattle.preflight_cert.proofs.CertificateTextLemmas.{length-entries}
+use Rattle.preflight_cert.proofs.LeastBoxLemmas.{is_least}
+use Rattle.preflight_cert.proofs.StartLemmas.{IsAtStart}
+
+twenties : (n : ℕ) → 20 * n / 20 ≡ n
+twenties n = omega arith
+
+-- the certificate that is gathered
+abbrev least_certificate : Content → OpenedValue → ℕ → ℕ → CertificateValue
+least_certificate content o width height = record {
+  max_width = width;
+  max_height = height;
+  writes = least_budget (drawings_of content.steps (start_of o)) (surface_for o width height);
+  needs = file_needs content o;
+  entries = least_entries (drawings_of content.steps (start_of o));
+}
+
+are_least : BoxLaws → (drawings : List NumberedDrawing) → AreLeast drawings (least_entries drawings)
+are_least laws [] = tt
+are_least laws (one ∷ later) = (record { number = refl; box = is_least laws (drawing_points one.drawing) }, are_least laws later)
+
+is_prepared : BoxLaws → (content : Content) (o : OpenedValue) (width height : ℕ) → IsPrepared (least_certificate content o width height) o content width height
+is_prepared laws content o width height = record { wide = refl; high = refl; entries = are_least laws (drawings_of content.steps (start_of o)); writes = refl; needs = refl }
+
+few_entries : (n : ℕ) → 20 * n ≤ 20 * 2 ^ 20 → n ≤ entry_limit
+unfolding entry_limit
+few_entries n h = omega (arith, h)
+
+-- an index of 16 bits bounds the slots
+few_slots : (handles : Option ℕ) → IfSome handles (λ n. n < 2 ^ 16) → index_bound (table_kind_of handles) ≤ slot_limit
+few_slots None h = omega arith
+few_slots (Some n) h = omega (arith, h)
+
+module _ (content : Content) (o : OpenedValue) (records : List ℕ) (width height : ℕ) (m : MachineState) (of_records : HasContentOf o.format records content) (at : IsAtStart o (surface_for o width height) m) where
+  abbrev drawings : List NumberedDrawing
+  drawings = drawings_of content.steps (start_of o)
+
+  abbrev made : CertificateValue
+  made = least_certificate content o width height
+
+  same_stop : stop_of content m.state m.surface ≡ stop_of content (start_of o) (surface_for o width height)
+  same_stop = ap (λ (state : State). stop_of content state m.surface) at.state ∙ ap (λ (s : Surface). stop_of content (start_of o) s) at.surface
+
+  pub records_stop : (r : Refusal) → StopsGathering content m r → StopsRecords o records width height r
+  records_stop r h = record { content = content; of_records = of_records; stops = record { at = h.at; stops = sym same_stop ∙ h.stops; number = h.number; fault = h.fault } }
+
+  module _ (budget : ℕ) (new : MachineState) (after text : List ℕ) (h : Gathers content m [] budget new after) (written : text ≡ full_text width height budget new.needs after) where
+    unstopped : stop_of content (start_of o) (surface_for o width height) ≡ None
+    unstopped = sym same_stop ∙ h.unstopped
+
+    texts_are : after ≡ flat_map entry_text (least_entries drawings)
+    texts_are = h.texts ∙ ap (λ (state : State). least_texts (drawings_of content.steps state)) at.state
+
+    budget_is : budget ≡ made.writes
+    budget_is = h.is_budget ∙ ap (λ (state : State). least_budget (drawings_of content.steps state) m.surface) at.state ∙ ap (λ (s : Surface). least_budget drawings s) at.surface
+
+    needs_are : new.needs ≡ made.needs
+    needs_are = h.needs ∙ ap (λ (state : State). needs_after content.steps state m.needs) at.state ∙ ap (λ (needs : Needs). needs_after content.steps (start_of o) needs) at.needs
+
+    count_is : length after / 20 ≡ length made.entries
+    count_is = ap (λ (bs : List ℕ). length bs / 20) texts_are ∙ ap (λ (n : ℕ). n / 20) (length-entries made.entries) ∙ twenties (length made.entries)
+
+    text_is : text ≡ certificate_text made
+    text_is =
+        written ∙ ap (λ (n : ℕ). text_with width height n new.needs (length after / 20) after) budget_is
+        ∙ ap (λ (needs : Needs). text_with width height made.writes needs (length after / 20) after) needs_are
+        ∙ ap (λ (n : ℕ). text_with width height made.writes made.needs n after) count_is
+        ∙ ap (λ (bs : List ℕ). text_with width height made.writes made.needs (length made.entries) bs) texts_are
+
+    pub records_prepared : BoxLaws → PreparesRecords o records width height text
+    records_prepared laws = record {
+      content = content;
+      of_records = of_records;
+      unstopped = unstopped;
+      certificate = made;
+      is_prepared = is_prepared laws content o width height;
+      is_text = text_is;
+    }
+
+    is_certificate : NeedLaws → IsSurfaceSide width → IsSurfaceSide height → IfSome o.handles (λ n. n < 2 ^ 16) → budget < 2 ^ 64 → length after ≤ 20 * 2 ^ 20 → IsCertificate made
+    is_certificate laws wide high handles fits few =
+        let within = laws.limited content o (surface_for o width height) unstopped in
+        let slots = few_slots o.handles handles in
+        let same = budget_is in
+        let depth = within.depth in let most_slots = within.slots in let edges = within.edges in let pieces = within.pieces in
+        let count : length after ≡ 20 * length made.entries = ap (λ (bs : List ℕ). length bs) texts_are ∙ length-entries made.entries in
+        record {
+          wide = wide;
+          high = high;
+          writes = omega (arith, same, fits);
+          depth = depth;
+          slots = omega (arith, slots, most_slots);
+          edges = edges;
+          pieces = pieces;
+          few = few_entries (length made.entries) (omega (arith, count, few));
+          entries = subst (λ (state : State). All IsEntry (least_entries (drawings_of content.steps state))) at.state h.are_entries;
+        }
+
+    -- so it is read as it was, and accepted
+    pub records_read : BoxLaws → NeedLaws → PreparationLaws → TextLaws → AnswerLaws → IsSurfaceSide width → IsSurfaceSide height → IfSome o.handles (λ n. n < 2 ^ 16) → budget < 2 ^ 64
+        → length after ≤ 20 * 2 ^ 20 → AnswersRead (read_certificate text) o records accepted
+    records_read boxes needs preparation texts answers wide high handles fits few =
+        let back : read_certificate text ≡ Ok made = ap read_certificate text_is ∙ texts.reads_back made (is_certificate needs wide high handles fits few) in
+        let fitting = preparation.fits made o content width height (is_prepared boxes content o width height) unstopped in
+        let answer : RecordsAnswer o records made accepted = record { content = content; of_records = of_records; answers = (answers.fits content o made).1 fitting } in
+        rw back answer

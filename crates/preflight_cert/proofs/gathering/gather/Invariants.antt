@@ -1,0 +1,33 @@
+use Rattle.std.proofs.Common.{◌≡◌, ◌+◌, ◌*◌, ◌≤◌, ◌++◌, length}
+use Rattle.std.specs.List.{All}
+use Rattle.mapping.specs.PlaceOf.{surface_of}
+use Rattle.draw_ops.specs.Records.{record_limit}
+use Rattle.preflight_cert.specs.After.{needs_after}
+use Rattle.preflight_cert.specs.Drawings.{drawings_of}
+use Rattle.preflight_cert.specs.Gathered.{least_budget, least_entries, least_texts}
+use Rattle.preflight_cert.specs.Stop.{stopped}
+use Rattle.preflight_cert.specs.TextLaws.{IsEntry}
+use Rattle.preflight_cert.proofs.gathering.gather.Given as goal
+
+-- what is left is gathered as the whole is
+abbrev pub invariant-loop-step : goal.invariant-loop-step
+invariant-loop-step g l =
+    let content = g.S.HasContent.content in
+    let whole = content l.fn.source in
+    let left = content l.source in
+    let start = l.fn.machine.surface in
+    record {
+      short : l.before + length left.steps ≤ record_limit;
+      few : l.writes ≤ 134217728 * l.before;
+      lengths : length l.entries.items ≤ length l.fn.entries.items + 20 * l.before;
+      same_surface : l.machine.surface ≡ start;
+      place : surface_of l.place ≡ start;
+      stops : stopped whole.steps whole.fault 0 l.fn.machine.state start ≡ stopped left.steps left.fault l.before l.machine.state start;
+      texts : l.fn.entries.items ++ least_texts (drawings_of whole.steps l.fn.machine.state) ≡ l.entries.items ++ least_texts (drawings_of left.steps l.machine.state);
+      are_entries : All IsEntry (least_entries (drawings_of left.steps l.machine.state)) → All IsEntry (least_entries (drawings_of whole.steps l.fn.machine.state));
+      budget : least_budget (drawings_of whole.steps l.fn.machine.state) start ≡ l.writes + least_budget (drawings_of left.steps l.machine.state) start;
+      needs : needs_after whole.steps l.fn.machine.state l.fn.machine.needs ≡ needs_after left.steps l.machine.state l.machine.needs;
+    }
+
+abbrev pub decreases-loop-step : goal.decreases-loop-step
+decreases-loop-step g l = length (g.S.HasContent.content l.source).steps

@@ -1,0 +1,88 @@
+-- What is gathered of records for a certificate, record by record.
+use Rattle.std.specs.Prelude.{◌≡◌, ℕ, List, [], ◌∷◌, ◌++◌, map, Option, Some, None}
+use Rattle.std.specs.Int.{int_max, int_min}
+use Rattle.std.specs.List.{All, flat_map}
+use Rattle.mapping.specs.Boxes.{box_at, no_box}
+use Rattle.mapping.specs.Surface.{Surface}
+use Rattle.mapping.specs.declared.geometry.Point.{Point}
+use Rattle.mapping.specs.declared.geometry.Rect.{Rect}
+use Rattle.draw_ops.specs.Content.{Content}
+use Rattle.dc_stack.specs.Drawing.{Drawing, drawing_points}
+use Rattle.dc_stack.specs.MachineState.{MachineState}
+use Rattle.preflight_cert.specs.After.{needs_after}
+use Rattle.preflight_cert.specs.Budget.{layers_budget}
+use Rattle.preflight_cert.specs.CertificateText.{entry_text}
+use Rattle.preflight_cert.specs.Checks.{TellsStop}
+use Rattle.preflight_cert.specs.Drawings.{NumberedDrawing, drawings_of}
+use Rattle.preflight_cert.specs.Entries.{budget_of}
+use Rattle.preflight_cert.specs.Layer.{layers_of}
+use Rattle.preflight_cert.specs.Stop.{stop_of}
+use Rattle.preflight_cert.specs.TextLaws.{IsEntry}
+use Rattle.preflight_cert.specs.declared.entry.Entry.{Entry}
+use Rattle.preflight_cert.specs.declared.refusal.Refusal.{Refusal}
+
+-- the box around two others
+abbrev pub box_over : Rect → Rect → Rect
+box_over first second = record {
+  l = int_min first.l second.l;
+  t = int_min first.t second.t;
+  r = int_max first.r second.r;
+  b = int_max first.b second.b;
+}
+
+-- the box around a box and points
+abbrev pub box_around : Rect → List Point → Rect
+box_around box [] = box
+box_around box (point ∷ points) = box_around (box_over box (box_at point)) points
+
+-- the least box around points
+abbrev pub least_box : List Point → Rect
+least_box [] = no_box
+least_box (point ∷ points) = box_around (box_at point) points
+
+-- the entry of a drawing, with the least box around its points
+abbrev pub least_entry : NumberedDrawing → Entry
+least_entry one = record { number = one.number; bounds = least_box (drawing_points one.drawing) }
+
+-- the entries of drawings
+abbrev pub least_entries : List NumberedDrawing → List Entry
+least_entries drawings = map least_entry drawings
+
+-- their texts
+abbrev pub least_texts : List NumberedDrawing → List ℕ
+least_texts drawings = flat_map entry_text (least_entries drawings)
+
+-- and how many pixels they let a run write at most
+abbrev pub least_budget : List NumberedDrawing → Surface → ℕ
+least_budget drawings s = budget_of drawings (least_entries drawings) s
+
+-- a drawing of the record with this number
+abbrev numbered : ℕ → Drawing → NumberedDrawing
+numbered number drawing = record { number = number; drawing = drawing }
+
+-- the text of its entry, if a record draws
+abbrev pub drawing_text : ℕ → Option Drawing → List ℕ
+drawing_text number None = []
+drawing_text number (Some drawing) = entry_text (least_entry (numbered number drawing))
+
+-- the numbers of that entry are of 32 bits
+abbrev pub FitsEntry : ℕ → Option Drawing → Type 0
+FitsEntry number None = Unit
+FitsEntry number (Some drawing) = IsEntry (least_entry (numbered number drawing))
+
+-- and how many pixels it lets a run write at most
+abbrev pub least_drawing_budget : Option Drawing → Surface → ℕ
+least_drawing_budget None s = 0
+least_drawing_budget (Some drawing) s = layers_budget (layers_of drawing) (least_box (drawing_points drawing)) s
+
+-- the entries of all steps were appended, none of which stops, and the budget and the needs are theirs
+pub record Gathers (content : Content) (old : MachineState) (before : List ℕ) (budget : ℕ) (new : MachineState) (after : List ℕ) : Type 0 where
+  pub unstopped : stop_of content old.state old.surface ≡ None
+  pub texts : after ≡ before ++ least_texts (drawings_of content.steps old.state)
+  pub are_entries : All IsEntry (least_entries (drawings_of content.steps old.state))
+  pub is_budget : budget ≡ least_budget (drawings_of content.steps old.state) old.surface
+  pub needs : new.needs ≡ needs_after content.steps old.state old.needs
+
+-- the content stops, and the refusal tells where
+abbrev pub StopsGathering : Content → MachineState → Refusal → Type 0
+StopsGathering content old r = TellsStop (stop_of content old.state old.surface) r

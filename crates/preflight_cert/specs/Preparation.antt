@@ -1,0 +1,81 @@
+-- The certificate that is prepared for a file at a bound.
+use Rattle.std.specs.Prelude.{◌≡◌, ℕ, Bool, true, false, ◌&&◌, List, [], ◌∷◌, Option, None, Result, Ok, Err}
+use Rattle.mapping.specs.Boxes.{IsLeastBox}
+use Rattle.mapping.specs.Limits.{is_surface_side}
+use Rattle.draw_ops.specs.Content.{Content}
+use Rattle.draw_ops.specs.declared.fault.Fault.{Fault}
+use Rattle.draw_ops.specs.declared.fault.Fault.TheVariants.{BadBound}
+use Rattle.dc_stack.specs.Drawing.{drawing_points}
+use Rattle.dc_stack.specs.State.{start_of}
+use Rattle.meta_headers.specs.Headers.{OpenedValue}
+use Rattle.meta_headers.specs.Opening.{HasContentOf, opened, record_bytes, surface_for}
+use Rattle.preflight_cert.specs.After.{file_needs}
+use Rattle.preflight_cert.specs.Answer.{file_budget}
+use Rattle.preflight_cert.specs.CertificateReading.{CertificateValue}
+use Rattle.preflight_cert.specs.CertificateText.{certificate_text}
+use Rattle.preflight_cert.specs.Drawings.{NumberedDrawing, drawings_of}
+use Rattle.preflight_cert.specs.Run.{Refused}
+use Rattle.preflight_cert.specs.Stop.{stop_of}
+use Rattle.preflight_cert.specs.declared.entry.Entry.{Entry}
+
+-- an entry has the number of a drawing's record, and the least box around the drawing's points
+pub record IsLeastEntry (entry : Entry) (one : NumberedDrawing) : Type 0 where
+  pub number : entry.number ≡ one.number
+  pub box : IsLeastBox entry.bounds (drawing_points one.drawing)
+
+-- there is such an entry for each drawing, in order, and no other
+abbrev pub AreLeast : List NumberedDrawing → List Entry → Type 0
+AreLeast [] [] = Unit
+AreLeast [] (entry ∷ entries) = ⊥
+AreLeast (one ∷ later) [] = ⊥
+AreLeast (one ∷ later) (entry ∷ entries) = IsLeastEntry entry one × AreLeast later entries
+
+-- The certificate that is prepared for a file's records at a bound: the least box of each drawing, how many pixels these let a run write at
+-- most, and the records' needs.
+pub record IsPrepared (c : CertificateValue) (o : OpenedValue) (content : Content) (width height : ℕ) : Type 0 where
+  pub wide : c.max_width ≡ width
+  pub high : c.max_height ≡ height
+  pub entries : AreLeast (drawings_of content.steps (start_of o)) c.entries
+  pub writes : c.writes ≡ file_budget content o c
+  pub needs : c.needs ≡ file_needs content o
+
+-- records of an opened file have a content that doesn't stop at the bound, and the bytes are the text of the certificate for it
+pub record PreparesRecords (o : OpenedValue) (records : List ℕ) (width height : ℕ) (bytes : List ℕ) : Type 0 where
+  pub content : Content
+  pub of_records : HasContentOf o.format records content
+  pub unstopped : stop_of content (start_of o) (surface_for o width height) ≡ None
+  pub certificate : CertificateValue
+  pub is_prepared : IsPrepared certificate o content width height
+  pub is_text : bytes ≡ certificate_text certificate
+
+-- only for an opened file is a certificate prepared
+abbrev pub PreparesIfOpened : Result OpenedValue Fault → List ℕ → ℕ → ℕ → List ℕ → Type 0
+PreparesIfOpened (Err fault) file width height bytes = ⊥
+PreparesIfOpened (Ok o) file width height bytes = PreparesRecords o (record_bytes o.format file) width height bytes
+
+-- a surface may have these sides
+abbrev pub is_bound : ℕ → ℕ → Bool
+is_bound width height = is_surface_side width && is_surface_side height
+
+-- and only for a bound that a surface may have
+abbrev pub PreparesWithin : Bool → List ℕ → ℕ → ℕ → List ℕ → Type 0
+PreparesWithin false file width height bytes = ⊥
+PreparesWithin true file width height bytes = PreparesIfOpened (opened file) file width height bytes
+
+-- The bytes are the certificate that is prepared for a file at a bound.
+abbrev pub Prepares : List ℕ → ℕ → ℕ → List ℕ → Type 0
+Prepares file width height bytes = PreparesWithin (is_bound width height) file width height bytes
+
+-- the bound lies in no record
+pub record IsBoundFault (number : Option ℕ) (fault : Fault) : Type 0 where
+  pub in_none : number ≡ None
+  pub bad : fault ≡ BadBound
+
+-- a bound that no surface may have comes first
+abbrev pub RefusesWithin : Bool → List ℕ → ℕ → ℕ → Option ℕ → Fault → Type 0
+RefusesWithin false file width height number fault = IsBoundFault number fault
+RefusesWithin true file width height number fault = Refused file width height number fault
+
+-- No certificate is prepared for a file at a bound: the bound isn't one, or the file's run there is refused by this fault.
+abbrev pub RefusesToPrepare : List ℕ → ℕ → ℕ → Option ℕ → Fault → Type 0
+RefusesToPrepare file width height number fault = RefusesWithin (is_bound width height) file width height number fault

@@ -1,0 +1,42 @@
+-- What is prepared is accepted, and it is the least that is.
+use Rattle.std.specs.Prelude.{◌≡◌, ◌≤◌, ℕ, List, [], ◌∷◌, None}
+use Rattle.mapping.specs.Boxes.{HasPoint}
+use Rattle.mapping.specs.PlacingLaws.{ShowsFrame}
+use Rattle.mapping.specs.declared.geometry.Point.{Point}
+use Rattle.draw_ops.specs.Content.{Content}
+use Rattle.dc_stack.specs.State.{start_of}
+use Rattle.meta_headers.specs.Headers.{OpenedValue}
+use Rattle.meta_headers.specs.Opening.{surface_for}
+use Rattle.preflight_cert.specs.Answer.{Fits, bound_of}
+use Rattle.preflight_cert.specs.CertificateReading.{CertificateValue}
+use Rattle.preflight_cert.specs.NeedLaws.{AreWithin}
+use Rattle.preflight_cert.specs.Preparation.{IsPrepared}
+use Rattle.preflight_cert.specs.Stop.{stop_of}
+use Rattle.preflight_cert.specs.declared.entry.Entry.{Entry}
+
+-- entries are of the same records, one for one, and each box holds the other's
+abbrev pub AreHeldBy : List Entry → List Entry → Type 0
+AreHeldBy [] [] = Unit
+AreHeldBy [] (other ∷ others) = ⊥
+AreHeldBy (entry ∷ entries) [] = ⊥
+AreHeldBy (entry ∷ entries) (other ∷ others) =
+    (entry.number ≡ other.number × ((point : Point) → HasPoint entry.bounds point → HasPoint other.bounds point)) × AreHeldBy entries others
+
+-- a certificate asks for no more than another: its boxes lie in the other's, and its needs and writes are at most the other's
+pub record IsNoMore (c other : CertificateValue) : Type 0 where
+  pub boxes : AreHeldBy c.entries other.entries
+  pub needs : AreWithin c.needs other.needs
+  pub writes : c.writes ≤ other.writes
+
+-- The certificate that is prepared for records that don't stop at the bound fits them; there is only one, and each other one that fits
+-- them at that bound asks for no less.
+pub record PreparationLaws : Type 0 where
+  pub fits :
+      (c : CertificateValue) (o : OpenedValue) (content : Content) (width height : ℕ) → IsPrepared c o content width height
+      → stop_of content (start_of o) (surface_for o width height) ≡ None → Fits c o content
+  pub one :
+      (c other : CertificateValue) (o : OpenedValue) (content : Content) (width height : ℕ)
+      → IsPrepared c o content width height → IsPrepared other o content width height → c ≡ other
+  pub least :
+      (c other : CertificateValue) (o : OpenedValue) (content : Content) → ShowsFrame (bound_of o other)
+      → IsPrepared c o content other.max_width other.max_height → Fits other o content → IsNoMore c other

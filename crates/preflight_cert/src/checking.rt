@@ -1,0 +1,115 @@
+//! Checking a certificate against a file.
+
+ghost use Rattle.std.specs.Prelude.{◌≡◌, ◌⊎◌, Ok, IfErr, IfOk, OnOk};
+ghost use Rattle.meta_headers.specs.OpenedOf.{opened_of};
+ghost use Rattle.meta_headers.specs.Opening.{opened};
+ghost use Rattle.preflight_cert.specs.Answer.{CountsRecords, IsAnswer, RecordsAnswer, Sound, accepted, are_within, refuses, total_fault};
+ghost use Rattle.preflight_cert.specs.CertificateOf.{certificate_of};
+ghost use Rattle.preflight_cert.specs.CertificateReading.{read_certificate};
+ghost use Rattle.preflight_cert.specs.Checks.{IsWantOfMemory};
+
+use crate::certificate::Certificate;
+use crate::cleared::Cleared;
+use crate::file_table::FileTable;
+use crate::laws::answer_law;
+use crate::refusal::Refusal;
+use crate::walk::check_steps;
+use dc_stack::{Machine, Needs};
+use draw_ops::{Fault, Notes, content_law};
+use mapping::Place;
+use meta_headers::{Opened, open_file};
+use std::alloc::Global;
+
+/// Checks a certificate against a file, at the size of its bound. Where it is accepted, each run of the file on a surface up to
+/// that bound has no fault and writes at most the certified number of pixels. The refusal is the first, in this order: the
+/// file doesn't open; the certificate can't be read; a record has a fault at the bound, or its drawing no entry of its number
+/// (`WrongEntry`), or one whose box lacks a point (`BoxTooSmall`); an entry is left over; a need is too small, or the writes are.
+pub fn check<'a>(
+    alloc: Global,
+    file: &'a [u8],
+    certificate: &'a [u8],
+) -> Result<Cleared<'a>, Refusal>
+    ensures accepted { OnOk result (IsAnswer file.now certificate.now accepted) }
+    ensures opened { IfOk result (λ c. opened file.now ≡ Ok (opened_of c.opened)) }
+    ensures read { IfOk result (λ c. read_certificate certificate.now ≡ Ok (certificate_of c.certificate)) }
+    ensures counts { IfOk result (λ c. CountsRecords (opened_of c.opened) c.opened.records.now c.records c.notes.counts) }
+    ensures sound { IfOk result (λ c. Sound file.now c.certificate.max_width c.certificate.max_height c.certificate.writes) }
+    ensures refusal { IfErr result (λ r. IsAnswer file.now certificate.now (refuses r.number r.fault) ⊎ IsWantOfMemory r) }
+{
+    answer_law();
+    let opened = match open_file(file) {
+        Ok(opened) => opened,
+        Err(fault) => return Err(Refusal::of_file(fault)),
+    };
+    let certificate = match Certificate::read(certificate) {
+        Ok(certificate) => certificate,
+        Err(fault) => return Err(Refusal::of_file(fault)),
+    };
+    match check_opened(alloc, opened, certificate) {
+        Ok(cleared) => Ok(cleared),
+        Err(refusal) => Err(refusal),
+    }
+}
+
+/// The same for an opened file and a certificate that was read.
+fn check_opened<'a>(
+    alloc: Global,
+    opened: Opened<'a>,
+    certificate: Certificate<'a>,
+) -> Result<Cleared<'a>, Refusal>
+    ensures opened { IfOk result (λ c. c.opened ≡ opened.entry) }
+    ensures certificate { IfOk result (λ c. c.certificate ≡ certificate.entry) }
+    ensures counts { IfOk result (λ c. CountsRecords (opened_of opened.entry) opened.entry.records.now c.records c.notes.counts) }
+    ensures accepted { OnOk result
+        (RecordsAnswer (opened_of opened.entry) opened.entry.records.now (certificate_of certificate.entry) accepted) }
+    ensures refusal { IfErr result
+        (λ r. RecordsAnswer (opened_of opened.entry) opened.entry.records.now (certificate_of certificate.entry) (refuses r.number r.fault) ⊎ IsWantOfMemory r) }
+{
+    content_law();
+    answer_law();
+    let place = Place::new(&opened.frame, certificate.max_width, certificate.max_height);
+    let table = FileTable::new(alloc, opened.handles);
+    let mut machine = Machine::new(alloc, &opened, place, table);
+    let totals = match check_steps(
+        &mut opened.source(),
+        &mut machine,
+        place,
+        certificate.entries,
+        Notes::of(opened.notes),
+    ) {
+        Ok(totals) => totals,
+        Err(refusal) => return Err(refusal),
+    };
+    match total_fault(machine.needs(), totals.writes, &certificate) {
+        None => Ok(Cleared {
+            opened,
+            certificate,
+            records: totals.records,
+            notes: totals.notes,
+        }),
+        Some(fault) => Err(Refusal::of_file(fault)),
+    }
+}
+
+/// The fault of what a certificate says of the whole: a need that is too small, or else too few writes.
+fn total_fault(needs: Needs, budget: u64, certificate: &Certificate<'_>) -> Option<Fault>
+    ensures { result ≡ total_fault needs budget (certificate_of certificate.now) }
+{
+    if !are_within(needs, certificate.needs) {
+        return Some(Fault::NeedTooSmall);
+    }
+    if budget <= certificate.writes {
+        return None;
+    }
+    Some(Fault::BudgetTooSmall)
+}
+
+/// Whether needs are at most others.
+fn are_within(needs: Needs, others: Needs) -> bool
+    ensures { result ≡ are_within needs others }
+{
+    needs.depth <= others.depth
+        && needs.slots <= others.slots
+        && needs.edges <= others.edges
+        && needs.pieces <= others.pieces
+}

@@ -1,0 +1,89 @@
+//! Gathering the entries of a file's drawings.
+
+ghost use Rattle.std.specs.Prelude.{◌≡◌, ◌≤◌, ◌⊎◌, ◌+◌, ◌*◌, ◌^◌, ◌++◌, IfErr, IfOk, IfSome, OnOk, length};
+ghost use Rattle.std.specs.Option.{option_map};
+ghost use Rattle.mapping.specs.PlaceOf.{surface_of};
+ghost use Rattle.draw_ops.specs.Records.{record_limit};
+ghost use Rattle.dc_stack.specs.Draws.{IsPlacedDraw};
+ghost use Rattle.dc_stack.specs.MachineState.{drawing_with};
+ghost use Rattle.preflight_cert.specs.Checks.{IsWantOfMemory};
+ghost use Rattle.preflight_cert.specs.Gathered.{FitsEntry, Gathers, StopsGathering, drawing_text, least_drawing_budget};
+
+use crate::budget::box_cells;
+use crate::covering::pixel_budget;
+use crate::entry::Entry;
+use crate::layer_count::layer_count;
+use crate::refusal::Refusal;
+use crate::writing::put_entry;
+use dc_stack::{Draw, Machine};
+use draw_ops::{Fault, OpSource};
+use mapping::{Place, box_law};
+use object_tables::Table;
+use span_fill::OutOfMemory;
+
+/// Appends the entries of the steps that are left of a source, and tells how many pixels they let a run write at most.
+#[tactic(auto, using(crate::proofs::GatheredLemmas::gathered))]
+pub(crate) fn gather<'a, S: OpSource<'a>, T: Table<'a>>(
+    source: &mut S,
+    machine: &mut Machine<'a, T>,
+    place: Place,
+    entries: &mut Vec<u8>,
+) -> Result<u64, Refusal>
+    requires short { length (S.content source.old).steps ≤ record_limit }
+    requires place { surface_of place ≡ machine.old.surface }
+    ensures gathers { IfOk result
+        (λ budget. Gathers (S.content source.old) machine.old entries.old.items budget machine.new entries.new.items) }
+    ensures few { OnOk result (length entries.new.items ≤ length entries.old.items + 20 * 2 ^ 20) }
+    ensures refusal { IfErr result (λ r. StopsGathering (S.content source.old) machine.old r ⊎ IsWantOfMemory r) }
+{
+    let mut before: u32 = 0;
+    let mut writes: u64 = 0;
+    loop {
+        let step = match source.next_op() {
+            Ok(Some(step)) => step,
+            Ok(None) => return Ok(writes),
+            Err(fault) => return Err(Refusal::at(before, fault)),
+        };
+        let drawn = match machine.step(step.op) {
+            Ok(drawn) => drawn,
+            Err(Fault::OutOfMemory) => return Err(Refusal::of_file(Fault::OutOfMemory)),
+            Err(fault) => return Err(Refusal::at(step.number, fault)),
+        };
+        match add_entry(step.number, drawn, machine, place, entries) {
+            Ok(more) => writes += more,
+            Err(OutOfMemory) => return Err(Refusal::of_file(Fault::OutOfMemory)),
+        }
+        before += 1;
+    }
+}
+
+/// Appends the entry of what a record draws, if it draws, with the least box, and tells how many pixels it lets a run write at most.
+#[tactic(auto, using(crate::proofs::BudgetLemmas::budgets))]
+fn add_entry<'a, T: Table<'a>>(
+    number: u32,
+    drawn: Option<Draw<'a>>,
+    machine: &Machine<'a, T>,
+    place: Place,
+    entries: &mut Vec<u8>,
+) -> Result<u64, OutOfMemory>
+    requires place { surface_of place ≡ machine.now.surface }
+    requires placed { IfSome drawn (IsPlacedDraw machine.now.surface machine.now.painted) }
+    ensures text { OnOk result
+        (entries.new.items ≡ entries.old.items ++ drawing_text number (option_map (drawing_with machine.now) drawn.entry)) }
+    ensures fits { OnOk result (FitsEntry number (option_map (drawing_with machine.now) drawn.entry)) }
+    ensures budget { IfOk result
+        (λ n. n ≡ least_drawing_budget (option_map (drawing_with machine.now) drawn.entry) machine.now.surface) }
+    ensures few { IfOk result (λ n. n ≤ 134217728) }
+    ensures most { OnOk result (length entries.new.items ≤ length entries.old.items + 20) }
+{
+    let Some(drawn) = drawn else {
+        return Ok(0);
+    };
+    box_law();
+    let entry = Entry {
+        number,
+        bounds: drawn.bounds,
+    };
+    put_entry(entries, entry)?;
+    Ok(pixel_budget(layer_count(&drawn, machine), box_cells(drawn.bounds, place)))
+}
