@@ -2,7 +2,13 @@
 #![tactic(auto)]
 
 #[cfg(test)]
+mod certificates;
+#[cfg(test)]
+mod cleared;
+#[cfg(test)]
 mod comparing;
+#[cfg(test)]
+mod files;
 #[cfg(test)]
 mod machine_sizes;
 #[cfg(test)]

@@ -23,3 +23,4 @@ pub mod FigureLemmas
 pub mod PaintedFigureLemmas
 pub mod WorkedPaths
 pub mod WorkedFigures
+pub mod ClearedLemmas

@@ -1,5 +1,5 @@
--- A step that is refused on a machine with full room has the operation's fault.
-use Rattle.std.proofs.Common.{◌≡◌, ℕ, ◌↔◌, IsSome, Option, Some, Result, Ok, Err, inl, inr, refl, ◌∙◌}
+-- A step that is refused on a machine with room has the operation's fault.
+use Rattle.std.proofs.Common.{◌≡◌, ℕ, ◌↔◌, IsSome, Option, Some, Result, Ok, Err, inl, inr, refl, ◌∙◌, arith}
 use Rattle.mapping.specs.Surface.{Surface}
 use Rattle.draw_ops.specs.Content.{Content, StepValue, broken_by, with_step}
 use Rattle.draw_ops.specs.Fault.{IsInRecord}
@@ -9,19 +9,38 @@ use Rattle.draw_ops.specs.declared.step.Step.{Step}
 use Rattle.draw_ops.specs.Operation.{Operation}
 use Rattle.draw_ops.specs.declared.fault.Fault.{Fault}
 use Rattle.dc_stack.specs.FaultLaws.{FaultLaws}
-use Rattle.dc_stack.specs.MachineState.{FullRoomIsEnough, HasFullRoom, MachineState, RefusesStep}
+use Rattle.dc_stack.specs.MachineState.{FullRoomIsEnough, MachineState, RefusesStep, WantsRoom}
+use Rattle.dc_stack.specs.Needs.{greater_needs, needs_of}
+use Rattle.dc_stack.specs.Next.{next}
 use Rattle.dc_stack.specs.OperationFault.{fault_of}
 use Rattle.dc_stack.specs.State.{State}
 use Rattle.player.specs.Advances.{StopsAfter}
+use Rattle.player.specs.After.{HasRoomForSteps, IsEnoughRoom}
 use Rattle.player.specs.Plays.{StopsBy}
+use Rattle.preflight_cert.specs.NeedLaws.{HasRoomFor, NeedLaws}
 use Rattle.preflight_cert.specs.Stop.{stop_at, stop_of, stopped}
 use Rattle.preflight_cert.specs.declared.refusal.Refusal.{Refusal}
 
+-- room for the needs of all steps is room for those of the first
+room_for_first : NeedLaws → (step : StepValue) (rest : Content) (m : MachineState) → IsEnoughRoom (with_step step rest) m → HasRoomFor (needs_of step.operation m.state) m
+room_for_first laws step rest m room =
+    let within = laws.before rest.steps (next step.operation m.state) (greater_needs m.needs (needs_of step.operation m.state)) in
+    let depth = within.depth in let slots = within.slots in let pieces = within.pieces in
+    let deep = room.depth in let many = room.slots in let long = room.pieces in
+    record { depth = omega (arith, depth, deep); slots = omega (arith, slots, many); pieces = omega (arith, pieces, long) }
+
 -- no memory is wanted
-pub refused_by_fault : FullRoomIsEnough → (operation : Operation) (m : MachineState) (fault : Fault) → HasFullRoom m → RefusesStep operation m fault → fault_of operation m.state m.surface ≡ Some fault
-refused_by_fault enough operation m fault room refuses = elim refuses [
+wants_none : FullRoomIsEnough → NeedLaws → (left rest : Content) (step : StepValue) (m : MachineState) (fault : Fault) → left ≡ with_step step rest → HasRoomForSteps left m → WantsRoom step.operation m fault → ⊥
+wants_none enough laws left rest step m fault is room wants = elim room [
+  | inl full ↦ enough step.operation m fault full wants
+  | inr steps ↦ laws.enough step.operation m fault (room_for_first laws step rest m (rw is at steps)) wants
+]
+
+pub refused_by_fault : FullRoomIsEnough → NeedLaws → (left rest : Content) (step : StepValue) (m : MachineState) (fault : Fault) → left ≡ with_step step rest → HasRoomForSteps left m → RefusesStep step.operation m fault
+    → fault_of step.operation m.state m.surface ≡ Some fault
+refused_by_fault enough laws left rest step m fault is room refuses = elim refuses [
   | inl h ↦ h
-  | inr wants ↦ absurd (enough operation m fault room wants)
+  | inr wants ↦ absurd (wants_none enough laws left rest step m fault is room wants)
 ]
 
 -- what is left stops where it breaks

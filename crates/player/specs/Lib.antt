@@ -21,3 +21,4 @@ pub mod RowsPainted
 pub mod Dots
 pub mod RectangleBoxes
 pub mod Regions
+pub mod ClearedPlay

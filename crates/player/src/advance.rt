@@ -1,14 +1,15 @@
 //! Playing one step of a source.
 
-ghost use Rattle.std.specs.Prelude.{◌≡◌, ◌↔◌, IfErr, IsSome};
+ghost use Rattle.std.specs.Prelude.{◌≡◌, ◌↔◌, IfErr, IsSome, OnOk};
 ghost use Rattle.draw_ops.specs.Fault.{IsInRecord};
-ghost use Rattle.dc_stack.specs.MachineState.{GoesOn, HasFullRoom};
+ghost use Rattle.dc_stack.specs.MachineState.{GoesOn};
 ghost use Rattle.player.specs.Advances.{Advances};
+ghost use Rattle.player.specs.After.{HasRoomForSteps};
 
 use dc_stack::{Draw, Machine, fault_law, room_law};
 use draw_ops::OpSource;
 use object_tables::Table;
-use preflight_cert::Refusal;
+use preflight_cert::{Refusal, need_law};
 
 /// Plays the next step that is left of a source, and tells what it draws, if it draws; none where no step is left. The
 /// refusal is the first fault with its record, so many records being before what is left.
@@ -19,12 +20,14 @@ pub(crate) fn advance<'a, S: OpSource<'a>, T: Table<'a>>(
     machine: &mut Machine<'a, T>,
     before: u32,
 ) -> Result<Option<Option<Draw<'a>>>, Refusal>
-    requires room { HasFullRoom machine.old }
+    requires room { HasRoomForSteps (S.content source.old) machine.old }
     ensures advances { Advances before (S.content source.old) machine.old result (S.content source.new) machine.new }
     ensures record { IfErr result (λ r. IsSome r.number ↔ IsInRecord r.fault) }
     ensures goes_on { GoesOn machine.old machine.new }
+    ensures room { OnOk result (HasRoomForSteps (S.content source.new) machine.new) }
 {
     room_law();
+    need_law();
     fault_law();
     let step = match source.next_op() {
         Ok(Some(step)) => step,

@@ -8,12 +8,16 @@
 //! - A refused file has that fault first, in that record (`play_file`, by `Refused`; `play_on`, by
 //!   `StopsRecordsBy`), or it opens and memory for its canvas, its machine or the lines of a drawing was
 //!   refused, before the first of its records was drawn (`play_file`, by `WantsMemory`).
+//! - A file whose certificate was accepted plays over whatever a canvas of a surface within its bound shows, and leaves the run's image,
+//!   with no more pixels written than certified. It is refused only where a side is above the bound, or memory was, and then the canvas is
+//!   what it was (`play`).
 //! - Playing on a machine with full room, with rows that have room for any drawing, and on a canvas that
 //!   is there is never refused for memory (`play_on`).
 #![tactic(auto)]
 
 mod advance;
 mod blits;
+mod cleared_play;
 mod dots;
 mod drawing;
 mod figure_outline;
@@ -26,7 +30,7 @@ mod paint;
 mod path_moves;
 mod piece_lines;
 mod placed_lines;
-mod play;
+mod playing;
 mod raster_operation;
 mod rectangles;
 mod regions;
@@ -36,4 +40,5 @@ mod strips;
 mod stroking;
 mod survey;
 
-pub use play::{play_file, play_on};
+pub use cleared_play::play;
+pub use playing::{play_file, play_on};

@@ -7,7 +7,7 @@ ghost use Rattle.draw_ops.specs.Records.{record_limit};
 ghost use Rattle.dc_stack.specs.MachineState.{GoesOn, HasFullRoom};
 ghost use Rattle.dc_stack.specs.Needs.{no_needs};
 ghost use Rattle.dc_stack.specs.State.{start_state};
-ghost use Rattle.player.specs.After.{AreLinesOfRecords};
+ghost use Rattle.player.specs.After.{AreLinesOfRecords, HasRoomForSteps};
 ghost use Rattle.player.specs.Plays.{RunsThrough, StopsBy, StopsRecordsBy};
 
 use crate::advance::advance;
@@ -49,7 +49,7 @@ fn survey<'a, S: OpSource<'a>, T: Table<'a>>(
     machine: &mut Machine<'a, T>,
 ) -> Result<(), Refusal>
     requires short { length (S.content source.old).steps ≤ record_limit }
-    requires room { HasFullRoom machine.old }
+    requires room { HasRoomForSteps (S.content source.old) machine.old }
     ensures played { OnOk result (RunsThrough (S.content source.old) machine.old machine.new) }
     ensures refusal { IfErr result (StopsBy (S.content source.old) machine.old.state machine.old.surface) }
     ensures record { IfErr result (λ r. IsSome r.number ↔ IsInRecord r.fault) }

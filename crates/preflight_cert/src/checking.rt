@@ -2,7 +2,7 @@
 
 ghost use Rattle.std.specs.Prelude.{◌≡◌, ◌⊎◌, Ok, IfErr, IfOk, OnOk};
 ghost use Rattle.meta_headers.specs.OpenedOf.{opened_of};
-ghost use Rattle.meta_headers.specs.Opening.{opened};
+ghost use Rattle.meta_headers.specs.Opening.{opened, record_bytes};
 ghost use Rattle.preflight_cert.specs.Answer.{CountsRecords, IsAnswer, RecordsAnswer, Sound, accepted, are_within, refuses, total_fault};
 ghost use Rattle.preflight_cert.specs.CertificateOf.{certificate_of};
 ghost use Rattle.preflight_cert.specs.CertificateReading.{read_certificate};
@@ -31,6 +31,7 @@ pub fn check<'a>(
 ) -> Result<Cleared<'a>, Refusal>
     ensures accepted { OnOk result (IsAnswer file.now certificate.now accepted) }
     ensures opened { IfOk result (λ c. opened file.now ≡ Ok (opened_of c.opened)) }
+    ensures records { IfOk result (λ c. c.opened.records.now ≡ record_bytes c.opened.format file.now) }
     ensures read { IfOk result (λ c. read_certificate certificate.now ≡ Ok (certificate_of c.certificate)) }
     ensures counts { IfOk result (λ c. CountsRecords (opened_of c.opened) c.opened.records.now c.records c.notes.counts) }
     ensures sound { IfOk result (λ c. Sound file.now c.certificate.max_width c.certificate.max_height c.certificate.writes) }
@@ -66,7 +67,6 @@ fn check_opened<'a>(
         (λ r. RecordsAnswer (opened_of opened.entry) opened.entry.records.now (certificate_of certificate.entry) (refuses r.number r.fault) ⊎ IsWantOfMemory r) }
 {
     content_law();
-    answer_law();
     let place = Place::new(&opened.frame, certificate.max_width, certificate.max_height);
     let table = FileTable::new(alloc, opened.handles);
     let mut machine = Machine::new(alloc, &opened, place, table);

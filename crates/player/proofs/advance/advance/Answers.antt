@@ -16,13 +16,19 @@ returns-in-Err-step-clause-advances g c =
     let content = g.S.HasContent.content in
     let machine = c.args.machine.now in
     let step = c.in-Ok-Some.step in
-    let fault = refused_by_fault c.room_law.ensures (operation_of step.op) machine c.in-Err-step.fault c.requires.room c.in-Err-step.ensures.refused in
-    let given = begins_with (content c.args.source.now) (content c.next_op.new.self) c.next_op.result step c.next_op.ensures.gives (c.in-Ok-Some.is ∙ ap Ok c.in-Ok-Some.field-0-is) in
+    let left = content c.args.source.now in
+    let rest = content c.next_op.new.self in
+    let given = begins_with left rest c.next_op.result step c.next_op.ensures.gives (c.in-Ok-Some.is ∙ ap Ok c.in-Ok-Some.field-0-is) in
+    let fault = refused_by_fault c.room_law.ensures c.need_law.ensures left rest (step_value_of step) machine c.in-Err-step.fault given c.requires.room c.in-Err-step.ensures.refused in
     stops_at_first c.args.before (content c.args.source.now) (content c.next_op.new.self) (step_value_of step) machine.state machine.surface c.in-Err-step.fault c.at-in-Err-step.result given fault c.at-in-Err-step.ensures.number c.at-in-Err-step.ensures.fault
 
 pub returns-in-Err-step-clause-record : goal.returns-in-Err-step-clause-record
 returns-in-Err-step-clause-record g c =
+    let content = g.S.HasContent.content in
     let machine = c.args.machine.now in
     let step = c.in-Ok-Some.step in
-    let fault = refused_by_fault c.room_law.ensures (operation_of step.op) machine c.in-Err-step.fault c.requires.room c.in-Err-step.ensures.refused in
+    let left = content c.args.source.now in
+    let rest = content c.next_op.new.self in
+    let given = begins_with left rest c.next_op.result step c.next_op.ensures.gives (c.in-Ok-Some.is ∙ ap Ok c.in-Ok-Some.field-0-is) in
+    let fault = refused_by_fault c.room_law.ensures c.need_law.ensures left rest (step_value_of step) machine c.in-Err-step.fault given c.requires.room c.in-Err-step.ensures.refused in
     lies_in_record c.fault_law.ensures (operation_of step.op) machine.state machine.surface c.in-Err-step.fault step.number c.at-in-Err-step.result fault c.at-in-Err-step.ensures.number c.at-in-Err-step.ensures.fault

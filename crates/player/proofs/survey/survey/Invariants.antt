@@ -1,6 +1,7 @@
 use Rattle.std.proofs.Common.{◌≡◌, ◌+◌, ◌≤◌, length}
 use Rattle.draw_ops.specs.Records.{record_limit}
-use Rattle.dc_stack.specs.MachineState.{GoesOn, HasFullRoom}
+use Rattle.dc_stack.specs.MachineState.{GoesOn}
+use Rattle.player.specs.After.{HasRoomForSteps}
 use Rattle.preflight_cert.specs.After.{needs_after, state_after}
 use Rattle.preflight_cert.specs.Stop.{stopped}
 use Rattle.player.proofs.survey.survey.Given as goal
@@ -14,7 +15,7 @@ invariant-loop-before g l =
       short : l.before + length (content l.source).steps ≤ record_limit;
       same_surface : l.machine.surface ≡ start;
       goes_on : GoesOn l.fn.machine l.machine;
-      room : HasFullRoom l.machine;
+      room : HasRoomForSteps (content l.source) l.machine;
       stops : stopped (content l.fn.source).steps (content l.fn.source).fault 0 l.fn.machine.state start ≡ stopped (content l.source).steps (content l.source).fault l.before l.machine.state start;
       state : state_after (content l.fn.source).steps l.fn.machine.state ≡ state_after (content l.source).steps l.machine.state;
       needs : needs_after (content l.fn.source).steps l.fn.machine.state l.fn.machine.needs ≡ needs_after (content l.source).steps l.machine.state l.machine.needs;

@@ -2,7 +2,7 @@ use Rattle.std.proofs.Common.{rules}
 use Rattle.draw_ops.specs.Records.{record_limit}
 use Rattle.player.specs.Advances.{PlaysFirst}
 use Rattle.player.proofs.AfterLemmas.{room_for_first}
-use Rattle.player.proofs.play.play_steps.Goals as goal
+use Rattle.player.proofs.playing.play_steps.Goals as goal
 
 pub draw-requires : goal.draw-requires
 draw-requires g c =

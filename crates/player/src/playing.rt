@@ -7,7 +7,7 @@ ghost use Rattle.draw_ops.specs.Fault.{IsInRecord};
 ghost use Rattle.draw_ops.specs.Records.{record_limit};
 ghost use Rattle.meta_headers.specs.OpenedOf.{opened_of};
 ghost use Rattle.dc_stack.specs.MachineState.{GoesOn, HasFullRoom};
-ghost use Rattle.player.specs.After.{HasLines, HasLinesForRecords};
+ghost use Rattle.player.specs.After.{HasLines, HasLinesForRecords, HasRoomForRecords, HasRoomForSteps};
 ghost use Rattle.player.specs.Plays.{IsWhole, Plays, PlaysOpened, PlaysRecords, SameRows, StopsBy, StopsOpenedBy, StopsRecordsBy, WantsMemory};
 ghost use Rattle.preflight_cert.specs.Run.{Refused, Run, Writes, shown, white};
 
@@ -114,15 +114,15 @@ pub fn play_on<'a, T: Table<'a>>(
     play_records(opened, machine, rows, canvas)
 }
 
-/// Plays an opened file's records as `play_on` does, with rows that have room for those of each of its drawings.
-fn play_records<'a, T: Table<'a>>(
+/// Plays an opened file's records as `play_on` does, on a machine and with rows that have room for what these records need.
+pub(crate) fn play_records<'a, T: Table<'a>>(
     opened: &Opened<'a>,
     machine: &mut Machine<'a, T>,
     rows: &mut RowBuf,
     canvas: &mut Canvas,
 ) -> Result<u64, Refusal>
     requires whole { IsWhole canvas.old machine.old.surface }
-    requires room { HasFullRoom machine.old }
+    requires room { HasRoomForRecords opened.now.format opened.now.records.now machine.old }
     requires lines { HasLinesForRecords rows.old.room opened.now.format opened.now.records.now machine.old }
     requires countable { canvas.old.writes ≤ 2 ^ 63 }
     ensures played { OnOk result
@@ -151,7 +151,7 @@ fn play_steps<'a, S: OpSource<'a>, T: Table<'a>>(
 ) -> Result<(), Refusal>
     requires short { length (S.content source.old).steps ≤ record_limit }
     requires whole { IsWhole canvas.old machine.old.surface }
-    requires room { HasFullRoom machine.old }
+    requires room { HasRoomForSteps (S.content source.old) machine.old }
     requires lines { HasLines rows.old.room (S.content source.old) machine.old }
     requires countable { canvas.old.writes ≤ 2 ^ 63 }
     ensures played { OnOk result (Plays (S.content source.old) machine.old machine.new canvas.old canvas.new) }

@@ -1,15 +1,15 @@
 use Rattle.std.proofs.Common.{◌≡◌, ◌+◌, ◌*◌, ◌≤◌, length}
 use Rattle.canvas.specs.CanvasState.{image_of}
 use Rattle.draw_ops.specs.Records.{record_limit}
-use Rattle.dc_stack.specs.MachineState.{GoesOn, HasFullRoom}
-use Rattle.player.specs.After.{HasLines}
+use Rattle.dc_stack.specs.MachineState.{GoesOn}
+use Rattle.player.specs.After.{HasLines, HasRoomForSteps}
 use Rattle.preflight_cert.specs.After.{needs_after, state_after}
 use Rattle.preflight_cert.specs.Apply.{image_after}
 use Rattle.preflight_cert.specs.Drawings.{drawings_of}
 use Rattle.player.specs.Plays.{IsWhole, SameRows}
 use Rattle.preflight_cert.specs.Stop.{stopped}
 use Rattle.preflight_cert.specs.Writes.{writes_after}
-use Rattle.player.proofs.play.play_steps.Given as goal
+use Rattle.player.proofs.playing.play_steps.Given as goal
 
 -- what is left of the run ends as the whole run does
 abbrev pub invariant-loop-drawn : goal.invariant-loop-drawn
@@ -21,7 +21,7 @@ invariant-loop-drawn g l =
       few : l.canvas.writes ≤ l.fn.canvas.writes + 134217728 * l.before;
       same_surface : l.machine.surface ≡ start;
       goes_on : GoesOn l.fn.machine l.machine;
-      room : HasFullRoom l.machine;
+      room : HasRoomForSteps (content l.source) l.machine;
       same_room : l.rows.room ≡ l.fn.rows.room;
       lines : HasLines l.rows.room (content l.source) l.machine;
       whole : IsWhole l.canvas start;

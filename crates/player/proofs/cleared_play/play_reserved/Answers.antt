@@ -1,0 +1,38 @@
+-- A cleared file never stops, and writes no more than certified.
+use Rattle.std.proofs.Common.{◌≡◌, ◌+◌, refl, subst}
+use Rattle.mapping.specs.PlacingLaws.{IsNoLarger, ShowsFrame}
+use Rattle.meta_headers.specs.OpenedOf.{opened_of}
+use Rattle.dc_stack.specs.State.{State}
+use Rattle.preflight_cert.specs.Answer.{bound_of}
+use Rattle.preflight_cert.specs.CertificateOf.{certificate_of}
+use Rattle.preflight_cert.specs.Drawings.{drawings_of}
+use Rattle.preflight_cert.specs.Writes.{writes_after}
+use Rattle.player.specs.Plays.{StopsRecordsBy}
+use Rattle.player.proofs.ClearedLemmas.{few_written, never_stops}
+use Rattle.player.proofs.cleared_play.play_reserved.Goals as goal
+
+pub unreachable-requires : goal.unreachable-requires
+unreachable-requires g c =
+    let cleared = c.args.cleared.now in
+    let o = opened_of cleared.opened in
+    let k = certificate_of cleared.certificate in
+    let s = c.args.machine.now.surface in
+    let smaller : IsNoLarger s (bound_of o k) = rw c.requires.surface (record { width = c.requires.within.wide; height = c.requires.within.high; frame_width = refl; frame_height = refl }) in
+    let frame : ShowsFrame (bound_of o k) = record { wide = cleared.opened.frame.wide; high = cleared.opened.frame.high } in
+    let refusal : StopsRecordsBy o.format cleared.opened.records.now c.args.machine.now.state s c.in-Err.field-0 = c.in-Err.ensures.refusal in
+    let stops = subst (λ (state : State). StopsRecordsBy o.format cleared.opened.records.now state s c.in-Err.field-0) c.requires.state refusal in
+    never_stops c.answer_law.ensures o cleared.opened.records.now k cleared.checked c.size_law.ensures s frame smaller c.in-Err.field-0 stops
+
+pub returns-clause-few : goal.returns-clause-few
+returns-clause-few g c =
+    let cleared = c.args.cleared.now in
+    let o = opened_of cleared.opened in
+    let k = certificate_of cleared.certificate in
+    let s = c.args.machine.now.surface in
+    let old = c.args.canvas.now.writes in
+    let new = c.play_records.new.canvas.writes in
+    let smaller : IsNoLarger s (bound_of o k) = rw c.requires.surface (record { width = c.requires.within.wide; height = c.requires.within.high; frame_width = refl; frame_height = refl }) in
+    let frame : ShowsFrame (bound_of o k) = record { wide = cleared.opened.frame.wide; high = cleared.opened.frame.high } in
+    let played = c.in-Ok.ensures.played in
+    let count = subst (λ (state : State). new ≡ old + writes_after (drawings_of played.content.steps state) s) c.requires.state played.plays.writes in
+    few_written c.answer_law.ensures o cleared.opened.records.now k cleared.checked c.size_law.ensures s frame smaller played.content played.of_records old new c.in-Ok.writes c.in-Ok.ensures.count count
