@@ -6,6 +6,7 @@ use draw_ops::Fault;
 use part_tests::DOT;
 use preflight_cert::{Refusal, check, prepare};
 use std::alloc::{AllocError, Global};
+use std::process::Abort;
 use std::test::Fail;
 
 /// A placeable file with the box (0, 0)-(4, 4) and a polygon (0, 0), (4, 0), (0, 4).
@@ -36,33 +37,28 @@ fn with_byte(alloc: Global, place: usize, byte: u8) -> Result<Vec<u8>, AllocErro
 
 /// A file's certificate at a bound has these numbers behind its mark, and is accepted.
 fn prepares(
-    rt: &HostRuntime,
+    rt: &impl Abort,
+    alloc: Global,
     file: &[u8],
     width: u32,
     height: u32,
     longs: &[u32],
 ) -> Result<(), Fail> {
-    let text = prepare(rt.alloc(), file, width, height)?;
-    let want = certificate(rt.alloc(), longs)?;
+    let text = prepare(alloc, file, width, height)?;
+    let want = certificate(alloc, longs)?;
     same(rt, text.len(), want.len());
     for (k, byte) in text.as_slice().iter().enumerate() {
         same(rt, (k, Some(byte)), (k, want.get(k)));
     }
-    let cleared = check(rt.alloc(), file, text.as_slice())?;
+    let cleared = check(alloc, file, text.as_slice())?;
     same(rt, cleared.certificate.max_width, width);
     same(rt, cleared.certificate.max_height, height);
     Ok(())
 }
 
 /// A file has no certificate at a bound, by this fault in this record.
-fn stops(
-    rt: &HostRuntime,
-    file: &[u8],
-    side: u32,
-    number: u32,
-    fault: Fault,
-) {
-    let refused = prepare(rt.alloc(), file, side, side).err();
+fn stops(rt: &impl Abort, alloc: Global, file: &[u8], side: u32, number: u32, fault: Fault) {
+    let refused = prepare(alloc, file, side, side).err();
     same(rt, refused, Some(Refusal::at(number, fault)));
 }
 
@@ -92,18 +88,26 @@ fn what_is_prepared_is_accepted(rt: HostRuntime) -> Result<(), Fail> {
 #[test]
 fn a_file_without_a_drawing_has_no_entry(rt: HostRuntime) -> Result<(), Fail> {
     let nothing = enhanced(rt.alloc(), 0, &[])?;
-    prepares(&rt, &nothing, 2, 2, &[2, 2, 0, 0, 0, 0, 0, 0, 0])
+    prepares(
+        &rt,
+        rt.alloc(),
+        &nothing,
+        2,
+        2,
+        &[2, 2, 0, 0, 0, 0, 0, 0, 0],
+    )
 }
 
 #[test]
 fn a_null_pen_leaves_out_a_layer(rt: HostRuntime) -> Result<(), Fail> {
     // A null pen, and a polygon through (5, 0), (8, 10), (0, 4), (10, 4), (2, 10): one layer of 10 by 10.
     let star = [
-        8, 0, 0x2fa, 5, 0, 0, 0, 0, 4, 0, 0x12d, 0, 14, 0, 0x324, 5, 5, 0, 8, 10, 0, 4, 10, 4, 2, 10,
+        8, 0, 0x2fa, 5, 0, 0, 0, 0, 4, 0, 0x12d, 0, 14, 0, 0x324, 5, 5, 0, 8, 10, 0, 4, 10, 4, 2,
+        10,
     ];
     let file = placeable(rt.alloc(), 10, &star)?;
     let numbers = [10, 10, 100, 0, 0, 1, 5, 0, 1, 2, 0, 0, 10, 10];
-    prepares(&rt, &file, 10, 10, &numbers)
+    prepares(&rt, rt.alloc(), &file, 10, 10, &numbers)
 }
 
 #[test]
@@ -112,7 +116,7 @@ fn a_line_has_the_box_of_its_points(rt: HostRuntime) -> Result<(), Fail> {
     let line = [10, 0, 0x325, 3, 0, 0, 4, 0, 0, 0];
     let file = placeable(rt.alloc(), 8, &line)?;
     let numbers = [8, 8, 5, 0, 0, 0, 3, 0, 1, 0, 0, 0, 4, 0];
-    prepares(&rt, &file, 8, 8, &numbers)
+    prepares(&rt, rt.alloc(), &file, 8, 8, &numbers)
 }
 
 #[test]
@@ -123,14 +127,14 @@ fn a_path_has_its_entry_where_it_is_painted(rt: HostRuntime) -> Result<(), Fail>
     ];
     let file = enhanced(rt.alloc(), 3, &closed)?;
     let numbers = [4, 4, 32, 0, 0, 0, 3, 3, 1, 7, 0, 0, 4, 4];
-    prepares(&rt, &file, 4, 4, &numbers)?;
+    prepares(&rt, rt.alloc(), &file, 4, 4, &numbers)?;
     // Without CLOSEFIGURE and with STROKEPATH: one layer, of the record before.
     let open = [
         59, 8, 27, 16, 0, 0, 54, 16, 4, 0, 54, 16, 0, 4, 60, 8, 64, 24, 0, 0, 0, 0,
     ];
     let file = enhanced(rt.alloc(), 3, &open)?;
     let numbers = [4, 4, 16, 0, 0, 0, 3, 3, 1, 6, 0, 0, 4, 4];
-    prepares(&rt, &file, 4, 4, &numbers)
+    prepares(&rt, rt.alloc(), &file, 4, 4, &numbers)
 }
 
 #[test]
@@ -139,34 +143,35 @@ fn a_path_of_no_point_has_an_empty_box(rt: HostRuntime) -> Result<(), Fail> {
     let file = enhanced(rt.alloc(), 3, &nothing)?;
     let minus_one = 0xffff_ffff;
     let numbers = [4, 4, 0, 0, 0, 0, 0, 0, 1, 3, 0, 0, minus_one, minus_one];
-    prepares(&rt, &file, 4, 4, &numbers)
+    prepares(&rt, rt.alloc(), &file, 4, 4, &numbers)
 }
 
 #[test]
 fn a_rectangle_is_filled_and_stroked(rt: HostRuntime) -> Result<(), Fail> {
     let file = enhanced(rt.alloc(), 3, &[43, 24, 0, 0, 3, 3])?;
     let numbers = [4, 4, 32, 0, 0, 0, 4, 0, 1, 1, 0, 0, 3, 3];
-    prepares(&rt, &file, 4, 4, &numbers)
+    prepares(&rt, rt.alloc(), &file, 4, 4, &numbers)
 }
 
 #[test]
 fn the_deepest_save_and_the_highest_object_are_needed(rt: HostRuntime) -> Result<(), Fail> {
     // SAVEDC, SAVEDC, RESTOREDC -1, two null pens.
     let records = [
-        3, 0, 0x1e, 3, 0, 0x1e, 4, 0, 0x127, 0xffff, 8, 0, 0x2fa, 5, 0, 0, 0, 0, 8, 0, 0x2fa, 5, 0, 0, 0, 0,
+        3, 0, 0x1e, 3, 0, 0x1e, 4, 0, 0x127, 0xffff, 8, 0, 0x2fa, 5, 0, 0, 0, 0, 8, 0, 0x2fa, 5, 0,
+        0, 0, 0,
     ];
     let file = placeable(rt.alloc(), 4, &records)?;
-    prepares(&rt, &file, 4, 4, &[4, 4, 0, 0, 2, 2, 0, 0, 0])
+    prepares(&rt, rt.alloc(), &file, 4, 4, &[4, 4, 0, 0, 2, 2, 0, 0, 0])
 }
 
 #[test]
 fn the_plane_ends_where_it_does(rt: HostRuntime) -> Result<(), Fail> {
     let file = enhanced(rt.alloc(), 8191, &[54, 16, 268_435_456, 0])?;
     let numbers = [8192, 8192, 8192, 0, 0, 0, 2, 0, 1, 1, 0, 0, 268_435_456, 0];
-    prepares(&rt, &file, 8192, 8192, &numbers)?;
+    prepares(&rt, rt.alloc(), &file, 8192, 8192, &numbers)?;
     for column in [268_435_457, 2_147_483_647] {
         let file = enhanced(rt.alloc(), 8191, &[54, 16, column, 0])?;
-        stops(&rt, &file, 8192, 1, Fault::OffPlane);
+        stops(&rt, rt.alloc(), &file, 8192, 1, Fault::OffPlane);
     }
     Ok(())
 }
@@ -202,10 +207,22 @@ fn each_number_of_a_certificate_is_looked_at(rt: HostRuntime) -> Result<(), Fail
 fn the_first_of_two_faults_is_told(rt: HostRuntime) -> Result<(), Fail> {
     // The box lacks a point and the writes are too few; then the writes and a need.
     for (longs, refusal) in [
-        ([4, 4, 31, 0, 0, 0, 2, 0, 1, 0, 0, 0, 3, 4], Refusal::at(0, Fault::BoxTooSmall)),
-        ([4, 4, 31, 0, 0, 0, 2, 0, 1, 0, 0, 0, 4, 4], Refusal::of_file(Fault::NeedTooSmall)),
-        ([4, 4, 31, 0, 0, 0, 3, 0, 1, 0, 0, 0, 4, 4], Refusal::of_file(Fault::BudgetTooSmall)),
-        ([4, 4, 32, 0, 0, 0, 3, 0, 1, 9, 0, 0, 3, 4], Refusal::at(0, Fault::WrongEntry)),
+        (
+            [4, 4, 31, 0, 0, 0, 2, 0, 1, 0, 0, 0, 3, 4],
+            Refusal::at(0, Fault::BoxTooSmall),
+        ),
+        (
+            [4, 4, 31, 0, 0, 0, 2, 0, 1, 0, 0, 0, 4, 4],
+            Refusal::of_file(Fault::NeedTooSmall),
+        ),
+        (
+            [4, 4, 31, 0, 0, 0, 3, 0, 1, 0, 0, 0, 4, 4],
+            Refusal::of_file(Fault::BudgetTooSmall),
+        ),
+        (
+            [4, 4, 32, 0, 0, 0, 3, 0, 1, 9, 0, 0, 3, 4],
+            Refusal::at(0, Fault::WrongEntry),
+        ),
     ] {
         let text = certificate(rt.alloc(), &longs)?;
         let refused = check(rt.alloc(), &POLYGON, text.as_slice()).err();
@@ -222,10 +239,26 @@ fn entries_stand_in_the_order_of_their_drawings(rt: HostRuntime) -> Result<(), F
     let first = [0, 0, 0, 0, 0];
     let second = [1, 3, 3, 3, 3];
     for (count, entries, refusal) in [
-        (2, [first, second, first], Some(Refusal::of_file(Fault::TrailingBytes))),
-        (3, [first, second, second], Some(Refusal::at(2, Fault::WrongEntry))),
-        (3, [second, first, first], Some(Refusal::at(0, Fault::WrongEntry))),
-        (3, [first, first, second], Some(Refusal::at(1, Fault::WrongEntry))),
+        (
+            2,
+            [first, second, first],
+            Some(Refusal::of_file(Fault::TrailingBytes)),
+        ),
+        (
+            3,
+            [first, second, second],
+            Some(Refusal::at(2, Fault::WrongEntry)),
+        ),
+        (
+            3,
+            [second, first, first],
+            Some(Refusal::at(0, Fault::WrongEntry)),
+        ),
+        (
+            3,
+            [first, first, second],
+            Some(Refusal::at(1, Fault::WrongEntry)),
+        ),
     ] {
         let mut longs = Vec::from_slice(rt.alloc(), &[4, 4, 2, 0, 0, 0, 0, 0, count])?;
         for entry in entries {
@@ -264,10 +297,13 @@ fn an_entry_that_is_left_over_is_refused_at_the_end_record(rt: HostRuntime) -> R
 fn what_is_off_at_the_bound_may_be_on_at_less(rt: HostRuntime) -> Result<(), Fail> {
     // With a frame of one unit, the column 32,769 lands past the limit on a surface of 8,192 columns.
     let file = enhanced(rt.alloc(), 0, &[54, 16, 32_769, 0])?;
-    stops(&rt, &file, 8192, 1, Fault::OffPlane);
+    stops(&rt, rt.alloc(), &file, 8192, 1, Fault::OffPlane);
     let numbers = [1, 1, 1, 0, 0, 0, 2, 0, 1, 1, 0, 0, 32_769, 0];
-    prepares(&rt, &file, 1, 1, &numbers)?;
-    let wide = certificate(rt.alloc(), &[8192, 1, 8192, 0, 0, 0, 2, 0, 1, 1, 0, 0, 32_769, 0])?;
+    prepares(&rt, rt.alloc(), &file, 1, 1, &numbers)?;
+    let wide = certificate(
+        rt.alloc(),
+        &[8192, 1, 8192, 0, 0, 0, 2, 0, 1, 1, 0, 0, 32_769, 0],
+    )?;
     let refused = check(rt.alloc(), &file, wide.as_slice()).err();
     same(&rt, refused, Some(Refusal::at(1, Fault::OffPlane)));
     Ok(())
@@ -277,7 +313,11 @@ fn what_is_off_at_the_bound_may_be_on_at_less(rt: HostRuntime) -> Result<(), Fai
 fn a_bound_and_a_file_are_refused(rt: HostRuntime) -> Result<(), Fail> {
     let bad = Refusal::of_file(Fault::BadBound);
     for (width, height) in [(0, 4), (4, 0), (8193, 4), (4, 8193)] {
-        same(&rt, prepare(rt.alloc(), &[], width, height).err(), Some(bad));
+        same(
+            &rt,
+            prepare(rt.alloc(), &[], width, height).err(),
+            Some(bad),
+        );
     }
     let none = Refusal::of_file(Fault::NotMetafile);
     same(&rt, prepare(rt.alloc(), &[], 4, 4).err(), Some(none));

@@ -11,7 +11,9 @@ use preflight_cert::{check, prepare};
 use std::test::Fail;
 
 const K: Colour = Colour { r: 0, g: 0, b: 0 };
+
 const W: Colour = Colour::WHITE;
+
 const B: Colour = BLUE;
 
 #[test]
