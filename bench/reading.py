@@ -16,6 +16,13 @@ OUT = ROOT / "bench" / "out"
 
 # The crates that a program stands on, and what its line in crates.txt names.
 NEEDED = {
+    "certificates_bench": (
+        [
+            *("mapping", "point_views", "dib_views", "draw_ops", "wmf_records", "emf_records", "meta_headers", "object_tables"),
+            *("raster_ops", "dc_stack", "span_fill", "canvas", "preflight_cert", "player"),
+        ],
+        "player preflight_cert meta_headers draw_ops canvas mapping",
+    ),
     "points_bench": (["mapping", "point_views"], "mapping point_views byteorder"),
     "records_bench": (
         ["mapping", "point_views", "dib_views", "draw_ops", "wmf_records", "emf_records"],

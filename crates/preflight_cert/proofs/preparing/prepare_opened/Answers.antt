@@ -13,8 +13,8 @@ use Rattle.preflight_cert.proofs.PreparedLemmas.{records_prepared, records_read}
 use Rattle.preflight_cert.proofs.StartLemmas.{IsAtStart}
 use Rattle.preflight_cert.proofs.preparing.prepare_opened.Goals as goal
 
-pub returns-in-Ok-put_text-clause-text : goal.returns-in-Ok-put_text-clause-text
-returns-in-Ok-put_text-clause-text c =
+pub returns-in-Ok-put_text : goal.returns-in-Ok-put_text
+returns-in-Ok-put_text c =
     let opened = c.args.opened in
     let o = opened_of opened in
     let w = c.args.max_width in
@@ -25,25 +25,14 @@ returns-in-Ok-put_text-clause-text c =
     let content = source_content c.source.result in
     let new = c.gather.new.machine in
     let after = c.gather.new.entries.items in
+    let text = c.in-Ok-put_text.text.items in
     let gathers = subst (λ (before : List ℕ). Gathers content m before c.in-Ok.writes new after) c.new-entries.ensures.items c.in-Ok.ensures.gathers in
-    let written : c.in-Ok-put_text.text.items ≡ full_text w h c.in-Ok.writes new.needs after = search rules in
-    records_prepared content o opened.records.now w h m c.source.ensures.content at c.in-Ok.writes new after c.in-Ok-put_text.text.items gathers written c.box_law.ensures
-
-pub returns-in-Ok-put_text-clause-accepted : goal.returns-in-Ok-put_text-clause-accepted
-returns-in-Ok-put_text-clause-accepted c =
-    let opened = c.args.opened in
-    let o = opened_of opened in
-    let w = c.args.max_width in
-    let h = c.args.max_height in
-    let m = c.new-machine.result in
-    let state = c.new-machine.ensures.state ∙ ap (λ (kind : TableKind). start_state (map_numbers opened.start_map) kind) c.new-table.ensures in
-    let at : IsAtStart o (surface_for o w h) m = record { state = state; surface = c.new-machine.ensures.surface ∙ c.new-place.ensures.surface; needs = c.new-machine.ensures.needs } in
-    let content = source_content c.source.result in
-    let new = c.gather.new.machine in
-    let after = c.gather.new.entries.items in
-    let gathers = subst (λ (before : List ℕ). Gathers content m before c.in-Ok.writes new after) c.new-entries.ensures.items c.in-Ok.ensures.gathers in
-    let written : c.in-Ok-put_text.text.items ≡ full_text w h c.in-Ok.writes new.needs after = search rules in
+    let written : text ≡ full_text w h c.in-Ok.writes new.needs after = search rules in
     let handles : IfSome o.handles (λ n. n < 2 ^ 16) = search rules in
     let fits : c.in-Ok.writes < 2 ^ 64 = search rules in
-    records_read content o opened.records.now w h m c.source.ensures.content at c.in-Ok.writes new after c.in-Ok-put_text.text.items gathers written
-    c.box_law.ensures c.need_law.ensures c.preparation_law.ensures c.text_law.ensures c.answer_law.ensures c.requires.wide c.requires.high handles fits (search rules)
+    record {
+      text = records_prepared content o opened.records.now w h m c.source.ensures.content at c.in-Ok.writes new after text gathers written c.box_law.ensures;
+      accepted = records_read content o opened.records.now w h m c.source.ensures.content at c.in-Ok.writes new after text gathers written
+          c.box_law.ensures c.need_law.ensures c.preparation_law.ensures c.text_law.ensures c.answer_law.ensures c.requires.wide c.requires.high handles fits (search rules);
+      refusal = tt;
+    }
