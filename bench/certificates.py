@@ -27,9 +27,9 @@ def small_records(form, script):
 
 
 def large_polygon():
-    """A file of one polygon with as many points as it may have."""
+    """A file of one polygon with as many points as it may have, all near the top, so that few rows are painted."""
     chance = random.Random(1)
-    places = [chance.randrange(FRAME) for _ in range(2 * POINTS)]
+    places = [chance.randrange(side) for _ in range(POINTS) for side in (FRAME, 4)]
     return EMF.file([EMF.step("short_polygon", *places)], FRAME, 0)
 
 

@@ -14,7 +14,7 @@ from edit_functions import functions, modules_of
 GIVES_UP = re.compile(
     r'\b(?:OutOfMemory|CannotRead|WriteFault|InputFault|REFUSED|USAGE|INPUT_OR_OUTPUT|OUT_OF_MEMORY|ExitCode|AllocError)\b'
     r'|"cannot (?:read|write)"|\breport\(|\bcommand\.error\(|\.then_some\(|\breserve\(|\bmake_room\(|\bfrom_elem\('
-    r'|\bwith_capacity\(|\breserve_exact\('
+    r'|\bwith_capacity\(|\breserve_exact\(|\btry_reserve|\bresize_with\(|\bextend_from_within\(|\bfrom_slice\(|\.repeat\(|\.collect\('
     r"|\bresize\(|\bextend_from_slice\(|\bgrow\(|(?<!self)\.push\(|\.insert\(|\.append\(|\bto_vec\(|\bvec!|\bBox::"
 )
 
@@ -25,7 +25,10 @@ HANDS_ON = re.compile(r"-> [^{]*Result<[^{]*\b(?:OutOfMemory|WriteFault|InputFau
 ASKS = re.compile(r"-> Option<")
 
 # A function that answers a status: each number in it may be one.
-STATUS = re.compile(r"-> (?:u8|ExitCode)\b")
+STATUS = re.compile(r"-> (?:u8|ExitCode|Answer)\b")
+
+# A function whose answer may tell that it gives up: it is listed, whatever its lines say.
+MAY_TELL = re.compile(r"-> [^{]*\b(?:OutOfMemory|WriteFault|InputFault|AllocError|Refusal|Answer)\b")
 
 CONTRACT = re.compile(r"(?m)^ +(?:requires|ensures|decreases|where)\b")
 
@@ -46,10 +49,15 @@ class Body(NamedTuple):
 
     function: str
     lines: tuple
+    may_tell: bool = False
 
     def gives_up(self):
         """Whether any of its lines does."""
         return any(line.gives_up for line in self.lines)
+
+    def is_listed(self):
+        """Whether it stands in the list: it gives up, or its answer may tell that something did."""
+        return self.may_tell or self.gives_up()
 
 
 def without_comments(text):
@@ -58,11 +66,12 @@ def without_comments(text):
 
 
 def body_start(text):
-    """Where the body of a function's text begins: behind the first line that is a brace alone, or that ends the signature by one.
-    What a trait only declares has none."""
-    alone = re.search(r"(?m)^ *\{$", text)
+    """Where the body of a function's text begins: behind the brace that ends the signature, or, where a contract stands behind that,
+    behind the first line that is a brace alone. What a trait only declares has none."""
     signature = re.search(r"(?m)\{(?: *\})?$", text)
-    start = alone if alone and CONTRACT.search(text, 0, alone.start()) else signature
+    contract = CONTRACT.search(text)
+    alone = re.search(r"(?m)^ *\{$", text)
+    start = alone if alone and contract and contract.start() < signature.start() else signature
     declared = re.search(r"(?m);$", text)
     if not start or (declared and declared.start() < start.start()):
         return len(text)
@@ -86,9 +95,11 @@ def giving_up(answer, text):
 def body(name, function, text):
     """The body of a function, which stands in a file of this text."""
     start = body_start(function)
+    answer = " ".join(CONTRACT.split(function[:start])[0].split())
     gives_up = giving_up(" ".join(function[:start].split()), text)
     inside = textwrap.dedent(function[start:].rpartition("}")[0])
-    return Body(name, tuple(Line(line, gives_up(line)) for line in inside.splitlines() if line.strip()))
+    lines = tuple(Line(line, gives_up(line)) for line in inside.splitlines() if line.strip())
+    return Body(name, lines, bool(MAY_TELL.search(answer)))
 
 
 def bodies(crate, sources):
@@ -99,6 +110,23 @@ def bodies(crate, sources):
         for path in sorted(plain)
         for it in functions(crate, plain, path)
     ]
+
+
+# What a name of a source file stands for: an import, or a module.
+NAME = re.compile(r"(?ms)^ *(?:pub(?:\([^)]*\))? )?(?:use|mod) [^;{]*(?:\{[^;]*\})?;")
+
+
+def names_of(crate, sources, names):
+    """The imports and modules of the files in which functions of these names stand, and of the crate's root, of each file as a body without a
+    reason: a name may lead elsewhere than its text says."""
+    found = []
+    for path in sorted(sources):
+        is_told = any(it.name in names for it in functions(crate, sources, path))
+        if is_told or (names and path in ("src/lib.rt", "src/main.rt")):
+            lines = [Line(" ".join(it[0].split()), False) for it in NAME.finditer(without_comments(sources[path]))]
+            if lines:
+                found.append(Body("::".join([crate, *modules_of(path), "use"]), tuple(lines)))
+    return found
 
 
 # A constant of a source file, on one line.

@@ -13,7 +13,7 @@ import unittest
 from typing import NamedTuple
 
 from built import CRATES
-from refusal_places import Body, Line, bodies, constants
+from refusal_places import Body, Line, bodies, constants, names_of
 
 LIST = pathlib.Path(__file__).with_name("refusals_made.txt")
 
@@ -45,29 +45,40 @@ class Told(NamedTuple):
     reasons: tuple
 
 
-def is_source(path):
-    """Whether a file is of the crate's own sources, and not of its tests."""
-    return "tests" not in path.parts and path.name != "tests.rt"
-
-
 def sources_of(crate):
-    """The sources of a crate by their paths in its folder."""
+    """The sources of a crate by their paths in its folder. Tests stand in crates of their own."""
     paths = [path.relative_to(crate) for path in sorted((crate / "src").rglob("*.rt"))]
-    return {str(path): (crate / path).read_text() for path in paths if is_source(path)}
+    return {str(path): (crate / path).read_text() for path in paths}
+
+
+def crates_of_code():
+    """The crates, those of tests left out."""
+    return [crate for crate in sorted(CRATES.iterdir()) if (crate / "src").is_dir() and not crate.name.endswith("tests")]
+
+
+def with_names(crate, sources):
+    """The bodies of a crate to be listed, and what the names and constants of their files stand for."""
+    found = [it for it in bodies(crate, sources) if it.is_listed() or it.function in BETWEEN]
+    names = {it.function for it in found}
+    return found + constants(crate, sources, names) + names_of(crate, sources, names)
 
 
 def all_bodies():
-    """The bodies to be listed of all crates, those of tests left out."""
-    crates = [crate for crate in sorted(CRATES.iterdir()) if (crate / "src").is_dir() and not crate.name.endswith("tests")]
-    found = [it for crate in crates for it in bodies(crate.name, sources_of(crate))]
-    found = [it for it in found if it.gives_up() or it.function in BETWEEN]
-    return found + [it for crate in crates for it in constants(crate.name, sources_of(crate), {it.function for it in found})]
+    """The bodies to be listed of all crates."""
+    return [it for crate in crates_of_code() for it in with_names(crate.name, sources_of(crate))]
 
 
 # Another name for what is told where the sources give up, under which a place would not be found.
 ALIAS = re.compile(
     r"(?m)^ *(?:pub(?:\([^)]*\))? )?(?:use [^;]*\b(?:OutOfMemory|CannotRead|WriteFault|InputFault) as |"
     r"(?:const|static|type) [^;]*\b(?:OutOfMemory|CannotRead|WriteFault|InputFault)\b)[^\n]*"
+)
+
+
+# What would make a body, or such a fault, that isn't read here.
+HIDING = re.compile(
+    r"\bmacro_rules!|\binclude!|\bDefault for\b|"
+    r"\bDefault\b[^)\n]*\)\]\s*(?:pub(?:\([^)]*\))? )?(?:struct|enum) (?:OutOfMemory|WriteFault|InputFault|Refusal|Answer)\b"
 )
 
 
@@ -156,6 +167,14 @@ class Sources(unittest.TestCase):
         found = [line for crate in crates for text in sources_of(crate).values() for line in aliases(text)]
         self.assertEqual(found, [])
 
+    def test_no_text_is_made_elsewhere(self):
+        # What a macro writes, and what a fault is by default, no list of bodies would show.
+        found = [it[0] for crate in crates_of_code() for text in sources_of(crate).values() for it in HIDING.finditer(text)]
+        self.assertEqual(found, [])
+        made = ["macro_rules! full {\n", "impl Default for Fault {\n", "#[derive(Clone, Default)]\npub(crate) enum InputFault {\n"]
+        self.assertEqual([len(HIDING.findall(text)) for text in made], [1, 1, 1])
+        self.assertEqual(HIDING.findall("#[derive(Clone, Default)]\npub struct Span {\n"), [])
+
     def test_another_name_is_found(self):
         self.assertEqual(len(aliases("use crate::room::OutOfMemory as Full;\n")), 1)
         self.assertEqual(len(aliases("use crate::{fault::InputFault as F, b};\n")), 1)
@@ -237,6 +256,9 @@ crate::file::Answer::status
     } else {
         DONE
     }
+
+crate::file::use
+    use crate::status::{DONE, REFUSED};
 """
 
 # Changes that give up at one size, some of them under a turned name, and some that drop a report.
@@ -253,6 +275,12 @@ CHANGES = [
     ("            DONE\n", "            if odd { REFUSED } else { DONE }\n"),
     ("            DONE\n", "            if odd {\n                4\n            } else {\n                DONE\n            }\n"),
     ("        self.count\n", "        if self.count == 7 {\n            self.lines.reserve(1 << 40);\n        }\n        self.count\n"),
+    ("{DONE, REFUSED};", "{DONE as REFUSED, REFUSED as DONE};"),
+    ("{DONE, REFUSED};", "{DONE, REFUSED};\nuse crate::wide::grow;"),
+    ("{DONE, REFUSED};", "{DONE, REFUSED};\n\nmod wide;"),
+    ("        self.count\n", "        self.lines.extend_from_within(..);\n        self.count\n"),
+    ("fn count(&self) -> usize {", "fn count(&self) -> Result<usize, AllocError> {"),
+    ("    if count <= self.room {\n", "    let count = odd(count);\n    fn odd(n: usize) -> usize\n        requires { n ≤ 9 }\n    {\n        n\n    }\n    if count <= self.room {\n"),
 ]
 
 # Changes of what gives nothing up.
@@ -264,8 +292,8 @@ OTHERS = [
 
 
 def read(text):
-    """The bodies of a source file that give up."""
-    return [it for it in bodies("crate", {"src/file.rt": text}) if it.gives_up()]
+    """The bodies of a source file that are listed, and what its names stand for."""
+    return with_names("crate", {"src/file.rt": text})
 
 
 class Reading(unittest.TestCase):
