@@ -8,7 +8,7 @@ import shutil
 import subprocess
 import tempfile
 
-from instruction_files import FILES
+from instruction_files import CLOSE, FILES
 from writers import PROGRAM, ROOT
 
 RECORD = ROOT / "bench" / "instructions.json"
@@ -51,6 +51,11 @@ def write_record(program, path=RECORD):
     return counts
 
 
-def is_within(taken, recorded):
+def is_within(taken, recorded, most=MOST):
     """Whether a count is at most so many times the one on record."""
-    return 10 * taken <= round(10 * MOST) * recorded
+    return 100 * taken <= round(100 * most) * recorded
+
+
+def most_of(name):
+    """How many times the instructions on record a file may take at most."""
+    return CLOSE.get(name, MOST)

@@ -1,4 +1,4 @@
-"""The instructions that the built program takes on twelve files, beside those on record in bench/."""
+"""The instructions that the built program takes on fourteen files, beside those on record in bench/."""
 
 import sys
 import unittest
@@ -7,19 +7,21 @@ from built import PROGRAMS, ROOT
 
 sys.path.append(str(ROOT / "bench"))
 
-from instruction_counts import FILES, count, is_within, on_record  # noqa: E402
+from instruction_counts import FILES, count, is_within, most_of, on_record  # noqa: E402
 
 
 class Instructions(unittest.TestCase):
-    """No file takes more than 1.3 times the instructions on record. The record is of the program as LLVM builds it."""
+    """No file takes more than 1.3 times the instructions on record, two no more than 1.15. The record is of the program as LLVM builds it."""
 
     def test_a_record_stands_for_each_file(self):
         self.assertEqual(sorted(on_record()), sorted(FILES))
-        self.assertEqual(len(FILES), 12)
+        self.assertEqual(len(FILES), 14)
 
     def test_the_limit_is_1_3_times_the_record(self):
         self.assertTrue(is_within(1300, 1000))
         self.assertFalse(is_within(1301, 1000))
+        self.assertTrue(is_within(1150, 1000, 1.15))
+        self.assertFalse(is_within(1151, 1000, 1.15))
 
     def test_each_file_is_within_the_limit(self):
         recorded = on_record()
@@ -27,7 +29,7 @@ class Instructions(unittest.TestCase):
             with self.subTest(file=name):
                 taken = count(PROGRAMS[0], name)
                 told = f"{taken:,} instructions, {taken / recorded[name]:.2f} times the {recorded[name]:,} on record"
-                self.assertTrue(is_within(taken, recorded[name]), told)
+                self.assertTrue(is_within(taken, recorded[name], most_of(name)), told)
 
 
 if __name__ == "__main__":

@@ -107,6 +107,14 @@ class Names(unittest.TestCase):
             self.assertEqual(answer(program, ["show", "--", "stdin", "4", "4"], DOT, cwd=folder), SHOWN)
 
     @for_each_program
+    def test_names_that_mean_more_elsewhere(self, program):
+        # To a shell, a reader of addresses, another system.
+        schemes = [f"{scheme}:{rest}" for scheme in ("file", "http", "data", "C", "FILE") for rest in ("a", ",a", "a.wmf", "stdin")]
+        escapes = ["%20", "a%20b", "%61", "a%2Fb", "a+b", "&amp;", "\\x61", "\\u0061", "a%00"]
+        others = ["~", "~a", "~root", "$HOME", "${HOME}", "%HOME%", "`a`", "$(a)", "a*", "a?", "[a]", "{a,b}", "@a", "a;b", "a|b", "a#b", "NUL", "CON", "a?b=c"]
+        self.check(program, [*schemes, *escapes, *others])
+
+    @for_each_program
     def test_names_in_folders_of_odd_names(self, program):
         for sign in SIGNS + WIDE_SIGNS:
             for name in filter(is_name, [f"{sign}a", f"a{sign}"]):

@@ -20,6 +20,12 @@ SEED = os.environ.get("SIZES_SEED") or os.urandom(8).hex()
 
 LARGEST_SIDE = 8192
 
+# Sides that people ask for: of screens, and of paper at 72, 150 and 300 pixels an inch.
+COMMON = [
+    *[(640, 480), (800, 600), (1024, 768), (1280, 720), (1280, 1024), (1366, 768), (1600, 1200), (1920, 1080), (2048, 1536), (2560, 1440)],
+    *[(3840, 2160), (4096, 2160), (595, 842), (612, 792), (1240, 1754), (1275, 1650), (2480, 3508), (2550, 3300), (1000, 1000), (2000, 3000)],
+]
+
 MOST_HANDLES = 65535
 
 SHOW = ["show", "stdin", str(SIDE), str(SIDE)]
@@ -81,6 +87,12 @@ class Sides(SizesTest):
     def test_surfaces_of_about_a_hundred_thousand_pixels(self, program):
         for width in self.drawn(200, 1, LARGEST_SIDE):
             self.check_sides(program, width, self.random.randint(1, min(LARGEST_SIDE, 200_000 // width + 1)))
+
+    @for_each_program
+    def test_sides_that_people_ask_for(self, program):
+        for width, height in COMMON:
+            self.check_sides(program, width, height)
+            self.check_sides(program, height, width)
 
     @for_each_program
     def test_squares(self, program):
