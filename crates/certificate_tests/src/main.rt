@@ -1,0 +1,161 @@
+//! Answers requests of tests (tests/certificates_test.py), one after another on standard input: to prepare the certificate of a file, to
+//! check one, and to play a file by one over an image. A request is five numbers of four bytes, the lowest first, and the bytes that these
+//! count: its kind, two sides, and how many bytes the file and the certificate have; an image has three bytes a pixel.
+#![tactic(auto)]
+
+use canvas::Canvas;
+use mapping::{Colour, MAX_SURFACE_SIDE};
+use player::play;
+use point_views::u32_at;
+use preflight_cert::{Cleared, check, prepare};
+use std::alloc::Global;
+use std::io::{self, Read, Write};
+
+/// A request.
+#[derive(Clone, Copy)]
+struct Request<'a> {
+    kind: u32,
+    width: u32,
+    height: u32,
+    file: &'a [u8],
+    certificate: &'a [u8],
+    image: &'a [u8],
+}
+
+/// The first bytes, so many, and those behind them, if there are so many.
+fn split(bytes: &[u8], count: usize) -> Option<(&[u8], &[u8])> {
+    if count <= bytes.len() {
+        return Some(bytes.split_at(count));
+    }
+    None
+}
+
+/// The first number, and what stands behind it.
+fn number(bytes: &[u8]) -> Option<(u32, &[u8])> {
+    if bytes.len() < 4 {
+        return None;
+    }
+    Some((u32_at(bytes, 0), &bytes[4..]))
+}
+
+/// The first colour, and what stands behind it.
+fn first_colour(bytes: &[u8]) -> Option<(Colour, &[u8])> {
+    if bytes.len() < 3 {
+        return None;
+    }
+    let colour = Colour {
+        r: bytes[0],
+        g: bytes[1],
+        b: bytes[2],
+    };
+    Some((colour, &bytes[3..]))
+}
+
+/// The first request, and what stands behind it.
+fn next_request(bytes: &[u8]) -> Option<(Request<'_>, &[u8])> {
+    let (kind, rest) = number(bytes)?;
+    let (width, rest) = number(rest)?;
+    let (height, rest) = number(rest)?;
+    let (of_file, rest) = number(rest)?;
+    let (of_certificate, rest) = number(rest)?;
+    let (file, rest) = split(rest, of_file as usize)?;
+    let (certificate, rest) = split(rest, of_certificate as usize)?;
+    let pixels = if kind == 2 && width <= 4096 && height <= 4096 {
+        width * height
+    } else {
+        0
+    };
+    let (image, rest) = split(rest, 3 * pixels as usize)?;
+    let request = Request {
+        kind,
+        width,
+        height,
+        file,
+        certificate,
+        image,
+    };
+    Some((request, rest))
+}
+
+/// A canvas that shows an image, if it may have these sides.
+fn shown(alloc: Global, width: u32, height: u32, image: &[u8]) -> Option<Canvas> {
+    if width < 1 || MAX_SURFACE_SIDE < width || height < 1 || MAX_SURFACE_SIDE < height {
+        return None;
+    }
+    let mut canvas = Canvas::new(alloc, width, height, Colour::WHITE).ok()?;
+    let mut rest = image;
+    for y in 0..height {
+        for x in 0..width {
+            let (colour, behind) = first_colour(rest)?;
+            rest = behind;
+            if canvas.has_pixel(x, y) && canvas.writes() < 1 << 62 {
+                canvas.put(x, y, colour);
+            }
+        }
+    }
+    Some(canvas)
+}
+
+/// Plays a file over an image, and writes how many pixels were written, and the image.
+fn answer_play<W: Write>(
+    alloc: Global,
+    cleared: &Cleared<'_>,
+    request: &Request<'_>,
+    out: &mut W,
+) -> io::Result<()> {
+    let Some(mut canvas) = shown(alloc, request.width, request.height, request.image) else {
+        return writeln!(out, "no canvas");
+    };
+    if canvas.first() != 0 || canvas.writes() > 1 << 62 {
+        return writeln!(out, "no canvas");
+    }
+    match play(alloc, cleared, &mut canvas) {
+        Err(fault) => writeln!(out, "{fault}"),
+        Ok(writes) => {
+            writeln!(out, "played {writes}")?;
+            match canvas.write_ppm(out) {
+                Ok(()) => Ok(()),
+                Err(_) => writeln!(out, "not written"),
+            }
+        }
+    }
+}
+
+/// Answers a request: by a line, and by the bytes that are made.
+fn answer<W: Write>(alloc: Global, request: &Request<'_>, out: &mut W) -> io::Result<()> {
+    if request.kind == 0 {
+        return match prepare(alloc, request.file, request.width, request.height) {
+            Err(refusal) => writeln!(out, "{refusal}"),
+            Ok(text) => {
+                let count = text.len();
+                writeln!(out, "prepared {count}")?;
+                out.write_all(&text)
+            }
+        };
+    }
+    match check(alloc, request.file, request.certificate) {
+        Err(refusal) => writeln!(out, "{refusal}"),
+        Ok(cleared) if request.kind == 1 => {
+            let records = cleared.records;
+            writeln!(out, "accepted {records}")
+        }
+        Ok(cleared) => answer_play(alloc, &cleared, request, out),
+    }
+}
+
+fn main(rt: HostRuntime) -> io::Result<()> {
+    let alloc = rt.alloc();
+    let mut bytes = Vec::new(alloc);
+    let mut input = rt.stdin();
+    input.read_to_end(&mut bytes)?;
+    let mut out = rt.stdout();
+    let mut rest: &[u8] = &bytes;
+    for _ in 0..1_000_000 {
+        let Some((asked, behind)) = next_request(rest) else {
+            return Ok(());
+        };
+        answer(alloc, &asked, &mut out)?;
+        rest = behind;
+    }
+    Ok(())
+}

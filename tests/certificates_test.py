@@ -1,0 +1,190 @@
+"""Certificates of small files made at random from a fixed seed: what the built crates prepare, accept, refuse by name and play, beside the
+rules of the reference for each drawing and pixel alone."""
+
+import random
+import struct
+import subprocess
+import unittest
+from functools import cache
+from typing import NamedTuple
+
+from built import CRATES
+from metafile.scripts import EMF, FORMS
+from reference.certificates import Certificate, Certifier, PlaneAxis
+from reference.player import Reference
+from reference_test import Maker
+
+# A program that answers requests (crates/certificate_tests), as both compilers of the toolchain build it.
+PROGRAMS = [CRATES / "certificate_tests/out/certificate_tests", CRATES / "certificate_tests/out/certificate_tests.by-rattle"]
+
+# How many files there are of each format, and how many of each hundred are played.
+FILES, PLAYED = 1500, 8
+
+SEED = 23
+
+LARGEST_SIDE = 8192
+
+PREPARE, CHECK, PLAY = range(3)
+
+
+def asked(kind, sides, given, certificate=b"", image=b""):
+    """A request."""
+    return struct.pack("<5I", kind, *sides, len(given), len(certificate)) + given + certificate + image
+
+
+def replies(program, requests):
+    """What a program answers, request by request: a line, and the bytes that it made."""
+    with subprocess.Popen([program], stdin=subprocess.PIPE, stdout=subprocess.PIPE) as run:
+        told, _ = run.communicate(b"".join(requests), timeout=600)
+    found = []
+    while told:
+        line, _, told = told.partition(b"\n")
+        words = line.decode().split()
+        count = 0
+        if words[0] == "prepared":
+            count = int(words[1])
+        elif words[0] == "played":
+            head = told.split(b"\n", 3)[:3]
+            count = sum(map(len, head)) + 3 + 3 * int(head[1].split()[0]) * int(head[1].split()[1])
+        found.append((line.decode(), told[:count]))
+        told = told[count:]
+    return found
+
+
+def line_of(refusal):
+    """The line that tells a fault and its record, if it lies in one."""
+    fault, number = refusal
+    return fault if number is None else f"{fault} at record {number}"
+
+
+class Counted(dict):
+    """An image that counts the pixels that are written."""
+
+    writes = 0
+
+    def __setitem__(self, pixel, colour):
+        self.writes += 1
+        super().__setitem__(pixel, colour)
+
+
+class Case(NamedTuple):
+    """A file's steps and bytes, its page map, the bound of its certificate, and what is known of it there."""
+
+    form: object
+    steps: list
+    given: bytes
+    axes: tuple
+    bound: tuple
+    certifier: Certifier
+    refusal: tuple | None
+
+    def axes_at(self, sides, kind):
+        """The page map on a surface."""
+        return tuple(kind(*axis._replace(surface=side)) for axis, side in zip(self.axes, sides, strict=True))
+
+
+def case(form, nth):
+    """A file and its certificate."""
+    maker = Maker(form, f"{form.name} certificate {SEED * 10_000 + nth}")
+    steps = maker.steps()
+    axes, given = maker.axes_and_file("; ".join(" ".join(map(str, [name, *words])) for name, words in steps))
+    chance = maker.random
+    bound = chance.choice([maker.surface, (chance.randint(1, 40), chance.randint(1, 40)), (LARGEST_SIDE, chance.randint(1, LARGEST_SIDE))])
+    plane = tuple(PlaneAxis(*axis._replace(surface=side)) for axis, side in zip(axes, bound, strict=True))
+    certifier = Certifier(plane, form is EMF, form.first)
+    return Case(form, steps, given, axes, bound, certifier, certifier.certify(steps))
+
+
+@cache
+def cases():
+    """All files, alike in each run."""
+    return [case(form, nth) for form in FORMS for nth in range(FILES)]
+
+
+def with_entry(certificate, place, part, change):
+    """A certificate with another number in one of its entries."""
+    entries = [list(entry) for entry in certificate.entries]
+    entries[place][part] += change
+    return certificate._replace(entries=tuple(map(tuple, entries)))
+
+
+def altered(certificate, chance):
+    """The certificate, and others, each with one of its numbers a little less, or with one side of a box a step further in."""
+    others = [certificate]
+    for part in ("writes", "depth", "slots", "edges", "pieces"):
+        number = getattr(certificate, part)
+        others += [certificate._replace(**{part: other}) for other in (number - 1, number + 1) if other >= 0]
+    places = range(len(certificate.entries))
+    for place in chance.sample(places, min(3, len(places))):
+        others += [with_entry(certificate, place, part, 1) for part in (0, 1, 2)]
+        others += [with_entry(certificate, place, part, -1) for part in (1, 2, 3, 4)]
+    if len(places) > 1:
+        first, second, *rest = certificate.entries
+        others += [certificate._replace(entries=(second, first, *rest)), certificate._replace(entries=(second, *rest))]
+    return others
+
+
+class Certificates(unittest.TestCase):
+    """Files of both formats."""
+
+    def compare(self, program, requests, wanted):
+        """Each request is answered as it should be."""
+        found = replies(program, requests)
+        self.assertEqual(len(found), len(wanted))
+        wrong = [(nth, got, want) for nth, (got, want) in enumerate(zip(found, wanted, strict=True)) if got != want]
+        self.assertEqual(wrong[:3], [], f"{len(wrong)} of {len(wanted)}")
+
+    def test_many_files_are_accepted_and_some_refused(self):
+        refused = sum(it.refusal is not None for it in cases())
+        self.assertIn(refused, range(len(cases()) // 20, len(cases()) // 2))
+
+    def test_what_is_prepared_is_the_least(self):
+        requests = [asked(PREPARE, it.bound, it.given) for it in cases()]
+        wanted = []
+        for it in cases():
+            text = it.certifier.certificate().text()
+            wanted.append((line_of(it.refusal), b"") if it.refusal else (f"prepared {len(text)}", text))
+        for program in PROGRAMS:
+            self.compare(program, requests, wanted)
+
+    def test_what_is_altered_is_refused_by_name_or_accepted(self):
+        chance, requests, wanted = random.Random(SEED), [], []
+        for it in cases():
+            if it.refusal is None:
+                for certificate in altered(it.certifier.certificate(), chance):
+                    requests.append(asked(CHECK, (0, 0), it.given, certificate.text()))
+                    told = it.certifier.checked(certificate)
+                    records = it.form.first + len(it.steps) + 1
+                    wanted.append((f"accepted {records}" if told[0] == "accepted" else line_of(told), b""))
+        self.assertGreater(len(wanted), 30_000)
+        self.compare(PROGRAMS[0], requests, wanted)
+
+    def test_one_certificate_plays_at_each_size_over_any_image(self):
+        chance, requests, wanted = random.Random(SEED + 1), [], []
+        for it in cases()[:: 100 // PLAYED]:
+            if it.refusal is not None:
+                continue
+            certificate = it.certifier.certificate()
+            most = [min(side, 24) for side in it.bound]
+            for sides in [(1, 1), tuple(most), tuple(chance.randint(1, side) for side in most)]:
+                reference = Reference(it.axes_at(sides, type(it.axes[0])), it.form is EMF)
+                before = {pixel: tuple(chance.randbytes(3)) for pixel in reference.image}
+                reference.image = Counted(before)
+                image, refusal = reference.play(it.steps)
+                self.assertIsNone(refusal)
+                self.assertLessEqual(image.writes, certificate.writes)
+                pixels = [(x, y) for y in range(sides[1]) for x in range(sides[0])]
+                over = b"".join(bytes(before[pixel]) for pixel in pixels)
+                requests.append(asked(PLAY, sides, it.given, certificate.text(), over))
+                shown = b"P6\n%d %d\n255\n" % sides + b"".join(bytes(image[pixel]) for pixel in pixels)
+                wanted.append((f"played {image.writes}", shown))
+            larger = it.bound[0] + 1, it.bound[1]
+            if max(larger) <= 40:
+                requests.append(asked(PLAY, larger, it.given, certificate.text(), bytes(3 * larger[0] * larger[1])))
+                wanted.append(("SurfaceTooLarge", b""))
+        for program in PROGRAMS:
+            self.compare(program, requests, wanted)
+
+
+if __name__ == "__main__":
+    unittest.main()
