@@ -13,9 +13,10 @@ from edit_functions import functions, modules_of
 # What gives up: by name, as a line that is told, by a status or a wrong usage, or by what is asked of an allocator.
 GIVES_UP = re.compile(
     r'\b(?:OutOfMemory|CannotRead|WriteFault|InputFault|REFUSED|USAGE|INPUT_OR_OUTPUT|OUT_OF_MEMORY|ExitCode|AllocError)\b'
-    r'|"cannot (?:read|write)"|\breport\(|\bcommand\.error\(|\.then_some\(|\breserve\(|\bmake_room\(|\bfrom_elem\('
-    r'|\bwith_capacity\(|\breserve_exact\(|\btry_reserve|\bresize_with\(|\bextend_from_within\(|\bfrom_slice\(|\.repeat\(|\.collect\('
-    r"|\bresize\(|\bextend_from_slice\(|\bgrow\(|(?<!self)\.push\(|\.insert\(|\.append\(|\bto_vec\(|\bvec!|\bBox::"
+    r'|"cannot (?:read|write)"|\breport\(|\bcommand\.error\(|\.then_some\(|\bfmt::Error\b'
+    r'|\b(?:try_)?reserve(?:_exact|_all)?\b|\bmake_room\b|\bfrom_elem\b|\bwith_capacity\b|\bresize(?:_with)?\b'
+    r"|\bextend_from_(?:slice|within)\b|\bfrom_slice\b|\.repeat\b|\.collect\b"
+    r"|\bgrow\(|(?<!self)\.push\b|\.insert\b|\.append\b|\bto_vec\b|\bvec!|\bBox::"
 )
 
 # A function's answer whose errors are no fault of a file, in which each `?` hands one on.
@@ -27,8 +28,8 @@ ASKS = re.compile(r"-> Option<")
 # A function that answers a status: each number in it may be one.
 STATUS = re.compile(r"-> (?:u8|ExitCode|Answer)\b")
 
-# A function whose answer may tell that it gives up: it is listed, whatever its lines say.
-MAY_TELL = re.compile(r"-> [^{]*\b(?:OutOfMemory|WriteFault|InputFault|AllocError|Refusal|Answer)\b")
+# A function whose answer may tell that it gives up, or that is given the allocator: it is listed, whatever its lines say.
+MAY_TELL = re.compile(r"-> [^{]*\b(?:OutOfMemory|WriteFault|InputFault|AllocError|Refusal|Answer)\b|\b(?:Global|AllocGlobal)\b")
 
 CONTRACT = re.compile(r"(?m)^ +(?:requires|ensures|decreases|where)\b")
 
@@ -61,8 +62,8 @@ class Body(NamedTuple):
 
 
 def without_comments(text):
-    """Source text without its comments and attributes."""
-    return re.sub(r'(?m)("(?:[^"\\\n]|\\.)*")|//.*$|^\s*#!?\[.*\]$', lambda it: it[1] or "", text)
+    """Source text without its comments and attributes. A quote may stand as a letter of its own."""
+    return re.sub(r'(?m)("(?:[^"\\]|\\.)*"|b?\'(?:[^\'\\\n]|\\[^\'\n]+|\\\')\')|/\*[\s\S]*?\*/|//.*$|^\s*#!?\[.*\]$', lambda it: it[1] or "", text)
 
 
 def body_start(text):

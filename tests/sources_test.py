@@ -280,6 +280,12 @@ CHANGES = [
     ("{DONE, REFUSED};", "{DONE, REFUSED};\n\nmod wide;"),
     ("        self.count\n", "        self.lines.extend_from_within(..);\n        self.count\n"),
     ("fn count(&self) -> usize {", "fn count(&self) -> Result<usize, AllocError> {"),
+    ("fn count(&self) -> usize {", "fn count(&self, alloc: Global) -> usize {"),
+    ("        self.count\n", "        let quote = '\"'; // \"\n        self.lines.reserve(1 << 40);\n        self.count\n"),
+    ("        self.count\n", "        self.lines.reserve/* \" */(1 << 40);\n        self.count\n"),
+    ("        self.count\n", "        self.lines.reserve::<>(1 << 40);\n        self.count\n"),
+    ("        self.count\n", "        let more = Lines::reserve;\n        more(self.lines, 1 << 40);\n        self.count\n"),
+    ("        self.count\n", "        if odd { return Err(fmt::Error); }\n        self.count\n"),
     ("    if count <= self.room {\n", "    let count = odd(count);\n    fn odd(n: usize) -> usize\n        requires { n ≤ 9 }\n    {\n        n\n    }\n    if count <= self.room {\n"),
 ]
 
