@@ -1,7 +1,9 @@
 """Certificates of small files made at random from a fixed seed: what the built crates prepare, accept, refuse by name and play, beside the
 rules of the reference for each drawing and pixel alone."""
 
+import os
 import random
+import re
 import struct
 import subprocess
 import unittest
@@ -9,7 +11,7 @@ from functools import cache
 from typing import NamedTuple
 
 from built import CRATES
-from metafile.scripts import EMF, FORMS
+from metafile.scripts import EMF, FORMS, WMF
 from reference.certificates import Certificate, Certifier, PlaneAxis
 from reference.player import Reference
 from reference_test import Maker
@@ -184,6 +186,37 @@ class Certificates(unittest.TestCase):
                 wanted.append(("SurfaceTooLarge", b""))
         for program in PROGRAMS:
             self.compare(program, requests, wanted)
+
+
+# How many instructions a record takes of a file of pixels and short lines: to prepare, to check, and to check and play; and how many times
+# that it may take at most. That the count goes by the records, and isn't that of their square, is a part of it.
+INSTRUCTIONS = {PREPARE: 932, CHECK: 918, PLAY: 1717}
+MOST = 1.15
+
+
+def instructions(request):
+    """The instructions of one request."""
+    words = ["valgrind", "--tool=callgrind", "--callgrind-out-file=/dev/null", PROGRAMS[0]]
+    told = subprocess.run(words, input=request, capture_output=True, check=True, env={"PATH": os.environ["PATH"]}).stderr
+    return int(re.search(rb"Collected : (\d+)", told)[1])
+
+
+def many_records(kind, count):
+    """A request of a file of so many records."""
+    given = WMF.file(WMF.records("pixel 1 1; line 3 2") * (count // 2), 4, 0)
+    ((_, text),) = replies(PROGRAMS[0], [asked(PREPARE, (8, 8), given)])
+    return asked(kind, (8, 8), given, text if kind != PREPARE else b"", bytes(192) if kind == PLAY else b"")
+
+
+class Instructions(unittest.TestCase):
+    """The instructions of files of many records."""
+
+    def test_a_record_takes_as_many_as_on_record(self):
+        for kind, recorded in INSTRUCTIONS.items():
+            with self.subTest(kind=kind):
+                few, many = (instructions(many_records(kind, count)) for count in (4_000, 12_000))
+                self.assertLess(many - few, MOST * recorded * 8_000)
+                self.assertGreater(many - few, recorded * 8_000 / 2)
 
 
 if __name__ == "__main__":
