@@ -7,6 +7,9 @@ LINE = re.compile(r"(?m)^fn (\S+): (.*)$")
 # How a reason ends that lies in another function: one that this calls, or whose block it passes on.
 OF_OTHERS = (", which is not proved", ", which are not proved")
 
+# What is said where the proof of a function that this one calls can't be read at all.
+WAITS = "which has no proof: help: prove it first"
+
 
 def is_refused(said):
     """Whether a function isn't proved for a reason of its own, beside what it calls or passes on that isn't proved either."""
@@ -16,7 +19,7 @@ def is_refused(said):
         reasons = said.split("; ")
     else:
         return False
-    return any(not reason.endswith(OF_OTHERS) for reason in reasons)
+    return any(not reason.endswith(OF_OTHERS) and WAITS not in reason for reason in reasons)
 
 
 def refused(text):

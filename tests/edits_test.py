@@ -150,6 +150,8 @@ class Verdicts(unittest.TestCase):
     def test_a_call_alone_is_no_refusal(self):
         """A function that only calls others that aren't proved has no reason of its own."""
         self.assertFalse(is_refused("no proof: it calls `shapes::twice`, which is not proved"))
+        waits = "the borrow checker's part in its proof is not made yet: a call of `shapes::twice`, which has no proof: help: prove it first, and .."
+        self.assertFalse(is_refused(f"no proof: {waits}"))
         both = "no proof: it calls `shapes::twice` and `shapes::half`, which are not proved; it passes the block `Half`, which is not proved"
         self.assertFalse(is_refused(both))
 
