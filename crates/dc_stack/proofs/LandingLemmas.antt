@@ -1,7 +1,10 @@
 -- Points that land, or don't.
 use Rattle.std.proofs.Common.{◌≡◌, Bool, true, false, cond, ◌&&◌, List, [], ◌∷◌, Option, Some, None, refl}
+use Rattle.std.proofs.lemmas.Bool.{and_parts}
 use Rattle.std.specs.List.{list_all}
-use Rattle.mapping.specs.Surface.{Surface, lands_within_limits}
+use Rattle.mapping.specs.LimitTests.{TestsAreLimits}
+use Rattle.mapping.specs.Plane.{is_on_plane}
+use Rattle.mapping.specs.Surface.{FitsPlace, Surface, fits_place, lands_within_limits, placed_point}
 use Rattle.mapping.specs.declared.geometry.Point.{Point}
 use Rattle.draw_ops.specs.declared.fault.Fault.{Fault}
 use Rattle.draw_ops.specs.declared.fault.Fault.TheVariants.{OffPlane}
@@ -41,3 +44,12 @@ module _ (s : Surface) where
       others_fail : (a : Bool) → None ≡ off_unless (a && true) → fault ≡ off_unless (a && all_lands points)
       others_fail true e = h
       others_fail false e = cc
+
+  -- where none of two points is off the plane, both fit
+  pub two_fit : TestsAreLimits → (p q : Point) → None ≡ off_plane_fault (p ∷ q ∷ []) s → FitsPlace (placed_point p s) × FitsPlace (placed_point q s)
+  two_fit tests p q h =
+      let first = and_parts (lands_within_limits p s) (lands_within_limits q s && true) (all_land (p ∷ q ∷ []) h) in
+      let second = and_parts (lands_within_limits q s) true first.1 in
+      let near = and_parts (is_on_plane p) (fits_place (placed_point p s)) first.0 in
+      let far = and_parts (is_on_plane q) (fits_place (placed_point q s)) second.0 in
+      ((tests.fits_place (placed_point p s)).0 near.1, (tests.fits_place (placed_point q s)).0 far.1)

@@ -154,7 +154,7 @@ plays_painting old new painting bounds edges pieces at state lent needs counted 
       };
       drawn = rw (lent, state) (sym (painting_drawn old.state figures at painting));
       placed = rw lent (record {
-        places = land;
+        ready = land;
         counted = counted;
         least = least;
         within = lands;

@@ -3,7 +3,7 @@ use Rattle.std.specs.Prelude.{◌≡◌, ◌≤◌, Bool, true, false, [], ◌�
 use Rattle.std.specs.List.{list_all}
 use Rattle.mapping.specs.Boxes.{IsLeastBox}
 use Rattle.mapping.specs.PageMap.{map_numbers}
-use Rattle.mapping.specs.Surface.{Surface, lands_within_limits, placed_point}
+use Rattle.mapping.specs.Surface.{Surface, lands_within_limits}
 use Rattle.mapping.specs.declared.geometry.Point.{Point}
 use Rattle.mapping.specs.declared.page_map.PageMap.{PageMap}
 use Rattle.point_views.specs.Points.{points_of}
@@ -23,9 +23,7 @@ use Rattle.dc_stack.specs.declared.draw.FigurePoints.TheVariants.{Lists, Path, T
 use Rattle.dc_stack.specs.declared.draw.Mark.{Mark}
 use Rattle.dc_stack.specs.declared.draw.Mark.TheVariants.{Blit, Dot, Figures, Line, Rectangle}
 use Rattle.dc_stack.specs.declared.draw.Painting.TheVariants.{Stroke}
-use Rattle.dc_stack.specs.declared.draw.PlacedBlit.{PlacedBlit}
 use Rattle.dc_stack.specs.declared.piece.Piece.{Piece}
-use Rattle.dc_stack.specs.declared.placing.Landing.{Landing}
 
 -- the points of a list of the page, on the plane
 abbrev pub points_on_plane : PageMap → Points → List Point
@@ -37,49 +35,39 @@ lists_on_plane map lists = mapped_lists (map_numbers map) (lists_of lists)
 
 -- the figures that points make on the plane, these pieces being lent
 abbrev pub figures_drawn : List Piece → FigurePoints → List Figure
-figures_drawn pieces (Through from points map) = figures_of_lists ((from.plane ∷ points_on_plane map points) ∷ [])
+figures_drawn pieces (Through from points map) = figures_of_lists ((from ∷ points_on_plane map points) ∷ [])
 figures_drawn pieces (Lists lists map) = figures_of_lists (lists_on_plane map lists)
 figures_drawn pieces Path = all_figures (figures_of pieces)
 
 -- what is marked
 abbrev pub mark_value_of : List Piece → Mark → MarkValue
-mark_value_of pieces (Dot at colour) = dot at.plane colour
-mark_value_of pieces (Line from to) = lists_painted Stroke ((from.plane ∷ to.plane ∷ []) ∷ [])
+mark_value_of pieces (Dot at colour) = dot at colour
+mark_value_of pieces (Line from to) = lists_painted Stroke ((from ∷ to ∷ []) ∷ [])
 mark_value_of pieces (Figures painting points) = figures_painted painting (figures_drawn pieces points)
-mark_value_of pieces (Rectangle first second edges) = rectangle_between first.plane second.plane edges
-mark_value_of pieces (Blit blit) = blit_between blit.first.plane blit.second.plane blit.operation.table (source_of blit.source)
+mark_value_of pieces (Rectangle first second edges) = rectangle_between first second edges
+mark_value_of pieces (Blit blit) = blit_between blit.first blit.second blit.operation.table (source_of blit.source)
 
 -- by what a step draws
 abbrev pub mark_of : List Piece → Draw → MarkValue
 mark_of pieces draw = mark_value_of pieces draw.mark
 
--- a point of the plane is told with the place where it lands
-abbrev pub IsLanding : Surface → Landing → Type 0
-IsLanding s landing = landing.placed ≡ placed_point landing.plane s
+-- the pieces of a path that are lent land on this surface
+abbrev pub LendsLanded : Surface → List Piece → FigurePoints → Type 0
+LendsLanded s pieces (Through from points map) = Unit
+LendsLanded s pieces (Lists lists map) = Unit
+LendsLanded s pieces Path = AllLandOn s pieces
 
--- so is the point from which lines go, and the pieces that are lent land
-abbrev pub TellsPoints : Surface → List Piece → FigurePoints → Type 0
-TellsPoints s pieces (Through from points map) = IsLanding s from
-TellsPoints s pieces (Lists lists map) = Unit
-TellsPoints s pieces Path = AllLandOn s pieces
+-- so do those of a mark, and where a blit's operation depends on its source, there is something to read
+abbrev pub IsReady : Surface → List Piece → Mark → Type 0
+IsReady s pieces (Dot at colour) = Unit
+IsReady s pieces (Line from to) = Unit
+IsReady s pieces (Figures painting points) = LendsLanded s pieces points
+IsReady s pieces (Rectangle first second edges) = Unit
+IsReady s pieces (Blit blit) = uses_source blit.operation.table ≡ true → is_readable (source_of blit.source) ≡ true
 
--- the corners of a blit's box land on this surface, and where its operation depends on the source, there is something to read
-pub record TellsBlit (s : Surface) (blit : PlacedBlit) : Type 0 where
-  pub first : IsLanding s blit.first
-  pub second : IsLanding s blit.second
-  pub readable : uses_source blit.operation.table ≡ true → is_readable (source_of blit.source) ≡ true
-
--- a mark is told with where it lands on the surface
-abbrev pub TellsPlaces : Surface → List Piece → Mark → Type 0
-TellsPlaces s pieces (Dot at colour) = IsLanding s at
-TellsPlaces s pieces (Line from to) = IsLanding s from × IsLanding s to
-TellsPlaces s pieces (Figures painting points) = TellsPoints s pieces points
-TellsPlaces s pieces (Rectangle first second edges) = IsLanding s first × IsLanding s second
-TellsPlaces s pieces (Blit blit) = TellsBlit s blit
-
--- it is so, its points are counted, its box is the least one on the plane, all its points land within the limits, and there are at most so many
+-- its mark is ready, its points are counted, its box is the least one on the plane, all its points land within the limits, and there are at most so many
 pub record IsPlacedDraw (s : Surface) (pieces : List Piece) (draw : Draw) : Type 0 where
-  pub places : TellsPlaces s pieces draw.mark
+  pub ready : IsReady s pieces draw.mark
   pub counted : draw.edges ≡ mark_edges (mark_of pieces draw)
   pub least : IsLeastBox draw.bounds (mark_points (mark_of pieces draw))
   pub within : IsTrue (list_all (λ point. lands_within_limits point s) (mark_points (mark_of pieces draw)))

@@ -3,9 +3,8 @@
 ghost use Rattle.std.specs.Prelude.{◌≡◌};
 ghost use Rattle.dc_stack.specs.Draws.{is_of_path, lends_path, paints_path};
 
-use crate::placing::Landing;
 use draw_ops::{BlitSource, RectangleEdges, TernaryOp};
-use mapping::{Colour, PageMap, Rect};
+use mapping::{Colour, PageMap, Point, Rect};
 use point_views::{Points, Polys};
 
 /// Which parts of figures are painted.
@@ -22,9 +21,9 @@ pub enum Painting {
 /// The points of figures, as a record or a path has them.
 #[derive(Clone, Copy, Debug, PartialEq, Eq)]
 pub enum FigurePoints<'a> {
-    /// An open figure from a point through others of the page, of which there is at least one.
+    /// An open figure from a point of the plane through others of the page, of which there is at least one.
     Through {
-        from: Landing,
+        from: Point,
         points: Points<'a>,
         map: PageMap,
     },
@@ -38,29 +37,29 @@ pub enum FigurePoints<'a> {
     Path,
 }
 
-/// The box between two corners, whichever of them comes first, of which each pixel becomes what the
+/// The box between two corners on the plane, whichever of them comes first, of which each pixel becomes what the
 /// operation makes of the brush, of what is read, and of the colour that is there. Where the operation depends
 /// on the source, what is read lies inside of its picture.
 #[derive(Clone, Copy, Debug, PartialEq, Eq)]
-pub struct PlacedBlit<'a> {
-    pub first: Landing,
-    pub second: Landing,
+pub struct PlaneBlit<'a> {
+    pub first: Point,
+    pub second: Point,
     pub operation: TernaryOp,
     pub source: BlitSource<'a>,
 }
 
-/// What is marked on the plane, and where it lands.
+/// What is marked on the plane.
 #[derive(Clone, Copy, Debug, PartialEq, Eq)]
 pub enum Mark<'a> {
     /// One pixel.
     Dot {
-        at: Landing,
+        at: Point,
         colour: Colour,
     },
     /// A line: a figure of two points, which is stroked.
     Line {
-        from: Landing,
-        to: Landing,
+        from: Point,
+        to: Point,
     },
     /// Figures.
     Figures {
@@ -69,12 +68,12 @@ pub enum Mark<'a> {
     },
     /// The rectangle between two corners, whichever of them comes first.
     Rectangle {
-        first: Landing,
-        second: Landing,
+        first: Point,
+        second: Point,
         edges: RectangleEdges,
     },
     /// The box of a blit.
-    Blit(PlacedBlit<'a>),
+    Blit(PlaneBlit<'a>),
 }
 
 /// What a step draws. All its points land within the limits. Pen, brush, modes and clip of its moment are those that the machine lends

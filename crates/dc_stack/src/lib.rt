@@ -40,13 +40,12 @@ mod stock;
 
 pub use clip::{Clip, ClipBox};
 pub use dc::Dc;
-pub use draw::{Draw, FigurePoints, Mark, Painting, PlacedBlit};
+pub use draw::{Draw, FigurePoints, Mark, Painting, PlaneBlit};
 pub use laws::{fault_law, room_law};
 pub use machine::{MAX_SAVED_STATES, Machine};
 pub use modes::Modes;
 pub use needs::Needs;
 pub use path::MAX_PIECES;
 pub use piece::{FigureEnd, Joining, Piece, PiecePoints};
-pub use placing::Landing;
 pub use projection::Projection;
 pub use selected::Selected;

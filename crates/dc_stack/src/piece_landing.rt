@@ -43,7 +43,7 @@ fn land_point(by: &Projection, point: Point) -> Result<Option<Rect>, Fault>
 {
     box_law();
     match land(&by.map, by.place, point) {
-        Ok(landing) => Ok(Some(Rect::around(landing.plane))),
+        Ok(landed) => Ok(Some(Rect::around(landed))),
         Err(fault) => Err(fault),
     }
 }
@@ -54,7 +54,7 @@ fn land_corners(by: &Projection, corners: Rect) -> Result<Option<Rect>, Fault>
     ensures least { IfOk result (λ bounds. IsBoxOf bounds (box_corners (mapped_box (map_numbers by.now.map) corners))) }
 {
     match land_box(&by.map, by.place, corners) {
-        Ok(landed) => Ok(Some(landed.plane)),
+        Ok(landed) => Ok(Some(landed)),
         Err(fault) => Err(fault),
     }
 }

@@ -1,37 +1,28 @@
-//! Where page points and boxes land: on the plane by a page map, and from there on a surface.
+//! Page points and boxes on the plane, and whether they land on a surface within the limits.
 
 ghost use Rattle.std.specs.Prelude.{◌≡◌, ◌≤◌, suc, [], ◌∷◌, length, IfOk, SomeIff, is_some};
 ghost use Rattle.std.specs.Result.{result_err};
 ghost use Rattle.mapping.specs.PageMap.{map_numbers};
 ghost use Rattle.mapping.specs.Plane.{IsOnPlane, is_on_plane, plane_point};
 ghost use Rattle.mapping.specs.PlaceOf.{surface_of};
-ghost use Rattle.mapping.specs.Surface.{placed_point};
 ghost use Rattle.point_views.specs.Points.{points_of};
 ghost use Rattle.point_views.specs.Polys.{lists_of};
 ghost use Rattle.draw_ops.specs.Blits.{blit_value_of};
 ghost use Rattle.dc_stack.specs.Clip.{placed_box};
 ghost use Rattle.dc_stack.specs.Drawing.{edge_limit};
-ghost use Rattle.dc_stack.specs.Mapped.{blit_corners, far_corner, left_top_of, mapped_box, mapped_corners, right_bottom_of};
+ghost use Rattle.dc_stack.specs.Mapped.{blit_corners, far_corner, left_top_of, mapped_box, mapped_corners, mapped_point, right_bottom_of};
 ghost use Rattle.dc_stack.specs.OperationFault.{off_plane_fault, points_fault};
 ghost use Rattle.mapping.specs.Boxes.{IsLeastBox};
-ghost use Rattle.dc_stack.specs.Placing.{IsLandingOf, joined_plane_list, plane_list};
+ghost use Rattle.dc_stack.specs.Placing.{joined_plane_list, plane_list};
 
 use crate::clip::ClipBox;
 use crate::plane_box::{joined, least, plane_box};
 use draw_ops::{Blit, Fault};
-use mapping::{PageMap, Place, Point, Rect, box_law, placing_law};
+use mapping::{PageMap, Place, Point, Rect, box_law, limits_law, placing_law};
 use point_views::{Points, Polys};
 
 /// How many points one drawing has at most.
 pub(crate) const MAX_EDGES: usize = 1_048_576;
-
-/// A point of the plane, and where it lands.
-#[derive(Clone, Copy, Debug, PartialEq, Eq)]
-pub struct Landing {
-    pub plane: Point,
-    /// Where it lands on the surface, at most 2^28 from its corner each way.
-    pub placed: Point,
-}
 
 /// A point of the page, or one outside of the page's own numbers.
 #[derive(Clone, Copy, Debug)]
@@ -40,11 +31,10 @@ struct WidePoint {
     y: i64,
 }
 
-/// Where a page point lands, or `OffPlane` where it leaves the plane or the range of placed coordinates.
-pub(crate) fn land(map: &PageMap, place: Place, point: Point) -> Result<Landing, Fault>
+/// A page point on the plane, or `OffPlane` where it leaves the plane or the range of placed coordinates.
+pub(crate) fn land(map: &PageMap, place: Place, point: Point) -> Result<Point, Fault>
     ensures fault { result_err result ≡ off_plane_fault (plane_list map.now (point ∷ [])) (surface_of place) }
-    ensures plane { IfOk result (λ landing. landing.plane ≡ plane_point (map_numbers map.now) point.x point.y) }
-    ensures placed { IfOk result (λ landing. landing.placed ≡ placed_point landing.plane (surface_of place)) }
+    ensures plane { IfOk result (λ plane. plane ≡ mapped_point (map_numbers map.now) point) }
 {
     let x = i64::from(point.x);
     let y = i64::from(point.y);
@@ -52,18 +42,17 @@ pub(crate) fn land(map: &PageMap, place: Place, point: Point) -> Result<Landing,
 }
 
 /// The same for a point that may be outside of the page's own numbers.
-fn land_wide(map: &PageMap, place: Place, point: WidePoint) -> Result<Landing, Fault>
+fn land_wide(map: &PageMap, place: Place, point: WidePoint) -> Result<Point, Fault>
     ensures fault { result_err result ≡ off_plane_fault (plane_point (map_numbers map.now) point.x point.y ∷ []) (surface_of place) }
-    ensures plane { IfOk result (λ landing. landing.plane ≡ plane_point (map_numbers map.now) point.x point.y) }
-    ensures placed { IfOk result (λ landing. landing.placed ≡ placed_point landing.plane (surface_of place)) }
+    ensures plane { IfOk result (λ plane. plane ≡ plane_point (map_numbers map.now) point.x point.y) }
 {
     let Some(plane) = plane_point(map, point) else {
         return Err(Fault::OffPlane);
     };
-    let Some(placed) = place.place(plane) else {
+    if place.place(plane).is_none() {
         return Err(Fault::OffPlane);
-    };
-    Ok(Landing { plane, placed })
+    }
+    Ok(plane)
 }
 
 /// The plane point of a page point, or none where it would leave the plane.
@@ -74,16 +63,16 @@ fn plane_point(map: &PageMap, point: WidePoint) -> Option<Point>
     map.plane(point.x, point.y)
 }
 
-/// Where two page points land, or `OffPlane` where one of them doesn't.
+/// Two page points on the plane, or `OffPlane` where one of them doesn't land.
 pub(crate) fn land_pair(
     map: &PageMap,
     place: Place,
     first: Point,
     second: Point,
-) -> Result<(Landing, Landing), Fault>
+) -> Result<(Point, Point), Fault>
     ensures fault { result_err result ≡ off_plane_fault (plane_list map.now (first ∷ second ∷ [])) (surface_of place) }
-    ensures first { IfOk result (λ r. IsLandingOf (map_numbers map.now) (surface_of place) first r.0) }
-    ensures second { IfOk result (λ r. IsLandingOf (map_numbers map.now) (surface_of place) second r.1) }
+    ensures first { IfOk result (λ r. r.0 ≡ mapped_point (map_numbers map.now) first) }
+    ensures second { IfOk result (λ r. r.1 ≡ mapped_point (map_numbers map.now) second) }
 {
     let first = match land(map, place, first) {
         Ok(first) => first,
@@ -96,15 +85,15 @@ pub(crate) fn land_pair(
     Ok((first, second))
 }
 
-/// Where the corners of a blit's box land, the one from which it extends first, or `OffPlane` where one of them doesn't.
+/// The corners of a blit's box on the plane, the one from which it extends first, or `OffPlane` where one of them doesn't land.
 pub(crate) fn land_blit(
     map: &PageMap,
     place: Place,
     asked: &Blit<'_>,
-) -> Result<(Landing, Landing), Fault>
+) -> Result<(Point, Point), Fault>
     ensures fault { result_err result ≡ off_plane_fault (blit_corners (map_numbers map.now) (blit_value_of asked.now)) (surface_of place) }
-    ensures first { IfOk result (λ r. IsLandingOf (map_numbers map.now) (surface_of place) asked.now.corner r.0) }
-    ensures second { IfOk result (λ r. IsLandingOf (map_numbers map.now) (surface_of place) (far_corner (blit_value_of asked.now)) r.1) }
+    ensures first { IfOk result (λ r. r.0 ≡ mapped_point (map_numbers map.now) asked.now.corner) }
+    ensures second { IfOk result (λ r. r.1 ≡ mapped_point (map_numbers map.now) (far_corner (blit_value_of asked.now))) }
 {
     let first = match land(map, place, asked.corner) {
         Ok(first) => first,
@@ -136,7 +125,7 @@ pub(crate) struct Extent {
     pub(crate) bounds: Rect,
 }
 
-/// How many points some lists have and where they land: `TooManyEdges` where they have more than one
+/// How many points some lists have, and their box: `TooManyEdges` where they have more than one
 /// drawing may, and then `OffPlane` where one of them doesn't land.
 pub(crate) fn land_lists(map: &PageMap, place: Place, lists: Polys<'_>) -> Result<Extent, Fault>
     ensures fault { result_err result ≡ points_fault (joined_plane_list map.now (lists_of lists.entry)) (surface_of place) }
@@ -157,16 +146,16 @@ pub(crate) fn land_lists(map: &PageMap, place: Place, lists: Polys<'_>) -> Resul
     }
 }
 
-/// Where a page point lands from which lines go through others, how many they are together, and where: the
+/// The page point from which lines go through others on the plane, how many they are together, and their box: the
 /// faults are those of lists.
 pub(crate) fn land_through(
     map: &PageMap,
     place: Place,
     start: Point,
     points: Points<'_>,
-) -> Result<(Landing, Extent), Fault>
+) -> Result<(Point, Extent), Fault>
     ensures fault { result_err result ≡ points_fault (plane_list map.now (start ∷ points_of points.entry)) (surface_of place) }
-    ensures from { IfOk result (λ r. IsLandingOf (map_numbers map.now) (surface_of place) start r.0) }
+    ensures from { IfOk result (λ r. r.0 ≡ mapped_point (map_numbers map.now) start) }
     ensures count { IfOk result (λ r. r.1.count ≡ suc (length (points_of points.entry))) }
     ensures bounds { IfOk result (λ r. IsLeastBox r.1.bounds (plane_list map.now (start ∷ points_of points.entry))) }
 {
@@ -178,7 +167,7 @@ pub(crate) fn land_through(
         Err(fault) => return Err(fault),
     };
     box_law();
-    let first = Some(Rect::around(from.plane));
+    let first = Some(Rect::around(from));
     match plane_box(map, place, points) {
         Ok(bounds) => Ok((
             from,
@@ -191,8 +180,19 @@ pub(crate) fn land_through(
     }
 }
 
-/// Where a box of the page lands, its corners put in order, or `OffPlane` where one of them doesn't.
-pub(crate) fn land_box(map: &PageMap, place: Place, corners: Rect) -> Result<ClipBox, Fault>
+/// A box of the page on the plane, its corners put in order, or `OffPlane` where one of them doesn't land.
+pub(crate) fn land_box(map: &PageMap, place: Place, corners: Rect) -> Result<Rect, Fault>
+    ensures fault { result_err result ≡ off_plane_fault (mapped_corners (map_numbers map.now) corners) (surface_of place) }
+    ensures plane { IfOk result (λ plane. plane ≡ mapped_box (map_numbers map.now) corners) }
+{
+    match land_pair(map, place, left_top_of(corners), right_bottom_of(corners)) {
+        Ok((first, second)) => Ok(Rect::between(first, second)),
+        Err(fault) => Err(fault),
+    }
+}
+
+/// The same for a box of the clip, and where that lands on the surface.
+pub(crate) fn land_clip_box(map: &PageMap, place: Place, corners: Rect) -> Result<ClipBox, Fault>
     ensures fault { result_err result ≡ off_plane_fault (mapped_corners (map_numbers map.now) corners) (surface_of place) }
     ensures plane { IfOk result (λ b. b.plane ≡ mapped_box (map_numbers map.now) corners) }
     ensures placed { IfOk result (λ b. b.placed ≡ placed_box (surface_of place) b.plane) }
@@ -203,13 +203,14 @@ pub(crate) fn land_box(map: &PageMap, place: Place, corners: Rect) -> Result<Cli
         left_top_of(corners),
         right_bottom_of(corners),
     ) {
-        Ok(landings) => landings,
+        Ok(points) => points,
         Err(fault) => return Err(fault),
     };
+    limits_law();
     placing_law();
     Ok(ClipBox {
-        plane: Rect::between(first.plane, second.plane),
-        placed: Rect::between(first.placed, second.placed),
+        plane: Rect::between(first, second),
+        placed: Rect::between(place.at(first), place.at(second)),
     })
 }
 

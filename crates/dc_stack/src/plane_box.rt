@@ -29,7 +29,7 @@ pub(crate) fn plane_box(
         return Ok(None);
     };
     match land_box(map, place, page) {
-        Ok(landed) => Ok(Some(landed.plane)),
+        Ok(landed) => Ok(Some(landed)),
         Err(fault) => Err(fault),
     }
 }

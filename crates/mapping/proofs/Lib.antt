@@ -1,3 +1,4 @@
+pub mod DivisorLemmas
 pub mod FloorLemmas
 pub mod LimitLemmas
 pub mod PageAxisLemmas

@@ -5,21 +5,52 @@ ghost use Rattle.mapping.specs.CellLaws.{CellLaws};
 ghost use Rattle.mapping.specs.Cells.{cells, count_of, is_away, rounded_up};
 ghost use Rattle.mapping.specs.Limits.{IsFrameSide, IsSurfaceSide};
 
+use crate::divisor::Divisor;
+use crate::place::Place;
+
 /// How many columns, or rows, of a surface with this side the plane from `l` to `r`, both included, meets at most: none where `r` is
 /// before `l`, or the frame's side lies beside them. A surface's side is from 1 to 8,192 pixels, a frame's from 1 to 2^28 plane units.
-#[tactic(auto, using(crate::proofs::MetLemmas::ordered))]
 pub fn cells(l: i32, r: i32, surface_side: u32, frame_side: u32) -> u32
     requires surface { IsSurfaceSide surface_side }
     requires frame { IsFrameSide frame_side }
     ensures cells { result ≡ cells l r surface_side frame_side }
     ensures few { result ≤ surface_side }
 {
-    if is_away(l, r, frame_side) {
+    cells_by(l, r, surface_side, Divisor::new(frame_side))
+}
+
+impl Place {
+    /// How many columns of the surface the plane from `l` to `r`, both included, meets at most.
+    pub fn columns(&self, l: i32, r: i32) -> u32
+        ensures cells { result ≡ cells l r self.now.width self.now.frame.width }
+        ensures few { result ≤ self.now.width }
+    {
+        cells_by(l, r, self.width, self.by_width)
+    }
+
+    /// How many rows of the surface the plane from `t` to `b`, both included, meets at most.
+    pub fn rows(&self, t: i32, b: i32) -> u32
+        ensures cells { result ≡ cells t b self.now.height self.now.frame.height }
+        ensures few { result ≤ self.now.height }
+    {
+        cells_by(t, b, self.height, self.by_height)
+    }
+}
+
+/// How many columns, or rows, the plane meets at most, by the frame's side as a divisor.
+#[tactic(auto, using(crate::proofs::MetLemmas::ordered))]
+fn cells_by(l: i32, r: i32, surface_side: u32, frame_side: Divisor) -> u32
+    requires surface { IsSurfaceSide surface_side }
+    requires frame { IsFrameSide frame_side.number }
+    ensures cells { result ≡ cells l r surface_side frame_side.number }
+    ensures few { result ≤ surface_side }
+{
+    if is_away(l, r, frame_side.number) {
         return 0;
     }
     met(
         count_of(l),
-        count_of(r).min(frame_side),
+        count_of(r).min(frame_side.number),
         surface_side,
         frame_side,
     )
@@ -40,16 +71,16 @@ fn count_of(v: i32) -> u32
 }
 
 /// How many columns, or rows, lie between two coordinates within the frame's side at most.
-fn met(from: u32, to: u32, surface_side: u32, frame_side: u32) -> u32
+fn met(from: u32, to: u32, surface_side: u32, frame_side: Divisor) -> u32
     requires surface { IsSurfaceSide surface_side }
-    requires frame { IsFrameSide frame_side }
+    requires frame { IsFrameSide frame_side.number }
     requires order { from ≤ to }
-    requires within { to ≤ frame_side }
-    ensures cells { result ≡ min surface_side (rounded_up ((to - from) * surface_side) frame_side + 1) }
+    requires within { to ≤ frame_side.number }
+    ensures cells { result ≡ min surface_side (rounded_up ((to - from) * surface_side) frame_side.number + 1) }
     ensures few { result ≤ surface_side }
 {
-    let divisor = u64::from(frame_side);
-    let met = (u64::from(to - from) * u64::from(surface_side) + (divisor - 1)) / divisor + 1;
+    let part = u64::from(to - from) * u64::from(surface_side);
+    let met = frame_side.quotient(part + u64::from(frame_side.number - 1)) + 1;
     u64::from(surface_side).min(met) as u32
 }
 

@@ -31,6 +31,7 @@
 #![tactic(auto)]
 
 mod cell_count;
+mod divisor;
 mod floor;
 mod geometry;
 mod limits;

@@ -1,11 +1,12 @@
 //! The place: where a plane point lands on a surface.
 
-ghost use Rattle.std.specs.Prelude.{◌≡◌, ◌≤◌, ◌↔◌, IsTrue, SomeIff, is_some};
+ghost use Rattle.std.specs.Prelude.{◌≡◌, ◌≤◌, ◌↔◌, ◌*ℤ◌, pos, IsTrue, SomeIff, is_some};
 ghost use Rattle.mapping.specs.Limits.{IsSurfaceSide, is_within, place_limit, surface_side_limit};
 ghost use Rattle.mapping.specs.Surface.{placed, FitsPlace, IsPlaceCoordinate, fits_place, placed_point};
 ghost use Rattle.mapping.specs.BoxLaws.{BoxLaws};
 ghost use Rattle.mapping.specs.PlacingLaws.{PlacingLaws};
 
+use crate::divisor::Divisor;
 use crate::geometry::{Frame, Point};
 use crate::limits::PLACE_LIMIT;
 
@@ -20,8 +21,12 @@ pub struct Place {
     /// The surface's sides in pixels.
     pub width: u32,
     pub height: u32,
+    pub(crate) by_width: Divisor,
+    pub(crate) by_height: Divisor,
     pub ghost wide: { IsSurfaceSide width },
     pub ghost high: { IsSurfaceSide height },
+    ghost divides_width: { by_width.number ≡ frame.width },
+    ghost divides_height: { by_height.number ≡ frame.height },
 }
 
 impl Place {
@@ -38,6 +43,8 @@ impl Place {
             frame: *frame,
             width,
             height,
+            by_width: Divisor::new(frame.width),
+            by_height: Divisor::new(frame.height),
         }
     }
 
@@ -53,10 +60,10 @@ impl Place {
         ensures point { let there = placed_point point (surface_of self) in SomeIff result (FitsPlace there) there }
         ensures test { is_some result ≡ fits_place (placed_point point (surface_of self)) }
     {
-        let Some(x) = axis_place(point.x, self.width, self.frame.width) else {
+        let Some(x) = axis_place(point.x, self.width, self.by_width) else {
             return None;
         };
-        let Some(y) = axis_place(point.y, self.height, self.frame.height) else {
+        let Some(y) = axis_place(point.y, self.height, self.by_height) else {
             return None;
         };
         Some(Point { x, y })
@@ -68,28 +75,34 @@ impl Place {
         ensures { result ≡ placed_point point (surface_of self) }
     {
         Point {
-            x: axis_at(point.x, self.width, self.frame.width),
-            y: axis_at(point.y, self.height, self.frame.height),
+            x: axis_at(point.x, self.width, self.by_width),
+            y: axis_at(point.y, self.height, self.by_height),
         }
     }
 }
 
 /// A plane coordinate scaled from the frame's side to the surface's.
-fn scaled(coordinate: i32, surface_side: u32, frame_side: u32) -> i64
+fn scaled(coordinate: i32, surface_side: u32, frame_side: Divisor) -> i64
     requires surface { surface_side ≤ surface_side_limit }
-    requires frame { 1 ≤ frame_side }
-    ensures { result ≡ placed coordinate surface_side frame_side }
+    ensures { result ≡ placed coordinate surface_side frame_side.number }
 {
-    (i64::from(coordinate) * i64::from(surface_side)).div_euclid(i64::from(frame_side))
+    frame_side.floor(product(coordinate, surface_side))
+}
+
+/// A plane coordinate times the surface's side.
+fn product(coordinate: i32, surface_side: u32) -> i64
+    requires surface { surface_side ≤ surface_side_limit }
+    ensures { result ≡ coordinate *ℤ pos surface_side }
+{
+    i64::from(coordinate) * i64::from(surface_side)
 }
 
 /// The placed coordinate, or none where it is outside its limit.
 #[tactic(auto, unfolding(crate::specs::Limits::place_limit))]
-fn axis_place(coordinate: i32, surface_side: u32, frame_side: u32) -> Option<i32>
+fn axis_place(coordinate: i32, surface_side: u32, frame_side: Divisor) -> Option<i32>
     requires surface { surface_side ≤ surface_side_limit }
-    requires frame { 1 ≤ frame_side }
-    ensures value { let p = placed coordinate surface_side frame_side in SomeIff result (IsPlaceCoordinate p) p }
-    ensures test { is_some result ≡ is_within place_limit (placed coordinate surface_side frame_side) }
+    ensures value { let p = placed coordinate surface_side frame_side.number in SomeIff result (IsPlaceCoordinate p) p }
+    ensures test { is_some result ≡ is_within place_limit (placed coordinate surface_side frame_side.number) }
 {
     let placed = scaled(coordinate, surface_side, frame_side);
     if -PLACE_LIMIT <= placed && placed <= PLACE_LIMIT {
@@ -101,11 +114,10 @@ fn axis_place(coordinate: i32, surface_side: u32, frame_side: u32) -> Option<i32
 
 /// The placed coordinate, where it is within its limit.
 #[tactic(auto, unfolding(crate::specs::Limits::place_limit))]
-fn axis_at(coordinate: i32, surface_side: u32, frame_side: u32) -> i32
+fn axis_at(coordinate: i32, surface_side: u32, frame_side: Divisor) -> i32
     requires surface { surface_side ≤ surface_side_limit }
-    requires frame { 1 ≤ frame_side }
-    requires fits { IsPlaceCoordinate (placed coordinate surface_side frame_side) }
-    ensures { result ≡ placed coordinate surface_side frame_side }
+    requires fits { IsPlaceCoordinate (placed coordinate surface_side frame_side.number) }
+    ensures { result ≡ placed coordinate surface_side frame_side.number }
 {
     scaled(coordinate, surface_side, frame_side) as i32
 }

@@ -2,7 +2,7 @@
 
 use crate::comparing::same;
 use crate::stepping::{machine, step};
-use dc_stack::{Draw, Landing, Mark, Needs};
+use dc_stack::{Draw, Mark, Needs};
 use draw_ops::{Fault, FillMode, Handle, Object, Op, SavedState};
 use mapping::{Point, Rect};
 use meta_headers::open_file;
@@ -23,10 +23,7 @@ const FONT: Op<'static> = Op::Create {
 fn a_pixel_is_drawn_where_it_lands(rt: HostRuntime) -> Result<(), Fail> {
     let opened = open_file(&DOT)?;
     let mut machine = machine(rt.alloc(), &opened);
-    let at = Landing {
-        plane: Point { x: 3, y: -1 },
-        placed: Point { x: 1, y: -1 },
-    };
+    let at = Point { x: 3, y: -1 };
     let drawn = Draw {
         mark: Mark::Dot { at, colour: RED },
         bounds: Rect {

@@ -1,5 +1,5 @@
 -- Steps in turn: what they need, and the room for what they draw.
-use Rattle.std.proofs.Common.{◌≡◌, ℕ, ◌≤◌, max, List, [], ◌∷◌, Option, Some, None, IfSome, arith, inl, inr, refl, subst, sym, ◌∙◌}
+use Rattle.std.proofs.Common.{◌≡◌, ℕ, ◌≤◌, ◌⊎◌, max, List, [], ◌∷◌, Option, Some, None, IfSome, arith, inl, inr, refl, subst, sym, ◌∙◌}
 use Rattle.std.specs.Option.{option_map}
 use Rattle.draw_ops.specs.Content.{Content, StepValue, with_step}
 use Rattle.draw_ops.specs.ExactlyOne.{ExactlyOne}
@@ -16,7 +16,7 @@ use Rattle.dc_stack.specs.declared.needs.Needs.{Needs}
 use Rattle.meta_headers.specs.Opening.{HasContentOf, framing_of, meaning_of}
 use Rattle.meta_headers.specs.declared.opened.FileFormat.{FileFormat}
 use Rattle.mapping.specs.Surface.{Surface}
-use Rattle.player.specs.After.{AreEnoughForRecords, AreEnoughLines, AreLinesOfRecords, HasLines}
+use Rattle.player.specs.After.{AreEnoughForRecords, AreEnoughLines, AreLinesOfRecords, HasLines, HasLinesForRecords}
 use Rattle.preflight_cert.specs.After.{needs_after}
 
 -- an operation needs as many lines as its drawing has
@@ -117,3 +117,10 @@ lines_of_records one lines format records m content is told other is_other =
 -- room for as many lines is enough for the records
 pub enough_for_records : (lines room : ℕ) (format : FileFormat) (records : List ℕ) (m : MachineState) → AreLinesOfRecords lines format records m → lines ≤ room → AreEnoughForRecords room format records m
 enough_for_records lines room format records m told fits content is = let same = told content is in omega (arith, same, fits)
+
+-- lines that were counted on a machine in the same state are enough for the records
+pub lines_for_records : (before after : MachineState) (lines room : ℕ) (format : FileFormat) (records : List ℕ) → after.state ≡ before.state → after.needs ≡ before.needs → AreLinesOfRecords lines format records before → (edge_limit ≤ room) ⊎ (lines ≤ room) → HasLinesForRecords room format records after
+lines_for_records before after lines room format records state needs counted fits = elim fits [
+  | inl most ↦ inl most
+  | inr few ↦ inr (λ content of. rw (state, needs) (rw (counted content of) at few))
+]

@@ -22,11 +22,10 @@ use Rattle.raster_ops.specs.TernaryOps.{ternary_colour, uses_pattern}
 use Rattle.dc_stack.specs.Clip.{ClipValue, in_box, in_boxes, placed_clip}
 use Rattle.mapping.specs.Boxes.{box_between}
 use Rattle.dc_stack.specs.Drawing.{Tools}
-use Rattle.dc_stack.specs.Draws.{IsLanding}
 use Rattle.dc_stack.specs.Values.{placed_value}
 use Rattle.dc_stack.specs.declared.clip.Clip.{Clip}
 use Rattle.dc_stack.specs.declared.dc.Dc.{Dc}
-use Rattle.dc_stack.specs.declared.draw.PlacedBlit.{PlacedBlit}
+use Rattle.dc_stack.specs.declared.draw.PlaneBlit.{PlaneBlit}
 use Rattle.dc_stack.specs.declared.modes.Modes.{Modes}
 use Rattle.preflight_cert.specs.Apply.{ink_of, joined}
 use Rattle.player.specs.Blits.{blit_colour, blit_made, blit_paints}
@@ -61,22 +60,22 @@ joined_alike op seen source (Some p) old same = same p
 
 -- What a paint of a blit makes of its box is what the blit makes of it.
 pub blit_painted :
-    WritingLaws → (paint : Brushing) (dc : Dc) (blit : PlacedBlit) (box : Rect) (old new : CanvasState) → IsWholeCanvas old
+    WritingLaws → (s : Surface) (paint : Brushing) (dc : Dc) (blit : PlaneBlit) (box : Rect) (old new : CanvasState) → IsWholeCanvas old
     → paint.brush ≡ cond (uses_pattern blit.operation.table) dc.selected.brush (Solid black_colour) → paint.modes ≡ dc.modes → paint.operation ≡ Ternary blit.operation → paint.clip.now ≡ dc.clip
-    → box ≡ box_between blit.first.placed blit.second.placed
-    → ((x y : ℕ) (p c : Colour) → ternary_colour blit.operation.table p (colour_seen paint.source x y) c ≡ ternary_colour blit.operation.table p (source_colour (source_of blit.source) blit.first.placed blit.second.placed x y) c)
+    → box ≡ box_between (placed_point blit.first s) (placed_point blit.second s)
+    → ((x y : ℕ) (p c : Colour) → ternary_colour blit.operation.table p (colour_seen paint.source x y) c ≡ ternary_colour blit.operation.table p (source_colour (source_of blit.source) (placed_point blit.first s) (placed_point blit.second s) x y) c)
     → Repaints (paints paint (in_box box)) (made paint) old new
-    → Repaints (blit_paints blit dc) (blit_made blit dc) old new
-blit_painted laws paint dc blit box old new whole brush modes operation clip inside same r =
+    → Repaints (blit_paints blit s dc) (blit_made blit s dc) old new
+blit_painted laws s paint dc blit box old new whole brush modes operation clip inside same r =
     let op = blit.operation in
-    let first = blit.first.placed in
-    let second = blit.second.placed in
+    let first = placed_point blit.first s in
+    let second = placed_point blit.second s in
     let source = source_of blit.source in
     let colour : (x y : ℕ) → colour_of paint x y ≡ blit_colour op dc x y =
     λ x y. ap (λ (b : Brush). brush_paint (brush_value_of b) paint.modes.background_mode paint.modes.background_colour x y) brush
     ∙ ap (λ (m : Modes). brush_paint (brush_value_of (cond (uses_pattern op.table) dc.selected.brush (Solid black_colour))) m.background_mode m.background_colour x y) modes
     ∙ chosen_colour (uses_pattern op.table) dc.selected.brush dc.modes.background_mode dc.modes.background_colour x y in
-    laws.same (paints paint (in_box box)) (blit_paints blit dc) (made paint) (blit_made blit dc) old new whole
+    laws.same (paints paint (in_box box)) (blit_paints blit s dc) (made paint) (blit_made blit s dc) old new whole
     (λ x y held.
     ap (λ (k : Clip). in_boxes (placed_value k) x y && in_box box x y && is_some (colour_of paint x y)) clip
     ∙ ap (λ (b : Rect). in_boxes (placed_value dc.clip) x y && in_box b x y && is_some (colour_of paint x y)) inside
@@ -92,36 +91,34 @@ layer_colour : (b : Bool) (brush : Brush) (tools : Tools) (s : Surface) (x y : �
 layer_colour true brush tools s x y same = ap (λ b. brush_paint b tools.modes.background_mode tools.modes.background_colour x y) same
 layer_colour false brush tools s x y same = refl
 
-joined_same : (op : TernaryOp) (s : Surface) (p q first second : Point) (source : Option SourceValue) (x y : ℕ) (paint : Option Colour) (old : Colour) → first ≡ placed_point p s → second ≡ placed_point q s → joined_if (Ternary op) (source_colour source first second x y) paint old ≡ joined (ternary op.table source p q) s x y paint old
-joined_same op s p q first second source x y None old a b = refl
-joined_same op s p q first second source x y (Some paint) old a b = rw (a, b) refl
+joined_same : (op : TernaryOp) (s : Surface) (p q : Point) (source : Option SourceValue) (x y : ℕ) (paint : Option Colour) (old : Colour) → joined_if (Ternary op) (source_colour source (placed_point p s) (placed_point q s) x y) paint old ≡ joined (ternary op.table source p q) s x y paint old
+joined_same op s p q source x y None old = refl
+joined_same op s p q source x y (Some paint) old = refl
 
 module _ (laws : WritingLaws) (s : Surface) (old new : CanvasState) (there : IsWholeCanvas old) (whole : IsWhole old s) where
   -- And that is the layer of the blit.
   pub blit_drawn :
-      (dc : Dc) (tools : Tools) (blit : PlacedBlit)
+      (dc : Dc) (tools : Tools) (blit : PlaneBlit)
       → brush_value_of dc.selected.brush ≡ tools.brush → dc.modes ≡ tools.modes → placed_value dc.clip ≡ placed_clip s tools.clip
-      → IsLanding s blit.first → IsLanding s blit.second
-      → Repaints (blit_paints blit dc) (blit_made blit dc) old new
-      → DrawsLayers (blit_layer blit.first.plane blit.second.plane blit.operation.table (source_of blit.source) tools ∷ []) s old new
-  blit_drawn dc tools blit brush modes clip a b r =
+      → Repaints (blit_paints blit s dc) (blit_made blit s dc) old new
+      → DrawsLayers (blit_layer blit.first blit.second blit.operation.table (source_of blit.source) tools ∷ []) s old new
+  blit_drawn dc tools blit brush modes clip r =
       let op = blit.operation in
-      let p = blit.first.plane in
-      let q = blit.second.plane in
-      let first = blit.first.placed in
-      let second = blit.second.placed in
+      let p = blit.first in
+      let q = blit.second in
+      let first = placed_point p s in
+      let second = placed_point q s in
       let source = source_of blit.source in
       let layer = blit_layer p q op.table source tools in
       let colour : (x y : ℕ) → blit_colour op dc x y ≡ paint_at (blit_paint op.table tools) s x y =
       λ x y. ap (λ (m : Modes). cond (uses_pattern op.table) (brush_paint (brush_value_of dc.selected.brush) m.background_mode m.background_colour x y) (Some black_colour)) modes
       ∙ layer_colour (uses_pattern op.table) dc.selected.brush tools s x y brush in
       layer_drawn laws s old new there whole layer
-      (laws.same (blit_paints blit dc) (writes_pixel layer s) (blit_made blit dc) (ink_of layer s) old new there
+      (laws.same (blit_paints blit s dc) (writes_pixel layer s) (blit_made blit s dc) (ink_of layer s) old new there
       (λ x y held.
       ap (λ (boxes : ClipValue). in_boxes boxes x y && in_box (box_between first second) x y && is_some (blit_colour op dc x y)) clip
-      ∙ ap (λ (k : Option Colour). in_boxes (placed_clip s tools.clip) x y && in_box (box_between first second) x y && is_some k) (colour x y)
-      ∙ rw (a, b) refl)
+      ∙ ap (λ (k : Option Colour). in_boxes (placed_clip s tools.clip) x y && in_box (box_between first second) x y && is_some k) (colour x y))
       (λ x y c held t.
       ap (λ (k : Option Colour). joined_if (Ternary op) (source_colour source first second x y) k c) (colour x y)
-      ∙ joined_same op s p q first second source x y (paint_at (blit_paint op.table tools) s x y) c a b)
+      ∙ joined_same op s p q source x y (paint_at (blit_paint op.table tools) s x y) c)
       r)

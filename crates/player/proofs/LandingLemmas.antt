@@ -1,5 +1,5 @@
 -- Points of the page that land within the limits.
-use Rattle.std.proofs.Common.{◌≡◌, suc, ℤ, pos, neg_ℤ, ◌≤ℤ◌, Bool, true, int_le, List, [], ◌∷◌, arith, ap, subst, sym, ◌∙◌}
+use Rattle.std.proofs.Common.{◌≡◌, ◌<◌, ℕ, zero, suc, slice_index_or, ℤ, pos, neg_ℤ, ◌≤ℤ◌, Bool, true, int_le, List, [], ◌∷◌, arith, ap, subst, sym, ◌∙◌}
 use Rattle.std.proofs.lemmas.Bool.{and_parts}
 use Rattle.std.proofs.lemmas.Int.{ints}
 use Rattle.std.proofs.lemmas.List.{append-nil}
@@ -11,13 +11,14 @@ use Rattle.mapping.specs.Limits.{IsWithin, is_within, place_limit}
 use Rattle.mapping.specs.PageMap.{map_numbers}
 use Rattle.mapping.specs.Plane.{is_on_plane}
 use Rattle.mapping.specs.PlaceOf.{surface_of}
-use Rattle.mapping.specs.Surface.{FitsPlace, Surface, fits_place, lands_within_limits, placed_point}
+use Rattle.mapping.specs.Surface.{FitsPlace, IsPlaceCoordinate, Surface, fits_place, lands_within_limits, placed_point}
 use Rattle.mapping.specs.declared.geometry.Point.{Point}
 use Rattle.mapping.specs.Boxes.{IsLeastBox}
 use Rattle.mapping.specs.declared.geometry.Rect.{Rect}
 use Rattle.mapping.specs.declared.place.Place.{Place}
 use Rattle.dc_stack.specs.Boxes.{HasAll, placed_list}
 use Rattle.dc_stack.specs.Drawing.{joined}
+use Rattle.dc_stack.specs.Figures.{box_corners}
 use Rattle.dc_stack.specs.Mapped.{mapped_list, mapped_lists, mapped_point}
 use Rattle.dc_stack.specs.Projected.{is_projected, projected}
 use Rattle.dc_stack.specs.declared.projection.Projection.{Projection}
@@ -56,6 +57,24 @@ landed_fits s p t =
     let parts = and_parts (is_on_plane p) (fits_place there) t in
     let both = and_parts (is_within place_limit there.x) (is_within place_limit there.y) parts.1 in
     record { x = within there.x both.0; y = within there.y both.1 }
+
+-- the corners of a box whose sides are within the limits are near
+near_within : (v : ℤ) → IsPlaceCoordinate v → IsNear v
+near_within v h = record { low = h.low; high = one_more v h.high }
+
+pub corners_near : (box : Rect) → IsPlaceCoordinate box.l → IsPlaceCoordinate box.t → IsPlaceCoordinate box.r → IsPlaceCoordinate box.b → (k : ℕ) (d : Point) → k < 4 → IsNearPoint (slice_index_or (box_corners box) k d)
+corners_near box l t r b zero d h = record { x = near_within box.l l; y = near_within box.t t }
+corners_near box l t r b (suc zero) d h = record { x = near_within box.r r; y = near_within box.t t }
+corners_near box l t r b (suc (suc zero)) d h = record { x = near_within box.r r; y = near_within box.b b }
+corners_near box l t r b (suc (suc (suc zero))) d h = record { x = near_within box.l l; y = near_within box.b b }
+corners_near box l t r b (suc (suc (suc (suc k)))) d h = absurd (omega (arith, h))
+
+-- where a place's surface is this one, such a point fits there, and lands where the place tells
+pub fits_there : (place : Place) (s : Surface) (p : Point) → surface_of place ≡ s → lands_within_limits p s ≡ true → FitsPlace (placed_point p (surface_of place))
+fits_there place s p same t = subst (λ (r : Surface). FitsPlace (placed_point p r)) (sym same) (landed_fits s p t)
+
+pub lands_there : (place : Place) (s : Surface) (p there : Point) → surface_of place ≡ s → there ≡ placed_point p (surface_of place) → there ≡ placed_point p s
+lands_there place s p there same at = at ∙ ap (placed_point p) same
 
 -- of two points that land both do
 pub two_land : (s : Surface) (p q : Point) → list_all (λ r. lands_within_limits r s) (p ∷ q ∷ []) ≡ true → (lands_within_limits p s ≡ true) × (lands_within_limits q s ≡ true)

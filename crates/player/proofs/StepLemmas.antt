@@ -9,13 +9,14 @@ use Rattle.draw_ops.specs.declared.step.Step.{Step}
 use Rattle.draw_ops.specs.Operation.{Operation}
 use Rattle.draw_ops.specs.declared.fault.Fault.{Fault}
 use Rattle.dc_stack.specs.FaultLaws.{FaultLaws}
-use Rattle.dc_stack.specs.MachineState.{FullRoomIsEnough, MachineState, RefusesStep, WantsRoom}
+use Rattle.dc_stack.specs.MachineState.{FullRoomIsEnough, IsUnchanged, MachineState, RefusesStep, WantsRoom}
 use Rattle.dc_stack.specs.Needs.{greater_needs, needs_of}
 use Rattle.dc_stack.specs.Next.{next}
 use Rattle.dc_stack.specs.OperationFault.{fault_of}
 use Rattle.dc_stack.specs.State.{State}
 use Rattle.player.specs.Advances.{StopsAfter}
 use Rattle.player.specs.After.{HasRoomForSteps, IsEnoughRoom}
+use Rattle.player.specs.Leaving.{IsLeftBy}
 use Rattle.player.specs.Plays.{StopsBy}
 use Rattle.preflight_cert.specs.NeedLaws.{HasRoomFor, NeedLaws}
 use Rattle.preflight_cert.specs.Stop.{stop_at, stop_of, stopped}
@@ -79,3 +80,7 @@ lies_in_record laws operation state s fault number r h at by = (λ some. rw by (
 -- what is left begins with the step that was given
 pub begins_with : (old new : Content) (result : Result (Option Step) Fault) (step : Step) → Gives old result new → result ≡ Ok (Some step) → old ≡ with_step (step_value_of step) new
 begins_with old new result step gives e = rw e at gives
+
+-- where the first step has a fault, and the machine is unchanged, it is left as it was
+pub left_at_first : (left rest : Content) (step : StepValue) (start end : MachineState) (fault : Fault) → left ≡ with_step step rest → fault_of step.operation start.state start.surface ≡ Some fault → IsUnchanged start end → IsLeftBy left start end
+left_at_first left rest step start end fault is fails same = rw is (record { state = rw fails same.state; needs = rw fails same.needs })

@@ -16,9 +16,10 @@ use Rattle.raster_ops.specs.TernaryOps.{uses_pattern}
 use Rattle.raster_ops.specs.declared.sources.SourceReader.{SourceReader}
 use Rattle.dc_stack.specs.Clip.{in_box, in_boxes}
 use Rattle.mapping.specs.Boxes.{box_between}
+use Rattle.mapping.specs.Surface.{Surface, placed_point}
 use Rattle.dc_stack.specs.Values.{placed_value}
 use Rattle.dc_stack.specs.declared.dc.Dc.{Dc}
-use Rattle.dc_stack.specs.declared.draw.PlacedBlit.{PlacedBlit}
+use Rattle.dc_stack.specs.declared.draw.PlaneBlit.{PlaneBlit}
 use Rattle.span_fill.specs.declared.span.Span.{Span}
 use Rattle.player.specs.RasterOperation.{joined_if}
 use Rattle.player.specs.declared.paint.Paint.{Paint}
@@ -51,11 +52,11 @@ blit_colour operation dc x y =
     else Some black_colour
 
 -- the pixel is one of the box, the clip has it, and the brush doesn't give nothing
-abbrev pub blit_paints : PlacedBlit → Dc → ℕ → ℕ → Bool
-blit_paints blit dc x y =
-    in_boxes (placed_value dc.clip) x y && in_box (box_between blit.first.placed blit.second.placed) x y && is_some (blit_colour blit.operation dc x y)
+abbrev pub blit_paints : PlaneBlit → Surface → Dc → ℕ → ℕ → Bool
+blit_paints blit s dc x y =
+    in_boxes (placed_value dc.clip) x y && in_box (box_between (placed_point blit.first s) (placed_point blit.second s)) x y && is_some (blit_colour blit.operation dc x y)
 
 -- and becomes this
-abbrev pub blit_made : PlacedBlit → Dc → ℕ → ℕ → Colour → Colour
-blit_made blit dc x y old =
-    joined_if (Ternary blit.operation) (source_colour (source_of blit.source) blit.first.placed blit.second.placed x y) (blit_colour blit.operation dc x y) old
+abbrev pub blit_made : PlaneBlit → Surface → Dc → ℕ → ℕ → Colour → Colour
+blit_made blit s dc x y old =
+    joined_if (Ternary blit.operation) (source_colour (source_of blit.source) (placed_point blit.first s) (placed_point blit.second s) x y) (blit_colour blit.operation dc x y) old

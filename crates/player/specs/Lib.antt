@@ -5,6 +5,7 @@ pub mod PieceParts
 pub mod MovesToCome
 pub mod FiguresToCome
 pub mod After
+pub mod Leaving
 pub mod Advances
 pub mod Plays
 pub mod PlacedLines

@@ -1,10 +1,11 @@
 //! Playing one step of a source.
 
-ghost use Rattle.std.specs.Prelude.{◌≡◌, ◌↔◌, IfErr, IsSome, OnOk};
+ghost use Rattle.std.specs.Prelude.{◌≡◌, ◌↔◌, IfErr, IsSome, OnErr, OnOk};
 ghost use Rattle.draw_ops.specs.Fault.{IsInRecord};
 ghost use Rattle.dc_stack.specs.MachineState.{GoesOn};
 ghost use Rattle.player.specs.Advances.{Advances};
 ghost use Rattle.player.specs.After.{HasRoomForSteps};
+ghost use Rattle.player.specs.Leaving.{IsLeftBy};
 
 use dc_stack::{Draw, Machine, fault_law, room_law};
 use draw_ops::OpSource;
@@ -25,6 +26,7 @@ pub(crate) fn advance<'a, S: OpSource<'a>, T: Table<'a>>(
     ensures record { IfErr result (λ r. IsSome r.number ↔ IsInRecord r.fault) }
     ensures goes_on { GoesOn machine.old machine.new }
     ensures room { OnOk result (HasRoomForSteps (S.content source.new) machine.new) }
+    ensures left { OnErr result (IsLeftBy (S.content source.old) machine.old machine.new) }
 {
     room_law();
     need_law();

@@ -3,7 +3,8 @@
 
 ghost use Rattle.std.specs.Prelude.{◌≡◌, ◌+◌, ◌<◌, ◌≤◌, ◌^◌, ◌≤ℤ◌, ◌+ℤ◌, pos, ℕ, Some, true, is_some, length, slice_index_or};
 ghost use Rattle.dib_views.specs.PictureOf.{picture_of};
-ghost use Rattle.mapping.specs.Surface.{FitsPlace};
+ghost use Rattle.mapping.specs.PlaceOf.{surface_of};
+ghost use Rattle.mapping.specs.Surface.{FitsPlace, placed_point};
 ghost use Rattle.mapping.specs.declared.geometry.Colour.{Colour};
 ghost use Rattle.canvas.specs.MixRows.{mix_at};
 ghost use Rattle.canvas.specs.Writing.{Repaints};
@@ -28,9 +29,9 @@ use crate::regions::{common, visible, whole_law};
 use crate::row_ink::RowInk;
 use crate::strips::put_uncut;
 use canvas::{Canvas, writing_law};
-use dc_stack::{Dc, PlacedBlit};
+use dc_stack::{Dc, PlaneBlit};
 use draw_ops::TernaryOp;
-use mapping::{Colour, Rect};
+use mapping::{Colour, Place, Rect};
 use raster_ops::{
     BrushRow, SourceReader, TernaryMixer, copy_law, dependence_law, gather_pattern, uses_source,
 };
@@ -41,19 +42,25 @@ const SRCCOPY: u8 = 0xcc;
 
 /// Paints the box of a blit, with the brush and under the clip of the moment. Where the operation depends on the
 /// source, there is something to read.
-pub(crate) fn blit(asked: &PlacedBlit<'_>, dc: &Dc<'_>, room: &mut InkRoom, canvas: &mut Canvas)
+pub(crate) fn blit(
+    asked: &PlaneBlit<'_>,
+    place: Place,
+    dc: &Dc<'_>,
+    room: &mut InkRoom,
+    canvas: &mut Canvas,
+)
     requires first { canvas.old.first ≡ 0 }
     requires countable { canvas.old.writes + 2 ^ 27 < 2 ^ 64 }
-    requires near { FitsPlace asked.now.first.placed }
-    requires far { FitsPlace asked.now.second.placed }
+    requires near { FitsPlace (placed_point asked.now.first (surface_of place)) }
+    requires far { FitsPlace (placed_point asked.now.second (surface_of place)) }
     requires readable { uses_source asked.now.operation.table ≡ true → is_readable (source_of asked.now.source) ≡ true }
-    ensures pixels { Repaints (blit_paints asked.now dc.now) (blit_made asked.now dc.now) canvas.old canvas.new }
+    ensures pixels { Repaints (blit_paints asked.now (surface_of place) dc.now) (blit_made asked.now (surface_of place) dc.now) canvas.old canvas.new }
     ensures few { canvas.new.writes ≤ canvas.old.writes + 2 ^ 26 }
 {
     writing_law();
     whole_law(canvas);
     dependence_law();
-    let (first, second) = (asked.first.placed, asked.second.placed);
+    let (first, second) = (place.at(asked.first), place.at(asked.second));
     let operation = asked.operation;
     let inside = between(first, second);
     if !uses_source(operation) {

@@ -71,6 +71,7 @@ fn fill<'a, T: Table<'a>>(
     writing_law();
     whole_law(canvas);
     let dc = machine.dc();
+    let place = machine.place();
     if let Brush::Null = dc.selected.brush {
         return;
     }
@@ -82,7 +83,7 @@ fn fill<'a, T: Table<'a>>(
             }
             let outline = FigureOutline::new(points, Ends::Closed, machine);
             let rule = rule_of(dc.modes.fill_mode);
-            let landed = landed_box(machine.place(), drawn.bounds);
+            let landed = landed_box(place, drawn.bounds);
             fill_lines(canvas, rows, outline, rule, landed, &paint, room);
         }
         Mark::Rectangle {
@@ -90,7 +91,7 @@ fn fill<'a, T: Table<'a>>(
             second,
             edges,
         } => {
-            let inside = rectangle_box(first.placed, second.placed, edges);
+            let inside = rectangle_box(place.at(first), place.at(second), edges);
             fill_box(canvas, inside, &paint, room);
         }
         Mark::Dot { .. } | Mark::Line { .. } | Mark::Blit(_) => {}
@@ -117,12 +118,13 @@ fn stroke<'a, T: Table<'a>>(
     writing_law();
     whole_law(canvas);
     let dc = machine.dc();
+    let place = machine.place();
     if let Mark::Dot { at, colour } = drawn.mark {
-        put(at.placed, colour, &dc.clip, canvas);
+        put(place.at(at), colour, &dc.clip, canvas);
         return;
     }
     if let Mark::Blit(asked) = drawn.mark {
-        blit(&asked, dc, room, canvas);
+        blit(&asked, place, dc, room, canvas);
         return;
     }
     let Pen::Solid { colour } = dc.selected.pen else {
@@ -152,13 +154,14 @@ fn stroke_outline<'a, T: Table<'a>>(
     writing_law();
     whole_law(canvas);
     let dc = machine.dc();
+    let place = machine.place();
     let paint = Paint::with(Brush::Solid(colour), dc);
     match drawn.mark {
         Mark::Dot { .. } | Mark::Blit(_) => {}
         Mark::Line { from, to } => {
             let line = Line {
-                from: from.placed,
-                to: to.placed,
+                from: place.at(from),
+                to: place.at(to),
             };
             stroke_line(canvas, line, &paint, colour);
         }
@@ -167,7 +170,7 @@ fn stroke_outline<'a, T: Table<'a>>(
                 return;
             };
             let outline = FigureOutline::new(points, ends, machine);
-            let landed = landed_box(machine.place(), drawn.bounds);
+            let landed = landed_box(place, drawn.bounds);
             stroke_lines(canvas, rows, outline, landed, &paint, colour);
         }
         Mark::Rectangle {
@@ -175,7 +178,7 @@ fn stroke_outline<'a, T: Table<'a>>(
             second,
             edges,
         } => {
-            let inside = rectangle_box(first.placed, second.placed, edges);
+            let inside = rectangle_box(place.at(first), place.at(second), edges);
             stroke_box(canvas, rows, inside, &paint, colour);
         }
     }

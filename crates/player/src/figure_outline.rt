@@ -3,7 +3,7 @@
 ghost use Rattle.std.specs.Prelude.{◌≡◌, ◌<◌, ◌^◌, IsTrue, length};
 ghost use Rattle.std.specs.List.{list_all};
 ghost use Rattle.mapping.specs.Surface.{lands_within_limits};
-ghost use Rattle.dc_stack.specs.Draws.{TellsPoints, figures_drawn};
+ghost use Rattle.dc_stack.specs.Draws.{LendsLanded, figures_drawn};
 ghost use Rattle.dc_stack.specs.Figures.{points_of_figures};
 ghost use Rattle.player.specs.FigureEnds.{lines_of_figures, stroked_ends};
 ghost use Rattle.preflight_cert.specs.FigureLines.{placed_figures};
@@ -33,7 +33,7 @@ impl<'p, 'a> FigureOutline<'p, 'a> {
         ends: Ends,
         machine: &'p Machine<'a, T>,
     ) -> FigureOutline<'p, 'a>
-        requires told { TellsPoints machine.now.surface machine.now.painted points }
+        requires lent { LendsLanded machine.now.surface machine.now.painted points }
         requires land { IsTrue (list_all (λ p. lands_within_limits p machine.now.surface) (points_of_figures (figures_drawn machine.now.painted points))) }
         requires few { length (points_of_figures (figures_drawn machine.now.painted points)) < 2 ^ 64 }
         ensures { outline_left result ≡ lines_of_figures ends (placed_figures machine.now.surface (figures_drawn machine.now.painted points.entry)) }
@@ -42,7 +42,7 @@ impl<'p, 'a> FigureOutline<'p, 'a> {
         match points {
             FigurePoints::Through { from, points, map } => {
                 let by = Projection { map, place };
-                FigureOutline::Lists(PlacedLines::from(from.placed, ends, by, points))
+                FigureOutline::Lists(PlacedLines::from(place.at(from), ends, by, points))
             }
             FigurePoints::Lists { lists, map } => {
                 let by = Projection { map, place };

@@ -8,6 +8,7 @@ ghost use Rattle.draw_ops.specs.Records.{record_limit};
 ghost use Rattle.meta_headers.specs.OpenedOf.{opened_of};
 ghost use Rattle.dc_stack.specs.MachineState.{GoesOn, HasFullRoom};
 ghost use Rattle.player.specs.After.{HasLines, HasLinesForRecords, HasRoomForRecords, HasRoomForSteps};
+ghost use Rattle.player.specs.Leaving.{IsLeftBy, IsLeftByRecords};
 ghost use Rattle.player.specs.Plays.{IsWhole, Plays, PlaysOpened, PlaysRecords, SameRows, StopsBy, StopsOpenedBy, StopsRecordsBy, WantsMemory};
 ghost use Rattle.preflight_cert.specs.Run.{Refused, Run, Writes, shown, white};
 
@@ -90,7 +91,8 @@ fn play_opened(
 /// Plays an opened file's records on a machine that has room for any file, with rows that have room for
 /// any drawing, and on a canvas that holds the machine's surface, over what it shows, and tells how many
 /// pixels were written. The refusal is the first fault of the records: no memory is wanted. Behind a play the machine is in the
-/// state, and tells the needs, that the records leave. After a refusal the canvas may show what was drawn before the fault.
+/// state, and tells the needs, that the records leave, and after a refusal those that the records before the fault leave. The canvas
+/// may then show what these drew.
 pub fn play_on<'a, T: Table<'a>>(
     opened: &Opened<'a>,
     machine: &mut Machine<'a, T>,
@@ -106,6 +108,8 @@ pub fn play_on<'a, T: Table<'a>>(
     ensures count { IfOk result (λ writes. canvas.new.writes ≡ canvas.old.writes + writes) }
     ensures refusal { IfErr result
         (StopsRecordsBy opened.now.format opened.now.records.now machine.old.state machine.old.surface) }
+    ensures left { OnErr result
+        (IsLeftByRecords opened.now.format opened.now.records.now machine.old machine.new) }
     ensures record { IfErr result (λ r. IsSome r.number ↔ IsInRecord r.fault) }
     ensures rows { SameRows canvas.old canvas.new }
     ensures goes_on { GoesOn machine.old machine.new }
@@ -130,6 +134,8 @@ pub(crate) fn play_records<'a, T: Table<'a>>(
     ensures count { IfOk result (λ writes. canvas.new.writes ≡ canvas.old.writes + writes) }
     ensures refusal { IfErr result
         (StopsRecordsBy opened.now.format opened.now.records.now machine.old.state machine.old.surface) }
+    ensures left { OnErr result
+        (IsLeftByRecords opened.now.format opened.now.records.now machine.old machine.new) }
     ensures record { IfErr result (λ r. IsSome r.number ↔ IsInRecord r.fault) }
     ensures rows { SameRows canvas.old canvas.new }
     ensures goes_on { GoesOn machine.old machine.new }
@@ -156,6 +162,7 @@ fn play_steps<'a, S: OpSource<'a>, T: Table<'a>>(
     requires countable { canvas.old.writes ≤ 2 ^ 63 }
     ensures played { OnOk result (Plays (S.content source.old) machine.old machine.new canvas.old canvas.new) }
     ensures refusal { IfErr result (StopsBy (S.content source.old) machine.old.state machine.old.surface) }
+    ensures left { OnErr result (IsLeftBy (S.content source.old) machine.old machine.new) }
     ensures record { IfErr result (λ r. IsSome r.number ↔ IsInRecord r.fault) }
     ensures rows { SameRows canvas.old canvas.new }
     ensures goes_on { GoesOn machine.old machine.new }

@@ -4,15 +4,15 @@ ghost use Rattle.std.specs.Prelude.{◌≡◌, ◌≤◌, ◌*◌};
 ghost use Rattle.mapping.specs.PlaceOf.{surface_of};
 ghost use Rattle.preflight_cert.specs.Budget.{box_cells};
 
-use mapping::{Place, Rect, cells};
+use mapping::{Place, Rect};
 
 /// How many pixels of a place's surface a box of the plane meets at most, its right and bottom included.
 pub(crate) fn box_cells(bounds: Rect, place: Place) -> u64
     ensures cells { result ≡ box_cells bounds (surface_of place) }
     ensures few { result ≤ 67108864 }
 {
-    let columns = cells(bounds.l, bounds.r, place.width, place.frame.width);
-    let rows = cells(bounds.t, bounds.b, place.height, place.frame.height);
+    let columns = place.columns(bounds.l, bounds.r);
+    let rows = place.rows(bounds.t, bounds.b);
     product(columns, rows)
 }
 

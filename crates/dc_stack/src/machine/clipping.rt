@@ -6,7 +6,7 @@ ghost use Rattle.dc_stack.specs.MachineState.{GoesOn, Plays};
 use crate::clip::Clip;
 use crate::draw::Draw;
 use crate::machine::Machine;
-use crate::placing::land_box;
+use crate::placing::land_clip_box;
 use draw_ops::Fault;
 use mapping::{Rect, placing_law};
 use object_tables::Table;
@@ -20,7 +20,7 @@ impl<'a, T: Table<'a>> Machine<'a, T> {
         if !self.dc.clip.may_be_cut() {
             return Err(Fault::TooManyCuts);
         }
-        match land_box(&self.dc.map, self.place, corners) {
+        match land_clip_box(&self.dc.map, self.place, corners) {
             Ok(landed) => {
                 self.dc.clip.cut(landed);
                 Ok(None)
@@ -34,7 +34,7 @@ impl<'a, T: Table<'a>> Machine<'a, T> {
         ensures plays { Plays (intersect_clip corners) self.old result self.new }
         ensures goes_on { GoesOn self.old self.new }
     {
-        match land_box(&self.dc.map, self.place, corners) {
+        match land_clip_box(&self.dc.map, self.place, corners) {
             Ok(landed) => {
                 placing_law();
                 self.dc.clip.keep(landed);

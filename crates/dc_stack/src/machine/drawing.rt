@@ -13,7 +13,7 @@ ghost use Rattle.dc_stack.specs.Mapped.{left_top, mapped_lists, right_bottom};
 ghost use Rattle.dc_stack.specs.Next.{end_of};
 ghost use Rattle.dc_stack.specs.OperationFault.{source_fault};
 
-use crate::draw::{Draw, FigurePoints, Mark, Painting, PlacedBlit};
+use crate::draw::{Draw, FigurePoints, Mark, Painting, PlaneBlit};
 use crate::lone_line::lone_line;
 use crate::machine::Machine;
 use crate::piece::{Joining, PiecePoints};
@@ -36,7 +36,7 @@ impl<'a, T: Table<'a>> Machine<'a, T> {
         match land(&self.dc.map, self.place, point) {
             Ok(at) => Ok(Some(Draw {
                 mark: Mark::Dot { at, colour },
-                bounds: Rect::around(at.plane),
+                bounds: Rect::around(at),
                 edges: 0,
             })),
             Err(fault) => Err(fault),
@@ -54,13 +54,13 @@ impl<'a, T: Table<'a>> Machine<'a, T> {
         box_law();
         match land_blit(&self.dc.map, self.place, &asked) {
             Ok((first, second)) => Ok(Some(Draw {
-                mark: Mark::Blit(PlacedBlit {
+                mark: Mark::Blit(PlaneBlit {
                     first,
                     second,
                     operation: asked.operation,
                     source: asked.source,
                 }),
-                bounds: Rect::between(first.plane, second.plane),
+                bounds: Rect::between(first, second),
                 edges: 0,
             })),
             Err(fault) => Err(fault),
@@ -158,7 +158,7 @@ impl<'a, T: Table<'a>> Machine<'a, T> {
                 self.needs.raise_edges(2);
                 Ok(Some(Draw {
                     mark: Mark::Line { from, to },
-                    bounds: Rect::between(from.plane, to.plane),
+                    bounds: Rect::between(from, to),
                     edges: 2,
                 }))
             }
@@ -187,7 +187,7 @@ impl<'a, T: Table<'a>> Machine<'a, T> {
                         second,
                         edges,
                     },
-                    bounds: Rect::between(first.plane, second.plane),
+                    bounds: Rect::between(first, second),
                     edges: 4,
                 }))
             }

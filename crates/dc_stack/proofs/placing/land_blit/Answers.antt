@@ -25,4 +25,4 @@ returns-clause-fault c =
     others_off (surface_of c.args.place) (mapped_point map asked.corner) (mapped_point map (far_corner asked) ∷ []) None c.in-Ok.ensures.fault (rw (c.far_corner.ensures.x, c.far_corner.ensures.y) at c.in-Ok-land_wide.ensures.fault)
 
 pub returns-clause-second : goal.returns-clause-second
-returns-clause-second c = record { plane = rw (c.far_corner.ensures.x, c.far_corner.ensures.y) at c.in-Ok-land_wide.ensures.plane; placed = c.in-Ok-land_wide.ensures.placed }
+returns-clause-second c = rw (c.far_corner.ensures.x, c.far_corner.ensures.y) at c.in-Ok-land_wide.ensures.plane

@@ -2,7 +2,7 @@
 use Rattle.std.proofs.Common.{Ok, ap, ◌∙◌}
 use Rattle.draw_ops.specs.OperationOf.{operation_of}
 use Rattle.draw_ops.specs.StepOf.{step_value_of}
-use Rattle.player.proofs.StepLemmas.{begins_with, lies_in_record, refused_by_fault, stops_at_first, stops_where_broken}
+use Rattle.player.proofs.StepLemmas.{begins_with, left_at_first, lies_in_record, refused_by_fault, stops_at_first, stops_where_broken}
 use Rattle.player.proofs.advance.advance.Goals as goal
 
 pub returns-in-Err-clause-advances : goal.returns-in-Err-clause-advances
@@ -32,3 +32,14 @@ returns-in-Err-step-clause-record g c =
     let given = begins_with left rest c.next_op.result step c.next_op.ensures.gives (c.in-Ok-Some.is ∙ ap Ok c.in-Ok-Some.field-0-is) in
     let fault = refused_by_fault c.room_law.ensures c.need_law.ensures left rest (step_value_of step) machine c.in-Err-step.fault given c.requires.room c.in-Err-step.ensures.refused in
     lies_in_record c.fault_law.ensures (operation_of step.op) machine.state machine.surface c.in-Err-step.fault step.number c.at-in-Err-step.result fault c.at-in-Err-step.ensures.number c.at-in-Err-step.ensures.fault
+
+pub returns-in-Err-step-clause-left : goal.returns-in-Err-step-clause-left
+returns-in-Err-step-clause-left g c =
+    let content = g.S.HasContent.content in
+    let machine = c.args.machine.now in
+    let step = c.in-Ok-Some.step in
+    let left = content c.args.source.now in
+    let rest = content c.next_op.new.self in
+    let given = begins_with left rest c.next_op.result step c.next_op.ensures.gives (c.in-Ok-Some.is ∙ ap Ok c.in-Ok-Some.field-0-is) in
+    let fault = refused_by_fault c.room_law.ensures c.need_law.ensures left rest (step_value_of step) machine c.in-Err-step.fault given c.requires.room c.in-Err-step.ensures.refused in
+    left_at_first left rest (step_value_of step) machine c.step.new.self c.in-Err-step.fault given fault c.in-Err-step.ensures.kept

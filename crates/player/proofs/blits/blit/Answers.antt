@@ -1,4 +1,5 @@
 use Rattle.std.proofs.Common.{◌≡◌, Option, ap, false, sym, ◌∙◌}
+use Rattle.mapping.specs.PlaceOf.{surface_of}
 use Rattle.mapping.specs.declared.geometry.Colour.{Colour}
 use Rattle.mapping.specs.declared.geometry.Rect.{Rect}
 use Rattle.raster_ops.specs.TernaryOps.{ternary_colour, uses_source}
@@ -12,15 +13,15 @@ returns-then-not-uses_source-clause-pixels c =
     let op = c.args.asked.now.operation in
     let paint = c.of_blit-paint.ensures in
     let none : uses_source op.table ≡ false = sym c.if-not-uses_source.ensures in
-    blit_painted c.writing_law.ensures c.of_blit-paint.result c.args.dc.now c.args.asked.now c.between-inside.result c.args.canvas.now c.fill_box.new.canvas c.whole_law.ensures
-    paint.brush paint.modes paint.operation paint.clip c.between-inside.ensures.value
+    blit_painted c.writing_law.ensures (surface_of c.args.place) c.of_blit-paint.result c.args.dc.now c.args.asked.now c.between-inside.result c.args.canvas.now c.fill_box.new.canvas c.whole_law.ensures
+    paint.brush paint.modes paint.operation paint.clip (rw (c.at-first.ensures, c.at-second.ensures) at c.between-inside.ensures.value)
     (λ x y p old. c.dependence_law.ensures.source op.table p _ _ old none)
     c.fill_box.ensures.pixels
 
 pub blit_box-requires-clause-reads : goal.blit_box-requires-clause-reads
 blit_box-requires-clause-reads c =
-    let first = c.args.asked.now.first.placed in
-    let second = c.args.asked.now.second.placed in
+    let first = c.at-first.result in
+    let second = c.at-second.result in
     let reader = c.in-Some.ensures in
     let inside = c.between-inside.ensures.value in
     record {
@@ -34,9 +35,9 @@ pub returns-clause-pixels : goal.returns-clause-pixels
 returns-clause-pixels c =
     let op = c.args.asked.now.operation in
     let paint = c.of_blit-paint-2.ensures in
-    blit_painted c.writing_law.ensures c.of_blit-paint-2.result c.args.dc.now c.args.asked.now c.between-inside.result c.args.canvas.now c.blit_box.new.canvas c.whole_law.ensures
-    paint.brush paint.modes paint.operation paint.clip c.between-inside.ensures.value
+    blit_painted c.writing_law.ensures (surface_of c.args.place) c.of_blit-paint-2.result c.args.dc.now c.args.asked.now c.between-inside.result c.args.canvas.now c.blit_box.new.canvas c.whole_law.ensures
+    paint.brush paint.modes paint.operation paint.clip (rw (c.at-first.ensures, c.at-second.ensures) at c.between-inside.ensures.value)
     (λ x y p old.
     ap (λ (source : Colour). ternary_colour op.table p source old)
-    (ap (λ (reader : Option SourceReader). colour_seen reader x y) paint.source ∙ sym (c.in-Some.ensures.reads x y)))
+    (ap (λ (reader : Option SourceReader). colour_seen reader x y) paint.source ∙ sym (rw (c.at-first.ensures, c.at-second.ensures) at (c.in-Some.ensures.reads x y))))
     c.blit_box.ensures.pixels

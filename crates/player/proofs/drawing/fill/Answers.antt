@@ -1,5 +1,4 @@
-use Rattle.std.proofs.Common.{◌∙◌, ap, refl, rules, sym, arith, subst}
-use Rattle.mapping.specs.Surface.{FitsPlace}
+use Rattle.std.proofs.Common.{◌∙◌, ap, refl, rules, arith}
 use Rattle.draw_ops.specs.Objects.{brush_value_of}
 use Rattle.dc_stack.specs.State.{DcValue}
 use Rattle.dc_stack.specs.Draws.{figures_drawn}
@@ -10,17 +9,17 @@ use Rattle.preflight_cert.specs.Shape.{fill_rule_of, inside_figures, inside_rect
 use Rattle.player.specs.declared.list_lines.Ends.TheVariants.{Closed}
 use Rattle.player.specs.declared.raster_operation.RasterOperation.TheVariants.{Binary}
 use Rattle.player.proofs.DrawingLemmas.{brush_drawn, brush_fills, clip_placed, same_rows}
-use Rattle.player.proofs.LandingLemmas.{landed_fits, landed_inside, two_land}
+use Rattle.player.proofs.LandingLemmas.{fits_there, landed_inside, lands_there, two_land}
 use Rattle.player.proofs.FigureLemmas.{closed_lines_along}
 use Rattle.player.proofs.PaintedFigureLemmas.{few_to_count, fills_figures, lines_few, lines_lie}
 use Rattle.player.proofs.drawing.fill.Goals as goal
 
 pub new-outline-requires : goal.new-outline-requires
 new-outline-requires g c =
-    let told = rw c.in-Figures.is at c.requires.placed.places in
+    let lent = rw c.in-Figures.is at c.requires.placed.ready in
     let land = rw c.in-Figures.is at c.requires.placed.within in
     let few = few_to_count _ (rw c.in-Figures.is at c.requires.placed.few) in
-    search (told, land, few, rules)
+    search (lent, land, few, rules)
 
 pub fill_lines-requires-clause-room : goal.fill_lines-requires-clause-room
 fill_lines-requires-clause-room g c =
@@ -35,17 +34,28 @@ fill_lines-requires-clause-bounds g c =
     let box = c.landed_box-landed.result in
     let least = rw c.in-Figures.is at c.requires.placed.least in
     let within = rw c.in-Figures.is at c.requires.placed.within in
-    let inside = landed_inside c.place.result s c.place.ensures c.args.drawn.bounds box c.landed_box-landed.ensures _ least within in
+    let inside = landed_inside c.place-place.result s c.place-place.ensures c.args.drawn.bounds box c.landed_box-landed.ensures _ least within in
     lines_lie s figures Closed (outline_left c.new-outline.result) c.new-outline.ensures box inside
+
+pub at-requires : goal.at-requires
+at-requires g c =
+    let s = c.args.machine.now.surface in
+    let both = two_land s c.in-Rectangle.first c.in-Rectangle.second (rw c.in-Rectangle.is at c.requires.placed.within) in
+    fits_there c.place-place.result s c.in-Rectangle.first c.place-place.ensures both.0
+
+pub at-requires-in-Rectangle : goal.at-requires-in-Rectangle
+at-requires-in-Rectangle g c =
+    let s = c.args.machine.now.surface in
+    let both = two_land s c.in-Rectangle.first c.in-Rectangle.second (rw c.in-Rectangle.is at c.requires.placed.within) in
+    fits_there c.place-place.result s c.in-Rectangle.second c.place-place.ensures both.1
 
 pub rectangle_box-inside-requires : goal.rectangle_box-inside-requires
 rectangle_box-inside-requires g c =
     let s = c.args.machine.now.surface in
-    let places = rw c.in-Rectangle.is at c.requires.placed.places in
-    let both = two_land s c.in-Rectangle.first.plane c.in-Rectangle.second.plane (rw c.in-Rectangle.is at c.requires.placed.within) in
+    let both = two_land s c.in-Rectangle.first c.in-Rectangle.second (rw c.in-Rectangle.is at c.requires.placed.within) in
     record {
-      first = subst FitsPlace (sym places.0) (landed_fits s c.in-Rectangle.first.plane both.0);
-      second = subst FitsPlace (sym places.1) (landed_fits s c.in-Rectangle.second.plane both.1);
+      first = rw c.at.ensures (fits_there c.place-place.result s c.in-Rectangle.first c.place-place.ensures both.0);
+      second = rw c.at-in-Rectangle.ensures (fits_there c.place-place.result s c.in-Rectangle.second c.place-place.ensures both.1);
     }
 
 pub returns-in_default-painting : goal.returns-in_default-painting
@@ -78,7 +88,6 @@ returns-in-Rectangle-clause-drawn g c =
     let first = c.in-Rectangle.first in
     let second = c.in-Rectangle.second in
     let edges = c.in-Rectangle.edges in
-    let places = rw c.in-Rectangle.is at c.requires.placed.places in
     let dc = c.dc-dc.result.now in
     let paint = c.with-paint.result in
     let value = c.dc-dc.ensures.value in
@@ -86,7 +95,8 @@ returns-in-Rectangle-clause-drawn g c =
     let operation = c.with-paint.ensures.operation ∙ ap (λ (d : DcValue). Binary d.modes.raster_op) value in
     let clip = clip_placed s paint.clip.now dc c.args.machine.now.state.dc c.with-paint.ensures.clip value c.dc-dc.ensures.placed in
     let brush = ap (λ (d : DcValue). d.selected.brush.object) value in
-    let shape = inside_rectangle first.plane second.plane edges in
+    let shape = inside_rectangle first second edges in
     let inside = c.rectangle_box-inside.ensures.value in
-    let drawn = brush_drawn c.writing_law.ensures s c.args.canvas.now c.fill_box.new.canvas c.whole_law.ensures c.requires.whole paint tools modes operation clip _ shape (ap brush_value_of c.with-paint.ensures.brush ∙ brush) (λ x y. rw (inside, places.0, places.1) refl) c.fill_box.ensures.pixels in
+    let place = c.place-place.result in
+    let drawn = brush_drawn c.writing_law.ensures s c.args.canvas.now c.fill_box.new.canvas c.whole_law.ensures c.requires.whole paint tools modes operation clip _ shape (ap brush_value_of c.with-paint.ensures.brush ∙ brush) (λ x y. rw (inside, lands_there place s first c.at.result c.place-place.ensures c.at.ensures, lands_there place s second c.at-in-Rectangle.result c.place-place.ensures c.at-in-Rectangle.ensures) refl) c.fill_box.ensures.pixels in
     rw (c.in-Rectangle.is, brush_fills dc.selected.brush shape tools c.in_default.not-Null brush) drawn

@@ -1,11 +1,10 @@
-use Rattle.std.proofs.Common.{◌≡◌, ◌∙◌, ap, refl, rules, sym, arith, subst, List, [], ◌∷◌, Some}
-use Rattle.mapping.specs.Surface.{FitsPlace, placed_point}
+use Rattle.std.proofs.Common.{◌≡◌, ◌∙◌, ap, refl, rules, arith, List, [], ◌∷◌, Some}
+use Rattle.mapping.specs.Surface.{placed_point}
 use Rattle.mapping.specs.declared.geometry.Point.{Point}
 use Rattle.dc_stack.specs.Drawing.{tools_of}
 use Rattle.dc_stack.specs.Draws.{figures_drawn}
 use Rattle.dc_stack.specs.Figures.{figures_of_lists}
 use Rattle.dc_stack.specs.State.{DcValue}
-use Rattle.span_fill.specs.Lines.{IsNearPoint}
 use Rattle.span_fill.specs.Strokes.{in_stroke}
 use Rattle.span_fill.specs.declared.line.Line.{Line}
 use Rattle.player.specs.FigureEnds.{stroked_ends}
@@ -14,28 +13,40 @@ use Rattle.preflight_cert.specs.Outlines.{line_from}
 use Rattle.preflight_cert.specs.Shape.{along_figures, round_rectangle}
 use Rattle.player.specs.declared.raster_operation.RasterOperation.TheVariants.{Binary}
 use Rattle.player.proofs.DrawingLemmas.{clip_placed, lone_stroke, pen_drawn, pen_strokes}
-use Rattle.player.proofs.LandingLemmas.{landed_fits, landed_inside, landed_near, two_land}
+use Rattle.player.proofs.LandingLemmas.{fits_there, landed_inside, landed_near, lands_there, two_land}
 use Rattle.player.proofs.PaintedFigureLemmas.{few_to_count, lines_few, lines_lie, stroked_lines, stroked_shape, strokes_figures}
 use Rattle.player.proofs.drawing.stroke_outline.Goals as goal
+
+pub at-requires : goal.at-requires
+at-requires g c =
+    let s = c.args.machine.now.surface in
+    let both = two_land s c.in-Line.from c.in-Line.to (rw c.in-Line.is at c.requires.placed.within) in
+    fits_there c.place-place.result s c.in-Line.from c.place-place.ensures both.0
+
+pub at-requires-in-Line : goal.at-requires-in-Line
+at-requires-in-Line g c =
+    let s = c.args.machine.now.surface in
+    let both = two_land s c.in-Line.from c.in-Line.to (rw c.in-Line.is at c.requires.placed.within) in
+    fits_there c.place-place.result s c.in-Line.to c.place-place.ensures both.1
 
 pub stroke_line-requires-clause-near : goal.stroke_line-requires-clause-near
 stroke_line-requires-clause-near g c =
     let s = c.args.machine.now.surface in
+    let place = c.place-place.result in
     let from = c.in-Line.from in
     let to = c.in-Line.to in
-    let places = rw c.in-Line.is at c.requires.placed.places in
-    let both = two_land s from.plane to.plane (rw c.in-Line.is at c.requires.placed.within) in
+    let both = two_land s from to (rw c.in-Line.is at c.requires.placed.within) in
     record {
-      from = subst IsNearPoint (sym places.0) (landed_near s from.plane both.0);
-      to = subst IsNearPoint (sym places.1) (landed_near s to.plane both.1);
+      from = rw (lands_there place s from c.at.result c.place-place.ensures c.at.ensures) (landed_near s from both.0);
+      to = rw (lands_there place s to c.at-in-Line.result c.place-place.ensures c.at-in-Line.ensures) (landed_near s to both.1);
     }
 
 pub new-outline-requires : goal.new-outline-requires
 new-outline-requires g c =
-    let told = rw c.in-Figures.is at c.requires.placed.places in
+    let lent = rw c.in-Figures.is at c.requires.placed.ready in
     let land = rw c.in-Figures.is at c.requires.placed.within in
     let few = few_to_count _ (rw c.in-Figures.is at c.requires.placed.few) in
-    search (told, land, few, rules)
+    search (lent, land, few, rules)
 
 pub stroke_lines-requires-clause-room : goal.stroke_lines-requires-clause-room
 stroke_lines-requires-clause-room g c =
@@ -50,29 +61,38 @@ stroke_lines-requires-clause-bounds g c =
     let box = c.landed_box-landed.result in
     let least = rw c.in-Figures.is at c.requires.placed.least in
     let within = rw c.in-Figures.is at c.requires.placed.within in
-    let inside = landed_inside c.place.result s c.place.ensures c.args.drawn.bounds box c.landed_box-landed.ensures _ least within in
+    let inside = landed_inside c.place-place.result s c.place-place.ensures c.args.drawn.bounds box c.landed_box-landed.ensures _ least within in
     lines_lie s figures c.in-Some.ends (outline_left c.new-outline.result) c.new-outline.ensures box inside
+
+pub at-requires-in-Rectangle : goal.at-requires-in-Rectangle
+at-requires-in-Rectangle g c =
+    let s = c.args.machine.now.surface in
+    let both = two_land s c.in-Rectangle.first c.in-Rectangle.second (rw c.in-Rectangle.is at c.requires.placed.within) in
+    fits_there c.place-place.result s c.in-Rectangle.first c.place-place.ensures both.0
+
+pub at-requires-in-Rectangle-2 : goal.at-requires-in-Rectangle-2
+at-requires-in-Rectangle-2 g c =
+    let s = c.args.machine.now.surface in
+    let both = two_land s c.in-Rectangle.first c.in-Rectangle.second (rw c.in-Rectangle.is at c.requires.placed.within) in
+    fits_there c.place-place.result s c.in-Rectangle.second c.place-place.ensures both.1
 
 pub rectangle_box-inside-requires-clause-first : goal.rectangle_box-inside-requires-clause-first
 rectangle_box-inside-requires-clause-first g c =
     let s = c.args.machine.now.surface in
-    let places = rw c.in-Rectangle.is at c.requires.placed.places in
-    let both = two_land s c.in-Rectangle.first.plane c.in-Rectangle.second.plane (rw c.in-Rectangle.is at c.requires.placed.within) in
-    subst FitsPlace (sym places.0) (landed_fits s c.in-Rectangle.first.plane both.0)
+    let both = two_land s c.in-Rectangle.first c.in-Rectangle.second (rw c.in-Rectangle.is at c.requires.placed.within) in
+    rw c.at-in-Rectangle.ensures (fits_there c.place-place.result s c.in-Rectangle.first c.place-place.ensures both.0)
 
 pub rectangle_box-inside-requires-clause-second : goal.rectangle_box-inside-requires-clause-second
 rectangle_box-inside-requires-clause-second g c =
     let s = c.args.machine.now.surface in
-    let places = rw c.in-Rectangle.is at c.requires.placed.places in
-    let both = two_land s c.in-Rectangle.first.plane c.in-Rectangle.second.plane (rw c.in-Rectangle.is at c.requires.placed.within) in
-    subst FitsPlace (sym places.1) (landed_fits s c.in-Rectangle.second.plane both.1)
+    let both = two_land s c.in-Rectangle.first c.in-Rectangle.second (rw c.in-Rectangle.is at c.requires.placed.within) in
+    rw c.at-in-Rectangle-2.ensures (fits_there c.place-place.result s c.in-Rectangle.second c.place-place.ensures both.1)
 
 pub returns-in-Line-clause-drawn : goal.returns-in-Line-clause-drawn
 returns-in-Line-clause-drawn g c =
     let s = c.args.machine.now.surface in
     let state = c.args.machine.now.state.dc in
     let tools = tools_of state in
-    let places = rw c.in-Line.is at c.requires.placed.places in
     let dc = c.dc-dc.result.now in
     let paint = c.with-paint.result in
     let value = c.dc-dc.ensures.value in
@@ -81,10 +101,13 @@ returns-in-Line-clause-drawn g c =
     let clip = clip_placed s paint.clip.now dc state c.with-paint.ensures.clip value c.dc-dc.ensures.placed in
     let from = c.in-Line.from in
     let to = c.in-Line.to in
-    let line : Line = record { from = from.placed; to = to.placed } in
-    let there : Line = record { from = placed_point from.plane s; to = placed_point to.plane s } in
-    let same : line ≡ there = ap (λ (p : Point). line_from p to.placed) places.0 ∙ ap (λ (p : Point). line_from (placed_point from.plane s) p) places.1 in
-    let shape = along_figures (figures_of_lists ((from.plane ∷ to.plane ∷ []) ∷ [])) in
+    let place = c.place-place.result in
+    let line : Line = record { from = c.at.result; to = c.at-in-Line.result } in
+    let there : Line = record { from = placed_point from s; to = placed_point to s } in
+    let begins = lands_there place s from c.at.result c.place-place.ensures c.at.ensures in
+    let ends = lands_there place s to c.at-in-Line.result c.place-place.ensures c.at-in-Line.ensures in
+    let same : line ≡ there = ap (λ (p : Point). line_from p c.at-in-Line.result) begins ∙ ap (λ (p : Point). line_from (placed_point from s) p) ends in
+    let shape = along_figures (figures_of_lists ((from ∷ to ∷ []) ∷ [])) in
     let drawn = pen_drawn c.writing_law.ensures s c.args.canvas.now c.stroke_line.new.canvas c.whole_law.ensures c.requires.whole paint tools modes operation clip _ shape c.args.colour c.with-paint.ensures.brush (λ x y. lone_stroke line there x y same) c.stroke_line.ensures.pixels in
     rw (c.in-Line.is, pen_strokes shape tools c.args.colour c.requires.pen) drawn
 
@@ -111,7 +134,6 @@ returns-in-Rectangle-clause-drawn g c =
     let s = c.args.machine.now.surface in
     let state = c.args.machine.now.state.dc in
     let tools = tools_of state in
-    let places = rw c.in-Rectangle.is at c.requires.placed.places in
     let dc = c.dc-dc.result.now in
     let paint = c.with-paint.result in
     let value = c.dc-dc.ensures.value in
@@ -121,8 +143,9 @@ returns-in-Rectangle-clause-drawn g c =
     let first = c.in-Rectangle.first in
     let second = c.in-Rectangle.second in
     let inside = c.rectangle_box-inside.ensures.value in
-    let shape = round_rectangle first.plane second.plane c.in-Rectangle.edges in
-    let drawn = pen_drawn c.writing_law.ensures s c.args.canvas.now c.stroke_box.new.canvas c.whole_law.ensures c.requires.whole paint tools modes operation clip _ shape c.args.colour c.with-paint.ensures.brush (λ x y. rw (inside, places.0, places.1) refl) c.stroke_box.ensures.pixels in
+    let place = c.place-place.result in
+    let shape = round_rectangle first second c.in-Rectangle.edges in
+    let drawn = pen_drawn c.writing_law.ensures s c.args.canvas.now c.stroke_box.new.canvas c.whole_law.ensures c.requires.whole paint tools modes operation clip _ shape c.args.colour c.with-paint.ensures.brush (λ x y. rw (inside, lands_there place s first c.at-in-Rectangle.result c.place-place.ensures c.at-in-Rectangle.ensures, lands_there place s second c.at-in-Rectangle-2.result c.place-place.ensures c.at-in-Rectangle-2.ensures) refl) c.stroke_box.ensures.pixels in
     rw (c.in-Rectangle.is, pen_strokes shape tools c.args.colour c.requires.pen) drawn
 
 pub stroke_box-requires-clause-room : goal.stroke_box-requires-clause-room

@@ -5,6 +5,7 @@ use Rattle.mapping.specs.Boxes.{box_between}
 use Rattle.dc_stack.specs.Figures.{box_corners}
 use Rattle.dc_stack.specs.Mapped.{left_top_of, right_bottom_of}
 use Rattle.dc_stack.specs.Projected.{projected}
+use Rattle.player.proofs.LandingLemmas.{corners_near}
 use Rattle.player.proofs.PieceLemmas.{projected_fits}
 use Rattle.player.proofs.path_moves.place_corners.Goals as goal
 
@@ -27,3 +28,8 @@ returns c =
     let second = c.at-2.ensures ∙ ap (projected by) c.two_corners.ensures.second in
     let inside = c.between-inside.ensures.value ∙ ap (λ (p : Point). box_between p c.at-2.result) first ∙ ap (λ (q : Point). box_between (projected by (left_top_of c.args.corners)) q) second in
     c.corners_of.ensures ∙ ap box_corners inside
+
+pub invariant_of-result : goal.invariant_of-result
+invariant_of-result c =
+    let inside = c.between-inside.ensures in
+    record { near = λ k d h. rw c.corners_of.ensures (corners_near c.between-inside.result inside.left inside.top inside.right inside.bottom k d (rw c.corners_of.ensures at h)) }

@@ -3,6 +3,7 @@ use Rattle.canvas.specs.CanvasState.{image_of}
 use Rattle.draw_ops.specs.Records.{record_limit}
 use Rattle.dc_stack.specs.MachineState.{GoesOn}
 use Rattle.player.specs.After.{HasLines, HasRoomForSteps}
+use Rattle.player.specs.Leaving.{left_by}
 use Rattle.preflight_cert.specs.After.{needs_after, state_after}
 use Rattle.preflight_cert.specs.Apply.{image_after}
 use Rattle.preflight_cert.specs.Drawings.{drawings_of}
@@ -29,6 +30,7 @@ invariant-loop-drawn g l =
       stops : stopped (content l.fn.source).steps (content l.fn.source).fault 0 l.fn.machine.state start ≡ stopped (content l.source).steps (content l.source).fault l.before l.machine.state start;
       state : state_after (content l.fn.source).steps l.fn.machine.state ≡ state_after (content l.source).steps l.machine.state;
       needs : needs_after (content l.fn.source).steps l.fn.machine.state l.fn.machine.needs ≡ needs_after (content l.source).steps l.machine.state l.machine.needs;
+      left : left_by (content l.fn.source).steps l.fn.machine.state l.fn.machine.needs start ≡ left_by (content l.source).steps l.machine.state l.machine.needs start;
       image : image_after (drawings_of (content l.fn.source).steps l.fn.machine.state) start (image_of l.fn.canvas) ≡ image_after (drawings_of (content l.source).steps l.machine.state) start (image_of l.canvas);
       writes : l.fn.canvas.writes + writes_after (drawings_of (content l.fn.source).steps l.fn.machine.state) start ≡ l.canvas.writes + writes_after (drawings_of (content l.source).steps l.machine.state) start;
     }

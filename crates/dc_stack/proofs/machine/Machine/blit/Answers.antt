@@ -24,12 +24,12 @@ returns-clause-plays g c =
           let second = w.in-Ok.ensures.second in
           rw (w.result-is, ← c.self.view_is) (record {
             stepped = record { no_fault = rw none (sym lands); state = refl; needs = search rules };
-            drawn = rw (first.plane, second.plane) refl;
+            drawn = rw (first, second) refl;
             placed = record {
-              places = record { first = first.placed; second = second.placed; readable = readable asked.operation.table (source_of asked.source) none };
+              ready = readable asked.operation.table (source_of asked.source) none;
               counted = refl;
-              least = rw w.between.ensures (pair_tight c.box_law.ensures w.in-Ok.first.plane w.in-Ok.second.plane);
-              within = rw (first.plane, second.plane) (all_land s corners lands);
+              least = rw w.between.ensures (pair_tight c.box_law.ensures w.in-Ok.first w.in-Ok.second);
+              within = rw (first, second) (all_land s corners lands);
               few = never_too_many 0 (omega arith);
             };
             figures = λ e. cc;

@@ -23,11 +23,11 @@ returns-in-Ok-clause-draws g c =
     let bounds = c.in-Ok.extent.bounds in
     let some = has_points points _ c.is_empty.ensures c.if-is_empty.false in
     let from = c.in-Ok.ensures.from in
-    let same : c.in-Ok.from.plane ∷ mapped_list map points ≡ mapped_list map (start ∷ points) = ap (λ p. p ∷ mapped_list map points) from.plane in
+    let same : c.in-Ok.from ∷ mapped_list map points ≡ mapped_list map (start ∷ points) = ap (λ p. p ∷ mapped_list map points) from in
     let one = ap (λ list. list ∷ []) same ∙ sym (through map start points some) in
     let listed = points_listed (mapped_lists map (going_on start points)) in
     let counted = c.in-Ok.ensures.count ∙ through_count map start points some ∙ sym (ap length listed) in
-    let on_plane = c.in-Ok.from.plane ∷ mapped_list map points in
+    let on_plane = c.in-Ok.from ∷ mapped_list map points in
     let lands = subst (λ (list : List Point). None ≡ points_fault list surface) (sym same) c.in-Ok.ensures.fault in
     rw (← c.self.view_is) (record {
       no_fault = ap (λ ps. points_fault ps surface) listed ∙ through_fault map start points surface some ∙ sym c.in-Ok.ensures.fault;
@@ -35,7 +35,7 @@ returns-in-Ok-clause-draws g c =
       needs = c.raise_edges.ensures ∙ ap (λ n. greater_needs c.self.inside.needs (points_needed n)) counted;
       drawn = ap (λ lists. Some (record { mark = lists_painted Stroke lists; tools = tools_of (dc_value c.self.inside.dc) })) one;
       placed = record {
-        places = from.placed;
+        ready = tt;
         counted = counted ∙ ap (λ lists. length (points_of_figures (figures_of_lists lists))) (sym one);
         least = rw (joined_one on_plane) (subst (IsLeastBox bounds) (sym same) c.in-Ok.ensures.bounds);
         within = one_list_lands on_plane surface lands;

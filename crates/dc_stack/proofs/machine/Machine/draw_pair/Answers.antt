@@ -18,12 +18,12 @@ returns-in-Ok-clause-draws g c =
       no_fault = rw (few_then 2 (omega arith)) (sym c.in-Ok.ensures.fault);
       state = refl;
       needs = c.raise_edges.ensures;
-      drawn = rw (first.plane, second.plane) refl;
+      drawn = rw (first, second) refl;
       placed = record {
-        places = (first.placed, second.placed);
+        ready = tt;
         counted = refl;
-        least = rw c.between.ensures (pair_tight c.box_law.ensures c.in-Ok.from.plane c.in-Ok.to.plane);
-        within = rw (first.plane, second.plane) (all_land surface points c.in-Ok.ensures.fault);
+        least = rw c.between.ensures (pair_tight c.box_law.ensures c.in-Ok.from c.in-Ok.to);
+        within = rw (first, second) (all_land surface points c.in-Ok.ensures.fault);
         few = never_too_many 2 (omega arith);
       };
       apart = refl;

@@ -10,8 +10,8 @@ use Rattle.dc_stack.proofs.machine.Machine.draw_rectangle.Goals as goal
 pub returns-in-Ok-clause-draws : goal.returns-in-Ok-clause-draws
 returns-in-Ok-clause-draws g c =
     let corners = mapped_corners (map_numbers c.self.inside.dc.map) c.args.corners in
-    let first = rw c.left_top_of-left_top.ensures at c.in-Ok.ensures.first.plane in
-    let second = rw c.right_bottom_of-right_bottom.ensures at c.in-Ok.ensures.second.plane in
+    let first = rw c.left_top_of-left_top.ensures at c.in-Ok.ensures.first in
+    let second = rw c.right_bottom_of-right_bottom.ensures at c.in-Ok.ensures.second in
     let lands = rw (c.left_top_of-left_top.ensures, c.right_bottom_of-right_bottom.ensures) at c.in-Ok.ensures.fault in
     rw (← c.self.view_is) (record {
       no_fault = rw (few_then 4 (omega arith)) (sym lands);
@@ -19,9 +19,9 @@ returns-in-Ok-clause-draws g c =
       needs = c.raise_edges.ensures;
       drawn = rw (first, second) refl;
       placed = record {
-        places = (c.in-Ok.ensures.first.placed, c.in-Ok.ensures.second.placed);
+        ready = tt;
         counted = refl;
-        least = rw c.between.ensures (pair_tight c.box_law.ensures c.in-Ok.first.plane c.in-Ok.second.plane);
+        least = rw c.between.ensures (pair_tight c.box_law.ensures c.in-Ok.first c.in-Ok.second);
         within = rw (first, second) (all_land (surface_of c.self.inside.place) corners lands);
         few = never_too_many 4 (omega arith);
       };

@@ -19,9 +19,9 @@ returns-clause-plays g c =
             stepped = record { no_fault = sym lands; state = refl; needs = search rules };
             drawn = rw plane refl;
             placed = record {
-              places = w.in-Ok.ensures.placed;
+              ready = tt;
               counted = refl;
-              least = rw w.around.ensures (c.box_law.ensures.single at.plane);
+              least = rw w.around.ensures (c.box_law.ensures.single at);
               within = rw plane (all_land s points lands);
               few = never_too_many 0 (omega arith);
             };
