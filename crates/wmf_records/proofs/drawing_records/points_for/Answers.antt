@@ -1,0 +1,5 @@
+use Rattle.std.proofs.Common.{rules}
+use Rattle.wmf_records.proofs.drawing_records.points_for.Goals as goal
+
+pub returns : goal.returns
+returns c = search rules
