@@ -188,9 +188,12 @@ class Certificates(unittest.TestCase):
             self.compare(program, requests, wanted)
 
 
-# How many instructions a record takes of a file of pixels and short lines: to prepare, to check, and to check and play; and how many times
-# that it may take at most. That the count goes by the records, and isn't that of their square, is a part of it.
-INSTRUCTIONS = {PREPARE: 932, CHECK: 918, PLAY: 1717}
+# How many instructions a record takes of a file of many: to prepare, to check, and to check and play; and how many times that it may take at
+# most. That the count goes by the records, and isn't that of their square, is a part of it.
+INSTRUCTIONS = {
+    "pixels and short lines": {PREPARE: 932, CHECK: 918, PLAY: 1717},
+    "selects of the highest index, and polygons": {PREPARE: 1, CHECK: 1, PLAY: 1},
+}
 MOST = 1.15
 
 
@@ -201,22 +204,32 @@ def instructions(request):
     return int(re.search(rb"Collected : (\d+)", told)[1])
 
 
-def many_records(kind, count):
+def many_records(what, count):
+    """A file of so many records, and the sides at which it is prepared."""
+    if what == "pixels and short lines":
+        return WMF.file(WMF.records("pixel 1 1; line 3 2") * (count // 2), 4, 0), (8, 8)
+    records = EMF.records("pen_at 65534") + EMF.records("select_at 65534; polygon 0 0 3 1 1 3") * (count // 2)
+    return EMF.file(records, 4, 65535), (100, 200)
+
+
+def request_of(kind, what, count):
     """A request of a file of so many records."""
-    given = WMF.file(WMF.records("pixel 1 1; line 3 2") * (count // 2), 4, 0)
-    ((_, text),) = replies(PROGRAMS[0], [asked(PREPARE, (8, 8), given)])
-    return asked(kind, (8, 8), given, text if kind != PREPARE else b"", bytes(192) if kind == PLAY else b"")
+    given, sides = many_records(what, count)
+    ((_, text),) = replies(PROGRAMS[0], [asked(PREPARE, sides, given)])
+    image = bytes(3 * sides[0] * sides[1])
+    return asked(kind, sides, given, text if kind != PREPARE else b"", image if kind == PLAY else b"")
 
 
 class Instructions(unittest.TestCase):
     """The instructions of files of many records."""
 
     def test_a_record_takes_as_many_as_on_record(self):
-        for kind, recorded in INSTRUCTIONS.items():
-            with self.subTest(kind=kind):
-                few, many = (instructions(many_records(kind, count)) for count in (4_000, 12_000))
-                self.assertLess(many - few, MOST * recorded * 8_000)
-                self.assertGreater(many - few, recorded * 8_000 / 2)
+        for what, kinds in INSTRUCTIONS.items():
+            for kind, recorded in kinds.items():
+                with self.subTest(what=what, kind=kind):
+                    few, many = (instructions(request_of(kind, what, count)) for count in (4_000, 12_000))
+                    self.assertLess(many - few, MOST * recorded * 8_000)
+                    self.assertGreater(many - few, recorded * 8_000 / 2)
 
 
 if __name__ == "__main__":

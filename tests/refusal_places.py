@@ -29,7 +29,9 @@ ASKS = re.compile(r"-> Option<")
 STATUS = re.compile(r"-> (?:u8|ExitCode|Answer)\b")
 
 # A function whose answer may tell that it gives up, or that is given the allocator: it is listed, whatever its lines say.
-MAY_TELL = re.compile(r"-> [^{]*\b(?:OutOfMemory|WriteFault|InputFault|AllocError|Refusal|Answer)\b|\b(?:Global|AllocGlobal)\b")
+MAY_TELL = re.compile(
+    r"-> [^{]*\b(?:OutOfMemory|WriteFault|InputFault|AllocError|Refusal|Answer|fmt::Result)\b|\b(?:Global|AllocGlobal)\b"
+)
 
 CONTRACT = re.compile(r"(?m)^ +(?:requires|ensures|decreases|where)\b")
 

@@ -75,7 +75,9 @@ impl<'a, T: Table<'a>> Machine<'a, T> {
         ensures surface { result.surface ≡ surface_of place }
         ensures needs { result.needs ≡ no_needs }
         ensures painted { result.painted ≡ [] }
-        ensures room { T.room table ≤ result.room.slots }
+        ensures depth { result.room.depth ≡ 0 }
+        ensures slots { result.room.slots ≡ T.room table }
+        ensures pieces { result.room.pieces ≡ 0 }
     {
         table.clear();
         Machine {

@@ -48,6 +48,7 @@ impl<'a> GatheredPath<'a> {
         ensures painted { painted_of result ≡ [] }
         ensures gathered { IsGathered result }
         ensures pieces { result.pieces.items ≡ [] }
+        ensures room { vec_capacity result.pieces ≡ 0 }
         ensures bounds { result.bounds ≡ None }
     {
         GatheredPath {

@@ -30,6 +30,7 @@ impl<'a> Given<'a> {
     pub fn new(alloc: Global, handles: u16) -> Given<'a>
         ensures slots { result.slots ≡ [] }
         ensures handles { result.handles ≡ handles }
+        ensures room { result.room ≡ 0 }
     {
         Given {
             store: Store::new(alloc),

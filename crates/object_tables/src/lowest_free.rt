@@ -34,7 +34,8 @@ impl<'a> Model for LowestFree<'a> {
 impl<'a> LowestFree<'a> {
     /// A table without objects. No memory is taken.
     pub fn new(alloc: Global) -> LowestFree<'a>
-        ensures { result.slots ≡ [] }
+        ensures slots { result.slots ≡ [] }
+        ensures room { result.room ≡ 0 }
     {
         LowestFree {
             store: Store::new(alloc),

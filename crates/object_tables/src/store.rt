@@ -36,6 +36,7 @@ impl<'a> Store<'a> {
     pub(crate) fn new(alloc: Global) -> Store<'a>
         ensures slots { result.slots ≡ [] }
         ensures places { result.places ≡ 0 }
+        ensures room { result.room ≡ 0 }
     {
         Store {
             places: Vec::new(alloc),

@@ -49,13 +49,13 @@ pub trait Table<'a>: Contents {
         ensures removed { OnOk result (Self.slots self.new ≡ without_object handle.0 (Self.slots self.old)) }
         ensures kept { OnErr result (Self.slots self.new ≡ Self.slots self.old) }
         ensures kind { Self.kind self.new ≡ Self.kind self.old }
-        ensures room { Self.room self.old ≤ Self.room self.new };
+        ensures room { Self.room self.new ≡ Self.room self.old };
 
     /// Takes all objects out, and keeps the room.
     fn clear(&mut self)
         ensures slots { Self.slots self.new ≡ [] }
         ensures kind { Self.kind self.new ≡ Self.kind self.old }
-        ensures room { Self.room self.old ≤ Self.room self.new };
+        ensures room { Self.room self.new ≡ Self.room self.old };
 
     /// Makes room for the indexes below this one: `OutOfMemory` where it was refused.
     fn reserve(&mut self, slots: usize) -> Result<(), Fault>

@@ -1,6 +1,6 @@
 //! The table of a file's objects, of its format's kind.
 
-ghost use Rattle.std.specs.Prelude.{◌≡◌};
+ghost use Rattle.std.specs.Prelude.{◌≡◌, []};
 ghost use Rattle.draw_ops.specs.Objects.{index_of};
 ghost use Rattle.object_tables.specs.Slots.{Slots};
 ghost use Rattle.object_tables.specs.Table.{TableKind, index_bound};
@@ -21,7 +21,9 @@ pub enum FileTable<'a> {
 impl<'a> FileTable<'a> {
     /// The table of a file that may use so many indexes, if it says so.
     pub fn new(alloc: Global, handles: Option<u16>) -> FileTable<'a>
-        ensures { kind_of result ≡ table_kind_of handles }
+        ensures kind { kind_of result ≡ table_kind_of handles }
+        ensures slots { slots_of result ≡ [] }
+        ensures room { room_of result ≡ 0 }
     {
         match handles {
             None => FileTable::LowestFree(LowestFree::new(alloc)),
