@@ -191,8 +191,8 @@ class Certificates(unittest.TestCase):
 # How many instructions a record takes of a file of many: to prepare, to check, and to check and play; and how many times that it may take at
 # most. That the count goes by the records, and isn't that of their square, is a part of it.
 INSTRUCTIONS = {
-    "pixels and short lines": {PREPARE: 932, CHECK: 918, PLAY: 1717},
-    "selects of the highest index, and polygons": {PREPARE: 1, CHECK: 1, PLAY: 1},
+    "pixels and short lines": {PREPARE: 992, CHECK: 954, PLAY: 1972},
+    "selects of the highest index, and polygons": {PREPARE: 1021, CHECK: 964, PLAY: 7034},
 }
 MOST = 1.15
 
@@ -215,9 +215,10 @@ def many_records(what, count):
 def request_of(kind, what, count):
     """A request of a file of so many records."""
     given, sides = many_records(what, count)
+    if kind == PREPARE:
+        return asked(PREPARE, sides, given)
     ((_, text),) = replies(PROGRAMS[0], [asked(PREPARE, sides, given)])
-    image = bytes(3 * sides[0] * sides[1])
-    return asked(kind, sides, given, text if kind != PREPARE else b"", image if kind == PLAY else b"")
+    return asked(kind, (8, 8), given, text, bytes(192) if kind == PLAY else b"")
 
 
 class Instructions(unittest.TestCase):
