@@ -3,7 +3,7 @@
 ghost use Rattle.std.specs.Prelude.{◌≡◌, ◌≤◌, ◌<◌, ◌+◌, ◌-◌, ◌*◌, ◌/◌, ◌^◌, pos};
 ghost use Rattle.mapping.specs.Floor.{floor_div};
 
-/// A number that many numbers are divided by. What is divided is multiplied by its reciprocal, which takes a tenth of the time.
+/// A number that many numbers are divided by. What is divided is multiplied by its reciprocal, which takes half the time.
 ///
 /// # Guarantees
 ///
