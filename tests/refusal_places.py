@@ -1,5 +1,5 @@
 """The functions of the sources that give up, with their whole bodies: each that makes a want of memory, a fault of input or output, a
-status other than the one of work that is done, or a line that tells one, and the lines in which it does.
+status other than the one of work that is done, or a line that tells one, and the lines in which it does; and each that does what is dear.
 
 The sources are in the formatter's layout, with comments, attributes and contracts left out here.
 """
@@ -17,6 +17,13 @@ GIVES_UP = re.compile(
     r'|\b(?:try_)?reserve(?:_exact|_all)?\b|\bmake_room\b|\bfrom_elem\b|\bwith_capacity\b|\bresize(?:_with)?\b'
     r"|\bextend_from_(?:slice|within)\b|\bfrom_slice\b|\.repeat\b|\.collect\b"
     r"|\bgrow\(|(?<!self)\.push\b|\.insert\b|\.append\b|\bto_vec\b|\bvec!|\bBox::"
+    r"|\.clone(?:_from)?\b|\bto_owned\b|\binto_boxed|\bformat!"
+)
+
+# What is dear where it is done once more: a file's records are read, or something is divided by what is no constant.
+DEAR = re.compile(
+    r"\.source\(\)|\bcount_steps\(|\bfirst_extent\(|\bopen_file\(|\b(?:Wmf|Emf|Record)Ops::new\(|\bDivisor::new\(|\bPlace::new\("
+    r"|\bchecked_(?:div|rem)\b|\b(?:div|rem)_euclid\b|(?<!\w)[/%]=? (?![A-Z][A-Z_]+\b|\d|\(1 << )"
 )
 
 # A function's answer whose errors are no fault of a file, in which each `?` hands one on.
@@ -90,7 +97,7 @@ def giving_up(answer, text):
     def gives_up(line):
         """Whether a line does."""
         number = is_status and re.search(r"(?<![\w.])\d", line)
-        return bool(GIVES_UP.search(line) or (hands_on and "?" in line) or (asks and "None" in line) or number)
+        return bool(GIVES_UP.search(line) or DEAR.search(line) or (hands_on and "?" in line) or (asks and "None" in line) or number)
 
     return gives_up
 

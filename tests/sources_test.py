@@ -1,7 +1,7 @@
 """The sources give up only where the list of such functions says so, each line with its reason, and these are the list's, line by line.
 
-No clause refuses a program that wants memory, or can't read or write, at one size alone: what leads to such an answer is read
-here.
+No clause refuses a program that wants memory, or can't read or write, at one size alone, nor one that reads a file's records once more than
+it should, or divides where it needn't: what leads to such an answer, and what is dear, is read here.
 `python3 -B tests/sources_test.py --missing` prints what the list and the sources don't have in common; with `--update` the list is
 written anew: reasons stay where the lines are as they were, and each other reason is to be written.
 """
@@ -80,6 +80,9 @@ HIDING = re.compile(
     r"\bmacro_rules!|\binclude!|\bDefault for\b|"
     r"\bDefault\b[^)\n]*\)\]\s*(?:pub(?:\([^)]*\))? )?(?:struct|enum) (?:OutOfMemory|WriteFault|InputFault|Refusal|Answer)\b"
 )
+
+# Comparing and copying are derived: no clause says what they do where they are written by hand, and tests compare by them.
+BY_HAND = re.compile(r"\bimpl(?:<[^{]*?>)? (?:PartialEq|Eq|PartialOrd|Ord|Hash|Clone|Copy)\b[^{;]*? for\b")
 
 
 def aliases(text):
@@ -174,6 +177,14 @@ class Sources(unittest.TestCase):
         made = ["macro_rules! full {\n", "impl Default for Fault {\n", "#[derive(Clone, Default)]\npub(crate) enum InputFault {\n"]
         self.assertEqual([len(HIDING.findall(text)) for text in made], [1, 1, 1])
         self.assertEqual(HIDING.findall("#[derive(Clone, Default)]\npub struct Span {\n"), [])
+
+    def test_nothing_is_compared_by_hand(self):
+        crates = [crate for crate in CRATES.iterdir() if (crate / "src").is_dir()]
+        found = [it[0] for crate in crates for text in sources_of(crate).values() for it in BY_HAND.finditer(text)]
+        self.assertEqual(found, [])
+        made = ["impl PartialEq for Refusal {", "impl<'a> PartialOrd<Op<'a>> for Op<'a> {", "impl<T: Copy> Clone for Held<T> {"]
+        self.assertEqual([len(BY_HAND.findall(text)) for text in made], [1, 1, 1])
+        self.assertEqual(BY_HAND.findall("impl fmt::Display for Fault {"), [])
 
     def test_another_name_is_found(self):
         self.assertEqual(len(aliases("use crate::room::OutOfMemory as Full;\n")), 1)
