@@ -4,7 +4,7 @@ a list that is sorted by insertion, points that are counted again for each recor
 import random
 from typing import NamedTuple
 
-from writers import EMF, MASKED, SRCCOPY, WMF, Bitmap, header
+from writers import BETWEEN, EMF, MASKED, PATCOPY, PATINVERT, SRCCOPY, WMF, Bitmap, header
 
 
 class Counted(NamedTuple):
@@ -175,6 +175,115 @@ def upright():
     return Counted(WMF.file(records, side, 0), side, side)
 
 
+def filled_state():
+    """Each sort of record that changes the state, many times over, while a path of 60,000 pieces is open, 255 states are saved and 60,000
+    objects are there: none of them may look at all of these."""
+    chance, side, handles = random.Random(10), 64, 60_010
+    records = [EMF.step(("pen", "brush", "font")[index % 3], index) for index in range(60_000)] + EMF.records("255x save; begin_path")
+    records += [EMF.step("line", chance.randrange(side), chance.randrange(side)) for _ in range(60_000)]
+    each = "move 3 3; close_figure; select 0; select 1; back_mode 1; raster 13; fill_mode 1; back_colour 0x102030; map_mode 8; window_origin 0 0; "
+    each += "window_extent 9 9; viewport_origin 0 0; viewport_extent 9 9; keep 0 0 64 64; save; restore -1; pen 60001; delete 60001; pixel 1 1; "
+    each += "line 2 2; polyline_to 3 3 4 4; polyline 1 1 2 2; polygon 1 1 2 2 3 1; rectangle 1 1 3 3"
+    records += EMF.records(each) * 500 + EMF.records("cut 1 1 2 2; unclip") * 500
+    return Counted(EMF.file([*records, EMF.step("abort_path")], side, handles), side, side)
+
+
+def high_paths():
+    """Paths of 30,000 pieces on a high surface, filled and stroked: what is done for each row may not look at all of them."""
+    chance, width, height = random.Random(11), 16, 8192
+    lines = [EMF.step("line", chance.randrange(width), chance.randrange(height) // 512 * 512) for _ in range(30_000)]
+    records = EMF.records("solid_brush 1 0x206040; select 1")
+    for painting in ("fill_path", "stroke_path"):
+        records += [EMF.step("begin_path"), *lines[:: 16 if painting == "fill_path" else 32], EMF.step("end_path"), EMF.step(painting)]
+    records += [EMF.step("begin_path"), *lines, EMF.step("end_path"), EMF.step("abort_path")]
+    return Counted(EMF.file(records, (width, height), 16), width, height)
+
+
+def many_lists():
+    """Records of 8,000 lists each: a list may not be looked for from the first on."""
+    chance, side = random.Random(12), 256
+    records = EMF.records("null_brush 0; select 0")
+    for name in ("short_polylines", "short_polygons"):
+        words = []
+        for number in range(8_000):
+            x, y = chance.randrange(side - 2), chance.randrange(side - 2)
+            words += [BETWEEN] * (number > 0) + [x, y, x + 1, y + 1]
+        records.append(EMF.step(name, *words))
+    return Counted(EMF.file(records, side, 16), side, side)
+
+
+def long_zigzag():
+    """A polygon as `zigzag` has one, of 150,000 points."""
+    width, height = 1024, 4
+    places = [part for number in range(150_000) for part in ((number * 2_654_435_761) % width, height * (number % 2))]
+    records = EMF.records("null_pen 0; solid_brush 1 0x206040; select 0; select 1")
+    return Counted(EMF.file([*records, EMF.step("short_polygon", *places)], (width, height), 16), width, height)
+
+
+def short_records():
+    """A plain file of many short records: pixels, moves, lines and selects."""
+    records = WMF.records("window_extent 64 64; pen 0; pixel 1 1; move 2 2; line 3 4; select 0; pixel 5 6; move 63 0; line 60 9")
+    plain = WMF.file(records[:2] + records[2:] * 12_000, 64, 0)[22:]
+    return Counted(plain, 64, 64)
+
+
+def lone_lines():
+    """Polylines of two points, flat, upright, aslant and of no length: each goes by its steps."""
+    chance, side = random.Random(13), 1024
+    records = []
+    for number in range(6_000):
+        x, y, far = chance.randrange(side), chance.randrange(side), chance.randrange(side)
+        ends = ((x, y, far, y), (x, y, x, far), (x, y, far, x), (x, y, x, y))[number % 4]
+        records.append(EMF.step("polyline", *ends))
+    return Counted(EMF.file(records, side, 16), side, side)
+
+
+def flat_lines():
+    """A polyline of many flat lines that rise, on a high surface: a line is looked at in its own rows alone."""
+    width, height = 64, 8192
+    places = [part for number in range(3_000) for part in ((number % 2) * 60, 8000 - number * 2)]
+    return Counted(EMF.file([EMF.step("polyline", *places)] * 3, (width, height), 16), width, height)
+
+
+def wide_paints():
+    """Each sort of paint on a wide surface, uncut and under sixteen cuts: fills, hatches, tiles, blits that copy and mix."""
+    width, height = 8192, 48
+    records = WMF.records("null_pen 0; select 0; solid_brush 1 0x206040; hatched_brush 2 4 0x804020")
+    records += [WMF.step("tiled_brush", 3, str(noise(24, 24)))]
+    draws = "rectangle 1 1 8190 40; raster 7; rectangle 5 2 8000 44; raster 13; polygon 0 0 8192 20 0 40"
+    for cuts in ("", "; ".join(f"cut {500 * k} 10 {500 * k + 9} 30" for k in range(1, 17))):
+        records += WMF.records(cuts)
+        for brush in (1, 2, 3):
+            records += WMF.records(f"select {brush}; {draws}")
+            records.append(WMF.step("pat_blt", PATINVERT, 0, 0, width, height))
+            records.append(WMF.step("stretch_dib", MASKED, 0, 0, width, height, 0, 0, 64, 48, str(noise(64, 8))))
+    return Counted(WMF.file(records, (width, height), 0), width, height)
+
+
+def small_hatched_blits():
+    """Small blits with a hatched brush on a wide surface: the columns of each row are few."""
+    chance, width, height = random.Random(14), 8192, 64
+    records = WMF.records("hatched_brush 0 4 0x804020; select 0")
+    for _ in range(3_000):
+        left, top = chance.randrange(width - 9), chance.randrange(height - 9)
+        records.append(WMF.step("pat_blt", PATINVERT, left, top, 8, 8))
+        records.append(WMF.step("pat_blt", PATCOPY, left, top, 8, 8))
+    return Counted(WMF.file(records, (width, height), 0), width, height)
+
+
+def high_bitmap():
+    """A bitmap of 1,500 rows, stretched upright to twice as many: each row is read once."""
+    given = Bitmap(header(64, 1_500, 24), random.Random(15).randbytes(64 * 3 * 1_500))
+    records = [WMF.step("stretch_dib", SRCCOPY, 0, 0, 64, 3_000, 0, 0, 64, 1_500, str(given))]
+    return Counted(WMF.file(records, (64, 3_000), 0), 64, 3_000)
+
+
+def late_extent():
+    """A plain file whose extent comes behind 60,000 records: it is looked for once, from record to record."""
+    records = WMF.records("move 1 1") * 60_000 + WMF.records("window_extent 64 64; pixel 1 1")
+    return Counted(WMF.file(records, 64, 0)[22:], 64, 64)
+
+
 FILES = {
     "10,000 small triangles, 64 by 8,192": triangles,
     "a zigzag of 20,000 points, 4,096 by 16": zigzag,
@@ -190,10 +299,29 @@ FILES = {
     "100,000 points on a map that scales, 64 by 64": scaled_lists,
     "3,000 small tiled rectangles, 8,192 by 64": tiles,
     "bitmaps of few rows stretched, 1,024 by 1,024": upright,
+    "each record 500 times in a state that is full": filled_state,
+    "paths of 30,000 pieces, 16 by 8,192": high_paths,
+    "16,000 lists in two records": many_lists,
+    "a zigzag of 150,000 points, 1,024 by 4": long_zigzag,
+    "84,000 short records of a plain file": short_records,
+    "6,000 polylines of two points, 1,024 by 1,024": lone_lines,
+    "9,000 flat lines that rise, 64 by 8,192": flat_lines,
+    "each sort of paint, 8,192 by 48": wide_paints,
+    "6,000 small hatched blits, 8,192 by 64": small_hatched_blits,
+    "a bitmap of 1,500 rows stretched": high_bitmap,
+    "a plain file whose extent is its last": late_extent,
 }
 
 # How many times the instructions on record a file may take, where that is less than for others: what it is to show is a part of its work.
-CLOSE = {
-    "3,000 small tiled rectangles, 8,192 by 64": 1.15,
-    "bitmaps of few rows stretched, 1,024 by 1,024": 1.15,
-}
+CLOSE = dict.fromkeys(
+    [
+        "3,000 small tiled rectangles, 8,192 by 64",
+        "bitmaps of few rows stretched, 1,024 by 1,024",
+        "each record 500 times in a state that is full",
+        "84,000 short records of a plain file",
+        "6,000 polylines of two points, 1,024 by 1,024",
+        "each sort of paint, 8,192 by 48",
+        "a bitmap of 1,500 rows stretched",
+    ],
+    1.15,
+)

@@ -12,5 +12,6 @@ sys.path.insert(0, str(ROOT / "tests"))
 from metafile.bitmaps import Bitmap, header  # noqa: E402
 from metafile.blits import MASKED, PATCOPY, PATINVERT, SRCCOPY  # noqa: E402
 from metafile.scripts import EMF, WMF  # noqa: E402
+from metafile.shapes import BETWEEN  # noqa: E402
 
-__all__ = ["EMF", "MASKED", "PATCOPY", "PATINVERT", "PROGRAM", "ROOT", "SRCCOPY", "WMF", "Bitmap", "header"]
+__all__ = ["BETWEEN", "EMF", "MASKED", "PATCOPY", "PATINVERT", "PROGRAM", "ROOT", "SRCCOPY", "WMF", "Bitmap", "header"]

@@ -16,8 +16,9 @@ GIVES_UP = re.compile(
     r'|"cannot (?:read|write)"|\breport\(|\bcommand\.error\(|\.then_some\(|\bfmt::Error\b'
     r'|\b(?:try_)?reserve(?:_exact|_all)?\b|\bmake_room\b|\bfrom_elem\b|\bwith_capacity\b|\bresize(?:_with)?\b'
     r"|\bextend_from_(?:slice|within)\b|\bfrom_slice\b|\.repeat\b|\.collect\b"
-    r"|\bgrow\(|(?<!self)\.push\b|\.insert\b|\.append\b|\bto_vec\b|\bvec!|\bBox::"
-    r"|\.clone(?:_from)?\b|\bto_owned\b|\binto_boxed|\bformat!"
+    r"|\bgrow(?:::<[^>]*>)?\(|(?<!self)\.push\b|\.insert\b|\.append\b|\bto_vec\b|\bvec!|\bBox::"
+    r"|\.(?:try_)?clone(?:_from)?\b|\b(?:from|extend_with)_clones\b|\b(?:in)?to_owned\b|\bto_string\b|\binto_boxed|\bformat!|\btry_resize"
+    r"|\b(?:push|insert)_(?:mut|str)\b|\bsplit_off\b|\.sort(?:_by(?:_cached)?(?:_key)?)?\(|\.join\(|\.concat\("
 )
 
 # What is dear where it is done once more: a file's records are read, or something is divided by what is no constant.
@@ -73,6 +74,30 @@ class Body(NamedTuple):
 def without_comments(text):
     """Source text without its comments and attributes. A quote may stand as a letter of its own."""
     return re.sub(r'(?m)("(?:[^"\\]|\\.)*"|b?\'(?:[^\'\\\n]|\\[^\'\n]+|\\\')\')|/\*[\s\S]*?\*/|//.*$|^\s*#!?\[.*\]$', lambda it: it[1] or "", text)
+
+
+def clause_ends(text):
+    """Where each clause of a contract ends in source text: behind the brace that closes it."""
+    for clause in CONTRACT.finditer(text):
+        depth, at = 0, text.find("{", clause.end())
+        while 0 <= at < len(text):
+            depth += {"{": 1, "}": -1}.get(text[at], 0)
+            at += 1
+            if depth == 0:
+                yield at
+                break
+
+
+def out_of_layout(text):
+    """The lines of a source file in which something stands where a reader of bodies doesn't look: behind a clause of a contract, behind the
+    brace of a function's own line, or before a comment of what follows."""
+    plain = without_comments(text)
+    found = [line for line in text.splitlines() if re.search(r"\S.*///? [A-Z]", line.replace("://", "")) and not line.lstrip().startswith(("//", "ghost"))]
+    for end in clause_ends(plain):
+        line = plain[plain.rfind("\n", 0, end) + 1 : plain.find("\n", end)]
+        found += [line] if plain[end : plain.find("\n", end)].strip() not in ("", ";") else []
+    found += [line for line in plain.splitlines() if re.match(r" *(?:pub(?:\([^)]*\))? )?(?:const )?fn .*\{.*\S", line) and not line.endswith("{}")]
+    return found
 
 
 def body_start(text):

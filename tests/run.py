@@ -41,7 +41,7 @@ def run(file):
 
 def run_all():
     """Runs all files, says what came of each, and answers the status."""
-    with ThreadPoolExecutor(os.cpu_count()) as pool:
+    with ThreadPoolExecutor(len(os.sched_getaffinity(0))) as pool:
         ended = list(pool.map(run, sorted(TESTS.glob("*_test.py"))))
     for it in ended:
         print(f"{it.name}: {it.count} tests in {it.seconds:.0f} s" if it.is_well else f"{it.said}\n{it.name}: NOT PASSED", flush=True)

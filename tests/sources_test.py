@@ -13,7 +13,7 @@ import unittest
 from typing import NamedTuple
 
 from built import CRATES
-from refusal_places import Body, Line, bodies, constants, names_of
+from refusal_places import Body, Line, bodies, constants, names_of, out_of_layout, without_comments
 
 LIST = pathlib.Path(__file__).with_name("refusals_made.txt")
 
@@ -77,12 +77,15 @@ ALIAS = re.compile(
 
 # What would make a body, or such a fault, that isn't read here.
 HIDING = re.compile(
-    r"\bmacro_rules!|\binclude!|\bDefault for\b|"
+    r"\bmacro_rules!|\br#*\"|\binclude!|\bDefault for\b|"
     r"\bDefault\b[^)\n]*\)\]\s*(?:pub(?:\([^)]*\))? )?(?:struct|enum) (?:OutOfMemory|WriteFault|InputFault|Refusal|Answer)\b"
 )
 
-# Comparing and copying are derived: no clause says what they do where they are written by hand, and tests compare by them.
-BY_HAND = re.compile(r"\bimpl(?:<[^{]*?>)? (?:PartialEq|Eq|PartialOrd|Ord|Hash|Clone|Copy)\b[^{;]*? for\b")
+# Comparing, copying and letting go are derived: no clause says what they do where they are written by hand, and tests compare by them.
+BY_HAND = re.compile(
+    r"\bimpl(?:<[^{]*?>)? (?:PartialEq|Eq|PartialOrd|Ord|Hash|Clone|Copy|Drop)\b[^{;]*? for\b|\bManuallyDrop\b|\bleak\b"
+    r"|\bmem::forget\b|\bmem::\{[^}]*\bforget\b|(?<!\.)(?<!fn )\bforget\("
+)
 
 
 def aliases(text):
@@ -178,12 +181,23 @@ class Sources(unittest.TestCase):
         self.assertEqual([len(HIDING.findall(text)) for text in made], [1, 1, 1])
         self.assertEqual(HIDING.findall("#[derive(Clone, Default)]\npub struct Span {\n"), [])
 
-    def test_nothing_is_compared_by_hand(self):
-        crates = [crate for crate in CRATES.iterdir() if (crate / "src").is_dir()]
-        found = [it[0] for crate in crates for text in sources_of(crate).values() for it in BY_HAND.finditer(text)]
+    def test_nothing_stands_where_no_body_is_read(self):
+        found = [line for crate in crates_of_code() for text in sources_of(crate).values() for line in out_of_layout(text)]
         self.assertEqual(found, [])
-        made = ["impl PartialEq for Refusal {", "impl<'a> PartialOrd<Op<'a>> for Op<'a> {", "impl<T: Copy> Clone for Held<T> {"]
-        self.assertEqual([len(BY_HAND.findall(text)) for text in made], [1, 1, 1])
+        hidden = [
+            "fn a()\n    ensures { b } { if c { return d; }\n{\n    e\n}\n",
+            "fn a() { if c { return d; }\n{\n    e\n}\n",
+            "fn a() {\n    e\n} /// What follows.\nfn b() {\n}\n",
+        ]
+        self.assertEqual([len(out_of_layout(text)) for text in hidden], [1, 1, 1])
+        self.assertEqual(out_of_layout("/// What it is.\nfn a()\n    ensures b { c\n        (λ d. e) }\n{\n    f\n}\nfn b() {}\n"), [])
+
+    def test_nothing_is_compared_or_let_go_by_hand(self):
+        crates = [crate for crate in CRATES.iterdir() if (crate / "src").is_dir()]
+        found = [it[0] for crate in crates for text in sources_of(crate).values() for it in BY_HAND.finditer(without_comments(text))]
+        self.assertEqual(found, [])
+        made = ["impl PartialEq for Refusal {", "impl<'a> PartialOrd<Op<'a>> for Op<'a> {", "impl<T: Copy> Clone for Held<T> {", "mem::forget(table)"]
+        self.assertEqual([len(BY_HAND.findall(text)) for text in made], [1, 1, 1, 1])
         self.assertEqual(BY_HAND.findall("impl fmt::Display for Fault {"), [])
 
     def test_another_name_is_found(self):
