@@ -88,8 +88,8 @@ pub struct Draw<'a> {
 }
 
 /// Whether figures are those of a path.
-fn is_of_path(points: FigurePoints<'_>) -> bool
-    ensures { result ≡ is_of_path points.entry }
+fn is_of_path(points: &FigurePoints<'_>) -> bool
+    ensures { result ≡ is_of_path points.now }
 {
     match points {
         FigurePoints::Through { .. } | FigurePoints::Lists { .. } => false,
@@ -98,8 +98,8 @@ fn is_of_path(points: FigurePoints<'_>) -> bool
 }
 
 /// Whether a mark is of a path.
-fn lends_path(mark: Mark<'_>) -> bool
-    ensures { result ≡ lends_path mark.entry }
+fn lends_path(mark: &Mark<'_>) -> bool
+    ensures { result ≡ lends_path mark.now }
 {
     match mark {
         Mark::Figures { points, .. } => is_of_path(points),
@@ -108,11 +108,11 @@ fn lends_path(mark: Mark<'_>) -> bool
 }
 
 /// Whether a path is painted.
-pub(crate) fn paints_path(drawn: Option<Draw<'_>>) -> bool
-    ensures { result ≡ paints_path drawn.entry }
+pub(crate) fn paints_path(drawn: &Option<Draw<'_>>) -> bool
+    ensures { result ≡ paints_path drawn.now }
 {
     match drawn {
         None => false,
-        Some(drawn) => lends_path(drawn.mark),
+        Some(drawn) => lends_path(&drawn.mark),
     }
 }

@@ -140,23 +140,34 @@ impl<'a, T: Table<'a>> Machine<'a, T> {
         ensures kept { OnErr result (IsUnchanged self.old self.new) }
         ensures goes_on { GoesOn self.old self.new }
     {
-        match self.play(op) {
-            Ok(drawn) => {
-                if !paints_path(drawn) {
-                    self.path.forget();
-                }
-                Ok(drawn)
+        self.step_by(&op)
+    }
+
+    /// The same for an operation that stays where it is: a loop over records moves none.
+    pub fn step_by(&mut self, op: &Op<'a>) -> Result<Option<Draw<'a>>, Fault>
+        ensures stepped { OnOk result (HasStepped (operation_of op.now) self.old self.new) }
+        ensures drawn { IfOk result (IsDrawingOf (operation_of op.now) self.old self.new) }
+        ensures placed { IfOk result (λ draw. IfSome draw (IsPlacedDraw self.old.surface self.new.painted)) }
+        ensures lent { IfOk result (λ draw. LendsPainted self.old draw self.new) }
+        ensures refused { IfErr result (RefusesStep (operation_of op.now) self.old) }
+        ensures kept { OnErr result (IsUnchanged self.old self.new) }
+        ensures goes_on { GoesOn self.old self.new }
+    {
+        let told = self.play(op);
+        if let Ok(drawn) = &told {
+            if !paints_path(drawn) {
+                self.path.forget();
             }
-            Err(fault) => Err(fault),
         }
+        told
     }
 
     /// Plays one operation. The pieces of a path that the step before painted may still be lent.
-    fn play(&mut self, op: Op<'a>) -> Result<Option<Draw<'a>>, Fault>
-        ensures plays { Plays (operation_of op.entry) self.old result self.new }
+    fn play(&mut self, op: &Op<'a>) -> Result<Option<Draw<'a>>, Fault>
+        ensures plays { Plays (operation_of op.now) self.old result self.new }
         ensures goes_on { GoesOn self.old self.new }
     {
-        match op {
+        match *op {
             Op::NoEffect => Ok(None),
             Op::Save => self.save(),
             Op::Restore(which) => self.restore(which),

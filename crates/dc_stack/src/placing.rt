@@ -49,7 +49,7 @@ fn land_wide(map: &PageMap, place: Place, point: WidePoint) -> Result<Point, Fau
     let Some(plane) = plane_point(map, point) else {
         return Err(Fault::OffPlane);
     };
-    if place.place(plane).is_none() {
+    if !place.fits(plane) {
         return Err(Fault::OffPlane);
     }
     Ok(plane)

@@ -2,16 +2,17 @@
 
 ghost use Rattle.std.specs.Prelude.{◌≡◌, ◌<◌, ◌≤◌, length, IfErr, OnOk};
 ghost use Rattle.draw_ops.specs.Fault.{IsInRecord};
-ghost use Rattle.draw_ops.specs.Meaning.{end_notes};
+ghost use Rattle.draw_ops.specs.Meaning.{end_notes, step_of};
 ghost use Rattle.draw_ops.specs.NoteSet.{notes_in};
 ghost use Rattle.draw_ops.specs.Reading.{front_step};
 ghost use Rattle.draw_ops.specs.RecordContent.{IsContent};
+ghost use Rattle.draw_ops.specs.RecordOf.{record_of};
 ghost use Rattle.draw_ops.specs.Records.{record_limit, size_of};
 ghost use Rattle.draw_ops.specs.Results.{result_map};
 ghost use Rattle.draw_ops.specs.StepOf.{step_value_of};
 
 use crate::fault::Fault;
-use crate::format::Format;
+use crate::format::{Format, RawRecord};
 use crate::framing::first_record;
 use crate::note::Note;
 use crate::note_set::NoteSet;
@@ -77,19 +78,19 @@ impl<'a, F: Format> OpSource<'a> for RecordOps<'a, F> {
         match self.reading {
             Reading::Ended => Ok(None),
             Reading::Failed(fault) => Err(fault),
-            Reading::Records => match step::<F>(self.number, self.rest) {
+            Reading::Records => match &step::<F>(self.number, self.rest) {
                 Err(fault) => {
-                    self.reading = Reading::Failed(fault);
-                    Err(fault)
+                    self.reading = Reading::Failed(*fault);
+                    Err(*fault)
                 }
                 Ok(step) => {
                     if F::kind(self.rest) == F::end_kind() {
                         self.reading = Reading::Ended;
-                        return Ok(Some(step));
+                        return Ok(Some(*step));
                     }
                     self.rest = &self.rest[F::size(self.rest)..];
                     self.number += 1;
-                    Ok(Some(step))
+                    Ok(Some(*step))
                 }
             },
         }
@@ -105,13 +106,27 @@ fn step<F: Format>(number: u32, bytes: &[u8]) -> Result<Step<'_>, Fault>
     ensures in_record { IfErr result IsInRecord }
 {
     let front = first_record::<F>(number, bytes)?;
-    let meant = F::read(number, front)?;
-    let behind = &bytes[front.bytes.len()..];
-    Ok(Step {
-        number,
-        op: meant.op,
-        notes: with_end(meant.notes, front.kind == F::end_kind(), behind),
-    })
+    meant_step::<F>(number, front, &bytes[front.bytes.len()..])
+}
+
+/// The step of a record with this number in the file, behind which these bytes lie, or the first fault of what it means. What is
+/// asked for is moved once, from where it was read.
+fn meant_step<'a, F: Format>(
+    number: u32,
+    front: RawRecord<'a>,
+    behind: &[u8],
+) -> Result<Step<'a>, Fault>
+    ensures value { step_of F.framing F.meaning behind.now number (record_of front.entry) ≡ result_map step_value_of result }
+    ensures in_record { IfErr result IsInRecord }
+{
+    match &F::read(number, front) {
+        Ok(meant) => Ok(Step {
+            number,
+            op: meant.op,
+            notes: with_end(meant.notes, front.kind == F::end_kind(), behind),
+        }),
+        Err(fault) => Err(*fault),
+    }
 }
 
 /// The notes of a record, and with the end record also that bytes lie behind it.

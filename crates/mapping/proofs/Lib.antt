@@ -12,3 +12,4 @@ pub mod IntTestLemmas
 pub mod CountLemmas
 pub mod CellLemmas
 pub mod MetLemmas
+pub mod FitLemmas

@@ -29,7 +29,7 @@ grows a m n h = omega (arith, ints, mul-le-mul_left a h)
 falls : (a m n : ℕ) → m ≤ n → (negsuc a *ℤ pos n) ≤ℤ (negsuc a *ℤ pos m)
 falls a m n h = omega (arith, ints, mul-le-mul_left (suc a) h)
 
-not_zero : (side : ℕ) → 1 ≤ side → pos side ≢ pos 0
+pub not_zero : (side : ℕ) → 1 ≤ side → pos side ≢ pos 0
 not_zero side h e = omega (arith, ints, h, e)
 
 -- floor division over a side keeps the order

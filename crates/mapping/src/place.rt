@@ -1,14 +1,14 @@
 //! The place: where a plane point lands on a surface.
 
-ghost use Rattle.std.specs.Prelude.{◌≡◌, ◌≤◌, ◌↔◌, ◌*ℤ◌, pos, IsTrue, SomeIff, is_some};
-ghost use Rattle.mapping.specs.Limits.{IsSurfaceSide, is_within, place_limit, surface_side_limit};
+ghost use Rattle.std.specs.Prelude.{◌≡◌, ◌≤◌, ◌↔◌, ◌^◌, ◌*ℤ◌, pos, unsigned_abs, IsTrue, SomeIff, is_some};
+ghost use Rattle.mapping.specs.Limits.{IsFrameSide, IsSurfaceSide, is_within, place_limit, surface_side_limit};
 ghost use Rattle.mapping.specs.Surface.{placed, FitsPlace, IsPlaceCoordinate, fits_place, placed_point};
 ghost use Rattle.mapping.specs.BoxLaws.{BoxLaws};
 ghost use Rattle.mapping.specs.PlacingLaws.{PlacingLaws};
 
 use crate::divisor::Divisor;
 use crate::geometry::{Frame, Point};
-use crate::limits::PLACE_LIMIT;
+use crate::limits::{PLACE_LIMIT, limits_law};
 
 /// A frame shown on a surface.
 ///
@@ -49,10 +49,13 @@ impl Place {
     }
 
     /// Whether both placed coordinates of a plane point are at most 2^28 from 0.
-    pub fn fits(self, point: Point) -> bool
-        ensures { IsTrue result ↔ FitsPlace (placed_point point (surface_of self)) }
+    pub fn fits(&self, point: Point) -> bool
+        ensures limits { IsTrue result ↔ FitsPlace (placed_point point (surface_of self.now)) }
+        ensures test { result ≡ fits_place (placed_point point (surface_of self.now)) }
     {
-        self.place(point).is_some()
+        limits_law();
+        axis_fits(point.x, self.width, self.frame.width)
+            && axis_fits(point.y, self.height, self.frame.height)
     }
 
     /// Where a plane point lands, or none where it doesn't fit.
@@ -110,6 +113,26 @@ fn axis_place(coordinate: i32, surface_side: u32, frame_side: Divisor) -> Option
     } else {
         None
     }
+}
+
+/// Whether the placed coordinate is within its limit, without a division: it is where the coordinate times the surface's side lies
+/// from the lower limit times the frame's side on, and before the number behind the upper limit times that.
+fn axis_fits(coordinate: i32, surface_side: u32, frame_side: u32) -> bool
+    requires surface { surface_side ≤ surface_side_limit }
+    requires frame { IsFrameSide frame_side }
+    ensures { result ≡ is_within place_limit (placed coordinate surface_side frame_side) }
+{
+    let part = product(coordinate, surface_side);
+    limit_on(-PLACE_LIMIT, frame_side) <= part && part < limit_on(PLACE_LIMIT + 1, frame_side)
+}
+
+/// A limit of placed coordinates times a frame's side.
+fn limit_on(limit: i64, frame_side: u32) -> i64
+    requires near { unsigned_abs limit ≤ 2 ^ 29 }
+    requires frame { IsFrameSide frame_side }
+    ensures { result ≡ limit *ℤ pos frame_side }
+{
+    limit * i64::from(frame_side)
 }
 
 /// The placed coordinate, where it is within its limit.

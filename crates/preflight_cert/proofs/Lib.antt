@@ -22,3 +22,4 @@ pub mod LeastBoxLemmas
 pub mod PreparationLemmas
 pub mod GatheredLemmas
 pub mod PreparedLemmas
+pub mod WorkedChecks

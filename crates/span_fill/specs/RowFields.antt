@@ -34,7 +34,7 @@ pub record HasRoom (a : Inside) : Type 0 where
   pub edges : a.room ≤ vec_capacity a.edges
   pub active : a.room ≤ vec_capacity a.active
   pub crossings : a.room ≤ vec_capacity a.crossings
-  pub spans : 1 ≤ a.room → a.room + 2 ≤ vec_capacity a.spans
+  pub spans : a.room + 2 ≤ a.spans.capacity
   pub strokes : HasStrokeRoom a.room a.strokes
 
 -- the edges of the lines: those that cross row y, in the order of their columns, and those that wait, in the order of their rows

@@ -5,6 +5,7 @@ ghost use Rattle.std.specs.List.Sorted.{IsNonDecreasingBy, IsPermutation};
 ghost use Rattle.span_fill.specs.Joining.{column_behind, joined};
 ghost use Rattle.span_fill.specs.Spans.{AreRow, in_spans};
 
+use crate::row_spans::RowSpans;
 use crate::span::Span;
 use crate::sweep::{put_part, put_run};
 
@@ -20,11 +21,11 @@ pub(crate) fn sort_parts(parts: &mut Vec<Span>)
 
 /// What the parts have of an interval, as spans that are at least one pixel apart, in place of those that
 /// are there.
-pub(crate) fn join_within(parts: &[Span], interval: Span, spans: &mut Vec<Span>)
+pub(crate) fn join_within(parts: &[Span], interval: Span, spans: &mut RowSpans)
     requires sorted { IsNonDecreasingBy (λ part. part.from) parts.now }
-    requires room { 1 ≤ length parts.now → length parts.now + 1 ≤ vec_capacity spans.old }
+    requires room { 1 ≤ length parts.now → length parts.now + 1 ≤ spans.old.capacity }
     ensures spans { AreRow (λ x. in_spans parts.now x) interval spans.new.items }
-    ensures room { vec_capacity spans.new ≡ vec_capacity spans.old }
+    ensures room { spans.new.capacity ≡ spans.old.capacity }
 {
     if interval.from >= interval.to {
         spans.clear();
@@ -38,10 +39,10 @@ pub(crate) fn join_within(parts: &[Span], interval: Span, spans: &mut Vec<Span>)
 }
 
 /// The same where there are parts, and the interval isn't empty.
-fn join(parts: &[Span], interval: Span, spans: &mut Vec<Span>)
-    requires room { length parts.now + 1 ≤ vec_capacity spans.old }
+fn join(parts: &[Span], interval: Span, spans: &mut RowSpans)
+    requires room { length parts.now + 1 ≤ spans.old.capacity }
     ensures spans { spans.new.items ≡ joined interval.to parts.now (record { from = interval.from; to = interval.from }) }
-    ensures room { vec_capacity spans.new ≡ vec_capacity spans.old }
+    ensures room { spans.new.capacity ≡ spans.old.capacity }
 {
     spans.clear();
     let mut run = Span {

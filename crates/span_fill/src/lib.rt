@@ -38,6 +38,7 @@ mod pixel;
 mod product;
 mod row_buf;
 mod row_error;
+mod row_spans;
 mod slant;
 mod span;
 mod steps;

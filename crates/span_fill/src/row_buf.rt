@@ -1,6 +1,6 @@
 //! A buffer that gives the spans of an outline's rows, one row after another.
 
-ghost use Rattle.std.specs.Prelude.{◌≡◌, ◌+◌, ◌<◌, ◌≤◌, ◌^◌, [], length, OnOk, OnErr, vec_capacity};
+ghost use Rattle.std.specs.Prelude.{◌≡◌, ◌+◌, ◌<◌, ◌≤◌, ◌^◌, [], length, OnOk, OnErr};
 ghost use Rattle.std.specs.List.Sorted.{IsPermutation};
 ghost use Rattle.span_fill.specs.Crossings.{crossings_of};
 ghost use Rattle.span_fill.specs.RowState.{BeginsFill, BeginsStroke, DiffersInRoom, FillsRow, GoesOn, IsFillingWork, IsStrokingWork, filling, idle, stroking};
@@ -15,9 +15,11 @@ use crate::line::Line;
 use crate::memory::grow;
 use crate::outline::{Outline, copy_lines};
 use crate::row_error::OutOfMemory;
+use crate::row_spans::{RowSpans, grow_spans};
 use crate::span::Span;
 use crate::strokes::Strokes;
 use crate::sweep::sweep;
+use smallvec::SmallVec;
 use std::alloc::Global;
 use std::marker::Model;
 
@@ -46,7 +48,7 @@ pub struct RowBuf {
     /// Those that cross the next row, in the order of the columns where they do.
     active: Vec<ActiveEdge>,
     crossings: Vec<Crossing>,
-    spans: Vec<Span>,
+    spans: RowSpans,
     /// The lines themselves.
     strokes: Strokes,
     work: Work,
@@ -81,7 +83,7 @@ impl RowBuf {
             begun: 0,
             active: Vec::new(alloc),
             crossings: Vec::new(alloc),
-            spans: Vec::new(alloc),
+            spans: SmallVec::new(alloc),
             strokes: Strokes::new(alloc),
             work: Work::Idle,
             rule: FillRule::EvenOdd,
@@ -107,7 +109,7 @@ impl RowBuf {
         grow(&mut self.edges, lines)?;
         grow(&mut self.active, lines)?;
         grow(&mut self.crossings, lines)?;
-        grow(&mut self.spans, lines + 2)?;
+        grow_spans(&mut self.spans, lines + 2)?;
         self.strokes.reserve(lines)?;
         self.room = lines;
         Ok(())

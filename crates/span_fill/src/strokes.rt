@@ -1,6 +1,6 @@
 //! The strips of lines, and the spans that they have row by row.
 
-ghost use Rattle.std.specs.Prelude.{◌≡◌, ℕ, ◌+◌, ◌<◌, ◌≤◌, ◌^◌, ℤ, pos, [], OnOk, OnErr, length, vec_capacity};
+ghost use Rattle.std.specs.Prelude.{◌≡◌, ℕ, ◌+◌, ◌<◌, ◌≤◌, ◌^◌, ℤ, pos, [], OnOk, OnErr, length};
 ghost use Rattle.std.specs.List.{All};
 ghost use Rattle.span_fill.specs.Lines.{HasNearEnds};
 ghost use Rattle.span_fill.specs.Spans.{AreRow};
@@ -10,6 +10,7 @@ use crate::joining::{join_within, sort_parts};
 use crate::line::Line;
 use crate::memory::grow;
 use crate::row_error::OutOfMemory;
+use crate::row_spans::RowSpans;
 use crate::span::Span;
 use crate::strip::Strip;
 use crate::stroke_rows::{collect_strips, draw_row, enter, sort_strips};
@@ -79,17 +80,17 @@ impl Strokes {
     }
 
     /// The spans of the row within the interval, and on to the next row.
-    pub(crate) fn next_row(&mut self, row: u32, interval: Span, spans: &mut Vec<Span>)
+    pub(crate) fn next_row(&mut self, row: u32, interval: Span, spans: &mut RowSpans)
         requires strokes { AreStrokes row self.old }
         requires row { row < 8192 }
         requires interval { interval.to ≤ 8192 }
-        requires room { 1 ≤ stroke_count self.old → stroke_count self.old + 1 ≤ vec_capacity spans.old }
+        requires room { 1 ≤ stroke_count self.old → stroke_count self.old + 1 ≤ spans.old.capacity }
         ensures spans { AreRow (λ x. strokes_have self.old (pos x) row) interval spans.new.items }
         ensures strokes { AreStrokes (row + 1) self.new }
         ensures have { (x : ℤ) (y : ℕ) → row < y → y < 8192 → strokes_have self.new x y ≡ strokes_have self.old x y }
         ensures count { stroke_count self.new ≤ stroke_count self.old }
         ensures room { HasSameRoom self.old self.new }
-        ensures spans_room { vec_capacity spans.new ≡ vec_capacity spans.old }
+        ensures spans_room { spans.new.capacity ≡ spans.old.capacity }
     {
         self.begun = enter(&mut self.active, self.waiting.as_slice(), self.begun, row);
         draw_row(

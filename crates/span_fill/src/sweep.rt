@@ -1,22 +1,24 @@
 //! A row's spans from the edges that cross it.
 
-ghost use Rattle.std.specs.Prelude.{◌≡◌, ◌+◌, ◌≤◌, ◌<◌, ◌^◌, ◌++◌, length, max, min, if◌then◌else◌, vec_len, vec_capacity};
+ghost use Rattle.std.specs.Prelude.{◌≡◌, ◌+◌, ◌≤◌, ◌<◌, ◌^◌, ◌++◌, length, max, min, if◌then◌else◌};
+ghost use Rattle.smallvec.specs.SmallVec.{HasRoomFor, small_vec_len};
 ghost use Rattle.span_fill.specs.Fill.{is_inside};
 ghost use Rattle.span_fill.specs.Sweep.{is_part, longer_run, ended_spans, run_spans, swept};
 
 use crate::edge::ActiveEdge;
 use crate::fill_rule::FillRule;
+use crate::row_spans::RowSpans;
 use crate::span::Span;
 
 /// The spans of a row within the interval, behind those that are there: from one edge to the next, in the
 /// order of their columns, with the count of those to the left.
-pub(crate) fn sweep(rule: FillRule, edges: &[ActiveEdge], interval: Span, spans: &mut Vec<Span>)
+pub(crate) fn sweep(rule: FillRule, edges: &[ActiveEdge], interval: Span, spans: &mut RowSpans)
     requires count { length edges.now ≤ 2 ^ 20 }
-    requires room { vec_len spans.old + length edges.now + 2 ≤ vec_capacity spans.old }
+    requires room { HasRoomFor spans.old (length edges.now + 2) }
     ensures spans { spans.new.items
         ≡ spans.old.items
         ++ swept rule interval.to edges.now interval.from 0 0 (record { from = interval.from; to = interval.from }) }
-    ensures room { vec_capacity spans.new ≡ vec_capacity spans.old }
+    ensures room { spans.new.capacity ≡ spans.old.capacity }
 {
     let mut at = interval.from;
     let mut run = Span { from: at, to: at };
@@ -61,12 +63,12 @@ fn is_inside_at(rule: FillRule, downs: u32, ups: u32) -> bool
 
 /// The run with the columns from `from` up to before `to`, if they are inside. A run that they don't
 /// adjoin is a span.
-pub(crate) fn put_part(spans: &mut Vec<Span>, run: Span, from: u32, to: u32, inside: bool) -> Span
-    requires { vec_len spans.old < vec_capacity spans.old }
+pub(crate) fn put_part(spans: &mut RowSpans, run: Span, from: u32, to: u32, inside: bool) -> Span
+    requires { HasRoomFor spans.old 1 }
     ensures run { result ≡ longer_run inside run from to }
     ensures spans { spans.new.items ≡ spans.old.items ++ ended_spans inside run from to }
-    ensures length { vec_len spans.new ≤ vec_len spans.old + 1 }
-    ensures room { vec_capacity spans.new ≡ vec_capacity spans.old }
+    ensures length { small_vec_len spans.new ≤ small_vec_len spans.old + 1 }
+    ensures room { spans.new.capacity ≡ spans.old.capacity }
 {
     if !inside || from >= to {
         return run;
@@ -79,11 +81,11 @@ pub(crate) fn put_part(spans: &mut Vec<Span>, run: Span, from: u32, to: u32, ins
 }
 
 /// The run is a span, if it has columns.
-pub(crate) fn put_run(spans: &mut Vec<Span>, run: Span)
-    requires { vec_len spans.old < vec_capacity spans.old }
+pub(crate) fn put_run(spans: &mut RowSpans, run: Span)
+    requires { HasRoomFor spans.old 1 }
     ensures spans { spans.new.items ≡ spans.old.items ++ run_spans run }
-    ensures length { vec_len spans.new ≤ vec_len spans.old + 1 }
-    ensures room { vec_capacity spans.new ≡ vec_capacity spans.old }
+    ensures length { small_vec_len spans.new ≤ small_vec_len spans.old + 1 }
+    ensures room { spans.new.capacity ≡ spans.old.capacity }
 {
     if run.from < run.to {
         spans.push_reserved(run);

@@ -31,7 +31,7 @@ invariant_of-self g c =
         edges = omega arith;
         active = omega arith;
         crossings = omega arith;
-        spans = λ h. omega (arith, c.self.invariant.room.spans h);
+        spans = omega (arith, c.self.invariant.room.spans);
         strokes = c.self.invariant.room.strokes;
       };
       count = count;

@@ -19,7 +19,7 @@ invariant_of-self g c =
         edges = there.edges;
         active = there.active;
         crossings = there.crossings;
-        spans = λ h. omega (arith, there.spans h, c.clear.ensures.capacity);
+        spans = omega (arith, there.spans, c.clear.ensures.capacity);
         strokes = c.begin.ensures.room c.self.inside.room there.strokes;
       };
       count = count;

@@ -5,10 +5,10 @@ use Rattle.span_fill.proofs.StrokingLemmas.{not_both, stroked}
 use Rattle.span_fill.proofs.row_buf.RowBuf.next_stroke.Goals as goal
 
 pub next_row-requires-clause-room : goal.next_row-requires-clause-room
-next_row-requires-clause-room c = λ some.
+next_row-requires-clause-room c = λ _.
     let work = subst (λ (s : RowState). IsStrokingWork s.work) (sym c.self.view_is) c.requires.stroking in
     let strokes = c.self.invariant.stroking work in
-    let room = c.self.invariant.room.spans (omega (arith, some, strokes.count)) in
+    let room = c.self.invariant.room.spans in
     omega (arith, room, strokes.count)
 
 pub returns-clause-spans : goal.returns-clause-spans
@@ -31,7 +31,7 @@ invariant_of-self c =
         edges = there.edges;
         active = there.active;
         crossings = there.crossings;
-        spans = λ h. omega (arith, there.spans h, c.next_row.ensures.spans_room);
+        spans = omega (arith, there.spans, c.next_row.ensures.spans_room);
         strokes = c.next_row.ensures.room c.self.inside.room there.strokes;
       };
       count = c.self.invariant.count;

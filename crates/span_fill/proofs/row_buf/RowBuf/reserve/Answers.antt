@@ -10,7 +10,7 @@ invariant_of-self-2 c =
     let edges = c.in_ok-grow-2.ensures.ok in
     let active = c.in_ok-grow-3.ensures.ok in
     let crossings = c.in_ok-grow-4.ensures.ok in
-    let spans = c.in_ok-grow-5.ensures.ok in
+    let spans = c.in_ok-grow_spans.ensures.ok in
     record {
       room = record {
         limit = c.requires;
@@ -18,7 +18,7 @@ invariant_of-self-2 c =
         edges = edges;
         active = active;
         crossings = crossings;
-        spans = λ h. spans;
+        spans = spans;
         strokes = c.in_ok-reserve.ensures.ok;
       };
       count = rw c.grow.ensures.items (omega arith);
@@ -34,7 +34,7 @@ invariant_of-self-in_err-reserve c =
     let edges_kept = c.grow-2.ensures.kept in
     let active_kept = c.grow-3.ensures.kept in
     let crossings_kept = c.grow-4.ensures.kept in
-    let spans_kept = c.grow-5.ensures.kept in
+    let spans_kept = c.grow_spans.ensures.kept in
     record {
       room = record {
         limit = there.limit;
@@ -42,7 +42,7 @@ invariant_of-self-in_err-reserve c =
         edges = omega (arith, there.edges, edges_kept);
         active = omega (arith, there.active, active_kept);
         crossings = omega (arith, there.crossings, crossings_kept);
-        spans = λ h. omega (arith, there.spans h, spans_kept);
+        spans = omega (arith, there.spans, spans_kept);
         strokes = c.reserve.ensures.kept c.self.inside.room there.strokes;
       };
       count = rw c.grow.ensures.items c.self.invariant.count;

@@ -1,5 +1,5 @@
 use Rattle.mapping.specs.PlaceOf.{surface_of}
-use Rattle.dc_stack.proofs.machine.Machine.step.Goals as goal
+use Rattle.dc_stack.proofs.machine.Machine.step_by.Goals as goal
 
 pub invariant_of-self : goal.invariant_of-self
 invariant_of-self g c =

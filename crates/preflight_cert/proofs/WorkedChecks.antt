@@ -1,0 +1,83 @@
+-- Entries against the records of a dot, a line and an end, on a surface of 4 by 4 that shows a frame of its size: worked by hand.
+use Rattle.std.proofs.Common.{◌≡◌, ℕ, ℤ, pos, List, [], ◌∷◌, Option, Some, None, refl}
+use Rattle.mapping.specs.Colours.{black_colour}
+use Rattle.mapping.specs.Limits.{place_limit, plane_limit}
+use Rattle.mapping.specs.PageMap.{unscaled_map}
+use Rattle.mapping.specs.Surface.{Surface}
+use Rattle.mapping.specs.declared.geometry.Point.{Point}
+use Rattle.draw_ops.specs.Content.{StepValue}
+use Rattle.draw_ops.specs.NoteCounts.{no_notes}
+use Rattle.draw_ops.specs.Operation.{Operation, line_to, no_effect, pixel}
+use Rattle.draw_ops.specs.declared.fault.Fault.{Fault}
+use Rattle.draw_ops.specs.declared.fault.Fault.TheVariants.{BoxTooSmall, NoEnd, OffPlane, WrongEntry}
+use Rattle.object_tables.specs.Table.{by_lowest_free}
+use Rattle.dc_stack.specs.Drawing.{edge_limit}
+use Rattle.dc_stack.specs.Path.{piece_limit}
+use Rattle.dc_stack.specs.State.{State, start_state}
+use Rattle.preflight_cert.specs.Checked.{checked}
+use Rattle.preflight_cert.specs.Stop.{Stop, stop_at}
+use Rattle.preflight_cert.specs.declared.entry.Entry.{Entry}
+
+abbrev four : Surface
+four = record { width = 4; height = 4; frame_width = 4; frame_height = 4 }
+
+abbrev at : ℤ → ℤ → Point
+at x y = record { x = x; y = y }
+
+abbrev start : State
+start = start_state (unscaled_map (at (pos 0) (pos 0))) by_lowest_free
+
+abbrev step : ℕ → Operation → StepValue
+step number operation = record { number = number; operation = operation; notes = no_notes }
+
+-- a dot at (2, 1), a line to (3, 0) and the end
+abbrev steps : List StepValue
+steps = step 0 (pixel (at (pos 2) (pos 1)) black_colour) ∷ step 1 (line_to (at (pos 3) (pos 0))) ∷ step 2 no_effect ∷ []
+
+abbrev entry : ℕ → ℤ → ℤ → ℤ → ℤ → Entry
+entry number l t r b = record { number = number; bounds = record { l = l; t = t; r = r; b = b } }
+
+abbrev dot_entry : Entry
+dot_entry = entry 0 (pos 2) (pos 1) (pos 2) (pos 1)
+
+abbrev line_entry : Entry
+line_entry = entry 1 (pos 0) (pos 0) (pos 3) (pos 0)
+
+-- where these steps and then this fault stop, beside these entries
+abbrev stop_beside : Option Fault → List Entry → Option Stop
+stop_beside fault entries = checked steps fault 0 start four entries
+
+each_has_its_own : stop_beside None (dot_entry ∷ line_entry ∷ []) ≡ None
+unfolding plane_limit place_limit edge_limit piece_limit
+each_has_its_own = refl
+
+-- exchanged, left out, one left over behind the end
+exchanged : stop_beside None (line_entry ∷ dot_entry ∷ []) ≡ Some (stop_at 0 WrongEntry)
+unfolding plane_limit place_limit edge_limit piece_limit
+exchanged = refl
+
+left_out : stop_beside None (dot_entry ∷ []) ≡ Some (stop_at 1 WrongEntry)
+unfolding plane_limit place_limit edge_limit piece_limit
+left_out = refl
+
+left_over : stop_beside None (dot_entry ∷ line_entry ∷ line_entry ∷ []) ≡ Some (stop_at 2 WrongEntry)
+unfolding plane_limit place_limit edge_limit piece_limit
+left_over = refl
+
+-- a box that lacks the line's right end
+short_box : stop_beside None (dot_entry ∷ entry 1 (pos 0) (pos 0) (pos 2) (pos 0) ∷ []) ≡ Some (stop_at 1 BoxTooSmall)
+unfolding plane_limit place_limit edge_limit piece_limit
+short_box = refl
+
+-- the fault of an earlier entry comes before that of a later record, and a record's own before its entry's
+entry_before_end : stop_beside (Some NoEnd) (dot_entry ∷ []) ≡ Some (stop_at 1 WrongEntry)
+unfolding plane_limit place_limit edge_limit piece_limit
+entry_before_end = refl
+
+end_of_file : stop_beside (Some NoEnd) (dot_entry ∷ line_entry ∷ []) ≡ Some (stop_at 3 NoEnd)
+unfolding plane_limit place_limit edge_limit piece_limit
+end_of_file = refl
+
+off_before_entry : checked (step 0 (line_to (at (pos 2000000000) (pos 0))) ∷ []) None 0 start four [] ≡ Some (stop_at 0 OffPlane)
+unfolding plane_limit place_limit edge_limit piece_limit
+off_before_entry = refl
