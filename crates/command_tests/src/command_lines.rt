@@ -1,7 +1,7 @@
 //! Command lines, and what each wrong one is answered.
 
 use crate::comparing::same;
-use commands::{Line, line, usage};
+use commands::{CommandLine, line, usage};
 use std::alloc::{AllocError, Global};
 use std::test::Fail;
 
@@ -17,7 +17,7 @@ fn words(alloc: Global, words: &[&str]) -> Result<Vec<String>, AllocError> {
 fn a_command_line_asks_for_a_file_and_sides(rt: HostRuntime) -> Result<(), Fail> {
     for (width, height, wide, high) in [("1", "8192", 1, 8192), ("400", "+3", 400, 3)] {
         let asked = words(rt.alloc(), &["metaplay", "show", "a.wmf", width, height])?;
-        let want = Line::Show {
+        let want = CommandLine::Show {
             file: "a.wmf",
             width: wide,
             height: high,
@@ -57,8 +57,8 @@ fn each_side_from_1_to_8192_is_taken_in_both_places(rt: HostRuntime) -> Result<(
 }
 
 /// The line that shows a file at these sides.
-fn shown(width: u32, height: u32) -> Line<'static> {
-    Line::Show {
+fn shown(width: u32, height: u32) -> CommandLine<'static> {
+    CommandLine::Show {
         file: "a.wmf",
         width,
         height,
@@ -150,7 +150,7 @@ fn a_command_line_under_refused_growth(rt: HostRuntime) -> Result<(), Fail> {
     };
     match line(rt.alloc(), asked.as_slice()) {
         Ok(
-            Line::Show {
+            CommandLine::Show {
                 file,
                 width,
                 height,

@@ -6,8 +6,8 @@ use Rattle.clap.specs.Simple.{Shape, built}
 use Rattle.clap.specs.Walk.{Held, Row, Rule, Step, Text, Walk, after_step, finished, idle, nothing_held, one_of, rows_after, value, walk, walked, word_met}
 use Rattle.clap.specs.Words.{first_of, subcommand_of}
 use Rattle.clap.proofs.OnLiterals.{clap_on_literals}
-use Rattle.commands.specs.declared.asked.Line.{Line}
-use Rattle.commands.specs.declared.asked.Line.TheVariants.{Show}
+use Rattle.commands.specs.declared.asked.CommandLine.{CommandLine}
+use Rattle.commands.specs.declared.asked.CommandLine.TheVariants.{Show}
 use Rattle.commands.specs.CommandLine.{AreOfWords, GivesNumber, HasPlainWords, HasWords, IsAskedByWords, IsPlainWord, IsShow, metaplay_app, number_of}
 
 pub no_flags : (byte : ℕ) (rest : Text) → (byte ≡ 45 → ⊥) → short_of (byte ∷ rest) ≡ None
@@ -89,12 +89,12 @@ by_rows met all file wide high name width height plain_wide plain_high is has_fi
       high_reads = number_given high all (codes "H") height plain_high has_high (rw same at show.high);
     }
 
-given_words : (line : Line) (program file wide high : Text) → IsPlainWord file → IsPlainWord wide → IsPlainWord high → IsAskedByWords (program ∷ codes "show" ∷ file ∷ wide ∷ high ∷ []) line → HasWords file wide high line
+given_words : (line : CommandLine) (program file wide high : Text) → IsPlainWord file → IsPlainWord wide → IsPlainWord high → IsAskedByWords (program ∷ codes "show" ∷ file ∷ wide ∷ high ∷ []) line → HasWords file wide high line
 given_words (Show name width height) program file wide high plain_file plain_wide plain_high asked =
     let rows = first_word program file wide high ∙ ap (λ (r : List Row). Some (codes "show", r)) (other_words file wide high plain_file plain_wide plain_high) in
     by_rows _ (given_all file wide high) file wide high name.now width height plain_wide plain_high rows refl refl refl asked
 
 -- what five such words ask for
-pub plain_words : (words : List Text) (line : Line) → IsAskedByWords words line → HasPlainWords words line
+pub plain_words : (words : List Text) (line : CommandLine) → IsAskedByWords words line → HasPlainWords words line
 plain_words words line asked program file wide high plain_file plain_wide plain_high is =
     given_words line program file wide high plain_file plain_wide plain_high (subst (λ (l : List Text). IsAskedByWords l line) is asked)

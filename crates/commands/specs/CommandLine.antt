@@ -6,8 +6,8 @@ use Rattle.clap.specs.Words.{App, Row, Rule, Text, first_of, new_app, new_rule, 
 use Rattle.clap.specs.declared.builder.ArgAction.TheVariants.{Set}
 use Rattle.clap.specs.declared.builder.value_parser.ValueParser.TheVariants.{Signed}
 use Rattle.commands.specs.Sides.{HasSides}
-use Rattle.commands.specs.declared.asked.Line.{Line}
-use Rattle.commands.specs.declared.asked.Line.TheVariants.{Show}
+use Rattle.commands.specs.declared.asked.CommandLine.{CommandLine}
+use Rattle.commands.specs.declared.asked.CommandLine.TheVariants.{Show}
 
 -- FILE, which has to be given
 abbrev pub file_rule : Rule
@@ -48,11 +48,11 @@ pub record IsShow (met : Option (Text × List Row)) (name : Text) (width height 
   pub high : GivesNumber given (codes "H") height
 
 -- the command that was met is the line's, and was given what the line has
-abbrev pub IsAskedBy : Option (Text × List Row) → Line → Type 0
+abbrev pub IsAskedBy : Option (Text × List Row) → CommandLine → Type 0
 IsAskedBy met (Show file width height) = IsShow met file.now width height
 
 -- the line has what the words, the program's name first, give the command `show`
-abbrev pub IsAskedByWords : List Text → Line → Type 0
+abbrev pub IsAskedByWords : List Text → CommandLine → Type 0
 IsAskedByWords words line = IsAskedBy (subcommand_of metaplay_app words) line
 
 -- the word does not begin with a hyphen
@@ -67,11 +67,11 @@ pub record AreOfWords (file wide high : Text) (name : Text) (width height : ℕ)
   pub high_reads : height ≡ number_of high
 
 -- the line shows the file of this name at these texts' numbers
-abbrev pub HasWords : Text → Text → Text → Line → Type 0
+abbrev pub HasWords : Text → Text → Text → CommandLine → Type 0
 HasWords file wide high (Show name width height) = AreOfWords file wide high name.now width height
 
 -- where the words are five, the program's name, `show` and three that do not begin with a hyphen, the line has those three
-abbrev pub HasPlainWords : List Text → Line → Type 0
+abbrev pub HasPlainWords : List Text → CommandLine → Type 0
 HasPlainWords words line =
     (program file wide high : Text) → IsPlainWord file → IsPlainWord wide → IsPlainWord high
     → words ≡ program ∷ codes "show" ∷ file ∷ wide ∷ high ∷ [] → HasWords file wide high line
@@ -108,8 +108,8 @@ pub record AreRightWords (words : List Text) : Type 0 where
   pub high_side : IsSideText high
 
 -- it holds of a line that the words ask for, whose sides are sides of a surface
-pub record HoldsOfAsked (words : List Text) (holds : Line → Type 0) : Type 0 where
-  pub line : Line
+pub record HoldsOfAsked (words : List Text) (holds : CommandLine → Type 0) : Type 0 where
+  pub line : CommandLine
   pub sides : HasSides line
   pub asked : IsAskedByWords words line
   pub fact : holds line

@@ -6,8 +6,8 @@ use Rattle.commands.specs.CommandLine.{HoldsOfAsked}
 use Rattle.commands.specs.Report.{Reports, Told}
 use Rattle.commands.specs.Show.{ReportsRefusal, Shows, ShowsFront}
 use Rattle.commands.specs.Sides.{HoldsOfSome}
-use Rattle.commands.specs.declared.asked.Line.{Line}
-use Rattle.commands.specs.declared.asked.Line.TheVariants.{Show}
+use Rattle.commands.specs.declared.asked.CommandLine.{CommandLine}
+use Rattle.commands.specs.declared.asked.CommandLine.TheVariants.{Show}
 
 -- the word that names standard input in a file's place
 abbrev pub standard_input : List ℕ
@@ -47,15 +47,15 @@ FailsInput name input width height told old new before after =
     FailsToRead told old new before after ⊎ FailsToWrite name input width height told old new before after
 
 -- what the line asks for is done with its input
-abbrev pub Does : Line → Option (List ℕ) → Option (List ℕ) → Option (List ℕ) → Type 0
+abbrev pub Does : CommandLine → Option (List ℕ) → Option (List ℕ) → Option (List ℕ) → Type 0
 Does (Show file width height) input old new = ShowsInput file.now input width height old new
 
 -- its input is refused
-abbrev pub Refuses : Line → Option (List ℕ) → Told → Option (List ℕ) → Option (List ℕ) → Type 0
+abbrev pub Refuses : CommandLine → Option (List ℕ) → Told → Option (List ℕ) → Option (List ℕ) → Type 0
 Refuses (Show file width height) input told before after = RefusesInput file.now input width height told before after
 
 -- its input could not be read, or what it asks for not be written
-abbrev pub Fails : Line → Option (List ℕ) → Told → Option (List ℕ) → Option (List ℕ) → Option (List ℕ) → Option (List ℕ) → Type 0
+abbrev pub Fails : CommandLine → Option (List ℕ) → Told → Option (List ℕ) → Option (List ℕ) → Option (List ℕ) → Option (List ℕ) → Type 0
 Fails (Show file width height) input told old new before after = FailsInput file.now input width height told old new before after
 
 -- what the words ask for is done

@@ -1,11 +1,11 @@
 -- What a command line asks for.
 use Rattle.std.specs.Prelude.{ℕ, List}
 use Rattle.mapping.specs.Limits.{IsSurfaceSide}
-use Rattle.commands.specs.declared.asked.Line.{Line}
-use Rattle.commands.specs.declared.asked.Line.TheVariants.{Show}
+use Rattle.commands.specs.declared.asked.CommandLine.{CommandLine}
+use Rattle.commands.specs.declared.asked.CommandLine.TheVariants.{Show}
 
 -- the name of the file that a line asks for
-abbrev pub file_of : Line → List ℕ
+abbrev pub file_of : CommandLine → List ℕ
 file_of (Show file width height) = file.now
 
 -- a width and a height that a surface may have
@@ -14,11 +14,11 @@ pub record AreSides (width height : ℕ) : Type 0 where
   pub high : IsSurfaceSide height
 
 -- the sides that a line asks for are sides of a surface
-abbrev pub HasSides : Line → Type 0
+abbrev pub HasSides : CommandLine → Type 0
 HasSides (Show file width height) = AreSides width height
 
 -- it holds of some line whose sides are sides of a surface
-pub record HoldsOfSome (holds : Line → Type 0) : Type 0 where
-  pub line : Line
+pub record HoldsOfSome (holds : CommandLine → Type 0) : Type 0 where
+  pub line : CommandLine
   pub sides : HasSides line
   pub fact : holds line

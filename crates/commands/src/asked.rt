@@ -2,7 +2,7 @@
 
 /// A command with its words and numbers.
 #[derive(Clone, Copy, Debug, PartialEq, Eq)]
-pub enum Line<'a> {
+pub enum CommandLine<'a> {
     /// Show a file on a surface of these sides, in pixels.
     Show {
         file: &'a str,

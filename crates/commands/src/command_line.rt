@@ -8,7 +8,7 @@ ghost use Rattle.commands.specs.CommandLine.{IsAskedBy, IsAskedByWords, IsRightS
 ghost use Rattle.commands.specs.CommandLine.{file_rule, metaplay_app, side_rule};
 ghost use Rattle.commands.specs.Sides.{HasSides};
 
-use crate::asked::Line;
+use crate::asked::CommandLine;
 use clap::error::ErrorKind;
 use clap::{Arg, ArgAction, ArgMatches, Command, Error, value_parser};
 use mapping::MAX_SURFACE_SIDE;
@@ -16,7 +16,7 @@ use std::alloc::{AllocError, Global};
 
 /// What the words of a command line ask for, the program's name first, by `clap`'s walk over them.
 /// An error has the text that the user is shown, for asked-for help too.
-pub fn line<'a>(alloc: Global, words: &'a [String]) -> Result<Line<'a>, Error>
+pub fn line<'a>(alloc: Global, words: &'a [String]) -> Result<CommandLine<'a>, Error>
     ensures sides { IfOk result HasSides }
     ensures asked { IfOk result (IsAskedByWords (map string_bytes words.entry.now)) }
     ensures plain { IfOk result (HasPlainWords (map string_bytes words.entry.now)) }
@@ -70,7 +70,7 @@ fn side<'a>(alloc: Global, id: &'a str, help: &'a str) -> Arg<'a>
 }
 
 /// The command that was met, if its numbers are within their range.
-fn asked<'a>(matches: &ArgMatches<'a>) -> Option<Line<'a>>
+fn asked<'a>(matches: &ArgMatches<'a>) -> Option<CommandLine<'a>>
     ensures sides { IfSome result HasSides }
     ensures asked { IfSome result (IsAskedBy (subcommand_rows_of matches.now)) }
     ensures taken { IsRightShow (subcommand_rows_of matches.now) → IsSome result }
@@ -87,7 +87,7 @@ fn asked<'a>(matches: &ArgMatches<'a>) -> Option<Line<'a>>
     let Some(height) = side_of(shown, "H") else {
         return None;
     };
-    Some(Line::Show {
+    Some(CommandLine::Show {
         file,
         width,
         height,

@@ -27,7 +27,7 @@ mod show;
 mod status;
 
 pub use answer::Answer;
-pub use asked::Line;
+pub use asked::CommandLine;
 pub use command_line::line;
 pub use input::{InputFault, read_input};
 pub use program::{no_input, read_file, run, run_words, usage};

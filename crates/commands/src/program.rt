@@ -13,7 +13,7 @@ ghost use Rattle.commands.specs.Report.{Reports};
 ghost use Rattle.commands.specs.Sides.{HasSides, file_of};
 
 use crate::answer::Answer;
-use crate::asked::Line;
+use crate::asked::CommandLine;
 use crate::command_line::line;
 use crate::input::{InputFault, read_input};
 use crate::reporting::report;
@@ -91,7 +91,13 @@ where
 }
 
 /// Does what a line asks for.
-fn perform<R, I, O, E>(rt: &R, line: Line<'_>, input: &mut I, out: &mut O, err: &mut E) -> Answer
+fn perform<R, I, O, E>(
+    rt: &R,
+    line: CommandLine<'_>,
+    input: &mut I,
+    out: &mut O,
+    err: &mut E,
+) -> Answer
 where
     R: Files + AllocGlobal,
     I: Read,
@@ -110,7 +116,7 @@ where
     ensures unread { file_of line.entry ≢ standard_input → Keeps (I.remaining input.old) (I.remaining input.new) }
 {
     match line {
-        Line::Show {
+        CommandLine::Show {
             file,
             width,
             height,

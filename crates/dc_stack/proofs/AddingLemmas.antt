@@ -11,7 +11,7 @@ use Rattle.point_views.specs.PartedPoints.{parts_of}
 use Rattle.point_views.specs.Points.{points_of}
 use Rattle.draw_ops.specs.Operation.{Operation, polygon, polyline}
 use Rattle.dc_stack.specs.Adding.{Adds, AddsLists, HasNotAdded}
-use Rattle.dc_stack.specs.Drawing.{Drawing, drawing_now, drawing_of, edge_limit, joined, lists_painted}
+use Rattle.dc_stack.specs.Drawing.{Drawing, drawing_now, drawing_of, edge_limit, points_of_lists, lists_painted}
 use Rattle.dc_stack.specs.Figures.{Figures, points_gone_on}
 use Rattle.dc_stack.specs.GatheredPath.{WantsPieceRoom, after_lists, path_in}
 use Rattle.dc_stack.specs.MachineState.{IsUnchanged, MachineState, Plays}
@@ -35,13 +35,13 @@ use Rattle.dc_stack.proofs.AdditionLemmas.{no_polygons, no_polylines, one_piece,
 use Rattle.dc_stack.proofs.ListLemmas.{mapped_joined}
 
 -- points of the page are some on the plane, and none are none
-pub some_on_plane : (m : MapNumbers) (points : PiecePoints) → page_points points ≢ [] → joined (plane_lists m points) ≢ []
+pub some_on_plane : (m : MapNumbers) (points : PiecePoints) → page_points points ≢ [] → points_of_lists (plane_lists m points) ≢ []
 some_on_plane m (OnePoint point) h = λ e. cc
 some_on_plane m (OneList points) h = λ e. some_mapped m (page_points (OneList points)) h (sym (mapped_joined m (points_of points ∷ [])) ∙ e)
 some_on_plane m (Lists parted) h = λ e. some_mapped m (page_points (Lists parted)) h (sym (mapped_joined m (parts_of parted)) ∙ e)
 some_on_plane m (Corners corners) h = λ e. cc
 
-pub none_on_plane : (m : MapNumbers) (points : PiecePoints) → page_points points ≡ [] → joined (plane_lists m points) ≡ []
+pub none_on_plane : (m : MapNumbers) (points : PiecePoints) → page_points points ≡ [] → points_of_lists (plane_lists m points) ≡ []
 none_on_plane m (OnePoint point) h = cc
 none_on_plane m (OneList points) h = mapped_joined m (points_of points ∷ []) ∙ ap (mapped_list m) h
 none_on_plane m (Lists parted) h = mapped_joined m (parts_of parted) ∙ ap (mapped_list m) h
@@ -57,12 +57,12 @@ nothing_gone_on start (open_path figures n) =
     same_open _ figures n (n + 0) (ap (λ (points : List Point). record { done = figures.done; current = points }) (append-nil figures.current)) (omega arith)
 nothing_gone_on start (finished_path figures) = refl
 
-unchanged_lists : (joining : Joining) (lists : List (List Point)) (f : Figures) → joining ≢ GoesOn → joined lists ≡ [] → with_lists joining lists f ≡ f
+unchanged_lists : (joining : Joining) (lists : List (List Point)) (f : Figures) → joining ≢ GoesOn → points_of_lists lists ≡ [] → with_lists joining lists f ≡ f
 unchanged_lists GoesOn lists f own h = absurd (own refl)
 unchanged_lists Polylines lists f own h = no_polylines lists f h
 unchanged_lists Polygons lists f own h = no_polygons lists f h
 
-pub nothing_listed : (joining : Joining) (lists : List (List Point)) (path : Path) → joining ≢ GoesOn → joined lists ≡ [] → after_lists joining lists path ≡ path
+pub nothing_listed : (joining : Joining) (lists : List (List Point)) (path : Path) → joining ≢ GoesOn → points_of_lists lists ≡ [] → after_lists joining lists path ≡ path
 nothing_listed joining lists no_path own h = refl
 nothing_listed joining lists (open_path figures n) own h =
     same_open (with_lists joining lists figures) figures n _ (unchanged_lists joining lists figures own h) (rw h (omega arith))
@@ -88,9 +88,9 @@ lines_add start (p ∷ ps) (open_path figures n) at some = by_current figures.cu
     by_current (q ∷ qs) = omega arith
 lines_add start points (finished_path figures) at some = cc
 
-pub lists_count : (joining : Joining) (lists : List (List Point)) (path : Path) → is_open path ≡ true → joined lists ≢ [] → piece_count (after_lists joining lists path) ≡ piece_count path + 1
+pub lists_count : (joining : Joining) (lists : List (List Point)) (path : Path) → is_open path ≡ true → points_of_lists lists ≢ [] → piece_count (after_lists joining lists path) ≡ piece_count path + 1
 lists_count joining lists no_path at some = cc
-lists_count joining lists (open_path figures n) at some = ap (λ (k : ℕ). n + k) (one_piece (joined lists) some)
+lists_count joining lists (open_path figures n) at some = ap (λ (k : ℕ). n + k) (one_piece (points_of_lists lists) some)
 lists_count joining lists (finished_path figures) at some = cc
 
 -- a refused addition, where room that is wanted is for pieces that are added
@@ -157,26 +157,26 @@ plays_added operation after points position old (Err e) new state needs drawing 
 }
 
 -- so are lists
-module _ (old new : MachineState) (at : is_open old.state.path ≡ true) (points : PiecePoints) (lists : List (List Point)) (plane : plane_lists old.state.dc.map points ≡ mapped_lists old.state.dc.map lists) (page : page_points points ≡ joined lists) (result : Result (Option Draw) Fault) where
-  same_points : mapped_list old.state.dc.map (page_points points) ≡ joined (mapped_lists old.state.dc.map lists)
+module _ (old new : MachineState) (at : is_open old.state.path ≡ true) (points : PiecePoints) (lists : List (List Point)) (plane : plane_lists old.state.dc.map points ≡ mapped_lists old.state.dc.map lists) (page : page_points points ≡ points_of_lists lists) (result : Result (Option Draw) Fault) where
+  same_points : mapped_list old.state.dc.map (page_points points) ≡ points_of_lists (mapped_lists old.state.dc.map lists)
   same_points = ap (mapped_list old.state.dc.map) page ∙ sym (mapped_joined old.state.dc.map lists)
 
   pub plays_polylines : AddsLists Polylines points old result new → Plays (polyline lists) old result new
   plays_polylines h =
       let on_plane = mapped_lists old.state.dc.map lists in
       let after = after_polylines on_plane old.state.path in
-      plays_added (polyline lists) after (joined on_plane) old.state.dc.position old result new refl
+      plays_added (polyline lists) after (points_of_lists on_plane) old.state.dc.position old result new refl
       (rw (nothing_drawn old.state.path at (drawing_now (lists_painted Stroke on_plane) old.state)) refl)
       (nothing_drawn old.state.path at (drawing_now (lists_painted Stroke on_plane) old.state))
-      (added_fault old.state.path at (piece_count after) (joined on_plane) (drawing_now (lists_painted Stroke on_plane) old.state) old.surface)
+      (added_fault old.state.path at (piece_count after) (points_of_lists on_plane) (drawing_now (lists_painted Stroke on_plane) old.state) old.surface)
       (rw (plane, same_points) at h)
 
   pub plays_polygons : AddsLists Polygons points old result new → Plays (polygon lists) old result new
   plays_polygons h =
       let on_plane = mapped_lists old.state.dc.map lists in
       let after = after_polygons on_plane old.state.path in
-      plays_added (polygon lists) after (joined on_plane) old.state.dc.position old result new refl
+      plays_added (polygon lists) after (points_of_lists on_plane) old.state.dc.position old result new refl
       (rw (nothing_drawn old.state.path at (drawing_now (lists_painted StrokeAndFill on_plane) old.state)) refl)
       (nothing_drawn old.state.path at (drawing_now (lists_painted StrokeAndFill on_plane) old.state))
-      (added_fault old.state.path at (piece_count after) (joined on_plane) (drawing_now (lists_painted StrokeAndFill on_plane) old.state) old.surface)
+      (added_fault old.state.path at (piece_count after) (points_of_lists on_plane) (drawing_now (lists_painted StrokeAndFill on_plane) old.state) old.surface)
       (rw (plane, same_points) at h)

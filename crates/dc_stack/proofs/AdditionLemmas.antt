@@ -9,7 +9,7 @@ use Rattle.mapping.specs.Surface.{Surface}
 use Rattle.mapping.specs.declared.geometry.Point.{Point}
 use Rattle.mapping.specs.declared.page_map.PageMap.{PageMap}
 use Rattle.draw_ops.specs.declared.fault.Fault.{Fault}
-use Rattle.dc_stack.specs.Drawing.{joined}
+use Rattle.dc_stack.specs.Drawing.{points_of_lists}
 use Rattle.dc_stack.specs.Figures.{Figures, no_figures, points_gone_on, with_polygon, with_polygons, with_polyline, with_polylines}
 use Rattle.dc_stack.specs.GatheredPath.{AnswersAddition, IsGathered, addition_fault, after_lists, is_open_phase, open_piece, path_in, path_of, phase_behind}
 use Rattle.dc_stack.specs.Mapped.{mapped_list, mapped_point}
@@ -80,15 +80,15 @@ no_polygon : (list : List Point) (f : Figures) → list ≡ [] → with_polygon 
 no_polygon [] f h = refl
 no_polygon (p ∷ ps) f h = cc
 
-pub no_polylines : (lists : List (List Point)) (f : Figures) → joined lists ≡ [] → with_polylines lists f ≡ f
+pub no_polylines : (lists : List (List Point)) (f : Figures) → points_of_lists lists ≡ [] → with_polylines lists f ≡ f
 no_polylines [] f h = refl
 no_polylines (list ∷ lists) f h =
-    ap (with_polylines lists) (no_polyline list f (first_empty list (joined lists) h)) ∙ no_polylines lists f (rest_empty list (joined lists) h)
+    ap (with_polylines lists) (no_polyline list f (first_empty list (points_of_lists lists) h)) ∙ no_polylines lists f (rest_empty list (points_of_lists lists) h)
 
-pub no_polygons : (lists : List (List Point)) (f : Figures) → joined lists ≡ [] → with_polygons lists f ≡ f
+pub no_polygons : (lists : List (List Point)) (f : Figures) → points_of_lists lists ≡ [] → with_polygons lists f ≡ f
 no_polygons [] f h = refl
 no_polygons (list ∷ lists) f h =
-    ap (with_polygons lists) (no_polygon list f (first_empty list (joined lists) h)) ∙ no_polygons lists f (rest_empty list (joined lists) h)
+    ap (with_polygons lists) (no_polygon list f (first_empty list (points_of_lists lists) h)) ∙ no_polygons lists f (rest_empty list (points_of_lists lists) h)
 
 -- there are points, or none
 some_or_none : (points : List Point) → (points ≡ []) ⊎ (points ≢ [])
@@ -103,11 +103,11 @@ polyline_opens (p ∷ ps) f h = λ e. cc
 list_has : (list rest : List Point) → list ++ rest ≢ [] → rest ≡ [] → list ≢ []
 list_has list rest h none = λ e. h (ap (λ (ps : List Point). ps ++ rest) e ∙ none)
 
-polylines_open : (lists : List (List Point)) (f : Figures) → joined lists ≢ [] → (with_polylines lists f).current ≢ []
+polylines_open : (lists : List (List Point)) (f : Figures) → points_of_lists lists ≢ [] → (with_polylines lists f).current ≢ []
 polylines_open [] f h = λ e. h refl
-polylines_open (list ∷ lists) f h = elim (some_or_none (joined lists)) [
+polylines_open (list ∷ lists) f h = elim (some_or_none (points_of_lists lists)) [
   | inl none ↦
-      let opens = polyline_opens list f (list_has list (joined lists) h none) in
+      let opens = polyline_opens list f (list_has list (points_of_lists lists) h none) in
       subst (λ (g : Figures). g.current ≢ []) (sym (no_polylines lists (with_polyline list f) none)) opens
   | inr some ↦ polylines_open lists (with_polyline list f) some
 ]
@@ -117,12 +117,12 @@ polygon_closes : (list : List Point) (f : Figures) → list ≢ [] → (with_pol
 polygon_closes [] f h = absurd (h refl)
 polygon_closes (p ∷ ps) f h = refl
 
-polygons_close : (lists : List (List Point)) (f : Figures) → joined lists ≢ [] → (with_polygons lists f).current ≡ []
+polygons_close : (lists : List (List Point)) (f : Figures) → points_of_lists lists ≢ [] → (with_polygons lists f).current ≡ []
 polygons_close [] f h = absurd (h refl)
-polygons_close (list ∷ lists) f h = elim (some_or_none (joined lists)) [
+polygons_close (list ∷ lists) f h = elim (some_or_none (points_of_lists lists)) [
   | inl none ↦
       ap (λ (g : Figures). g.current) (no_polygons lists (with_polygon list f) none)
-      ∙ polygon_closes list f (list_has list (joined lists) h none)
+      ∙ polygon_closes list f (list_has list (points_of_lists lists) h none)
   | inr some ↦ polygons_close lists (with_polygon list f) some
 ]
 
@@ -130,12 +130,12 @@ polygons_close (list ∷ lists) f h = elim (some_or_none (joined lists)) [
 goes_on_open : (points : List Point) (f : Figures) → points ≢ [] → (gone_on points f).current ≢ []
 goes_on_open points f h = λ e. h (rest_empty f.current points e)
 
-pub leaves_open : (joining : Joining) (lists : List (List Point)) (f : Figures) → joined lists ≢ [] → phase_behind joining ≡ InFigure → (with_lists joining lists f).current ≢ []
-leaves_open GoesOn lists f h e = goes_on_open (joined lists) f h
+pub leaves_open : (joining : Joining) (lists : List (List Point)) (f : Figures) → points_of_lists lists ≢ [] → phase_behind joining ≡ InFigure → (with_lists joining lists f).current ≢ []
+leaves_open GoesOn lists f h e = goes_on_open (points_of_lists lists) f h
 leaves_open Polylines lists f h e = polylines_open lists f h
 leaves_open Polygons lists f h e = cc
 
-pub leaves_none : (joining : Joining) (lists : List (List Point)) (f : Figures) → joined lists ≢ [] → phase_behind joining ≡ BetweenFigures → (with_lists joining lists f).current ≡ []
+pub leaves_none : (joining : Joining) (lists : List (List Point)) (f : Figures) → points_of_lists lists ≢ [] → phase_behind joining ≡ BetweenFigures → (with_lists joining lists f).current ≡ []
 leaves_none GoesOn lists f h e = cc
 leaves_none Polylines lists f h e = cc
 leaves_none Polygons lists f h e = polygons_close lists f h
@@ -208,7 +208,7 @@ pub figures_behind : (pieces : List Piece) (piece : Piece) → figures_of (piece
 figures_behind pieces piece = piece_behind pieces piece no_figures
 
 -- a path with a piece of lists more
-module _ (old new : GatheredPath) (piece : Piece) (items : new.pieces.items ≡ old.pieces.items ++ piece ∷ []) (phase : new.phase ≡ phase_behind piece.joining) (some : joined (plane_lists (map_numbers piece.map) piece.points) ≢ []) (stays : piece.end ≡ Open) where
+module _ (old new : GatheredPath) (piece : Piece) (items : new.pieces.items ≡ old.pieces.items ++ piece ∷ []) (phase : new.phase ≡ phase_behind piece.joining) (some : points_of_lists (plane_lists (map_numbers piece.map) piece.points) ≢ []) (stays : piece.end ≡ Open) where
   pub figures_with : figures_of new.pieces.items ≡ with_lists piece.joining (plane_lists (map_numbers piece.map) piece.points) (figures_of old.pieces.items)
   figures_with =
       ap figures_of items ∙ figures_behind old.pieces.items piece
@@ -227,7 +227,7 @@ module _ (old new : GatheredPath) (piece : Piece) (items : new.pieces.items ≡ 
   path_with begun =
       let lists = plane_lists (map_numbers piece.map) piece.points in
       path_now
-      ∙ ap (λ (n : ℕ). open_path (with_lists piece.joining lists (figures_of old.pieces.items)) (length old.pieces.items + n)) (sym (one_piece (joined lists) some))
+      ∙ ap (λ (n : ℕ). open_path (with_lists piece.joining lists (figures_of old.pieces.items)) (length old.pieces.items + n)) (sym (one_piece (points_of_lists lists) some))
       ∙ ap (after_lists piece.joining lists) (sym (opened old.phase old.pieces.items begun))
 
   pub gathered_with : length new.pieces.items ≤ piece_limit → IsGathered new
@@ -240,7 +240,7 @@ module _ (old new : GatheredPath) (piece : Piece) (items : new.pieces.items ≡ 
       }
 
 -- lines through points of the page, of which there is one
-module _ (old new : GatheredPath) (start : Point) (points : PiecePoints) (map : PageMap) (some : page_points points ≢ []) (same : joined (plane_lists (map_numbers map) points) ≡ mapped_list (map_numbers map) (page_points points)) (whole : IsGathered old) where
+module _ (old new : GatheredPath) (start : Point) (points : PiecePoints) (map : PageMap) (some : page_points points ≢ []) (same : points_of_lists (plane_lists (map_numbers map) points) ≡ mapped_list (map_numbers map) (page_points points)) (whole : IsGathered old) where
   abbrev through : List Point
   through = mapped_list (map_numbers map) (page_points points)
 
@@ -253,7 +253,7 @@ module _ (old new : GatheredPath) (start : Point) (points : PiecePoints) (map : 
   some_through : through ≢ []
   some_through = some_mapped (map_numbers map) (page_points points) some
 
-  some_joined : joined (plane_lists (map_numbers map) points) ≢ []
+  some_joined : points_of_lists (plane_lists (map_numbers map) points) ≢ []
   some_joined = λ e. some_through (sym same ∙ e)
 
   within : old.phase ≡ InFigure → path_of old ≡ open_path before count

@@ -6,7 +6,7 @@ use Rattle.std.proofs.lemmas.List.Elements.{All-cons, All-head, All-nil, All-tai
 use Rattle.std.specs.List.{All, flat_map}
 use Rattle.mapping.specs.PageMap.{map_numbers}
 use Rattle.mapping.specs.declared.geometry.Point.{Point}
-use Rattle.dc_stack.specs.Drawing.{joined}
+use Rattle.dc_stack.specs.Drawing.{points_of_lists}
 use Rattle.dc_stack.specs.Figures.{Figure, Figures, all_figures, figure_of, no_figures, points_of_figures, with_current_done, with_polygon, with_polygons, with_polyline, with_polylines}
 use Rattle.dc_stack.specs.GatheredPath.{gathered_points}
 use Rattle.dc_stack.specs.Pieces.{figures_of, gone_on, plane_lists, with_end, with_lists, with_piece, with_pieces}
@@ -92,31 +92,31 @@ polygon_points (p ∷ ps) f =
     ∙ ap (λ (ps : List Point). points_of_figures (all_figures f) ++ ps) (figure_points true (p ∷ ps))
 
 -- list by list
-one_more : (all list : List Point) (lists : List (List Point)) → (all ++ list) ++ joined lists ≡ all ++ joined (list ∷ lists)
-one_more all list lists = append_assoc all list (joined lists)
+one_more : (all list : List Point) (lists : List (List Point)) → (all ++ list) ++ points_of_lists lists ≡ all ++ points_of_lists (list ∷ lists)
+one_more all list lists = append_assoc all list (points_of_lists lists)
 
-polylines_points : (lists : List (List Point)) (f : Figures) → points_of_figures (all_figures (with_polylines lists f)) ≡ points_of_figures (all_figures f) ++ joined lists
+polylines_points : (lists : List (List Point)) (f : Figures) → points_of_figures (all_figures (with_polylines lists f)) ≡ points_of_figures (all_figures f) ++ points_of_lists lists
 polylines_points [] f = sym (append-nil (points_of_figures (all_figures f)))
 polylines_points (list ∷ lists) f =
     polylines_points lists (with_polyline list f)
-    ∙ ap (λ (ps : List Point). ps ++ joined lists) (polyline_points list f)
+    ∙ ap (λ (ps : List Point). ps ++ points_of_lists lists) (polyline_points list f)
     ∙ one_more (points_of_figures (all_figures f)) list lists
 
-polygons_points : (lists : List (List Point)) (f : Figures) → points_of_figures (all_figures (with_polygons lists f)) ≡ points_of_figures (all_figures f) ++ joined lists
+polygons_points : (lists : List (List Point)) (f : Figures) → points_of_figures (all_figures (with_polygons lists f)) ≡ points_of_figures (all_figures f) ++ points_of_lists lists
 polygons_points [] f = sym (append-nil (points_of_figures (all_figures f)))
 polygons_points (list ∷ lists) f =
     polygons_points lists (with_polygon list f)
-    ∙ ap (λ (ps : List Point). ps ++ joined lists) (polygon_points list f)
+    ∙ ap (λ (ps : List Point). ps ++ points_of_lists lists) (polygon_points list f)
     ∙ one_more (points_of_figures (all_figures f)) list lists
 
-lists_points : (joining : Joining) (lists : List (List Point)) (f : Figures) → points_of_figures (all_figures (with_lists joining lists f)) ≡ points_of_figures (all_figures f) ++ joined lists
-lists_points GoesOn lists f = gone_on_points (joined lists) f
+lists_points : (joining : Joining) (lists : List (List Point)) (f : Figures) → points_of_figures (all_figures (with_lists joining lists f)) ≡ points_of_figures (all_figures f) ++ points_of_lists lists
+lists_points GoesOn lists f = gone_on_points (points_of_lists lists) f
 lists_points Polylines lists f = polylines_points lists f
 lists_points Polygons lists f = polygons_points lists f
 
 -- piece by piece
 abbrev pub plane_points : Piece → List Point
-plane_points piece = joined (plane_lists (map_numbers piece.map) piece.points)
+plane_points piece = points_of_lists (plane_lists (map_numbers piece.map) piece.points)
 
 points_with : (piece : Piece) (f : Figures) → points_of_figures (all_figures (with_piece piece f)) ≡ points_of_figures (all_figures f) ++ plane_points piece
 points_with piece f =

@@ -11,7 +11,7 @@ use Rattle.mapping.specs.Surface.{Surface, lands_within_limits}
 use Rattle.mapping.specs.declared.geometry.Point.{Point}
 use Rattle.draw_ops.specs.declared.fault.Fault.{Fault}
 use Rattle.draw_ops.specs.declared.fault.Fault.TheVariants.{TooManyEdges}
-use Rattle.dc_stack.specs.Drawing.{edge_limit, going_on, joined}
+use Rattle.dc_stack.specs.Drawing.{edge_limit, going_on, points_of_lists}
 use Rattle.dc_stack.specs.Figures.{Figure, figures_of_lists, points_of_figures}
 use Rattle.dc_stack.specs.Mapped.{mapped_list, mapped_lists, mapped_point}
 use Rattle.dc_stack.specs.Next.{end_of}
@@ -23,12 +23,12 @@ mapped_append : (m : MapNumbers) (ps qs : List Point) → mapped_list m (ps ++ q
 mapped_append m [] qs = refl
 mapped_append m (p ∷ ps) qs = ap (λ rest. mapped_point m p ∷ rest) (mapped_append m ps qs)
 
-pub mapped_joined : (m : MapNumbers) (lists : List (List Point)) → joined (mapped_lists m lists) ≡ mapped_list m (joined lists)
+pub mapped_joined : (m : MapNumbers) (lists : List (List Point)) → points_of_lists (mapped_lists m lists) ≡ mapped_list m (points_of_lists lists)
 mapped_joined m [] = refl
-mapped_joined m (list ∷ lists) = rw (mapped_joined m lists) (sym (mapped_append m list (joined lists)))
+mapped_joined m (list ∷ lists) = rw (mapped_joined m lists) (sym (mapped_append m list (points_of_lists lists)))
 
 -- the points of all lists, on the plane
-pub points_mapped : (m : MapNumbers) (points : List Point) (lists : List (List Point)) → points ≡ joined lists → mapped_list m points ≡ joined (mapped_lists m lists)
+pub points_mapped : (m : MapNumbers) (points : List Point) (lists : List (List Point)) → points ≡ points_of_lists lists → mapped_list m points ≡ points_of_lists (mapped_lists m lists)
 points_mapped m points lists h = ap (mapped_list m) h ∙ sym (mapped_joined m lists)
 
 -- lines that go on through points have these, and the one where they begin
@@ -37,20 +37,20 @@ through m start [] h = absurd (omega arith)
 through m start (p ∷ ps) h = refl
 
 -- the points of figures through lists are those of the lists
-pub points_listed : (lists : List (List Point)) → points_of_figures (figures_of_lists lists) ≡ joined lists
+pub points_listed : (lists : List (List Point)) → points_of_figures (figures_of_lists lists) ≡ points_of_lists lists
 points_listed lists = flat_map-map (λ (figure : Figure). figure.points) (λ (points : List Point). record { points = points; is_closed = false }) lists
 
-pub joined_one : (points : List Point) → joined (points ∷ []) ≡ points
+pub joined_one : (points : List Point) → points_of_lists (points ∷ []) ≡ points
 joined_one points = append-nil points
 
-pub through_joined : (m : MapNumbers) (start : Point) (points : List Point) → 0 < length points → joined (mapped_lists m (going_on start points)) ≡ mapped_list m (start ∷ points)
-through_joined m start points h = ap joined (through m start points h) ∙ joined_one (mapped_list m (start ∷ points))
+pub through_joined : (m : MapNumbers) (start : Point) (points : List Point) → 0 < length points → points_of_lists (mapped_lists m (going_on start points)) ≡ mapped_list m (start ∷ points)
+through_joined m start points h = ap points_of_lists (through m start points h) ∙ joined_one (mapped_list m (start ∷ points))
 
 -- so they have the same fault, and are so many
-pub through_fault : (m : MapNumbers) (start : Point) (points : List Point) (s : Surface) → 0 < length points → points_fault (joined (mapped_lists m (going_on start points))) s ≡ points_fault (mapped_list m (start ∷ points)) s
+pub through_fault : (m : MapNumbers) (start : Point) (points : List Point) (s : Surface) → 0 < length points → points_fault (points_of_lists (mapped_lists m (going_on start points))) s ≡ points_fault (mapped_list m (start ∷ points)) s
 through_fault m start points s h = ap (λ ps. points_fault ps s) (through_joined m start points h)
 
-pub through_count : (m : MapNumbers) (start : Point) (points : List Point) → 0 < length points → suc (length points) ≡ length (joined (mapped_lists m (going_on start points)))
+pub through_count : (m : MapNumbers) (start : Point) (points : List Point) → 0 < length points → suc (length points) ≡ length (points_of_lists (mapped_lists m (going_on start points)))
 through_count m start points h = sym (ap length (through_joined m start points h) ∙ length-map (start ∷ points) (mapped_point m))
 
 -- more points than one drawing may have, or no more
@@ -93,11 +93,11 @@ has_points [] test tells h = absurd (false≢true (sym h ∙ tells.1 refl))
 has_points (p ∷ ps) test tells h = omega arith
 
 -- the points of one list land, where they have no fault
-pub one_list_lands : (points : List Point) (s : Surface) → None ≡ points_fault points s → list_all (λ p. lands_within_limits p s) (joined (points ∷ [])) ≡ true
+pub one_list_lands : (points : List Point) (s : Surface) → None ≡ points_fault points s → list_all (λ p. lands_within_limits p s) (points_of_lists (points ∷ [])) ≡ true
 one_list_lands points s h = rw (joined_one points) (all_land s points (none_off_plane points s h))
 
 -- and there are at most so many in it
-pub one_list_few : (points : List Point) (s : Surface) → None ≡ points_fault points s → length (joined (points ∷ [])) ≤ edge_limit
+pub one_list_few : (points : List Point) (s : Surface) → None ≡ points_fault points s → length (points_of_lists (points ∷ [])) ≤ edge_limit
 one_list_few points s h = rw (joined_one points) (few_points points s h)
 
 -- the last point

@@ -16,7 +16,7 @@ use Rattle.draw_ops.specs.declared.fault.Fault.{Fault}
 use Rattle.draw_ops.specs.declared.fault.Fault.TheVariants.{TooManyEdges}
 use Rattle.point_views.specs.PartedPoints.{parts_of}
 use Rattle.point_views.specs.Points.{points_of}
-use Rattle.dc_stack.specs.Drawing.{drawing_of, edge_limit, figures_painted, joined, tools_of}
+use Rattle.dc_stack.specs.Drawing.{drawing_of, edge_limit, figures_painted, points_of_lists, tools_of}
 use Rattle.dc_stack.specs.Figures.{Figure, all_figures, box_corners, points_of_figures}
 use Rattle.dc_stack.specs.GatheredPath.{gathered_points}
 use Rattle.dc_stack.specs.MachineState.{HasPlayed, IsUnchanged, HasRefused, MachineState, painting_operation}
@@ -124,7 +124,7 @@ module _ (s : Surface) where
       (all_of right_bottom_corner (left_bottom_corner ∷ []) (both_land box.r box.b r b)
       (all_of left_bottom_corner [] (both_land box.l box.b l b) refl)))
 
-  points_land : (m : MapNumbers) (points : PiecePoints) → all_lands (mapped_list m (page_points points)) ≡ true → all_lands (joined (plane_lists m points)) ≡ true
+  points_land : (m : MapNumbers) (points : PiecePoints) → all_lands (mapped_list m (page_points points)) ≡ true → all_lands (points_of_lists (plane_lists m points)) ≡ true
   points_land m (OnePoint point) h = h
   points_land m (OneList points) h = ap all_lands (mapped_joined m (points_of points ∷ [])) ∙ h
   points_land m (Lists parted) h = ap all_lands (mapped_joined m (parts_of parted)) ∙ h

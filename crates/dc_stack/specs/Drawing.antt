@@ -113,8 +113,8 @@ drawing_of stroke_path state = painting_now Stroke state
 drawing_of stroke_and_fill_path state = painting_now StrokeAndFill state
 
 -- the points of some lists, one list's after another's
-abbrev pub joined : List (List Point) → List Point
-joined lists = flat_map (λ list. list) lists
+abbrev pub points_of_lists : List (List Point) → List Point
+points_of_lists lists = flat_map (λ list. list) lists
 
 -- the points of a mark: of a rectangle and of a blit's box the two corners
 abbrev pub mark_points : MarkValue → List Point

@@ -8,7 +8,7 @@ use Rattle.mapping.specs.declared.geometry.Point.{Point}
 use Rattle.mapping.specs.declared.page_map.PageMap.{PageMap}
 use Rattle.draw_ops.specs.declared.fault.Fault.{Fault}
 use Rattle.draw_ops.specs.declared.fault.Fault.TheVariants.{OutOfMemory}
-use Rattle.dc_stack.specs.Drawing.{joined}
+use Rattle.dc_stack.specs.Drawing.{points_of_lists}
 use Rattle.dc_stack.specs.Figures.{all_figures, points_gone_on, points_of_figures}
 use Rattle.dc_stack.specs.Mapped.{mapped_list, mapped_point}
 use Rattle.dc_stack.specs.OperationFault.{off_plane_fault}
@@ -104,7 +104,7 @@ AnswersAddition (Err fault) first Lacks = (first ≡ Some fault) ⊎ WantsPieceR
 
 -- what lists that are figures of their own do to a path: lines of one list go on with it
 abbrev pub after_lists : Joining → List (List Point) → Path → Path
-after_lists joining lists path = with_figures (with_lists joining lists) (λ figures. piece_for (joined lists)) path
+after_lists joining lists path = with_figures (with_lists joining lists) (λ figures. piece_for (points_of_lists lists)) path
 
 -- the answer to lines from a position through points of the page
 abbrev pub AnswersLines : MapNumbers → Point → List Point → GatheredPath → Surface → Result ⊤ Fault → Type 0

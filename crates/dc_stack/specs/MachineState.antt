@@ -29,6 +29,10 @@ pub record Room : Type 0 where
   pub slots : ℕ
   pub pieces : ℕ
 
+-- there is less room for saved states than so many, or for objects below this index, or for so many pieces
+abbrev pub LacksRoom : Room → ℕ → ℕ → ℕ → Type 0
+LacksRoom room depth slots pieces = room.depth < depth ⊎ (room.slots < slots ⊎ room.pieces < pieces)
+
 -- The state that is played, the pieces of the path that the last accepted step painted, the surface that it is played on, the greatest needs so
 -- far, and the room.
 pub record MachineState : Type 0 where

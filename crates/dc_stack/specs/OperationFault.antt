@@ -14,7 +14,7 @@ use Rattle.object_tables.specs.Table.{create_fault}
 use Rattle.raster_ops.specs.Sources.{is_inside}
 use Rattle.raster_ops.specs.TernaryOps.{uses_source}
 use Rattle.dc_stack.specs.Clip.{ClipValue, cut_limit}
-use Rattle.dc_stack.specs.Drawing.{Drawing, drawing_edges, drawing_of, drawing_points, edge_limit, joined}
+use Rattle.dc_stack.specs.Drawing.{Drawing, drawing_edges, drawing_of, drawing_points, edge_limit, points_of_lists}
 use Rattle.dc_stack.specs.Figures.{points_gone_on}
 use Rattle.dc_stack.specs.Mapped.{mapped_corners, mapped_list, mapped_lists, mapped_point}
 use Rattle.dc_stack.specs.Next.{next}
@@ -107,7 +107,7 @@ line_points_added points state =
 
 -- those that lists do
 abbrev list_points_added : List (List Point) → State → List Point
-list_points_added lists state = points_if_open state.path (λ figures. joined (mapped_lists state.dc.map lists))
+list_points_added lists state = points_if_open state.path (λ figures. points_of_lists (mapped_lists state.dc.map lists))
 
 -- the corners of a rectangle that is added
 abbrev corners_added : Rect → State → List Point

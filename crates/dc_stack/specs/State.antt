@@ -1,5 +1,5 @@
 -- The playing state ([MS-WMF] 3.1.5, [MS-EMF] 3.1.1).
-use Rattle.std.specs.Prelude.{ℕ, pos, List, [], Option, Some, None}
+use Rattle.std.specs.Prelude.{ℕ, pos, List, [], Option, None}
 use Rattle.mapping.specs.declared.geometry.Point.{Point}
 use Rattle.mapping.specs.Colours.{black_colour, white_colour}
 use Rattle.mapping.specs.Plane.{MapNumbers}
@@ -11,7 +11,7 @@ use Rattle.draw_ops.specs.declared.settings.FillMode.TheVariants.{Alternate}
 use Rattle.draw_ops.specs.Objects.{BrushValue, solid_brush}
 use Rattle.meta_headers.specs.Headers.{OpenedValue}
 use Rattle.object_tables.specs.Slots.{Slots}
-use Rattle.object_tables.specs.Table.{TableKind, by_given_index, by_lowest_free}
+use Rattle.object_tables.specs.Table.{TableKind, table_kind_of}
 use Rattle.dc_stack.specs.Clip.{ClipValue, unclipped}
 use Rattle.dc_stack.specs.Path.{Path, no_path}
 use Rattle.dc_stack.specs.declared.modes.Modes.{Modes}
@@ -77,11 +77,6 @@ start_dc map = record {
 -- the state before the first record of a file that starts with this map, and whose objects get their indexes so
 abbrev pub start_state : MapNumbers → TableKind → State
 start_state map kind = record { dc = start_dc map; slots = []; table_kind = kind; saved = []; path = no_path }
-
--- objects get the least free index, unless the file says how many indexes there are
-abbrev pub table_kind_of : Option ℕ → TableKind
-table_kind_of None = by_lowest_free
-table_kind_of (Some handles) = by_given_index handles
 
 -- the state before the first record of an opened file
 abbrev pub start_of : OpenedValue → State

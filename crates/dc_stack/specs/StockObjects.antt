@@ -2,7 +2,7 @@
 use Rattle.std.specs.Prelude.{ℕ, Bool, List, [], ◌∷◌, Option, nat_le}
 use Rattle.mapping.specs.declared.geometry.Colour.{Colour}
 use Rattle.mapping.specs.Colours.{black_colour, white_colour}
-use Rattle.draw_ops.specs.KindTable.{row_of}
+use Rattle.draw_ops.specs.KindTable.{row_with}
 use Rattle.draw_ops.specs.Objects.{ObjectValue, brush_object, font_object, null_brush, palette_object, pen_object, solid_brush}
 use Rattle.draw_ops.specs.declared.objects.Pen.TheVariants.{Null, Solid}
 
@@ -44,4 +44,4 @@ stock_objects =
 
 -- the stock object with this index, if there is one
 abbrev pub stock_object : ℕ → Option ObjectValue
-stock_object index = row_of stock_objects index
+stock_object index = row_with stock_objects index

@@ -2,7 +2,7 @@
 
 ghost use Rattle.std.specs.Prelude.{◌≡◌, ◌<◌, ◌≤◌, length, IfSome, IfNone};
 ghost use Rattle.mapping.specs.PageMap.{map_numbers};
-ghost use Rattle.dc_stack.specs.Drawing.{edge_limit, joined};
+ghost use Rattle.dc_stack.specs.Drawing.{edge_limit, points_of_lists};
 ghost use Rattle.dc_stack.specs.GatheredPath.{gathered_points};
 ghost use Rattle.dc_stack.specs.Pieces.{plane_lists};
 
@@ -32,7 +32,7 @@ impl<'a> GatheredPath<'a> {
 
 /// How many points a piece adds.
 fn count_of(piece: &Piece<'_>) -> usize
-    ensures { result ≡ length (joined (plane_lists (map_numbers piece.now.map) piece.now.points)) }
+    ensures { result ≡ length (points_of_lists (plane_lists (map_numbers piece.now.map) piece.now.points)) }
 {
     match piece.points {
         PiecePoints::Point(_) => 1,

@@ -4,7 +4,7 @@ ghost use Rattle.std.specs.Prelude.{◌≡◌, ◌≢◌, ◌+◌, ◌<◌, ◌�
 ghost use Rattle.mapping.specs.PageMap.{map_numbers};
 ghost use Rattle.mapping.specs.PlaceOf.{surface_of};
 ghost use Rattle.mapping.specs.declared.geometry.Point.{Point as ThePoint};
-ghost use Rattle.dc_stack.specs.Drawing.{joined};
+ghost use Rattle.dc_stack.specs.Drawing.{points_of_lists};
 ghost use Rattle.dc_stack.specs.Figures.{Figures, points_gone_on};
 ghost use Rattle.dc_stack.specs.GatheredPath.{AnswersAddition, AnswersLines, after_lists, IsGathered, IsSamePath, LandsInside, addition_fault, is_open_phase, open_piece, painted_of, path_of, phase_behind};
 ghost use Rattle.dc_stack.specs.Mapped.{mapped_list, mapped_point};
@@ -106,7 +106,7 @@ impl<'a> GatheredPath<'a> {
         requires gathered { IsGathered self.old }
         requires open { is_open_phase self.old.phase ≡ true }
         requires some { page_points points ≢ [] }
-        requires as_they_are { joined (plane_lists (map_numbers by.now.map) points) ≡ plane_list by.now.map (page_points points) }
+        requires as_they_are { points_of_lists (plane_lists (map_numbers by.now.map) points) ≡ plane_list by.now.map (page_points points) }
         ensures answer { let map = map_numbers by.now.map in AnswersLines map position (page_points points.entry) self.old (surface_of by.now.place) result }
         ensures path { OnOk result (path_of self.new ≡ after_lines (mapped_point (map_numbers by.now.map) position) (plane_list by.now.map (page_points points.entry)) (path_of self.old)) }
         ensures painted { OnOk result (painted_of self.new ≡ []) }
@@ -131,7 +131,7 @@ impl<'a> GatheredPath<'a> {
     ) -> Result<(), Fault>
         requires gathered { IsGathered self.old }
         requires open { is_open_phase self.old.phase ≡ true }
-        requires some { joined (plane_lists (map_numbers by.now.map) points) ≢ [] }
+        requires some { points_of_lists (plane_lists (map_numbers by.now.map) points) ≢ [] }
         requires own { joining ≢ GoesOn }
         ensures answer { AnswersAddition result (addition_fault (length self.old.pieces.items + 1) (plane_list by.now.map (page_points points.entry)) (surface_of by.now.place)) (vec_capacity self.old.pieces < length self.old.pieces.items + 1) }
         ensures path { OnOk result (path_of self.new ≡ after_lists joining (plane_lists (map_numbers by.now.map) points.entry) (path_of self.old)) }

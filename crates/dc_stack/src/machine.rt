@@ -5,7 +5,7 @@ ghost use Rattle.mapping.specs.PageMap.{map_numbers};
 ghost use Rattle.mapping.specs.PlaceOf.{surface_of};
 ghost use Rattle.draw_ops.specs.OperationOf.{operation_of};
 ghost use Rattle.draw_ops.specs.declared.fault.Fault.TheVariants.{OutOfMemory};
-ghost use Rattle.dc_stack.specs.MachineState.{GoesOn, HasStepped, IsDrawingOf, IsUnchanged, LendsPainted, Plays, RefusesStep};
+ghost use Rattle.dc_stack.specs.MachineState.{GoesOn, HasStepped, IsDrawingOf, IsUnchanged, LacksRoom, LendsPainted, Plays, RefusesStep};
 ghost use Rattle.dc_stack.specs.Draws.{IsPlacedDraw};
 ghost use Rattle.dc_stack.specs.Needs.{no_needs};
 ghost use Rattle.dc_stack.specs.State.{start_state};
@@ -55,11 +55,11 @@ impl<'a, T: Contents> Model for Machine<'a, T> {
     ghost Value = { MachineState };
 
     ghost view = { λ m. record {
-      state = record { dc = dc_value m.dc; slots = T.slots m.table; table_kind = T.kind m.table; saved = map dc_value m.saved.items; path = path_of m.path };
+      state = record { dc = dc_value m.dc; slots = (T.state m.table).slots; table_kind = (T.state m.table).kind; saved = map dc_value m.saved.items; path = path_of m.path };
       painted = painted_of m.path;
       surface = surface_of m.place;
       needs = m.needs;
-      room = record { depth = vec_capacity m.saved; slots = T.room m.table; pieces = vec_capacity m.path.pieces };
+      room = record { depth = vec_capacity m.saved; slots = (T.state m.table).room; pieces = vec_capacity m.path.pieces };
     } };
 
     ghost invariant = { λ m. FitsSurface (surface_of m.place) m.dc m.saved.items m.path };
@@ -71,12 +71,12 @@ impl<'a, T: Table<'a>> Machine<'a, T> {
     /// The machine at the start of a file that is shown on a surface, with no object in its table. No
     /// memory is taken.
     pub fn new(alloc: Global, opened: &Opened<'_>, place: Place, mut table: T) -> Machine<'a, T>
-        ensures state { result.state ≡ start_state (map_numbers opened.now.start_map) (T.kind table) }
+        ensures state { result.state ≡ start_state (map_numbers opened.now.start_map) (T.state table).kind }
         ensures surface { result.surface ≡ surface_of place }
         ensures needs { result.needs ≡ no_needs }
         ensures painted { result.painted ≡ [] }
         ensures depth { result.room.depth ≡ 0 }
-        ensures slots { result.room.slots ≡ T.room table }
+        ensures slots { result.room.slots ≡ (T.state table).room }
         ensures pieces { result.room.pieces ≡ 0 }
     {
         table.clear();
@@ -110,7 +110,7 @@ impl<'a, T: Table<'a>> Machine<'a, T> {
         ensures depth { OnOk result (depth ≤ self.new.room.depth) }
         ensures slots { OnOk result (slots ≤ self.new.room.slots) }
         ensures pieces { OnOk result (pieces ≤ self.new.room.pieces) }
-        ensures full { OnErr result (self.old.room.depth < depth ⊎ (self.old.room.slots < slots ⊎ self.old.room.pieces < pieces)) }
+        ensures full { OnErr result (LacksRoom self.old.room depth slots pieces) }
         ensures refused { IfErr result (λ fault. fault ≡ OutOfMemory) }
         ensures unchanged { IsUnchanged self.old self.new }
         ensures goes_on { GoesOn self.old self.new }

@@ -21,14 +21,14 @@ pub enum PiecePoints<'a> {
 
 impl<'a> PiecePoints<'a> {
     ghost use Rattle.mapping.specs.Plane.{MapNumbers};
-    ghost use Rattle.dc_stack.specs.Drawing.{joined};
+    ghost use Rattle.dc_stack.specs.Drawing.{points_of_lists};
     ghost use Rattle.dc_stack.specs.Mapped.{mapped_lists};
     ghost use Rattle.dc_stack.specs.Pieces.{page_points, plane_lists};
 
     /// The points of one list or of several.
     pub(crate) fn of(lists: Polys<'a>) -> PiecePoints<'a>
         ensures plane { (m : MapNumbers) → plane_lists m result ≡ mapped_lists m (lists_of lists.entry) }
-        ensures page { page_points result ≡ joined (lists_of lists.entry) }
+        ensures page { page_points result ≡ points_of_lists (lists_of lists.entry) }
     {
         match lists {
             Polys::One(points) => PiecePoints::List(points),

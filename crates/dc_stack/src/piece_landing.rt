@@ -5,7 +5,7 @@ ghost use Rattle.std.specs.Result.{result_err};
 ghost use Rattle.mapping.specs.Boxes.{IsBoxOf};
 ghost use Rattle.mapping.specs.PageMap.{map_numbers};
 ghost use Rattle.mapping.specs.PlaceOf.{surface_of};
-ghost use Rattle.dc_stack.specs.Drawing.{joined};
+ghost use Rattle.dc_stack.specs.Drawing.{points_of_lists};
 ghost use Rattle.dc_stack.specs.Figures.{box_corners};
 ghost use Rattle.dc_stack.specs.Mapped.{mapped_box, mapped_corners, mapped_point};
 ghost use Rattle.dc_stack.specs.OperationFault.{off_plane_fault};
@@ -23,7 +23,7 @@ use point_views::Polys;
 /// The least box around the points of a piece on the plane, or `OffPlane` where one of them doesn't land.
 pub(crate) fn land_piece(by: &Projection, points: PiecePoints<'_>) -> Result<Option<Rect>, Fault>
     ensures fault { result_err result ≡ off_plane_fault (plane_list by.now.map (page_points points.entry)) (surface_of by.now.place) }
-    ensures least { IfOk result (λ bounds. IsBoxOf bounds (joined (plane_lists (map_numbers by.now.map) points.entry))) }
+    ensures least { IfOk result (λ bounds. IsBoxOf bounds (points_of_lists (plane_lists (map_numbers by.now.map) points.entry))) }
 {
     match points {
         PiecePoints::Point(point) => land_point(by, point),

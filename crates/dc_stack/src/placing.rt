@@ -120,14 +120,18 @@ fn far_corner(asked: &Blit<'_>) -> WidePoint
 /// What a drawing of several points is told with: how many they are, and the least box around them on the plane,
 /// its right and bottom included.
 #[derive(Clone, Copy, Debug)]
-pub(crate) struct Extent {
+pub(crate) struct LandedPoints {
     pub(crate) count: u32,
     pub(crate) bounds: Rect,
 }
 
 /// How many points some lists have, and their box: `TooManyEdges` where they have more than one
 /// drawing may, and then `OffPlane` where one of them doesn't land.
-pub(crate) fn land_lists(map: &PageMap, place: Place, lists: Polys<'_>) -> Result<Extent, Fault>
+pub(crate) fn land_lists(
+    map: &PageMap,
+    place: Place,
+    lists: Polys<'_>,
+) -> Result<LandedPoints, Fault>
     ensures fault { result_err result ≡ points_fault (joined_plane_list map.now (lists_of lists.entry)) (surface_of place) }
     ensures count { IfOk result (λ e. e.count ≡ length (joined_plane_list map.now (lists_of lists.entry))) }
     ensures few { IfOk result (λ e. length (joined_plane_list map.now (lists_of lists.entry)) ≤ edge_limit) }
@@ -138,7 +142,7 @@ pub(crate) fn land_lists(map: &PageMap, place: Place, lists: Polys<'_>) -> Resul
         return Err(Fault::TooManyEdges);
     }
     match plane_box(map, place, points) {
-        Ok(bounds) => Ok(Extent {
+        Ok(bounds) => Ok(LandedPoints {
             count: points.len() as u32,
             bounds: least(bounds),
         }),
@@ -153,7 +157,7 @@ pub(crate) fn land_through(
     place: Place,
     start: Point,
     points: Points<'_>,
-) -> Result<(Point, Extent), Fault>
+) -> Result<(Point, LandedPoints), Fault>
     ensures fault { result_err result ≡ points_fault (plane_list map.now (start ∷ points_of points.entry)) (surface_of place) }
     ensures from { IfOk result (λ r. r.0 ≡ mapped_point (map_numbers map.now) start) }
     ensures count { IfOk result (λ r. r.1.count ≡ suc (length (points_of points.entry))) }
@@ -171,7 +175,7 @@ pub(crate) fn land_through(
     match plane_box(map, place, points) {
         Ok(bounds) => Ok((
             from,
-            Extent {
+            LandedPoints {
                 count: points.len() as u32 + 1,
                 bounds: least(joined(first, bounds)),
             },

@@ -1,5 +1,6 @@
 -- What records with bitmaps share: how a bitmap is read, and what blits and brushes are made of one.
 use Rattle.std.specs.Prelude.{ℕ, ◌==◌, if◌then◌else◌, List, drop, Option, Some, Result, Ok, Err}
+use Rattle.std.specs.Result.{result_map_both}
 use Rattle.dib_views.specs.Dibs.{packed_dib, parts_dib}
 use Rattle.dib_views.specs.Pictures.{Dib}
 use Rattle.dib_views.specs.declared.fault.DibFault.{DibFault}
@@ -22,18 +23,13 @@ fault_of_dib OfBadDib = BadDib
 fault_of_dib OfCompressedDib = CompressedDib
 fault_of_dib OfShortDib = ShortDib
 
--- the same value, or the record's fault
-abbrev pub in_record_dib : Result Dib DibFault → Result Dib Fault
-in_record_dib (Ok dib) = Ok dib
-in_record_dib (Err fault) = Err (fault_of_dib fault)
-
 -- the packed bitmap in a record from a place on, or the record's fault
 unfoldable pub dib_at : List ℕ → ℕ → Result Dib Fault
-dib_at bytes place = in_record_dib (packed_dib (drop place bytes))
+dib_at bytes place = result_map_both (λ dib. dib) fault_of_dib (packed_dib (drop place bytes))
 
 -- a bitmap in two parts of a record, or the record's fault
 unfoldable pub dib_in : List ℕ → List ℕ → Result Dib Fault
-dib_in info bits = in_record_dib (parts_dib info bits)
+dib_in info bits = result_map_both (λ dib. dib) fault_of_dib (parts_dib info bits)
 
 -- A bitmap's colours are red, green and blue where its usage is 0 ([MS-WMF] 2.1.1.6, [MS-EMF] 2.1.9), and else indexes into a palette.
 abbrev pub needs_rgb : {T : Type 0} → ℕ → Result T Fault → Result T Fault

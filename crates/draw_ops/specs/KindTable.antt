@@ -5,8 +5,8 @@ use Rattle.std.proofs.Common.{refl}
 use Rattle.std.proofs.lemmas.Bool.{ne_eqb}
 
 -- what the first row with a kind says
-abbrev pub row_of : {A : Type 0} → List (ℕ × A) → ℕ → Option A
-row_of rows kind = option_map (λ row. row.1) (find (λ row. row.0 == kind) rows)
+abbrev pub row_with : {A : Type 0} → List (ℕ × A) → ℕ → Option A
+row_with rows kind = option_map (λ row. row.1) (find (λ row. row.0 == kind) rows)
 
 -- the kind isn't the row's, and this holds of the rows behind it
 pub record IsAbsentFirst (kind row_kind : ℕ) (holds : Type 0) : Type 0 where
@@ -19,7 +19,7 @@ IsAbsent kind [] = Unit {0}
 IsAbsent kind (row ∷ rows) = IsAbsentFirst kind row.0 (IsAbsent kind rows)
 
 -- so nothing is found
-pub row_of_absent : {A : Type 0} (kind : ℕ) (rows : List (ℕ × A)) → IsAbsent kind rows → row_of rows kind ≡ None
+pub row_of_absent : {A : Type 0} (kind : ℕ) (rows : List (ℕ × A)) → IsAbsent kind rows → row_with rows kind ≡ None
 row_of_absent kind [] absent = refl
 row_of_absent kind (row ∷ rows) absent = rw (ne_eqb _ _ absent.other) (row_of_absent kind rows absent.onward)
 

@@ -1,7 +1,7 @@
 -- What a record means that makes a pen.
 use Rattle.std.specs.Prelude.{ℕ, ◌%◌, Bool, true, false, List, [], ◌∷◌, Option, Some, None, Result, Ok, Err}
 use Rattle.mapping.specs.declared.geometry.Colour.{Colour}
-use Rattle.draw_ops.specs.KindTable.{row_of}
+use Rattle.draw_ops.specs.KindTable.{row_with}
 use Rattle.draw_ops.specs.Meaning.{MeantValue}
 use Rattle.draw_ops.specs.NoteCounts.{no_notes}
 use Rattle.draw_ops.specs.NoteKinds.{noted}
@@ -22,7 +22,7 @@ pen_styles = (0, Solid) ∷ (1, Dashed) ∷ (2, Dashed) ∷ (3, Dashed) ∷ (4, 
 
 -- the style with this number
 abbrev pub pen_style_of : ℕ → Option PenStyle
-pen_style_of code = row_of pen_styles (code % 16)
+pen_style_of code = row_with pen_styles (code % 16)
 
 -- the pen of a style: a dashed one is played as solid, and the colour of one that draws nothing isn't looked at
 abbrev pub pen_of : PenStyle → Result Colour Fault → Result Pen Fault

@@ -2,11 +2,6 @@
 use Rattle.std.specs.Prelude.{Option, Some, None, Result, Ok, Err}
 pub use Rattle.dib_views.specs.Results.{result_map}
 
--- the value, or this error where there is none
-abbrev pub value_or : {T E : Type 0} → E → Option T → Result T E
-value_or error None = Err error
-value_or error (Some x) = Ok x
-
 -- an error in front, if there is one, and else the result
 abbrev pub result_unless : {T E : Type 0} → Option E → Result T E → Result T E
 result_unless None result = result

@@ -1,5 +1,6 @@
 -- What drawing records mean ([MS-EMF] 2.3.5).
 use Rattle.std.specs.Prelude.{ℕ, ◌+◌, ◌*◌, List, [], ◌∷◌, Option, Result, Ok}
+use Rattle.std.specs.Option.{ok_or}
 use Rattle.mapping.specs.declared.geometry.Point.{Point}
 use Rattle.point_views.specs.Numbers.{number_at}
 use Rattle.point_views.specs.declared.numbers.NumberWidth.{NumberWidth}
@@ -8,7 +9,6 @@ use Rattle.draw_ops.specs.Fields.{box_at, needs_bytes, rgb_at, xy_at}
 use Rattle.draw_ops.specs.Meaning.{MeantValue, plain, unnoted}
 use Rattle.draw_ops.specs.Operation.{line_to, pixel, polygon, polyline, polyline_to, rectangle}
 use Rattle.draw_ops.specs.PointLists.{counts_at, lists_by, points_at}
-use Rattle.draw_ops.specs.Results.{value_or}
 use Rattle.draw_ops.specs.declared.fault.Fault.{Fault}
 use Rattle.draw_ops.specs.declared.fault.Fault.TheVariants.{BadParams}
 use Rattle.draw_ops.specs.declared.operation.RectangleEdges.TheVariants.{Inclusive}
@@ -19,7 +19,7 @@ line_to_record bytes = needs_bytes 16 bytes (Ok (unnoted (line_to (xy_at bytes 8
 
 -- EMR_POLYGON, EMR_POLYLINE, EMR_POLYLINETO, and the same with 16 bits a number: the bounds, the count of points, and each x and y
 abbrev pub point_list : NumberWidth → List ℕ → Result (List Point) Fault
-point_list width bytes = needs_bytes 28 bytes (value_or BadParams (points_at width (number_at bytes 24 4) bytes 28))
+point_list width bytes = needs_bytes 28 bytes (ok_or (points_at width (number_at bytes 24 4) bytes 28) BadParams)
 
 -- EMR_POLYGON draws its points as one list
 abbrev pub polygon_record : NumberWidth → List ℕ → Result MeantValue Fault
@@ -40,7 +40,7 @@ lists_at width lists total bytes = lists_by (counts_at Long lists bytes 32) (poi
 -- EMR_POLYPOLYGON, EMR_POLYPOLYLINE, and the same with 16 bits a number: the bounds, how many lists, how many points in all, the count of
 -- each list, and the points
 abbrev pub point_lists : NumberWidth → List ℕ → Result (List (List Point)) Fault
-point_lists width bytes = needs_bytes 32 bytes (value_or BadParams (lists_at width (number_at bytes 24 4) (number_at bytes 28 4) bytes))
+point_lists width bytes = needs_bytes 32 bytes (ok_or (lists_at width (number_at bytes 24 4) (number_at bytes 28 4) bytes) BadParams)
 
 -- EMR_POLYPOLYGON draws its lists together
 abbrev pub poly_polygon_record : NumberWidth → List ℕ → Result MeantValue Fault

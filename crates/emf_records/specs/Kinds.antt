@@ -1,6 +1,6 @@
 -- Which records of EMF are played, which are skipped, and which are refused, by their types ([MS-EMF] 2.1.1).
 use Rattle.std.specs.Prelude.{ℕ, List, [], ◌∷◌, ◌++◌, map, Option}
-use Rattle.draw_ops.specs.KindTable.{row_of}
+use Rattle.draw_ops.specs.KindTable.{row_with}
 use Rattle.emf_records.specs.declared.entry.EmfEntry.{EmfEntry}
 use Rattle.emf_records.specs.declared.entry.EmfEntry.TheVariants.{BitBlt, StretchBlt, StretchDiBits, ExcludeClipRect, IntersectClipRect, ExtSelectClipRgn, Comment, Header, Eof, Polygon, Polyline, PolylineTo, PolyPolyline, PolyPolygon, SetPixelV, Rectangle, LineTo, FillPath, StrokeAndFillPath, StrokePath, Polygon16, Polyline16, PolylineTo16, PolyPolyline16, PolyPolygon16, SelectObject, CreatePen, CreateBrushIndirect, DeleteObject, SelectPalette, CreateDibPatternBrushPt, CreatePalette, ExtCreateFontIndirectW, ExtCreatePen, BeginPath, EndPath, CloseFigure, AbortPath, SetWindowExtEx, SetWindowOrgEx, SetViewportExtEx, SetViewportOrgEx, SetMapMode, SetBkMode, SetPolyFillMode, SetRop2, SetBkColor, MoveToEx, SaveDc, RestoreDc, SetLayout, SetWorldTransform, ModifyWorldTransform, Skipped, Refused}
 
@@ -47,4 +47,4 @@ emf_types = map (λ row. row.0) emf_kinds
 
 -- what is done with a record of this type
 abbrev pub emf_entry_of : ℕ → Option EmfEntry
-emf_entry_of record_type = row_of emf_kinds record_type
+emf_entry_of record_type = row_with emf_kinds record_type

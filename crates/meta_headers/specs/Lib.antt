@@ -5,3 +5,4 @@ pub mod EmfHeader
 pub mod Opening
 pub mod OpenedOf
 pub mod SourceContent
+pub mod File

@@ -6,10 +6,12 @@
 //!   `opened`).
 //! - An opened file's source has what its records mean, from record 0 on (`Opened::source`, by
 //!   `HasContentOf`).
+//! - A file that opens does so in one way, and its records have one content (`file_law`).
 //! - No call is handed an allocator: the records are a part of the file.
 #![tactic(auto)]
 
 mod emf_header;
+mod laws;
 mod notes_where;
 mod open;
 mod opened;
@@ -18,6 +20,7 @@ mod plain_header;
 mod source;
 mod standard_header;
 
+pub use laws::file_law;
 pub use open::open_file;
 pub use opened::{FileFormat, Opened};
 pub use source::Source;

@@ -1,4 +1,4 @@
 pub mod Slots
 pub mod Table
 pub mod Store
-pub mod Given
+pub mod FileTable

@@ -12,6 +12,17 @@ pub data TableKind : Type 0 where
   by_lowest_free : TableKind
   by_given_index : ℕ → TableKind
 
+-- the kind of a file's table: an EMF header tells how many indexes there are ([MS-EMF] 2.3.4.2), a WMF header doesn't
+abbrev pub table_kind_of : Option ℕ → TableKind
+table_kind_of None = by_lowest_free
+table_kind_of (Some handles) = by_given_index handles
+
+-- what a table is to its callers: its objects, which index a new one gets, and below which index none wants memory
+pub record TableState : Type 0 where
+  pub slots : Slots
+  pub kind : TableKind
+  pub room : ℕ
+
 -- how many objects a table by the lowest free index has at most
 abbrev pub slot_limit : ℕ
 slot_limit = 1024
@@ -42,20 +53,20 @@ index_bound by_lowest_free = slot_limit
 index_bound (by_given_index limit) = limit
 
 -- an object was made: nothing speaks against it, and it is at its index
-pub record HasCreated (kind : TableKind) (at : Option ℕ) (object : ObjectValue) (old : Slots) (made : ℕ) (new : Slots) : Type 0 where
-  pub no_fault : create_fault kind at old ≡ None
-  pub index : made ≡ created_index kind at old
-  pub slots : new ≡ with_object (created_index kind at old) object old
+pub record HasCreated (at : Option ℕ) (object : ObjectValue) (old : TableState) (made : ℕ) (new : TableState) : Type 0 where
+  pub no_fault : create_fault old.kind at old.slots ≡ None
+  pub index : made ≡ created_index old.kind at old.slots
+  pub slots : new.slots ≡ with_object (created_index old.kind at old.slots) object old.slots
 
 -- memory for an object was refused, though nothing else speaks against it: there is no room at its index
-pub record WantsSlot (kind : TableKind) (at : Option ℕ) (slots : Slots) (room : ℕ) (fault : Fault) : Type 0 where
-  pub no_fault : create_fault kind at slots ≡ None
-  pub no_room : room ≤ created_index kind at slots
+pub record WantsSlot (at : Option ℕ) (table : TableState) (fault : Fault) : Type 0 where
+  pub no_fault : create_fault table.kind at table.slots ≡ None
+  pub no_room : table.room ≤ created_index table.kind at table.slots
   pub memory : fault ≡ OutOfMemory
 
 -- an object isn't made: by the first fault, or for want of memory
-abbrev pub RefusesCreate : TableKind → Option ℕ → Slots → ℕ → Fault → Type 0
-RefusesCreate kind at slots room fault = create_fault kind at slots ≡ Some fault ⊎ WantsSlot kind at slots room fault
+abbrev pub RefusesCreate : Option ℕ → TableState → Fault → Type 0
+RefusesCreate at table fault = create_fault table.kind at table.slots ≡ Some fault ⊎ WantsSlot at table fault
 
 -- the fault of taking an object out
 abbrev pub remove_fault : ℕ → Slots → Option Fault

@@ -18,18 +18,18 @@ pub struct Given<'a> {
 }
 
 impl<'a> Model for Given<'a> {
-    ghost use Rattle.object_tables.specs.Given.{GivenState};
+    ghost use Rattle.object_tables.specs.Table.{TableState, by_given_index};
 
-    ghost Value = { GivenState };
+    ghost Value = { TableState };
 
-    ghost view = { λ table. record { slots = table.store.slots; room = table.store.room; handles = table.handles } };
+    ghost view = { λ table. record { slots = table.store.slots; kind = by_given_index table.handles; room = table.store.room } };
 }
 
 impl<'a> Given<'a> {
     /// A table without objects, whose indexes are below `handles`. No memory is taken.
     pub fn new(alloc: Global, handles: u16) -> Given<'a>
         ensures slots { result.slots ≡ [] }
-        ensures handles { result.handles ≡ handles }
+        ensures kind { result.kind ≡ by_given_index handles }
         ensures room { result.room ≡ 0 }
     {
         Given {
@@ -40,19 +40,16 @@ impl<'a> Given<'a> {
 }
 
 impl<'a> Contents for Given<'a> {
-    ghost slots = { λ table. table.slots };
-
-    ghost kind = { λ table. by_given_index table.handles };
-
-    ghost room = { λ table. table.room };
+    ghost state = { λ table. table };
 }
 
 impl<'a> Table<'a> for Given<'a> {
     fn create(&mut self, at: Option<Handle>, object: Object<'a>) -> Result<Handle, Fault> {
+        let limit = u32::from(self.handles);
         let Some(handle) = at else {
             return Err(Fault::NoSuchHandle);
         };
-        if handle.0 == 0 || handle.0 >= u32::from(self.handles) {
+        if handle.0 == 0 || handle.0 >= limit {
             return Err(Fault::NoSuchHandle);
         }
         if self.store.is_taken(handle) {

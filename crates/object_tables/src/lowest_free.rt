@@ -20,13 +20,12 @@ pub struct LowestFree<'a> {
 }
 
 impl<'a> Model for LowestFree<'a> {
-    ghost use Rattle.object_tables.specs.Store.{StoreState};
     ghost use Rattle.std.specs.Prelude.{◌≤◌};
-    ghost use Rattle.object_tables.specs.Table.{slot_limit};
+    ghost use Rattle.object_tables.specs.Table.{TableState, by_lowest_free, slot_limit};
 
-    ghost Value = { StoreState };
+    ghost Value = { TableState };
 
-    ghost view = { λ table. table.store };
+    ghost view = { λ table. record { slots = table.store.slots; kind = by_lowest_free; room = table.store.room } };
 
     ghost invariant = { λ table. table.store.places ≤ slot_limit };
 }
@@ -35,6 +34,7 @@ impl<'a> LowestFree<'a> {
     /// A table without objects. No memory is taken.
     pub fn new(alloc: Global) -> LowestFree<'a>
         ensures slots { result.slots ≡ [] }
+        ensures kind { result.kind ≡ by_lowest_free }
         ensures room { result.room ≡ 0 }
     {
         LowestFree {
@@ -44,11 +44,7 @@ impl<'a> LowestFree<'a> {
 }
 
 impl<'a> Contents for LowestFree<'a> {
-    ghost slots = { λ table. table.slots };
-
-    ghost kind = { λ table. by_lowest_free };
-
-    ghost room = { λ table. table.room };
+    ghost state = { λ table. table };
 }
 
 impl<'a> Table<'a> for LowestFree<'a> {

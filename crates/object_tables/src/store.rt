@@ -2,10 +2,10 @@
 
 ghost use Rattle.std.specs.Prelude.{◌≡◌, ◌≤◌, ◌<◌, ◌+◌, [], None, length, max, OnOk, OnErr, IfErr, IfOk, IsSome, IsTrue};
 ghost use Rattle.std.specs.List.{position};
-ghost use Rattle.std.specs.Option.{is_none, option_map};
+ghost use Rattle.std.specs.Option.{is_none, ok_or, option_map};
 ghost use Rattle.std.specs.Result.{result_err};
 ghost use Rattle.draw_ops.specs.Objects.{object_value_of};
-ghost use Rattle.draw_ops.specs.Results.{result_map, value_or};
+ghost use Rattle.draw_ops.specs.Results.{result_map};
 ghost use Rattle.draw_ops.specs.declared.fault.Fault.TheVariants.{NoSuchHandle, OutOfMemory};
 ghost use Rattle.object_tables.specs.Slots.{IsInOrder, is_taken, lowest_free, object_at, with_object, without_object};
 ghost use Rattle.object_tables.specs.Store.{places_taken};
@@ -58,7 +58,7 @@ impl<'a> Store<'a> {
 
     /// The object at an index, or `NoSuchHandle` where there is none.
     pub(crate) fn get(&self, handle: Handle) -> Result<Object<'a>, Fault>
-        ensures object { result_map object_value_of result ≡ value_or NoSuchHandle (object_at handle.0 self.now.slots) }
+        ensures object { result_map object_value_of result ≡ ok_or (object_at handle.0 self.now.slots) NoSuchHandle }
         ensures in_order { IsInOrder self.now.slots }
     {
         match self.at(handle.0) {

@@ -9,7 +9,7 @@ use Rattle.mapping.specs.declared.geometry.Point.{Point}
 use Rattle.mapping.specs.declared.geometry.Rect.{Rect}
 use Rattle.canvas.specs.CanvasState.{CanvasState}
 use Rattle.canvas.specs.Writing.{Repaints}
-use Rattle.canvas.specs.WritingLaws.{WritingLaws, IsWhole as IsWholeCanvas}
+use Rattle.canvas.specs.WritingLaws.{WritingLaws, IsWhole}
 use Rattle.draw_ops.specs.Blits.{SourceValue, source_of}
 use Rattle.draw_ops.specs.Objects.{brush_value_of}
 use Rattle.draw_ops.specs.declared.objects.Brush.{Brush}
@@ -27,13 +27,13 @@ use Rattle.dc_stack.specs.declared.clip.Clip.{Clip}
 use Rattle.dc_stack.specs.declared.dc.Dc.{Dc}
 use Rattle.dc_stack.specs.declared.draw.PlaneBlit.{PlaneBlit}
 use Rattle.dc_stack.specs.declared.modes.Modes.{Modes}
-use Rattle.preflight_cert.specs.Apply.{ink_of, joined}
+use Rattle.preflight_cert.specs.Apply.{ink_of, mixed_with}
 use Rattle.player.specs.Blits.{blit_colour, blit_made, blit_paints}
 use Rattle.preflight_cert.specs.Layer.{blit_layer, blit_paint, brushed_now}
 use Rattle.preflight_cert.specs.Mixing.{ternary}
 use Rattle.preflight_cert.specs.Paint.{paint_at, solid}
 use Rattle.player.specs.Painted.{colour_of, colour_seen, made, paints}
-use Rattle.player.specs.Plays.{DrawsLayers, IsWhole}
+use Rattle.player.specs.Plays.{DrawsLayers, HoldsSurface}
 use Rattle.player.specs.RasterOperation.{joined_if}
 use Rattle.preflight_cert.specs.Writes.{writes_pixel}
 use Rattle.player.specs.declared.paint.Paint.{Paint as Brushing}
@@ -60,7 +60,7 @@ joined_alike op seen source (Some p) old same = same p
 
 -- What a paint of a blit makes of its box is what the blit makes of it.
 pub blit_painted :
-    WritingLaws → (s : Surface) (paint : Brushing) (dc : Dc) (blit : PlaneBlit) (box : Rect) (old new : CanvasState) → IsWholeCanvas old
+    WritingLaws → (s : Surface) (paint : Brushing) (dc : Dc) (blit : PlaneBlit) (box : Rect) (old new : CanvasState) → IsWhole old
     → paint.brush ≡ cond (uses_pattern blit.operation.table) dc.selected.brush (Solid black_colour) → paint.modes ≡ dc.modes → paint.operation ≡ Ternary blit.operation → paint.clip.now ≡ dc.clip
     → box ≡ box_between (placed_point blit.first s) (placed_point blit.second s)
     → ((x y : ℕ) (p c : Colour) → ternary_colour blit.operation.table p (colour_seen paint.source x y) c ≡ ternary_colour blit.operation.table p (source_colour (source_of blit.source) (placed_point blit.first s) (placed_point blit.second s) x y) c)
@@ -91,11 +91,11 @@ layer_colour : (b : Bool) (brush : Brush) (tools : Tools) (s : Surface) (x y : �
 layer_colour true brush tools s x y same = ap (λ b. brush_paint b tools.modes.background_mode tools.modes.background_colour x y) same
 layer_colour false brush tools s x y same = refl
 
-joined_same : (op : TernaryOp) (s : Surface) (p q : Point) (source : Option SourceValue) (x y : ℕ) (paint : Option Colour) (old : Colour) → joined_if (Ternary op) (source_colour source (placed_point p s) (placed_point q s) x y) paint old ≡ joined (ternary op.table source p q) s x y paint old
+joined_same : (op : TernaryOp) (s : Surface) (p q : Point) (source : Option SourceValue) (x y : ℕ) (paint : Option Colour) (old : Colour) → joined_if (Ternary op) (source_colour source (placed_point p s) (placed_point q s) x y) paint old ≡ mixed_with (ternary op.table source p q) s x y paint old
 joined_same op s p q source x y None old = refl
 joined_same op s p q source x y (Some paint) old = refl
 
-module _ (laws : WritingLaws) (s : Surface) (old new : CanvasState) (there : IsWholeCanvas old) (whole : IsWhole old s) where
+module _ (laws : WritingLaws) (s : Surface) (old new : CanvasState) (there : IsWhole old) (whole : HoldsSurface old s) where
   -- And that is the layer of the blit.
   pub blit_drawn :
       (dc : Dc) (tools : Tools) (blit : PlaneBlit)

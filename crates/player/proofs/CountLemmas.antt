@@ -7,13 +7,13 @@ use Rattle.point_views.specs.Numbers.{point_size}
 use Rattle.point_views.specs.Points.{points_in}
 use Rattle.point_views.specs.declared.numbers.NumberWidth.{NumberWidth}
 use Rattle.point_views.specs.declared.numbers.NumberWidth.TheVariants.{Short, Long}
-use Rattle.dc_stack.specs.Drawing.{joined}
+use Rattle.dc_stack.specs.Drawing.{points_of_lists}
 use Rattle.dc_stack.specs.Projected.{projected}
 use Rattle.dc_stack.specs.declared.projection.Projection.{Projection}
 use Rattle.player.specs.LinesToCome.{lines_if_on}
 use Rattle.preflight_cert.specs.Outlines.{closed_lines, closed_lines_of, lines_after, lines_round, open_lines, open_lines_of}
 use Rattle.player.specs.PlacedLines.{lines_of_lists, projected_list}
-use Rattle.player.specs.declared.list_lines.Course.{Course}
+use Rattle.player.specs.declared.list_lines.Traced.{Traced}
 use Rattle.player.specs.declared.list_lines.Ends.{Ends}
 use Rattle.player.specs.declared.list_lines.Ends.TheVariants.{Open, Closed}
 
@@ -51,53 +51,53 @@ pub open_lines_few : (ps : List Point) → length (open_lines ps) ≤ length ps
 open_lines_few ps = let e = length-open_lines ps in omega arith
 
 -- the same of several
-pub length-closed_lines_of : (ls : List (List Point)) → length (closed_lines_of ls) ≡ length (joined ls)
+pub length-closed_lines_of : (ls : List (List Point)) → length (closed_lines_of ls) ≡ length (points_of_lists ls)
 length-closed_lines_of [] = refl
 length-closed_lines_of (ps ∷ ls) =
     let first = length-closed_lines ps in
     let others = length-closed_lines_of ls in
     let a = length-append (closed_lines ps) (closed_lines_of ls) in
-    let b = length-append ps (joined ls) in omega arith
+    let b = length-append ps (points_of_lists ls) in omega arith
 
-pub open_lines_of_few : (ls : List (List Point)) → length (open_lines_of ls) ≤ length (joined ls)
+pub open_lines_of_few : (ls : List (List Point)) → length (open_lines_of ls) ≤ length (points_of_lists ls)
 open_lines_of_few [] = omega arith
 open_lines_of_few (ps ∷ ls) =
     let first = open_lines_few ps in
     let others = open_lines_of_few ls in
     let a = length-append (open_lines ps) (open_lines_of ls) in
-    let b = length-append ps (joined ls) in omega arith
+    let b = length-append ps (points_of_lists ls) in omega arith
 
 -- One list more is looked at: where it has a point, there is one line less than points.
 pub one_list_counted :
     (count all : ℕ) (ps : List Point) (ls whole : List (List Point)) → whole ≡ ps ∷ ls
-    → count + length (open_lines_of whole) ≡ all + length (joined whole)
-    → count - min (length ps) 1 + length (open_lines_of ls) ≡ all + length (joined ls)
+    → count + length (open_lines_of whole) ≡ all + length (points_of_lists whole)
+    → count - min (length ps) 1 + length (open_lines_of ls) ≡ all + length (points_of_lists ls)
 one_list_counted count all ps ls whole e h =
-    let k : count + length (open_lines_of (ps ∷ ls)) ≡ all + length (joined (ps ∷ ls)) = rw e at h in
+    let k : count + length (open_lines_of (ps ∷ ls)) ≡ all + length (points_of_lists (ps ∷ ls)) = rw e at h in
     let first = length-open_lines ps in
     let others = open_lines_of_few ls in
     let a = length-append (open_lines ps) (open_lines_of ls) in
-    let b = length-append ps (joined ls) in omega arith
+    let b = length-append ps (points_of_lists ls) in omega arith
 
 pub one_is_left :
     (count all : ℕ) (ps : List Point) (ls whole : List (List Point)) → whole ≡ ps ∷ ls
-    → count + length (open_lines_of whole) ≡ all + length (joined whole) → min (length ps) 1 ≤ count
+    → count + length (open_lines_of whole) ≡ all + length (points_of_lists whole) → min (length ps) 1 ≤ count
 one_is_left count all ps ls whole e h =
-    let k : count + length (open_lines_of (ps ∷ ls)) ≡ all + length (joined (ps ∷ ls)) = rw e at h in
+    let k : count + length (open_lines_of (ps ∷ ls)) ≡ all + length (points_of_lists (ps ∷ ls)) = rw e at h in
     let first = length-open_lines ps in
     let others = open_lines_of_few ls in
     let a = length-append (open_lines ps) (open_lines_of ls) in
-    let b = length-append ps (joined ls) in omega arith
+    let b = length-append ps (points_of_lists ls) in omega arith
 
-pub none_left : (count all : ℕ) (whole : List (List Point)) → whole ≡ [] → count + length (open_lines_of whole) ≡ all + length (joined whole) → count ≡ all
+pub none_left : (count all : ℕ) (whole : List (List Point)) → whole ≡ [] → count + length (open_lines_of whole) ≡ all + length (points_of_lists whole) → count ≡ all
 none_left count all whole e h =
-    let k : count + length (open_lines_of []) ≡ all + length (joined []) = rw e at h in omega arith
+    let k : count + length (open_lines_of []) ≡ all + length (points_of_lists []) = rw e at h in omega arith
 
 -- the lines that are to come of a list
-pub length-open_course : (ends : Ends) (on : Option Course) (course : Course) (ps : List Point) → on ≡ Some course → ends ≡ Open → length (lines_if_on ends on ps) ≡ length ps
+pub length-open_course : (ends : Ends) (on : Option Traced) (course : Traced) (ps : List Point) → on ≡ Some course → ends ≡ Open → length (lines_if_on ends on ps) ≡ length ps
 length-open_course ends on course ps e f = rw (e, f) (length-lines_after course.last ps)
 
-pub length-closed_course : (ends : Ends) (on : Option Course) (course : Course) (ps : List Point) → on ≡ Some course → ends ≡ Closed → length (lines_if_on ends on ps) ≡ suc (length ps)
+pub length-closed_course : (ends : Ends) (on : Option Traced) (course : Traced) (ps : List Point) → on ≡ Some course → ends ≡ Closed → length (lines_if_on ends on ps) ≡ suc (length ps)
 length-closed_course ends on course ps e f = rw (e, f) (length-lines_round course.first course.last ps)
 
 module _ (by : Projection) where
@@ -118,16 +118,16 @@ module _ (by : Projection) where
       let a = length-append (open_lines (projected_list by ps)) (lines_of_lists by Open ls) in
       let b = length-append (open_lines ps) (open_lines_of ls) in omega arith
 
-  pub length-closed_lists : (ls : List (List Point)) → length (lines_of_lists by Closed ls) ≡ length (joined ls)
+  pub length-closed_lists : (ls : List (List Point)) → length (lines_of_lists by Closed ls) ≡ length (points_of_lists ls)
   length-closed_lists [] = refl
   length-closed_lists (ps ∷ ls) =
       let first = length-closed_lines (projected_list by ps) in
       let points = length-projected_list ps in
       let others = length-closed_lists ls in
       let a = length-append (closed_lines (projected_list by ps)) (lines_of_lists by Closed ls) in
-      let b = length-append ps (joined ls) in omega arith
+      let b = length-append ps (points_of_lists ls) in omega arith
 
   -- there are no more lines than points
-  pub lines_few : (ends : Ends) (ls : List (List Point)) → length (lines_of_lists by ends ls) ≤ length (joined ls)
+  pub lines_few : (ends : Ends) (ls : List (List Point)) → length (lines_of_lists by ends ls) ≤ length (points_of_lists ls)
   lines_few Open ls = let e = length-open_lists ls in let few = open_lines_of_few ls in omega arith
   lines_few Closed ls = let e = length-closed_lists ls in omega arith

@@ -13,7 +13,7 @@ use Rattle.draw_ops.specs.declared.objects.Pen.TheVariants.{Solid as SolidPen}
 use Rattle.draw_ops.specs.declared.raster_op.RasterOp.{RasterOp}
 use Rattle.canvas.specs.CanvasState.{CanvasState, image_of}
 use Rattle.canvas.specs.Writing.{Repaints}
-use Rattle.canvas.specs.WritingLaws.{WritingLaws, IsWhole as IsWholeCanvas}
+use Rattle.canvas.specs.WritingLaws.{WritingLaws, IsWhole}
 use Rattle.dc_stack.specs.Clip.{ClipValue, in_boxes, placed_clip}
 use Rattle.dc_stack.specs.Drawing.{Tools}
 use Rattle.dc_stack.specs.State.{DcValue}
@@ -22,12 +22,12 @@ use Rattle.dc_stack.specs.declared.clip.Clip.{Clip}
 use Rattle.dc_stack.specs.declared.dc.Dc.{Dc}
 use Rattle.span_fill.specs.Strokes.{in_stroke, on_line}
 use Rattle.span_fill.specs.declared.line.Line.{Line}
-use Rattle.preflight_cert.specs.Apply.{apply_all, ink_of, joined}
+use Rattle.preflight_cert.specs.Apply.{apply_all, ink_of, mixed_with}
 use Rattle.preflight_cert.specs.Layer.{Layer, brushed_now, filled, layer_now, stroked}
 use Rattle.preflight_cert.specs.Mixing.{binary, copied}
 use Rattle.preflight_cert.specs.Paint.{Paint, paint_at, solid}
 use Rattle.player.specs.Painted.{colour_of, colour_seen, made, paints}
-use Rattle.player.specs.Plays.{DrawsLayers, IsWhole, SameRows}
+use Rattle.player.specs.Plays.{DrawsLayers, HoldsSurface, SameRows}
 use Rattle.preflight_cert.specs.Shape.{Shape, in_shape, pixel_under}
 use Rattle.preflight_cert.specs.Writes.{writes_of_layers, writes_pixel}
 use Rattle.player.specs.RasterOperation.{joined_if}
@@ -63,11 +63,11 @@ pub same_rows : (test : ℕ → ℕ → Bool) (f : ℕ → ℕ → Colour → Co
 same_rows test f old new r = record { width = r.width; first = r.first; rows = r.rows }
 
 -- a paint joins the old colour by the raster operation
-joined_same : (op : RasterOp) (s : Surface) (x y : ℕ) (source : Colour) (paint : Option Colour) (old : Colour) → joined_if (Binary op) source paint old ≡ joined (binary op) s x y paint old
+joined_same : (op : RasterOp) (s : Surface) (x y : ℕ) (source : Colour) (paint : Option Colour) (old : Colour) → joined_if (Binary op) source paint old ≡ mixed_with (binary op) s x y paint old
 joined_same op s x y source None old = refl
 joined_same op s x y source (Some paint) old = refl
 
-module _ (laws : WritingLaws) (s : Surface) (old new : CanvasState) (there : IsWholeCanvas old) (whole : IsWhole old s) where
+module _ (laws : WritingLaws) (s : Surface) (old new : CanvasState) (there : IsWhole old) (whole : HoldsSurface old s) where
   -- what writes the pixels of a layer draws it
   pub layer_drawn : (layer : Layer) → Repaints (writes_pixel layer s) (ink_of layer s) old new → DrawsLayers (layer ∷ []) s old new
   layer_drawn layer r =

@@ -17,7 +17,7 @@ use Rattle.mapping.specs.Boxes.{IsLeastBox}
 use Rattle.mapping.specs.declared.geometry.Rect.{Rect}
 use Rattle.mapping.specs.declared.place.Place.{Place}
 use Rattle.dc_stack.specs.Boxes.{HasAll, placed_list}
-use Rattle.dc_stack.specs.Drawing.{joined}
+use Rattle.dc_stack.specs.Drawing.{points_of_lists}
 use Rattle.dc_stack.specs.Figures.{box_corners}
 use Rattle.dc_stack.specs.Mapped.{mapped_list, mapped_lists, mapped_point}
 use Rattle.dc_stack.specs.Projected.{is_projected, projected}
@@ -113,17 +113,17 @@ module _ (by : Projection) where
         let parts = and_parts (lands_within_limits there s) (list_all (λ q. lands_within_limits q s) (mapped_list (map_numbers by.map) ps)) t in
         All-cons (λ q. IsTrue (is_projected by q)) p ps (subst (λ (r : Surface). lands_within_limits there r ≡ true) (sym e) parts.0) (list_lands ps parts.1)
 
-    pub lists_land : (ls : List (List Point)) → list_all (λ p. lands_within_limits p s) (joined (mapped_lists (map_numbers by.map) ls)) ≡ true → AllListsLand by ls
+    pub lists_land : (ls : List (List Point)) → list_all (λ p. lands_within_limits p s) (points_of_lists (mapped_lists (map_numbers by.map) ls)) ≡ true → AllListsLand by ls
     lists_land [] t = All-nil (AllLand by)
     lists_land (ps ∷ ls) t =
         let first = mapped_list (map_numbers by.map) ps in
-        let others = joined (mapped_lists (map_numbers by.map) ls) in
+        let others = points_of_lists (mapped_lists (map_numbers by.map) ls) in
         let test : Point → Bool = λ q. lands_within_limits q s in
         let parts = and_parts (list_all test first) (list_all test others) (sym (list_all-append test first others) ∙ t) in
         All-cons (AllLand by) ps ls (list_lands ps parts.0) (lists_land ls parts.1)
 
     -- so do points behind a first one, which is near where it lands
-    pub start_and_list_land : (p : Point) (ps : List Point) → list_all (λ q. lands_within_limits q s) (joined ((p ∷ mapped_list (map_numbers by.map) ps) ∷ [])) ≡ true → IsNearPoint (placed_point p s) × AllLand by ps
+    pub start_and_list_land : (p : Point) (ps : List Point) → list_all (λ q. lands_within_limits q s) (points_of_lists ((p ∷ mapped_list (map_numbers by.map) ps) ∷ [])) ≡ true → IsNearPoint (placed_point p s) × AllLand by ps
     start_and_list_land p ps t =
         let others = mapped_list (map_numbers by.map) ps in
         let test : Point → Bool = λ q. lands_within_limits q s in
@@ -136,5 +136,5 @@ pub landed_inside : (place : Place) (s : Surface) → surface_of place ≡ s →
 landed_inside place s e bounds box has points least within = subst (λ (r : Surface). HasLanded r bounds box) e has points least within
 
 -- the points of one list are its points
-pub joined_one : (points : List Point) → joined (points ∷ []) ≡ points
+pub joined_one : (points : List Point) → points_of_lists (points ∷ []) ≡ points
 joined_one points = append-nil points

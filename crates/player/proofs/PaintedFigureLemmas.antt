@@ -9,7 +9,7 @@ use Rattle.mapping.specs.Surface.{Surface, lands_within_limits, placed_point}
 use Rattle.mapping.specs.declared.geometry.Point.{Point}
 use Rattle.mapping.specs.declared.geometry.Rect.{Rect}
 use Rattle.dc_stack.specs.Boxes.{HasAll, placed_list}
-use Rattle.dc_stack.specs.Drawing.{Tools, edge_limit, joined}
+use Rattle.dc_stack.specs.Drawing.{Tools, edge_limit, points_of_lists}
 use Rattle.dc_stack.specs.Figures.{Figure, figures_of_lists, points_of_figures}
 use Rattle.dc_stack.specs.Mapped.{mapped_list, mapped_lists}
 use Rattle.dc_stack.specs.declared.draw.Painting.{Painting}
@@ -71,7 +71,7 @@ fills_figures Stroke figures tools h = absurd (h refl)
 fills_figures StrokeAndFill figures tools h = refl
 
 -- figures of lists of the page
-points_listed : (lists : List (List Point)) → points_of_figures (figures_of_lists lists) ≡ joined lists
+points_listed : (lists : List (List Point)) → points_of_figures (figures_of_lists lists) ≡ points_of_lists lists
 points_listed lists = flat_map-map (λ (figure : Figure). figure.points) (λ (points : List Point). record { points = points; is_closed = false }) lists
 
 listed_figures : (s : Surface) (ends : Ends) (lists : List (List Point)) → flat_map (lines_between ends) (placed_lists s lists) ≡ lines_of_figures ends (placed_figures s (figures_of_lists lists))

@@ -10,7 +10,7 @@ use Rattle.draw_ops.specs.Objects.{brush_value_of}
 use Rattle.draw_ops.specs.declared.ternary_op.TernaryOp.{TernaryOp}
 use Rattle.raster_ops.specs.Bytes.{HasBytes}
 use Rattle.raster_ops.specs.Paints.{brush_paint}
-use Rattle.raster_ops.specs.Readers.{column_of}
+use Rattle.raster_ops.specs.Readers.{column_read}
 use Rattle.raster_ops.specs.Sources.{source_colour}
 use Rattle.raster_ops.specs.TernaryOps.{uses_pattern}
 use Rattle.raster_ops.specs.declared.sources.SourceReader.{SourceReader}
@@ -41,7 +41,7 @@ pub record ReadsBox (reader : SourceReader) (box : Rect) : Type 0 where
 pub record HoldsRow (reader : SourceReader) (columns : Span) (row : ℕ) (colours : List Colour) : Type 0 where
   pub read :
       (x : ℕ) (d : Colour) → columns.from ≤ x → x < columns.to
-      → slice_index_or colours x d ≡ picture_colour (picture_of reader.picture) (column_of reader x) row
+      → slice_index_or colours x d ≡ picture_colour (picture_of reader.picture) (column_read reader x) row
   pub parts : (x : ℕ) (d : Colour) → columns.from ≤ x → x < columns.to → HasBytes (slice_index_or colours x d)
 
 -- the colour that the brush gives a pixel, or nothing: any, where the operation doesn't depend on the pattern

@@ -1,24 +1,18 @@
 -- Playing a file whose certificate was accepted.
-use Rattle.std.specs.Prelude.{◌≡◌, ◌<◌, ◌≤◌, ◌⊎◌, ℕ, List, Ok}
+use Rattle.std.specs.Prelude.{◌<◌, ◌≤◌, ◌⊎◌, ℕ, List}
 use Rattle.canvas.specs.CanvasState.{CanvasState, image_of}
-use Rattle.meta_headers.specs.OpenedOf.{opened_of}
-use Rattle.meta_headers.specs.Opening.{opened, record_bytes}
+use Rattle.meta_headers.specs.File.{IsOpenedFrom}
 use Rattle.preflight_cert.specs.Run.{Run, Writes, shown}
 use Rattle.preflight_cert.specs.declared.certificate.Certificate.{Certificate}
 use Rattle.preflight_cert.specs.declared.cleared.Cleared.{Cleared}
 
--- the file that was opened and checked
-pub record IsFileOf (cleared : Cleared) (file : List ℕ) : Type 0 where
-  pub opens : opened file ≡ Ok (opened_of cleared.opened)
-  pub records : cleared.opened.records.now ≡ record_bytes cleared.opened.format file
-
 -- The canvas shows what the run of that file leaves of what it showed.
 abbrev pub LeavesRun : Cleared → CanvasState → CanvasState → Type 0
-LeavesRun cleared old new = (file : List ℕ) → IsFileOf cleared file → Run file old.width old.rows (image_of old) (shown (image_of new))
+LeavesRun cleared old new = (file : List ℕ) → IsOpenedFrom file cleared.opened → Run file old.width old.rows (image_of old) (shown (image_of new))
 
 -- So many pixels does the run of that file write on the canvas's surface.
 abbrev pub AreRunWrites : Cleared → CanvasState → ℕ → Type 0
-AreRunWrites cleared canvas writes = (file : List ℕ) → IsFileOf cleared file → Writes file canvas.width canvas.rows writes
+AreRunWrites cleared canvas writes = (file : List ℕ) → IsOpenedFrom file cleared.opened → Writes file canvas.width canvas.rows writes
 
 -- a side of the canvas's surface is above the certificate's bound
 abbrev pub IsTooLarge : CanvasState → Certificate → Type 0

@@ -6,19 +6,19 @@ use Rattle.point_views.specs.Polys.{lists_of}
 use Rattle.span_fill.specs.declared.line.Line.{Line}
 use Rattle.preflight_cert.specs.Outlines.{lines_after, lines_round}
 use Rattle.player.specs.PlacedLines.{lines_of_lists, projected_list}
-use Rattle.player.specs.declared.list_lines.Course.{Course}
+use Rattle.player.specs.declared.list_lines.Traced.{Traced}
 use Rattle.player.specs.declared.list_lines.Ends.{Ends}
 use Rattle.player.specs.declared.list_lines.Ends.TheVariants.{Open, Closed}
 use Rattle.player.specs.declared.list_lines.ListLines.{ListLines}
 use Rattle.player.specs.declared.placed_lines.PlacedLines.{PlacedLines}
 
 -- the lines from a place in a list on, through the placed points that are left
-abbrev pub lines_from_course : Ends → Course → List Point → List Line
+abbrev pub lines_from_course : Ends → Traced → List Point → List Line
 lines_from_course Open course points = lines_after course.last points
 lines_from_course Closed course points = lines_round course.first course.last points
 
 -- none behind the last line
-abbrev pub lines_if_on : Ends → Option Course → List Point → List Line
+abbrev pub lines_if_on : Ends → Option Traced → List Point → List Line
 lines_if_on ends None points = []
 lines_if_on ends (Some course) points = lines_from_course ends course points
 

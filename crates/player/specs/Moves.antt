@@ -1,5 +1,5 @@
 -- What goes through the points of pieces where they land, one after another.
-use Rattle.std.specs.Prelude.{◌≡◌, List, [], ◌∷◌, ◌++◌, map, Option, Some, None}
+use Rattle.std.specs.Prelude.{◌≡◌, List, [], ◌∷◌, ◌++◌, map}
 use Rattle.std.specs.List.{flat_map}
 use Rattle.mapping.specs.PageMap.{map_numbers}
 use Rattle.mapping.specs.Surface.{Surface}
@@ -18,11 +18,6 @@ use Rattle.player.specs.declared.list_lines.Ends.{Ends}
 use Rattle.player.specs.declared.list_lines.Ends.TheVariants.{Open, Closed}
 use Rattle.player.specs.declared.moves.Move.{Move}
 use Rattle.player.specs.declared.moves.Move.TheVariants.{To, End}
-
--- the first of some values is given, or none where there is none, and the others are still to come
-abbrev pub Gives : {X : Type 0} → List X → Option X → List X → Type 0
-Gives old None new = (old ≡ []) × (new ≡ [])
-Gives old (Some x) new = old ≡ x ∷ new
 
 -- the point of a move is near
 abbrev pub IsNearMove : Move → Type 0

@@ -9,7 +9,7 @@ use Rattle.span_fill.specs.declared.line.Line.{Line}
 use Rattle.player.specs.FewPoints.{few_points}
 use Rattle.player.specs.Moves.{Drawn, drawn, lines_of_moves, moves_of_lists, moves_of_pieces, nothing}
 use Rattle.player.specs.PlacedLines.{projected_list}
-use Rattle.player.specs.declared.list_lines.Course.{Course}
+use Rattle.player.specs.declared.list_lines.Traced.{Traced}
 use Rattle.player.specs.declared.moves.ListMoves.{ListMoves}
 use Rattle.player.specs.declared.moves.ListPoints.{ListPoints}
 use Rattle.player.specs.declared.moves.ListPoints.TheVariants.{Page, Placed}
@@ -58,7 +58,7 @@ abbrev pub path_moves_left : PathMoves → List Move
 path_moves_left path = moves_of_current path.current ++ moves_of_pieces (surface_of path.place) path.pieces.now
 
 -- the open figure
-abbrev pub drawn_of : Option Course → Drawn
+abbrev pub drawn_of : Option Traced → Drawn
 drawn_of None = nothing
 drawn_of (Some course) = drawn course.first course.last
 

@@ -8,7 +8,7 @@ use Rattle.draw_ops.specs.Objects.{brush_value_of}
 use Rattle.dc_stack.specs.Clip.{in_boxes}
 use Rattle.dc_stack.specs.Values.{placed_value}
 use Rattle.raster_ops.specs.Paints.{brush_paint}
-use Rattle.raster_ops.specs.Readers.{column_of, row_of}
+use Rattle.raster_ops.specs.Readers.{column_read, row_read}
 use Rattle.raster_ops.specs.declared.sources.SourceReader.{SourceReader}
 use Rattle.player.specs.RasterOperation.{joined_if}
 use Rattle.player.specs.declared.paint.Paint.{Paint}
@@ -20,7 +20,7 @@ colour_of paint x y = brush_paint (brush_value_of paint.brush) paint.modes.backg
 -- the colour that is read at a pixel, and black where nothing is read
 abbrev pub colour_seen : Option SourceReader → ℕ → ℕ → Colour
 colour_seen None x y = black_colour
-colour_seen (Some reader) x y = picture_colour (picture_of reader.picture) (column_of reader x) (row_of reader y)
+colour_seen (Some reader) x y = picture_colour (picture_of reader.picture) (column_read reader x) (row_read reader y)
 
 -- the paint writes the pixel, if the shape has it: the clip has it, and the paint there isn't nothing
 abbrev pub paints : Paint → (ℕ → ℕ → Bool) → ℕ → ℕ → Bool

@@ -29,7 +29,7 @@ pub record WantsMemory (file : List ℕ) (r : Refusal) : Type 0 where
   pub wants : IsWantOfMemory r
 
 -- the canvas holds a whole surface
-pub record IsWhole (canvas : CanvasState) (s : Surface) : Type 0 where
+pub record HoldsSurface (canvas : CanvasState) (s : Surface) : Type 0 where
   pub width : canvas.width ≡ s.width
   pub height : canvas.rows ≡ s.height
   pub first : canvas.first ≡ 0
@@ -56,7 +56,7 @@ pub record RunsThrough (content : Content) (start end : MachineState) : Type 0 w
   pub needs : end.needs ≡ needs_after content.steps start.state start.needs
 
 -- and drawn on a canvas
-pub record Plays (content : Content) (start end : MachineState) (old new : CanvasState) : Type 0 where
+pub record PlaysContent (content : Content) (start end : MachineState) (old new : CanvasState) : Type 0 where
   pub runs : RunsThrough content start end
   pub image : image_of new ≡ image_after (drawings_of content.steps start.state) start.surface (image_of old)
   pub writes : new.writes ≡ old.writes + writes_after (drawings_of content.steps start.state) start.surface
@@ -72,7 +72,7 @@ pub record StopsBy (content : Content) (state : State) (s : Surface) (r : Refusa
 pub record PlaysRecords (format : FileFormat) (records : List ℕ) (start end : MachineState) (old new : CanvasState) : Type 0 where
   pub content : Content
   pub of_records : HasContentOf format records content
-  pub plays : Plays content start end old new
+  pub plays : PlaysContent content start end old new
 
 -- the records of a file in some format have a content that stops so
 pub record StopsRecordsBy (format : FileFormat) (records : List ℕ) (state : State) (s : Surface) (r : Refusal) : Type 0 where

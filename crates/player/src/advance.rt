@@ -31,12 +31,15 @@ pub(crate) fn advance<'a, S: OpSource<'a>, T: Table<'a>>(
     room_law();
     need_law();
     fault_law();
-    let step = match source.next_op() {
-        Ok(Some(step)) => step,
-        Ok(None) => return Ok(None),
-        Err(fault) => return Err(Refusal::at(before, fault)),
+    let told = source.next_op();
+    let next = match &told {
+        Ok(next) => next,
+        Err(fault) => return Err(Refusal::at(before, *fault)),
     };
-    match machine.step(step.op) {
+    let Some(step) = next else {
+        return Ok(None);
+    };
+    match machine.step_by(&step.op) {
         Ok(drawn) => Ok(Some(drawn)),
         Err(fault) => Err(Refusal::at(step.number, fault)),
     }

@@ -8,7 +8,7 @@ ghost use Rattle.dc_stack.specs.Drawing.{edge_limit};
 ghost use Rattle.dc_stack.specs.Needs.{no_needs};
 ghost use Rattle.dc_stack.specs.State.{start_of};
 ghost use Rattle.player.specs.ClearedPlay.{AreRunWrites, IsTooLarge, IsWithinBound, LeavesRun};
-ghost use Rattle.player.specs.Plays.{IsWhole, PlaysOpened, PlaysRecords, SameRows};
+ghost use Rattle.player.specs.Plays.{HoldsSurface, PlaysOpened, PlaysRecords, SameRows};
 ghost use Rattle.preflight_cert.specs.NeedLaws.{HasRoomFor};
 
 use crate::playing::play_records;
@@ -17,8 +17,8 @@ use canvas::Canvas;
 use dc_stack::Machine;
 use draw_ops::Fault;
 use mapping::Place;
-use object_tables::Table;
-use preflight_cert::{Cleared, FileTable, answer_law, size_law};
+use object_tables::{FileTable, Table};
+use preflight_cert::{Cleared, answer_law, size_law};
 use span_fill::RowBuf;
 use std::alloc::Global;
 
@@ -82,7 +82,7 @@ fn play_reserved<'a, T: Table<'a>>(
     rows: &mut RowBuf,
     canvas: &mut Canvas,
 ) -> u64
-    requires whole { IsWhole canvas.old machine.old.surface }
+    requires whole { HoldsSurface canvas.old machine.old.surface }
     requires countable { canvas.old.writes ≤ 2 ^ 63 }
     requires within { IsWithinBound canvas.old cleared.now.certificate }
     requires room { HasRoomFor cleared.now.certificate.needs machine.old }

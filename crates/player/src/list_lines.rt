@@ -3,7 +3,7 @@
 ghost use Rattle.std.specs.Prelude.{◌≡◌, ◌<◌, ◌≤◌, ◌^◌, length, IfSome};
 ghost use Rattle.mapping.specs.declared.geometry.Point.{Point};
 ghost use Rattle.point_views.specs.Points.{points_of};
-ghost use Rattle.span_fill.specs.Lines.{GivesLine, HasNearEnds, IsNearPoint};
+ghost use Rattle.span_fill.specs.Lines.{GivesFirst, HasNearEnds, IsNearPoint};
 ghost use Rattle.player.specs.PlacedLines.{AllLand, lines_of_list};
 
 use dc_stack::Projection;
@@ -20,7 +20,7 @@ pub(crate) enum Ends {
 
 /// Where in a list the lines are: its first point where it lands, and the last so far.
 #[derive(Clone, Copy, Debug)]
-pub(crate) struct Course {
+pub(crate) struct Traced {
     pub(crate) first: Point,
     pub(crate) last: Point,
     pub(crate) ghost first_near: { IsNearPoint first },
@@ -33,7 +33,7 @@ pub(crate) struct ListLines<'a> {
     pub(crate) by: Projection,
     pub(crate) ends: Ends,
     /// None once the list's last line was given, or where it has none.
-    pub(crate) course: Option<Course>,
+    pub(crate) course: Option<Traced>,
     /// The points of the page to come.
     pub(crate) points: Points<'a>,
     pub(crate) ghost land: { AllLand by (points_of points) },
@@ -59,7 +59,7 @@ impl<'a> ListLines<'a> {
         ListLines {
             by,
             ends,
-            course: Some(Course { first, last: first }),
+            course: Some(Traced { first, last: first }),
             points: rest,
         }
     }
@@ -79,7 +79,7 @@ impl<'a> ListLines<'a> {
 
     /// The next line, or none behind the last.
     pub(crate) fn next_line(&mut self) -> Option<Line>
-        ensures line { GivesLine (lines_left self.old) result (lines_left self.new) }
+        ensures line { GivesFirst (lines_left self.old) result (lines_left self.new) }
         ensures near { IfSome result HasNearEnds }
     {
         let Some(course) = self.course else {
@@ -97,7 +97,7 @@ impl<'a> ListLines<'a> {
         };
         let last = self.by.at(point);
         self.points = rest;
-        self.course = Some(Course {
+        self.course = Some(Traced {
             first: course.first,
             last,
         });

@@ -3,9 +3,9 @@
 ghost use Rattle.std.specs.Prelude.{◌≡◌, ◌↔◌, [], IfSome, IsTrue};
 ghost use Rattle.std.specs.List.{All};
 ghost use Rattle.point_views.specs.Points.{points_of};
-ghost use Rattle.span_fill.specs.Lines.{IsNearPoint};
+ghost use Rattle.span_fill.specs.Lines.{GivesFirst, IsNearPoint};
 ghost use Rattle.player.specs.FewPoints.{few_points};
-ghost use Rattle.player.specs.Moves.{Gives, IsNearMove, end_before, end_behind, moves_of_list};
+ghost use Rattle.player.specs.Moves.{IsNearMove, end_before, end_behind, moves_of_list};
 ghost use Rattle.player.specs.PlacedLines.{AllLand};
 
 use dc_stack::{FigureEnd, Joining, Projection};
@@ -66,7 +66,7 @@ pub(crate) struct ListMoves<'a> {
 impl FewPoints {
     /// The first point, or none where there is none.
     fn next_point(&mut self) -> Option<Point>
-        ensures { Gives (few_points self.old) result (few_points self.new) }
+        ensures { GivesFirst (few_points self.old) result (few_points self.new) }
     {
         let (point, rest) = match *self {
             FewPoints::Zero => return None,
@@ -85,7 +85,7 @@ impl<'a> PagePoints<'a> {
 
     /// Where the first point lands, or none where there is none.
     fn next_point(&mut self) -> Option<Point>
-        ensures point { Gives (page_points_left self.old) result (page_points_left self.new) }
+        ensures point { GivesFirst (page_points_left self.old) result (page_points_left self.new) }
         ensures near { IfSome result IsNearPoint }
     {
         let (point, rest) = self.points.split_first()?;
@@ -100,7 +100,7 @@ impl PlacedPoints {
 
     /// The first point, or none where there is none.
     fn next_point(&mut self) -> Option<Point>
-        ensures point { Gives (placed_points_left self.old) result (placed_points_left self.new) }
+        ensures point { GivesFirst (placed_points_left self.old) result (placed_points_left self.new) }
         ensures near { IfSome result IsNearPoint }
     {
         let mut points = self.points;
@@ -115,7 +115,7 @@ impl<'a> ListPoints<'a> {
 
     /// Where the first point is, or none where there is none.
     fn next_point(&mut self) -> Option<Point>
-        ensures point { Gives (points_left self.old) result (points_left self.new) }
+        ensures point { GivesFirst (points_left self.old) result (points_left self.new) }
         ensures near { IfSome result IsNearPoint }
     {
         match self {
@@ -178,7 +178,7 @@ impl<'a> ListMoves<'a> {
 
     /// The next move, or none behind the last.
     pub(crate) fn next_move(&mut self) -> Option<Move>
-        ensures next { Gives (list_moves_left self.old) result (list_moves_left self.new) }
+        ensures next { GivesFirst (list_moves_left self.old) result (list_moves_left self.new) }
         ensures near { IfSome result IsNearMove }
     {
         if let Some(end) = self.before {

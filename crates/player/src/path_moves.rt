@@ -8,8 +8,9 @@ ghost use Rattle.dc_stack.specs.Figures.{box_corners};
 ghost use Rattle.dc_stack.specs.Mapped.{left_top_of, right_bottom_of};
 ghost use Rattle.dc_stack.specs.Pieces.{AllLandOn, LandsOn, page_lists};
 ghost use Rattle.dc_stack.specs.Projected.{is_projected, projected};
+ghost use Rattle.span_fill.specs.Lines.{GivesFirst};
 ghost use Rattle.player.specs.FewPoints.{few_points};
-ghost use Rattle.player.specs.Moves.{Gives, IsNearMove, moves_of_piece, moves_of_pieces};
+ghost use Rattle.player.specs.Moves.{IsNearMove, moves_of_piece, moves_of_pieces};
 ghost use Rattle.player.specs.PieceParts.{page_part, placed_part};
 ghost use Rattle.player.specs.PlacedLines.{AllListsLand};
 
@@ -145,7 +146,7 @@ impl<'a> PieceMoves<'a> {
 
     /// The next move, or none behind the last.
     fn next_move(&mut self) -> Option<Move>
-        ensures next { Gives (piece_moves_left self.old) result (piece_moves_left self.new) }
+        ensures next { GivesFirst (piece_moves_left self.old) result (piece_moves_left self.new) }
         ensures near { IfSome result IsNearMove }
     {
         loop {
@@ -184,7 +185,7 @@ impl<'p, 'a> PathMoves<'p, 'a> {
 
     /// The next move of a piece, or none behind its last, or where there is no piece.
     fn next_of(current: &mut Option<PieceMoves<'a>>) -> Option<Move>
-        ensures next { Gives (moves_of_current current.old) result (moves_of_current current.new) }
+        ensures next { GivesFirst (moves_of_current current.old) result (moves_of_current current.new) }
         ensures near { IfSome result IsNearMove }
     {
         match current {
@@ -195,7 +196,7 @@ impl<'p, 'a> PathMoves<'p, 'a> {
 
     /// The next move, or none behind the last.
     pub(crate) fn next_move(&mut self) -> Option<Move>
-        ensures next { Gives (path_moves_left self.old) result (path_moves_left self.new) }
+        ensures next { GivesFirst (path_moves_left self.old) result (path_moves_left self.new) }
         ensures near { IfSome result IsNearMove }
     {
         loop {

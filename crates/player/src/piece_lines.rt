@@ -4,14 +4,14 @@ ghost use Rattle.std.specs.Prelude.{◌≡◌, ◌<◌, ◌^◌, [], length, IfS
 ghost use Rattle.mapping.specs.PlaceOf.{surface_of};
 ghost use Rattle.dc_stack.specs.Figures.{all_figures, points_of_figures};
 ghost use Rattle.dc_stack.specs.Pieces.{AllLandOn, figures_of};
-ghost use Rattle.span_fill.specs.Lines.{GivesLine, HasNearEnds, IsNearPoint};
+ghost use Rattle.span_fill.specs.Lines.{GivesFirst, HasNearEnds, IsNearPoint};
 ghost use Rattle.player.specs.FigureEnds.{lines_of_figures};
 ghost use Rattle.preflight_cert.specs.FigureLines.{placed_figures};
-ghost use Rattle.player.specs.Moves.{Gives, IsNearMove, after_move, lines_at_end, lines_of_move};
+ghost use Rattle.player.specs.Moves.{IsNearMove, after_move, lines_at_end, lines_of_move};
 ghost use Rattle.player.specs.MovesToCome.{drawn_of, figure_lines_left};
 ghost use Rattle.player.specs.declared.moves.Move.TheVariants.{To, End};
 
-use crate::list_lines::{Course, Ends};
+use crate::list_lines::{Ends, Traced};
 use crate::moves::Move;
 use crate::path_moves::PathMoves;
 use dc_stack::{FigureEnd, Piece};
@@ -23,7 +23,7 @@ use span_fill::{Line, Outline};
 pub(crate) struct FigureLines<'p, 'a> {
     pub(crate) ends: Ends,
     /// The open figure, if there is one.
-    pub(crate) course: Option<Course>,
+    pub(crate) course: Option<Traced>,
     pub(crate) moves: PathMoves<'p, 'a>,
 }
 
@@ -35,20 +35,20 @@ pub(crate) struct PieceLines<'p, 'a> {
 }
 
 /// The open figure goes on to a point, by a line, or one begins there.
-fn go_to(course: &mut Option<Course>, ends: Ends, point: Point) -> Option<Line>
+fn go_to(course: &mut Option<Traced>, ends: Ends, point: Point) -> Option<Line>
     requires { IsNearPoint point }
-    ensures line { Gives (lines_of_move ends (To point) (drawn_of course.old)) result [] }
+    ensures line { GivesFirst (lines_of_move ends (To point) (drawn_of course.old)) result [] }
     ensures near { IfSome result HasNearEnds }
     ensures figure { drawn_of course.new ≡ after_move (To point) (drawn_of course.old) }
 {
     let Some(figure) = *course else {
-        *course = Some(Course {
+        *course = Some(Traced {
             first: point,
             last: point,
         });
         return None;
     };
-    *course = Some(Course {
+    *course = Some(Traced {
         first: figure.first,
         last: point,
     });
@@ -59,8 +59,8 @@ fn go_to(course: &mut Option<Course>, ends: Ends, point: Point) -> Option<Line>
 }
 
 /// What becomes of the open figure: a line back to its first point, where it has that.
-fn end_figure(course: &mut Option<Course>, ends: Ends, end: FigureEnd) -> Option<Line>
-    ensures line { Gives (lines_at_end ends end (drawn_of course.old)) result [] }
+fn end_figure(course: &mut Option<Traced>, ends: Ends, end: FigureEnd) -> Option<Line>
+    ensures line { GivesFirst (lines_at_end ends end (drawn_of course.old)) result [] }
     ensures near { IfSome result HasNearEnds }
     ensures figure { drawn_of course.new ≡ after_move (End end) (drawn_of course.old) }
 {
@@ -85,7 +85,7 @@ impl<'p, 'a> FigureLines<'p, 'a> {
     /// The line that a move draws, if it does.
     fn follow(&mut self, step: Move) -> Option<Line>
         requires { IsNearMove step }
-        ensures line { Gives (lines_of_move self.old.ends step (drawn_of self.old.course)) result [] }
+        ensures line { GivesFirst (lines_of_move self.old.ends step (drawn_of self.old.course)) result [] }
         ensures near { IfSome result HasNearEnds }
         ensures figure { drawn_of self.new.course ≡ after_move step (drawn_of self.old.course) }
         ensures moves { self.new.moves ≡ self.old.moves }
@@ -99,7 +99,7 @@ impl<'p, 'a> FigureLines<'p, 'a> {
 
     /// The next line, or none behind the last.
     fn next_line(&mut self) -> Option<Line>
-        ensures line { GivesLine (figure_lines_left self.old) result (figure_lines_left self.new) }
+        ensures line { GivesFirst (figure_lines_left self.old) result (figure_lines_left self.new) }
         ensures near { IfSome result HasNearEnds }
     {
         while let Some(step) = self.moves.next_move() {

@@ -4,11 +4,11 @@ ghost use Rattle.std.specs.Prelude.{◌≡◌, ◌∷◌, ◌<◌, ◌^◌, leng
 ghost use Rattle.mapping.specs.declared.geometry.Point.{Point};
 ghost use Rattle.point_views.specs.Points.{points_of};
 ghost use Rattle.point_views.specs.Polys.{lists_of};
-ghost use Rattle.span_fill.specs.Lines.{GivesLine, HasNearEnds, IsNearPoint};
+ghost use Rattle.span_fill.specs.Lines.{GivesFirst, HasNearEnds, IsNearPoint};
 ghost use Rattle.preflight_cert.specs.Outlines.{open_lines_of};
 ghost use Rattle.player.specs.PlacedLines.{AllLand, AllListsLand, lines_between, lines_of_lists, projected_list};
 
-use crate::list_lines::{Course, Ends, ListLines, count_points};
+use crate::list_lines::{Ends, ListLines, Traced, count_points};
 use dc_stack::Projection;
 use mapping::Point;
 use point_views::{Points, Polys};
@@ -57,7 +57,7 @@ impl<'a> PlacedLines<'a> {
             current: Some(ListLines {
                 by,
                 ends,
-                course: Some(Course {
+                course: Some(Traced {
                     first: start,
                     last: start,
                 }),
@@ -82,7 +82,7 @@ impl<'a> PlacedLines<'a> {
 
     /// The next line of a list, or none behind its last, or where there is no list.
     fn next_of(current: &mut Option<ListLines<'a>>) -> Option<Line>
-        ensures line { GivesLine (lines_of_current current.old) result (lines_of_current current.new) }
+        ensures line { GivesFirst (lines_of_current current.old) result (lines_of_current current.new) }
         ensures near { IfSome result HasNearEnds }
     {
         match current {

@@ -9,7 +9,7 @@ ghost use Rattle.meta_headers.specs.OpenedOf.{opened_of};
 ghost use Rattle.dc_stack.specs.MachineState.{GoesOn, HasFullRoom};
 ghost use Rattle.player.specs.After.{HasLines, HasLinesForRecords, HasRoomForRecords, HasRoomForSteps};
 ghost use Rattle.player.specs.Leaving.{IsLeftBy, IsLeftByRecords};
-ghost use Rattle.player.specs.Plays.{IsWhole, Plays, PlaysOpened, PlaysRecords, SameRows, StopsBy, StopsOpenedBy, StopsRecordsBy, WantsMemory};
+ghost use Rattle.player.specs.Plays.{HoldsSurface, PlaysContent, PlaysOpened, PlaysRecords, SameRows, StopsBy, StopsOpenedBy, StopsRecordsBy, WantsMemory};
 ghost use Rattle.preflight_cert.specs.Run.{Refused, Run, Writes, shown, white};
 
 use crate::advance::advance;
@@ -22,12 +22,12 @@ use dc_stack::Machine;
 use draw_ops::{Fault, OpSource};
 use mapping::{Colour, Place};
 use meta_headers::{Opened, open_file};
-use object_tables::Table;
-use preflight_cert::{FileTable, Refusal};
+use object_tables::{FileTable, Table};
+use preflight_cert::Refusal;
 use span_fill::{OutOfMemory, RowBuf};
 use std::alloc::Global;
 
-/// Plays a file on a white surface of `width` by `height` pixels. The canvas shows the image that the
+/// PlaysContent a file on a white surface of `width` by `height` pixels. The canvas shows the image that the
 /// file's records define, and counts the pixels written.
 ///
 /// The refusal is the first fault of the file with its record, or `OutOfMemory` without one where
@@ -56,7 +56,7 @@ pub fn play_file(alloc: Global, file: &[u8], width: u32, height: u32) -> Result<
     }
 }
 
-/// Plays an opened file's records from their start on. All memory is taken before the first of them is drawn, once
+/// PlaysContent an opened file's records from their start on. All memory is taken before the first of them is drawn, once
 /// it is known how many lines a drawing has: where it is refused, the canvas is what it was. The refusal is the records' first fault.
 fn play_opened(
     alloc: Global,
@@ -88,7 +88,7 @@ fn play_opened(
     }
 }
 
-/// Plays an opened file's records on a machine that has room for any file, with rows that have room for
+/// PlaysContent an opened file's records on a machine that has room for any file, with rows that have room for
 /// any drawing, and on a canvas that holds the machine's surface, over what it shows, and tells how many
 /// pixels were written. The refusal is the first fault of the records: no memory is wanted. Behind a play the machine is in the
 /// state, and tells the needs, that the records leave, and after a refusal those that the records before the fault leave. The canvas
@@ -99,7 +99,7 @@ pub fn play_on<'a, T: Table<'a>>(
     rows: &mut RowBuf,
     canvas: &mut Canvas,
 ) -> Result<u64, Refusal>
-    requires whole { IsWhole canvas.old machine.old.surface }
+    requires whole { HoldsSurface canvas.old machine.old.surface }
     requires room { HasFullRoom machine.old }
     requires lines { 2 ^ 20 ≤ rows.old.room }
     requires countable { canvas.old.writes ≤ 2 ^ 63 }
@@ -118,14 +118,14 @@ pub fn play_on<'a, T: Table<'a>>(
     play_records(opened, machine, rows, canvas)
 }
 
-/// Plays an opened file's records as `play_on` does, on a machine and with rows that have room for what these records need.
+/// PlaysContent an opened file's records as `play_on` does, on a machine and with rows that have room for what these records need.
 pub(crate) fn play_records<'a, T: Table<'a>>(
     opened: &Opened<'a>,
     machine: &mut Machine<'a, T>,
     rows: &mut RowBuf,
     canvas: &mut Canvas,
 ) -> Result<u64, Refusal>
-    requires whole { IsWhole canvas.old machine.old.surface }
+    requires whole { HoldsSurface canvas.old machine.old.surface }
     requires room { HasRoomForRecords opened.now.format opened.now.records.now machine.old }
     requires lines { HasLinesForRecords rows.old.room opened.now.format opened.now.records.now machine.old }
     requires countable { canvas.old.writes ≤ 2 ^ 63 }
@@ -148,7 +148,7 @@ pub(crate) fn play_records<'a, T: Table<'a>>(
     }
 }
 
-/// Plays the steps that are left of a source, or tells the first fault with its record.
+/// PlaysContent the steps that are left of a source, or tells the first fault with its record.
 fn play_steps<'a, S: OpSource<'a>, T: Table<'a>>(
     source: &mut S,
     machine: &mut Machine<'a, T>,
@@ -156,11 +156,11 @@ fn play_steps<'a, S: OpSource<'a>, T: Table<'a>>(
     canvas: &mut Canvas,
 ) -> Result<(), Refusal>
     requires short { length (S.content source.old).steps ≤ record_limit }
-    requires whole { IsWhole canvas.old machine.old.surface }
+    requires whole { HoldsSurface canvas.old machine.old.surface }
     requires room { HasRoomForSteps (S.content source.old) machine.old }
     requires lines { HasLines rows.old.room (S.content source.old) machine.old }
     requires countable { canvas.old.writes ≤ 2 ^ 63 }
-    ensures played { OnOk result (Plays (S.content source.old) machine.old machine.new canvas.old canvas.new) }
+    ensures played { OnOk result (PlaysContent (S.content source.old) machine.old machine.new canvas.old canvas.new) }
     ensures refusal { IfErr result (StopsBy (S.content source.old) machine.old.state machine.old.surface) }
     ensures left { OnErr result (IsLeftBy (S.content source.old) machine.old machine.new) }
     ensures record { IfErr result (λ r. IsSome r.number ↔ IsInRecord r.fault) }

@@ -3,11 +3,10 @@
 ghost use Rattle.std.specs.Prelude.{◌≡◌, ◌≤◌, ◌⊎◌, IfOk, OnOk};
 ghost use Rattle.dc_stack.specs.Drawing.{edge_limit};
 ghost use Rattle.dc_stack.specs.MachineState.{GoesOn, HasFullRoom, IsUnchanged};
-ghost use Rattle.dc_stack.specs.State.{table_kind_of};
+ghost use Rattle.object_tables.specs.Table.{table_kind_of};
 
 use dc_stack::{MAX_PIECES, MAX_SAVED_STATES, Machine};
-use object_tables::Table;
-use preflight_cert::full_slots;
+use object_tables::{Table, full_slots};
 use span_fill::{OutOfMemory, RowBuf};
 use std::alloc::Global;
 

@@ -10,9 +10,9 @@ use Rattle.draw_ops.specs.ExactlyOne.{ExactlyOne}
 use Rattle.draw_ops.specs.RecordContent.{ContentIsOne}
 use Rattle.draw_ops.specs.declared.fault.Fault.{Fault}
 use Rattle.draw_ops.specs.declared.fault.Fault.TheVariants.{BoxTooSmall, BudgetTooSmall, NeedTooSmall, WrongEntry}
+use Rattle.meta_headers.specs.File.{FileIsOne, IsFile}
 use Rattle.meta_headers.specs.Headers.{OpenedValue}
 use Rattle.meta_headers.specs.Opening.{framing_of, meaning_of, opened, record_bytes, surface_for}
-use Rattle.meta_headers.specs.declared.opened.FileFormat.{FileFormat}
 use Rattle.dc_stack.specs.Drawing.{Drawing, drawing_of, drawing_points}
 use Rattle.dc_stack.specs.Next.{next}
 use Rattle.dc_stack.specs.OperationFault.{fault_of}
@@ -26,12 +26,13 @@ use Rattle.preflight_cert.specs.Checked.{checked, checked_end}
 use Rattle.preflight_cert.specs.Drawings.{NumberedDrawing, drawing_then, drawings_of}
 use Rattle.preflight_cert.specs.Entries.{AreCovered, Covers, covers, entries_behind, entry_fault}
 use Rattle.preflight_cert.specs.NeedLaws.{AreWithin}
-use Rattle.preflight_cert.specs.Run.{IsFileContent, OpenedShows, OpenedStops, OpenedWrites, RefusedIfOpened, ShowsIfOpened, WritesIfOpened}
+use Rattle.preflight_cert.specs.Run.{Refused, ShowsImage, StopsInRecord, Writes}
 use Rattle.preflight_cert.specs.SizeLaws.{SizeLaws}
 use Rattle.preflight_cert.specs.Stop.{Stop, stop_at, stop_of, stopped}
 use Rattle.preflight_cert.specs.Writes.{writes_after}
 use Rattle.preflight_cert.specs.declared.entry.Entry.{Entry}
 use Rattle.preflight_cert.proofs.CoverLemmas.{points_in, points_of}
+use Rattle.preflight_cert.proofs.RunLemmas.{opens_or_not}
 use Rattle.preflight_cert.proofs.StopLemmas.{none_first, none_here, none_later, none_second}
 
 -- behind the last step
@@ -148,17 +149,13 @@ accepted_of content o c fits =
     let few = le-leb _ _ fits.budget in
     rw (order, within, few) refl
 
--- a file of any format has one content
-one_file_content : ContentIsOne → (format : FileFormat) (file : List ℕ) → ExactlyOne (IsFileContent format file)
-one_file_content one format file = one (framing_of format) (meaning_of format) (record_bytes format file)
-
 one_of : (answer : Answer) → ExactlyOne (λ (other : Answer). other ≡ answer)
 one_of answer = record { value = answer; holds = refl; only = λ other h. h }
 
 one_read : ContentIsOne → (read : Result CertificateValue Fault) (o : OpenedValue) (file : List ℕ) → ExactlyOne (AnswersRead read o (record_bytes o.format file))
 one_read one (Err fault) o file = one_of (refuses None fault)
 one_read one (Ok c) o file =
-    let content = one_file_content one o.format file in
+    let content = one (framing_of o.format) (meaning_of o.format) (record_bytes o.format file) in
     record {
       value = answer_to content.value o c;
       holds = record { content = content.value; of_records = content.holds; answers = refl };
@@ -175,60 +172,56 @@ some_none stop at h k = cc
 no_larger : (o : OpenedValue) (c : CertificateValue) (width height : ℕ) → width ≤ c.max_width → height ≤ c.max_height → IsNoLarger (surface_for o width height) (bound_of o c)
 no_larger o c width height w h = record { width = w; height = h; frame_width = refl; frame_height = refl }
 
-module _ (one : ContentIsOne) (laws : SizeLaws) (o : OpenedValue) (file : List ℕ) (c : CertificateValue) (frame : ShowsFrame (bound_of o c)) (answer : RecordsAnswer o (record_bytes o.format file) c accepted) where
+module _ (one : FileIsOne) (laws : SizeLaws) (file : List ℕ) (o : OpenedValue) (opens : opened file ≡ Ok o) (c : CertificateValue) (frame : ShowsFrame (bound_of o c)) (answer : RecordsAnswer o (record_bytes o.format file) c accepted) where
   abbrev fits : Fits c o answer.content
   fits = fits_of answer.content o c answer.answers
 
-  same : (content : Content) → IsFileContent o.format file content → content ≡ answer.content
-  same content h = let the_one = one_file_content one o.format file in the_one.only content h ∙ sym (the_one.only answer.content answer.of_records)
+  of_file : IsFile file o answer.content
+  of_file = record { opens = opens; records = answer.of_records }
+
+  same : (headers : OpenedValue) (content : Content) → IsFile file headers content → ◌≡◌ {A = OpenedValue × Content} (headers, content) (o, answer.content)
+  same headers content h = let the_one = one file o opens in the_one.only (headers, content) h ∙ sym (the_one.only (o, answer.content) of_file)
 
   unstopped : (width height : ℕ) → width ≤ c.max_width → height ≤ c.max_height → stop_of answer.content (start_of o) (surface_for o width height) ≡ None
   unstopped width height w h = laws.unstopped answer.content (start_of o) (surface_for o width height) (bound_of o c) frame (no_larger o c width height w h) fits.unstopped
 
-  shows_opened : (width height : ℕ) (image : Image) → width ≤ c.max_width → height ≤ c.max_height
-      → OpenedShows o file width height image (image_after (drawings_of answer.content.steps (start_of o)) (surface_for o width height) image)
-  shows_opened width height image w h = record { content = answer.content; of_file = answer.of_records; unstopped = unstopped width height w h; shows = refl }
+  shows_image : (width height : ℕ) (image : Image) → width ≤ c.max_width → height ≤ c.max_height
+      → ShowsImage file width height image (image_after (drawings_of answer.content.steps (start_of o)) (surface_for o width height) image)
+  shows_image width height image w h = record { headers = o; content = answer.content; of_file = of_file; unstopped = unstopped width height w h; shows = refl }
 
-  never_stops : (width height number : ℕ) (fault : Fault) → width ≤ c.max_width → height ≤ c.max_height → OpenedStops o file width height number fault → ⊥
+  never_stops : (width height number : ℕ) (fault : Fault) → width ≤ c.max_width → height ≤ c.max_height → StopsInRecord file width height number fault → ⊥
   never_stops width height number fault w h k =
-      let e = ap (λ (content : Content). stop_of content (start_of o) (surface_for o width height)) (same k.content k.of_file) in
+      let e = ap (λ (it : OpenedValue × Content). stop_of it.1 (start_of it.0) (surface_for it.0 width height)) (same k.headers k.content k.of_file) in
       let none = unstopped width height w h in
       let some = k.stops in some_none _ (stop_at number fault) some (e ∙ none)
 
-  few_opened : (width height writes : ℕ) → width ≤ c.max_width → height ≤ c.max_height → OpenedWrites o file width height writes → writes ≤ c.writes
-  few_opened width height writes w h k =
-      let e = ap (λ (content : Content). writes_after (drawings_of content.steps (start_of o)) (surface_for o width height)) (same k.content k.of_file) in
+  never_refused : (width height : ℕ) (number : Option ℕ) (fault : Fault) → width ≤ c.max_width → height ≤ c.max_height → Refused file width height number fault → ⊥
+  never_refused width height None fault w h k = opens_or_not (opened file) o fault opens k
+  never_refused width height (Some number) fault w h k = never_stops width height number fault w h k
+
+  few_written : (width height writes : ℕ) → width ≤ c.max_width → height ≤ c.max_height → Writes file width height writes → writes ≤ c.writes
+  few_written width height writes w h k =
+      let e = ap (λ (it : OpenedValue × Content). writes_after (drawings_of it.1.steps (start_of it.0)) (surface_for it.0 width height)) (same k.headers k.content k.of_file) in
       let few = laws.few (drawings_of answer.content.steps (start_of o)) c.entries (surface_for o width height) (bound_of o c) frame (no_larger o c width height w h) fits.covered in
       let budget = fits.budget in
       let count = k.count in omega (arith, e, few, budget, count)
 
 -- the same at the definitions
-to_shows : (o : Result OpenedValue Fault) (v : OpenedValue) (file : List ℕ) (width height : ℕ) (image after : Image) → o ≡ Ok v → OpenedShows v file width height image after → ShowsIfOpened o file width height image after
-to_shows o v file width height image after e h = rw e h
-
-from_refused : (o : Result OpenedValue Fault) (v : OpenedValue) (file : List ℕ) (width height : ℕ) (number : Option ℕ) (fault : Fault) → o ≡ Ok v → RefusedIfOpened o file width height number fault
-    → ((n : ℕ) → OpenedStops v file width height n fault → ⊥) → ⊥
-from_refused o v file width height None fault e h never = rw e at h
-from_refused o v file width height (Some n) fault e h never = never n (rw e at h)
-
-from_writes : (o : Result OpenedValue Fault) (v : OpenedValue) (file : List ℕ) (width height writes : ℕ) → o ≡ Ok v → WritesIfOpened o file width height writes → OpenedWrites v file width height writes
-from_writes o v file width height writes e h = rw e at h
-
 from_answer : (o : Result OpenedValue Fault) (v : OpenedValue) (c : CertificateValue) (file bytes : List ℕ) (answer : Answer) → o ≡ Ok v → read_certificate bytes ≡ Ok c → AnswersOpened o file bytes answer → RecordsAnswer v (record_bytes v.format file) c answer
 from_answer o v c file bytes answer e f h = let k : AnswersRead (read_certificate bytes) v (record_bytes v.format file) answer = rw e at h in rw f at k
 
-sound : ContentIsOne → SizeLaws → (file bytes : List ℕ) (o : OpenedValue) (c : CertificateValue) → opened file ≡ Ok o → read_certificate bytes ≡ Ok c → ShowsFrame (bound_of o c) → IsAnswer file bytes accepted → Sound file c.max_width c.max_height c.writes
+sound : FileIsOne → SizeLaws → (file bytes : List ℕ) (o : OpenedValue) (c : CertificateValue) → opened file ≡ Ok o → read_certificate bytes ≡ Ok c → ShowsFrame (bound_of o c) → IsAnswer file bytes accepted → Sound file c.max_width c.max_height c.writes
 sound one laws file bytes o c e f frame h =
     let answer = from_answer (opened file) o c file bytes accepted e f h in
     record {
-      shows = λ width height image w k. record { after = _; ends = to_shows (opened file) o file width height image _ e (shows_opened one laws o file c frame answer width height image w k) };
-      faultless = λ width height image number fault w k r. from_refused (opened file) o file width height number fault e r (λ n s. never_stops one laws o file c frame answer width height n fault w k s);
-      few = λ width height writes w k r. few_opened one laws o file c frame answer width height writes w k (from_writes (opened file) o file width height writes e r);
+      shows = λ width height image w k. record { after = _; ends = shows_image one laws file o e c frame answer width height image w k };
+      faultless = λ width height image number fault w k r. never_refused one laws file o e c frame answer width height number fault w k r;
+      few = λ width height writes w k r. few_written one laws file o e c frame answer width height writes w k r;
     }
 
-pub answer_laws : ContentIsOne → SizeLaws → AnswerLaws
-answer_laws one laws = record {
+pub answer_laws : ContentIsOne → FileIsOne → SizeLaws → AnswerLaws
+answer_laws one of_file laws = record {
   one = λ file certificate. one_opened one (opened file) file certificate;
   fits = λ content o c. (fits_of content o c, accepted_of content o c);
-  sound = sound one laws;
+  sound = sound of_file laws;
 }

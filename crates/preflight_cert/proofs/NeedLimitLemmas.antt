@@ -9,14 +9,14 @@ use Rattle.draw_ops.specs.Operation.{Operation, no_effect, save, restore, set_ba
 use Rattle.draw_ops.specs.declared.fault.Fault.{Fault}
 use Rattle.draw_ops.specs.declared.fault.Fault.TheVariants.{DepthLimit, TooManyEdges, TooManyPieces}
 use Rattle.meta_headers.specs.Headers.{OpenedValue}
-use Rattle.object_tables.specs.Table.{CreatedIndexIsBelowBound, TableKind}
+use Rattle.object_tables.specs.Table.{CreatedIndexIsBelowBound, TableKind, table_kind_of}
 use Rattle.dc_stack.specs.Drawing.{drawing_edges, drawing_of, edge_limit}
 use Rattle.dc_stack.specs.Needs.{drawing_needs, greater_needs, needs_of, no_needs}
 use Rattle.dc_stack.specs.Next.{next}
 use Rattle.dc_stack.specs.OperationFault.{edges_fault, fault_of, place_fault, plain_fault}
 use Rattle.dc_stack.specs.Path.{finished_fault, piece_count, piece_limit, pieces_fault}
 use Rattle.dc_stack.specs.SavedStates.{after_restoring, depth_limit, saved_place}
-use Rattle.dc_stack.specs.State.{State, start_of, table_kind_of}
+use Rattle.dc_stack.specs.State.{State, start_of}
 use Rattle.dc_stack.specs.declared.needs.Needs.{Needs}
 use Rattle.preflight_cert.specs.After.{file_needs, needs_after}
 use Rattle.preflight_cert.specs.NeedLaws.{AreWithin, most_needs}

@@ -8,11 +8,11 @@ use Rattle.mapping.specs.Surface.{Surface}
 use Rattle.draw_ops.specs.Content.{Content}
 use Rattle.dc_stack.specs.Drawing.{drawing_points}
 use Rattle.dc_stack.specs.MachineState.{MachineState}
-use Rattle.dc_stack.specs.State.{State, start_of, table_kind_of}
+use Rattle.dc_stack.specs.State.{State, start_of}
 use Rattle.dc_stack.specs.declared.needs.Needs.{Needs}
 use Rattle.meta_headers.specs.Headers.{OpenedValue}
 use Rattle.meta_headers.specs.Opening.{HasContentOf, surface_for}
-use Rattle.object_tables.specs.Table.{index_bound}
+use Rattle.object_tables.specs.Table.{index_bound, table_kind_of}
 use Rattle.preflight_cert.specs.After.{file_needs, needs_after}
 use Rattle.preflight_cert.specs.Answer.{AnswerLaws, AnswersRead, RecordsAnswer, accepted}
 use Rattle.preflight_cert.specs.CertificateReading.{CertificateValue, entry_limit, read_certificate, slot_limit}

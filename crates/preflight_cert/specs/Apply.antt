@@ -11,13 +11,13 @@ use Rattle.preflight_cert.specs.Paint.{paint_at}
 use Rattle.preflight_cert.specs.Writes.{writes_pixel}
 
 -- the paint joined with the old colour, where the paint gives one
-abbrev pub joined : Mixing → Surface → ℕ → ℕ → Option Colour → Colour → Colour
-joined mixing s x y None old = old
-joined mixing s x y (Some paint) old = mixed mixing s x y paint old
+abbrev pub mixed_with : Mixing → Surface → ℕ → ℕ → Option Colour → Colour → Colour
+mixed_with mixing s x y None old = old
+mixed_with mixing s x y (Some paint) old = mixed mixing s x y paint old
 
 -- what the layer makes of the old colour of a pixel that it writes
 abbrev pub ink_of : Layer → Surface → ℕ → ℕ → Colour → Colour
-ink_of layer s x y old = joined layer.mixing s x y (paint_at layer.paint s x y) old
+ink_of layer s x y old = mixed_with layer.mixing s x y (paint_at layer.paint s x y) old
 
 -- the image after a layer: the pixels that the layer writes, and every other as it was
 abbrev pub apply : Layer → Surface → Image → Image

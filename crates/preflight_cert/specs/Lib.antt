@@ -11,7 +11,6 @@ pub mod Apply
 pub mod Stop
 pub mod Run
 pub mod Refusal
-pub mod FileTable
 pub mod After
 pub mod Budget
 pub mod Entries

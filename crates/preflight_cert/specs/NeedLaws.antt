@@ -5,13 +5,13 @@ use Rattle.draw_ops.specs.Content.{Content, StepValue}
 use Rattle.draw_ops.specs.Operation.{Operation}
 use Rattle.draw_ops.specs.declared.fault.Fault.{Fault}
 use Rattle.meta_headers.specs.Headers.{OpenedValue}
-use Rattle.object_tables.specs.Table.{TableKind, index_bound}
+use Rattle.object_tables.specs.Table.{TableKind, index_bound, table_kind_of}
 use Rattle.dc_stack.specs.Drawing.{edge_limit}
 use Rattle.dc_stack.specs.MachineState.{MachineState, WantsRoom}
 use Rattle.dc_stack.specs.Needs.{needs_of}
 use Rattle.dc_stack.specs.Path.{piece_limit}
 use Rattle.dc_stack.specs.SavedStates.{depth_limit}
-use Rattle.dc_stack.specs.State.{State, start_of, table_kind_of}
+use Rattle.dc_stack.specs.State.{State, start_of}
 use Rattle.dc_stack.specs.declared.needs.Needs.{Needs}
 use Rattle.preflight_cert.specs.After.{file_needs, needs_after}
 use Rattle.preflight_cert.specs.Stop.{stop_of}

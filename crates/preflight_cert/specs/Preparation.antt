@@ -77,5 +77,5 @@ RefusesWithin false file width height number fault = IsBoundFault number fault
 RefusesWithin true file width height number fault = Refused file width height number fault
 
 -- No certificate is prepared for a file at a bound: the bound isn't one, or the file's run there is refused by this fault.
-abbrev pub RefusesToPrepare : List ℕ → ℕ → ℕ → Option ℕ → Fault → Type 0
-RefusesToPrepare file width height number fault = RefusesWithin (is_bound width height) file width height number fault
+abbrev pub StopsPreparing : List ℕ → ℕ → ℕ → Option ℕ → Fault → Type 0
+StopsPreparing file width height number fault = RefusesWithin (is_bound width height) file width height number fault

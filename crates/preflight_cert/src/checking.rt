@@ -1,8 +1,8 @@
 //! Checking a certificate against a file.
 
 ghost use Rattle.std.specs.Prelude.{◌≡◌, ◌⊎◌, Ok, IfErr, IfOk, OnOk};
+ghost use Rattle.meta_headers.specs.File.{IsOpenedFrom};
 ghost use Rattle.meta_headers.specs.OpenedOf.{opened_of};
-ghost use Rattle.meta_headers.specs.Opening.{opened, record_bytes};
 ghost use Rattle.preflight_cert.specs.Answer.{CountsRecords, IsAnswer, RecordsAnswer, Sound, accepted, are_within, refuses, total_fault};
 ghost use Rattle.preflight_cert.specs.CertificateOf.{certificate_of};
 ghost use Rattle.preflight_cert.specs.CertificateReading.{read_certificate};
@@ -10,7 +10,6 @@ ghost use Rattle.preflight_cert.specs.Checks.{IsWantOfMemory};
 
 use crate::certificate::Certificate;
 use crate::cleared::Cleared;
-use crate::file_table::FileTable;
 use crate::laws::answer_law;
 use crate::refusal::Refusal;
 use crate::walk::check_steps;
@@ -18,6 +17,7 @@ use dc_stack::{Machine, Needs};
 use draw_ops::{Fault, Notes, content_law};
 use mapping::Place;
 use meta_headers::{Opened, open_file};
+use object_tables::FileTable;
 use std::alloc::Global;
 
 /// Checks a certificate against a file, at the size of its bound. Where it is accepted, each run of the file on a surface up to
@@ -30,8 +30,7 @@ pub fn check<'a>(
     certificate: &'a [u8],
 ) -> Result<Cleared<'a>, Refusal>
     ensures accepted { OnOk result (IsAnswer file.now certificate.now accepted) }
-    ensures opened { IfOk result (λ c. opened file.now ≡ Ok (opened_of c.opened)) }
-    ensures records { IfOk result (λ c. c.opened.records.now ≡ record_bytes c.opened.format file.now) }
+    ensures opened { IfOk result (λ c. IsOpenedFrom file.now c.opened) }
     ensures read { IfOk result (λ c. read_certificate certificate.now ≡ Ok (certificate_of c.certificate)) }
     ensures counts { IfOk result (λ c. CountsRecords (opened_of c.opened) c.opened.records.now c.records c.notes.counts) }
     ensures sound { IfOk result (λ c. Sound file.now c.certificate.max_width c.certificate.max_height c.certificate.writes) }

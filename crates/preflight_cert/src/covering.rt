@@ -25,19 +25,19 @@ use object_tables::Table;
 #[tactic(auto, using(crate::proofs::BudgetLemmas::budgets))]
 pub(crate) fn take_entry<'a, T: Table<'a>>(
     number: u32,
-    drawn: Option<Draw<'a>>,
+    drawn: &Option<Draw<'a>>,
     machine: &Machine<'a, T>,
     place: Place,
     entries: &mut Entries<'_>,
 ) -> Result<u64, Fault>
     requires place { surface_of place ≡ machine.now.surface }
-    requires placed { IfSome drawn (IsPlacedDraw machine.now.surface machine.now.painted) }
-    ensures fault { result_err result ≡ entry_fault number (option_map (drawing_with machine.now) drawn.entry) (entries_of entries.old) }
+    requires placed { IfSome drawn.now (IsPlacedDraw machine.now.surface machine.now.painted) }
+    ensures fault { result_err result ≡ entry_fault number (option_map (drawing_with machine.now) drawn.now) (entries_of entries.old) }
     ensures budget { IfOk result
-        (λ n. n ≡ drawing_budget (option_map (drawing_with machine.now) drawn.entry) (entries_of entries.old) machine.now.surface) }
+        (λ n. n ≡ drawing_budget (option_map (drawing_with machine.now) drawn.now) (entries_of entries.old) machine.now.surface) }
     ensures few { IfOk result (λ n. n ≤ 134217728) }
     ensures behind { OnOk result
-        (entries_of entries.new ≡ entries_behind (option_map (drawing_with machine.now) drawn.entry) (entries_of entries.old)) }
+        (entries_of entries.new ≡ entries_behind (option_map (drawing_with machine.now) drawn.now) (entries_of entries.old)) }
 {
     let Some(drawn) = drawn else {
         return Ok(0);
@@ -52,7 +52,7 @@ pub(crate) fn take_entry<'a, T: Table<'a>>(
         return Err(Fault::BoxTooSmall);
     }
     *entries = rest;
-    Ok(pixel_budget(layer_count(&drawn, machine), box_cells(entry.bounds, place)))
+    Ok(pixel_budget(layer_count(drawn, machine), box_cells(entry.bounds, place)))
 }
 
 /// How many pixels so many layers write at most, each at most so many.

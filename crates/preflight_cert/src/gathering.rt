@@ -39,15 +39,19 @@ pub(crate) fn gather<'a, S: OpSource<'a>, T: Table<'a>>(
     let mut before: u32 = 0;
     let mut writes: u64 = 0;
     loop {
-        let step = match source.next_op() {
-            Ok(Some(step)) => step,
-            Ok(None) => return Ok(writes),
-            Err(fault) => return Err(Refusal::at(before, fault)),
+        let told = source.next_op();
+        let next = match &told {
+            Ok(next) => next,
+            Err(fault) => return Err(Refusal::at(before, *fault)),
         };
-        let drawn = match machine.step(step.op) {
+        let Some(step) = next else {
+            return Ok(writes);
+        };
+        let played = machine.step_by(&step.op);
+        let drawn = match &played {
             Ok(drawn) => drawn,
             Err(Fault::OutOfMemory) => return Err(Refusal::of_file(Fault::OutOfMemory)),
-            Err(fault) => return Err(Refusal::at(step.number, fault)),
+            Err(fault) => return Err(Refusal::at(step.number, *fault)),
         };
         match add_entry(step.number, drawn, machine, place, entries) {
             Ok(more) => writes += more,
@@ -61,18 +65,18 @@ pub(crate) fn gather<'a, S: OpSource<'a>, T: Table<'a>>(
 #[tactic(auto, using(crate::proofs::BudgetLemmas::budgets))]
 fn add_entry<'a, T: Table<'a>>(
     number: u32,
-    drawn: Option<Draw<'a>>,
+    drawn: &Option<Draw<'a>>,
     machine: &Machine<'a, T>,
     place: Place,
     entries: &mut Vec<u8>,
 ) -> Result<u64, OutOfMemory>
     requires place { surface_of place ≡ machine.now.surface }
-    requires placed { IfSome drawn (IsPlacedDraw machine.now.surface machine.now.painted) }
+    requires placed { IfSome drawn.now (IsPlacedDraw machine.now.surface machine.now.painted) }
     ensures text { OnOk result
-        (entries.new.items ≡ entries.old.items ++ drawing_text number (option_map (drawing_with machine.now) drawn.entry)) }
-    ensures fits { OnOk result (FitsEntry number (option_map (drawing_with machine.now) drawn.entry)) }
+        (entries.new.items ≡ entries.old.items ++ drawing_text number (option_map (drawing_with machine.now) drawn.now)) }
+    ensures fits { OnOk result (FitsEntry number (option_map (drawing_with machine.now) drawn.now)) }
     ensures budget { IfOk result
-        (λ n. n ≡ least_drawing_budget (option_map (drawing_with machine.now) drawn.entry) machine.now.surface) }
+        (λ n. n ≡ least_drawing_budget (option_map (drawing_with machine.now) drawn.now) machine.now.surface) }
     ensures few { IfOk result (λ n. n ≤ 134217728) }
     ensures most { OnOk result (length entries.new.items ≤ length entries.old.items + 20) }
 {
@@ -80,10 +84,7 @@ fn add_entry<'a, T: Table<'a>>(
         return Ok(0);
     };
     box_law();
-    let entry = Entry {
-        number,
-        bounds: drawn.bounds,
-    };
-    put_entry(entries, entry)?;
-    Ok(pixel_budget(layer_count(&drawn, machine), box_cells(drawn.bounds, place)))
+    let bounds = drawn.bounds;
+    put_entry(entries, Entry { number, bounds })?;
+    Ok(pixel_budget(layer_count(drawn, machine), box_cells(bounds, place)))
 }

@@ -11,6 +11,7 @@ ghost use Rattle.preflight_cert.specs.TextLaws.{TextLaws};
 use dc_stack::fault_law;
 use draw_ops::content_law;
 use mapping::{cell_law, placing_law};
+use meta_headers::file_law;
 use object_tables::created_index_law;
 use span_fill::line_box_law;
 
@@ -21,7 +22,7 @@ pub fn run_law()
     ensures refusal { RefusedOverAnyImage }
     ensures writes { WritesAreOne }
 {
-    content_law();
+    file_law();
 }
 
 /// The law of drawings' boxes: a shape that isn't the inside of open figures has pixels only where a box
@@ -50,6 +51,7 @@ pub fn answer_law()
     ensures { AnswerLaws }
 {
     content_law();
+    file_law();
     size_law();
 }
 

@@ -23,7 +23,6 @@ mod checking;
 mod cleared;
 mod covering;
 mod entry;
-mod file_table;
 mod gathering;
 mod laws;
 mod layer_count;
@@ -36,7 +35,6 @@ pub use certificate::Certificate;
 pub use checking::check;
 pub use cleared::Cleared;
 pub use entry::{Entries, Entry};
-pub use file_table::{FileTable, full_slots};
 pub use laws::{
     answer_law, drawing_box_law, need_law, preparation_law, run_law, size_law, text_law,
 };

@@ -6,11 +6,10 @@ ghost use Rattle.meta_headers.specs.OpenedOf.{opened_of};
 ghost use Rattle.preflight_cert.specs.Answer.{AnswersRead, IsAnswer, accepted};
 ghost use Rattle.preflight_cert.specs.CertificateReading.{read_certificate};
 ghost use Rattle.preflight_cert.specs.Checks.{IsWantOfMemory};
-ghost use Rattle.preflight_cert.specs.Preparation.{Prepares, PreparesRecords, RefusesToPrepare};
+ghost use Rattle.preflight_cert.specs.Preparation.{Prepares, PreparesRecords, StopsPreparing};
 ghost use Rattle.preflight_cert.specs.PreparedRecords.{StopsRecords};
 
 use crate::certificate_reading::is_side;
-use crate::file_table::FileTable;
 use crate::gathering::gather;
 use crate::laws::{answer_law, need_law, preparation_law, text_law};
 use crate::refusal::Refusal;
@@ -19,6 +18,7 @@ use dc_stack::Machine;
 use draw_ops::Fault;
 use mapping::{Place, box_law};
 use meta_headers::{Opened, open_file};
+use object_tables::FileTable;
 use span_fill::OutOfMemory;
 use std::alloc::Global;
 
@@ -33,7 +33,7 @@ pub fn prepare(
 ) -> Result<Vec<u8>, Refusal>
     ensures text { IfOk result (λ text. Prepares file.now max_width max_height text.items) }
     ensures accepted { IfOk result (λ text. IsAnswer file.now text.items accepted) }
-    ensures refusal { IfErr result (λ r. RefusesToPrepare file.now max_width max_height r.number r.fault ⊎ IsWantOfMemory r) }
+    ensures refusal { IfErr result (λ r. StopsPreparing file.now max_width max_height r.number r.fault ⊎ IsWantOfMemory r) }
 {
     if !(is_side(max_width) && is_side(max_height)) {
         return Err(Refusal::of_file(Fault::BadBound));

@@ -49,15 +49,19 @@ pub(crate) fn check_steps<'a, S: OpSource<'a>, T: Table<'a>>(
         notes: noted,
     };
     loop {
-        let step = match source.next_op() {
-            Ok(Some(step)) => step,
-            Ok(None) => return checked_end(entries, totals),
-            Err(fault) => return Err(Refusal::at(totals.records, fault)),
+        let told = source.next_op();
+        let next = match &told {
+            Ok(next) => next,
+            Err(fault) => return Err(Refusal::at(totals.records, *fault)),
         };
-        let drawn = match machine.step(step.op) {
+        let Some(step) = next else {
+            return checked_end(entries, totals);
+        };
+        let played = machine.step_by(&step.op);
+        let drawn = match &played {
             Ok(drawn) => drawn,
             Err(Fault::OutOfMemory) => return Err(Refusal::of_file(Fault::OutOfMemory)),
-            Err(fault) => return Err(Refusal::at(step.number, fault)),
+            Err(fault) => return Err(Refusal::at(step.number, *fault)),
         };
         match take_entry(step.number, drawn, machine, place, &mut entries) {
             Ok(more) => totals.writes += more,

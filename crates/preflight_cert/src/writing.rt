@@ -4,6 +4,7 @@ ghost use Rattle.std.specs.Prelude.{◌≡◌, ◌<◌, ◌^◌, ◌/◌, ◌++�
 ghost use Rattle.std.specs.Int.{to_le_bytes, w64};
 ghost use Rattle.preflight_cert.specs.CertificateReading.{entry_size};
 ghost use Rattle.preflight_cert.specs.CertificateText.{box_text, entry_text, needs_text, number_text};
+ghost use Rattle.preflight_cert.specs.TextLaws.{IsEntry};
 ghost use Rattle.preflight_cert.specs.TextParts.{bound_text, four_text, full_text, totals_text};
 
 use crate::certificate::MARK;
@@ -62,7 +63,8 @@ fn put_box(text: &mut Vec<u8>, bounds: Rect) -> Result<(), OutOfMemory>
 
 /// Appends an entry.
 pub(crate) fn put_entry(text: &mut Vec<u8>, entry: Entry) -> Result<(), OutOfMemory>
-    ensures { OnOk result (text.new.items ≡ text.old.items ++ entry_text entry) }
+    ensures text { OnOk result (text.new.items ≡ text.old.items ++ entry_text entry) }
+    ensures fits { IsEntry entry }
 {
     put_number(text, entry.number)?;
     put_box(text, entry.bounds)

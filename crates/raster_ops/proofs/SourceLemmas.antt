@@ -11,7 +11,7 @@ use Rattle.dib_views.specs.PictureOf.{picture_of}
 use Rattle.dib_views.specs.Pictures.{picture_colour}
 use Rattle.dib_views.specs.declared.view.DibView.{DibView}
 use Rattle.draw_ops.specs.Blits.{SourceValue}
-use Rattle.raster_ops.specs.Readers.{column_of, reading_of, row_of}
+use Rattle.raster_ops.specs.Readers.{column_read, reading_of, row_read}
 use Rattle.raster_ops.specs.Sources.{Reading, axis_read, colour_read, columns_read, distance, first_row, index_read, is_axis_inside, is_inside, least_end, rows_read}
 use Rattle.raster_ops.specs.declared.sources.AxisReading.{AxisReading}
 use Rattle.raster_ops.specs.declared.sources.SourceReader.{SourceReader}
@@ -68,13 +68,13 @@ by_three (Some x) P Q R S p q r f = f x p q r
 module _ (o : Option SourceReader) (picture : DibView) (source : SourceValue) (p q : Point) (of_picture : source.picture ≡ picture_of picture) (there : IfSome o (λ reader. reader.picture ≡ picture)) (row : ℤ) (at_row : row ≡ first_row source)
     (columns : IfSome o (λ reader. reading_of reader.columns ≡ axis_read (least_end source.corner.x source.extent.x) source.extent.x p.x q.x))
     (rows : IfSome o (λ reader. reading_of reader.rows ≡ axis_read row source.extent.y p.y q.y)) where
-  pub reads_by : IfSome o (λ reader. (x y : ℕ) → colour_read source p q x y ≡ picture_colour (picture_of reader.picture) (column_of reader x) (row_of reader y))
+  pub reads_by : IfSome o (λ reader. (x y : ℕ) → colour_read source p q x y ≡ picture_colour (picture_of reader.picture) (column_read reader x) (row_read reader y))
   reads_by =
       by_three o (λ reader. reader.picture ≡ picture) (λ reader. reading_of reader.columns ≡ columns_read source p q) (λ reader. reading_of reader.rows ≡ axis_read row source.extent.y p.y q.y) _ there columns rows
       (λ reader e f g. λ x y.
       ap (λ v. picture_colour v (unsigned_abs (index_read (columns_read source p q) x)) (unsigned_abs (index_read (rows_read source p q) y))) (of_picture ∙ ap picture_of (sym e))
       ∙ ap (λ r. picture_colour (picture_of reader.picture) (unsigned_abs (index_read r x)) (unsigned_abs (index_read (rows_read source p q) y))) (sym f)
-      ∙ ap (λ r. picture_colour (picture_of reader.picture) (column_of reader x) (unsigned_abs (index_read r y))) (ap (λ n. axis_read n source.extent.y p.y q.y) (sym at_row) ∙ sym g))
+      ∙ ap (λ r. picture_colour (picture_of reader.picture) (column_read reader x) (unsigned_abs (index_read r y))) (ap (λ n. axis_read n source.extent.y p.y q.y) (sym at_row) ∙ sym g))
 
 -- a part of how an axis reads
 pub near_of : (o : Option SourceReader) (axis : SourceReader → AxisReading) (first extent p q : ℤ) → IfSome o (λ reader. reading_of (axis reader) ≡ axis_read first extent p q) → IfSome o (λ reader. (axis reader).near ≡ int_min p q)

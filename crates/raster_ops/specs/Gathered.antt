@@ -1,5 +1,5 @@
 -- Colours gathered at their places.
-use Rattle.std.specs.Prelude.{◌≡◌, ◌⊎◌, ℕ, ◌<◌, ◌≤◌, List, slice_index_or}
+use Rattle.std.specs.Prelude.{◌≡◌, ◌⊎◌, ℕ, ◌<◌, ◌≤◌, List, Option, Some, is_some, slice_index_or, true}
 use Rattle.mapping.specs.Mixes.{mixed_by}
 use Rattle.mapping.specs.declared.geometry.Colour.{Colour}
 use Rattle.raster_ops.specs.Bytes.{HasBytes}
@@ -7,6 +7,16 @@ use Rattle.raster_ops.specs.Bytes.{HasBytes}
 -- the colours at the places from one on up to before another are those that f gives
 abbrev pub AreAt : (ℕ → Colour) → ℕ → ℕ → List Colour → Type 0
 AreAt f from to colours = (x : ℕ) (d : Colour) → from ≤ x → x < to → slice_index_or colours x d ≡ f x
+
+-- where a paint gives a colour, the one at that place is it, from one place on up to before another
+abbrev pub ArePaintsAt : (ℕ → Option Colour) → ℕ → ℕ → List Colour → Type 0
+ArePaintsAt paint from to colours =
+    (x : ℕ) (d : Colour) → from ≤ x → x < to → is_some (paint x) ≡ true → Some (slice_index_or colours x d) ≡ paint x
+
+-- and its parts are bytes
+abbrev pub HavePaintBytes : (ℕ → Option Colour) → ℕ → ℕ → List Colour → Type 0
+HavePaintBytes paint from to colours =
+    (x : ℕ) (d : Colour) → from ≤ x → x < to → is_some (paint x) ≡ true → HasBytes (slice_index_or colours x d)
 
 -- the parts of the colours at the places from one on up to before another are bytes
 abbrev pub HaveBytes : ℕ → ℕ → List Colour → Type 0

@@ -1,12 +1,15 @@
 -- How a reader of the code reads.
-use Rattle.std.specs.Prelude.{ℕ, ℤ, pos, Bool, ◌&&◌, slice_index_or, unsigned_abs}
+use Rattle.std.specs.Prelude.{◌≡◌, ℕ, ℤ, pos, Bool, ◌&&◌, Option, slice_index_or, unsigned_abs}
 use Rattle.mapping.specs.Colours.{black_colour}
 use Rattle.mapping.specs.declared.geometry.Colour.{Colour}
+use Rattle.mapping.specs.declared.geometry.Point.{Point}
 use Rattle.dib_views.specs.PictureOf.{picture_of}
+use Rattle.dib_views.specs.Pictures.{picture_colour}
 use Rattle.dib_views.specs.Rows.{row_colours_of}
 use Rattle.dib_views.specs.declared.row.DibRow.{DibRow}
+use Rattle.draw_ops.specs.Blits.{SourceValue}
 use Rattle.draw_ops.specs.declared.blits.SourceRectangle.{SourceRectangle}
-use Rattle.raster_ops.specs.Sources.{Reading, axis_read, index_read, is_axis_inside, least_end}
+use Rattle.raster_ops.specs.Sources.{Reading, axis_read, index_read, is_axis_inside, least_end, source_colour}
 use Rattle.raster_ops.specs.declared.sources.AxisReading.{AxisReading}
 use Rattle.raster_ops.specs.declared.sources.SourceReader.{SourceReader}
 
@@ -30,9 +33,14 @@ abbrev pub colour_in : AxisReading → DibRow → ℕ → Colour
 colour_in axis line x = slice_index_or (row_colours_of line) (unsigned_abs (index_read (reading_of axis) x)) black_colour
 
 -- the column of a reader's picture that the surface's column x reads
-abbrev pub column_of : SourceReader → ℕ → ℕ
-column_of reader x = unsigned_abs (index_read (reading_of reader.columns) x)
+abbrev pub column_read : SourceReader → ℕ → ℕ
+column_read reader x = unsigned_abs (index_read (reading_of reader.columns) x)
 
 -- the row of a reader's picture that the surface's row y reads
-abbrev pub row_of : SourceReader → ℕ → ℕ
-row_of reader y = unsigned_abs (index_read (reading_of reader.rows) y)
+abbrev pub row_read : SourceReader → ℕ → ℕ
+row_read reader y = unsigned_abs (index_read (reading_of reader.rows) y)
+
+-- what a blit's box between two corners reads of a source is at each pixel what the reader's picture has where the reader reads
+abbrev pub ReadsSource : SourceReader → Option SourceValue → Point → Point → Type 0
+ReadsSource reader source p q =
+    (x y : ℕ) → source_colour source p q x y ≡ picture_colour (picture_of reader.picture) (column_read reader x) (row_read reader y)

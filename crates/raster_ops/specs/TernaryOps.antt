@@ -1,7 +1,8 @@
 -- How a pattern and a source join what is there by a ternary raster operation.
-use Rattle.std.specs.Prelude.{ℕ, ◌+◌, ◌*◌, ◌^◌, ◌==◌, Bool, not, List, [], ◌∷◌, map, sum}
+use Rattle.std.specs.Prelude.{◌≡◌, ℕ, ◌+◌, ◌*◌, ◌^◌, ◌==◌, Bool, false, not, List, [], ◌∷◌, map, slice_index_or, sum}
 use Rattle.std.specs.Int.{bit_at}
 use Rattle.std.specs.List.{list_any}
+use Rattle.mapping.specs.Colours.{black_colour}
 use Rattle.mapping.specs.declared.geometry.Colour.{Colour}
 
 -- the bit of an operation's table that a bit of the pattern, of the source and of what is there name ([MS-WMF] 2.1.1.31)
@@ -35,3 +36,18 @@ uses_source table = list_any (λ pair. not (table_bit table pair.0 0 pair.1 == t
 -- it depends on the pattern in the same way
 abbrev pub uses_pattern : ℕ → Bool
 uses_pattern table = list_any (λ pair. not (table_bit table 0 pair.0 pair.1 == table_bit table 1 pair.0 pair.1)) bit_pairs
+
+-- what it makes of a colour in a column, by a row of pattern colours and one of source colours
+abbrev pub ternary_at : ℕ → List Colour → List Colour → ℕ → Colour → Colour
+ternary_at table patterns sources x old =
+    ternary_colour table (slice_index_or patterns x black_colour) (slice_index_or sources x black_colour) old
+
+-- an operation that doesn't depend on the source gives the same with each
+abbrev pub UnusedSourceIsUnseen : Type 0
+UnusedSourceIsUnseen =
+    (table : ℕ) (p s t o : Colour) → uses_source table ≡ false → ternary_colour table p s o ≡ ternary_colour table p t o
+
+-- and so with the pattern
+abbrev pub UnusedPatternIsUnseen : Type 0
+UnusedPatternIsUnseen =
+    (table : ℕ) (p q s o : Colour) → uses_pattern table ≡ false → ternary_colour table p s o ≡ ternary_colour table q s o

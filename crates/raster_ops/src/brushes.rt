@@ -1,14 +1,13 @@
 //! What brushes paint, at a pixel and in a row.
 
-ghost use Rattle.std.specs.Prelude.{◌≡◌, ◌⊎◌, ◌<◌, ◌≤◌, ℕ, ◌+◌, ◌%◌, [], is_some, length, slice_index_or, true};
+ghost use Rattle.std.specs.Prelude.{◌≡◌, ◌<◌, ◌≤◌, ℕ, ◌+◌, ◌%◌, [], length, slice_index_or};
 ghost use Rattle.dib_views.specs.PictureOf.{picture_of};
 ghost use Rattle.dib_views.specs.Rows.{row_colours_of};
 ghost use Rattle.draw_ops.specs.Objects.{brush_value_of};
 ghost use Rattle.mapping.specs.Colours.{black_colour};
 ghost use Rattle.mapping.specs.declared.geometry.Colour.{Colour};
-ghost use Rattle.raster_ops.specs.Bytes.{HasBytes};
 ghost use Rattle.raster_ops.specs.BrushRows.{row_paint};
-ghost use Rattle.raster_ops.specs.Gathered.{AreAt, AreKeptBeside, HaveBytes};
+ghost use Rattle.raster_ops.specs.Gathered.{AreAt, AreKeptBeside, ArePaintsAt, HaveBytes, HavePaintBytes};
 ghost use Rattle.raster_ops.specs.Paints.{brush_paint, gap_paint};
 
 use crate::hatches::{has_cell, row_cells};
@@ -81,9 +80,9 @@ fn tile_row<'a>(view: &DibView<'a>, y: u32) -> TileRow<'a>
 pub fn gather_pattern(row: &BrushRow<'_>, from: u32, to: u32, out: &mut [Colour])
     requires ordered { from ≤ to }
     requires room { to ≤ length out.old }
-    ensures colours { (x : ℕ) (d : Colour) → from ≤ x → x < to → is_some (row_paint row.now x) ≡ true → Some (slice_index_or out.new x d) ≡ row_paint row.now x }
-    ensures parts { (x : ℕ) (d : Colour) → from ≤ x → x < to → is_some (row_paint row.now x) ≡ true → HasBytes (slice_index_or out.new x d) }
-    ensures others { (x : ℕ) (d : Colour) → x < from ⊎ to ≤ x → slice_index_or out.new x d ≡ slice_index_or out.old x d }
+    ensures colours { ArePaintsAt (row_paint row.now) from to out.new }
+    ensures parts { HavePaintBytes (row_paint row.now) from to out.new }
+    ensures others { AreKeptBeside from to out.old out.new }
 {
     match *row {
         BrushRow::Nothing => {}

@@ -4,7 +4,7 @@ ghost use Rattle.std.specs.Prelude.{◌≡◌, ◌<◌, ◌≤◌, ◌+◌, pos,
 ghost use Rattle.raster_ops.specs.Gathered.{AreAt, AreKeptBeside, HaveBytes};
 
 use crate::sources::AxisReading;
-use crate::steps::Steps;
+use crate::steps::ColumnSteps;
 use dib_views::DibRow;
 use mapping::Colour;
 
@@ -45,7 +45,7 @@ impl AxisReading {
         ensures parts { HaveBytes from to out.new }
         ensures others { AreKeptBeside from to out.old out.new }
     {
-        let mut steps = Steps::new(self.count, self.side, self.place(from));
+        let mut steps = ColumnSteps::new(self.count, self.side, self.place(from));
         for x in from..to {
             out[x as usize] = line.colour(self.first + steps.column());
             steps = steps.next();
@@ -66,7 +66,7 @@ impl AxisReading {
         ensures others { AreKeptBeside from to out.old out.new }
     {
         let last = to - 1;
-        let mut steps = Steps::new(self.count, self.side, self.side - 1 - self.place(last));
+        let mut steps = ColumnSteps::new(self.count, self.side, self.side - 1 - self.place(last));
         for k in 0..to - from {
             out[(last - k) as usize] = line.colour(self.first + steps.column());
             steps = steps.next();

@@ -1,13 +1,13 @@
 //! What a blit reads, at a pixel and along a row.
 
-ghost use Rattle.std.specs.Prelude.{◌≡◌, ◌⊎◌, ◌<◌, ◌≤◌, ℕ, ◌+◌, ◌^◌, pos, ◌+ℤ◌, ◌≤ℤ◌, ◌<ℤ◌, IsTrue, IfSome, is_some, length, slice_index_or};
+ghost use Rattle.std.specs.Prelude.{◌≡◌, ◌<◌, ◌≤◌, ◌+◌, ◌^◌, pos, ◌+ℤ◌, ◌≤ℤ◌, ◌<ℤ◌, IsTrue, IfSome, is_some, length};
 ghost use Rattle.std.specs.Int.{int_min};
 ghost use Rattle.dib_views.specs.Pictures.{picture_colour};
 ghost use Rattle.dib_views.specs.PictureOf.{picture_of};
 ghost use Rattle.draw_ops.specs.Blits.{source_of};
 ghost use Rattle.mapping.specs.Surface.{FitsPlace};
 ghost use Rattle.mapping.specs.declared.geometry.Colour.{Colour};
-ghost use Rattle.raster_ops.specs.Bytes.{HasBytes};
+ghost use Rattle.raster_ops.specs.Gathered.{AreAt, AreKeptBeside, HaveBytes};
 ghost use Rattle.raster_ops.specs.Sources.{axis_read, distance, is_readable, source_colour};
 
 use crate::rectangles::{least_end, row_from_bottom, row_from_top};
@@ -54,7 +54,7 @@ pub struct SourceReader<'a> {
 }
 
 impl<'a> SourceReader<'a> {
-    ghost use Rattle.raster_ops.specs.Readers.{column_of, columns_of, is_inside_from, reading_of, row_of};
+    ghost use Rattle.raster_ops.specs.Readers.{ReadsSource, column_read, columns_of, is_inside_from, reading_of, row_read};
 
     /// How a box between two placed corners reads: none exactly where there is no bitmap, or its rectangle has
     /// no pixel or isn't inside, whatever the box is.
@@ -62,7 +62,7 @@ impl<'a> SourceReader<'a> {
         requires first { FitsPlace first }
         requires second { FitsPlace second }
         ensures some { is_some result ≡ is_readable (source_of source.now) }
-        ensures reads { IfSome result (λ reader. (x y : ℕ) → source_colour (source_of source.now) first second x y ≡ picture_colour (picture_of reader.picture) (column_of reader x) (row_of reader y)) }
+        ensures reads { IfSome result (λ reader. ReadsSource reader (source_of source.now) first second) }
         ensures near_column { IfSome result (λ reader. reader.columns.near ≡ int_min first.x second.x) }
         ensures column_count { IfSome result (λ reader. reader.columns.side ≡ distance first.x second.x) }
         ensures near_row { IfSome result (λ reader. reader.rows.near ≡ int_min first.y second.y) }
@@ -115,7 +115,7 @@ impl<'a> SourceReader<'a> {
     pub fn row_at(&self, y: u32) -> u32
         requires from { self.now.rows.near ≤ℤ pos y }
         requires to { pos y <ℤ (self.now.rows.near +ℤ pos self.now.rows.side) }
-        ensures row { result ≡ row_of self.now y }
+        ensures row { result ≡ row_read self.now y }
         ensures within { result < (picture_of self.now.picture).height }
     {
         self.rows.index_at(y)
@@ -125,7 +125,7 @@ impl<'a> SourceReader<'a> {
     pub fn column_at(&self, x: u32) -> u32
         requires from { self.now.columns.near ≤ℤ pos x }
         requires to { pos x <ℤ (self.now.columns.near +ℤ pos self.now.columns.side) }
-        ensures column { result ≡ column_of self.now x }
+        ensures column { result ≡ column_read self.now x }
         ensures within { result < (picture_of self.now.picture).width }
     {
         self.columns.index_at(x)
@@ -139,9 +139,9 @@ impl<'a> SourceReader<'a> {
         requires room { to ≤ length out.old }
         requires from { self.now.columns.near ≤ℤ pos from }
         requires to { pos to ≤ℤ (self.now.columns.near +ℤ pos self.now.columns.side) }
-        ensures colours { (x : ℕ) (d : Colour) → from ≤ x → x < to → slice_index_or out.new x d ≡ picture_colour (picture_of self.now.picture) (column_of self.now x) row }
-        ensures parts { (x : ℕ) (d : Colour) → from ≤ x → x < to → HasBytes (slice_index_or out.new x d) }
-        ensures others { (x : ℕ) (d : Colour) → x < from ⊎ to ≤ x → slice_index_or out.new x d ≡ slice_index_or out.old x d }
+        ensures colours { AreAt (λ x. picture_colour (picture_of self.now.picture) (column_read self.now x) row) from to out.new }
+        ensures parts { HaveBytes from to out.new }
+        ensures others { AreKeptBeside from to out.old out.new }
     {
         let line = self.picture.picture_row(row);
         self.columns.gather(&line, from, to, out);

@@ -12,7 +12,7 @@ use crate::axes::middle;
 /// - `quotient` and `rest` are those of `(2 * place + 1) * count` divided by `2 * side`.
 /// - `whole` and `part` are those of `2 * count`, by which that grows from place to place.
 #[derive(Clone, Copy, Debug)]
-pub(crate) struct Steps {
+pub(crate) struct ColumnSteps {
     pub count: u32,
     pub side: u32,
     pub place: u32,
@@ -33,9 +33,9 @@ pub(crate) struct Steps {
     ghost part_below: { part < 2 * side },
 }
 
-impl Steps {
+impl ColumnSteps {
     /// The steps from a place on.
-    pub(crate) fn new(count: u32, side: u32, place: u32) -> Steps
+    pub(crate) fn new(count: u32, side: u32, place: u32) -> ColumnSteps
         requires some { 1 ≤ count }
         requires few { count ≤ 2 ^ 16 }
         requires short { side ≤ 2 ^ 29 }
@@ -46,7 +46,7 @@ impl Steps {
     {
         let twice = 2 * side;
         let middle = middle(count, place);
-        Steps {
+        ColumnSteps {
             count,
             side,
             place,
@@ -68,7 +68,7 @@ impl Steps {
 
     /// The next place.
     #[inline]
-    pub(crate) fn next(self) -> Steps
+    pub(crate) fn next(self) -> ColumnSteps
         requires { self.place < self.side }
         ensures count { result.count ≡ self.count }
         ensures side { result.side ≡ self.side }
@@ -77,7 +77,7 @@ impl Steps {
         let twice = 2 * self.side;
         let rest = self.rest + self.part;
         let over = twice <= rest;
-        Steps {
+        ColumnSteps {
             count: self.count,
             side: self.side,
             place: self.place + 1,

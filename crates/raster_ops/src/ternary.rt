@@ -1,7 +1,6 @@
 //! How a pattern and a source join what is there.
 
-ghost use Rattle.std.specs.Prelude.{◌≡◌, ◌≤◌, ℕ, ◌/◌, bit_xor, false, length, slice_index_or};
-ghost use Rattle.mapping.specs.Colours.{black_colour};
+ghost use Rattle.std.specs.Prelude.{◌≡◌, ◌≤◌, ◌/◌, bit_xor, length};
 ghost use Rattle.mapping.specs.Mixes.{mixed_by};
 ghost use Rattle.mapping.specs.declared.geometry.Colour.{Colour};
 ghost use Rattle.draw_ops.specs.declared.raster_op.RasterOp.TheVariants.{CopyPen};
@@ -9,7 +8,7 @@ ghost use Rattle.raster_ops.specs.Bytes.{HasBytes};
 ghost use Rattle.raster_ops.specs.Gathered.{AreKeptBeside, AreMixesAt};
 ghost use Rattle.raster_ops.specs.RasterOps.{mixed_colour};
 ghost use Rattle.raster_ops.specs.Selectors.{IsSelector};
-ghost use Rattle.raster_ops.specs.TernaryOps.{ternary_colour, uses_pattern, uses_source};
+ghost use Rattle.raster_ops.specs.TernaryOps.{UnusedPatternIsUnseen, UnusedSourceIsUnseen, ternary_at, ternary_colour, uses_pattern, uses_source};
 
 use crate::selector::Selector;
 use draw_ops::TernaryOp;
@@ -82,7 +81,7 @@ impl TernaryMixer {
         requires sources { to ≤ length sources.now }
         requires keeps { to ≤ length keeps.old }
         requires flips { to ≤ length flips.old }
-        ensures mixes { AreMixesAt (λ x old. ternary_colour self.now.op.table (slice_index_or patterns.now x black_colour) (slice_index_or sources.now x black_colour) old) from to keeps.new flips.new }
+        ensures mixes { AreMixesAt (ternary_at self.now.op.table patterns.now sources.now) from to keeps.new flips.new }
         ensures other_keeps { AreKeptBeside from to keeps.old keeps.new }
         ensures other_flips { AreKeptBeside from to flips.old flips.new }
     {
@@ -107,8 +106,8 @@ pub fn uses_pattern(op: TernaryOp) -> bool
 
 /// A law: an operation that doesn't depend on the source gives the same with each, and so with the pattern.
 pub fn dependence_law()
-    ensures source { (table : ℕ) (p s t o : Colour) → uses_source table ≡ false → ternary_colour table p s o ≡ ternary_colour table p t o }
-    ensures pattern { (table : ℕ) (p q s o : Colour) → uses_pattern table ≡ false → ternary_colour table p s o ≡ ternary_colour table q s o }
+    ensures source { UnusedSourceIsUnseen }
+    ensures pattern { UnusedPatternIsUnseen }
 {}
 
 /// A law: SRCCOPY, whose table is 0xCC, gives the source, PATCOPY, whose table is 0xF0, the pattern, and R2_COPYPEN

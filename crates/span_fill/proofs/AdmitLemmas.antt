@@ -5,7 +5,7 @@ use Rattle.std.specs.List.Sorted.{IsNonDecreasingBy}
 use Rattle.std.proofs.lemmas.Bool.{le-leb, le-ltb, lt-leb, lt-ltb}
 use Rattle.std.proofs.lemmas.List.{drop_all, drop_more}
 use Rattle.std.proofs.lemmas.List.Elements.{All-from_get_or, All-get_or}
-use Rattle.span_fill.specs.Admitting.{Begins, NoneBegins}
+use Rattle.span_fill.specs.Admitting.{BeginsEdge, NoneBegins}
 use Rattle.span_fill.specs.Edges.{IsEdge, active_at, begins_behind, begins_by, first_row}
 use Rattle.span_fill.specs.declared.edge.ActiveEdge.{ActiveEdge}
 use Rattle.span_fill.specs.declared.edge.Edge.{Edge}
@@ -29,7 +29,7 @@ none_begins y edges next d sorted within h = record {
 }
 
 -- the next one begins
-pub begins_next : (y : ℕ) (edges : List Edge) (next : ℕ) (d : Edge) → All IsEdge edges → next < length edges → first_row (get_or edges next d) ≤ y → Begins y edges next (get_or edges next d)
+pub begins_next : (y : ℕ) (edges : List Edge) (next : ℕ) (d : Edge) → All IsEdge edges → next < length edges → first_row (get_or edges next d) ≤ y → BeginsEdge y edges next (get_or edges next d)
 begins_next y edges next d all within h = record {
   within = within;
   first = drop_more edges next d within;

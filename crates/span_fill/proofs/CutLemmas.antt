@@ -1,7 +1,7 @@
 -- A fraction that is moved, and how large it is.
 use Rattle.std.proofs.Common.{◌≡◌, ◌+◌, ◌^◌, ℤ, pos, negsuc, neg_ℤ, ◌+ℤ◌, ◌*ℤ◌, ◌≤ℤ◌, ◌<ℤ◌, arith, ap, subst, sym, ◌∙◌}
 use Rattle.std.proofs.lemmas.Int.{ints, by_lt_z}
-use Rattle.span_fill.specs.Cuts.{CanMove, IsCut, IsMovedCut}
+use Rattle.span_fill.specs.Cuts.{CutCanMove, IsCut, IsMovedCut}
 use Rattle.span_fill.specs.declared.cut.Cut.{Cut}
 use Rattle.span_fill.proofs.Products.{mul_add, mul_comm_ℤ, mul_neg, mul_one, order_mul}
 
@@ -66,7 +66,7 @@ factor_least d q b some high h =
     by_lt_z (pos 0) q (λ (g : pos 0 <ℤ q). omega (arith, ints, g, high)) (λ (g : q ≤ℤ pos 0). let e = factor_above d q some g in omega (arith, ints, e, h))
 
 -- so a fraction whose numbers are not too large may be moved
-pub cut_can_move : (total step divisor : ℤ) (cut : Cut) → IsCut total step divisor cut → negsuc (2 ^ 61) ≤ℤ total → total ≤ℤ pos (2 ^ 61) → negsuc (2 ^ 31) ≤ℤ step → step ≤ℤ pos (2 ^ 31) → divisor ≤ℤ pos (2 ^ 31) → CanMove cut
+pub cut_can_move : (total step divisor : ℤ) (cut : Cut) → IsCut total step divisor cut → negsuc (2 ^ 61) ≤ℤ total → total ≤ℤ pos (2 ^ 61) → negsuc (2 ^ 31) ≤ℤ step → step ≤ℤ pos (2 ^ 31) → divisor ≤ℤ pos (2 ^ 31) → CutCanMove cut
 cut_can_move total step divisor cut is low high step_low step_high small =
     let rest_low = is.rest_low in
     let rest_high = is.rest_high in

@@ -8,7 +8,7 @@ use Rattle.mapping.specs.declared.geometry.Point.{Point}
 use Rattle.std.proofs.Math.Nat.{mul-le-mul}
 use Rattle.mapping.specs.Floor.{floor_div}
 use Rattle.mapping.specs.Limits.{IsWithin, place_limit}
-use Rattle.span_fill.specs.Edges.{CanMove, IsEdge, active_at, active_with, column_of, moved, moved_rest, rest_of}
+use Rattle.span_fill.specs.Edges.{EdgeCanMove, IsEdge, active_at, active_with, near_column, moved, moved_rest, rest_of}
 use Rattle.span_fill.specs.Fill.{across, crossing_dividend, crossing_divisor, down}
 use Rattle.span_fill.specs.Lines.{IsNear}
 use Rattle.span_fill.specs.declared.edge.Edge.{Edge}
@@ -172,7 +172,7 @@ dividend_within edge y h row =
     record { low = omega (arith, ints, a.low, b.low); high = omega (arith, ints, a.high, b.high) }
 
 -- the numbers leave room
-pub can_move : (edge : Edge) (y : ℕ) → IsEdge edge → y ≤ 8192 → CanMove (active_at y edge)
+pub can_move : (edge : Edge) (y : ℕ) → IsEdge edge → y ≤ 8192 → EdgeCanMove (active_at y edge)
 can_move edge y h row =
     let positive = divisor_low edge h in
     let width = across_within edge h in
@@ -190,7 +190,7 @@ can_move edge y h row =
     }
 
 -- a column, where a number that may lie outside of all columns is to be crossed
-column_tells : (place : ℤ) (x : ℕ) → x < 8192 → nat_le (column_of place) x ≡ int_le place (pos x)
+column_tells : (place : ℤ) (x : ℕ) → x < 8192 → nat_le (near_column place) x ≡ int_le place (pos x)
 column_tells (pos n) x h = grind (arith, ints, nat_tests)
 column_tells (negsuc n) x h = grind (arith, ints, nat_tests)
 

@@ -12,10 +12,10 @@ use Rattle.std.proofs.lemmas.List.Recursion.{is_sum_by}
 use Rattle.std.proofs.lemmas.List.Sorted.{All-permutation, IsPermutation-append, IsPermutation-map, IsPermutation-sym, IsPermutation-trans, sum_by-IsPermutation}
 use Rattle.mapping.specs.declared.geometry.Point.{Point}
 use Rattle.span_fill.specs.Crossings.{crossings_from, crossings_of, crossings_of_line}
-use Rattle.span_fill.specs.Edges.{CanMove, IsEdge, active_at, active_edges, begins_behind, begins_by, crosses_row, crossing_of, edges_from, edges_of_line, ends_behind, first_row, goes_to, moved, row_of}
+use Rattle.span_fill.specs.Edges.{EdgeCanMove, IsEdge, active_at, active_edges, begins_behind, begins_by, crosses_row, crossing_of, edges_from, edges_of_line, ends_behind, first_row, goes_to, moved, near_row}
 use Rattle.span_fill.specs.Fill.{crossed_downwards, crossed_upwards, has_row, in_fill, is_crossed, is_inside}
 use Rattle.span_fill.specs.Lines.{HasNearEnds}
-use Rattle.span_fill.specs.Sweep.{AreFrom, AreSorted, downwards_at, upwards_at}
+use Rattle.span_fill.specs.Sweep.{CrossFrom, AreSorted, downwards_at, upwards_at}
 use Rattle.span_fill.specs.declared.edge.ActiveEdge.{ActiveEdge}
 use Rattle.span_fill.specs.declared.edge.Edge.{Edge}
 use Rattle.span_fill.specs.declared.fill_rule.FillRule.{FillRule}
@@ -24,11 +24,11 @@ use Rattle.span_fill.proofs.EdgeLemmas.{can_move, column_crossed, int_le-true, i
 use Rattle.span_fill.proofs.Reordering.{IsPermutation-filter, IsPermutation-same, Splits, by_first, by_second, filter_both, filter_split, filter_twice}
 
 -- rows in place of coordinates
-by_row : (v : ℤ) (y : ℕ) → int_le v (pos y) ≡ nat_le (row_of v) y
+by_row : (v : ℤ) (y : ℕ) → int_le v (pos y) ≡ nat_le (near_row v) y
 by_row (pos n) y = grind (arith, ints, nat_tests)
 by_row (negsuc n) y = grind (arith, ints, nat_tests)
 
-behind_row : (v : ℤ) (y : ℕ) → int_lt (pos y) v ≡ nat_lt y (row_of v)
+behind_row : (v : ℤ) (y : ℕ) → int_lt (pos y) v ≡ nat_lt y (near_row v)
 behind_row (pos n) y = grind (arith, ints, nat_tests)
 behind_row (negsuc n) y = grind (arith, ints, nat_tests)
 
@@ -37,7 +37,7 @@ crosses_is : (y : ℕ) (edge : Edge) → crosses_row y edge ≡ (begins_by y edg
 crosses_is y edge = ap (λ t. t && int_lt (pos y) edge.lower.y) (by_row edge.upper.y y) ∙ ap (λ t. begins_by y edge && t) (behind_row edge.lower.y y)
 
 -- an edge that begins below the first row ends below its first one
-row_order : (u v : ℤ) → u <ℤ v → 0 < row_of u → row_of u < row_of v
+row_order : (u v : ℤ) → u <ℤ v → 0 < near_row u → near_row u < near_row v
 row_order (pos n) (pos m) h k = omega (arith, ints, h)
 row_order (pos n) (negsuc m) h k = absurd (omega (arith, ints, h))
 row_order (negsuc n) v h k = absurd (omega (arith, k))
@@ -133,11 +133,11 @@ first_waiting y edges waiting next near wait is =
     (IsPermutation-trans _ _ _ (IsPermutation-filter (begins_behind y) _ _ wait) (IsPermutation-same _ _ (sym is)))
 
 -- the numbers of those that cross leave room for the next row
-pub all_can_move : (y : ℕ) (edges : List Edge) (active : List ActiveEdge) → All IsEdge edges → y ≤ 8192 → IsPermutation (active_edges y edges) active → All CanMove active
+pub all_can_move : (y : ℕ) (edges : List Edge) (active : List ActiveEdge) → All IsEdge edges → y ≤ 8192 → IsPermutation (active_edges y edges) active → All EdgeCanMove active
 all_can_move y edges active near row so =
-    All-permutation CanMove (active_edges y edges) active so
-    (All-map CanMove (active_at y) (filter (crosses_row y) edges)
-    (All-weaker IsEdge (λ e. CanMove (active_at y e)) (λ e h. can_move e y h row) (filter (crosses_row y) edges) (All-filter (crosses_row y) IsEdge edges near)))
+    All-permutation EdgeCanMove (active_edges y edges) active so
+    (All-map EdgeCanMove (active_at y) (filter (crosses_row y) edges)
+    (All-weaker IsEdge (λ e. EdgeCanMove (active_at y e)) (λ e h. can_move e y h row) (filter (crosses_row y) edges) (All-filter (crosses_row y) IsEdge edges near)))
 
 -- the edges of lines whose ends are near
 edges_of_line-near : (number : ℕ) (line : Line) → HasNearEnds line → All IsEdge (edges_of_line number line)
@@ -246,7 +246,7 @@ inside_is rule lines active y x near below so =
     ap (λ n. is_inside rule n (upwards_at active x)) down ∙ ap (λ n. is_inside rule (crossed_downwards lines x y) n) up
 
 -- the order by places is the order by what stands behind
-from_places : (column : ℕ) (edges : List ActiveEdge) → ((i : ℕ) (d : ActiveEdge) → i < length edges → column ≤ (get_or edges i d).column) → AreFrom column edges
+from_places : (column : ℕ) (edges : List ActiveEdge) → ((i : ℕ) (d : ActiveEdge) → i < length edges → column ≤ (get_or edges i d).column) → CrossFrom column edges
 from_places column [] h = tt
 from_places column (edge ∷ edges) h =
     let first = h 0 edge (omega arith) in

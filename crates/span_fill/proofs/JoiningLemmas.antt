@@ -4,14 +4,14 @@ use Rattle.std.specs.List.Sorted.{IsNonDecreasingBy}
 use Rattle.std.proofs.lemmas.Bool.{cases_lt, le-ltb}
 use Rattle.std.proofs.lemmas.Bool.Decides.{nat_tests}
 use Rattle.std.proofs.lemmas.List.{at_drop_more}
-use Rattle.span_fill.specs.Joining.{AreFrom, AreInOrder, column_behind, joined}
+use Rattle.span_fill.specs.Joining.{BeginFrom, AreInOrder, column_behind, joined}
 use Rattle.span_fill.specs.Spans.{AreApart, AreRow, in_span, in_spans}
 use Rattle.span_fill.specs.Sweep.{ended_spans, is_part, longer_run}
 use Rattle.span_fill.specs.declared.span.Span.{Span}
 use Rattle.span_fill.proofs.SweepLemmas.{in_part, in_run, in_spans-append, last_apart, longer_order, part_apart, regroup}
 
 -- parts in order of where they begin
-from_column : (column : ℕ) (parts : List Span) → ((k : ℕ) (d : Span) → k < length parts → column ≤ (get_or parts k d).from) → AreFrom column parts
+from_column : (column : ℕ) (parts : List Span) → ((k : ℕ) (d : Span) → k < length parts → column ≤ (get_or parts k d).from) → BeginFrom column parts
 from_column column [] h = tt
 from_column column (part ∷ parts) h = (h 0 part (omega arith), from_column column parts (λ k d l. h (suc k) d (omega (arith, l))))
 
@@ -21,7 +21,7 @@ in_order (part ∷ parts) h =
     (from_column part.from parts (λ k d l. h 0 (suc k) d (omega arith) (omega (arith, l))), in_order parts (λ i j d k l. h (suc i) (suc j) d (omega (arith, k)) (omega (arith, l))))
 
 -- none of them has a column before that
-none_before : (column : ℕ) (parts : List Span) (x : ℕ) → AreFrom column parts → x < column → in_spans parts x ≡ false
+none_before : (column : ℕ) (parts : List Span) (x : ℕ) → BeginFrom column parts → x < column → in_spans parts x ≡ false
 none_before column [] x h l = refl
 none_before column (part ∷ parts) x h l = let rest = none_before column parts x h.1 l in let first = h.0 in grind (arith, nat_tests)
 

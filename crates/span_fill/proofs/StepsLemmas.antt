@@ -4,7 +4,7 @@ use Rattle.std.specs.Prelude.{IsTrue, nat_le, nat_lt, ◌↔◌}
 use Rattle.std.proofs.lemmas.Bool.{and_parts, and_from, le-leb, leb-true, lt-ltb, ltb-true}
 use Rattle.std.proofs.lemmas.Int.{ints}
 use Rattle.span_fill.specs.Clips.{IsBetween}
-use Rattle.span_fill.specs.Courses.{IsOn, IsPixelOf, across_span, along_span, column_of, course_of, length_of, row_of, step_of}
+use Rattle.span_fill.specs.Courses.{IsOn, IsPixelOf, across_span, along_span, pixel_column, course_of, length_of, pixel_row, step_of}
 use Rattle.span_fill.specs.Spans.{in_region, in_span}
 use Rattle.span_fill.specs.Steps.{HasAllSteps, IsStepPixel}
 use Rattle.span_fill.specs.StepsInside.{IsUnderway}
@@ -100,15 +100,15 @@ next_way line region steep next end old new way more moved =
     }
 
 -- a pixel of a line on its axes, and by its columns and rows
-pub line_pixel : (line : Line) (steep : Bool) (u v x y : ℤ) → steep ≡ is_steep line → x ≡ column_of steep u v → y ≡ row_of steep u v → IsPixelOf (course_of steep line) u v → IsTrue (on_line line x y)
+pub line_pixel : (line : Line) (steep : Bool) (u v x y : ℤ) → steep ≡ is_steep line → x ≡ pixel_column steep u v → y ≡ pixel_row steep u v → IsPixelOf (course_of steep line) u v → IsTrue (on_line line x y)
 line_pixel line true u v x y axis e f on = on_steep line x y (sym axis) ∙ ap (λ n. is_along line.from.y line.from.x line.to.y line.to.x n x) f ∙ ap (λ n. is_along line.from.y line.from.x line.to.y line.to.x u n) e ∙ on
 line_pixel line false u v x y axis e f on = on_flat line x y (sym axis) ∙ ap (λ n. is_along line.from.x line.from.y line.to.x line.to.y n y) e ∙ ap (λ n. is_along line.from.x line.from.y line.to.x line.to.y u n) f ∙ on
 
-pub pixel_line : (line : Line) (steep : Bool) (u v x y : ℤ) → steep ≡ is_steep line → x ≡ column_of steep u v → y ≡ row_of steep u v → IsTrue (on_line line x y) → IsPixelOf (course_of steep line) u v
+pub pixel_line : (line : Line) (steep : Bool) (u v x y : ℤ) → steep ≡ is_steep line → x ≡ pixel_column steep u v → y ≡ pixel_row steep u v → IsTrue (on_line line x y) → IsPixelOf (course_of steep line) u v
 pixel_line line true u v x y axis e f on = sym (ap (λ n. is_along line.from.y line.from.x line.to.y line.to.x n x) f ∙ ap (λ n. is_along line.from.y line.from.x line.to.y line.to.x u n) e) ∙ sym (on_steep line x y (sym axis)) ∙ on
 pixel_line line false u v x y axis e f on = sym (ap (λ n. is_along line.from.x line.from.y line.to.x line.to.y n y) e ∙ ap (λ n. is_along line.from.x line.from.y line.to.x line.to.y u n) f) ∙ sym (on_flat line x y (sym axis)) ∙ on
 
-pub line_step : (line : Line) (steep : Bool) (u v x y : ℤ) → steep ≡ is_steep line → x ≡ column_of steep u v → y ≡ row_of steep u v → step_at line x y ≡ step_of (course_of steep line) u
+pub line_step : (line : Line) (steep : Bool) (u v x y : ℤ) → steep ≡ is_steep line → x ≡ pixel_column steep u v → y ≡ pixel_row steep u v → step_at line x y ≡ step_of (course_of steep line) u
 line_step line true u v x y axis e f = at_steep line x y (sym axis) ∙ ap (λ n. far line.from.y n) f
 line_step line false u v x y axis e f = at_flat line x y (sym axis) ∙ ap (λ n. far line.from.x n) e
 
@@ -123,7 +123,7 @@ test_span span n t =
     let high = ltb-true n span.to parts.1 in
     (omega (arith, ints, low), omega (arith, ints, high))
 
-pub region_pixel : (region : Region) (steep : Bool) (u v : ℤ) (x y : ℕ) → pos x ≡ column_of steep u v → pos y ≡ row_of steep u v → IsBetween (along_span steep region) u → IsBetween (across_span steep region) v → IsTrue (in_region region x y)
+pub region_pixel : (region : Region) (steep : Bool) (u v : ℤ) (x y : ℕ) → pos x ≡ pixel_column steep u v → pos y ≡ pixel_row steep u v → IsBetween (along_span steep region) u → IsBetween (across_span steep region) v → IsTrue (in_region region x y)
 region_pixel region true u v x y e f along across =
     and_from (in_span region.columns x) (in_span region.rows y)
     (span_test region.columns x (subst (λ (n : ℤ). IsBetween region.columns n) (sym e) across))
@@ -133,7 +133,7 @@ region_pixel region false u v x y e f along across =
     (span_test region.columns x (subst (λ (n : ℤ). IsBetween region.columns n) (sym e) along))
     (span_test region.rows y (subst (λ (n : ℤ). IsBetween region.rows n) (sym f) across))
 
-pub pixel_region : (region : Region) (steep : Bool) (u v : ℤ) (x y : ℕ) → pos x ≡ column_of steep u v → pos y ≡ row_of steep u v → IsTrue (in_region region x y) → IsBetween (along_span steep region) u × IsBetween (across_span steep region) v
+pub pixel_region : (region : Region) (steep : Bool) (u v : ℤ) (x y : ℕ) → pos x ≡ pixel_column steep u v → pos y ≡ pixel_row steep u v → IsTrue (in_region region x y) → IsBetween (along_span steep region) u × IsBetween (across_span steep region) v
 pixel_region region true u v x y e f t =
     let parts = and_parts (in_span region.columns x) (in_span region.rows y) t in
     (subst (λ (n : ℤ). IsBetween region.rows n) f (test_span region.rows y parts.1), subst (λ (n : ℤ). IsBetween region.columns n) e (test_span region.columns x parts.0))
@@ -142,7 +142,7 @@ pixel_region region false u v x y e f t =
     (subst (λ (n : ℤ). IsBetween region.columns n) e (test_span region.columns x parts.0), subst (λ (n : ℤ). IsBetween region.rows n) f (test_span region.rows y parts.1))
 
 -- the pixel here is the line's at the next step, and the region has it
-pub here_pixel : (line : Line) (region : Region) (steep : Bool) (next end : ℕ) (walk : Walk) (pixel : Pixel) → IsUnderway line region steep next end walk → next < end → pos pixel.x ≡ column_of steep walk.u walk.v → pos pixel.y ≡ row_of steep walk.u walk.v → IsStepPixel line region next pixel
+pub here_pixel : (line : Line) (region : Region) (steep : Bool) (next end : ℕ) (walk : Walk) (pixel : Pixel) → IsUnderway line region steep next end walk → next < end → pos pixel.x ≡ pixel_column steep walk.u walk.v → pos pixel.y ≡ pixel_row steep walk.u walk.v → IsStepPixel line region next pixel
 here_pixel line region steep next end walk pixel way more e f =
     let stands = here line region steep next end walk way more in
     record {

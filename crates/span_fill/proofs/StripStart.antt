@@ -4,7 +4,7 @@ use Rattle.std.specs.Prelude.{IsTrue, ◌↔◌}
 use Rattle.std.proofs.lemmas.Bool.{both_ways}
 use Rattle.std.proofs.lemmas.Int.{ints}
 use Rattle.span_fill.specs.Clips.{IsIn}
-use Rattle.span_fill.specs.Courses.{IsPixelOf, course_of, length_of, row_of}
+use Rattle.span_fill.specs.Courses.{IsPixelOf, course_of, length_of, pixel_row}
 use Rattle.span_fill.specs.StrokeRows.{IsPast}
 use Rattle.span_fill.specs.Strokes.{is_steep, is_towards, on_line}
 use Rattle.span_fill.specs.declared.line.Line.{Line}
@@ -30,7 +30,7 @@ past_point row line steep axis zero = λ x y h k. none (on_line line x (pos y)) 
 
 -- the rows that the course has are the line's
 abbrev HasAllRows : Line → Bool → Span → Type 0
-HasAllRows line steep rows = (u v : ℤ) (y : ℕ) → IsPixelOf (course_of steep line) u v → y < 8192 → pos y ≡ row_of steep u v → IsIn rows y
+HasAllRows line steep rows = (u v : ℤ) (y : ℕ) → IsPixelOf (course_of steep line) u v → y < 8192 → pos y ≡ pixel_row steep u v → IsIn rows y
 
 pub rows_line : (line : Line) (steep : Bool) (rows : Span) → steep ≡ is_steep line → HasAllRows line steep rows → (x : ℤ) (y : ℕ) → y < 8192 → IsTrue (on_line line x (pos y)) → IsIn rows y
 rows_line line true rows axis all x y seen t = all (pos y) x y (pixel_line line true (pos y) x x (pos y) axis refl refl t) seen refl

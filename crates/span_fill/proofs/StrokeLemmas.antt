@@ -12,11 +12,11 @@ use Rattle.std.proofs.lemmas.List.Folds.{list_any-append, list_any_more, list_an
 use Rattle.std.proofs.lemmas.List.Sorted.{IsNonDecreasingBy-drop}
 use Rattle.mapping.specs.declared.geometry.Point.{Point}
 use Rattle.span_fill.specs.Clips.{IsIn}
-use Rattle.span_fill.specs.Cuts.{CanMove, IsMovedCut}
+use Rattle.span_fill.specs.Cuts.{CutCanMove, IsMovedCut}
 use Rattle.span_fill.specs.Lines.{HasNearEnds}
 use Rattle.span_fill.specs.Slants.{IsSmallSlant, total_of}
 use Rattle.span_fill.specs.Spans.{in_span, in_spans}
-use Rattle.span_fill.specs.StrokeRows.{AllBehind, Begins, IsActive, IsNext, IsPassed, IsWaiting, strips_have}
+use Rattle.span_fill.specs.StrokeRows.{AllBehind, BeginsStrip, IsActive, IsNext, IsPassed, IsWaiting, strips_have}
 use Rattle.span_fill.specs.Strips.{HasBounds, IsAtRow, IsColumn, strip_slant}
 use Rattle.span_fill.specs.Strokes.{on_line}
 use Rattle.span_fill.specs.declared.cut.Cut.{Cut}
@@ -91,7 +91,7 @@ near_small line near =
     let y_high = y.high in
     (omega (arith, ints, x_low, x_high), omega (arith, ints, y_low, y_high))
 
-pub active_can_move : (row : ℕ) (s : Strip) → IsActive row s → row < 8192 → CanMove s.cut
+pub active_can_move : (row : ℕ) (s : Strip) → IsActive row s → row < 8192 → CutCanMove s.cut
 active_can_move row s active seen =
     let small = active.bounds.small in
     let near = near_small s.line active.bounds.near in
@@ -156,7 +156,7 @@ first_waits strips next row d within waits =
     let first = drop_more strips next d within in
     (first, All-head (IsWaiting row) (get_or strips next d) (drop (next + 1) strips) (All-same (IsWaiting row) (get_or strips next d ∷ drop (next + 1) strips) (drop next strips) (sym first) waits))
 
-pub begins_here : (strips : List Strip) (next row : ℕ) (d : Strip) → next < length strips → (get_or strips next d).rows.from ≤ row → All (IsWaiting row) (drop next strips) → Begins row strips next (get_or strips next d)
+pub begins_here : (strips : List Strip) (next row : ℕ) (d : Strip) → next < length strips → (get_or strips next d).rows.from ≤ row → All (IsWaiting row) (drop next strips) → BeginsStrip row strips next (get_or strips next d)
 begins_here strips next row d within begins waits =
     let there = first_waits strips next row d within waits in
     record { within = within; first = there.0; active = waiting_active row (get_or strips next d) there.1 begins }

@@ -5,7 +5,7 @@ use Rattle.std.proofs.lemmas.List.{at_drop_more}
 use Rattle.std.proofs.lemmas.Bool.Decides.{nat_tests}
 use Rattle.span_fill.specs.Fill.{is_inside}
 use Rattle.span_fill.specs.Spans.{AreApart, AreRow, in_span, in_spans}
-use Rattle.span_fill.specs.Sweep.{AreFrom, AreSorted, downwards_at, ended_spans, is_part, longer_run, run_spans, swept, upwards_at}
+use Rattle.span_fill.specs.Sweep.{CrossFrom, AreSorted, downwards_at, ended_spans, is_part, longer_run, run_spans, swept, upwards_at}
 use Rattle.span_fill.specs.declared.edge.ActiveEdge.{ActiveEdge}
 use Rattle.span_fill.specs.declared.fill_rule.FillRule.{FillRule}
 use Rattle.span_fill.specs.declared.span.Span.{Span}
@@ -57,11 +57,11 @@ pub longer_order : (inside : Bool) (run : Span) (from to : ℕ) → run.from ≤
 longer_order inside run from to h k l = (grind (arith, nat_tests), grind (arith, nat_tests))
 
 -- no edge crosses before its column
-none_down : (edges : List ActiveEdge) (column x : ℕ) → AreFrom column edges → x < column → downwards_at edges x ≡ 0
+none_down : (edges : List ActiveEdge) (column x : ℕ) → CrossFrom column edges → x < column → downwards_at edges x ≡ 0
 none_down [] column x h l = refl
 none_down (e ∷ edges) column x h l = let t = none_down edges column x h.1 l in let first = h.0 in grind (arith, nat_tests)
 
-none_up : (edges : List ActiveEdge) (column x : ℕ) → AreFrom column edges → x < column → upwards_at edges x ≡ 0
+none_up : (edges : List ActiveEdge) (column x : ℕ) → CrossFrom column edges → x < column → upwards_at edges x ≡ 0
 none_up [] column x h l = refl
 none_up (e ∷ edges) column x h l = let t = none_up edges column x h.1 l in let first = h.0 in grind (arith, nat_tests)
 

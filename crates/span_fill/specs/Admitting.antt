@@ -4,7 +4,7 @@ use Rattle.span_fill.specs.Edges.{IsEdge, begins_behind, begins_by}
 use Rattle.span_fill.specs.declared.edge.Edge.{Edge}
 
 -- this edge is the next, and begins at row y or above it
-pub record Begins (y : ℕ) (edges : List Edge) (next : ℕ) (edge : Edge) : Type 0 where
+pub record BeginsEdge (y : ℕ) (edges : List Edge) (next : ℕ) (edge : Edge) : Type 0 where
   pub within : next < length edges
   pub first : drop next edges ≡ edge ∷ drop (next + 1) edges
   pub begins : begins_by y edge ≡ true

@@ -43,12 +43,12 @@ course_of true line = record { from_u = line.from.y; from_v = line.from.x; to_u 
 course_of false line = record { from_u = line.from.x; from_v = line.from.y; to_u = line.to.x; to_v = line.to.y }
 
 -- the column of a pixel with these coordinates
-abbrev pub column_of : Bool → ℤ → ℤ → ℤ
-column_of steep u v = if steep then v else u
+abbrev pub pixel_column : Bool → ℤ → ℤ → ℤ
+pixel_column steep u v = if steep then v else u
 
 -- and its row
-abbrev pub row_of : Bool → ℤ → ℤ → ℤ
-row_of steep u v = if steep then u else v
+abbrev pub pixel_row : Bool → ℤ → ℤ → ℤ
+pixel_row steep u v = if steep then u else v
 
 -- what a region has of the longer axis
 abbrev pub along_span : Bool → Region → Span

@@ -13,7 +13,7 @@ pub record IsCut (total step divisor : ℤ) (cut : Cut) : Type 0 where
   pub more_high : cut.more <ℤ divisor
 
 -- a row more overflows nothing
-pub record CanMove (cut : Cut) : Type 0 where
+pub record CutCanMove (cut : Cut) : Type 0 where
   pub column_low : negsuc (2 ^ 62) ≤ℤ cut.column
   pub column_high : cut.column ≤ℤ pos (2 ^ 62)
   pub across_low : negsuc (2 ^ 32) ≤ℤ cut.across

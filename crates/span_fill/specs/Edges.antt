@@ -32,13 +32,13 @@ abbrev pub crosses_row : ℕ → Edge → Bool
 crosses_row y edge = has_row edge.upper edge.lower y
 
 -- the row of a coordinate, or row 0 if it is above that
-abbrev pub row_of : ℤ → ℕ
-row_of (pos n) = n
-row_of (negsuc n) = 0
+abbrev pub near_row : ℤ → ℕ
+near_row (pos n) = n
+near_row (negsuc n) = 0
 
 -- the first row that is not above the edge
 abbrev pub first_row : Edge → ℕ
-first_row edge = row_of edge.upper.y
+first_row edge = near_row edge.upper.y
 
 -- the edge begins behind row y
 abbrev pub begins_behind : ℕ → Edge → Bool
@@ -50,16 +50,16 @@ begins_by y edge = nat_le (first_row edge) y
 
 -- it ends behind row y
 abbrev pub ends_behind : ℕ → Edge → Bool
-ends_behind y edge = nat_lt y (row_of edge.lower.y)
+ends_behind y edge = nat_lt y (near_row edge.lower.y)
 
 -- a column as near to this as columns go
-abbrev pub column_of : ℤ → ℕ
-column_of (pos n) = min n 8192
-column_of (negsuc n) = 0
+abbrev pub near_column : ℤ → ℕ
+near_column (pos n) = min n 8192
+near_column (negsuc n) = 0
 
 -- the first column whose middle isn't to the left of a crossing
 abbrev pub first_column : ℤ → ℤ → ℤ → ℕ
-first_column quotient rest divisor = column_of (quotient +ℤ (if int_lt divisor (pos 2 *ℤ rest) then pos 1 else pos 0))
+first_column quotient rest divisor = near_column (quotient +ℤ (if int_lt divisor (pos 2 *ℤ rest) then pos 1 else pos 0))
 
 -- the floor of a fraction, and what is left
 abbrev pub rest_of : ℤ → ℤ → ℤ
@@ -70,7 +70,7 @@ abbrev pub active_with : Edge → ℤ → ℤ → ActiveEdge
 active_with edge quotient rest = record {
   line = edge.line;
   column = first_column quotient rest (crossing_divisor edge.upper edge.lower);
-  bottom = row_of edge.lower.y;
+  bottom = near_row edge.lower.y;
   is_down = edge.is_down;
   quotient = quotient;
   rest = rest;
@@ -113,7 +113,7 @@ abbrev pub goes_to : ℕ → ActiveEdge → Bool
 goes_to y edge = nat_lt y edge.bottom
 
 -- its numbers are of a fraction, and leave room for one row more
-pub record CanMove (edge : ActiveEdge) : Type 0 where
+pub record EdgeCanMove (edge : ActiveEdge) : Type 0 where
   pub quotient : IsWithin (2 ^ 62) edge.quotient
   pub step : IsWithin (2 ^ 31) edge.step
   pub divisor : edge.divisor ≤ℤ pos (2 ^ 31)

@@ -15,11 +15,11 @@ joined end (part ∷ parts) run =
     ++ joined end parts (longer_run true run (column_behind run part.from end) (column_behind run part.to end))
 
 -- none of the parts begins before this column
-abbrev pub AreFrom : ℕ → List Span → Type 0
-AreFrom column [] = Unit {0}
-AreFrom column (part ∷ parts) = (column ≤ part.from) × AreFrom column parts
+abbrev pub BeginFrom : ℕ → List Span → Type 0
+BeginFrom column [] = Unit {0}
+BeginFrom column (part ∷ parts) = (column ≤ part.from) × BeginFrom column parts
 
 -- none begins before one that is in front of it
 abbrev pub AreInOrder : List Span → Type 0
 AreInOrder [] = Unit {0}
-AreInOrder (part ∷ parts) = AreFrom part.from parts × AreInOrder parts
+AreInOrder (part ∷ parts) = BeginFrom part.from parts × AreInOrder parts

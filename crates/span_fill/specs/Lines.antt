@@ -19,7 +19,7 @@ pub record HasNearEnds (line : Line) : Type 0 where
   pub from : IsNearPoint line.from
   pub to : IsNearPoint line.to
 
--- the first of the lines is given, or none where there is none, and the others are still to come
-abbrev pub GivesLine : List Line → Option Line → List Line → Type 0
-GivesLine old None new = (old ≡ []) × (new ≡ [])
-GivesLine old (Some line) new = old ≡ line ∷ new
+-- the first of some values is given, or none where there is none, and the others are still to come
+abbrev pub GivesFirst : {X : Type 0} → List X → Option X → List X → Type 0
+GivesFirst old None new = (old ≡ []) × (new ≡ [])
+GivesFirst old (Some x) new = old ≡ x ∷ new

@@ -40,7 +40,7 @@ FillsRow (filling rule) lines y interval spans = AreRow (λ x. in_fill rule line
 FillsRow stroking lines y interval spans = AreRow (λ x. in_stroke lines x y) interval spans
 
 -- the buffer goes on with its work
-pub record GoesOn (old new : RowState) : Type 0 where
+pub record SameWork (old new : RowState) : Type 0 where
   pub lines : new.lines ≡ old.lines
   pub work : new.work ≡ old.work
   pub room : new.room ≡ old.room

@@ -52,7 +52,7 @@ pub record IsNext (row : ℕ) (old new : Strip) : Type 0 where
   pub passed : IsPassed row new
 
 -- this strip is the next, and begins at the row
-pub record Begins (row : ℕ) (strips : List Strip) (next : ℕ) (strip : Strip) : Type 0 where
+pub record BeginsStrip (row : ℕ) (strips : List Strip) (next : ℕ) (strip : Strip) : Type 0 where
   pub within : next < length strips
   pub first : drop next strips ≡ strip ∷ drop (next + 1) strips
   pub active : IsActive row strip

@@ -16,14 +16,14 @@ upwards_at [] x = 0
 upwards_at (edge ∷ edges) x = (if not edge.is_down && nat_le edge.column x then 1 else 0) + upwards_at edges x
 
 -- no edge crosses before this column
-abbrev pub AreFrom : ℕ → List ActiveEdge → Type 0
-AreFrom column [] = Unit
-AreFrom column (edge ∷ edges) = (column ≤ edge.column) × AreFrom column edges
+abbrev pub CrossFrom : ℕ → List ActiveEdge → Type 0
+CrossFrom column [] = Unit
+CrossFrom column (edge ∷ edges) = (column ≤ edge.column) × CrossFrom column edges
 
 -- no edge crosses before one that is in front of it
 abbrev pub AreSorted : List ActiveEdge → Type 0
 AreSorted [] = Unit
-AreSorted (edge ∷ edges) = AreFrom edge.column edges × AreSorted edges
+AreSorted (edge ∷ edges) = CrossFrom edge.column edges × AreSorted edges
 
 -- the run as a list, empty if it has no column
 abbrev pub run_spans : Span → List Span

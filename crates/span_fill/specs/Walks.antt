@@ -16,7 +16,7 @@ pub record IsSmall (walk : Walk) : Type 0 where
   pub more : walk.more < 2 ^ 31
 
 -- what a walk keeps
-pub record GoesOn (old new : Walk) : Type 0 where
+pub record WalksOn (old new : Walk) : Type 0 where
   pub more : new.more ≡ old.more
   pub full : new.full ≡ old.full
   pub back : new.back ≡ old.back
@@ -24,7 +24,7 @@ pub record GoesOn (old new : Walk) : Type 0 where
 
 -- a walk is one step further: where the rest and what a step adds reach `full`, it is carried
 pub record IsMoved (old new : Walk) : Type 0 where
-  pub same : GoesOn old new
+  pub same : WalksOn old new
   pub u : new.u ≡ ahead old.forwards old.u 1
   pub kept : old.rest + old.more < old.full → (new.v ≡ old.v +ℤ old.back) × (new.rest ≡ old.rest + old.more)
   pub carried : old.full ≤ old.rest + old.more → (new.v ≡ old.v +ℤ old.back +ℤ pos 1) × (new.rest + old.full ≡ old.rest + old.more)

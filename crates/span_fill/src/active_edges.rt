@@ -3,8 +3,8 @@
 ghost use Rattle.std.specs.Prelude.{◌≡◌, ◌+◌, ◌-◌, ◌≤◌, ◌<◌, ◌++◌, length, map, drop, filter, MatchOption, vec_len, vec_capacity};
 ghost use Rattle.std.specs.List.{All};
 ghost use Rattle.std.specs.List.Sorted.{IsNonDecreasingBy, IsPermutation};
-ghost use Rattle.span_fill.specs.Admitting.{Begins, NoneBegins};
-ghost use Rattle.span_fill.specs.Edges.{CanMove, IsEdge, active_at, begins_behind, begins_by, crossing_of, first_row, goes_to, moved};
+ghost use Rattle.span_fill.specs.Admitting.{BeginsEdge, NoneBegins};
+ghost use Rattle.span_fill.specs.Edges.{EdgeCanMove, IsEdge, active_at, begins_behind, begins_by, crossing_of, first_row, goes_to, moved};
 
 use crate::crossing::Crossing;
 use crate::edge::{ActiveEdge, Edge};
@@ -21,7 +21,7 @@ pub(crate) fn sort_edges(edges: &mut Vec<Edge>)
 
 /// The edges that still cross the next row, there.
 pub(crate) fn advance(active: &mut Vec<ActiveEdge>, row: u32)
-    requires { All CanMove active.old.items }
+    requires { All EdgeCanMove active.old.items }
     ensures edges { active.new.items ≡ map moved (filter (goes_to row) active.old.items) }
     ensures length { vec_len active.new ≤ vec_len active.old }
     ensures room { vec_capacity active.new ≡ vec_capacity active.old }
@@ -64,7 +64,7 @@ pub(crate) fn admit(active: &mut Vec<ActiveEdge>, edges: &[Edge], begun: usize, 
 fn beginning(edges: &[Edge], next: usize, row: u32) -> Option<Edge>
     requires edges { All IsEdge edges.now }
     requires sorted { IsNonDecreasingBy first_row edges.now }
-    ensures { MatchOption result (NoneBegins row (drop next edges.now)) (λ edge. Begins row edges.now next edge) }
+    ensures { MatchOption result (NoneBegins row (drop next edges.now)) (λ edge. BeginsEdge row edges.now next edge) }
 {
     if next >= edges.len() {
         return None;

@@ -2,7 +2,7 @@
 
 ghost use Rattle.std.specs.Prelude.{◌≡◌, true, false, ℕ, ◌+◌, ◌^◌, ◌<◌, ◌≤◌, ◌↔◌, ℤ, pos, negsuc, ◌+ℤ◌, ◌≤ℤ◌, ◌<ℤ◌, IsTrue};
 ghost use Rattle.span_fill.specs.Clips.{IsIn};
-ghost use Rattle.span_fill.specs.Courses.{IsCourse, IsPixelOf, row_of};
+ghost use Rattle.span_fill.specs.Courses.{IsCourse, IsPixelOf, pixel_row};
 ghost use Rattle.span_fill.specs.Strokes.{is_towards};
 
 use crate::course::Course;
@@ -10,7 +10,7 @@ use crate::span::Span;
 
 /// Coordinates from the first up to before the last.
 #[derive(Clone, Copy, Debug)]
-pub(crate) struct Ends {
+pub(crate) struct CoordinateRange {
     pub(crate) from: i32,
     pub(crate) to: i32,
 }
@@ -34,7 +34,7 @@ pub(crate) fn rows_of(course: Course, steep: bool) -> Span
     requires { IsCourse course }
     ensures exact { steep ≡ true → (y : ℕ) → y < 8192 → IsIn result y → IsTrue (is_towards course.from_u course.to_u (pos y)) }
     ensures level { steep ≡ false → course.from_v ≡ course.to_v → (y : ℕ) → y < 8192 → IsIn result y → pos y ≡ course.from_v }
-    ensures all { (u v : ℤ) (y : ℕ) → IsPixelOf course u v → y < 8192 → pos y ≡ row_of steep u v → IsIn result y }
+    ensures all { (u v : ℤ) (y : ℕ) → IsPixelOf course u v → y < 8192 → pos y ≡ pixel_row steep u v → IsIn result y }
     ensures within { result.to ≤ 8192 }
 {
     if steep {
@@ -44,18 +44,18 @@ pub(crate) fn rows_of(course: Course, steep: bool) -> Span
 }
 
 /// What a line has of its longer axis.
-pub(crate) fn run(course: Course) -> Ends
+pub(crate) fn run(course: Course) -> CoordinateRange
     requires { IsCourse course }
     ensures exact { (u : ℤ) → (IsTrue (is_towards course.from_u course.to_u u) ↔ ((result.from ≤ℤ u) × (u <ℤ result.to))) }
     ensures order { result.from ≤ℤ result.to }
 {
     if course.is_forwards() {
-        Ends {
+        CoordinateRange {
             from: course.from_u,
             to: course.to_u,
         }
     } else {
-        Ends {
+        CoordinateRange {
             from: course.to_u + 1,
             to: course.from_u + 1,
         }
@@ -63,19 +63,19 @@ pub(crate) fn run(course: Course) -> Ends
 }
 
 /// Between which coordinates on the shorter axis a line lies, its last point's included.
-pub(crate) fn hull(course: Course) -> Ends
+pub(crate) fn hull(course: Course) -> CoordinateRange
     requires { IsCourse course }
     ensures within { (u v : ℤ) → IsPixelOf course u v → (result.from ≤ℤ v) × (v <ℤ result.to) }
     ensures level { course.from_v ≡ course.to_v → (result.from ≡ course.from_v) × (result.to ≡ course.from_v +ℤ pos 1) }
     ensures order { result.from ≤ℤ result.to }
 {
     if course.from_v <= course.to_v {
-        Ends {
+        CoordinateRange {
             from: course.from_v,
             to: course.to_v + 1,
         }
     } else {
-        Ends {
+        CoordinateRange {
             from: course.to_v,
             to: course.from_v + 1,
         }
@@ -83,7 +83,7 @@ pub(crate) fn hull(course: Course) -> Ends
 }
 
 /// Those of 8,192 rows or columns that lie between the ends.
-pub(crate) fn seen(ends: Ends) -> Span
+pub(crate) fn seen(ends: CoordinateRange) -> Span
     requires { ends.from ≤ℤ ends.to }
     ensures exact { (n : ℕ) → n < 8192 → (IsIn result n ↔ ((ends.from ≤ℤ pos n) × (pos n <ℤ ends.to))) }
     ensures order { result.from ≤ result.to }

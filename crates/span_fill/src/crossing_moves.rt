@@ -3,7 +3,7 @@
 ghost use Rattle.std.specs.Prelude.{◌≡◌, ◌+◌, ◌≤◌, ◌^◌, pos, ◌+ℤ◌, ◌-ℤ◌, ◌*ℤ◌, ◌≤ℤ◌, ◌<ℤ◌, IsTrue, if◌then◌else◌};
 ghost use Rattle.mapping.specs.Floor.{floor_div};
 ghost use Rattle.mapping.specs.Limits.{IsWithin};
-ghost use Rattle.span_fill.specs.Edges.{CanMove, column_of, crossing_of, first_column, goes_to, is_over, moved, moved_quotient, moved_rest, rest_of};
+ghost use Rattle.span_fill.specs.Edges.{EdgeCanMove, near_column, crossing_of, first_column, goes_to, is_over, moved, moved_quotient, moved_rest, rest_of};
 
 use crate::crossing::Crossing;
 use crate::edge::ActiveEdge;
@@ -12,7 +12,7 @@ impl ActiveEdge {
     /// The edge one row on.
     #[inline]
     pub(crate) fn moved(self) -> ActiveEdge
-        requires { CanMove self }
+        requires { EdgeCanMove self }
         ensures { result ≡ moved self }
     {
         let over = self.divisor <= self.rest + self.more;
@@ -77,7 +77,7 @@ pub(crate) fn first_column(quotient: i64, rest: i64, divisor: i64) -> u32
 /// The column, within 0 to 8,192.
 #[inline]
 fn column_of(place: i64) -> u32
-    ensures { result ≡ column_of place }
+    ensures { result ≡ near_column place }
 {
     if place <= 0 {
         0

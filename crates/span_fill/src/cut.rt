@@ -18,7 +18,7 @@ pub(crate) struct Cut {
 }
 
 impl Cut {
-    ghost use Rattle.span_fill.specs.Cuts.{CanMove, IsCut, IsMovedCut};
+    ghost use Rattle.span_fill.specs.Cuts.{CutCanMove, IsCut, IsMovedCut};
 
     /// The fraction `total / divisor`, to which each row adds `step / divisor`.
     pub(crate) fn new(total: i64, step: i64, divisor: i64) -> Cut
@@ -44,7 +44,7 @@ impl Cut {
     /// The fraction one row on.
     #[inline]
     pub(crate) fn moved(self) -> Cut
-        requires { CanMove self }
+        requires { CutCanMove self }
         ensures { IsMovedCut self result }
     {
         let sum = self.rest + self.more;

@@ -3,7 +3,7 @@
 ghost use Rattle.std.specs.Prelude.{◌≡◌, ◌+◌, ◌*◌, ◌≤◌, ◌^◌, pos, ◌+ℤ◌, ◌-ℤ◌, ◌*ℤ◌, ◌≤ℤ◌, ◌<ℤ◌, IsTrue};
 ghost use Rattle.mapping.specs.Floor.{floor_div};
 ghost use Rattle.mapping.specs.Limits.{IsWithin};
-ghost use Rattle.span_fill.specs.Edges.{IsEdge, active_at, first_row, rest_of, row_of};
+ghost use Rattle.span_fill.specs.Edges.{IsEdge, active_at, first_row, rest_of, near_row};
 ghost use Rattle.span_fill.specs.Fill.{across, crossing_dividend, crossing_divisor, down};
 
 use crate::crossing_moves::first_column;
@@ -48,7 +48,7 @@ impl Edge {
 
     /// The first row that isn't above the edge's lower end.
     pub(crate) fn bottom(self) -> u32
-        ensures { result ≡ row_of self.lower.y }
+        ensures { result ≡ near_row self.lower.y }
     {
         row_of(self.lower.y)
     }
@@ -97,7 +97,7 @@ impl Edge {
 
 /// The row of a coordinate, or row 0 if it is above that.
 fn row_of(y: i32) -> u32
-    ensures { result ≡ row_of y }
+    ensures { result ≡ near_row y }
 {
     if y <= 0 { 0 } else { y as u32 }
 }

@@ -2,7 +2,7 @@
 
 ghost use Rattle.std.specs.Prelude.{◌≡◌, ◌≤◌, IfSome, List, length, vec_capacity};
 ghost use Rattle.std.specs.List.{All};
-ghost use Rattle.span_fill.specs.Lines.{GivesLine, HasNearEnds};
+ghost use Rattle.span_fill.specs.Lines.{GivesFirst, HasNearEnds};
 ghost use Rattle.span_fill.specs.declared.line.Line.{Line as TheLine};
 
 use crate::line::Line;
@@ -19,7 +19,7 @@ pub trait Outline {
 
     /// The next line, or none behind the last.
     fn next_line(&mut self) -> Option<Line>
-        ensures line { GivesLine (lines self.old) result (lines self.new) }
+        ensures line { GivesFirst (lines self.old) result (lines self.new) }
         ensures near { IfSome result HasNearEnds };
 }
 

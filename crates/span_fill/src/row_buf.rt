@@ -3,7 +3,7 @@
 ghost use Rattle.std.specs.Prelude.{◌≡◌, ◌+◌, ◌<◌, ◌≤◌, ◌^◌, [], length, OnOk, OnErr};
 ghost use Rattle.std.specs.List.Sorted.{IsPermutation};
 ghost use Rattle.span_fill.specs.Crossings.{crossings_of};
-ghost use Rattle.span_fill.specs.RowState.{BeginsFill, BeginsStroke, DiffersInRoom, FillsRow, GoesOn, IsFillingWork, IsStrokingWork, filling, idle, stroking};
+ghost use Rattle.span_fill.specs.RowState.{BeginsFill, BeginsStroke, DiffersInRoom, FillsRow, SameWork, IsFillingWork, IsStrokingWork, filling, idle, stroking};
 
 use crate::active_edges::{admit, advance, sort_edges, tell};
 use crate::crossing::Crossing;
@@ -141,7 +141,7 @@ impl RowBuf {
         requires interval { interval.to ≤ 8192 }
         ensures spans { FillsRow self.old.work self.old.lines self.old.next interval self.new.spans }
         ensures next { self.new.next ≡ self.old.next + 1 }
-        ensures same { GoesOn self.old self.new }
+        ensures same { SameWork self.old self.new }
     {
         self.sweep_row(interval);
         self.step();
@@ -182,7 +182,7 @@ impl RowBuf {
         requires interval { interval.to ≤ 8192 }
         ensures spans { FillsRow self.old.work self.old.lines self.old.next interval self.new.spans }
         ensures next { self.new.next ≡ self.old.next + 1 }
-        ensures same { GoesOn self.old self.new }
+        ensures same { SameWork self.old self.new }
     {
         self.strokes.next_row(self.next, interval, &mut self.spans);
         self.next += 1;
@@ -225,7 +225,7 @@ impl RowBuf {
         requires interval { interval.to ≤ 8192 }
         ensures spans { FillsRow self.old.work self.old.lines self.old.next interval self.new.spans }
         ensures next { self.new.next ≡ self.old.next }
-        ensures same { GoesOn self.old self.new }
+        ensures same { SameWork self.old self.new }
     {
         self.spans.clear();
         if self.active.is_empty() {
@@ -242,7 +242,7 @@ impl RowBuf {
         requires next { self.old.next < 8192 }
         ensures spans { self.new.spans ≡ self.old.spans }
         ensures next { self.new.next ≡ self.old.next + 1 }
-        ensures same { GoesOn self.old self.new }
+        ensures same { SameWork self.old self.new }
     {
         self.next += 1;
         advance(&mut self.active, self.next);

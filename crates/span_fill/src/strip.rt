@@ -31,7 +31,7 @@ pub(crate) struct Strip {
 }
 
 impl Strip {
-    ghost use Rattle.span_fill.specs.Cuts.{CanMove, IsMovedCut};
+    ghost use Rattle.span_fill.specs.Cuts.{CutCanMove, IsMovedCut};
     ghost use Rattle.span_fill.specs.StrokeRows.{IsBegun, IsPast};
     ghost use Rattle.span_fill.specs.Strips.{IsColumn};
 
@@ -62,7 +62,7 @@ impl Strip {
     /// The same line one row on.
     #[inline]
     pub(crate) fn next_row(self) -> Strip
-        requires { CanMove self.cut }
+        requires { CutCanMove self.cut }
         ensures cut { IsMovedCut self.cut result.cut }
         ensures same { result ≡ record self { cut = result.cut } }
     {

@@ -5,7 +5,7 @@ ghost use Rattle.std.specs.List.{All};
 ghost use Rattle.std.specs.List.Sorted.{IsNonDecreasingBy, IsPermutation};
 ghost use Rattle.span_fill.specs.Lines.{HasNearEnds};
 ghost use Rattle.span_fill.specs.Spans.{in_spans};
-ghost use Rattle.span_fill.specs.StrokeRows.{AllBehind, Begins, IsActive, IsNext, IsPassed, IsWaiting, lines_have, strips_have};
+ghost use Rattle.span_fill.specs.StrokeRows.{AllBehind, BeginsStrip, IsActive, IsNext, IsPassed, IsWaiting, lines_have, strips_have};
 ghost use Rattle.span_fill.specs.Strokes.{on_line};
 
 use crate::line::Line;
@@ -81,7 +81,7 @@ pub(crate) fn enter(active: &mut Vec<Strip>, waiting: &[Strip], begun: usize, ro
 fn entering(waiting: &[Strip], next: usize, row: u32) -> Option<Strip>
     requires waiting { All (IsWaiting row) (drop next waiting.now) }
     requires sorted { IsNonDecreasingBy (λ strip. strip.rows.from) waiting.now }
-    ensures { MatchOption result (AllBehind row (drop next waiting.now)) (λ strip. Begins row waiting.now next strip) }
+    ensures { MatchOption result (AllBehind row (drop next waiting.now)) (λ strip. BeginsStrip row waiting.now next strip) }
 {
     if next >= waiting.len() {
         return None;

@@ -25,15 +25,15 @@ pub(crate) struct Walk {
 }
 
 impl Walk {
-    ghost use Rattle.span_fill.specs.Courses.{column_of, row_of};
+    ghost use Rattle.span_fill.specs.Courses.{pixel_column, pixel_row};
     ghost use Rattle.span_fill.specs.Walks.{IsSmall, IsMoved};
 
     /// The pixel where the walk stands, `u` being its row where `steep`, else its column.
     pub(crate) fn pixel(self, steep: bool) -> Pixel
         requires u { pos 0 ≤ℤ self.u }
         requires v { pos 0 ≤ℤ self.v }
-        ensures x { pos result.x ≡ column_of steep self.u self.v }
-        ensures y { pos result.y ≡ row_of steep self.u self.v }
+        ensures x { pos result.x ≡ pixel_column steep self.u self.v }
+        ensures y { pos result.y ≡ pixel_row steep self.u self.v }
     {
         if steep {
             Pixel {

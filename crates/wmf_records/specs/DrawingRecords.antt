@@ -1,5 +1,6 @@
 -- What drawing records mean ([MS-WMF] 2.3.3).
 use Rattle.std.specs.Prelude.{ℕ, ◌+◌, ◌*◌, ℤ, pos, negsuc, List, [], ◌∷◌, sum, Option, Some, None, Result, Ok}
+use Rattle.std.specs.Option.{ok_or}
 use Rattle.mapping.specs.declared.geometry.Point.{Point}
 use Rattle.point_views.specs.Numbers.{number_at, i16_at}
 use Rattle.point_views.specs.declared.numbers.NumberWidth.TheVariants.{Short}
@@ -7,7 +8,6 @@ use Rattle.draw_ops.specs.Fields.{needs_bytes, rgb_at, turned_box_at, yx_at}
 use Rattle.draw_ops.specs.Meaning.{MeantValue, plain, unnoted}
 use Rattle.draw_ops.specs.Operation.{line_to, pixel, polygon, polyline, rectangle}
 use Rattle.draw_ops.specs.PointLists.{counts_at, lists_by, points_at}
-use Rattle.draw_ops.specs.Results.{value_or}
 use Rattle.draw_ops.specs.declared.fault.Fault.{Fault}
 use Rattle.draw_ops.specs.declared.fault.Fault.TheVariants.{BadParams}
 use Rattle.draw_ops.specs.declared.operation.RectangleEdges.TheVariants.{HalfOpen}
@@ -23,7 +23,7 @@ counted_points (negsuc n) bytes = None
 
 -- the points of META_POLYLINE and META_POLYGON, 2.3.3.14 and 2.3.3.15: their count, and each x and y
 abbrev pub point_list : List ℕ → Result (List Point) Fault
-point_list bytes = needs_bytes 8 bytes (value_or BadParams (counted_points (i16_at bytes 6) bytes))
+point_list bytes = needs_bytes 8 bytes (ok_or (counted_points (i16_at bytes 6) bytes) BadParams)
 
 -- META_POLYLINE draws its points as one list
 abbrev pub polyline_record : List ℕ → Result MeantValue Fault
@@ -44,7 +44,7 @@ lists_of_polygons polygons bytes = lists_by (counts_at Short polygons bytes 8) (
 
 -- META_POLYPOLYGON, 2.3.3.16: how many polygons, the count of each, and the points
 abbrev pub poly_polygon_record : List ℕ → Result MeantValue Fault
-poly_polygon_record bytes = needs_bytes 8 bytes (plain polygon (value_or BadParams (lists_of_polygons (number_at bytes 6 2) bytes)))
+poly_polygon_record bytes = needs_bytes 8 bytes (plain polygon (ok_or (lists_of_polygons (number_at bytes 6 2) bytes) BadParams))
 
 -- META_RECTANGLE, 2.3.3.17: bottom, right, top and left, of which right and bottom don't belong to it
 abbrev pub rectangle_record : List ℕ → Result MeantValue Fault

@@ -1,6 +1,6 @@
 -- Which records of WMF are played, which are skipped, and which are refused, by their functions ([MS-WMF] 2.1.1.1).
 use Rattle.std.specs.Prelude.{ℕ, List, [], ◌∷◌, ◌++◌, map, Option}
-use Rattle.draw_ops.specs.KindTable.{row_of}
+use Rattle.draw_ops.specs.KindTable.{row_with}
 use Rattle.wmf_records.specs.declared.entry.WmfEntry.{WmfEntry}
 use Rattle.wmf_records.specs.declared.entry.WmfEntry.TheVariants.{DibBitBlt, DibStretchBlt, StretchDib, Eof, LineTo, PatBlt, Polyline, Polygon, PolyPolygon, Rectangle, SetPixel, CreateBrushIndirect, CreateFontIndirect, CreatePalette, CreatePenIndirect, DeleteObject, DibCreatePatternBrush, SelectObject, SelectPalette, ExcludeClipRect, IntersectClipRect, MoveTo, OffsetViewportOrg, OffsetWindowOrg, RestoreDc, SaveDc, SetBkColor, SetBkMode, SetLayout, SetMapMode, SetPolyFillMode, SetRop2, SetViewportExt, SetViewportOrg, SetWindowExt, SetWindowOrg, Skipped, Refused}
 
@@ -37,4 +37,4 @@ wmf_functions = map (λ row. row.0) wmf_kinds
 
 -- what is done with a record of this function
 abbrev pub wmf_entry_of : ℕ → Option WmfEntry
-wmf_entry_of function = row_of wmf_kinds function
+wmf_entry_of function = row_with wmf_kinds function

@@ -1,16 +1,16 @@
 -- A line is its file and its sides.
 use Rattle.std.proofs.Common.{◌≡◌, ℕ, List, Bor, refl}
-use Rattle.commands.specs.declared.asked.Line.{Line}
-use Rattle.commands.specs.declared.asked.Line.TheVariants.{Show}
+use Rattle.commands.specs.declared.asked.CommandLine.{CommandLine}
+use Rattle.commands.specs.declared.asked.CommandLine.TheVariants.{Show}
 use Rattle.commands.proofs.program.perform.Goals as goal
 
-record Parts (line : Line) : Type 0 where
+record Parts (line : CommandLine) : Type 0 where
   file : Bor (List ℕ)
   width : ℕ
   height : ℕ
   is : line ≡ Show file width height
 
-parts : (line : Line) → Parts line
+parts : (line : CommandLine) → Parts line
 parts (Show file width height) = record { file = file; width = width; height = height; is = refl }
 
 pub returns-clause-done : goal.returns-clause-done

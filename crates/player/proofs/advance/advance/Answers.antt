@@ -9,37 +9,37 @@ pub returns-in-Err-clause-advances : goal.returns-in-Err-clause-advances
 returns-in-Err-clause-advances g c =
     let content = g.S.HasContent.content in
     let machine = c.args.machine.now in
-    stops_where_broken c.args.before (content c.args.source.now) (content c.next_op.new.self) machine.state machine.surface c.next_op.result c.in-Err.fault c.at.result c.next_op.ensures.gives c.in-Err.is c.at.ensures.number c.at.ensures.fault
+    stops_where_broken c.args.before (content c.args.source.now) (content c.next_op-told.new.self) machine.state machine.surface c.next_op-told.result c.in-Err.fault c.at.result c.next_op-told.ensures.gives c.in-Err.is c.at.ensures.number c.at.ensures.fault
 
-pub returns-in-Err-step-clause-advances : goal.returns-in-Err-step-clause-advances
-returns-in-Err-step-clause-advances g c =
+pub returns-in-Err-step_by-clause-advances : goal.returns-in-Err-step_by-clause-advances
+returns-in-Err-step_by-clause-advances g c =
     let content = g.S.HasContent.content in
     let machine = c.args.machine.now in
-    let step = c.in-Ok-Some.step in
+    let step = c.in-Some.step in
     let left = content c.args.source.now in
-    let rest = content c.next_op.new.self in
-    let given = begins_with left rest c.next_op.result step c.next_op.ensures.gives (c.in-Ok-Some.is ∙ ap Ok c.in-Ok-Some.field-0-is) in
-    let fault = refused_by_fault c.room_law.ensures c.need_law.ensures left rest (step_value_of step) machine c.in-Err-step.fault given c.requires.room c.in-Err-step.ensures.refused in
-    stops_at_first c.args.before (content c.args.source.now) (content c.next_op.new.self) (step_value_of step) machine.state machine.surface c.in-Err-step.fault c.at-in-Err-step.result given fault c.at-in-Err-step.ensures.number c.at-in-Err-step.ensures.fault
+    let rest = content c.next_op-told.new.self in
+    let given = begins_with left rest c.next_op-told.result step c.next_op-told.ensures.gives (c.in-Ok.is ∙ ap Ok c.in-Some.is) in
+    let fault = refused_by_fault c.room_law.ensures c.need_law.ensures left rest (step_value_of step) machine c.in-Err-step_by.fault given c.requires.room c.in-Err-step_by.ensures.refused in
+    stops_at_first c.args.before (content c.args.source.now) (content c.next_op-told.new.self) (step_value_of step) machine.state machine.surface c.in-Err-step_by.fault c.at-in-Err-step_by.result given fault c.at-in-Err-step_by.ensures.number c.at-in-Err-step_by.ensures.fault
 
-pub returns-in-Err-step-clause-record : goal.returns-in-Err-step-clause-record
-returns-in-Err-step-clause-record g c =
+pub returns-in-Err-step_by-clause-record : goal.returns-in-Err-step_by-clause-record
+returns-in-Err-step_by-clause-record g c =
     let content = g.S.HasContent.content in
     let machine = c.args.machine.now in
-    let step = c.in-Ok-Some.step in
+    let step = c.in-Some.step in
     let left = content c.args.source.now in
-    let rest = content c.next_op.new.self in
-    let given = begins_with left rest c.next_op.result step c.next_op.ensures.gives (c.in-Ok-Some.is ∙ ap Ok c.in-Ok-Some.field-0-is) in
-    let fault = refused_by_fault c.room_law.ensures c.need_law.ensures left rest (step_value_of step) machine c.in-Err-step.fault given c.requires.room c.in-Err-step.ensures.refused in
-    lies_in_record c.fault_law.ensures (operation_of step.op) machine.state machine.surface c.in-Err-step.fault step.number c.at-in-Err-step.result fault c.at-in-Err-step.ensures.number c.at-in-Err-step.ensures.fault
+    let rest = content c.next_op-told.new.self in
+    let given = begins_with left rest c.next_op-told.result step c.next_op-told.ensures.gives (c.in-Ok.is ∙ ap Ok c.in-Some.is) in
+    let fault = refused_by_fault c.room_law.ensures c.need_law.ensures left rest (step_value_of step) machine c.in-Err-step_by.fault given c.requires.room c.in-Err-step_by.ensures.refused in
+    lies_in_record c.fault_law.ensures (operation_of step.op) machine.state machine.surface c.in-Err-step_by.fault step.number c.at-in-Err-step_by.result fault c.at-in-Err-step_by.ensures.number c.at-in-Err-step_by.ensures.fault
 
-pub returns-in-Err-step-clause-left : goal.returns-in-Err-step-clause-left
-returns-in-Err-step-clause-left g c =
+pub returns-in-Err-step_by-clause-left : goal.returns-in-Err-step_by-clause-left
+returns-in-Err-step_by-clause-left g c =
     let content = g.S.HasContent.content in
     let machine = c.args.machine.now in
-    let step = c.in-Ok-Some.step in
+    let step = c.in-Some.step in
     let left = content c.args.source.now in
-    let rest = content c.next_op.new.self in
-    let given = begins_with left rest c.next_op.result step c.next_op.ensures.gives (c.in-Ok-Some.is ∙ ap Ok c.in-Ok-Some.field-0-is) in
-    let fault = refused_by_fault c.room_law.ensures c.need_law.ensures left rest (step_value_of step) machine c.in-Err-step.fault given c.requires.room c.in-Err-step.ensures.refused in
-    left_at_first left rest (step_value_of step) machine c.step.new.self c.in-Err-step.fault given fault c.in-Err-step.ensures.kept
+    let rest = content c.next_op-told.new.self in
+    let given = begins_with left rest c.next_op-told.result step c.next_op-told.ensures.gives (c.in-Ok.is ∙ ap Ok c.in-Some.is) in
+    let fault = refused_by_fault c.room_law.ensures c.need_law.ensures left rest (step_value_of step) machine c.in-Err-step_by.fault given c.requires.room c.in-Err-step_by.ensures.refused in
+    left_at_first left rest (step_value_of step) machine c.step_by.new.self c.in-Err-step_by.fault given fault c.in-Err-step_by.ensures.kept

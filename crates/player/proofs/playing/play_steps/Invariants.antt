@@ -7,7 +7,7 @@ use Rattle.player.specs.Leaving.{left_by}
 use Rattle.preflight_cert.specs.After.{needs_after, state_after}
 use Rattle.preflight_cert.specs.Apply.{image_after}
 use Rattle.preflight_cert.specs.Drawings.{drawings_of}
-use Rattle.player.specs.Plays.{IsWhole, SameRows}
+use Rattle.player.specs.Plays.{HoldsSurface, SameRows}
 use Rattle.preflight_cert.specs.Stop.{stopped}
 use Rattle.preflight_cert.specs.Writes.{writes_after}
 use Rattle.player.proofs.playing.play_steps.Given as goal
@@ -25,7 +25,7 @@ invariant-loop-drawn g l =
       room : HasRoomForSteps (content l.source) l.machine;
       same_room : l.rows.room ≡ l.fn.rows.room;
       lines : HasLines l.rows.room (content l.source) l.machine;
-      whole : IsWhole l.canvas start;
+      whole : HoldsSurface l.canvas start;
       rows : SameRows l.fn.canvas l.canvas;
       stops : stopped (content l.fn.source).steps (content l.fn.source).fault 0 l.fn.machine.state start ≡ stopped (content l.source).steps (content l.source).fault l.before l.machine.state start;
       state : state_after (content l.fn.source).steps l.fn.machine.state ≡ state_after (content l.source).steps l.machine.state;

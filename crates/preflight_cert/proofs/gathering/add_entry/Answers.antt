@@ -19,7 +19,7 @@ returns-clause-text g c =
     let m = c.args.machine.now in
     let placed : IsPlacedDraw m.surface m.painted d = rw c.in-Some.is at c.requires.placed in
     let least = least_is c.box_law.ensures d.bounds (mark_points (mark_of m.painted d)) placed.least in
-    rw c.in-Some.is (subst (λ (box : Rect). c.put_entry.new.text.items ≡ c.args.entries.now.items ++ entry_text (record { number = c.args.number; bounds = box })) least c.in_ok-put_entry.ensures)
+    rw c.in-Some.is (subst (λ (box : Rect). c.put_entry.new.text.items ≡ c.args.entries.now.items ++ entry_text (record { number = c.args.number; bounds = box })) least c.in_ok-put_entry.ensures.text)
 
 pub returns-clause-fits : goal.returns-clause-fits
 returns-clause-fits g c =
@@ -27,8 +27,7 @@ returns-clause-fits g c =
     let m = c.args.machine.now in
     let placed : IsPlacedDraw m.surface m.painted d = rw c.in-Some.is at c.requires.placed in
     let least = least_is c.box_law.ensures d.bounds (mark_points (mark_of m.painted d)) placed.least in
-    let entry : IsEntry (record { number = c.args.number; bounds = d.bounds }) = search rules in
-    rw c.in-Some.is (subst (λ (box : Rect). IsEntry (record { number = c.args.number; bounds = box })) least entry)
+    rw c.in-Some.is (subst (λ (box : Rect). IsEntry (record { number = c.args.number; bounds = box })) least c.put_entry.ensures.fits)
 
 pub returns-clause-budget : goal.returns-clause-budget
 returns-clause-budget g c =

@@ -1,8 +1,11 @@
 -- A count of records fits, and so do the numbers of their entries.
-use Rattle.std.proofs.Common.{Ok, ap, ◌∙◌, arith, rules}
+use Rattle.std.proofs.Common.{◌≡◌, Ok, Some, ap, ◌∙◌, arith, rules}
 use Rattle.std.specs.Option.{option_map}
+use Rattle.draw_ops.specs.Content.{with_step}
+use Rattle.draw_ops.specs.OperationOf.{operation_of}
 use Rattle.draw_ops.specs.Records.{record_limit}
-use Rattle.dc_stack.specs.MachineState.{drawing_with}
+use Rattle.draw_ops.specs.StepOf.{step_value_of}
+use Rattle.dc_stack.specs.MachineState.{HasStepped, IsDrawingOf, drawing_with}
 use Rattle.preflight_cert.proofs.GatheredLemmas.{budget_then, step_entries, step_texts}
 use Rattle.preflight_cert.proofs.gathering.gather.Goals as goal
 
@@ -10,29 +13,36 @@ pub overflow_add-before : goal.overflow_add-before
 unfolding record_limit
 overflow_add-before g c = search rules
 
-pub returns-in-Ok-None-clause-few : goal.returns-in-Ok-None-clause-few
+pub returns-in_default-clause-few : goal.returns-in_default-clause-few
 unfolding record_limit
-returns-in-Ok-None-clause-few g c =
-    let lengths = c.loop-step.invariant.lengths in
-    let short = c.loop-step.invariant.short in omega (arith, lengths, short)
+returns-in_default-clause-few g c =
+    let lengths = c.loop-next.invariant.lengths in
+    let short = c.loop-next.invariant.short in omega (arith, lengths, short)
 
-pub loop-step-preserved : goal.loop-step-preserved
-loop-step-preserved g c =
+pub loop-next-preserved : goal.loop-next-preserved
+loop-next-preserved g c =
     let content = g.S.HasContent.content in
+    let old = c.loop-next.machine in
+    let new = c.step_by-played.new.self in
+    let step = c.in-Some.step in
+    let is = c.in-Ok.is ∙ ap Ok c.in-Some.is in
+    let begins : content c.loop-next.source ≡ with_step (step_value_of step) (content c.next_op-told.new.self) = rw is at c.next_op-told.ensures.gives in
+    let stepped : HasStepped (operation_of step.op) old new = rw c.in-Ok-played.is at c.step_by-played.ensures.stepped in
+    let drawn : IsDrawingOf (operation_of step.op) old new c.in-Ok-played.drawn = rw c.in-Ok-played.is at c.step_by-played.ensures.drawn in
     record {
-      short = search rules;
+      short = search (begins, rules);
       few = search rules;
       lengths = search rules;
       same_surface = search rules;
       place = search rules;
-      stops = search rules;
-      texts = c.loop-step.invariant.texts ∙
-          step_texts (content c.loop-step.source) (content c.next_op.new.self) c.next_op.result c.in-Ok-Some.step c.loop-step.machine.state c.step.new.self.state
-          (option_map (drawing_with c.step.new.self) c.in-Ok.drawn) c.loop-step.entries.items c.add_entry.new.entries.items
-          c.next_op.ensures.gives (c.in-Ok-Some.is ∙ ap Ok c.in-Ok-Some.field-0-is) c.in-Ok.ensures.stepped.state c.in-Ok.ensures.drawn c.in-Ok-add_entry.ensures.text;
-      are_entries = λ all. c.loop-step.invariant.are_entries
-          (step_entries (content c.loop-step.source) (content c.next_op.new.self) c.next_op.result c.in-Ok-Some.step c.loop-step.machine.state c.step.new.self.state
-          (option_map (drawing_with c.step.new.self) c.in-Ok.drawn) c.next_op.ensures.gives (c.in-Ok-Some.is ∙ ap Ok c.in-Ok-Some.field-0-is) c.in-Ok.ensures.stepped.state c.in-Ok.ensures.drawn c.in-Ok-add_entry.ensures.fits all);
-      budget = search (rules, budget_then);
-      needs = search rules;
+      stops = search (begins, stepped, rules);
+      texts = c.loop-next.invariant.texts ∙
+          step_texts (content c.loop-next.source) (content c.next_op-told.new.self) c.next_op-told.result step old.state new.state
+          (option_map (drawing_with new) c.in-Ok-played.drawn) c.loop-next.entries.items c.add_entry.new.entries.items
+          c.next_op-told.ensures.gives is stepped.state drawn c.in-Ok-add_entry.ensures.text;
+      are_entries = λ all. c.loop-next.invariant.are_entries
+          (step_entries (content c.loop-next.source) (content c.next_op-told.new.self) c.next_op-told.result step old.state new.state
+          (option_map (drawing_with new) c.in-Ok-played.drawn) c.next_op-told.ensures.gives is stepped.state drawn c.in-Ok-add_entry.ensures.fits all);
+      budget = search (begins, stepped, drawn, rules, budget_then);
+      needs = search (begins, stepped, rules);
     }

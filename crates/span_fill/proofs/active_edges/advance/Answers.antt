@@ -2,7 +2,7 @@
 use Rattle.std.proofs.Common.{◌≡◌, ◌<◌, ◌∙◌, ap, length, length-set, get_or, true, false, vec_capacity, arith, subst, sym}
 use Rattle.std.proofs.Math.ListN.{set}
 use Rattle.std.proofs.lemmas.Bool.{lt-ltb, le-ltb}
-use Rattle.span_fill.specs.Edges.{CanMove, goes_to, moved}
+use Rattle.span_fill.specs.Edges.{EdgeCanMove, goes_to, moved}
 use Rattle.span_fill.specs.declared.edge.ActiveEdge.{ActiveEdge}
 use Rattle.span_fill.proofs.FillLemmas.{first_same, front_keeps, front_leaves}
 use Rattle.span_fill.proofs.active_edges.advance.Goals as goal
@@ -13,7 +13,7 @@ moved-requires c =
     let edge = c.index-edge.result.now in
     let within : c.loop-place.place < length c.args.active.now.items = omega (arith, c.len-place-end.ensures) in
     let same = first_same c.loop-place.place edge c.args.active.now.items c.loop-place.active.items within (omega (arith, within, c.loop-place.invariant.length)) c.loop-place.invariant.others in
-    subst CanMove (sym (c.index-edge.ensures ∙ same.0)) (c.requires c.loop-place.place edge within)
+    subst EdgeCanMove (sym (c.index-edge.ensures ∙ same.0)) (c.requires c.loop-place.place edge within)
 
 pub loop-place-preserved : goal.loop-place-preserved
 loop-place-preserved c =

@@ -6,7 +6,7 @@ use Rattle.mapping.specs.PlaceOf.{surface_of}
 use Rattle.mapping.specs.Surface.{lands_within_limits}
 use Rattle.mapping.specs.declared.geometry.Point.{Point}
 use Rattle.point_views.specs.Polys.{lists_of}
-use Rattle.dc_stack.specs.Drawing.{edge_limit, joined}
+use Rattle.dc_stack.specs.Drawing.{edge_limit, points_of_lists}
 use Rattle.dc_stack.specs.Mapped.{mapped_lists}
 use Rattle.dc_stack.specs.Needs.{greater_needs, points_needed}
 use Rattle.dc_stack.specs.OperationFault.{points_fault}
@@ -29,7 +29,7 @@ returns-in-Ok-clause-draws g c =
         ready = tt;
         counted = counted;
         least = subst (IsLeastBox c.in-Ok.extent.bounds) (sym points) c.in-Ok.ensures.bounds;
-        within = ap (list_all (λ p. lands_within_limits p surface)) points ∙ all_land surface (joined on_plane) (none_off_plane (joined on_plane) surface c.in-Ok.ensures.fault);
+        within = ap (list_all (λ p. lands_within_limits p surface)) points ∙ all_land surface (points_of_lists on_plane) (none_off_plane (points_of_lists on_plane) surface c.in-Ok.ensures.fault);
         few = subst (λ (ps : List Point). length ps ≤ edge_limit) (sym points) c.in-Ok.ensures.few;
       };
       apart = refl;

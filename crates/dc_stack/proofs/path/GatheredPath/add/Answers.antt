@@ -2,7 +2,7 @@ use Rattle.std.proofs.Common.{List, [], ◌∷◌, ◌++◌, ap, subst, sym, ◌
 use Rattle.mapping.specs.Boxes.{IsBoxOf}
 use Rattle.mapping.specs.PageMap.{map_numbers}
 use Rattle.mapping.specs.PlaceOf.{surface_of}
-use Rattle.dc_stack.specs.Drawing.{joined}
+use Rattle.dc_stack.specs.Drawing.{points_of_lists}
 use Rattle.dc_stack.specs.GatheredPath.{gathered_points, open_piece}
 use Rattle.dc_stack.specs.Pieces.{plane_lists}
 use Rattle.dc_stack.specs.declared.piece.Piece.{Piece}
@@ -17,6 +17,6 @@ returns-in-Ok-make_room-clause-lands c =
     let new = c.push.new.self in
     let items = c.push.ensures.pieces ∙ ap (λ (pieces : List Piece). pieces ++ piece ∷ []) c.in-Ok-make_room.ensures.same.pieces in
     let gathered = gathered_points before.pieces.items in
-    let added = joined (plane_lists (map_numbers piece.map) piece.points) in
+    let added = points_of_lists (plane_lists (map_numbers piece.map) piece.points) in
     let grows = λ (h : IsBoxOf before.bounds gathered). subst (λ box. IsBoxOf box (gathered ++ added)) (sym c.push.ensures.bounds) (c.joined-bounds.ensures gathered added h c.in-Ok.ensures.least) in
     lands_with s before new piece items grows c.in-Ok.ensures.fault

@@ -2,7 +2,7 @@ use Rattle.std.proofs.Common.{◌≡◌, ◌+◌, List, [], ◌∷◌, ◌++◌,
 use Rattle.mapping.specs.Boxes.{IsBoxOf}
 use Rattle.mapping.specs.PageMap.{map_numbers}
 use Rattle.mapping.specs.PlaceOf.{surface_of}
-use Rattle.dc_stack.specs.Drawing.{joined}
+use Rattle.dc_stack.specs.Drawing.{points_of_lists}
 use Rattle.dc_stack.specs.GatheredPath.{gathered_points, open_piece}
 use Rattle.dc_stack.specs.Mapped.{mapped_list, mapped_point}
 use Rattle.dc_stack.specs.Path.{piece_limit}
@@ -43,10 +43,10 @@ returns-in-Ok-make_room-clause-lands c = λ h.
     let new = c.push-in-Ok-make_room.new.self in
     let first_items = c.push.ensures.pieces ∙ ap (λ (pieces : List Piece). pieces ++ first ∷ []) c.in-Ok-make_room.ensures.same.pieces in
     let gathered = gathered_points old.pieces.items in
-    let first_added = joined (plane_lists map first.points) in
+    let first_added = points_of_lists (plane_lists map first.points) in
     let first_grows = λ (h : IsBoxOf old.bounds gathered). subst (λ box. IsBoxOf box (gathered ++ first_added)) (sym c.push.ensures.bounds) (c.joined-first.ensures gathered first_added h c.in-Ok.ensures.least) in
     let one = lands_with s old between first first_items first_grows c.in-Ok.ensures.fault h in
     let behind = gathered_points between.pieces.items in
-    let added = joined (plane_lists map second.points) in
+    let added = points_of_lists (plane_lists map second.points) in
     let second_grows = λ (h : IsBoxOf between.bounds behind). subst (λ box. IsBoxOf box (behind ++ added)) (sym c.push-in-Ok-make_room.ensures.bounds) (c.joined-bounds.ensures behind added (subst (λ box. IsBoxOf box behind) c.push.ensures.bounds h) c.in-Ok-land_piece.ensures.least) in
     lands_with s between new second c.push-in-Ok-make_room.ensures.pieces second_grows c.in-Ok-land_piece.ensures.fault one

@@ -1,6 +1,6 @@
 use Rattle.std.proofs.Common.{◌+◌, ◌*◌, ap, sym, ◌∙◌, refl, arith}
 use Rattle.raster_ops.proofs.StepLemmas.{left_below, next_divided}
-use Rattle.raster_ops.proofs.steps.Steps.next.Goals as goal
+use Rattle.raster_ops.proofs.steps.ColumnSteps.next.Goals as goal
 
 pub invariant_of-result : goal.invariant_of-result
 invariant_of-result c =

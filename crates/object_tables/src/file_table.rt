@@ -1,14 +1,13 @@
 //! The table of a file's objects, of its format's kind.
 
 ghost use Rattle.std.specs.Prelude.{◌≡◌, []};
-ghost use Rattle.draw_ops.specs.Objects.{index_of};
-ghost use Rattle.object_tables.specs.Slots.{Slots};
-ghost use Rattle.object_tables.specs.Table.{TableKind, index_bound};
-ghost use Rattle.dc_stack.specs.State.{table_kind_of};
-ghost use Rattle.preflight_cert.specs.FileTable.{kind_of, room_of, slots_of};
+ghost use Rattle.object_tables.specs.FileTable.{state_of};
+ghost use Rattle.object_tables.specs.Table.{index_bound, table_kind_of};
 
+use crate::given::Given;
+use crate::lowest_free::{LowestFree, MAX_SLOTS};
+use crate::table::{Contents, Table};
 use draw_ops::{Fault, Handle, Object};
-use object_tables::{Contents, Given, LowestFree, MAX_SLOTS, Table};
 use std::alloc::Global;
 
 /// The objects of a file. One type for all formats lets what reads and plays a record be compiled as one.
@@ -21,9 +20,9 @@ pub enum FileTable<'a> {
 impl<'a> FileTable<'a> {
     /// The table of a file that may use so many indexes, if it says so.
     pub fn new(alloc: Global, handles: Option<u16>) -> FileTable<'a>
-        ensures kind { kind_of result ≡ table_kind_of handles }
-        ensures slots { slots_of result ≡ [] }
-        ensures room { room_of result ≡ 0 }
+        ensures slots { (state_of result).slots ≡ [] }
+        ensures kind { (state_of result).kind ≡ table_kind_of handles }
+        ensures room { (state_of result).room ≡ 0 }
     {
         match handles {
             None => FileTable::LowestFree(LowestFree::new(alloc)),
@@ -43,11 +42,7 @@ pub fn full_slots(handles: Option<u16>) -> usize
 }
 
 impl<'a> Contents for FileTable<'a> {
-    ghost slots = { slots_of };
-
-    ghost kind = { kind_of };
-
-    ghost room = { room_of };
+    ghost state = { state_of };
 }
 
 impl<'a> Table<'a> for FileTable<'a> {
