@@ -260,6 +260,22 @@ def wide_paints():
     return Counted(WMF.file(records, (width, height), 0), width, height)
 
 
+def wide_fills():
+    """Wide rectangles in one colour and hatched, again and again: little but rows of colours."""
+    width, height = 8192, 8
+    records = WMF.records("null_pen 0; select 0; solid_brush 1 0x206040; hatched_brush 2 4 0x804020")
+    records += 100 * WMF.records(f"select 1; rectangle 0 0 {width} {height}; select 2; rectangle 0 0 {width} {height}")
+    return Counted(WMF.file(records, (width, height), 0), width, height)
+
+
+def wide_mixes():
+    """Wide blits that mix a tile, again and again: little but rows of mixes."""
+    width, height = 8192, 8
+    records = [WMF.step("tiled_brush", 0, str(noise(24, 24))), WMF.step("select", 0)]
+    records += 40 * [WMF.step("pat_blt", PATINVERT, 0, 0, width, height)]
+    return Counted(WMF.file(records, (width, height), 0), width, height)
+
+
 def small_hatched_blits():
     """Small blits with a hatched brush on a wide surface: the columns of each row are few."""
     chance, width, height = random.Random(14), 8192, 64
@@ -307,6 +323,8 @@ FILES = {
     "6,000 polylines of two points, 1,024 by 1,024": lone_lines,
     "9,000 flat lines that rise, 64 by 8,192": flat_lines,
     "each sort of paint, 8,192 by 48": wide_paints,
+    "200 wide rectangles, 8,192 by 8": wide_fills,
+    "40 wide blits of a tile, 8,192 by 8": wide_mixes,
     "6,000 small hatched blits, 8,192 by 64": small_hatched_blits,
     "a bitmap of 1,500 rows stretched": high_bitmap,
     "a plain file whose extent is its last": late_extent,

@@ -1,4 +1,4 @@
-"""The instructions that the built program takes on twenty-five files, beside those on record in bench/."""
+"""The instructions that the built program takes on twenty-seven files, beside those on record in bench/."""
 
 import sys
 import unittest

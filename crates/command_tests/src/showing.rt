@@ -169,7 +169,10 @@ fn showing_under_refused_growth(rt: HostRuntime) -> Result<(), Fail> {
     } else {
         same(&rt, status, 4);
         same(&rt, out[0], 0);
-        same(&rt, &err[..22], b"metaplay: OutOfMemory\n".as_slice());
+        let told = b"metaplay: OutOfMemory\n";
+        for at in 0..22 {
+            same(&rt, err[at], told[at]);
+        }
     }
     Ok(())
 }
