@@ -21,12 +21,12 @@ GIVES_UP = re.compile(
     r"|\b(?:push|insert)_(?:mut|str)\b|\bsplit_off\b|\.sort(?:_by(?:_cached)?(?:_key)?)?\(|\.join\(|\.concat\("
 )
 
-# What is dear where it is done once more: a file's records are read, or something is divided by what is no constant; and a row of more than 99
-# that stands on the stack, where no clause says how much there is.
+# What is dear where it is done once more: a file's records are read, or something is divided by what is no constant; a row of more than 99
+# that stands on the stack, where no clause says how much there is; and a loop that goes by eights, which is dear where it ends early.
 DEAR = re.compile(
     r"\.source\(\)|\bcount_steps\(|\bfirst_extent\(|\bopen_file\(|\b(?:Wmf|Emf|Record)Ops::new\(|\bDivisor::new\(|\bPlace::new\(|(?<![\w.])cells\("
     r"|\bchecked_(?:div|rem)\b|\b(?:div|rem)_euclid\b|(?<!\w)[/%]=? (?![A-Z][A-Z_]+\b|\d|\(1 << )"
-    r"|(?<!&)\[[\w.()]+; (?!\d{1,2}\])[^\[\]]+\]"
+    r"|(?<!&)\[[\w.()]+; (?!\d{1,2}\])[^\[\]]+\]|\bwhile .*(?:\+ PERIOD|>= \d)"
 )
 
 # A function's answer whose errors are no fault of a file, in which each `?` hands one on.

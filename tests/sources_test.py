@@ -312,6 +312,7 @@ CHANGES = [
     ("        self.count\n", "        let more = Lines::reserve;\n        more(self.lines, 1 << 40);\n        self.count\n"),
     ("        self.count\n", "        if odd { return Err(fmt::Error); }\n        self.count\n"),
     ("        self.count\n", "        let spare = [0u8; 4_000_000];\n        self.count\n"),
+    ("        self.count\n", "        while self.rest >= 8 && self.count < 600 {\n            self.skip();\n        }\n        self.count\n"),
     ("    if count <= self.room {\n", "    let count = odd(count);\n    fn odd(n: usize) -> usize\n        requires { n ≤ 9 }\n    {\n        n\n    }\n    if count <= self.room {\n"),
 ]
 
