@@ -1,8 +1,10 @@
 -- What a call that writes does to a canvas: which pixels it writes, and what each of them becomes.
-use Rattle.std.specs.Prelude.{◌≡◌, ◌==◌, ℕ, ◌+◌, Bool, ◌&&◌, nat_lt, nat_le}
+use Rattle.std.specs.Prelude.{◌≡◌, ◌==◌, ℕ, ◌+◌, ◌-◌, ◌%◌, Bool, ◌&&◌, nat_lt, nat_le, List, length, slice_index_or}
 use Rattle.mapping.specs.declared.geometry.Colour.{Colour}
 use Rattle.mapping.specs.Pixels.{count_pixels, is_cell, repainted}
+use Rattle.mapping.specs.Mixes.{mixed_by}
 use Rattle.canvas.specs.CanvasState.{CanvasState}
+use Rattle.canvas.specs.MixRows.{mix_at}
 
 -- The pixels held that pass the test are written, each with what f makes of its column, its row and its old colour.
 -- Every other stays, and each write is counted.
@@ -24,3 +26,19 @@ in_span y from to column row = row == y && nat_le from column && nat_lt column t
 -- the pixels of the span whose column x has bit x % 8 of `cells` set
 abbrev pub in_cells : ℕ → ℕ → ℕ → ℕ → ℕ → ℕ → Bool
 in_cells y from to cells column row = in_span y from to column row && is_cell cells column
+
+-- the pixels of row y from a column on, as many as there are colours
+abbrev pub in_row : ℕ → ℕ → List Colour → ℕ → ℕ → Bool
+in_row y from colours column row = in_span y from (from + length colours) column row
+
+-- the colour that stands for a pixel's column in eight that repeat
+abbrev pub put_by_pattern : List Colour → ℕ → ℕ → Colour → Colour
+put_by_pattern pattern column row old = slice_index_or pattern (column % 8) old
+
+-- the colour that stands for it in a row that begins at a column
+abbrev pub put_by_row : List Colour → ℕ → ℕ → ℕ → Colour → Colour
+put_by_row colours from column row old = slice_index_or colours (column - from) old
+
+-- what the mix that stands for it in such a row makes of the old colour
+abbrev pub mixed_by_row : List Colour → List Colour → ℕ → ℕ → ℕ → Colour → Colour
+mixed_by_row keeps flips from column row old = mixed_by (mix_at keeps flips (column - from)) old

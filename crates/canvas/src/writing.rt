@@ -1,10 +1,9 @@
 //! Calls that write the pixels of a row.
 
-ghost use Rattle.std.specs.Prelude.{◌≡◌, ◌+◌, ◌-◌, ◌%◌, ◌<◌, ◌≤◌, ◌^◌, length, slice_index_or};
+ghost use Rattle.std.specs.Prelude.{◌≡◌, ◌+◌, ◌-◌, ◌<◌, ◌≤◌, ◌^◌, length};
 ghost use Rattle.mapping.specs.Mixes.{mixed_by};
 ghost use Rattle.canvas.specs.CanvasState.{HasPixel, HasRow};
-ghost use Rattle.canvas.specs.MixRows.{mix_at};
-ghost use Rattle.canvas.specs.Writing.{Repaints, in_cells, in_span, is_at};
+ghost use Rattle.canvas.specs.Writing.{Repaints, in_cells, in_row, in_span, is_at, mixed_by_row, put_by_pattern, put_by_row};
 
 use crate::parts::{fill_with, fill_with_pattern, mix_all, mix_cells_of, mix_each};
 use crate::surface::{Canvas, place};
@@ -33,7 +32,7 @@ impl Canvas {
         requires width { x_to ≤ self.old.width }
         requires row { HasRow self.old y }
         requires countable { self.old.writes + (x_to - x_from) < 2 ^ 64 }
-        ensures pixels { Repaints (in_span y x_from x_to) (λ column row old. slice_index_or pattern.now (column % 8) old) self.old self.new }
+        ensures pixels { Repaints (in_span y x_from x_to) (put_by_pattern pattern.now) self.old self.new }
         ensures count { self.new.writes ≡ self.old.writes + (x_to - x_from) }
     {
         let start = place(self.width, y - self.first, x_from);
@@ -47,7 +46,7 @@ impl Canvas {
         requires width { x_from + length inks.now ≤ self.old.width }
         requires row { HasRow self.old y }
         requires countable { self.old.writes + length inks.now < 2 ^ 64 }
-        ensures pixels { Repaints (in_span y x_from (x_from + length inks.now)) (λ column row old. slice_index_or inks.now (column - x_from) old) self.old self.new }
+        ensures pixels { Repaints (in_row y x_from inks.now) (put_by_row inks.now x_from) self.old self.new }
         ensures count { self.new.writes ≡ self.old.writes + length inks.now }
     {
         let start = place(self.width, y - self.first, x_from);
@@ -78,7 +77,7 @@ impl Canvas {
         requires width { x_from + length keeps.now ≤ self.old.width }
         requires row { HasRow self.old y }
         requires countable { self.old.writes + length keeps.now < 2 ^ 64 }
-        ensures pixels { Repaints (in_span y x_from (x_from + length keeps.now)) (λ column row old. mixed_by (mix_at keeps.now flips.now (column - x_from)) old) self.old self.new }
+        ensures pixels { Repaints (in_row y x_from keeps.now) (mixed_by_row keeps.now flips.now x_from) self.old self.new }
         ensures count { self.new.writes ≡ self.old.writes + length keeps.now }
     {
         let start = place(self.width, y - self.first, x_from);

@@ -36,7 +36,7 @@ use Rattle.player.specs.Painted.{colour_of, colour_seen, made, paints}
 use Rattle.player.specs.Plays.{DrawsLayers, HoldsSurface}
 use Rattle.player.specs.RasterOperation.{joined_if}
 use Rattle.preflight_cert.specs.Writes.{writes_pixel}
-use Rattle.player.specs.declared.paint.Paint.{Paint as Brushing}
+use Rattle.player.specs.declared.brushing.Brushing.{Brushing}
 use Rattle.player.specs.declared.raster_operation.RasterOperation.{RasterOperation}
 use Rattle.player.specs.declared.raster_operation.RasterOperation.TheVariants.{Ternary}
 use Rattle.player.proofs.DrawingLemmas.{layer_drawn}

@@ -13,13 +13,13 @@ use Rattle.span_fill.specs.declared.span.Region.{Region}
 use Rattle.player.specs.Painted.{colour_of, made, paints}
 use Rattle.player.specs.RowInks.{inked, is_inked}
 use Rattle.player.specs.Strips.{is_column, is_painted}
-use Rattle.player.specs.declared.paint.Paint.{Paint}
+use Rattle.player.specs.declared.brushing.Brushing.{Brushing}
 use Rattle.player.specs.declared.row_ink.RowInk.{RowInk}
 use Rattle.player.proofs.RowLemmas.{HasRowsPainted, before_first, behind_last, box_columns, nothing_painted, one_row_more, seen, seen_in_rows}
 use Rattle.player.proofs.TestLemmas.{column_true}
 
 module _
-    (paint : Paint) (box : Rect) (canvas : CanvasState) (first : canvas.first ≡ 0) (laws : WritingLaws) (whole : IsWhole canvas) (region drawn : Region)
+    (paint : Brushing) (box : Rect) (canvas : CanvasState) (first : canvas.first ≡ 0) (laws : WritingLaws) (whole : IsWhole canvas) (region drawn : Region)
     (kept : (x y : ℕ) → x < canvas.width → y < canvas.rows → in_region region x y ≡ in_kept (placed_value paint.clip.now).kept x y)
     (columns : (n : ℕ) → in_span drawn.columns n ≡ (in_span region.columns n && is_from_to box.l box.r n))
     (rows : (n : ℕ) → in_span drawn.rows n ≡ (in_span region.rows n && is_from_to box.t box.b n)) where

@@ -31,7 +31,7 @@ use Rattle.player.specs.Plays.{DrawsLayers, HoldsSurface, SameRows}
 use Rattle.preflight_cert.specs.Shape.{Shape, in_shape, pixel_under}
 use Rattle.preflight_cert.specs.Writes.{writes_of_layers, writes_pixel}
 use Rattle.player.specs.RasterOperation.{joined_if}
-use Rattle.player.specs.declared.paint.Paint.{Paint as Brushing}
+use Rattle.player.specs.declared.brushing.Brushing.{Brushing}
 use Rattle.player.specs.declared.raster_operation.RasterOperation.{RasterOperation}
 use Rattle.player.specs.declared.raster_operation.RasterOperation.TheVariants.{Binary}
 

@@ -17,7 +17,7 @@ use Rattle.player.specs.Painted.{colour_of, made, paints}
 use Rattle.player.specs.RowInks.{inked, is_inked}
 use Rattle.player.specs.RowsPainted.{paints_above, paints_row}
 use Rattle.player.specs.Strips.{is_column, is_painted, is_uncut}
-use Rattle.player.specs.declared.paint.Paint.{Paint}
+use Rattle.player.specs.declared.brushing.Brushing.{Brushing}
 use Rattle.player.specs.declared.row_ink.RowInk.{RowInk}
 use Rattle.player.proofs.TestLemmas.{column_from, column_true, from_to_from, nat_lt-from, nat_lt-true, same_test}
 
@@ -86,13 +86,13 @@ painted_parts ink cuts y columns column row h =
     let c = and_parts (row == y) (columns column) b.0 in
     (c.0, c.1, b.1, a.1)
 
-paints_parts : (paint : Paint) (shape : ℕ → ℕ → Bool) (x y : ℕ) → paints paint shape x y ≡ true → (in_boxes (placed_value paint.clip.now) x y ≡ true) × (shape x y ≡ true) × (is_some (colour_of paint x y) ≡ true)
+paints_parts : (paint : Brushing) (shape : ℕ → ℕ → Bool) (x y : ℕ) → paints paint shape x y ≡ true → (in_boxes (placed_value paint.clip.now) x y ≡ true) × (shape x y ≡ true) × (is_some (colour_of paint x y) ≡ true)
 paints_parts paint shape x y h =
     let a = and_parts (in_boxes (placed_value paint.clip.now) x y && shape x y) (is_some (colour_of paint x y)) h in
     let b = and_parts (in_boxes (placed_value paint.clip.now) x y) (shape x y) a.0 in
     (b.0, b.1, a.1)
 
-module _ (paint : Paint) (shape : ℕ → ℕ → Bool) where
+module _ (paint : Brushing) (shape : ℕ → ℕ → Bool) where
   -- the rows up to one are those above it and itself
   pub above_and_row : (y column row : ℕ) → (paints_above paint shape y column row || paints_row paint shape y column row) ≡ paints_above paint shape (suc y) column row
   above_and_row y column row = same_test _ _
@@ -197,7 +197,7 @@ module _ (paint : Paint) (shape : ℕ → ℕ → Bool) where
     nothing_painted none = laws.none (paints paint shape) (made paint) start whole (λ x y held. false_from_ne_true (paints paint shape x y) (none x y held))
 
 -- the part of a surface that a drawing may write, and the rows of it in which a shape lies
-module _ (paint : Paint) (shape : ℕ → ℕ → Bool) (canvas : CanvasState) (first : canvas.first ≡ 0) (region : Region) (kept : (x y : ℕ) → x < canvas.width → y < canvas.rows → in_region region x y ≡ in_kept (placed_value paint.clip.now).kept x y) where
+module _ (paint : Brushing) (shape : ℕ → ℕ → Bool) (canvas : CanvasState) (first : canvas.first ≡ 0) (region : Region) (kept : (x y : ℕ) → x < canvas.width → y < canvas.rows → in_region region x y ≡ in_kept (placed_value paint.clip.now).kept x y) where
   -- a pixel that is painted lies in the region, and in the shape
   pub seen : (x y : ℕ) → HasPixel canvas x y → paints paint shape x y ≡ true → (in_region region x y ≡ true) × (shape x y ≡ true)
   seen x y held h =

@@ -22,11 +22,11 @@ use Rattle.dc_stack.specs.declared.dc.Dc.{Dc}
 use Rattle.dc_stack.specs.declared.draw.PlaneBlit.{PlaneBlit}
 use Rattle.span_fill.specs.declared.span.Span.{Span}
 use Rattle.player.specs.RasterOperation.{joined_if}
-use Rattle.player.specs.declared.paint.Paint.{Paint}
+use Rattle.player.specs.declared.brushing.Brushing.{Brushing}
 use Rattle.player.specs.declared.raster_operation.RasterOperation.TheVariants.{Ternary}
 
 -- the paint is that of a blit with this operation, which reads so
-pub record IsBlit (paint : Paint) (operation : TernaryOp) (reader : SourceReader) : Type 0 where
+pub record IsBlit (paint : Brushing) (operation : TernaryOp) (reader : SourceReader) : Type 0 where
   pub joins : paint.operation ≡ Ternary operation
   pub reads : paint.source ≡ Some reader
 

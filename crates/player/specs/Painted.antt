@@ -11,10 +11,10 @@ use Rattle.raster_ops.specs.Paints.{brush_paint}
 use Rattle.raster_ops.specs.Readers.{column_read, row_read}
 use Rattle.raster_ops.specs.declared.sources.SourceReader.{SourceReader}
 use Rattle.player.specs.RasterOperation.{joined_if}
-use Rattle.player.specs.declared.paint.Paint.{Paint}
+use Rattle.player.specs.declared.brushing.Brushing.{Brushing}
 
 -- the paint's colour at a pixel, or nothing
-abbrev pub colour_of : Paint → ℕ → ℕ → Option Colour
+abbrev pub colour_of : Brushing → ℕ → ℕ → Option Colour
 colour_of paint x y = brush_paint (brush_value_of paint.brush) paint.modes.background_mode paint.modes.background_colour x y
 
 -- the colour that is read at a pixel, and black where nothing is read
@@ -23,9 +23,9 @@ colour_seen None x y = black_colour
 colour_seen (Some reader) x y = picture_colour (picture_of reader.picture) (column_read reader x) (row_read reader y)
 
 -- the paint writes the pixel, if the shape has it: the clip has it, and the paint there isn't nothing
-abbrev pub paints : Paint → (ℕ → ℕ → Bool) → ℕ → ℕ → Bool
+abbrev pub paints : Brushing → (ℕ → ℕ → Bool) → ℕ → ℕ → Bool
 paints paint shape x y = in_boxes (placed_value paint.clip.now) x y && shape x y && is_some (colour_of paint x y)
 
 -- and makes this of its old colour
-abbrev pub made : Paint → ℕ → ℕ → Colour → Colour
+abbrev pub made : Brushing → ℕ → ℕ → Colour → Colour
 made paint x y old = joined_if paint.operation (colour_seen paint.source x y) (colour_of paint x y) old

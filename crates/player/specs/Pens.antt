@@ -2,9 +2,9 @@
 use Rattle.std.specs.Prelude.{◌≡◌, None}
 use Rattle.mapping.specs.declared.geometry.Colour.{Colour}
 use Rattle.draw_ops.specs.declared.objects.Brush.TheVariants.{Solid}
-use Rattle.player.specs.declared.paint.Paint.{Paint}
+use Rattle.player.specs.declared.brushing.Brushing.{Brushing}
 
 -- a paint of one colour, with which nothing is read
-pub record IsPen (paint : Paint) (colour : Colour) : Type 0 where
+pub record IsPen (paint : Brushing) (colour : Colour) : Type 0 where
   pub brush : paint.brush ≡ Solid colour
   pub alone : paint.source ≡ None

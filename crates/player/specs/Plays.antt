@@ -8,6 +8,7 @@ use Rattle.preflight_cert.specs.After.{needs_after, state_after}
 use Rattle.preflight_cert.specs.Apply.{apply_all, image_after}
 use Rattle.meta_headers.specs.Opening.{HasContentOf, opened, surface_for}
 use Rattle.meta_headers.specs.declared.opened.FileFormat.{FileFormat}
+use Rattle.meta_headers.specs.declared.opened.Opened.{Opened}
 use Rattle.dc_stack.specs.Drawing.{Drawing}
 use Rattle.dc_stack.specs.MachineState.{MachineState}
 use Rattle.preflight_cert.specs.Drawings.{drawings_of}
@@ -79,6 +80,14 @@ pub record StopsRecordsBy (format : FileFormat) (records : List ℕ) (state : St
   pub content : Content
   pub of_records : HasContentOf format records content
   pub stops : StopsBy content state s r
+
+-- all records of an opened file of the code were played and drawn
+abbrev pub PlaysFile : Opened → MachineState → MachineState → CanvasState → CanvasState → Type 0
+PlaysFile o start end old new = PlaysRecords o.format o.records.now start end old new
+
+-- they stop so
+abbrev pub StopsFileBy : Opened → State → Surface → Refusal → Type 0
+StopsFileBy o state s r = StopsRecordsBy o.format o.records.now state s r
 
 -- all records of an opened file were drawn from their start on, and none has a fault
 pub record PlaysOpened (o : OpenedValue) (records : List ℕ) (old new : CanvasState) : Type 0 where

@@ -20,9 +20,9 @@ ghost use Rattle.player.specs.Painted.{colour_of, colour_seen, made, paints};
 ghost use Rattle.player.specs.RowInks.{inked, is_inked};
 ghost use Rattle.player.specs.declared.raster_operation.RasterOperation.TheVariants.{Ternary};
 
+use crate::brushing::Brushing;
 use crate::filling::fill_box;
 use crate::ink_room::{InkRoom, MAX_SIDE};
-use crate::paint::Paint;
 use crate::raster_operation::BLACK;
 use crate::rectangles::between;
 use crate::regions::{common, visible, whole_law};
@@ -64,14 +64,14 @@ pub(crate) fn blit(
     let operation = asked.operation;
     let inside = between(first, second);
     if !uses_source(operation) {
-        let paint = Paint::of_blit(operation, None, dc);
+        let paint = Brushing::of_blit(operation, None, dc);
         fill_box(canvas, inside, &paint, room);
         return;
     }
     let Some(reader) = SourceReader::new(&asked.source, first, second) else {
         return;
     };
-    let paint = Paint::of_blit(operation, Some(reader), dc);
+    let paint = Brushing::of_blit(operation, Some(reader), dc);
     blit_box(canvas, inside, &reader, operation, &paint, room);
 }
 
@@ -82,7 +82,7 @@ fn blit_box(
     inside: Rect,
     reader: &SourceReader<'_>,
     operation: TernaryOp,
-    paint: &Paint<'_, '_>,
+    paint: &Brushing<'_, '_>,
     room: &mut InkRoom,
 )
     requires first { canvas.old.first ≡ 0 }
@@ -143,7 +143,7 @@ fn keep_row(
 
 /// What a blit makes of the pixels of a row in these columns, whose sources stand each at its column.
 fn source_ink<'r>(
-    paint: &Paint<'_, '_>,
+    paint: &Brushing<'_, '_>,
     operation: TernaryOp,
     y: u32,
     columns: Span,
@@ -192,7 +192,7 @@ fn mix_given<'r>(row: BrushRow<'_>, room: &'r InkRoom) -> RowInk<'r>
 
 /// Mixes that join what the brush gives these columns of a row and their sources, each at its column.
 fn gather_mixes(
-    paint: &Paint<'_, '_>,
+    paint: &Brushing<'_, '_>,
     operation: TernaryOp,
     y: u32,
     columns: Span,

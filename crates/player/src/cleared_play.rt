@@ -8,7 +8,7 @@ ghost use Rattle.dc_stack.specs.Drawing.{edge_limit};
 ghost use Rattle.dc_stack.specs.Needs.{no_needs};
 ghost use Rattle.dc_stack.specs.State.{start_of};
 ghost use Rattle.player.specs.ClearedPlay.{AreRunWrites, IsTooLarge, IsWithinBound, LeavesRun};
-ghost use Rattle.player.specs.Plays.{HoldsSurface, PlaysOpened, PlaysRecords, SameRows};
+ghost use Rattle.player.specs.Plays.{HoldsSurface, PlaysFile, PlaysOpened, SameRows};
 ghost use Rattle.preflight_cert.specs.NeedLaws.{HasRoomFor};
 
 use crate::playing::play_records;
@@ -90,7 +90,7 @@ fn play_reserved<'a, T: Table<'a>>(
     requires state { machine.old.state ≡ start_of (opened_of cleared.now.opened) }
     requires needs { machine.old.needs ≡ no_needs }
     requires surface { machine.old.surface ≡ surface_for (opened_of cleared.now.opened) canvas.old.width canvas.old.rows }
-    ensures played { PlaysRecords cleared.now.opened.format cleared.now.opened.records.now machine.old machine.new canvas.old canvas.new }
+    ensures played { PlaysFile cleared.now.opened machine.old machine.new canvas.old canvas.new }
     ensures count { canvas.new.writes ≡ canvas.old.writes + result }
     ensures few { result ≤ cleared.now.certificate.writes }
     ensures rows { SameRows canvas.old canvas.new }

@@ -10,12 +10,12 @@ ghost use Rattle.preflight_cert.specs.Layer.{fills_of, outlines_of, strokes_of};
 ghost use Rattle.player.specs.Plays.{DrawsDrawing, DrawsLayers, HoldsSurface, SameRows};
 
 use crate::blits::blit;
+use crate::brushing::Brushing;
 use crate::dots::put;
 use crate::figure_outline::{FigureOutline, stroked_ends};
 use crate::filling::{fill_box, fill_lines, rule_of};
 use crate::ink_room::InkRoom;
 use crate::list_lines::Ends;
-use crate::paint::Paint;
 use crate::rectangles::rectangle_box;
 use crate::regions::{landed_box, whole_law};
 use crate::stroking::{stroke_box, stroke_line, stroke_lines};
@@ -75,7 +75,7 @@ fn fill<'a, T: Table<'a>>(
     if let Brush::Null = dc.selected.brush {
         return;
     }
-    let paint = Paint::with(dc.selected.brush, dc);
+    let paint = Brushing::with(dc.selected.brush, dc);
     match drawn.mark {
         Mark::Figures { painting, points } => {
             if let Painting::Stroke = painting {
@@ -155,7 +155,7 @@ fn stroke_outline<'a, T: Table<'a>>(
     whole_law(canvas);
     let dc = machine.dc();
     let place = machine.place();
-    let paint = Paint::with(Brush::Solid(colour), dc);
+    let paint = Brushing::with(Brush::Solid(colour), dc);
     match drawn.mark {
         Mark::Dot { .. } | Mark::Blit(_) => {}
         Mark::Line { from, to } => {

@@ -9,8 +9,8 @@ ghost use Rattle.span_fill.specs.RowLaws.{LiesBetween};
 ghost use Rattle.player.specs.Painted.{made, paints};
 ghost use Rattle.preflight_cert.specs.Shape.{fill_rule_of};
 
+use crate::brushing::Brushing;
 use crate::ink_room::InkRoom;
-use crate::paint::Paint;
 use crate::regions::{common, rows_between, visible};
 use crate::strips::{put_spans, put_uncut};
 use canvas::{Canvas, writing_law};
@@ -25,7 +25,7 @@ pub(crate) fn fill_lines<O: Outline + Copy>(
     outline: O,
     rule: FillRule,
     bounds: Rect,
-    paint: &Paint<'_, '_>,
+    paint: &Brushing<'_, '_>,
     room: &mut InkRoom,
 )
     requires first { canvas.old.first ≡ 0 }
@@ -51,7 +51,12 @@ pub(crate) fn fill_lines<O: Outline + Copy>(
 }
 
 /// Paints what is inside of a box.
-pub(crate) fn fill_box(canvas: &mut Canvas, inside: Rect, paint: &Paint<'_, '_>, room: &mut InkRoom)
+pub(crate) fn fill_box(
+    canvas: &mut Canvas,
+    inside: Rect,
+    paint: &Brushing<'_, '_>,
+    room: &mut InkRoom,
+)
     requires alone { paint.now.source ≡ None }
     requires first { canvas.old.first ≡ 0 }
     requires countable { canvas.old.writes + 2 ^ 27 < 2 ^ 64 }

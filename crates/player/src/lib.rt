@@ -17,6 +17,7 @@
 
 mod advance;
 mod blits;
+mod brushing;
 mod cleared_play;
 mod dots;
 mod drawing;
@@ -26,7 +27,6 @@ mod ink_room;
 mod line_steps;
 mod list_lines;
 mod moves;
-mod paint;
 mod path_moves;
 mod piece_lines;
 mod placed_lines;

@@ -9,7 +9,7 @@ ghost use Rattle.meta_headers.specs.OpenedOf.{opened_of};
 ghost use Rattle.dc_stack.specs.MachineState.{GoesOn, HasFullRoom};
 ghost use Rattle.player.specs.After.{HasLines, HasLinesForRecords, HasRoomForRecords, HasRoomForSteps};
 ghost use Rattle.player.specs.Leaving.{IsLeftBy, IsLeftByRecords};
-ghost use Rattle.player.specs.Plays.{HoldsSurface, PlaysContent, PlaysOpened, PlaysRecords, SameRows, StopsBy, StopsOpenedBy, StopsRecordsBy, WantsMemory};
+ghost use Rattle.player.specs.Plays.{HoldsSurface, PlaysContent, PlaysFile, PlaysOpened, SameRows, StopsBy, StopsFileBy, StopsOpenedBy, WantsMemory};
 ghost use Rattle.preflight_cert.specs.Run.{Refused, Run, Writes, shown, white};
 
 use crate::advance::advance;
@@ -104,10 +104,10 @@ pub fn play_on<'a, T: Table<'a>>(
     requires lines { 2 ^ 20 ≤ rows.old.room }
     requires countable { canvas.old.writes ≤ 2 ^ 63 }
     ensures played { OnOk result
-        (PlaysRecords opened.now.format opened.now.records.now machine.old machine.new canvas.old canvas.new) }
+        (PlaysFile opened.now machine.old machine.new canvas.old canvas.new) }
     ensures count { IfOk result (λ writes. canvas.new.writes ≡ canvas.old.writes + writes) }
     ensures refusal { IfErr result
-        (StopsRecordsBy opened.now.format opened.now.records.now machine.old.state machine.old.surface) }
+        (StopsFileBy opened.now machine.old.state machine.old.surface) }
     ensures left { OnErr result
         (IsLeftByRecords opened.now.format opened.now.records.now machine.old machine.new) }
     ensures record { IfErr result (λ r. IsSome r.number ↔ IsInRecord r.fault) }
@@ -130,10 +130,10 @@ pub(crate) fn play_records<'a, T: Table<'a>>(
     requires lines { HasLinesForRecords rows.old.room opened.now.format opened.now.records.now machine.old }
     requires countable { canvas.old.writes ≤ 2 ^ 63 }
     ensures played { OnOk result
-        (PlaysRecords opened.now.format opened.now.records.now machine.old machine.new canvas.old canvas.new) }
+        (PlaysFile opened.now machine.old machine.new canvas.old canvas.new) }
     ensures count { IfOk result (λ writes. canvas.new.writes ≡ canvas.old.writes + writes) }
     ensures refusal { IfErr result
-        (StopsRecordsBy opened.now.format opened.now.records.now machine.old.state machine.old.surface) }
+        (StopsFileBy opened.now machine.old.state machine.old.surface) }
     ensures left { OnErr result
         (IsLeftByRecords opened.now.format opened.now.records.now machine.old machine.new) }
     ensures record { IfErr result (λ r. IsSome r.number ↔ IsInRecord r.fault) }

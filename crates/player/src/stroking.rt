@@ -11,8 +11,8 @@ ghost use Rattle.player.specs.Pens.{IsPen};
 ghost use Rattle.preflight_cert.specs.Rectangles.{rectangle_lines};
 ghost use Rattle.player.specs.RectangleBoxes.{IsNearBox};
 
+use crate::brushing::Brushing;
 use crate::line_steps::mix_line;
-use crate::paint::Paint;
 use crate::rectangles::{LineList, box_lines, has_inside};
 use crate::regions::{rows_between, visible, whole_law};
 use crate::strips::put_spans;
@@ -27,7 +27,7 @@ pub(crate) fn stroke_lines<O: Outline + Copy>(
     rows: &mut RowBuf,
     outline: O,
     bounds: Rect,
-    paint: &Paint<'_, '_>,
+    paint: &Brushing<'_, '_>,
     colour: Colour,
 )
     requires first { canvas.old.first ≡ 0 }
@@ -57,7 +57,7 @@ pub(crate) fn stroke_box(
     canvas: &mut Canvas,
     rows: &mut RowBuf,
     inside: Rect,
-    paint: &Paint<'_, '_>,
+    paint: &Brushing<'_, '_>,
     colour: Colour,
 )
     requires first { canvas.old.first ≡ 0 }
@@ -80,7 +80,7 @@ pub(crate) fn stroke_box(
 }
 
 /// Paints the pixels of a lone line in the colour of a paint of one colour.
-pub(crate) fn stroke_line(canvas: &mut Canvas, line: Line, paint: &Paint<'_, '_>, colour: Colour)
+pub(crate) fn stroke_line(canvas: &mut Canvas, line: Line, paint: &Brushing<'_, '_>, colour: Colour)
     requires first { canvas.old.first ≡ 0 }
     requires countable { canvas.old.writes + 2 ^ 27 < 2 ^ 64 }
     requires near { HasNearEnds line }

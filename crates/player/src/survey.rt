@@ -8,7 +8,7 @@ ghost use Rattle.dc_stack.specs.MachineState.{GoesOn, HasFullRoom};
 ghost use Rattle.dc_stack.specs.Needs.{no_needs};
 ghost use Rattle.dc_stack.specs.State.{start_state};
 ghost use Rattle.player.specs.After.{AreLinesOfRecords, HasRoomForSteps};
-ghost use Rattle.player.specs.Plays.{RunsThrough, StopsBy, StopsRecordsBy};
+ghost use Rattle.player.specs.Plays.{RunsThrough, StopsBy, StopsFileBy};
 
 use crate::advance::advance;
 use dc_stack::Machine;
@@ -27,7 +27,7 @@ pub(crate) fn count_lines<'a, T: Table<'a>>(
     ensures lines { IfOk result
         (λ lines. AreLinesOfRecords lines opened.now.format opened.now.records.now machine.old) }
     ensures refusal { IfErr result
-        (StopsRecordsBy opened.now.format opened.now.records.now machine.old.state machine.old.surface) }
+        (StopsFileBy opened.now machine.old.state machine.old.surface) }
     ensures record { IfErr result (λ r. IsSome r.number ↔ IsInRecord r.fault) }
     ensures state { machine.new.state ≡ start_state (map_numbers opened.now.start_map) machine.old.state.table_kind }
     ensures needs { machine.new.needs ≡ no_needs }

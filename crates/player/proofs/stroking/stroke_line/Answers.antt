@@ -7,10 +7,10 @@ use Rattle.dc_stack.specs.Values.{placed_value}
 use Rattle.span_fill.specs.Strokes.{on_line}
 use Rattle.player.specs.Painted.{made, paints}
 use Rattle.player.specs.Pens.{IsPen}
-use Rattle.player.specs.declared.paint.Paint.{Paint}
+use Rattle.player.specs.declared.brushing.Brushing.{Brushing}
 use Rattle.player.proofs.stroking.stroke_line.Goals as goal
 
-module _ (paint : Paint) (colour : Colour) (pen : IsPen paint colour) where
+module _ (paint : Brushing) (colour : Colour) (pen : IsPen paint colour) where
   -- a paint of one colour paints all of a shape
   paints_all : (shape : ℕ → ℕ → Bool) (x y : ℕ) → (in_boxes (placed_value paint.clip.now) x y && shape x y) ≡ paints paint shape x y
   paints_all shape x y = rw pen.brush (sym (and-true (in_boxes (placed_value paint.clip.now) x y && shape x y)))

@@ -1,4 +1,4 @@
-//! Paint: what a brush makes of pixels by a raster operation, in the modes of the moment and under a clip.
+//! Brushing: what a brush makes of pixels by a raster operation, in the modes of the moment and under a clip.
 
 ghost use Rattle.std.specs.Prelude.{◌≡◌, ◌≤◌, ◌<◌, ℕ, None, Some, true, is_some, if◌then◌else◌};
 ghost use Rattle.mapping.specs.Colours.{black_colour};
@@ -19,7 +19,7 @@ use raster_ops::{BrushRow, SourceReader, brush_row, uses_pattern};
 
 /// What a brush makes of pixels, in the modes of the moment and under a clip. A pen is a brush of one colour.
 #[derive(Clone, Copy, Debug)]
-pub(crate) struct Paint<'d, 'a> {
+pub(crate) struct Brushing<'d, 'a> {
     pub(crate) brush: Brush<'a>,
     pub(crate) modes: Modes,
     pub(crate) operation: RasterOperation,
@@ -28,19 +28,19 @@ pub(crate) struct Paint<'d, 'a> {
     pub(crate) clip: &'d Clip,
 }
 
-impl<'d, 'a> Paint<'d, 'a> {
+impl<'d, 'a> Brushing<'d, 'a> {
     ghost use Rattle.player.specs.Painted.{colour_of, made};
     ghost use Rattle.player.specs.Pens.{IsPen};
 
     /// What a brush makes of pixels at the moment.
-    pub(crate) fn with(brush: Brush<'a>, dc: &'d Dc<'a>) -> Paint<'d, 'a>
+    pub(crate) fn with(brush: Brush<'a>, dc: &'d Dc<'a>) -> Brushing<'d, 'a>
         ensures brush { result.brush ≡ brush.entry }
         ensures modes { result.modes ≡ dc.now.modes }
         ensures operation { result.operation ≡ Binary dc.now.modes.raster_op }
         ensures alone { result.source ≡ None }
         ensures clip { result.clip.now ≡ dc.now.clip }
     {
-        Paint {
+        Brushing {
             brush,
             modes: dc.modes,
             operation: RasterOperation::Binary(dc.modes.raster_op),
@@ -55,7 +55,7 @@ impl<'d, 'a> Paint<'d, 'a> {
         operation: TernaryOp,
         source: Option<SourceReader<'a>>,
         dc: &'d Dc<'a>,
-    ) -> Paint<'d, 'a>
+    ) -> Brushing<'d, 'a>
         ensures brush { result.brush ≡ (if uses_pattern operation.table then dc.now.selected.brush else Solid black_colour) }
         ensures modes { result.modes ≡ dc.now.modes }
         ensures operation { result.operation ≡ Ternary operation }
@@ -67,7 +67,7 @@ impl<'d, 'a> Paint<'d, 'a> {
         } else {
             Brush::Solid(BLACK)
         };
-        Paint {
+        Brushing {
             brush,
             modes: dc.modes,
             operation: RasterOperation::Ternary(operation),
