@@ -27,7 +27,7 @@ use preflight_cert::Refusal;
 use span_fill::{OutOfMemory, RowBuf};
 use std::alloc::Global;
 
-/// PlaysContent a file on a white surface of `width` by `height` pixels. The canvas shows the image that the
+/// Plays a file on a white surface of `width` by `height` pixels. The canvas shows the image that the
 /// file's records define, and counts the pixels written.
 ///
 /// The refusal is the first fault of the file with its record, or `OutOfMemory` without one where
@@ -56,7 +56,7 @@ pub fn play_file(alloc: Global, file: &[u8], width: u32, height: u32) -> Result<
     }
 }
 
-/// PlaysContent an opened file's records from their start on. All memory is taken before the first of them is drawn, once
+/// Plays an opened file's records from their start on. All memory is taken before the first of them is drawn, once
 /// it is known how many lines a drawing has: where it is refused, the canvas is what it was. The refusal is the records' first fault.
 fn play_opened(
     alloc: Global,
@@ -88,7 +88,7 @@ fn play_opened(
     }
 }
 
-/// PlaysContent an opened file's records on a machine that has room for any file, with rows that have room for
+/// Plays an opened file's records on a machine that has room for any file, with rows that have room for
 /// any drawing, and on a canvas that holds the machine's surface, over what it shows, and tells how many
 /// pixels were written. The refusal is the first fault of the records: no memory is wanted. Behind a play the machine is in the
 /// state, and tells the needs, that the records leave, and after a refusal those that the records before the fault leave. The canvas
@@ -118,7 +118,7 @@ pub fn play_on<'a, T: Table<'a>>(
     play_records(opened, machine, rows, canvas)
 }
 
-/// PlaysContent an opened file's records as `play_on` does, on a machine and with rows that have room for what these records need.
+/// Plays an opened file's records as `play_on` does, on a machine and with rows that have room for what these records need.
 pub(crate) fn play_records<'a, T: Table<'a>>(
     opened: &Opened<'a>,
     machine: &mut Machine<'a, T>,
@@ -148,7 +148,7 @@ pub(crate) fn play_records<'a, T: Table<'a>>(
     }
 }
 
-/// PlaysContent the steps that are left of a source, or tells the first fault with its record.
+/// Plays the steps that are left of a source, or tells the first fault with its record.
 fn play_steps<'a, S: OpSource<'a>, T: Table<'a>>(
     source: &mut S,
     machine: &mut Machine<'a, T>,
