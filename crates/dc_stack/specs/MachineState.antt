@@ -107,12 +107,6 @@ pub record HasFullRoom (m : MachineState) : Type 0 where
   pub slots : index_bound m.state.table_kind ≤ m.room.slots
   pub pieces : 2 ^ 16 ≤ m.room.pieces
 
--- and then no operation wants more
-abbrev pub FullRoomIsEnough : Type 0
-FullRoomIsEnough =
-    (operation : Operation) (m : MachineState) (fault : Fault)
-    → HasFullRoom m → WantsRoom operation m fault → ⊥
-
 -- an operation is refused: by its fault, or for want of memory
 abbrev pub RefusesStep : Operation → MachineState → Fault → Type 0
 RefusesStep operation m fault = fault_of operation m.state m.surface ≡ Some fault ⊎ WantsRoom operation m fault

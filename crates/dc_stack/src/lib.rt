@@ -10,8 +10,7 @@
 //!   (`Machine::step`, `Projection::at`).
 //! - The pieces of a path that is painted are lent until the next step is accepted, and make the path's figures
 //!   (`Machine::step`, `painted`).
-//! - Memory is refused only where there is no room, which no call makes smaller (`Machine::step`,
-//!   `reserve`; `room_law` says what room is enough for any file).
+//! - Memory is refused only where there is no room, which no call makes smaller (`Machine::step`, `reserve`).
 //! - The needs are the greatest of all steps since the start (`Machine::needs`).
 //! - The clip of a machine has a pixel exactly where the definition says so (`Machine::dc`, `Clip::has`).
 //! - Only being off the plane depends on the surface, and an operation without a fault on a surface has
@@ -41,7 +40,7 @@ mod stock;
 pub use clip::{Clip, ClipBox};
 pub use dc::Dc;
 pub use draw::{Draw, FigurePoints, Mark, Painting, PlaneBlit};
-pub use laws::{fault_law, room_law};
+pub use laws::fault_law;
 pub use machine::{MAX_SAVED_STATES, Machine};
 pub use modes::Modes;
 pub use needs::Needs;

@@ -1,9 +1,8 @@
 -- Steps in turn: what they need, and the room for what they draw.
-use Rattle.std.proofs.Common.{◌≡◌, ℕ, ◌≤◌, ◌⊎◌, max, List, [], ◌∷◌, Option, Some, None, IfSome, arith, inl, inr, refl, subst, sym, ◌∙◌}
+use Rattle.std.proofs.Common.{◌≡◌, ℕ, ◌≤◌, ◌⊎◌, max, List, ◌∷◌, Option, Some, None, IfSome, arith, inl, inr, subst, sym, ◌∙◌}
 use Rattle.std.specs.Option.{option_map}
 use Rattle.draw_ops.specs.Content.{Content, StepValue, with_step}
 use Rattle.draw_ops.specs.ExactlyOne.{ExactlyOne}
-use Rattle.draw_ops.specs.Operation.{Operation, no_effect, save, restore, set_background_mode, set_map_mode, set_raster_op, set_fill_mode, set_background_colour, set_window_origin, set_window_extent, set_viewport_origin, set_viewport_extent, offset_window_origin, offset_viewport_origin, exclude_clip, intersect_clip, remove_clip, move_to, line_to, pixel, rectangle, polyline, polygon, polyline_to, blit, create, select, select_palette, delete, begin_path, end_path, close_figure, abort_path, fill_path, stroke_path, stroke_and_fill_path}
 use Rattle.draw_ops.specs.RecordContent.{ContentIsOne, IsContent}
 use Rattle.dc_stack.specs.Drawing.{drawing_edges, drawing_of, edge_limit}
 use Rattle.dc_stack.specs.Draws.{IsPlacedDraw}
@@ -18,68 +17,20 @@ use Rattle.meta_headers.specs.declared.opened.FileFormat.{FileFormat}
 use Rattle.mapping.specs.Surface.{Surface}
 use Rattle.player.specs.After.{AreEnoughForRecords, AreEnoughLines, AreLinesOfRecords, HasLines, HasLinesForRecords}
 use Rattle.preflight_cert.specs.After.{needs_after}
+use Rattle.preflight_cert.specs.NeedLaws.{NeedLaws}
 
--- an operation needs as many lines as its drawing has
-needed_edges : (operation : Operation) (state : State) → drawing_edges (drawing_of operation state) ≡ (needs_of operation state).edges
-needed_edges no_effect state = refl
-needed_edges save state = refl
-needed_edges (restore which) state = refl
-needed_edges (set_background_mode mode) state = refl
-needed_edges (set_map_mode mode) state = refl
-needed_edges (set_raster_op op) state = refl
-needed_edges (set_fill_mode mode) state = refl
-needed_edges (set_background_colour colour) state = refl
-needed_edges (set_window_origin origin) state = refl
-needed_edges (set_window_extent extent) state = refl
-needed_edges (set_viewport_origin origin) state = refl
-needed_edges (set_viewport_extent extent) state = refl
-needed_edges (offset_window_origin offset) state = refl
-needed_edges (offset_viewport_origin offset) state = refl
-needed_edges (exclude_clip corners) state = refl
-needed_edges (intersect_clip corners) state = refl
-needed_edges remove_clip state = refl
-needed_edges (move_to point) state = refl
-needed_edges (line_to point) state = refl
-needed_edges (pixel point colour) state = refl
-needed_edges (rectangle corners edges) state = refl
-needed_edges (polyline lists) state = refl
-needed_edges (polygon lists) state = refl
-needed_edges (polyline_to points) state = refl
-needed_edges (blit asked) state = refl
-needed_edges (create at object) state = refl
-needed_edges (select index) state = refl
-needed_edges (select_palette index) state = refl
-needed_edges (delete index) state = refl
-needed_edges begin_path state = refl
-needed_edges end_path state = refl
-needed_edges close_figure state = refl
-needed_edges abort_path state = refl
-needed_edges fill_path state = refl
-needed_edges stroke_path state = refl
-needed_edges stroke_and_fill_path state = refl
-
--- the greater of two is no less than either
-left_of_two : (a b : ℕ) → a ≤ max a b
-left_of_two a b = grind arith
-
+-- the greater of two is no less than the second
 right_of_two : (a b : ℕ) → b ≤ max a b
 right_of_two a b = grind arith
 
--- later steps lower no need
-needs_unlowered : (steps : List StepValue) (state : State) (needs : Needs) → needs.edges ≤ (needs_after steps state needs).edges
-needs_unlowered [] state needs = omega arith
-needs_unlowered (step ∷ steps) state needs =
-    let this = left_of_two needs.edges (needs_of step.operation state).edges in
-    let rest = needs_unlowered steps (next step.operation state) (greater_needs needs (needs_of step.operation state)) in
-    omega (arith, this, rest)
-
 -- what is enough for a step and the rest is enough for the step
-enough_for_step : (steps : List StepValue) (step : StepValue) (state : State) (needs : Needs) (lines : ℕ) → (needs_after (step ∷ steps) state needs).edges ≤ lines → drawing_edges (drawing_of step.operation state) ≤ lines
-enough_for_step steps step state needs lines h =
-    let same = needed_edges step.operation state in
+enough_for_step : NeedLaws → (steps : List StepValue) (step : StepValue) (state : State) (needs : Needs) (lines : ℕ) → (needs_after (step ∷ steps) state needs).edges ≤ lines → drawing_edges (drawing_of step.operation state) ≤ lines
+enough_for_step laws steps step state needs lines h =
+    let same = laws.edges step.operation state in
     let this = right_of_two needs.edges (needs_of step.operation state).edges in
-    let rest = needs_unlowered steps (next step.operation state) (greater_needs needs (needs_of step.operation state)) in
-    omega (arith, same, this, rest, h)
+    let rest = laws.before steps (next step.operation state) (greater_needs needs (needs_of step.operation state)) in
+    let edges = rest.edges in
+    omega (arith, same, this, edges, h)
 
 -- and for the rest, behind it
 pub enough_behind : (lines : ℕ) (content rest : Content) (step : StepValue) (old new : MachineState) → content ≡ with_step step rest → HasStepped step.operation old new → AreEnoughLines lines content old → AreEnoughLines lines rest new
@@ -100,12 +51,12 @@ few_edges s new None placed = omega arith
 few_edges s new (Some draw) placed = placed.few
 
 -- and room for the step
-pub room_for_first : (room : ℕ) (content rest : Content) (step : StepValue) (old new : MachineState) (draw : Option Draw) → content ≡ with_step step rest → IsDrawingOf step.operation old new draw → IfSome draw (IsPlacedDraw old.surface new.painted) → HasLines room content old → drawing_edges (option_map (drawing_with new) draw) ≤ room
-room_for_first room content rest step old new draw is drawn placed has = elim has [
+pub room_for_first : NeedLaws → (room : ℕ) (content rest : Content) (step : StepValue) (old new : MachineState) (draw : Option Draw) → content ≡ with_step step rest → IsDrawingOf step.operation old new draw → IfSome draw (IsPlacedDraw old.surface new.painted) → HasLines room content old → drawing_edges (option_map (drawing_with new) draw) ≤ room
+room_for_first laws room content rest step old new draw is drawn placed has = elim has [
   | inl any ↦ let few = few_edges old.surface new draw placed in omega (arith, few, any)
   | inr enough ↦
       let whole : (needs_after (step ∷ rest.steps) old.state old.needs).edges ≤ room = rw is at enough in
-      rw drawn (enough_for_step rest.steps step old.state old.needs room whole)
+      rw drawn (enough_for_step laws rest.steps step old.state old.needs room whole)
 ]
 
 -- the lines of the one content of records are those of the records

@@ -9,7 +9,7 @@ use Rattle.draw_ops.specs.declared.step.Step.{Step}
 use Rattle.draw_ops.specs.Operation.{Operation}
 use Rattle.draw_ops.specs.declared.fault.Fault.{Fault}
 use Rattle.dc_stack.specs.FaultLaws.{FaultLaws}
-use Rattle.dc_stack.specs.MachineState.{FullRoomIsEnough, IsUnchanged, MachineState, RefusesStep, WantsRoom}
+use Rattle.dc_stack.specs.MachineState.{IsUnchanged, MachineState, RefusesStep, WantsRoom}
 use Rattle.dc_stack.specs.Needs.{greater_needs, needs_of}
 use Rattle.dc_stack.specs.Next.{next}
 use Rattle.dc_stack.specs.OperationFault.{fault_of}
@@ -31,17 +31,17 @@ room_for_first laws step rest m room =
     record { depth = omega (arith, depth, deep); slots = omega (arith, slots, many); pieces = omega (arith, pieces, long) }
 
 -- no memory is wanted
-wants_none : FullRoomIsEnough → NeedLaws → (left rest : Content) (step : StepValue) (m : MachineState) (fault : Fault) → left ≡ with_step step rest → HasRoomForSteps left m → WantsRoom step.operation m fault → ⊥
-wants_none enough laws left rest step m fault is room wants = elim room [
-  | inl full ↦ enough step.operation m fault full wants
+wants_none : NeedLaws → (left rest : Content) (step : StepValue) (m : MachineState) (fault : Fault) → left ≡ with_step step rest → HasRoomForSteps left m → WantsRoom step.operation m fault → ⊥
+wants_none laws left rest step m fault is room wants = elim room [
+  | inl full ↦ laws.full step.operation m fault full wants
   | inr steps ↦ laws.enough step.operation m fault (room_for_first laws step rest m (rw is at steps)) wants
 ]
 
-pub refused_by_fault : FullRoomIsEnough → NeedLaws → (left rest : Content) (step : StepValue) (m : MachineState) (fault : Fault) → left ≡ with_step step rest → HasRoomForSteps left m → RefusesStep step.operation m fault
+pub refused_by_fault : NeedLaws → (left rest : Content) (step : StepValue) (m : MachineState) (fault : Fault) → left ≡ with_step step rest → HasRoomForSteps left m → RefusesStep step.operation m fault
     → fault_of step.operation m.state m.surface ≡ Some fault
-refused_by_fault enough laws left rest step m fault is room refuses = elim refuses [
+refused_by_fault laws left rest step m fault is room refuses = elim refuses [
   | inl h ↦ h
-  | inr wants ↦ absurd (wants_none enough laws left rest step m fault is room wants)
+  | inr wants ↦ absurd (wants_none laws left rest step m fault is room wants)
 ]
 
 -- what is left stops where it breaks

@@ -7,7 +7,7 @@ ghost use Rattle.player.specs.Advances.{Advances};
 ghost use Rattle.player.specs.After.{HasRoomForSteps};
 ghost use Rattle.player.specs.Leaving.{IsLeftBy};
 
-use dc_stack::{Draw, Machine, fault_law, room_law};
+use dc_stack::{Draw, Machine, fault_law};
 use draw_ops::OpSource;
 use object_tables::Table;
 use preflight_cert::{Refusal, need_law};
@@ -28,7 +28,6 @@ pub(crate) fn advance<'a, S: OpSource<'a>, T: Table<'a>>(
     ensures room { OnOk result (HasRoomForSteps (S.content source.new) machine.new) }
     ensures left { OnErr result (IsLeftBy (S.content source.old) machine.old machine.new) }
 {
-    room_law();
     need_law();
     fault_law();
     let told = source.next_op();

@@ -23,7 +23,7 @@ use draw_ops::{Fault, OpSource};
 use mapping::{Colour, Place};
 use meta_headers::{Opened, open_file};
 use object_tables::{FileTable, Table};
-use preflight_cert::Refusal;
+use preflight_cert::{Refusal, need_law};
 use span_fill::{OutOfMemory, RowBuf};
 use std::alloc::Global;
 
@@ -168,6 +168,7 @@ fn play_steps<'a, S: OpSource<'a>, T: Table<'a>>(
     ensures goes_on { GoesOn machine.old machine.new }
     ensures lines { rows.new.room ≡ rows.old.room }
 {
+    need_law();
     let mut room = InkRoom::new();
     let mut before: u32 = 0;
     loop {

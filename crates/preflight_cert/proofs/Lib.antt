@@ -5,6 +5,7 @@ pub mod ShapeLemmas
 pub mod LayerLemmas
 pub mod StopLemmas
 pub mod SizeLemmas
+pub mod OperationNeeds
 pub mod NeedLimitLemmas
 pub mod NeedLemmas
 pub mod EntryLemmas

@@ -6,8 +6,8 @@ use Rattle.draw_ops.specs.Operation.{Operation}
 use Rattle.draw_ops.specs.declared.fault.Fault.{Fault}
 use Rattle.meta_headers.specs.Headers.{OpenedValue}
 use Rattle.object_tables.specs.Table.{TableKind, index_bound, table_kind_of}
-use Rattle.dc_stack.specs.Drawing.{edge_limit}
-use Rattle.dc_stack.specs.MachineState.{MachineState, WantsRoom}
+use Rattle.dc_stack.specs.Drawing.{drawing_edges, drawing_of, edge_limit}
+use Rattle.dc_stack.specs.MachineState.{HasFullRoom, MachineState, WantsRoom}
 use Rattle.dc_stack.specs.Needs.{needs_of}
 use Rattle.dc_stack.specs.Path.{piece_limit}
 use Rattle.dc_stack.specs.SavedStates.{depth_limit}
@@ -33,12 +33,14 @@ pub record HasRoomFor (needs : Needs) (m : MachineState) : Type 0 where
 abbrev pub most_needs : TableKind → Needs
 most_needs kind = record { depth = depth_limit; slots = index_bound kind; edges = edge_limit; pieces = piece_limit }
 
--- An operation for whose needs there is room wants no more; what was needed before is within the needs of all steps; and those of records
--- without a fault are within what any file needs.
+-- An operation for whose needs there is room wants no more, and none wants more than full room; it needs as many points as its drawing has;
+-- what was needed before is within the needs of all steps; and those of records without a fault are within what any file needs.
 pub record NeedLaws : Type 0 where
   pub enough :
       (operation : Operation) (m : MachineState) (fault : Fault)
       → HasRoomFor (needs_of operation m.state) m → WantsRoom operation m fault → ⊥
+  pub full : (operation : Operation) (m : MachineState) (fault : Fault) → HasFullRoom m → WantsRoom operation m fault → ⊥
+  pub edges : (operation : Operation) (state : State) → drawing_edges (drawing_of operation state) ≡ (needs_of operation state).edges
   pub before : (steps : List StepValue) (state : State) (needs : Needs) → AreWithin needs (needs_after steps state needs)
   pub limited :
       (content : Content) (o : OpenedValue) (s : Surface) → stop_of content (start_of o) s ≡ None

@@ -55,8 +55,9 @@ pub fn answer_law()
     size_law();
 }
 
-/// The law of needs: an operation for whose needs there is room wants no more; what was needed before is
-/// within the needs of all steps; and those of records without a fault are within what any file needs.
+/// The law of needs: an operation for whose needs there is room wants no more, and none wants more than
+/// full room; it needs as many points as its drawing has; what was needed before is within the needs of all
+/// steps; and those of records without a fault are within what any file needs.
 pub fn need_law()
     ensures { NeedLaws }
 {

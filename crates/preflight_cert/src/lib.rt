@@ -8,7 +8,7 @@
 //!   budget by that box says, on this surface and on each that is no larger (`drawing_box_law`).
 //! - Records without a fault at one size have none at a smaller one, and their drawings write there no
 //!   more pixels than the budget of entries that cover them (`size_law`).
-//! - Room for an operation's needs is enough for it (`need_law`).
+//! - Room for an operation's needs is enough for it, and full room for any (`need_law`).
 //! - A certificate's bytes are read whole or refused by their first fault (`Certificate::read`), and its entries are
 //!   those of the bytes, by their index and from the front (`Certificate::entry`, `Entries`).
 //! - There is one answer to a file and a certificate. It is accepted exactly where the certificate fits the file's records, and then the

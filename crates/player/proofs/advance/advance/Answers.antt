@@ -19,7 +19,7 @@ returns-in-Err-step_by-clause-advances g c =
     let left = content c.args.source.now in
     let rest = content c.next_op-told.new.self in
     let given = begins_with left rest c.next_op-told.result step c.next_op-told.ensures.gives (c.in-Ok.is ∙ ap Ok c.in-Some.is) in
-    let fault = refused_by_fault c.room_law.ensures c.need_law.ensures left rest (step_value_of step) machine c.in-Err-step_by.fault given c.requires.room c.in-Err-step_by.ensures.refused in
+    let fault = refused_by_fault c.need_law.ensures left rest (step_value_of step) machine c.in-Err-step_by.fault given c.requires.room c.in-Err-step_by.ensures.refused in
     stops_at_first c.args.before (content c.args.source.now) (content c.next_op-told.new.self) (step_value_of step) machine.state machine.surface c.in-Err-step_by.fault c.at-in-Err-step_by.result given fault c.at-in-Err-step_by.ensures.number c.at-in-Err-step_by.ensures.fault
 
 pub returns-in-Err-step_by-clause-record : goal.returns-in-Err-step_by-clause-record
@@ -30,7 +30,7 @@ returns-in-Err-step_by-clause-record g c =
     let left = content c.args.source.now in
     let rest = content c.next_op-told.new.self in
     let given = begins_with left rest c.next_op-told.result step c.next_op-told.ensures.gives (c.in-Ok.is ∙ ap Ok c.in-Some.is) in
-    let fault = refused_by_fault c.room_law.ensures c.need_law.ensures left rest (step_value_of step) machine c.in-Err-step_by.fault given c.requires.room c.in-Err-step_by.ensures.refused in
+    let fault = refused_by_fault c.need_law.ensures left rest (step_value_of step) machine c.in-Err-step_by.fault given c.requires.room c.in-Err-step_by.ensures.refused in
     lies_in_record c.fault_law.ensures (operation_of step.op) machine.state machine.surface c.in-Err-step_by.fault step.number c.at-in-Err-step_by.result fault c.at-in-Err-step_by.ensures.number c.at-in-Err-step_by.ensures.fault
 
 pub returns-in-Err-step_by-clause-left : goal.returns-in-Err-step_by-clause-left
@@ -41,5 +41,5 @@ returns-in-Err-step_by-clause-left g c =
     let left = content c.args.source.now in
     let rest = content c.next_op-told.new.self in
     let given = begins_with left rest c.next_op-told.result step c.next_op-told.ensures.gives (c.in-Ok.is ∙ ap Ok c.in-Some.is) in
-    let fault = refused_by_fault c.room_law.ensures c.need_law.ensures left rest (step_value_of step) machine c.in-Err-step_by.fault given c.requires.room c.in-Err-step_by.ensures.refused in
+    let fault = refused_by_fault c.need_law.ensures left rest (step_value_of step) machine c.in-Err-step_by.fault given c.requires.room c.in-Err-step_by.ensures.refused in
     left_at_first left rest (step_value_of step) machine c.step_by.new.self c.in-Err-step_by.fault given fault c.in-Err-step_by.ensures.kept
