@@ -1,12 +1,13 @@
 //! Preparing the certificate of a file.
 
-ghost use Rattle.std.specs.Prelude.{◌≡◌, ◌⊎◌, IfErr, IfOk};
+ghost use Rattle.std.specs.Prelude.{◌≡◌, ◌⊎◌, IfErr, IfOk, false};
+ghost use Rattle.draw_ops.specs.declared.fault.Fault.TheVariants.{BadBound};
 ghost use Rattle.mapping.specs.Limits.{IsSurfaceSide};
 ghost use Rattle.meta_headers.specs.OpenedOf.{opened_of};
 ghost use Rattle.preflight_cert.specs.Answer.{AnswersRead, IsAnswer, accepted};
 ghost use Rattle.preflight_cert.specs.CertificateReading.{read_certificate};
 ghost use Rattle.preflight_cert.specs.Checks.{IsWantOfMemory};
-ghost use Rattle.preflight_cert.specs.Preparation.{Prepares, PreparesRecords, StopsPreparing};
+ghost use Rattle.preflight_cert.specs.Preparation.{Prepares, PreparesRecords, StopsPreparing, is_bound};
 ghost use Rattle.preflight_cert.specs.PreparedRecords.{StopsRecords};
 
 use crate::certificate_reading::is_side;
@@ -34,6 +35,7 @@ pub fn prepare(
     ensures text { IfOk result (λ text. Prepares file.now max_width max_height text.items) }
     ensures accepted { IfOk result (λ text. IsAnswer file.now text.items accepted) }
     ensures refusal { IfErr result (λ r. StopsPreparing file.now max_width max_height r.number r.fault ⊎ IsWantOfMemory r) }
+    ensures bound { IfErr result (λ r. is_bound max_width max_height ≡ false → r.fault ≡ BadBound) }
 {
     if !(is_side(max_width) && is_side(max_height)) {
         return Err(Refusal::of_file(Fault::BadBound));
