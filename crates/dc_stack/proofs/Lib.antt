@@ -13,7 +13,6 @@ pub mod AdditionLemmas
 pub mod FaultLemmas
 pub mod SavedLemmas
 pub mod RoomLemmas
-pub mod InRecordLemmas
 pub mod WorkedStart
 pub mod WorkedRows
 pub mod WorkedClips

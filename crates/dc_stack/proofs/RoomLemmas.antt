@@ -2,8 +2,8 @@
 use Rattle.std.proofs.Common.{◌≡◌, ℕ, ◌<◌, ◌≤◌, nat_le, Bool, true, false, cond, length, Option, Some, None, inl, inr, arith, refl}
 use Rattle.std.proofs.lemmas.Bool.{leb-true, ltb-true}
 use Rattle.std.specs.Option.{option_or}
-use Rattle.draw_ops.specs.declared.fault.Fault.{Fault}
-use Rattle.draw_ops.specs.declared.fault.Fault.TheVariants.{DepthLimit, TooManyPieces}
+use Rattle.draw_ops.specs.declared.record_fault.RecordFault.{RecordFault}
+use Rattle.draw_ops.specs.declared.record_fault.RecordFault.TheVariants.{DepthLimit, TooManyPieces}
 use Rattle.draw_ops.specs.Operation.{Operation, no_effect, save, restore, set_background_mode, set_map_mode, set_raster_op, set_fill_mode, set_background_colour, set_window_origin, set_window_extent, set_viewport_origin, set_viewport_extent, offset_window_origin, offset_viewport_origin, exclude_clip, intersect_clip, remove_clip, move_to, line_to, pixel, rectangle, polyline, polygon, polyline_to, blit, create, select, select_palette, delete, begin_path, end_path, close_figure, abort_path, fill_path, stroke_path, stroke_and_fill_path}
 use Rattle.object_tables.specs.Table.{CreatedIndexIsBelowBound, create_fault}
 use Rattle.dc_stack.specs.MachineState.{FullRoomIsEnough}
@@ -16,7 +16,7 @@ use Rattle.dc_stack.specs.SavedStates.{after_restoring, depth_limit, saved_place
 use Rattle.dc_stack.specs.State.{State}
 
 -- the first of two faults is absent where both are
-first_absent : (plain place : Option Fault) → option_or plain place ≡ None → plain ≡ None
+first_absent : (plain place : Option RecordFault) → option_or plain place ≡ None → plain ≡ None
 first_absent None place h = refl
 first_absent (Some fault) place h = cc
 
@@ -24,7 +24,7 @@ few_saved : (few : Bool) → cond few None (Some DepthLimit) ≡ None → few �
 few_saved true h = refl
 few_saved false h = cc
 
-few_pieces : (count : ℕ) (other : Option Fault) → option_or (pieces_fault count) other ≡ None → count ≤ piece_limit
+few_pieces : (count : ℕ) (other : Option RecordFault) → option_or (pieces_fault count) other ≡ None → count ≤ piece_limit
 few_pieces count other h = leb-true count piece_limit (passed (nat_le count piece_limit) (first_absent (pieces_fault count) other h))
   where
     passed : (few : Bool) → cond few None (Some TooManyPieces) ≡ None → few ≡ true

@@ -6,8 +6,8 @@ use Rattle.std.proofs.lemmas.Bool.{leb-true, ltb-true}
 use Rattle.mapping.specs.Surface.{Surface}
 use Rattle.draw_ops.specs.Content.{Content, StepValue}
 use Rattle.draw_ops.specs.Operation.{Operation, no_effect, save, restore, set_background_mode, set_map_mode, set_raster_op, set_fill_mode, set_background_colour, set_window_origin, set_window_extent, set_viewport_origin, set_viewport_extent, offset_window_origin, offset_viewport_origin, exclude_clip, intersect_clip, remove_clip, move_to, line_to, pixel, rectangle, polyline, polygon, polyline_to, blit, create, select, select_palette, delete, begin_path, end_path, close_figure, abort_path, fill_path, stroke_path, stroke_and_fill_path}
-use Rattle.draw_ops.specs.declared.fault.Fault.{Fault}
-use Rattle.draw_ops.specs.declared.fault.Fault.TheVariants.{DepthLimit, TooManyEdges, TooManyPieces}
+use Rattle.draw_ops.specs.declared.record_fault.RecordFault.{RecordFault}
+use Rattle.draw_ops.specs.declared.record_fault.RecordFault.TheVariants.{DepthLimit, TooManyEdges, TooManyPieces}
 use Rattle.meta_headers.specs.Headers.{OpenedValue}
 use Rattle.object_tables.specs.Table.{CreatedIndexIsBelowBound, TableKind, table_kind_of}
 use Rattle.dc_stack.specs.Drawing.{drawing_edges, drawing_of, edge_limit}
@@ -137,7 +137,7 @@ both_within first second most a b =
 
 -- and all steps
 module _ (laws : CreatedIndexIsBelowBound) (kind : TableKind) (s : Surface) where
-  all_within : (steps : List StepValue) (fault : Option Fault) (before : ℕ) (state : State) (needs : Needs) → stopped steps fault before state s ≡ None → state.table_kind ≡ kind
+  all_within : (steps : List StepValue) (fault : Option RecordFault) (before : ℕ) (state : State) (needs : Needs) → stopped steps fault before state s ≡ None → state.table_kind ≡ kind
       → AreWithin needs (most_needs kind) → AreWithin (needs_after steps state needs) (most_needs kind)
   all_within [] fault before state needs h e most = most
   all_within (step ∷ steps) fault before state needs h e most =
