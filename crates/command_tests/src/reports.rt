@@ -3,7 +3,7 @@
 use crate::comparing::same;
 use canvas::WriteFault;
 use commands::{Answer, InputFault, no_input, report};
-use draw_ops::Fault;
+use draw_ops::{Fault, RecordFault};
 use preflight_cert::Refusal;
 use std::alloc::{AllocError, Global};
 use std::test::Fail;
@@ -42,7 +42,7 @@ fn the_faults_of_an_input_show_their_lines(rt: HostRuntime) -> Result<(), Fail> 
 fn the_longest_refusal_has_room(rt: HostRuntime) -> Result<(), Fail> {
     let refusal = Refusal {
         number: Some(u32::MAX),
-        fault: Fault::UnknownRecord(u32::MAX),
+        fault: Fault::Record(RecordFault::UnknownRecord(u32::MAX)),
     };
     let mut err = Vec::new(rt.alloc());
     same(&rt, report(&mut err, refusal), Ok(()));
@@ -73,7 +73,7 @@ fn a_refusal_in_each_record_is_told_whole(rt: HostRuntime) -> Result<(), Fail> {
     for number in numbers.iter() {
         let refusal = Refusal {
             number: Some(*number),
-            fault: Fault::PastEnd,
+            fault: Fault::Record(RecordFault::PastEnd),
         };
         let want = format!(in rt.alloc(); "metaplay: PastEnd at record {number}\n")?;
         let mut err = Vec::new(rt.alloc());

@@ -2,11 +2,13 @@
 use Rattle.std.proofs.Common.{◌≡◌, ◌≢◌, ◌⊎◌, ℕ, ◌+◌, ◌<◌, ◌≤◌, true, false, List, [], ◌∷◌, ◌++◌, length, Option, Some, None, Result, Ok, Err, inl, inr, arith, refl, ap, sym, ◌∙◌}
 use Rattle.std.proofs.lemmas.Bool.{le-leb}
 use Rattle.std.proofs.lemmas.List.{append-nil}
-use Rattle.std.specs.Option.{option_or}
+use Rattle.std.specs.Option.{option_map, option_or}
 use Rattle.mapping.specs.Plane.{MapNumbers}
 use Rattle.mapping.specs.Surface.{Surface}
 use Rattle.mapping.specs.declared.geometry.Point.{Point}
 use Rattle.draw_ops.specs.declared.fault.Fault.{Fault}
+use Rattle.draw_ops.specs.declared.fault.Fault.TheVariants.{Record}
+use Rattle.draw_ops.specs.declared.record_fault.RecordFault.{RecordFault}
 use Rattle.point_views.specs.PartedPoints.{parts_of}
 use Rattle.point_views.specs.Points.{points_of}
 use Rattle.draw_ops.specs.Operation.{Operation, polygon, polyline}
@@ -94,7 +96,7 @@ lists_count joining lists (open_path figures n) at some = ap (λ (k : ℕ). n + 
 lists_count joining lists (finished_path figures) at some = cc
 
 -- a refused addition, where room that is wanted is for pieces that are added
-pub not_added : (after : Path) (first : Option Fault) (old new : MachineState) (fault : Fault) (Lacks : Type 0) → (first ≡ Some fault) ⊎ WantsPieceRoom first fault Lacks → (Lacks → old.room.pieces < piece_count after) → piece_count old.state.path < piece_count after → IsUnchanged old new → HasNotAdded after first old new fault
+pub not_added : (after : Path) (first : Option RecordFault) (old new : MachineState) (fault : Fault) (Lacks : Type 0) → (option_map Record first ≡ Some fault) ⊎ WantsPieceRoom first fault Lacks → (Lacks → old.room.pieces < piece_count after) → piece_count old.state.path < piece_count after → IsUnchanged old new → HasNotAdded after first old new fault
 not_added after first old new fault Lacks answer lacks adds kept = record {
   refused = elim answer [
     | inl e ↦ inl e
@@ -121,7 +123,7 @@ module _ (path : Path) (at : is_open path ≡ true) where
       by_path (open_path figures n) h = refl
       by_path (finished_path figures) h = cc
 
-  or_none : (fault : Option Fault) → option_or fault None ≡ fault
+  or_none : (fault : Option RecordFault) → option_or fault None ≡ fault
   or_none None = refl
   or_none (Some fault) = refl
 
@@ -146,7 +148,7 @@ plays_added operation after points position old (Ok draw) new state needs drawin
 }
 plays_added operation after points position old (Err e) new state needs drawing fault h = record {
   refused = elim h.refused [
-    | inl first ↦ inl (fault ∙ first)
+    | inl first ↦ inl (ap (option_map Record) fault ∙ first)
     | inr wants ↦ inr (record {
       no_fault = fault ∙ wants.no_fault;
       memory = wants.memory;

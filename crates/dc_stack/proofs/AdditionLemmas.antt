@@ -1,7 +1,8 @@
 -- What pieces that are added do to an open path.
 use Rattle.std.proofs.Common.{◌≡◌, ◌≢◌, ◌⊎◌, ℕ, ◌+◌, ◌<◌, ◌≤◌, true, List, [], ◌∷◌, ◌++◌, length, Option, Result, Ok, Err, inl, inr, arith, refl, ap, subst, sym, ◌∙◌}
+use Rattle.draw_ops.specs.declared.fault.Fault.TheVariants.{Record}
 use Rattle.std.specs.Prelude.{⊤, OnOk}
-use Rattle.std.specs.Option.{option_or}
+use Rattle.std.specs.Option.{option_map, option_or}
 use Rattle.std.proofs.lemmas.List.{append_assoc, length-append}
 use Rattle.mapping.specs.PageMap.{map_numbers}
 use Rattle.mapping.specs.Plane.{MapNumbers}
@@ -9,6 +10,7 @@ use Rattle.mapping.specs.Surface.{Surface}
 use Rattle.mapping.specs.declared.geometry.Point.{Point}
 use Rattle.mapping.specs.declared.page_map.PageMap.{PageMap}
 use Rattle.draw_ops.specs.declared.fault.Fault.{Fault}
+use Rattle.draw_ops.specs.declared.record_fault.RecordFault.{RecordFault}
 use Rattle.dc_stack.specs.Drawing.{points_of_lists}
 use Rattle.dc_stack.specs.Figures.{Figures, no_figures, points_gone_on, with_polygon, with_polygons, with_polyline, with_polylines}
 use Rattle.dc_stack.specs.GatheredPath.{AnswersAddition, IsGathered, addition_fault, after_lists, is_open_phase, open_piece, path_in, path_of, phase_behind}
@@ -38,10 +40,10 @@ of_three (Ok x) f a b c = f a b c
 of_three (Err e) f a b c = tt
 
 -- the same fault and the same want of room are the same answer
-pub same_answer : (r : Result ⊤ Fault) (f g : Option Fault) (L M : Type 0) → f ≡ g → (L → M) → AnswersAddition r f L → AnswersAddition r g M
+pub same_answer : (r : Result ⊤ Fault) (f g : Option RecordFault) (L M : Type 0) → f ≡ g → (L → M) → AnswersAddition r f L → AnswersAddition r g M
 same_answer (Ok x) f g L M e lacks h = sym e ∙ h
 same_answer (Err fault) f g L M e lacks h = elim h [
-  | inl first ↦ inl (sym e ∙ first)
+  | inl first ↦ inl (ap (option_map Record) (sym e) ∙ first)
   | inr wants ↦ inr (record { no_fault = sym e ∙ wants.no_fault; memory = wants.memory; lacks = lacks wants.lacks })
 ]
 

@@ -1,7 +1,7 @@
 -- What a blit without a fault can read.
 use Rattle.std.proofs.Common.{◌≡◌, ℕ, Bool, true, false, cond, Option, Some, None, refl}
 use Rattle.draw_ops.specs.Blits.{SourceValue}
-use Rattle.draw_ops.specs.declared.fault.Fault.TheVariants.{SourceOutside}
+use Rattle.draw_ops.specs.declared.record_fault.RecordFault.TheVariants.{SourceOutside}
 use Rattle.raster_ops.specs.Sources.{is_inside, is_readable}
 use Rattle.raster_ops.specs.TernaryOps.{uses_source}
 use Rattle.dc_stack.specs.OperationFault.{given_fault, source_fault}

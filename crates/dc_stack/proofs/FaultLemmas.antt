@@ -6,23 +6,22 @@ use Rattle.std.specs.Option.{option_or}
 use Rattle.mapping.specs.declared.geometry.Point.{Point}
 use Rattle.mapping.specs.PlacingLaws.{IsNoLarger, PlacingLaws, ShowsFrame}
 use Rattle.mapping.specs.Surface.{Surface, lands_within_limits}
-use Rattle.draw_ops.specs.declared.fault.Fault.{Fault}
-use Rattle.draw_ops.specs.declared.fault.Fault.TheVariants.{OffPlane}
+use Rattle.draw_ops.specs.declared.record_fault.RecordFault.{RecordFault}
+use Rattle.draw_ops.specs.declared.record_fault.RecordFault.TheVariants.{OffPlane}
 use Rattle.dc_stack.specs.FaultLaws.{FaultLaws}
-use Rattle.dc_stack.proofs.InRecordLemmas.{fault_in_record}
 use Rattle.dc_stack.proofs.LandingLemmas.{off_unless}
 use Rattle.dc_stack.specs.OperationFault.{plain_fault, plane_points}
 
 -- no other fault comes of points
-off_is_off_plane : (test : Bool) (fault : Fault) → off_unless test ≡ Some fault → fault ≡ OffPlane
+off_is_off_plane : (test : Bool) (fault : RecordFault) → off_unless test ≡ Some fault → fault ≡ OffPlane
 off_is_off_plane true fault h = cc
 off_is_off_plane false fault h = cc
 
-other_fault : (plain : Option Fault) (test other : Bool) (fault : Fault) → fault ≢ OffPlane → option_or plain (off_unless test) ≡ Some fault → option_or plain (off_unless other) ≡ Some fault
+other_fault : (plain : Option RecordFault) (test other : Bool) (fault : RecordFault) → fault ≢ OffPlane → option_or plain (off_unless test) ≡ Some fault → option_or plain (off_unless other) ≡ Some fault
 other_fault (Some g) test other fault ne h = h
 other_fault None test other fault ne h = absurd (ne (off_is_off_plane test fault h))
 
-no_fault : (plain : Option Fault) (test other : Bool) → (test ≡ true → other ≡ true) → option_or plain (off_unless test) ≡ None → option_or plain (off_unless other) ≡ None
+no_fault : (plain : Option RecordFault) (test other : Bool) → (test ≡ true → other ≡ true) → option_or plain (off_unless test) ≡ None → option_or plain (off_unless other) ≡ None
 no_fault (Some g) test other passes h = cc
 no_fault None true other passes h = rw (passes refl) refl
 no_fault None false other passes h = cc
@@ -37,7 +36,6 @@ all_on_smaller laws smaller larger shows no_larger (p ∷ ps) h =
 
 pub fault_laws : PlacingLaws → FaultLaws
 fault_laws laws = record {
-  in_record = fault_in_record;
   only_off_plane = λ operation state s other fault ne h. other_fault (plain_fault operation state) (list_all (λ p. lands_within_limits p s) (plane_points operation state)) (list_all (λ p. lands_within_limits p other) (plane_points operation state)) fault ne h;
   none_on_smaller = λ operation state smaller larger shows no_larger h. no_fault (plain_fault operation state) (list_all (λ p. lands_within_limits p larger) (plane_points operation state)) (list_all (λ p. lands_within_limits p smaller) (plane_points operation state)) (all_on_smaller laws smaller larger shows no_larger (plane_points operation state)) h;
 }

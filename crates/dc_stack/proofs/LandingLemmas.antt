@@ -6,12 +6,12 @@ use Rattle.mapping.specs.LimitTests.{TestsAreLimits}
 use Rattle.mapping.specs.Plane.{is_on_plane}
 use Rattle.mapping.specs.Surface.{FitsPlace, Surface, fits_place, lands_within_limits, placed_point}
 use Rattle.mapping.specs.declared.geometry.Point.{Point}
-use Rattle.draw_ops.specs.declared.fault.Fault.{Fault}
-use Rattle.draw_ops.specs.declared.fault.Fault.TheVariants.{OffPlane}
+use Rattle.draw_ops.specs.declared.record_fault.RecordFault.{RecordFault}
+use Rattle.draw_ops.specs.declared.record_fault.RecordFault.TheVariants.{OffPlane}
 use Rattle.dc_stack.specs.OperationFault.{off_plane_fault}
 
 -- off the plane where a test fails
-abbrev pub off_unless : Bool → Option Fault
+abbrev pub off_unless : Bool → Option RecordFault
 off_unless test = cond test None (Some OffPlane)
 
 passed : (test : Bool) → None ≡ off_unless test → test ≡ true
@@ -31,14 +31,14 @@ module _ (s : Surface) where
   none_off points h = rw h refl
 
   -- the fault of a point and others, of which one may be off
-  pub first_point_off : (p : Point) (points : List Point) (fault : Fault) → Some fault ≡ off_plane_fault (p ∷ []) s → Some fault ≡ off_plane_fault (p ∷ points) s
+  pub first_point_off : (p : Point) (points : List Point) (fault : RecordFault) → Some fault ≡ off_plane_fault (p ∷ []) s → Some fault ≡ off_plane_fault (p ∷ points) s
   first_point_off p points fault h = first_fails (lands_within_limits p s) h
     where
       first_fails : (a : Bool) → Some fault ≡ off_unless (a && true) → Some fault ≡ off_unless (a && all_lands points)
       first_fails true e = cc
       first_fails false e = e
 
-  pub others_off : (p : Point) (points : List Point) (fault : Option Fault) → None ≡ off_plane_fault (p ∷ []) s → fault ≡ off_plane_fault points s → fault ≡ off_plane_fault (p ∷ points) s
+  pub others_off : (p : Point) (points : List Point) (fault : Option RecordFault) → None ≡ off_plane_fault (p ∷ []) s → fault ≡ off_plane_fault points s → fault ≡ off_plane_fault (p ∷ points) s
   others_off p points fault here h = others_fail (lands_within_limits p s) here
     where
       others_fail : (a : Bool) → None ≡ off_unless (a && true) → fault ≡ off_unless (a && all_lands points)

@@ -12,7 +12,6 @@ pub mod AddingLemmas
 pub mod AdditionLemmas
 pub mod FaultLemmas
 pub mod SavedLemmas
-pub mod InRecordLemmas
 pub mod WorkedStart
 pub mod WorkedRows
 pub mod WorkedClips

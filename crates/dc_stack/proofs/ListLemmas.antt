@@ -9,8 +9,8 @@ use Rattle.std.specs.Option.{option_or}
 use Rattle.mapping.specs.Plane.{MapNumbers}
 use Rattle.mapping.specs.Surface.{Surface, lands_within_limits}
 use Rattle.mapping.specs.declared.geometry.Point.{Point}
-use Rattle.draw_ops.specs.declared.fault.Fault.{Fault}
-use Rattle.draw_ops.specs.declared.fault.Fault.TheVariants.{TooManyEdges}
+use Rattle.draw_ops.specs.declared.record_fault.RecordFault.{RecordFault}
+use Rattle.draw_ops.specs.declared.record_fault.RecordFault.TheVariants.{TooManyEdges}
 use Rattle.dc_stack.specs.Drawing.{edge_limit, going_on, points_of_lists}
 use Rattle.dc_stack.specs.Figures.{Figure, figures_of_lists, points_of_figures}
 use Rattle.dc_stack.specs.Mapped.{mapped_list, mapped_lists, mapped_point}
@@ -83,7 +83,7 @@ few_points points s h = leb-true (length points) edge_limit (first_none (nat_le 
 pub none_off_plane : (points : List Point) (s : Surface) → None ≡ points_fault points s → None ≡ off_plane_fault points s
 none_off_plane points s h = second_none _ (off_plane_fault points s) h
   where
-    second_none : (a b : Option Fault) → None ≡ option_or a b → None ≡ b
+    second_none : (a b : Option RecordFault) → None ≡ option_or a b → None ≡ b
     second_none None b e = e
     second_none (Some f) b e = cc
 

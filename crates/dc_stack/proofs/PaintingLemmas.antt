@@ -12,8 +12,8 @@ use Rattle.mapping.specs.Plane.{MapNumbers}
 use Rattle.mapping.specs.Surface.{Surface, lands_within_limits, placed}
 use Rattle.mapping.specs.declared.geometry.Point.{Point}
 use Rattle.mapping.specs.declared.geometry.Rect.{Rect}
-use Rattle.draw_ops.specs.declared.fault.Fault.{Fault}
-use Rattle.draw_ops.specs.declared.fault.Fault.TheVariants.{TooManyEdges}
+use Rattle.draw_ops.specs.declared.record_fault.RecordFault.{RecordFault}
+use Rattle.draw_ops.specs.declared.record_fault.RecordFault.TheVariants.{TooManyEdges}
 use Rattle.point_views.specs.PartedPoints.{parts_of}
 use Rattle.point_views.specs.Points.{points_of}
 use Rattle.dc_stack.specs.Drawing.{drawing_of, edge_limit, figures_painted, points_of_lists, tools_of}
@@ -40,7 +40,7 @@ use Rattle.dc_stack.proofs.LandingLemmas.{none_off}
 use Rattle.dc_stack.proofs.ListLemmas.{mapped_joined}
 
 -- more points than there may be, or else points off the plane
-abbrev figures_fault : List Figure → Surface → Option Fault
+abbrev figures_fault : List Figure → Surface → Option RecordFault
 figures_fault figures s =
     option_or (if nat_le (length (points_of_figures figures)) edge_limit then None else Some TooManyEdges) (off_plane_fault (points_of_figures figures) s)
 

@@ -8,7 +8,7 @@ use Rattle.mapping.specs.declared.map_mode.MapMode.TheVariants.{Anisotropic}
 use Rattle.dib_views.specs.Pictures.{Picture}
 use Rattle.draw_ops.specs.Blits.{CountedFrom, SourceValue, bottom, top}
 use Rattle.draw_ops.specs.Operation.{Operation, begin_path, blit, set_map_mode, set_viewport_extent, set_window_extent}
-use Rattle.draw_ops.specs.declared.fault.Fault.TheVariants.{OffPlane, SourceMissing, SourceOutside}
+use Rattle.draw_ops.specs.declared.record_fault.RecordFault.TheVariants.{OffPlane, SourceMissing, SourceOutside}
 use Rattle.dc_stack.specs.Drawing.{MarkValue, blit_between, drawing_of, edge_limit}
 use Rattle.dc_stack.specs.Needs.{needs_of, no_needs}
 use Rattle.dc_stack.specs.Next.{next}

@@ -1,7 +1,7 @@
 -- The definitions of the clip on worked values.
 use Rattle.std.proofs.Common.{◌≡◌, ◌+◌, ◌^◌, pos, negsuc, true, false, List, [], ◌∷◌, ◌++◌, replicate, Some, None, refl}
 use Rattle.draw_ops.specs.Operation.{Operation, exclude_clip, intersect_clip, restore, save}
-use Rattle.draw_ops.specs.declared.fault.Fault.TheVariants.{OffPlane, TooManyCuts}
+use Rattle.draw_ops.specs.declared.record_fault.RecordFault.TheVariants.{OffPlane, TooManyCuts}
 use Rattle.mapping.specs.Limits.{place_limit, plane_limit}
 use Rattle.dc_stack.specs.Clip.{ClipValue, in_clip, placed_clip}
 use Rattle.dc_stack.proofs.WorkedStart.{box, fault_behind, four, half, played, start}

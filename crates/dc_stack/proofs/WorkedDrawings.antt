@@ -3,7 +3,7 @@ use Rattle.std.proofs.Common.{◌≡◌, ◌+◌, ◌^◌, pos, negsuc, List, []
 use Rattle.std.specs.Option.{option_map}
 use Rattle.draw_ops.specs.Objects.{null_brush, pen_object, brush_object}
 use Rattle.draw_ops.specs.Operation.{Operation, create, intersect_clip, line_to, move_to, pixel, polygon, polyline, polyline_to, rectangle, select, set_map_mode, set_viewport_extent, set_window_extent, set_window_origin}
-use Rattle.draw_ops.specs.declared.fault.Fault.TheVariants.{OffPlane}
+use Rattle.draw_ops.specs.declared.record_fault.RecordFault.TheVariants.{OffPlane}
 use Rattle.draw_ops.specs.declared.objects.Pen.TheVariants.{Null}
 use Rattle.draw_ops.specs.declared.operation.RectangleEdges.TheVariants.{HalfOpen, Inclusive}
 use Rattle.mapping.specs.Colours.{white_colour}

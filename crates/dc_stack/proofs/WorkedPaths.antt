@@ -4,7 +4,7 @@ use Rattle.mapping.specs.Limits.{place_limit, plane_limit}
 use Rattle.mapping.specs.declared.geometry.Point.{Point}
 use Rattle.mapping.specs.declared.map_mode.MapMode.TheVariants.{Anisotropic}
 use Rattle.draw_ops.specs.Operation.{Operation, abort_path, begin_path, close_figure, end_path, fill_path, line_to, move_to, pixel, polygon, polyline, polyline_to, rectangle, restore, save, set_map_mode, set_window_extent, stroke_and_fill_path, stroke_path}
-use Rattle.draw_ops.specs.declared.fault.Fault.TheVariants.{OffPlane, PathState, TooManyPieces}
+use Rattle.draw_ops.specs.declared.record_fault.RecordFault.TheVariants.{OffPlane, PathState, TooManyPieces}
 use Rattle.draw_ops.specs.declared.operation.RectangleEdges.TheVariants.{Inclusive}
 use Rattle.mapping.specs.Colours.{black_colour}
 use Rattle.dc_stack.specs.Drawing.{MarkValue, dot, drawing_of, edge_limit, figures_painted}

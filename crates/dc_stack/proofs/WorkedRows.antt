@@ -2,7 +2,7 @@
 use Rattle.std.proofs.Common.{◌≡◌, ◌+◌, ◌-◌, ◌^◌, pos, negsuc, List, [], ◌∷◌, ◌++◌, length, map, replicate, Some, None, refl}
 use Rattle.draw_ops.specs.Objects.{ObjectValue, brush_object, font_object, null_brush, palette_object, pen_object, solid_brush}
 use Rattle.draw_ops.specs.Operation.{Operation, create, delete, move_to, offset_window_origin, pixel, restore, save, select, select_palette, set_map_mode, set_window_extent}
-use Rattle.draw_ops.specs.declared.fault.Fault.TheVariants.{DepthLimit, HeldObject, NoSavedState, NoSuchHandle, OffPlane, WrongKind, ZeroExtent}
+use Rattle.draw_ops.specs.declared.record_fault.RecordFault.TheVariants.{DepthLimit, HeldObject, NoSavedState, NoSuchHandle, OffPlane, WrongKind, ZeroExtent}
 use Rattle.draw_ops.specs.declared.objects.Pen.TheVariants.{Null, Solid}
 use Rattle.mapping.specs.Colours.{black_colour, white_colour}
 use Rattle.mapping.specs.Limits.{place_limit, plane_limit}

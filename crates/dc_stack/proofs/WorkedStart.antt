@@ -1,7 +1,7 @@
 -- Where worked values start: a surface of 4 by 4 that shows a frame of its size, and operations played on it.
 use Rattle.std.proofs.Common.{ℤ, pos, List, [], ◌∷◌, Option}
 use Rattle.draw_ops.specs.Operation.{Operation}
-use Rattle.draw_ops.specs.declared.fault.Fault.{Fault}
+use Rattle.draw_ops.specs.declared.record_fault.RecordFault.{RecordFault}
 use Rattle.mapping.specs.PageMap.{unscaled_map}
 use Rattle.mapping.specs.Surface.{Surface}
 use Rattle.mapping.specs.declared.geometry.Point.{Point}
@@ -37,5 +37,5 @@ played [] state = state
 played (operation ∷ rest) state = played rest (next operation state)
 
 -- the fault of an operation behind others, from the start, on the surface of 4 by 4
-abbrev pub fault_behind : List Operation → Operation → Option Fault
+abbrev pub fault_behind : List Operation → Operation → Option RecordFault
 fault_behind before operation = fault_of operation (played before start) four

@@ -1,8 +1,10 @@
 -- What adding to an open path does to a machine.
 use Rattle.std.specs.Prelude.{◌≡◌, ◌<◌, ◌⊎◌, List, Option, None, Some, Result, Ok, Err}
-use Rattle.std.specs.Option.{option_or}
+use Rattle.std.specs.Option.{option_map, option_or}
 use Rattle.mapping.specs.declared.geometry.Point.{Point}
 use Rattle.draw_ops.specs.declared.fault.Fault.{Fault}
+use Rattle.draw_ops.specs.declared.fault.Fault.TheVariants.{Record}
+use Rattle.draw_ops.specs.declared.record_fault.RecordFault.{RecordFault}
 use Rattle.dc_stack.specs.Figures.{points_gone_on}
 use Rattle.dc_stack.specs.GatheredPath.{WantsPieceRoom, after_lists}
 use Rattle.dc_stack.specs.MachineState.{IsUnchanged, MachineState}
@@ -17,15 +19,15 @@ use Rattle.dc_stack.specs.declared.piece.Joining.{Joining}
 use Rattle.dc_stack.specs.declared.piece.PiecePoints.{PiecePoints}
 
 -- the path is this, and so is the position
-pub record HasAdded (after : Path) (first : Option Fault) (position : Point) (old new : MachineState) (draw : Option Draw) : Type 0 where
+pub record HasAdded (after : Path) (first : Option RecordFault) (position : Point) (old new : MachineState) (draw : Option Draw) : Type 0 where
   pub no_fault : first ≡ None
   pub state : new.state ≡ with_position position (with_path after old.state)
   pub needs : new.needs ≡ greater_needs old.needs (pieces_needed (piece_count after))
   pub nothing : draw ≡ None
 
 -- the first fault, or want of room for pieces: nothing has changed
-pub record HasNotAdded (after : Path) (first : Option Fault) (old new : MachineState) (fault : Fault) : Type 0 where
-  pub refused : (first ≡ Some fault) ⊎ WantsPieceRoom first fault ((piece_count old.state.path < piece_count after) × (old.room.pieces < piece_count after))
+pub record HasNotAdded (after : Path) (first : Option RecordFault) (old new : MachineState) (fault : Fault) : Type 0 where
+  pub refused : (option_map Record first ≡ Some fault) ⊎ WantsPieceRoom first fault ((piece_count old.state.path < piece_count after) × (old.room.pieces < piece_count after))
   pub kept : IsUnchanged old new
 
 -- points are added, which lie here on the plane, and the path is this then, and the position

@@ -3,6 +3,8 @@ use Rattle.std.specs.Prelude.{◌≡◌, false, Option, None, Some, IfSome, Resu
 use Rattle.std.specs.Option.{option_map, option_or}
 use Rattle.mapping.specs.declared.geometry.Point.{Point}
 use Rattle.draw_ops.specs.declared.fault.Fault.{Fault}
+use Rattle.draw_ops.specs.declared.fault.Fault.TheVariants.{Record}
+use Rattle.draw_ops.specs.declared.record_fault.RecordFault.{RecordFault}
 use Rattle.dc_stack.specs.Drawing.{MarkValue, drawing_now, mark_edges, mark_points}
 use Rattle.dc_stack.specs.Draws.{IsPlacedDraw, paints_path}
 use Rattle.dc_stack.specs.MachineState.{IsUnchanged, MachineState, drawing_with}
@@ -13,7 +15,7 @@ use Rattle.mapping.specs.Surface.{Surface}
 use Rattle.dc_stack.specs.declared.draw.Draw.{Draw}
 
 -- the first fault of a mark
-abbrev pub mark_fault : MarkValue → State → Surface → Option Fault
+abbrev pub mark_fault : MarkValue → State → Surface → Option RecordFault
 mark_fault mark state s = option_or (edges_fault (drawing_now mark state)) (off_plane_fault (mark_points mark) s)
 
 -- a mark was drawn, which isn't of a path, and the position is this
@@ -27,7 +29,7 @@ pub record HasDrawn (mark : MarkValue) (position : Point) (old new : MachineStat
 
 -- it has a fault: nothing has changed
 pub record HasNotDrawn (mark : MarkValue) (old new : MachineState) (fault : Fault) : Type 0 where
-  pub refused : mark_fault mark old.state old.surface ≡ Some fault
+  pub refused : option_map Record (mark_fault mark old.state old.surface) ≡ Some fault
   pub kept : IsUnchanged old new
 
 -- one of both

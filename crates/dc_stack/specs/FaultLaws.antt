@@ -3,20 +3,16 @@ use Rattle.std.specs.Prelude.{◌≡◌, ◌≢◌, Some, None}
 use Rattle.mapping.specs.PlacingLaws.{IsNoLarger, ShowsFrame}
 use Rattle.mapping.specs.Surface.{Surface}
 use Rattle.draw_ops.specs.Operation.{Operation}
-use Rattle.draw_ops.specs.Fault.{IsInRecord}
-use Rattle.draw_ops.specs.declared.fault.Fault.{Fault}
-use Rattle.draw_ops.specs.declared.fault.Fault.TheVariants.{OffPlane}
+use Rattle.draw_ops.specs.declared.record_fault.RecordFault.{RecordFault}
+use Rattle.draw_ops.specs.declared.record_fault.RecordFault.TheVariants.{OffPlane}
 use Rattle.dc_stack.specs.OperationFault.{fault_of}
 use Rattle.dc_stack.specs.State.{State}
 
--- Each fault of an operation lies in its record. Another fault than being off the plane is the same on each surface, and an operation
--- without a fault on a surface has none on each that is no larger.
+-- Another fault than being off the plane is the same on each surface, and an operation without a fault on a surface has none on each
+-- that is no larger.
 pub record FaultLaws : Type 0 where
-  pub in_record :
-      (operation : Operation) (state : State) (s : Surface) (fault : Fault)
-      → fault_of operation state s ≡ Some fault → IsInRecord fault
   pub only_off_plane :
-      (operation : Operation) (state : State) (s other : Surface) (fault : Fault)
+      (operation : Operation) (state : State) (s other : Surface) (fault : RecordFault)
       → fault ≢ OffPlane → fault_of operation state s ≡ Some fault → fault_of operation state other ≡ Some fault
   pub none_on_smaller :
       (operation : Operation) (state : State) (smaller larger : Surface) → ShowsFrame larger → IsNoLarger smaller larger

@@ -1,13 +1,14 @@
 -- The value of a path as a machine gathers it.
 use Rattle.std.specs.Prelude.{◌≡◌, ◌≢◌, ◌⊎◌, ⊤, ℕ, ◌<◌, ◌≤◌, Option, Some, None, Result, Ok, Err, Bool, true, false, List, [], length, vec_capacity}
-use Rattle.std.specs.Option.{option_or}
+use Rattle.std.specs.Option.{option_map, option_or}
 use Rattle.mapping.specs.Boxes.{IsBoxOf}
 use Rattle.mapping.specs.Plane.{MapNumbers}
 use Rattle.mapping.specs.Surface.{Surface}
 use Rattle.mapping.specs.declared.geometry.Point.{Point}
 use Rattle.mapping.specs.declared.page_map.PageMap.{PageMap}
 use Rattle.draw_ops.specs.declared.fault.Fault.{Fault}
-use Rattle.draw_ops.specs.declared.fault.Fault.TheVariants.{OutOfMemory}
+use Rattle.draw_ops.specs.declared.fault.Fault.TheVariants.{OutOfMemory, Record}
+use Rattle.draw_ops.specs.declared.record_fault.RecordFault.{RecordFault}
 use Rattle.dc_stack.specs.Drawing.{points_of_lists}
 use Rattle.dc_stack.specs.Figures.{all_figures, points_gone_on, points_of_figures}
 use Rattle.dc_stack.specs.Mapped.{mapped_list, mapped_point}
@@ -88,19 +89,19 @@ pub record IsSamePath (old new : GatheredPath) : Type 0 where
   pub room : vec_capacity old.pieces ≤ vec_capacity new.pieces
 
 -- the fault of an addition that makes so many pieces, of points as they are mapped
-abbrev pub addition_fault : ℕ → List Point → Surface → Option Fault
+abbrev pub addition_fault : ℕ → List Point → Surface → Option RecordFault
 addition_fault count points s = option_or (pieces_fault count) (off_plane_fault points s)
 
 -- memory was refused, though there is no fault: there was no room
-pub record WantsPieceRoom (first : Option Fault) (fault : Fault) (Lacks : Type 0) : Type 0 where
+pub record WantsPieceRoom (first : Option RecordFault) (fault : Fault) (Lacks : Type 0) : Type 0 where
   pub no_fault : first ≡ None
   pub memory : fault ≡ OutOfMemory
   pub lacks : Lacks
 
 -- an addition is accepted where it has no fault, and refused by its first fault, or for want of memory
-abbrev pub AnswersAddition : Result ⊤ Fault → Option Fault → Type 0 → Type 0
+abbrev pub AnswersAddition : Result ⊤ Fault → Option RecordFault → Type 0 → Type 0
 AnswersAddition (Ok done) first Lacks = first ≡ None
-AnswersAddition (Err fault) first Lacks = (first ≡ Some fault) ⊎ WantsPieceRoom first fault Lacks
+AnswersAddition (Err fault) first Lacks = (option_map Record first ≡ Some fault) ⊎ WantsPieceRoom first fault Lacks
 
 -- what lists that are figures of their own do to a path: lines of one list go on with it
 abbrev pub after_lists : Joining → List (List Point) → Path → Path

@@ -5,7 +5,7 @@ use Rattle.mapping.specs.Surface.{Surface}
 use Rattle.draw_ops.specs.Objects.{ObjectValue}
 use Rattle.draw_ops.specs.Operation.{Operation, create, fill_path, save, stroke_and_fill_path, stroke_path}
 use Rattle.draw_ops.specs.declared.fault.Fault.{Fault}
-use Rattle.draw_ops.specs.declared.fault.Fault.TheVariants.{OutOfMemory}
+use Rattle.draw_ops.specs.declared.fault.Fault.TheVariants.{OutOfMemory, Record}
 use Rattle.object_tables.specs.Table.{created_index, index_bound}
 use Rattle.dc_stack.specs.Drawing.{Drawing, drawing_of, tools_of}
 use Rattle.dc_stack.specs.Draws.{IsPlacedDraw, mark_of, paints_path}
@@ -109,7 +109,7 @@ pub record HasFullRoom (m : MachineState) : Type 0 where
 
 -- an operation is refused: by its fault, or for want of memory
 abbrev pub RefusesStep : Operation → MachineState → Fault → Type 0
-RefusesStep operation m fault = fault_of operation m.state m.surface ≡ Some fault ⊎ WantsRoom operation m fault
+RefusesStep operation m fault = option_map Record (fault_of operation m.state m.surface) ≡ Some fault ⊎ WantsRoom operation m fault
 
 -- an operation was played: the state is the next, and what it draws is told
 pub record HasPlayed (operation : Operation) (old new : MachineState) (draw : Option Draw) : Type 0 where

@@ -7,8 +7,8 @@ use Rattle.mapping.specs.declared.geometry.Rect.{Rect}
 use Rattle.mapping.specs.MapSettings.{is_page_point, offset_by, sets_zero_extent, viewport_origin_of, window_origin_of}
 use Rattle.mapping.specs.Surface.{Surface, lands_within_limits}
 use Rattle.draw_ops.specs.Blits.{SourceValue}
-use Rattle.draw_ops.specs.declared.fault.Fault.{Fault}
-use Rattle.draw_ops.specs.declared.fault.Fault.TheVariants.{OffPlane, SourceMissing, SourceOutside, TooManyCuts, TooManyEdges, ZeroExtent}
+use Rattle.draw_ops.specs.declared.record_fault.RecordFault.{RecordFault}
+use Rattle.draw_ops.specs.declared.record_fault.RecordFault.TheVariants.{OffPlane, SourceMissing, SourceOutside, TooManyCuts, TooManyEdges, ZeroExtent}
 use Rattle.draw_ops.specs.Operation.{Operation, no_effect, save, restore, set_background_mode, set_map_mode, set_raster_op, set_fill_mode, set_background_colour, set_window_origin, set_window_extent, set_viewport_origin, set_viewport_extent, offset_window_origin, offset_viewport_origin, exclude_clip, intersect_clip, remove_clip, move_to, line_to, pixel, rectangle, polyline, polygon, polyline_to, blit, create, select, select_palette, delete, begin_path, end_path, close_figure, abort_path, fill_path, stroke_path, stroke_and_fill_path}
 use Rattle.object_tables.specs.Table.{create_fault}
 use Rattle.raster_ops.specs.Sources.{is_inside}
@@ -24,40 +24,40 @@ use Rattle.dc_stack.specs.Selecting.{delete_fault, named_object, object_fault, p
 use Rattle.dc_stack.specs.State.{State}
 
 -- an extent of 0 is to be set
-abbrev pub zero_fault : Point → State → Option Fault
+abbrev pub zero_fault : Point → State → Option RecordFault
 zero_fault extent state = if sets_zero_extent extent state.dc.map then Some ZeroExtent else None
 
 -- an origin would leave the numbers of 32 bits
-abbrev pub origin_fault : Point → Option Fault
+abbrev pub origin_fault : Point → Option RecordFault
 origin_fault origin = if is_page_point origin then None else Some OffPlane
 
 -- one box more is cut out than there may be
-abbrev pub cut_fault : ClipValue → Option Fault
+abbrev pub cut_fault : ClipValue → Option RecordFault
 cut_fault clip = if nat_lt (length clip.cuts) cut_limit then None else Some TooManyCuts
 
 -- a drawing has more points than there may be
-abbrev pub edges_fault : Option Drawing → Option Fault
+abbrev pub edges_fault : Option Drawing → Option RecordFault
 edges_fault drawing = if nat_le (drawing_edges drawing) edge_limit then None else Some TooManyEdges
 
 -- an open path would have more pieces than it may, or else the drawing more points
-abbrev added_or_drawn_fault : Operation → State → Option Fault
+abbrev added_or_drawn_fault : Operation → State → Option RecordFault
 added_or_drawn_fault operation state = option_or (pieces_fault (piece_count (next operation state).path)) (edges_fault (drawing_of operation state))
 
 -- no path waits to be painted, or else the painting has more points than it may
-abbrev painting_fault : Operation → State → Option Fault
+abbrev painting_fault : Operation → State → Option RecordFault
 painting_fault operation state = option_or (finished_fault state.path) (edges_fault (drawing_of operation state))
 
 -- there is no bitmap, or the rectangle of it that is read has no pixel or doesn't lie inside
-abbrev pub given_fault : Option SourceValue → Option Fault
+abbrev pub given_fault : Option SourceValue → Option RecordFault
 given_fault None = Some SourceMissing
 given_fault (Some source) = if is_inside source then None else Some SourceOutside
 
 -- the same, where a ternary raster operation depends on the source; others don't look at it
-abbrev pub source_fault : ℕ → Option SourceValue → Option Fault
+abbrev pub source_fault : ℕ → Option SourceValue → Option RecordFault
 source_fault table source = if uses_source table then given_fault source else None
 
 -- the fault that doesn't depend on the surface
-abbrev pub plain_fault : Operation → State → Option Fault
+abbrev pub plain_fault : Operation → State → Option RecordFault
 plain_fault no_effect state = None
 plain_fault save state = save_fault state
 plain_fault (restore which) state = restore_fault (saved_place which (length state.saved))
@@ -157,17 +157,17 @@ abbrev pub plane_points : Operation → State → List Point
 plane_points operation state = points_kept operation state ++ points_drawn (drawing_of operation state)
 
 -- off the plane, where one of these mapped points isn't one of the plane, or doesn't land within the limits
-abbrev pub off_plane_fault : List Point → Surface → Option Fault
+abbrev pub off_plane_fault : List Point → Surface → Option RecordFault
 off_plane_fault points s = if list_all (λ point. lands_within_limits point s) points then None else Some OffPlane
 
 -- more points than one drawing may have, or else points off the plane
-abbrev pub points_fault : List Point → Surface → Option Fault
+abbrev pub points_fault : List Point → Surface → Option RecordFault
 points_fault points s = option_or (if nat_le (length points) edge_limit then None else Some TooManyEdges) (off_plane_fault points s)
 
 -- the fault that depends on the surface, and comes last
-abbrev pub place_fault : Operation → State → Surface → Option Fault
+abbrev pub place_fault : Operation → State → Surface → Option RecordFault
 place_fault operation state s = off_plane_fault (plane_points operation state) s
 
 -- the first fault of an operation
-abbrev pub fault_of : Operation → State → Surface → Option Fault
+abbrev pub fault_of : Operation → State → Surface → Option RecordFault
 fault_of operation state s = option_or (plain_fault operation state) (place_fault operation state s)

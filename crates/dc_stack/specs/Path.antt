@@ -2,8 +2,8 @@
 use Rattle.std.specs.Prelude.{ℕ, ◌+◌, Bool, true, false, if◌then◌else◌, nat_le, List, [], ◌∷◌, Option, Some, None}
 use Rattle.std.specs.List.{flat_map}
 use Rattle.mapping.specs.declared.geometry.Point.{Point}
-use Rattle.draw_ops.specs.declared.fault.Fault.{Fault}
-use Rattle.draw_ops.specs.declared.fault.Fault.TheVariants.{PathState, TooManyPieces}
+use Rattle.draw_ops.specs.declared.record_fault.RecordFault.{RecordFault}
+use Rattle.draw_ops.specs.declared.record_fault.RecordFault.TheVariants.{PathState, TooManyPieces}
 use Rattle.dc_stack.specs.Figures.{Figure, Figures, all_figures, with_current_done, with_lines, with_polygons, with_polylines}
 
 -- No path, one to which records add, with the number of pieces that it was gathered from, or one that waits to be painted.
@@ -78,19 +78,19 @@ unfoldable pub piece_limit : ℕ
 piece_limit = 65536
 
 -- there are more pieces than there may be
-abbrev pub pieces_fault : ℕ → Option Fault
+abbrev pub pieces_fault : ℕ → Option RecordFault
 pieces_fault count = if nat_le count piece_limit then None else Some TooManyPieces
 
 -- a path is begun where none is open
-abbrev pub begin_fault : Path → Option Fault
+abbrev pub begin_fault : Path → Option RecordFault
 begin_fault path = if is_open path then Some PathState else None
 
 -- a figure is closed, and a path ended, where a path is open
-abbrev pub open_fault : Path → Option Fault
+abbrev pub open_fault : Path → Option RecordFault
 open_fault path = if is_open path then None else Some PathState
 
 -- and a path is painted where one is finished
-abbrev pub finished_fault : Path → Option Fault
+abbrev pub finished_fault : Path → Option RecordFault
 finished_fault path = if is_finished path then None else Some PathState
 
 -- the figures of a path that waits to be painted

@@ -1,7 +1,7 @@
 -- Saving the state, and taking a saved one back ([MS-WMF] 2.3.5.10 and 2.3.5.11, [MS-EMF] 2.3.11).
 use Rattle.std.specs.Prelude.{ℕ, zero, suc, ◌-◌, ℤ, pos, negsuc, if◌then◌else◌, nat_lt, [], ◌∷◌, ◌++◌, length, take, Option, Some, None, slice_index_or}
-use Rattle.draw_ops.specs.declared.fault.Fault.{Fault}
-use Rattle.draw_ops.specs.declared.fault.Fault.TheVariants.{DepthLimit, NoSavedState}
+use Rattle.draw_ops.specs.declared.record_fault.RecordFault.{RecordFault}
+use Rattle.draw_ops.specs.declared.record_fault.RecordFault.TheVariants.{DepthLimit, NoSavedState}
 use Rattle.dc_stack.specs.State.{State}
 
 -- how many states are saved at most at a time
@@ -9,7 +9,7 @@ abbrev pub depth_limit : ℕ
 depth_limit = 256
 
 -- there is room for one more
-abbrev pub save_fault : State → Option Fault
+abbrev pub save_fault : State → Option RecordFault
 save_fault state = if nat_lt (length state.saved) depth_limit then None else Some DepthLimit
 
 -- the state with a copy of what drawings depend on saved, the newest last
@@ -30,7 +30,7 @@ saved_place (pos (suc n)) count = if nat_lt n count then Some n else None
 saved_place (negsuc n) count = if nat_lt n count then Some (count - suc n) else None
 
 -- no saved state has the place
-abbrev pub restore_fault : Option ℕ → Option Fault
+abbrev pub restore_fault : Option ℕ → Option RecordFault
 restore_fault None = Some NoSavedState
 restore_fault (Some place) = None
 

@@ -1,8 +1,8 @@
 -- Selecting objects, and which are held.
 use Rattle.std.specs.Prelude.{ℕ, Bool, false, ◌||◌, ◌==◌, if◌then◌else◌, ◌∷◌, Option, Some, None}
 use Rattle.std.specs.List.{list_any}
-use Rattle.draw_ops.specs.declared.fault.Fault.{Fault}
-use Rattle.draw_ops.specs.declared.fault.Fault.TheVariants.{HeldObject, NoSuchHandle, WrongKind}
+use Rattle.draw_ops.specs.declared.record_fault.RecordFault.{RecordFault}
+use Rattle.draw_ops.specs.declared.record_fault.RecordFault.TheVariants.{HeldObject, NoSuchHandle, WrongKind}
 use Rattle.draw_ops.specs.Objects.{ObjectValue, brush_object, font_object, palette_object, pen_object}
 use Rattle.object_tables.specs.Slots.{Slots, is_taken, object_at}
 use Rattle.dc_stack.specs.State.{DcValue, Selections, State}
@@ -17,7 +17,7 @@ abbrev pub own_index : ℕ → Option ℕ
 own_index index = if is_stock_index index then None else Some index
 
 -- the fault of selecting by SELECTOBJECT, which takes pens, brushes and fonts
-abbrev pub object_fault : Option ObjectValue → Option Fault
+abbrev pub object_fault : Option ObjectValue → Option RecordFault
 object_fault None = Some NoSuchHandle
 object_fault (Some (pen_object pen)) = None
 object_fault (Some (brush_object brush)) = None
@@ -25,7 +25,7 @@ object_fault (Some font_object) = None
 object_fault (Some palette_object) = Some WrongKind
 
 -- the fault of selecting by SELECTPALETTE, which takes palettes
-abbrev pub palette_fault : Option ObjectValue → Option Fault
+abbrev pub palette_fault : Option ObjectValue → Option RecordFault
 palette_fault None = Some NoSuchHandle
 palette_fault (Some (pen_object pen)) = Some WrongKind
 palette_fault (Some (brush_object brush)) = Some WrongKind
@@ -68,5 +68,5 @@ abbrev pub is_held : ℕ → State → Bool
 is_held index state = list_any (λ (dc : DcValue). selects index dc.selected) (state.dc ∷ state.saved)
 
 -- an object is deleted where the table has it, and nothing holds it
-abbrev pub delete_fault : ℕ → State → Option Fault
+abbrev pub delete_fault : ℕ → State → Option RecordFault
 delete_fault index state = if is_taken index state.slots then (if is_held index state then Some HeldObject else None) else Some NoSuchHandle

@@ -21,7 +21,7 @@ use crate::piece::{Joining, PiecePoints};
 use crate::piece_landing::land_piece;
 use crate::plane_box::joined;
 use crate::projection::Projection;
-use draw_ops::Fault;
+use draw_ops::{Fault, RecordFault};
 use mapping::Point;
 
 impl<'a> GatheredPath<'a> {
@@ -43,11 +43,11 @@ impl<'a> GatheredPath<'a> {
         ensures room { vec_capacity self.old.pieces ≤ vec_capacity self.new.pieces }
     {
         if !self.may_add(1) {
-            return Err(Fault::TooManyPieces);
+            return Err(Fault::Record(RecordFault::TooManyPieces));
         }
         let bounds = match land_piece(by, points) {
             Ok(added) => joined(self.bounds, added),
-            Err(fault) => return Err(fault),
+            Err(fault) => return Err(Fault::Record(fault)),
         };
         match self.make_room(1) {
             Ok(()) => {
@@ -75,16 +75,16 @@ impl<'a> GatheredPath<'a> {
         ensures room { vec_capacity self.old.pieces ≤ vec_capacity self.new.pieces }
     {
         if !self.may_add(2) {
-            return Err(Fault::TooManyPieces);
+            return Err(Fault::Record(RecordFault::TooManyPieces));
         }
         let start = PiecePoints::Point(position);
         let first = match land_piece(by, start) {
             Ok(added) => joined(self.bounds, added),
-            Err(fault) => return Err(fault),
+            Err(fault) => return Err(Fault::Record(fault)),
         };
         let bounds = match land_piece(by, points) {
             Ok(added) => joined(first, added),
-            Err(fault) => return Err(fault),
+            Err(fault) => return Err(Fault::Record(fault)),
         };
         match self.make_room(2) {
             Ok(()) => {

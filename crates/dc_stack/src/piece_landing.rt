@@ -16,12 +16,15 @@ use crate::piece::PiecePoints;
 use crate::placing::{land, land_box};
 use crate::plane_box::plane_box;
 use crate::projection::Projection;
-use draw_ops::Fault;
+use draw_ops::RecordFault;
 use mapping::{Point, Rect, box_law};
 use point_views::Polys;
 
 /// The least box around the points of a piece on the plane, or `OffPlane` where one of them doesn't land.
-pub(crate) fn land_piece(by: &Projection, points: PiecePoints<'_>) -> Result<Option<Rect>, Fault>
+pub(crate) fn land_piece(
+    by: &Projection,
+    points: PiecePoints<'_>,
+) -> Result<Option<Rect>, RecordFault>
     ensures fault { result_err result ≡ off_plane_fault (plane_list by.now.map (page_points points.entry)) (surface_of by.now.place) }
     ensures least { IfOk result (λ bounds. IsBoxOf bounds (points_of_lists (plane_lists (map_numbers by.now.map) points.entry))) }
 {
@@ -37,7 +40,7 @@ pub(crate) fn land_piece(by: &Projection, points: PiecePoints<'_>) -> Result<Opt
 }
 
 /// The box around a point.
-fn land_point(by: &Projection, point: Point) -> Result<Option<Rect>, Fault>
+fn land_point(by: &Projection, point: Point) -> Result<Option<Rect>, RecordFault>
     ensures fault { result_err result ≡ off_plane_fault (plane_list by.now.map (point ∷ [])) (surface_of by.now.place) }
     ensures least { IfOk result (λ bounds. IsBoxOf bounds (mapped_point (map_numbers by.now.map) point ∷ [])) }
 {
@@ -49,7 +52,7 @@ fn land_point(by: &Projection, point: Point) -> Result<Option<Rect>, Fault>
 }
 
 /// The box between two corners.
-fn land_corners(by: &Projection, corners: Rect) -> Result<Option<Rect>, Fault>
+fn land_corners(by: &Projection, corners: Rect) -> Result<Option<Rect>, RecordFault>
     ensures fault { result_err result ≡ off_plane_fault (mapped_corners (map_numbers by.now.map) corners) (surface_of by.now.place) }
     ensures least { IfOk result (λ bounds. IsBoxOf bounds (box_corners (mapped_box (map_numbers by.now.map) corners))) }
 {

@@ -17,7 +17,7 @@ ghost use Rattle.dc_stack.specs.Placing.{joined_plane_list, plane_list};
 
 use crate::clip::ClipBox;
 use crate::plane_box::{joined, least, plane_box};
-use draw_ops::{Blit, Fault};
+use draw_ops::{Blit, RecordFault};
 use mapping::{PageMap, Place, Point, Rect, box_law, limits_law, placing_law};
 use point_views::{Points, Polys};
 
@@ -32,7 +32,7 @@ struct WidePoint {
 }
 
 /// A page point on the plane, or `OffPlane` where it leaves the plane or the range of placed coordinates.
-pub(crate) fn land(map: &PageMap, place: Place, point: Point) -> Result<Point, Fault>
+pub(crate) fn land(map: &PageMap, place: Place, point: Point) -> Result<Point, RecordFault>
     ensures fault { result_err result ≡ off_plane_fault (plane_list map.now (point ∷ [])) (surface_of place) }
     ensures plane { IfOk result (λ plane. plane ≡ mapped_point (map_numbers map.now) point) }
 {
@@ -42,15 +42,15 @@ pub(crate) fn land(map: &PageMap, place: Place, point: Point) -> Result<Point, F
 }
 
 /// The same for a point that may be outside of the page's own numbers.
-fn land_wide(map: &PageMap, place: Place, point: WidePoint) -> Result<Point, Fault>
+fn land_wide(map: &PageMap, place: Place, point: WidePoint) -> Result<Point, RecordFault>
     ensures fault { result_err result ≡ off_plane_fault (plane_point (map_numbers map.now) point.x point.y ∷ []) (surface_of place) }
     ensures plane { IfOk result (λ plane. plane ≡ plane_point (map_numbers map.now) point.x point.y) }
 {
     let Some(plane) = plane_point(map, point) else {
-        return Err(Fault::OffPlane);
+        return Err(RecordFault::OffPlane);
     };
     if !place.fits(plane) {
-        return Err(Fault::OffPlane);
+        return Err(RecordFault::OffPlane);
     }
     Ok(plane)
 }
@@ -69,7 +69,7 @@ pub(crate) fn land_pair(
     place: Place,
     first: Point,
     second: Point,
-) -> Result<(Point, Point), Fault>
+) -> Result<(Point, Point), RecordFault>
     ensures fault { result_err result ≡ off_plane_fault (plane_list map.now (first ∷ second ∷ [])) (surface_of place) }
     ensures first { IfOk result (λ r. r.0 ≡ mapped_point (map_numbers map.now) first) }
     ensures second { IfOk result (λ r. r.1 ≡ mapped_point (map_numbers map.now) second) }
@@ -90,7 +90,7 @@ pub(crate) fn land_blit(
     map: &PageMap,
     place: Place,
     asked: &Blit<'_>,
-) -> Result<(Point, Point), Fault>
+) -> Result<(Point, Point), RecordFault>
     ensures fault { result_err result ≡ off_plane_fault (blit_corners (map_numbers map.now) (blit_value_of asked.now)) (surface_of place) }
     ensures first { IfOk result (λ r. r.0 ≡ mapped_point (map_numbers map.now) asked.now.corner) }
     ensures second { IfOk result (λ r. r.1 ≡ mapped_point (map_numbers map.now) (far_corner (blit_value_of asked.now))) }
@@ -131,7 +131,7 @@ pub(crate) fn land_lists(
     map: &PageMap,
     place: Place,
     lists: Polys<'_>,
-) -> Result<LandedPoints, Fault>
+) -> Result<LandedPoints, RecordFault>
     ensures fault { result_err result ≡ points_fault (joined_plane_list map.now (lists_of lists.entry)) (surface_of place) }
     ensures count { IfOk result (λ e. e.count ≡ length (joined_plane_list map.now (lists_of lists.entry))) }
     ensures few { IfOk result (λ e. length (joined_plane_list map.now (lists_of lists.entry)) ≤ edge_limit) }
@@ -139,7 +139,7 @@ pub(crate) fn land_lists(
 {
     let points = lists.points();
     if points.len() > MAX_EDGES {
-        return Err(Fault::TooManyEdges);
+        return Err(RecordFault::TooManyEdges);
     }
     match plane_box(map, place, points) {
         Ok(bounds) => Ok(LandedPoints {
@@ -157,14 +157,14 @@ pub(crate) fn land_through(
     place: Place,
     start: Point,
     points: Points<'_>,
-) -> Result<(Point, LandedPoints), Fault>
+) -> Result<(Point, LandedPoints), RecordFault>
     ensures fault { result_err result ≡ points_fault (plane_list map.now (start ∷ points_of points.entry)) (surface_of place) }
     ensures from { IfOk result (λ r. r.0 ≡ mapped_point (map_numbers map.now) start) }
     ensures count { IfOk result (λ r. r.1.count ≡ suc (length (points_of points.entry))) }
     ensures bounds { IfOk result (λ r. IsLeastBox r.1.bounds (plane_list map.now (start ∷ points_of points.entry))) }
 {
     if points.len() >= MAX_EDGES {
-        return Err(Fault::TooManyEdges);
+        return Err(RecordFault::TooManyEdges);
     }
     let from = match land(map, place, start) {
         Ok(from) => from,
@@ -185,7 +185,7 @@ pub(crate) fn land_through(
 }
 
 /// A box of the page on the plane, its corners put in order, or `OffPlane` where one of them doesn't land.
-pub(crate) fn land_box(map: &PageMap, place: Place, corners: Rect) -> Result<Rect, Fault>
+pub(crate) fn land_box(map: &PageMap, place: Place, corners: Rect) -> Result<Rect, RecordFault>
     ensures fault { result_err result ≡ off_plane_fault (mapped_corners (map_numbers map.now) corners) (surface_of place) }
     ensures plane { IfOk result (λ plane. plane ≡ mapped_box (map_numbers map.now) corners) }
 {
@@ -196,7 +196,11 @@ pub(crate) fn land_box(map: &PageMap, place: Place, corners: Rect) -> Result<Rec
 }
 
 /// The same for a box of the clip, and where that lands on the surface.
-pub(crate) fn land_clip_box(map: &PageMap, place: Place, corners: Rect) -> Result<ClipBox, Fault>
+pub(crate) fn land_clip_box(
+    map: &PageMap,
+    place: Place,
+    corners: Rect,
+) -> Result<ClipBox, RecordFault>
     ensures fault { result_err result ≡ off_plane_fault (mapped_corners (map_numbers map.now) corners) (surface_of place) }
     ensures plane { IfOk result (λ b. b.plane ≡ mapped_box (map_numbers map.now) corners) }
     ensures placed { IfOk result (λ b. b.placed ≡ placed_box (surface_of place) b.plane) }

@@ -10,7 +10,7 @@ ghost use Rattle.dc_stack.specs.OperationFault.{off_plane_fault};
 ghost use Rattle.dc_stack.specs.Placing.{plane_list};
 
 use crate::placing::land_box;
-use draw_ops::Fault;
+use draw_ops::RecordFault;
 use mapping::{PageMap, Place, Rect, box_law};
 use point_views::Points;
 
@@ -20,7 +20,7 @@ pub(crate) fn plane_box(
     map: &PageMap,
     place: Place,
     points: Points<'_>,
-) -> Result<Option<Rect>, Fault>
+) -> Result<Option<Rect>, RecordFault>
     ensures fault { result_err result ≡ off_plane_fault (plane_list map.now (points_of points.entry)) (surface_of place) }
     ensures least { IfOk result (λ bounds. IsBoxOf bounds (plane_list map.now (points_of points.entry))) }
 {

@@ -1,6 +1,6 @@
 -- What a source has left is the content of its bytes.
 use Rattle.std.proofs.Common.{◌≡◌, ℕ, zero, suc, ◌-◌, ◌≤◌, Bool, true, false, List, length, Option, Some, None, Result, Ok, Err, eqb, cond, refl, sym, ap, ◌∙◌, arith}
-use Rattle.draw_ops.specs.declared.fault.Fault.{Fault}
+use Rattle.draw_ops.specs.declared.record_fault.RecordFault.{RecordFault}
 use Rattle.draw_ops.specs.Content.{Content, StepValue, nothing_left}
 use Rattle.draw_ops.specs.Meaning.{Meaning, MeantValue, step_meant}
 use Rattle.draw_ops.specs.Reading.{content_from, front_step, first_then}
@@ -11,13 +11,13 @@ use Rattle.draw_ops.specs.Framed.{framed_from, from_fault, from_record}
 use Rattle.draw_ops.proofs.FramedLemmas.{is_framed, only_way, too_many}
 
 -- the record in front by its meaning, and whether it ends the file
-by_meaning : (f : Framing) (meaning : Meaning) (number : ℕ) (bytes : List ℕ) (m : Result MeantValue Fault) (b : Bool) (rest : Content) (framed : Framed) → meaning number (front_of f bytes) ≡ m → eqb (kind_of f bytes) f.end_kind ≡ b → rest ≡ content_of f meaning (suc number) framed → first_then f bytes (result_map (step_meant b (rest_of f bytes) number) m) rest ≡ content_of f meaning number (from_record b (front_of f bytes) (rest_of f bytes) framed)
+by_meaning : (f : Framing) (meaning : Meaning) (number : ℕ) (bytes : List ℕ) (m : Result MeantValue RecordFault) (b : Bool) (rest : Content) (framed : Framed) → meaning number (front_of f bytes) ≡ m → eqb (kind_of f bytes) f.end_kind ≡ b → rest ≡ content_of f meaning (suc number) framed → first_then f bytes (result_map (step_meant b (rest_of f bytes) number) m) rest ≡ content_of f meaning number (from_record b (front_of f bytes) (rest_of f bytes) framed)
 by_meaning f meaning number bytes (Err fault) true rest framed p q e = rw p refl
 by_meaning f meaning number bytes (Err fault) false rest framed p q e = rw p refl
 by_meaning f meaning number bytes (Ok meant) true rest framed p q e = rw (p, q) refl
 by_meaning f meaning number bytes (Ok meant) false rest framed p q e = rw (p, q, e) refl
 
-by_fault : (f : Framing) (meaning : Meaning) (number : ℕ) (bytes : List ℕ) (o : Option Fault) (first : Result StepValue Fault) (rest : Content) (framed : Framed) → first_then f bytes first rest ≡ content_of f meaning number framed → first_then f bytes (result_unless o first) rest ≡ content_of f meaning number (from_fault o framed)
+by_fault : (f : Framing) (meaning : Meaning) (number : ℕ) (bytes : List ℕ) (o : Option RecordFault) (first : Result StepValue RecordFault) (rest : Content) (framed : Framed) → first_then f bytes first rest ≡ content_of f meaning number framed → first_then f bytes (result_unless o first) rest ≡ content_of f meaning number (from_fault o framed)
 by_fault f meaning number bytes None first rest framed e = e
 by_fault f meaning number bytes (Some fault) first rest framed e = refl
 
@@ -59,7 +59,7 @@ short_cond : (b : Bool) (rest : Content) (room : ℕ) → length rest.steps ≤ 
 short_cond true rest room h = omega arith
 short_cond false rest room h = h
 
-short_first : (f : Framing) (bytes : List ℕ) (first : Result StepValue Fault) (rest : Content) (room : ℕ) → length rest.steps ≤ room → length (first_then f bytes first rest).steps ≤ suc room
+short_first : (f : Framing) (bytes : List ℕ) (first : Result StepValue RecordFault) (rest : Content) (room : ℕ) → length rest.steps ≤ room → length (first_then f bytes first rest).steps ≤ suc room
 short_first f bytes (Err fault) rest room h = omega arith
 short_first f bytes (Ok first) rest room h = let shorter = short_cond (eqb (kind_of f bytes) f.end_kind) rest room h in omega arith
 

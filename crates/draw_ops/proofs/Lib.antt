@@ -2,3 +2,4 @@ pub mod NoteLemmas
 pub mod NoteSetLemmas
 pub mod FramedLemmas
 pub mod ContentLemmas
+pub mod TableLemmas

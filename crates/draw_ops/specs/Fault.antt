@@ -1,13 +1,14 @@
 -- What a fault shows beside its row of the table.
-use Rattle.std.specs.Prelude.{ℕ, List, [], ◌++◌, Option, Some, None, decimal, codes, IsTrue}
+use Rattle.std.specs.Prelude.{ℕ, List, [], ◌++◌, Option, Some, None, decimal, codes}
 use Rattle.draw_ops.specs.FaultTable.{fault_row}
 use Rattle.draw_ops.specs.declared.fault.Fault.{Fault}
-use Rattle.draw_ops.specs.declared.fault.Fault.TheVariants.{UnknownRecord, Unsupported}
+use Rattle.draw_ops.specs.declared.fault.Fault.TheVariants.{Record}
+use Rattle.draw_ops.specs.declared.record_fault.RecordFault.TheVariants.{UnknownRecord, Unsupported}
 
 -- the kind of the record that a fault speaks of, its function or type
 abbrev pub record_kind_of : Fault → Option ℕ
-record_kind_of (UnknownRecord kind) = Some kind
-record_kind_of (Unsupported kind) = Some kind
+record_kind_of (Record (UnknownRecord kind)) = Some kind
+record_kind_of (Record (Unsupported kind)) = Some kind
 record_kind_of _ = None
 
 -- a blank and the kind, where there is one
@@ -21,4 +22,5 @@ text_of fault = (fault_row fault).name ++ kind_text (record_kind_of fault)
 
 -- the fault lies in a record, so a refusal says in which
 abbrev pub IsInRecord : Fault → Type 0
-IsInRecord fault = IsTrue (fault_row fault).in_record
+IsInRecord (Record fault) = Unit {0}
+IsInRecord _ = ⊥

@@ -1,61 +1,61 @@
--- The table of faults: the code and the name of each, and whether it lies in a record.
-use Rattle.std.specs.Prelude.{ℕ, Bool, true, false, List, codes}
+-- The table of faults: the code and the name of each.
+use Rattle.std.specs.Prelude.{ℕ, List, codes}
 use Rattle.draw_ops.specs.declared.fault.Fault.{Fault}
-use Rattle.draw_ops.specs.declared.fault.Fault.TheVariants.{TooLong, NotMetafile, ShortHeader, BadHeader, NoFrame, NotCertificate, ShortCertificate, BadBound, TrailingBytes, NoEnd, ShortRecord, PastEnd, TooManyRecords, UnknownRecord, Unsupported, BadParams, BadValue, PaletteColour, MetricMode, BadDib, CompressedDib, ShortDib, TableFull, HandleTaken, NoSuchHandle, WrongKind, HeldObject, NoSavedState, DepthLimit, TooManyCuts, ZeroExtent, OffPlane, SourceMissing, SourceOutside, PathState, TooManyEdges, TooManyPieces, WrongEntry, BoxTooSmall, NeedTooSmall, BudgetTooSmall, SurfaceTooLarge, BadImage, WriteFault, OutOfMemory}
+use Rattle.draw_ops.specs.declared.fault.Fault.TheVariants.{TooLong, NotMetafile, ShortHeader, BadHeader, NoFrame, NotCertificate, ShortCertificate, BadBound, TrailingBytes, Record, NeedTooSmall, BudgetTooSmall, SurfaceTooLarge, BadImage, WriteFault, OutOfMemory}
+use Rattle.draw_ops.specs.declared.record_fault.RecordFault.TheVariants.{NoEnd, ShortRecord, PastEnd, TooManyRecords, UnknownRecord, Unsupported, BadParams, BadValue, PaletteColour, MetricMode, BadDib, CompressedDib, ShortDib, TableFull, HandleTaken, NoSuchHandle, WrongKind, HeldObject, NoSavedState, DepthLimit, TooManyCuts, ZeroExtent, OffPlane, SourceMissing, SourceOutside, PathState, TooManyEdges, TooManyPieces, WrongEntry, BoxTooSmall}
 
--- a fault's code and name, and whether it lies in a record
+-- a fault's code and name
 pub record FaultRow : Type 0 where
   pub code : ℕ
   pub name : List ℕ
-  pub in_record : Bool
 
-abbrev row : ℕ → List ℕ → Bool → FaultRow
-row code name in_record = record { code = code; name = name; in_record = in_record }
+abbrev row : ℕ → List ℕ → FaultRow
+row code name = record { code = code; name = name }
 
 -- the row of each fault
 abbrev pub fault_row : Fault → FaultRow
-fault_row TooLong = row 1 (codes "TooLong") false
-fault_row NotMetafile = row 2 (codes "NotMetafile") false
-fault_row ShortHeader = row 3 (codes "ShortHeader") false
-fault_row BadHeader = row 4 (codes "BadHeader") false
-fault_row NoFrame = row 5 (codes "NoFrame") false
-fault_row NotCertificate = row 6 (codes "NotCertificate") false
-fault_row ShortCertificate = row 7 (codes "ShortCertificate") false
-fault_row BadBound = row 8 (codes "BadBound") false
-fault_row TrailingBytes = row 9 (codes "TrailingBytes") false
-fault_row NoEnd = row 10 (codes "NoEnd") true
-fault_row ShortRecord = row 11 (codes "ShortRecord") true
-fault_row PastEnd = row 12 (codes "PastEnd") true
-fault_row TooManyRecords = row 13 (codes "TooManyRecords") true
-fault_row (UnknownRecord kind) = row 14 (codes "UnknownRecord") true
-fault_row (Unsupported kind) = row 15 (codes "Unsupported") true
-fault_row BadParams = row 16 (codes "BadParams") true
-fault_row BadValue = row 17 (codes "BadValue") true
-fault_row PaletteColour = row 18 (codes "PaletteColour") true
-fault_row MetricMode = row 19 (codes "MetricMode") true
-fault_row BadDib = row 20 (codes "BadDib") true
-fault_row CompressedDib = row 21 (codes "CompressedDib") true
-fault_row ShortDib = row 22 (codes "ShortDib") true
-fault_row TableFull = row 23 (codes "TableFull") true
-fault_row HandleTaken = row 24 (codes "HandleTaken") true
-fault_row NoSuchHandle = row 25 (codes "NoSuchHandle") true
-fault_row WrongKind = row 26 (codes "WrongKind") true
-fault_row HeldObject = row 27 (codes "HeldObject") true
-fault_row NoSavedState = row 28 (codes "NoSavedState") true
-fault_row DepthLimit = row 29 (codes "DepthLimit") true
-fault_row TooManyCuts = row 30 (codes "TooManyCuts") true
-fault_row ZeroExtent = row 31 (codes "ZeroExtent") true
-fault_row OffPlane = row 32 (codes "OffPlane") true
-fault_row SourceMissing = row 33 (codes "SourceMissing") true
-fault_row SourceOutside = row 34 (codes "SourceOutside") true
-fault_row PathState = row 35 (codes "PathState") true
-fault_row TooManyEdges = row 36 (codes "TooManyEdges") true
-fault_row TooManyPieces = row 37 (codes "TooManyPieces") true
-fault_row WrongEntry = row 38 (codes "WrongEntry") true
-fault_row BoxTooSmall = row 39 (codes "BoxTooSmall") true
-fault_row NeedTooSmall = row 40 (codes "NeedTooSmall") false
-fault_row BudgetTooSmall = row 41 (codes "BudgetTooSmall") false
-fault_row SurfaceTooLarge = row 42 (codes "SurfaceTooLarge") false
-fault_row BadImage = row 43 (codes "BadImage") false
-fault_row WriteFault = row 44 (codes "WriteFault") false
-fault_row OutOfMemory = row 45 (codes "OutOfMemory") false
+fault_row TooLong = row 1 (codes "TooLong")
+fault_row NotMetafile = row 2 (codes "NotMetafile")
+fault_row ShortHeader = row 3 (codes "ShortHeader")
+fault_row BadHeader = row 4 (codes "BadHeader")
+fault_row NoFrame = row 5 (codes "NoFrame")
+fault_row NotCertificate = row 6 (codes "NotCertificate")
+fault_row ShortCertificate = row 7 (codes "ShortCertificate")
+fault_row BadBound = row 8 (codes "BadBound")
+fault_row TrailingBytes = row 9 (codes "TrailingBytes")
+fault_row (Record NoEnd) = row 10 (codes "NoEnd")
+fault_row (Record ShortRecord) = row 11 (codes "ShortRecord")
+fault_row (Record PastEnd) = row 12 (codes "PastEnd")
+fault_row (Record TooManyRecords) = row 13 (codes "TooManyRecords")
+fault_row (Record (UnknownRecord kind)) = row 14 (codes "UnknownRecord")
+fault_row (Record (Unsupported kind)) = row 15 (codes "Unsupported")
+fault_row (Record BadParams) = row 16 (codes "BadParams")
+fault_row (Record BadValue) = row 17 (codes "BadValue")
+fault_row (Record PaletteColour) = row 18 (codes "PaletteColour")
+fault_row (Record MetricMode) = row 19 (codes "MetricMode")
+fault_row (Record BadDib) = row 20 (codes "BadDib")
+fault_row (Record CompressedDib) = row 21 (codes "CompressedDib")
+fault_row (Record ShortDib) = row 22 (codes "ShortDib")
+fault_row (Record TableFull) = row 23 (codes "TableFull")
+fault_row (Record HandleTaken) = row 24 (codes "HandleTaken")
+fault_row (Record NoSuchHandle) = row 25 (codes "NoSuchHandle")
+fault_row (Record WrongKind) = row 26 (codes "WrongKind")
+fault_row (Record HeldObject) = row 27 (codes "HeldObject")
+fault_row (Record NoSavedState) = row 28 (codes "NoSavedState")
+fault_row (Record DepthLimit) = row 29 (codes "DepthLimit")
+fault_row (Record TooManyCuts) = row 30 (codes "TooManyCuts")
+fault_row (Record ZeroExtent) = row 31 (codes "ZeroExtent")
+fault_row (Record OffPlane) = row 32 (codes "OffPlane")
+fault_row (Record SourceMissing) = row 33 (codes "SourceMissing")
+fault_row (Record SourceOutside) = row 34 (codes "SourceOutside")
+fault_row (Record PathState) = row 35 (codes "PathState")
+fault_row (Record TooManyEdges) = row 36 (codes "TooManyEdges")
+fault_row (Record TooManyPieces) = row 37 (codes "TooManyPieces")
+fault_row (Record WrongEntry) = row 38 (codes "WrongEntry")
+fault_row (Record BoxTooSmall) = row 39 (codes "BoxTooSmall")
+fault_row NeedTooSmall = row 40 (codes "NeedTooSmall")
+fault_row BudgetTooSmall = row 41 (codes "BudgetTooSmall")
+fault_row SurfaceTooLarge = row 42 (codes "SurfaceTooLarge")
+fault_row BadImage = row 43 (codes "BadImage")
+fault_row WriteFault = row 44 (codes "WriteFault")
+fault_row OutOfMemory = row 45 (codes "OutOfMemory")

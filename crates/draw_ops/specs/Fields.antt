@@ -4,11 +4,11 @@ use Rattle.mapping.specs.declared.geometry.Colour.{Colour}
 use Rattle.mapping.specs.declared.geometry.Point.{Point}
 use Rattle.mapping.specs.declared.geometry.Rect.{Rect}
 use Rattle.point_views.specs.Numbers.{number_at, i16_at, i32_at}
-use Rattle.draw_ops.specs.declared.fault.Fault.{Fault}
-use Rattle.draw_ops.specs.declared.fault.Fault.TheVariants.{BadParams, PaletteColour}
+use Rattle.draw_ops.specs.declared.record_fault.RecordFault.{RecordFault}
+use Rattle.draw_ops.specs.declared.record_fault.RecordFault.TheVariants.{BadParams, PaletteColour}
 
 -- a record of fewer bytes than its parameters need has bad parameters
-abbrev pub needs_bytes : {T : Type 0} → ℕ → List ℕ → Result T Fault → Result T Fault
+abbrev pub needs_bytes : {T : Type 0} → ℕ → List ℕ → Result T RecordFault → Result T RecordFault
 needs_bytes count bytes value = if nat_lt (length bytes) count then Err BadParams else value
 
 -- the point at a place, of which WMF's records have y before x, two bytes each
@@ -32,7 +32,7 @@ abbrev pub is_rgb : ℕ → Bool
 is_rgb colour_type = colour_type == 0 || colour_type == 2
 
 -- the colour at a place: red, green and blue, or a colour of a palette
-abbrev pub rgb_at : List ℕ → ℕ → Result Colour Fault
+abbrev pub rgb_at : List ℕ → ℕ → Result Colour RecordFault
 rgb_at bytes place =
     if is_rgb (number_at bytes (place + 3) 1)
     then Ok (record { r = number_at bytes place 1; g = number_at bytes (place + 1) 1; b = number_at bytes (place + 2) 1 })

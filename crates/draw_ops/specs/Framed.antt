@@ -1,11 +1,11 @@
 -- How any bytes are framed, as a function.
 use Rattle.std.specs.Prelude.{ℕ, zero, suc, Bool, true, false, ◌==◌, List, [], ◌∷◌, Option, Some, None}
 use Rattle.draw_ops.specs.Records.{Framing, Record, Framed, IsFramed, framing_fault, kind_of, front_of, rest_of, record_limit}
-use Rattle.draw_ops.specs.declared.fault.Fault.{Fault}
-use Rattle.draw_ops.specs.declared.fault.Fault.TheVariants.{TooManyRecords}
+use Rattle.draw_ops.specs.declared.record_fault.RecordFault.{RecordFault}
+use Rattle.draw_ops.specs.declared.record_fault.RecordFault.TheVariants.{TooManyRecords}
 
 -- no record, and a fault
-abbrev pub broken : Fault → Framed
+abbrev pub broken : RecordFault → Framed
 broken fault = record { records = []; fault = Some fault; behind = [] }
 
 -- the end record alone, and the bytes behind it
@@ -22,7 +22,7 @@ from_record true r rest framed = alone r rest
 from_record false r rest framed = in_front r framed
 
 -- a fault, if there is one, in place of the rest
-abbrev pub from_fault : Option Fault → Framed → Framed
+abbrev pub from_fault : Option RecordFault → Framed → Framed
 from_fault (Some fault) framed = broken fault
 from_fault None framed = framed
 

@@ -2,7 +2,7 @@
 use Rattle.std.specs.Prelude.{◌≡◌, Option, Some, None, Result, Ok, Err}
 use Rattle.draw_ops.specs.Content.{Content, nothing_left, broken_by, with_step}
 use Rattle.draw_ops.specs.StepOf.{step_value_of}
-use Rattle.draw_ops.specs.declared.fault.Fault.{Fault}
+use Rattle.draw_ops.specs.declared.record_fault.RecordFault.{RecordFault}
 use Rattle.draw_ops.specs.declared.step.Step.{Step}
 
 -- the content is this, and stays so
@@ -11,7 +11,7 @@ pub record Stays (this old new : Content) : Type 0 where
   pub stays : new ≡ old
 
 -- The first step, and the others are left. Or, where no step is left, none or the fault; that stays so, and the next call gives the same again.
-abbrev pub Gives : Content → Result (Option Step) Fault → Content → Type 0
+abbrev pub Gives : Content → Result (Option Step) RecordFault → Content → Type 0
 Gives old (Ok (Some step)) new = old ≡ with_step (step_value_of step) new
 Gives old (Ok None) new = Stays nothing_left old new
 Gives old (Err fault) new = Stays (broken_by fault) old new

@@ -31,3 +31,4 @@ pub mod Modes
 pub mod PenRecords
 pub mod BrushRecords
 pub mod BitmapRecords
+pub mod TableLaws

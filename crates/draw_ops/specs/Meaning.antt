@@ -6,7 +6,7 @@ use Rattle.draw_ops.specs.NoteKinds.{noted}
 use Rattle.draw_ops.specs.Operation.{Operation}
 use Rattle.draw_ops.specs.Records.{Framing, Record}
 use Rattle.draw_ops.specs.Results.{result_map}
-use Rattle.draw_ops.specs.declared.fault.Fault.{Fault}
+use Rattle.draw_ops.specs.declared.record_fault.RecordFault.{RecordFault}
 use Rattle.draw_ops.specs.declared.note.Note.{Note}
 use Rattle.draw_ops.specs.declared.note.Note.TheVariants.{AfterEnd}
 
@@ -17,7 +17,7 @@ pub record MeantValue : Type 0 where
 
 -- what the record with a number in the file means
 abbrev pub Meaning : Type 0
-Meaning = ℕ → Record → Result MeantValue Fault
+Meaning = ℕ → Record → Result MeantValue RecordFault
 
 -- what is noted of a record: with the end record also that bytes lie behind it
 abbrev pub end_notes : Bool → List ℕ → List ℕ → List ℕ
@@ -30,7 +30,7 @@ abbrev pub step_meant : Bool → List ℕ → ℕ → MeantValue → StepValue
 step_meant is_last behind number meant = record { number = number; operation = meant.operation; notes = end_notes is_last behind meant.notes }
 
 -- the step of a record, where these bytes lie behind the end record, or its fault
-abbrev pub step_of : Framing → Meaning → List ℕ → ℕ → Record → Result StepValue Fault
+abbrev pub step_of : Framing → Meaning → List ℕ → ℕ → Record → Result StepValue RecordFault
 step_of f meaning behind number r = result_map (step_meant (r.kind == f.end_kind) behind number) (meaning number r)
 
 -- an operation of which one kind is to be noted
@@ -42,5 +42,5 @@ abbrev pub unnoted : Operation → MeantValue
 unnoted operation = record { operation = operation; notes = no_notes }
 
 -- an operation of which nothing is to be noted, made of a value that may be a fault
-abbrev pub plain : {T : Type 0} → (T → Operation) → Result T Fault → Result MeantValue Fault
+abbrev pub plain : {T : Type 0} → (T → Operation) → Result T RecordFault → Result MeantValue RecordFault
 plain make value = result_map (λ x. unnoted (make x)) value

@@ -8,8 +8,8 @@ use Rattle.draw_ops.specs.NoteKinds.{noted}
 use Rattle.draw_ops.specs.Objects.{pen_object}
 use Rattle.draw_ops.specs.Operation.{create}
 use Rattle.draw_ops.specs.Results.{result_map}
-use Rattle.draw_ops.specs.declared.fault.Fault.{Fault}
-use Rattle.draw_ops.specs.declared.fault.Fault.TheVariants.{BadValue}
+use Rattle.draw_ops.specs.declared.record_fault.RecordFault.{RecordFault}
+use Rattle.draw_ops.specs.declared.record_fault.RecordFault.TheVariants.{BadValue}
 use Rattle.draw_ops.specs.declared.note.Note.TheVariants.{DashedPen, WidePen}
 use Rattle.draw_ops.specs.declared.objects.Pen.{Pen}
 use Rattle.draw_ops.specs.declared.objects.Pen.TheVariants.{Null as NullPen, Solid as SolidPen}
@@ -25,7 +25,7 @@ abbrev pub pen_style_of : ℕ → Option PenStyle
 pen_style_of code = row_with pen_styles (code % 16)
 
 -- the pen of a style: a dashed one is played as solid, and the colour of one that draws nothing isn't looked at
-abbrev pub pen_of : PenStyle → Result Colour Fault → Result Pen Fault
+abbrev pub pen_of : PenStyle → Result Colour RecordFault → Result Pen RecordFault
 pen_of Null colour = Ok NullPen
 pen_of Solid colour = result_map SolidPen colour
 pen_of Dashed colour = result_map SolidPen colour
@@ -46,6 +46,6 @@ abbrev pub pen_made : Option ℕ → List ℕ → Pen → MeantValue
 pen_made at notes pen = record { operation = create at (pen_object pen); notes = notes }
 
 -- a pen of a style, if the standard has that style
-abbrev pub pen_meant : Option ℕ → Option PenStyle → Bool → Result Colour Fault → Result MeantValue Fault
+abbrev pub pen_meant : Option ℕ → Option PenStyle → Bool → Result Colour RecordFault → Result MeantValue RecordFault
 pen_meant at None is_wide colour = Err BadValue
 pen_meant at (Some style) is_wide colour = result_map (pen_made at (pen_notes style is_wide)) (pen_of style colour)

@@ -4,15 +4,15 @@ use Rattle.draw_ops.specs.Content.{Content, StepValue, broken_by, with_step}
 use Rattle.draw_ops.specs.ExactlyOne.{ExactlyOne}
 use Rattle.draw_ops.specs.Meaning.{Meaning, step_of}
 use Rattle.draw_ops.specs.Records.{Framing, Record, Framed, IsFramed}
-use Rattle.draw_ops.specs.declared.fault.Fault.{Fault}
+use Rattle.draw_ops.specs.declared.record_fault.RecordFault.{RecordFault}
 
 -- a step in front of the rest, or the fault at which the steps end
-abbrev pub followed : Result StepValue Fault → Content → Content
+abbrev pub followed : Result StepValue RecordFault → Content → Content
 followed (Ok step) content = with_step step content
 followed (Err fault) content = broken_by fault
 
 -- what the records from the one with this number on mean, up to the first fault
-abbrev pub steps_from : Framing → Meaning → List ℕ → ℕ → List Record → Option Fault → Content
+abbrev pub steps_from : Framing → Meaning → List ℕ → ℕ → List Record → Option RecordFault → Content
 steps_from f meaning behind number [] fault = record { steps = []; fault = fault }
 steps_from f meaning behind number (r ∷ rs) fault = followed (step_of f meaning behind number r) (steps_from f meaning behind (suc number) rs fault)
 

@@ -2,8 +2,8 @@
 use Rattle.std.specs.Prelude.{◌≡◌, ◌≢◌, ℕ, suc, ◌*◌, ◌%◌, Bool, ◌&&◌, not, ◌==◌, nat_lt, nat_le, if◌then◌else◌, List, [], ◌∷◌, length, take, drop, Option, Some, None}
 use Rattle.point_views.specs.Numbers.{number_at}
 use Rattle.draw_ops.specs.ExactlyOne.{ExactlyOne}
-use Rattle.draw_ops.specs.declared.fault.Fault.{Fault}
-use Rattle.draw_ops.specs.declared.fault.Fault.TheVariants.{TooManyRecords, NoEnd, ShortRecord, PastEnd}
+use Rattle.draw_ops.specs.declared.record_fault.RecordFault.{RecordFault}
+use Rattle.draw_ops.specs.declared.record_fault.RecordFault.TheVariants.{TooManyRecords, NoEnd, ShortRecord, PastEnd}
 
 -- what differs between the formats: how long a record's head is, where in it the size and the kind (its function or type) stand,
 -- in which units and multiples the size counts, how many bytes the kind has, and which kind ends the file
@@ -46,7 +46,7 @@ abbrev pub rest_of : Framing → List ℕ → List ℕ
 rest_of f bytes = drop (size_of f bytes) bytes
 
 -- what is wrong with the record in front, which has this number in the file: the first of these
-abbrev pub framing_fault : Framing → ℕ → List ℕ → Option Fault
+abbrev pub framing_fault : Framing → ℕ → List ℕ → Option RecordFault
 framing_fault f number bytes =
     if nat_le record_limit number then Some TooManyRecords
     else (if nat_lt (length bytes) f.head_length then Some NoEnd
@@ -76,23 +76,23 @@ Spells f number bytes (r ∷ []) behind = EndsBy f number bytes r behind
 Spells f number bytes (r ∷ s ∷ rs) behind = GoesOnBy f number bytes r (Spells f (suc number) (rest_of f bytes) (s ∷ rs) behind)
 
 -- These good records without an end stand in front, from the one with this number on, and the record behind them has this fault.
-abbrev pub Broken : Framing → ℕ → List ℕ → List Record → Fault → Type 0
+abbrev pub Broken : Framing → ℕ → List ℕ → List Record → RecordFault → Type 0
 Broken f number bytes [] fault = framing_fault f number bytes ≡ Some fault
 Broken f number bytes (r ∷ rs) fault = GoesOnBy f number bytes r (Broken f (suc number) (rest_of f bytes) rs fault)
 
 -- the records of some bytes, the fault behind them, if there is one, and the bytes behind the end record
 pub record Framed : Type 0 where
   pub records : List Record
-  pub fault : Option Fault
+  pub fault : Option RecordFault
   pub behind : List ℕ
 
 -- the bytes are broken, and so none lie behind an end record
-pub record BreaksBy (f : Framing) (number : ℕ) (bytes : List ℕ) (records : List Record) (fault : Fault) (behind : List ℕ) : Type 0 where
+pub record BreaksBy (f : Framing) (number : ℕ) (bytes : List ℕ) (records : List Record) (fault : RecordFault) (behind : List ℕ) : Type 0 where
   pub broken : Broken f number bytes records fault
   pub none_behind : behind ≡ []
 
 -- without a fault the bytes are spelled, and with one they are broken
-abbrev pub IsSpelledOrBroken : Framing → ℕ → List ℕ → List Record → Option Fault → List ℕ → Type 0
+abbrev pub IsSpelledOrBroken : Framing → ℕ → List ℕ → List Record → Option RecordFault → List ℕ → Type 0
 IsSpelledOrBroken f number bytes records None behind = Spells f number bytes records behind
 IsSpelledOrBroken f number bytes records (Some fault) behind = BreaksBy f number bytes records fault behind
 

@@ -1,20 +1,19 @@
 //! What records with bitmaps share: how a bitmap is read, and what blits and brushes are made of one.
 
-ghost use Rattle.std.specs.Prelude.{◌≡◌, ◌≤◌, IfErr, length};
+ghost use Rattle.std.specs.Prelude.{◌≡◌, ◌≤◌, length};
 ghost use Rattle.dib_views.specs.PictureOf.{dib_of};
 ghost use Rattle.draw_ops.specs.BitmapRecords.{blit_meant, dib_at, dib_in, fault_of_dib, needs_rgb, pattern_brush_meant};
 ghost use Rattle.draw_ops.specs.BitmapRecords.{source_as_stored, source_from_top};
 ghost use Rattle.draw_ops.specs.Blits.{source_of};
-ghost use Rattle.draw_ops.specs.Fault.{IsInRecord};
 ghost use Rattle.draw_ops.specs.Objects.{index_of};
 ghost use Rattle.draw_ops.specs.RecordOf.{meant_of};
 ghost use Rattle.draw_ops.specs.Results.{result_map};
 
 use crate::blits::{Blit, BlitSource, SourceRectangle};
-use crate::fault::Fault;
 use crate::format::Meant;
 use crate::objects::{Brush, Handle, Object};
 use crate::operation::Op;
+use crate::record_fault::RecordFault;
 use crate::ternary_op::TernaryOp;
 use dib_views::{DibFault, DibView, RowOrder};
 use mapping::Point;
@@ -23,23 +22,21 @@ use mapping::Point;
 const DIB_RGB_COLORS: u32 = 0;
 
 /// The fault of a record whose bitmap has this fault.
-fn fault_of_dib(fault: DibFault) -> Fault
+fn fault_of_dib(fault: DibFault) -> RecordFault
     ensures value { result ≡ fault_of_dib fault }
-    ensures in_record { IsInRecord result }
 {
     match fault {
-        DibFault::BadDib => Fault::BadDib,
-        DibFault::CompressedDib => Fault::CompressedDib,
-        DibFault::ShortDib => Fault::ShortDib,
+        DibFault::BadDib => RecordFault::BadDib,
+        DibFault::CompressedDib => RecordFault::CompressedDib,
+        DibFault::ShortDib => RecordFault::ShortDib,
     }
 }
 
 /// The packed bitmap in a record from a place on, or its first fault.
 #[tactic(auto, unfolding(crate::specs::BitmapRecords::dib_at))]
-pub fn dib_at(bytes: &[u8], place: usize) -> Result<DibView<'_>, Fault>
+pub fn dib_at(bytes: &[u8], place: usize) -> Result<DibView<'_>, RecordFault>
     requires { place ≤ length bytes.now }
     ensures value { dib_at bytes.entry.now place ≡ result_map dib_of result }
-    ensures in_record { IfErr result IsInRecord }
 {
     match DibView::packed(&bytes[place..]) {
         Ok(dib) => Ok(dib),
@@ -48,13 +45,12 @@ pub fn dib_at(bytes: &[u8], place: usize) -> Result<DibView<'_>, Fault>
 }
 
 /// The same of a bitmap with a usage, which is `PaletteColour` where its colours are those of a palette.
-pub fn rgb_dib_at(usage: u32, bytes: &[u8], place: usize) -> Result<DibView<'_>, Fault>
+pub fn rgb_dib_at(usage: u32, bytes: &[u8], place: usize) -> Result<DibView<'_>, RecordFault>
     requires { place ≤ length bytes.now }
     ensures value { needs_rgb usage (dib_at bytes.entry.now place) ≡ result_map dib_of result }
-    ensures in_record { IfErr result IsInRecord }
 {
     if usage != DIB_RGB_COLORS {
-        return Err(Fault::PaletteColour);
+        return Err(RecordFault::PaletteColour);
     }
     dib_at(bytes, place)
 }
@@ -62,12 +58,15 @@ pub fn rgb_dib_at(usage: u32, bytes: &[u8], place: usize) -> Result<DibView<'_>,
 /// The bitmap whose header and colour table are one part of a record, and whose rows are another, or its
 /// first fault. It is `PaletteColour` where the usage says that its colours are those of a palette.
 #[tactic(auto, unfolding(crate::specs::BitmapRecords::dib_in))]
-pub fn rgb_dib_in<'a>(usage: u32, info: &'a [u8], bits: &'a [u8]) -> Result<DibView<'a>, Fault>
+pub fn rgb_dib_in<'a>(
+    usage: u32,
+    info: &'a [u8],
+    bits: &'a [u8],
+) -> Result<DibView<'a>, RecordFault>
     ensures value { needs_rgb usage (dib_in info.entry.now bits.entry.now) ≡ result_map dib_of result }
-    ensures in_record { IfErr result IsInRecord }
 {
     if usage != DIB_RGB_COLORS {
-        return Err(Fault::PaletteColour);
+        return Err(RecordFault::PaletteColour);
     }
     match DibView::parts(info, bits) {
         Ok(dib) => Ok(dib),
@@ -81,11 +80,9 @@ pub fn rgb_dib_in<'a>(usage: u32, info: &'a [u8], bits: &'a [u8]) -> Result<DibV
 pub fn source_from_top<'a>(
     corner: Point,
     extent: Point,
-    dib: Result<DibView<'a>, Fault>,
-) -> Result<BlitSource<'a>, Fault>
-    requires { IfErr dib IsInRecord }
+    dib: Result<DibView<'a>, RecordFault>,
+) -> Result<BlitSource<'a>, RecordFault>
     ensures value { source_from_top corner extent (result_map dib_of dib.entry) ≡ result_map source_of result }
-    ensures in_record { IfErr result IsInRecord }
 {
     let picture = dib?;
     Ok(BlitSource::FromTop(SourceRectangle {
@@ -101,11 +98,9 @@ pub fn source_from_top<'a>(
 pub fn source_as_stored<'a>(
     corner: Point,
     extent: Point,
-    dib: Result<DibView<'a>, Fault>,
-) -> Result<BlitSource<'a>, Fault>
-    requires { IfErr dib IsInRecord }
+    dib: Result<DibView<'a>, RecordFault>,
+) -> Result<BlitSource<'a>, RecordFault>
     ensures value { source_as_stored corner extent (result_map dib_of dib.entry) ≡ result_map source_of result }
-    ensures in_record { IfErr result IsInRecord }
 {
     let picture = dib?;
     let rectangle = SourceRectangle {
@@ -126,11 +121,9 @@ pub fn blit_meant<'a>(
     corner: Point,
     extent: Point,
     code: u32,
-    source: Result<BlitSource<'a>, Fault>,
-) -> Result<Meant<'a>, Fault>
-    requires { IfErr source IsInRecord }
+    source: Result<BlitSource<'a>, RecordFault>,
+) -> Result<Meant<'a>, RecordFault>
     ensures value { blit_meant corner extent code (result_map source_of source.entry) ≡ result_map meant_of result }
-    ensures in_record { IfErr result IsInRecord }
 {
     let source = source?;
     Ok(Meant::unnoted(Op::Blit(Blit {
@@ -146,11 +139,9 @@ pub fn blit_meant<'a>(
 #[tactic(auto, unfolding(crate::specs::BitmapRecords::pattern_brush_meant))]
 pub fn pattern_brush_meant<'a>(
     at: Option<Handle>,
-    dib: Result<DibView<'a>, Fault>,
-) -> Result<Meant<'a>, Fault>
-    requires { IfErr dib IsInRecord }
+    dib: Result<DibView<'a>, RecordFault>,
+) -> Result<Meant<'a>, RecordFault>
     ensures value { pattern_brush_meant (index_of at) (result_map dib_of dib.entry) ≡ result_map meant_of result }
-    ensures in_record { IfErr result IsInRecord }
 {
     let picture = dib?;
     Ok(Meant::unnoted(Op::Create {

@@ -1,17 +1,16 @@
 //! What a record means that makes a brush.
 
-ghost use Rattle.std.specs.Prelude.{◌≡◌, IfErr};
+ghost use Rattle.std.specs.Prelude.{◌≡◌};
 ghost use Rattle.draw_ops.specs.BrushRecords.{brush_meant, brush_of};
-ghost use Rattle.draw_ops.specs.Fault.{IsInRecord};
 ghost use Rattle.draw_ops.specs.Objects.{brush_value_of, index_of};
 ghost use Rattle.draw_ops.specs.RecordOf.{meant_of};
 ghost use Rattle.draw_ops.specs.Results.{result_map};
 
-use crate::fault::Fault;
 use crate::format::Meant;
 use crate::hatch::Hatch;
 use crate::objects::{Brush, Handle, Object};
 use crate::operation::Op;
+use crate::record_fault::RecordFault;
 use mapping::Colour;
 
 // The styles ([MS-WMF] 2.1.1.4).
@@ -27,12 +26,10 @@ const BS_HATCHED: u32 = 2;
 pub fn brush_meant<'a>(
     at: Option<Handle>,
     style: u32,
-    colour: Result<Colour, Fault>,
+    colour: Result<Colour, RecordFault>,
     hatch: u32,
-) -> Result<Meant<'a>, Fault>
-    requires { IfErr colour IsInRecord }
+) -> Result<Meant<'a>, RecordFault>
     ensures value { brush_meant (index_of at) style colour hatch ≡ result_map meant_of result }
-    ensures in_record { IfErr result IsInRecord }
 {
     let brush = brush(style, colour, hatch)?;
     Ok(Meant::unnoted(Op::Create {
@@ -42,10 +39,12 @@ pub fn brush_meant<'a>(
 }
 
 /// The brush itself, or its first fault.
-fn brush<'a>(style: u32, colour: Result<Colour, Fault>, hatch: u32) -> Result<Brush<'a>, Fault>
-    requires { IfErr colour IsInRecord }
+fn brush<'a>(
+    style: u32,
+    colour: Result<Colour, RecordFault>,
+    hatch: u32,
+) -> Result<Brush<'a>, RecordFault>
     ensures value { brush_of style colour hatch ≡ result_map brush_value_of result }
-    ensures in_record { IfErr result IsInRecord }
 {
     if style == BS_SOLID {
         return Ok(Brush::Solid(colour?));
@@ -54,11 +53,11 @@ fn brush<'a>(style: u32, colour: Result<Colour, Fault>, hatch: u32) -> Result<Br
         return Ok(Brush::Null);
     }
     if style != BS_HATCHED {
-        return Err(Fault::BadValue);
+        return Err(RecordFault::BadValue);
     }
     let colour = colour?;
     match Hatch::from_code(hatch) {
         Some(hatch) => Ok(Brush::Hatched { hatch, colour }),
-        None => Err(Fault::BadValue),
+        None => Err(RecordFault::BadValue),
     }
 }

@@ -1,18 +1,16 @@
 //! Running a source to its end.
 
-ghost use Rattle.std.specs.Prelude.{◌≡◌, ◌<◌, ◌^◌, IfErr, length};
+ghost use Rattle.std.specs.Prelude.{◌≡◌, ◌<◌, ◌^◌, length};
 ghost use Rattle.draw_ops.specs.Counted.{counted, behind_steps};
-ghost use Rattle.draw_ops.specs.Fault.{IsInRecord};
 
-use crate::fault::Fault;
+use crate::record_fault::RecordFault;
 use crate::source::OpSource;
 
 /// How many steps a source has left, or the fault at which they break. Only that fault, or the end,
 /// is left of the source.
-pub fn count_steps<'a, S: OpSource<'a>>(source: &mut S) -> Result<u64, Fault>
+pub fn count_steps<'a, S: OpSource<'a>>(source: &mut S) -> Result<u64, RecordFault>
     requires { length (S.content source.old).steps < 2 ^ 64 }
     ensures count { result ≡ counted (S.content source.old) }
-    ensures in_record { IfErr result IsInRecord }
     ensures left { S.content source.new ≡ behind_steps (S.content source.old) }
 {
     let mut count: u64 = 0;

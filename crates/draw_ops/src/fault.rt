@@ -2,6 +2,7 @@
 
 ghost use Rattle.std.specs.Prelude.{◌≡◌};
 
+use crate::record_fault::RecordFault;
 use std::error::Error;
 use std::fmt;
 
@@ -29,72 +30,10 @@ pub enum Fault {
     BadBound,
     /// Bytes follow the last entry of the certificate.
     TrailingBytes,
-    // A record: its framing.
-    /// The bytes end where a record should begin, and no end record came.
-    NoEnd,
-    /// The record gives a size below that of its head, or in EMF one that is no multiple of 4.
-    ShortRecord,
-    /// The record gives a size that goes past the end of the file.
-    PastEnd,
-    /// There are more than 1,048,576 records.
-    TooManyRecords,
-    // A record: its kind, its parameters and its values.
-    /// The standard has no record with this function or type.
-    UnknownRecord(u32),
-    /// The record, or a value in it, is one that is not played.
-    Unsupported(u32),
-    /// Parameters are missing, counts do not add up, or an offset leads outside the record.
-    BadParams,
-    /// A parameter has a value that the standard does not allow.
-    BadValue,
-    /// A colour is given as an index into a palette.
-    PaletteColour,
-    /// The map mode is one of the metric modes, 2 to 6.
-    MetricMode,
-    // A record: a bitmap in it.
-    /// The header of a bitmap has a value that is not allowed.
-    BadDib,
-    /// The bitmap is compressed.
-    CompressedDib,
-    /// The bitmap ends before its header, colours or rows do.
-    ShortDib,
-    // An object, a saved state or a clip.
-    /// The table of objects has no free slot.
-    TableFull,
-    /// The index of a new object is in use.
-    HandleTaken,
-    /// No object has this index.
-    NoSuchHandle,
-    /// The object is of a kind that cannot be selected so.
-    WrongKind,
-    /// The object is to be deleted while it is selected, now or in a saved state.
-    HeldObject,
-    /// There is no such saved state to restore.
-    NoSavedState,
-    /// There are more than 256 saved states at a time.
-    DepthLimit,
-    /// There are more than 16 exclusions in the clip at a time.
-    TooManyCuts,
-    // A drawing, or the page map that it is drawn by.
-    /// A window or viewport extent is set to 0.
-    ZeroExtent,
-    /// A coordinate leaves the plane, or the range of placed coordinates.
-    OffPlane,
-    /// The raster operation needs a source bitmap, and there is none.
-    SourceMissing,
-    /// The source rectangle is empty, or not inside the bitmap.
-    SourceOutside,
-    /// A path record comes where no path, or a path in another state, is.
-    PathState,
-    /// One drawing has more than 1,048,576 points.
-    TooManyEdges,
-    /// A path has more than 65,536 pieces.
-    TooManyPieces,
+    // A record of the file.
+    /// The record that is told beside it has this fault.
+    Record(RecordFault),
     // The certificate: what it states of the file.
-    /// The certificate has another drawing here, or none, or one too many.
-    WrongEntry,
-    /// The box of the entry does not hold a point of the drawing.
-    BoxTooSmall,
     /// The certificate states less than the file needs.
     NeedTooSmall,
     /// The certificate states fewer writes than its entries may make.
@@ -135,7 +74,8 @@ impl Fault {
         ensures { result ≡ record_kind_of self }
     {
         match self {
-            Fault::UnknownRecord(kind) | Fault::Unsupported(kind) => Some(kind),
+            Fault::Record(RecordFault::UnknownRecord(kind)) => Some(kind),
+            Fault::Record(RecordFault::Unsupported(kind)) => Some(kind),
             _ => None,
         }
     }
@@ -156,36 +96,36 @@ impl Fault {
             Fault::ShortCertificate => (7, "ShortCertificate"),
             Fault::BadBound => (8, "BadBound"),
             Fault::TrailingBytes => (9, "TrailingBytes"),
-            Fault::NoEnd => (10, "NoEnd"),
-            Fault::ShortRecord => (11, "ShortRecord"),
-            Fault::PastEnd => (12, "PastEnd"),
-            Fault::TooManyRecords => (13, "TooManyRecords"),
-            Fault::UnknownRecord(_) => (14, "UnknownRecord"),
-            Fault::Unsupported(_) => (15, "Unsupported"),
-            Fault::BadParams => (16, "BadParams"),
-            Fault::BadValue => (17, "BadValue"),
-            Fault::PaletteColour => (18, "PaletteColour"),
-            Fault::MetricMode => (19, "MetricMode"),
-            Fault::BadDib => (20, "BadDib"),
-            Fault::CompressedDib => (21, "CompressedDib"),
-            Fault::ShortDib => (22, "ShortDib"),
-            Fault::TableFull => (23, "TableFull"),
-            Fault::HandleTaken => (24, "HandleTaken"),
-            Fault::NoSuchHandle => (25, "NoSuchHandle"),
-            Fault::WrongKind => (26, "WrongKind"),
-            Fault::HeldObject => (27, "HeldObject"),
-            Fault::NoSavedState => (28, "NoSavedState"),
-            Fault::DepthLimit => (29, "DepthLimit"),
-            Fault::TooManyCuts => (30, "TooManyCuts"),
-            Fault::ZeroExtent => (31, "ZeroExtent"),
-            Fault::OffPlane => (32, "OffPlane"),
-            Fault::SourceMissing => (33, "SourceMissing"),
-            Fault::SourceOutside => (34, "SourceOutside"),
-            Fault::PathState => (35, "PathState"),
-            Fault::TooManyEdges => (36, "TooManyEdges"),
-            Fault::TooManyPieces => (37, "TooManyPieces"),
-            Fault::WrongEntry => (38, "WrongEntry"),
-            Fault::BoxTooSmall => (39, "BoxTooSmall"),
+            Fault::Record(RecordFault::NoEnd) => (10, "NoEnd"),
+            Fault::Record(RecordFault::ShortRecord) => (11, "ShortRecord"),
+            Fault::Record(RecordFault::PastEnd) => (12, "PastEnd"),
+            Fault::Record(RecordFault::TooManyRecords) => (13, "TooManyRecords"),
+            Fault::Record(RecordFault::UnknownRecord(_)) => (14, "UnknownRecord"),
+            Fault::Record(RecordFault::Unsupported(_)) => (15, "Unsupported"),
+            Fault::Record(RecordFault::BadParams) => (16, "BadParams"),
+            Fault::Record(RecordFault::BadValue) => (17, "BadValue"),
+            Fault::Record(RecordFault::PaletteColour) => (18, "PaletteColour"),
+            Fault::Record(RecordFault::MetricMode) => (19, "MetricMode"),
+            Fault::Record(RecordFault::BadDib) => (20, "BadDib"),
+            Fault::Record(RecordFault::CompressedDib) => (21, "CompressedDib"),
+            Fault::Record(RecordFault::ShortDib) => (22, "ShortDib"),
+            Fault::Record(RecordFault::TableFull) => (23, "TableFull"),
+            Fault::Record(RecordFault::HandleTaken) => (24, "HandleTaken"),
+            Fault::Record(RecordFault::NoSuchHandle) => (25, "NoSuchHandle"),
+            Fault::Record(RecordFault::WrongKind) => (26, "WrongKind"),
+            Fault::Record(RecordFault::HeldObject) => (27, "HeldObject"),
+            Fault::Record(RecordFault::NoSavedState) => (28, "NoSavedState"),
+            Fault::Record(RecordFault::DepthLimit) => (29, "DepthLimit"),
+            Fault::Record(RecordFault::TooManyCuts) => (30, "TooManyCuts"),
+            Fault::Record(RecordFault::ZeroExtent) => (31, "ZeroExtent"),
+            Fault::Record(RecordFault::OffPlane) => (32, "OffPlane"),
+            Fault::Record(RecordFault::SourceMissing) => (33, "SourceMissing"),
+            Fault::Record(RecordFault::SourceOutside) => (34, "SourceOutside"),
+            Fault::Record(RecordFault::PathState) => (35, "PathState"),
+            Fault::Record(RecordFault::TooManyEdges) => (36, "TooManyEdges"),
+            Fault::Record(RecordFault::TooManyPieces) => (37, "TooManyPieces"),
+            Fault::Record(RecordFault::WrongEntry) => (38, "WrongEntry"),
+            Fault::Record(RecordFault::BoxTooSmall) => (39, "BoxTooSmall"),
             Fault::NeedTooSmall => (40, "NeedTooSmall"),
             Fault::BudgetTooSmall => (41, "BudgetTooSmall"),
             Fault::SurfaceTooLarge => (42, "SurfaceTooLarge"),
@@ -213,3 +153,29 @@ impl fmt::Display for Fault {
 }
 
 impl Error for Fault {}
+
+impl fmt::Display for RecordFault {
+    ghost use Rattle.std.specs.Prelude.{Some};
+    ghost use Rattle.draw_ops.specs.Fault.{text_of};
+    ghost use Rattle.draw_ops.specs.declared.fault.Fault.TheVariants.{Record};
+
+    ghost output = { λ fault. Some (text_of (Record fault)) };
+
+    /// As the record's fault is shown.
+    fn fmt<W: fmt::Write>(&self, f: &mut fmt::Formatter<W>) -> fmt::Result {
+        let fault = Fault::Record(*self);
+        write!(f, "{fault}")
+    }
+}
+
+impl Error for RecordFault {}
+
+impl From<RecordFault> for Fault {
+    ghost use Rattle.draw_ops.specs.declared.fault.Fault.TheVariants.{Record};
+
+    ghost from_gives = { λ fault of. of ≡ Record fault };
+
+    fn from(fault: RecordFault) -> Fault {
+        Fault::Record(fault)
+    }
+}

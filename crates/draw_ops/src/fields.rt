@@ -1,22 +1,20 @@
 //! Fields of records.
 
-ghost use Rattle.std.specs.Prelude.{◌≡◌, ◌+◌, ◌≤◌, IfErr, length};
-ghost use Rattle.draw_ops.specs.Fault.{IsInRecord};
+ghost use Rattle.std.specs.Prelude.{◌≡◌, ◌+◌, ◌≤◌, length};
 ghost use Rattle.draw_ops.specs.Fields.{box_at, is_rgb, rgb_at, turned_box_at, xy_at, yx_at};
 
-use crate::fault::Fault;
+use crate::record_fault::RecordFault;
 use mapping::{Colour, Point, Rect};
 use point_views::{i16_at, i32_at, u8_at};
 
 /// The colour whose red stands at a place ([MS-WMF] 2.2.2.8), or `PaletteColour` where its type, the byte
 /// behind its blue, is neither 0 nor 2.
-pub fn rgb_at(bytes: &[u8], place: usize) -> Result<Colour, Fault>
+pub fn rgb_at(bytes: &[u8], place: usize) -> Result<Colour, RecordFault>
     requires { place + 4 ≤ length bytes.now }
     ensures value { result ≡ rgb_at bytes.now place }
-    ensures in_record { IfErr result IsInRecord }
 {
     if !is_rgb(u8_at(bytes, place + 3)) {
-        return Err(Fault::PaletteColour);
+        return Err(RecordFault::PaletteColour);
     }
     Ok(Colour {
         r: u8_at(bytes, place),

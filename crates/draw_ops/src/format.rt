@@ -1,17 +1,16 @@
 //! What differs between the formats of records.
 
-ghost use Rattle.std.specs.Prelude.{◌≡◌, ◌≤◌, IfErr, length};
-ghost use Rattle.draw_ops.specs.Fault.{IsInRecord};
+ghost use Rattle.std.specs.Prelude.{◌≡◌, ◌≤◌, length};
 ghost use Rattle.draw_ops.specs.Meaning.{Meaning, noting, unnoted};
 ghost use Rattle.draw_ops.specs.OperationOf.{operation_of};
 ghost use Rattle.draw_ops.specs.RecordOf.{meant_of, record_of};
 ghost use Rattle.draw_ops.specs.Records.{Framing, may_be_size, kind_of, size_of};
 ghost use Rattle.draw_ops.specs.Results.{result_map};
 
-use crate::fault::Fault;
 use crate::note::Note;
 use crate::note_set::NoteSet;
 use crate::operation::Op;
+use crate::record_fault::RecordFault;
 
 /// A record by its kind, a function ([MS-WMF]) or a type ([MS-EMF]), and its bytes with the head.
 #[derive(Clone, Copy, Debug, PartialEq, Eq)]
@@ -81,7 +80,6 @@ pub trait Format {
         ensures { result ≡ framing.end_kind };
 
     /// What the record with this number in the file means, or its first fault.
-    fn read(number: u32, front: RawRecord<'_>) -> Result<Meant<'_>, Fault>
-        ensures value { meaning number (record_of front.entry) ≡ result_map meant_of result }
-        ensures in_record { IfErr result IsInRecord };
+    fn read(number: u32, front: RawRecord<'_>) -> Result<Meant<'_>, RecordFault>
+        ensures value { meaning number (record_of front.entry) ≡ result_map meant_of result };
 }

@@ -1,8 +1,9 @@
-//! Laws of how bytes are records.
+//! Laws of how bytes are records, and of the tables of faults and notes.
 
 ghost use Rattle.draw_ops.specs.Framed.{FramedByFunction};
 ghost use Rattle.draw_ops.specs.RecordContent.{ContentIsOne};
 ghost use Rattle.draw_ops.specs.Records.{FramedInOneWay};
+ghost use Rattle.draw_ops.specs.TableLaws.{FaultTableLaws, NoteTableLaws};
 
 /// Bytes are records in one way, whatever the framing: they spell one list of records, or break behind
 /// one list with one fault, and never both.
@@ -14,4 +15,11 @@ pub fn records_law()
 /// Bytes have one content, whatever the framing and the meaning of their records.
 pub fn content_law()
     ensures { ContentIsOne }
+{}
+
+/// Each code and each name of the table of faults is met once, and so is each index and each name of the table of notes. The codes
+/// are 1 to 45, of which 10 to 39 are those of faults that lie in a record; the indexes are 0 to 8.
+pub fn table_law()
+    ensures faults { FaultTableLaws }
+    ensures notes { NoteTableLaws }
 {}

@@ -4,14 +4,17 @@
 //!
 //! - Each fault has one code and one name, those of the table of faults (`Fault::code`,
 //!   `Fault::name`, `Fault::number`, by `fault_row` and `record_kind_of`).
+//! - Each code and each name of the tables of faults and notes is met once, and none is left out (`table_law`).
 //! - A fault's text is its name and, where it speaks of a kind of record, that kind (`Display`, by
 //!   `text_of`).
+//! - A fault that lies in a record has a type of its own (`RecordFault`), and is a fault as that record's
+//!   (`Fault::Record`, and `From` for `?`).
 //! - A setting, a raster operation or a hatch has a value that the standard allows, since there is
 //!   none else to make, and each is made from its own code (`from_code`, by `raster_op_of` and its
 //!   like), and tells it (`code`).
 //! - A record has each kind of note at most once (`NoteSet`), and a note is counted under its kind alone
 //!   (`Notes::count`, `Notes::with`, `Notes::plus`, `Notes::of`).
-//! - A source gives its steps in order, each once, and then none or one fault, which lies in a record,
+//! - A source gives its steps in order, each once, and then none or one fault of a record,
 //!   and the same again at each call after that (`OpSource::next_op`, by `Gives`). `Listed` is such a
 //!   source.
 //! - What both formats share of records is read here: points, boxes, colours and lists (`rgb_at`, `xy_at`,
@@ -45,6 +48,7 @@ mod operation;
 mod pen_records;
 mod point_lists;
 mod raster_op;
+mod record_fault;
 mod record_ops;
 mod settings;
 mod source;
@@ -63,7 +67,7 @@ pub use fields::{box_at, rgb_at, turned_box_at, xy_at, yx_at};
 pub use format::{Format, Meant, RawRecord};
 pub use framing::first_record;
 pub use hatch::Hatch;
-pub use laws::{content_law, records_law};
+pub use laws::{content_law, records_law, table_law};
 pub use listed::Listed;
 pub use modes::{background_mode_meant, fill_mode_meant, map_mode_meant, raster_op_meant};
 pub use note::Note;
@@ -74,6 +78,7 @@ pub use operation::{Op, RectangleEdges, SavedState};
 pub use pen_records::{PenStyle, pen_meant};
 pub use point_lists::{counts_at, points_at};
 pub use raster_op::RasterOp;
+pub use record_fault::RecordFault;
 pub use record_ops::RecordOps;
 pub use settings::{BackgroundMode, FillMode};
 pub use source::{HasContent, OpSource};

@@ -1,10 +1,9 @@
 //! Steps that are listed, for tests, examples and files that are read already.
 
 ghost use Rattle.std.specs.Prelude.{◌≡◌, IfSome, map};
-ghost use Rattle.draw_ops.specs.Fault.{IsInRecord};
 ghost use Rattle.draw_ops.specs.StepOf.{step_value_of};
 
-use crate::fault::Fault;
+use crate::record_fault::RecordFault;
 use crate::source::{HasContent, OpSource};
 use crate::step::Step;
 use std::marker::Model;
@@ -13,26 +12,22 @@ use std::marker::Model;
 #[derive(Debug, Drop)]
 pub struct Listed<'a> {
     steps: &'a [Step<'a>],
-    fault: Option<Fault>,
+    fault: Option<RecordFault>,
 }
 
 impl<'a> Model for Listed<'a> {
-    ghost use Rattle.std.specs.Prelude.{IfSome, map};
+    ghost use Rattle.std.specs.Prelude.{map};
     ghost use Rattle.draw_ops.specs.Content.{Content};
-    ghost use Rattle.draw_ops.specs.Fault.{IsInRecord};
     ghost use Rattle.draw_ops.specs.StepOf.{step_value_of};
 
     ghost Value = { Content };
 
     ghost view = { λ listed. record { steps = map step_value_of listed.steps.now; fault = listed.fault } };
-
-    ghost invariant = { λ listed. IfSome listed.fault IsInRecord };
 }
 
 impl<'a> Listed<'a> {
-    /// The source of these steps, and of this fault behind them, which lies in a record.
-    pub fn new(steps: &'a [Step<'a>], fault: Option<Fault>) -> Listed<'a>
-        requires { IfSome fault IsInRecord }
+    /// The source of these steps, and of this fault behind them.
+    pub fn new(steps: &'a [Step<'a>], fault: Option<RecordFault>) -> Listed<'a>
         ensures steps { result.steps ≡ map step_value_of steps.entry.now }
         ensures fault { result.fault ≡ fault }
     {
@@ -45,7 +40,7 @@ impl<'a> HasContent for Listed<'a> {
 }
 
 impl<'a> OpSource<'a> for Listed<'a> {
-    fn next_op(&mut self) -> Result<Option<Step<'a>>, Fault> {
+    fn next_op(&mut self) -> Result<Option<Step<'a>>, RecordFault> {
         if self.steps.is_empty() {
             return match self.fault {
                 Some(fault) => Err(fault),

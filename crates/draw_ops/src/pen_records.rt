@@ -1,19 +1,18 @@
 //! What a record means that makes a pen.
 
-ghost use Rattle.std.specs.Prelude.{◌≡◌, IfErr};
-ghost use Rattle.draw_ops.specs.Fault.{IsInRecord};
+ghost use Rattle.std.specs.Prelude.{◌≡◌};
 ghost use Rattle.draw_ops.specs.NoteSet.{notes_in};
 ghost use Rattle.draw_ops.specs.Objects.{index_of};
 ghost use Rattle.draw_ops.specs.PenRecords.{pen_meant, pen_notes, pen_of, pen_style_of};
 ghost use Rattle.draw_ops.specs.RecordOf.{meant_of};
 ghost use Rattle.draw_ops.specs.Results.{result_map};
 
-use crate::fault::Fault;
 use crate::format::Meant;
 use crate::note::Note;
 use crate::note_set::NoteSet;
 use crate::objects::{Handle, Object, Pen};
 use crate::operation::Op;
+use crate::record_fault::RecordFault;
 use mapping::Colour;
 
 /// How a pen's lines look ([MS-WMF] 2.1.1.23).
@@ -47,10 +46,8 @@ impl PenStyle {
     }
 
     /// The pen of this style. The colour of a pen that draws nothing isn't looked at.
-    pub fn pen(self, colour: Result<Colour, Fault>) -> Result<Pen, Fault>
-        requires { IfErr colour IsInRecord }
+    pub fn pen(self, colour: Result<Colour, RecordFault>) -> Result<Pen, RecordFault>
         ensures value { result ≡ pen_of self colour }
-        ensures in_record { IfErr result IsInRecord }
     {
         match self {
             PenStyle::Null => Ok(Pen::Null),
@@ -78,14 +75,12 @@ pub fn pen_meant<'a>(
     at: Option<Handle>,
     style: Option<PenStyle>,
     is_wide: bool,
-    colour: Result<Colour, Fault>,
-) -> Result<Meant<'a>, Fault>
-    requires { IfErr colour IsInRecord }
+    colour: Result<Colour, RecordFault>,
+) -> Result<Meant<'a>, RecordFault>
     ensures value { pen_meant (index_of at) style is_wide colour ≡ result_map meant_of result }
-    ensures in_record { IfErr result IsInRecord }
 {
     let Some(style) = style else {
-        return Err(Fault::BadValue);
+        return Err(RecordFault::BadValue);
     };
     let pen = style.pen(colour)?;
     Ok(Meant {

@@ -1,7 +1,6 @@
 //! The steps of a file's records, one at a time, in any format.
 
-ghost use Rattle.std.specs.Prelude.{◌≡◌, ◌<◌, ◌≤◌, length, IfErr, OnOk};
-ghost use Rattle.draw_ops.specs.Fault.{IsInRecord};
+ghost use Rattle.std.specs.Prelude.{◌≡◌, ◌<◌, ◌≤◌, length, OnOk};
 ghost use Rattle.draw_ops.specs.Meaning.{end_notes, step_of};
 ghost use Rattle.draw_ops.specs.NoteSet.{notes_in};
 ghost use Rattle.draw_ops.specs.Reading.{front_step};
@@ -11,11 +10,11 @@ ghost use Rattle.draw_ops.specs.Records.{record_limit, size_of};
 ghost use Rattle.draw_ops.specs.Results.{result_map};
 ghost use Rattle.draw_ops.specs.StepOf.{step_value_of};
 
-use crate::fault::Fault;
 use crate::format::{Format, RawRecord};
 use crate::framing::first_record;
 use crate::note::Note;
 use crate::note_set::NoteSet;
+use crate::record_fault::RecordFault;
 use crate::source::{HasContent, OpSource};
 use crate::step::Step;
 use std::marker::{Model, PhantomData};
@@ -28,7 +27,7 @@ enum Reading {
     /// The end record was given.
     Ended,
     /// A record has this fault.
-    Failed(Fault),
+    Failed(RecordFault),
 }
 
 /// A source over the bytes of a file's records: each record is read where it stands.
@@ -46,11 +45,12 @@ impl<'a, F: Format> Model for RecordOps<'a, F> {
 
     ghost Value = { Content };
 
-    ghost use Rattle.draw_ops.specs.Reading.{IsReading, content_left};
+    ghost use Rattle.draw_ops.specs.Reading.{content_left};
+    ghost use Rattle.draw_ops.specs.Records.{record_limit};
 
     ghost view = { λ a. content_left F.framing F.meaning a.reading a.number a.rest.now };
 
-    ghost invariant = { λ a. IsReading a.reading a.number };
+    ghost invariant = { λ a. a.number ≤ record_limit };
 }
 
 impl<'a, F: Format> RecordOps<'a, F> {
@@ -74,7 +74,7 @@ impl<'a, F: Format> HasContent for RecordOps<'a, F> {
 
 impl<'a, F: Format> OpSource<'a> for RecordOps<'a, F> {
     /// The next record's step, none behind the end record, or the fault at which the records break.
-    fn next_op(&mut self) -> Result<Option<Step<'a>>, Fault> {
+    fn next_op(&mut self) -> Result<Option<Step<'a>>, RecordFault> {
         match self.reading {
             Reading::Ended => Ok(None),
             Reading::Failed(fault) => Err(fault),
@@ -98,12 +98,11 @@ impl<'a, F: Format> OpSource<'a> for RecordOps<'a, F> {
 }
 
 /// The step of the record in front of the bytes, which has this number in the file, or its first fault.
-fn step<F: Format>(number: u32, bytes: &[u8]) -> Result<Step<'_>, Fault>
+fn step<F: Format>(number: u32, bytes: &[u8]) -> Result<Step<'_>, RecordFault>
     ensures value { front_step F.framing F.meaning number bytes.entry.now ≡ result_map step_value_of result }
     ensures head { OnOk result (F.framing.head_length ≤ length bytes.entry.now) }
     ensures within { OnOk result (size_of F.framing bytes.entry.now ≤ length bytes.entry.now) }
     ensures below_limit { OnOk result (number < record_limit) }
-    ensures in_record { IfErr result IsInRecord }
 {
     let front = first_record::<F>(number, bytes)?;
     meant_step::<F>(number, front, &bytes[front.bytes.len()..])
@@ -115,9 +114,8 @@ fn meant_step<'a, F: Format>(
     number: u32,
     front: RawRecord<'a>,
     behind: &[u8],
-) -> Result<Step<'a>, Fault>
+) -> Result<Step<'a>, RecordFault>
     ensures value { step_of F.framing F.meaning behind.now number (record_of front.entry) ≡ result_map step_value_of result }
-    ensures in_record { IfErr result IsInRecord }
 {
     match &F::read(number, front) {
         Ok(meant) => Ok(Step {

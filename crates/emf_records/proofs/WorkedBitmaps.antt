@@ -8,7 +8,7 @@ use Rattle.draw_ops.specs.Meaning.{unnoted}
 use Rattle.draw_ops.specs.Objects.{brush_object, tile_brush}
 use Rattle.draw_ops.specs.Operation.{blit, create}
 use Rattle.draw_ops.specs.Records.{Record}
-use Rattle.draw_ops.specs.declared.fault.Fault.TheVariants.{BadDib, BadParams, CompressedDib, PaletteColour, ShortDib, Unsupported}
+use Rattle.draw_ops.specs.declared.record_fault.RecordFault.TheVariants.{BadDib, BadParams, CompressedDib, PaletteColour, ShortDib, Unsupported}
 use Rattle.emf_records.specs.BitmapRecords.{block_blit, block_dib, block_source, dib_by_parts, dib_of_parts, has_parts, stretch_source}
 use Rattle.emf_records.specs.Emf.{emf_meaning, emf_record}
 use Rattle.emf_records.specs.TransformRecords.{is_identity_at}

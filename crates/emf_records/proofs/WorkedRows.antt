@@ -5,7 +5,7 @@ use Rattle.draw_ops.specs.Meaning.{noting, unnoted}
 use Rattle.draw_ops.specs.Objects.{pen_object}
 use Rattle.draw_ops.specs.Operation.{create, exclude_clip, no_effect, polygon, polyline_to, remove_clip}
 use Rattle.draw_ops.specs.Records.{Record}
-use Rattle.draw_ops.specs.declared.fault.Fault.TheVariants.{BadParams, PaletteColour, UnknownRecord, Unsupported}
+use Rattle.draw_ops.specs.declared.record_fault.RecordFault.TheVariants.{BadParams, PaletteColour, UnknownRecord, Unsupported}
 use Rattle.draw_ops.specs.declared.note.Note.TheVariants.{DashedPen, EmfPlus, Skipped as NoteSkipped}
 use Rattle.draw_ops.specs.declared.objects.Pen.TheVariants.{Null as NullPen}
 use Rattle.emf_records.specs.Emf.{emf_meaning, emf_record}

@@ -5,8 +5,8 @@ use Rattle.draw_ops.specs.Meaning.{Meaning, MeantValue, noting, unnoted}
 use Rattle.draw_ops.specs.Objects.{font_object, palette_object}
 use Rattle.draw_ops.specs.Operation.{no_effect, save, move_to, set_viewport_extent, set_viewport_origin, set_window_extent, set_window_origin, select, select_palette, delete, begin_path, end_path, close_figure, abort_path, fill_path, stroke_path, stroke_and_fill_path}
 use Rattle.draw_ops.specs.Records.{Record}
-use Rattle.draw_ops.specs.declared.fault.Fault.{Fault}
-use Rattle.draw_ops.specs.declared.fault.Fault.TheVariants.{UnknownRecord, Unsupported}
+use Rattle.draw_ops.specs.declared.record_fault.RecordFault.{RecordFault}
+use Rattle.draw_ops.specs.declared.record_fault.RecordFault.TheVariants.{UnknownRecord, Unsupported}
 use Rattle.draw_ops.specs.declared.note.Note.TheVariants.{Skipped as NoteSkipped}
 use Rattle.emf_records.specs.BitmapRecords.{bit_blt, create_dib_pattern_brush_pt, stretch_blt, stretch_di_bits}
 use Rattle.emf_records.specs.DrawingRecords.{line_to_record, poly_polygon_record, poly_polyline_record, polygon_record, polyline_record, polyline_to_record, rectangle_record, set_pixel_v}
@@ -18,12 +18,12 @@ use Rattle.emf_records.specs.declared.entry.EmfEntry.{EmfEntry}
 use Rattle.emf_records.specs.declared.entry.EmfEntry.TheVariants.{BitBlt, StretchBlt, StretchDiBits, ExcludeClipRect, IntersectClipRect, ExtSelectClipRgn, Comment, Header, Eof, Polygon, Polyline, PolylineTo, PolyPolyline, PolyPolygon, SetPixelV, Rectangle, LineTo, FillPath, StrokeAndFillPath, StrokePath, Polygon16, Polyline16, PolylineTo16, PolyPolyline16, PolyPolygon16, SelectObject, CreatePen, CreateBrushIndirect, DeleteObject, SelectPalette, CreateDibPatternBrushPt, CreatePalette, ExtCreateFontIndirectW, ExtCreatePen, BeginPath, EndPath, CloseFigure, AbortPath, SetWindowExtEx, SetWindowOrgEx, SetViewportExtEx, SetViewportOrgEx, SetMapMode, SetBkMode, SetPolyFillMode, SetRop2, SetBkColor, MoveToEx, SaveDc, RestoreDc, SetLayout, SetWorldTransform, ModifyWorldTransform, Skipped, Refused}
 
 -- EMR_HEADER is without effect as the file's first record, and isn't played behind it
-abbrev pub header_record : ℕ → Result MeantValue Fault
+abbrev pub header_record : ℕ → Result MeantValue RecordFault
 header_record zero = Ok (unnoted no_effect)
 header_record (suc n) = Err (Unsupported 1)
 
 -- what a record with each entry means, by its number in the file, its type and its bytes
-unfoldable pub emf_record : EmfEntry → ℕ → ℕ → List ℕ → Result MeantValue Fault
+unfoldable pub emf_record : EmfEntry → ℕ → ℕ → List ℕ → Result MeantValue RecordFault
 emf_record BitBlt number record_type bytes = bit_blt bytes
 emf_record StretchBlt number record_type bytes = stretch_blt bytes
 emf_record StretchDiBits number record_type bytes = stretch_di_bits bytes
@@ -81,7 +81,7 @@ emf_record Skipped number record_type bytes = Ok (noting NoteSkipped no_effect)
 emf_record Refused number record_type bytes = Err (Unsupported record_type)
 
 -- a type that the standard doesn't have is unknown
-abbrev pub emf_record_if : Option EmfEntry → ℕ → Record → Result MeantValue Fault
+abbrev pub emf_record_if : Option EmfEntry → ℕ → Record → Result MeantValue RecordFault
 emf_record_if None number r = Err (UnknownRecord r.kind)
 emf_record_if (Some entry) number r = emf_record entry number r.kind r.bytes
 

@@ -1,9 +1,8 @@
 //! The records that bring bitmaps ([MS-EMF] 2.3.1 and 2.3.7.4).
 
-ghost use Rattle.std.specs.Prelude.{◌≡◌, ◌+◌, ◌≤◌, IfErr, IsTrue, length};
+ghost use Rattle.std.specs.Prelude.{◌≡◌, ◌+◌, ◌≤◌, IsTrue, length};
 ghost use Rattle.dib_views.specs.PictureOf.{dib_of};
 ghost use Rattle.draw_ops.specs.Blits.{source_of};
-ghost use Rattle.draw_ops.specs.Fault.{IsInRecord};
 ghost use Rattle.draw_ops.specs.RecordOf.{meant_of};
 ghost use Rattle.draw_ops.specs.Results.{result_map};
 ghost use Rattle.emf_records.specs.BitmapRecords.{bit_blt, block_blit, block_dib, block_source, create_dib_pattern_brush_pt, dib_by_parts, dib_of_parts};
@@ -13,7 +12,7 @@ use crate::transform_records::is_identity_at;
 use crate::types::{EMR_BITBLT, EMR_STRETCHBLT};
 use dib_views::DibView;
 use draw_ops::{
-    BlitSource, Fault, Handle, Meant, blit_meant, pattern_brush_meant, rgb_dib_in,
+    BlitSource, Handle, Meant, RecordFault, blit_meant, pattern_brush_meant, rgb_dib_in,
     source_as_stored, source_from_top, xy_at,
 };
 use mapping::Point;
@@ -22,23 +21,21 @@ use point_views::u32_at;
 /// EMR_BITBLT (2.3.1.2): Bounds, xDest, yDest, cxDest, cyDest, BitBltRasterOperation, xSrc, ySrc, XformSrc,
 /// BkColorSrc, UsageSrc, offBmiSrc, cbBmiSrc, offBitsSrc, cbBitsSrc. The source is as wide and as high as the
 /// rectangle, and BkColorSrc isn't read.
-pub(crate) fn bit_blt(bytes: &[u8]) -> Result<Meant<'_>, Fault>
+pub(crate) fn bit_blt(bytes: &[u8]) -> Result<Meant<'_>, RecordFault>
     ensures value { bit_blt bytes.entry.now ≡ result_map meant_of result }
-    ensures in_record { IfErr result IsInRecord }
 {
     if bytes.len() < 100 {
-        return Err(Fault::BadParams);
+        return Err(RecordFault::BadParams);
     }
     block_blit(bytes, block_source(EMR_BITBLT, xy_at(bytes, 32), bytes))
 }
 
 /// EMR_STRETCHBLT (2.3.1.6): the fields of EMR_BITBLT, cxSrc, cySrc.
-pub(crate) fn stretch_blt(bytes: &[u8]) -> Result<Meant<'_>, Fault>
+pub(crate) fn stretch_blt(bytes: &[u8]) -> Result<Meant<'_>, RecordFault>
     ensures value { stretch_blt bytes.entry.now ≡ result_map meant_of result }
-    ensures in_record { IfErr result IsInRecord }
 {
     if bytes.len() < 108 {
-        return Err(Fault::BadParams);
+        return Err(RecordFault::BadParams);
     }
     block_blit(
         bytes,
@@ -50,12 +47,10 @@ pub(crate) fn stretch_blt(bytes: &[u8]) -> Result<Meant<'_>, Fault>
 #[tactic(auto, unfolding(crate::specs::BitmapRecords::block_blit))]
 fn block_blit<'a>(
     bytes: &'a [u8],
-    source: Result<BlitSource<'a>, Fault>,
-) -> Result<Meant<'a>, Fault>
+    source: Result<BlitSource<'a>, RecordFault>,
+) -> Result<Meant<'a>, RecordFault>
     requires fields { 100 ≤ length bytes.now }
-    requires source { IfErr source IsInRecord }
     ensures value { block_blit bytes.entry.now (result_map source_of source.entry) ≡ result_map meant_of result }
-    ensures in_record { IfErr result IsInRecord }
 {
     let corner = xy_at(bytes, 24);
     let extent = xy_at(bytes, 32);
@@ -66,10 +61,13 @@ fn block_blit<'a>(
 /// What EMR_BITBLT or EMR_STRETCHBLT reads. Where cbBmiSrc is 0 it has no bitmap, and nothing else of one is
 /// looked at.
 #[tactic(auto, unfolding(crate::specs::BitmapRecords::block_source))]
-fn block_source(record_type: u32, extent: Point, bytes: &[u8]) -> Result<BlitSource<'_>, Fault>
+fn block_source(
+    record_type: u32,
+    extent: Point,
+    bytes: &[u8],
+) -> Result<BlitSource<'_>, RecordFault>
     requires { 100 ≤ length bytes.now }
     ensures value { block_source record_type extent bytes.entry.now ≡ result_map source_of result }
-    ensures in_record { IfErr result IsInRecord }
 {
     if u32_at(bytes, 88) == 0 {
         return Ok(BlitSource::Missing);
@@ -80,28 +78,26 @@ fn block_source(record_type: u32, extent: Point, bytes: &[u8]) -> Result<BlitSou
 /// The bitmap of EMR_BITBLT or EMR_STRETCHBLT, or the first fault of its offsets, its transform, its usage and
 /// itself.
 #[tactic(auto, unfolding(crate::specs::BitmapRecords::block_dib))]
-fn block_dib(record_type: u32, bytes: &[u8]) -> Result<DibView<'_>, Fault>
+fn block_dib(record_type: u32, bytes: &[u8]) -> Result<DibView<'_>, RecordFault>
     requires { 100 ≤ length bytes.now }
     ensures value { block_dib record_type bytes.entry.now ≡ result_map dib_of result }
-    ensures in_record { IfErr result IsInRecord }
 {
     if !has_parts(bytes, 84) {
-        return Err(Fault::BadParams);
+        return Err(RecordFault::BadParams);
     }
     if !is_identity_at(bytes, 52) {
-        return Err(Fault::Unsupported(record_type));
+        return Err(RecordFault::Unsupported(record_type));
     }
     dib_of_parts(u32_at(bytes, 80), bytes, 84)
 }
 
 /// EMR_STRETCHDIBITS (2.3.1.7): Bounds, xDest, yDest, xSrc, ySrc, cxSrc, cySrc, offBmiSrc, cbBmiSrc, offBitsSrc,
 /// cbBitsSrc, UsageSrc, BitBltRasterOperation, cxDest, cyDest.
-pub(crate) fn stretch_di_bits(bytes: &[u8]) -> Result<Meant<'_>, Fault>
+pub(crate) fn stretch_di_bits(bytes: &[u8]) -> Result<Meant<'_>, RecordFault>
     ensures value { stretch_di_bits bytes.entry.now ≡ result_map meant_of result }
-    ensures in_record { IfErr result IsInRecord }
 {
     if bytes.len() < 80 {
-        return Err(Fault::BadParams);
+        return Err(RecordFault::BadParams);
     }
     let corner = xy_at(bytes, 24);
     let extent = xy_at(bytes, 72);
@@ -111,10 +107,9 @@ pub(crate) fn stretch_di_bits(bytes: &[u8]) -> Result<Meant<'_>, Fault>
 
 /// What EMR_STRETCHDIBITS reads. Where cbBmiSrc is 0 it has no bitmap, and nothing else of one is looked at.
 #[tactic(auto, unfolding(crate::specs::BitmapRecords::stretch_source))]
-fn stretch_source(bytes: &[u8]) -> Result<BlitSource<'_>, Fault>
+fn stretch_source(bytes: &[u8]) -> Result<BlitSource<'_>, RecordFault>
     requires { 80 ≤ length bytes.now }
     ensures value { stretch_source bytes.entry.now ≡ result_map source_of result }
-    ensures in_record { IfErr result IsInRecord }
 {
     if u32_at(bytes, 52) == 0 {
         return Ok(BlitSource::Missing);
@@ -124,12 +119,11 @@ fn stretch_source(bytes: &[u8]) -> Result<BlitSource<'_>, Fault>
 }
 
 /// EMR_CREATEDIBPATTERNBRUSHPT (2.3.7.4): ihBrush, Usage, offBmi, cbBmi, offBits, cbBits.
-pub(crate) fn create_dib_pattern_brush_pt(bytes: &[u8]) -> Result<Meant<'_>, Fault>
+pub(crate) fn create_dib_pattern_brush_pt(bytes: &[u8]) -> Result<Meant<'_>, RecordFault>
     ensures value { create_dib_pattern_brush_pt bytes.entry.now ≡ result_map meant_of result }
-    ensures in_record { IfErr result IsInRecord }
 {
     if bytes.len() < 32 {
-        return Err(Fault::BadParams);
+        return Err(RecordFault::BadParams);
     }
     let at = Some(Handle(u32_at(bytes, 8)));
     pattern_brush_meant(at, dib_by_parts(u32_at(bytes, 12), bytes, 16))
@@ -138,24 +132,22 @@ pub(crate) fn create_dib_pattern_brush_pt(bytes: &[u8]) -> Result<Meant<'_>, Fau
 /// The bitmap of a usage whose header and colour table are one part of the record, and whose rows are another:
 /// an offset and a size from a place on tell each. A part that isn't in the record is `BadParams`.
 #[tactic(auto, unfolding(crate::specs::BitmapRecords::dib_by_parts))]
-fn dib_by_parts(usage: u32, bytes: &[u8], place: usize) -> Result<DibView<'_>, Fault>
+fn dib_by_parts(usage: u32, bytes: &[u8], place: usize) -> Result<DibView<'_>, RecordFault>
     requires { place + 16 ≤ length bytes.now }
     ensures value { dib_by_parts usage bytes.entry.now place ≡ result_map dib_of result }
-    ensures in_record { IfErr result IsInRecord }
 {
     if !has_parts(bytes, place) {
-        return Err(Fault::BadParams);
+        return Err(RecordFault::BadParams);
     }
     dib_of_parts(usage, bytes, place)
 }
 
 /// The same of parts that are in the record.
 #[tactic(auto, unfolding(crate::specs::BitmapRecords::dib_of_parts, crate::specs::BitmapRecords::has_parts))]
-fn dib_of_parts(usage: u32, bytes: &[u8], place: usize) -> Result<DibView<'_>, Fault>
+fn dib_of_parts(usage: u32, bytes: &[u8], place: usize) -> Result<DibView<'_>, RecordFault>
     requires told { place + 16 ≤ length bytes.now }
     requires inside { IsTrue (has_parts bytes.now place) }
     ensures value { dib_of_parts usage bytes.entry.now place ≡ result_map dib_of result }
-    ensures in_record { IfErr result IsInRecord }
 {
     let info = part_at(bytes, place);
     let bits = part_at(bytes, place + 8);

@@ -1,7 +1,6 @@
 //! The records of EMF: how they are framed, and what each means.
 
-ghost use Rattle.std.specs.Prelude.{◌≡◌, IfErr};
-ghost use Rattle.draw_ops.specs.Fault.{IsInRecord};
+ghost use Rattle.std.specs.Prelude.{◌≡◌};
 ghost use Rattle.draw_ops.specs.RecordOf.{meant_of};
 ghost use Rattle.draw_ops.specs.Results.{result_map};
 ghost use Rattle.emf_records.specs.Emf.{emf_meaning, emf_record, header_record};
@@ -23,7 +22,7 @@ use crate::state_records::{
 };
 use crate::transform_records::{modify_world_transform, set_world_transform};
 use crate::types::{EMR_EOF, EMR_HEADER};
-use draw_ops::{Fault, Format, Meant, Note, Object, Op, RawRecord, RecordOps};
+use draw_ops::{Format, Meant, Note, Object, Op, RawRecord, RecordFault, RecordOps};
 use point_views::{NumberWidth, u32_at};
 
 /// The bytes of a record's head: the type, and the size in bytes.
@@ -61,31 +60,34 @@ impl Format for Emf {
         EMR_EOF
     }
 
-    fn read(number: u32, front: RawRecord<'_>) -> Result<Meant<'_>, Fault> {
+    fn read(number: u32, front: RawRecord<'_>) -> Result<Meant<'_>, RecordFault> {
         match entry_of(front.kind) {
             Some(entry) => record(entry, number, front.kind, front.bytes),
-            None => Err(Fault::UnknownRecord(front.kind)),
+            None => Err(RecordFault::UnknownRecord(front.kind)),
         }
     }
 }
 
 /// EMR_HEADER (2.3.4.2): without effect as the first record, and not played behind it.
-fn header<'a>(number: u32) -> Result<Meant<'a>, Fault>
+fn header<'a>(number: u32) -> Result<Meant<'a>, RecordFault>
     ensures value { header_record number ≡ result_map meant_of result }
-    ensures in_record { IfErr result IsInRecord }
 {
     if number == 0 {
         Ok(Meant::unnoted(Op::NoEffect))
     } else {
-        Err(Fault::Unsupported(EMR_HEADER))
+        Err(RecordFault::Unsupported(EMR_HEADER))
     }
 }
 
 /// What a record with this entry means, or its first fault.
 #[tactic(auto, unfolding(crate::specs::Emf::emf_record))]
-fn record(entry: EmfEntry, number: u32, record_type: u32, bytes: &[u8]) -> Result<Meant<'_>, Fault>
+fn record(
+    entry: EmfEntry,
+    number: u32,
+    record_type: u32,
+    bytes: &[u8],
+) -> Result<Meant<'_>, RecordFault>
     ensures value { emf_record entry number record_type bytes.entry.now ≡ result_map meant_of result }
-    ensures in_record { IfErr result IsInRecord }
 {
     match entry {
         EmfEntry::BitBlt => bit_blt(bytes),
@@ -142,6 +144,6 @@ fn record(entry: EmfEntry, number: u32, record_type: u32, bytes: &[u8]) -> Resul
         EmfEntry::SetWorldTransform => set_world_transform(bytes),
         EmfEntry::ModifyWorldTransform => modify_world_transform(bytes),
         EmfEntry::Skipped => Ok(Meant::noting(Note::Skipped, Op::NoEffect)),
-        EmfEntry::Refused => Err(Fault::Unsupported(record_type)),
+        EmfEntry::Refused => Err(RecordFault::Unsupported(record_type)),
     }
 }

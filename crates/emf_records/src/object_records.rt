@@ -1,7 +1,6 @@
 //! Object records ([MS-EMF] 2.3.7 and 2.3.8). Each object is made at the index that its record gives.
 
-ghost use Rattle.std.specs.Prelude.{◌≡◌, ◌+◌, ◌≤◌, pos, int_lt, IfErr, length};
-ghost use Rattle.draw_ops.specs.Fault.{IsInRecord};
+ghost use Rattle.std.specs.Prelude.{◌≡◌, ◌+◌, ◌≤◌, pos, int_lt, length};
 ghost use Rattle.draw_ops.specs.Objects.{object_value_of};
 ghost use Rattle.draw_ops.specs.Operation.{delete, select, select_palette};
 ghost use Rattle.draw_ops.specs.RecordOf.{meant_of};
@@ -10,7 +9,9 @@ ghost use Rattle.point_views.specs.Numbers.{i32_at};
 ghost use Rattle.emf_records.specs.ObjectRecords.{create_brush_indirect, create_pen, create_record, ext_create_pen, ext_pen_meant, index_in, index_record};
 
 use crate::types::EMR_EXTCREATEPEN;
-use draw_ops::{Fault, Handle, Meant, Object, Op, Pen, PenStyle, brush_meant, pen_meant, rgb_at};
+use draw_ops::{
+    Handle, Meant, Object, Op, Pen, PenStyle, RecordFault, brush_meant, pen_meant, rgb_at,
+};
 use mapping::Colour;
 use point_views::{i32_at, u32_at};
 
@@ -20,56 +21,50 @@ const BS_SOLID: u32 = 0;
 const BS_NULL: u32 = 1;
 
 /// EMR_SELECTOBJECT: ihObject.
-pub(crate) fn select_object(bytes: &[u8]) -> Result<Meant<'_>, Fault>
+pub(crate) fn select_object(bytes: &[u8]) -> Result<Meant<'_>, RecordFault>
     ensures value { index_record select bytes.entry.now ≡ result_map meant_of result }
-    ensures in_record { IfErr result IsInRecord }
 {
     Ok(Meant::unnoted(Op::Select(index(bytes)?)))
 }
 
 /// EMR_DELETEOBJECT: ihObject.
-pub(crate) fn delete_object(bytes: &[u8]) -> Result<Meant<'_>, Fault>
+pub(crate) fn delete_object(bytes: &[u8]) -> Result<Meant<'_>, RecordFault>
     ensures value { index_record delete bytes.entry.now ≡ result_map meant_of result }
-    ensures in_record { IfErr result IsInRecord }
 {
     Ok(Meant::unnoted(Op::Delete(index(bytes)?)))
 }
 
 /// EMR_SELECTPALETTE: ihPal.
-pub(crate) fn select_palette(bytes: &[u8]) -> Result<Meant<'_>, Fault>
+pub(crate) fn select_palette(bytes: &[u8]) -> Result<Meant<'_>, RecordFault>
     ensures value { index_record select_palette bytes.entry.now ≡ result_map meant_of result }
-    ensures in_record { IfErr result IsInRecord }
 {
     Ok(Meant::unnoted(Op::SelectPalette(index(bytes)?)))
 }
 
 /// The index of an object.
-fn index(bytes: &[u8]) -> Result<Handle, Fault>
+fn index(bytes: &[u8]) -> Result<Handle, RecordFault>
     ensures value { index_in bytes.now ≡ result_map (λ handle. handle.0) result }
-    ensures in_record { IfErr result IsInRecord }
 {
     if bytes.len() < 12 {
-        return Err(Fault::BadParams);
+        return Err(RecordFault::BadParams);
     }
     Ok(Handle(u32_at(bytes, 8)))
 }
 
 /// EMR_CREATEPALETTE: ihPal, and EMR_EXTCREATEFONTINDIRECTW: ihFonts. Nothing else of them is read.
-pub(crate) fn create<'a>(object: Object<'a>, bytes: &'a [u8]) -> Result<Meant<'a>, Fault>
+pub(crate) fn create<'a>(object: Object<'a>, bytes: &'a [u8]) -> Result<Meant<'a>, RecordFault>
     ensures value { create_record (object_value_of object.entry) bytes.entry.now ≡ result_map meant_of result }
-    ensures in_record { IfErr result IsInRecord }
 {
     let at = Some(index(bytes)?);
     Ok(Meant::unnoted(Op::Create { at, object }))
 }
 
 /// EMR_CREATEPEN: ihPen, LogPen (PenStyle, Width, ColorRef). Of the width, a point, y isn't read.
-pub(crate) fn create_pen(bytes: &[u8]) -> Result<Meant<'_>, Fault>
+pub(crate) fn create_pen(bytes: &[u8]) -> Result<Meant<'_>, RecordFault>
     ensures value { create_pen bytes.entry.now ≡ result_map meant_of result }
-    ensures in_record { IfErr result IsInRecord }
 {
     if bytes.len() < 28 {
-        return Err(Fault::BadParams);
+        return Err(RecordFault::BadParams);
     }
     let at = Some(Handle(u32_at(bytes, 8)));
     let style = PenStyle::from_code(u32_at(bytes, 12));
@@ -86,12 +81,11 @@ fn is_wide(bytes: &[u8], place: usize) -> bool
 }
 
 /// EMR_CREATEBRUSHINDIRECT: ihBrush, LogBrush (BrushStyle, Color, BrushHatch).
-pub(crate) fn create_brush_indirect(bytes: &[u8]) -> Result<Meant<'_>, Fault>
+pub(crate) fn create_brush_indirect(bytes: &[u8]) -> Result<Meant<'_>, RecordFault>
     ensures value { create_brush_indirect bytes.entry.now ≡ result_map meant_of result }
-    ensures in_record { IfErr result IsInRecord }
 {
     if bytes.len() < 24 {
-        return Err(Fault::BadParams);
+        return Err(RecordFault::BadParams);
     }
     let at = Some(Handle(u32_at(bytes, 8)));
     let style = u32_at(bytes, 12);
@@ -102,12 +96,11 @@ pub(crate) fn create_brush_indirect(bytes: &[u8]) -> Result<Meant<'_>, Fault>
 
 /// EMR_EXTCREATEPEN: ihPen, offBmi, cbBmi, offBits, cbBits, elp (PenStyle, Width, BrushStyle, ColorRef,
 /// BrushHatch, NumEntries). Bitmap, width, hatch and entries aren't read.
-pub(crate) fn ext_create_pen(bytes: &[u8]) -> Result<Meant<'_>, Fault>
+pub(crate) fn ext_create_pen(bytes: &[u8]) -> Result<Meant<'_>, RecordFault>
     ensures value { ext_create_pen bytes.entry.now ≡ result_map meant_of result }
-    ensures in_record { IfErr result IsInRecord }
 {
     if bytes.len() < 52 {
-        return Err(Fault::BadParams);
+        return Err(RecordFault::BadParams);
     }
     let at = Handle(u32_at(bytes, 8));
     let style = PenStyle::from_code(u32_at(bytes, 28));
@@ -121,21 +114,19 @@ fn ext_pen_meant<'a>(
     at: Handle,
     style: Option<PenStyle>,
     brush_style: u32,
-    colour: Result<Colour, Fault>,
-) -> Result<Meant<'a>, Fault>
-    requires { IfErr colour IsInRecord }
+    colour: Result<Colour, RecordFault>,
+) -> Result<Meant<'a>, RecordFault>
     ensures value { ext_pen_meant at.0 style brush_style colour ≡ result_map meant_of result }
-    ensures in_record { IfErr result IsInRecord }
 {
     let Some(style) = style else {
-        return Err(Fault::BadValue);
+        return Err(RecordFault::BadValue);
     };
     let pen = if brush_style == BS_SOLID {
         style.pen(colour)?
     } else if brush_style == BS_NULL {
         Pen::Null
     } else {
-        return Err(Fault::Unsupported(EMR_EXTCREATEPEN));
+        return Err(RecordFault::Unsupported(EMR_EXTCREATEPEN));
     };
     Ok(Meant {
         op: Op::Create {

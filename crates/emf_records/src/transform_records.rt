@@ -1,13 +1,12 @@
 //! Transform records ([MS-EMF] 2.3.12): only the transform that changes nothing is played.
 
-ghost use Rattle.std.specs.Prelude.{◌≡◌, ◌+◌, ◌≤◌, IfErr, length};
-ghost use Rattle.draw_ops.specs.Fault.{IsInRecord};
+ghost use Rattle.std.specs.Prelude.{◌≡◌, ◌+◌, ◌≤◌, length};
 ghost use Rattle.draw_ops.specs.RecordOf.{meant_of};
 ghost use Rattle.draw_ops.specs.Results.{result_map};
 ghost use Rattle.emf_records.specs.TransformRecords.{is_identity_at, keeps_transform, modify_world_transform, set_world_transform};
 
 use crate::types::{EMR_MODIFYWORLDTRANSFORM, EMR_SETWORLDTRANSFORM};
-use draw_ops::{Fault, Meant, Op};
+use draw_ops::{Meant, Op, RecordFault};
 use point_views::u32_at;
 
 /// The number 1 as a float.
@@ -22,32 +21,30 @@ const MWT_LEFTMULTIPLY: u32 = 2;
 const MWT_SET: u32 = 4;
 
 /// EMR_SETWORLDTRANSFORM: Xform.
-pub(crate) fn set_world_transform(bytes: &[u8]) -> Result<Meant<'_>, Fault>
+pub(crate) fn set_world_transform(bytes: &[u8]) -> Result<Meant<'_>, RecordFault>
     ensures value { set_world_transform bytes.entry.now ≡ result_map meant_of result }
-    ensures in_record { IfErr result IsInRecord }
 {
     if bytes.len() < 32 {
-        return Err(Fault::BadParams);
+        return Err(RecordFault::BadParams);
     }
     if is_identity_at(bytes, 8) {
         Ok(Meant::unnoted(Op::NoEffect))
     } else {
-        Err(Fault::Unsupported(EMR_SETWORLDTRANSFORM))
+        Err(RecordFault::Unsupported(EMR_SETWORLDTRANSFORM))
     }
 }
 
 /// EMR_MODIFYWORLDTRANSFORM: Xform, ModifyWorldTransformMode.
-pub(crate) fn modify_world_transform(bytes: &[u8]) -> Result<Meant<'_>, Fault>
+pub(crate) fn modify_world_transform(bytes: &[u8]) -> Result<Meant<'_>, RecordFault>
     ensures value { modify_world_transform bytes.entry.now ≡ result_map meant_of result }
-    ensures in_record { IfErr result IsInRecord }
 {
     if bytes.len() < 36 {
-        return Err(Fault::BadParams);
+        return Err(RecordFault::BadParams);
     }
     if keeps_transform(u32_at(bytes, 32), is_identity_at(bytes, 8)) {
         Ok(Meant::unnoted(Op::NoEffect))
     } else {
-        Err(Fault::Unsupported(EMR_MODIFYWORLDTRANSFORM))
+        Err(RecordFault::Unsupported(EMR_MODIFYWORLDTRANSFORM))
     }
 }
 

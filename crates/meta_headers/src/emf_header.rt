@@ -1,8 +1,8 @@
 //! EMR_HEADER ([MS-EMF] 2.3.4.2): Type, Size, Bounds, Frame, RecordSignature, Version, Bytes, Records,
 //! Handles, and fields that aren't read. Frame, Version and Records aren't read either.
 
-ghost use Rattle.std.specs.Prelude.{◌≡◌, ◌≤◌, ◌^◌, ◌&&◌, false, is_some, IfOk, IfErr, IfSome, length};
-ghost use Rattle.draw_ops.specs.FaultTable.{fault_row};
+ghost use Rattle.std.specs.Prelude.{◌≡◌, ◌≤◌, ◌^◌, ◌&&◌, is_some, IfOk, IfErr, IfSome, length};
+ghost use Rattle.draw_ops.specs.Fault.{IsInRecord};
 ghost use Rattle.draw_ops.specs.Results.{result_map};
 ghost use Rattle.mapping.specs.Limits.{is_frame_side};
 ghost use Rattle.meta_headers.specs.EmfHeader.{bounds_height, bounds_side, bounds_width, emf_file, has_other_bytes, is_emf, is_header_size};
@@ -35,7 +35,7 @@ pub(crate) fn open_emf(file: &[u8]) -> Result<Opened<'_>, Fault>
     ensures opened { emf_file file.entry.now ≡ result_map opened_of result }
     ensures format { IfOk result (λ o. o.format ≡ FileFormat.Emf) }
     ensures records { IfOk result (λ o. o.records.now ≡ file.entry.now) }
-    ensures in_no_record { IfErr result (λ fault. (fault_row fault).in_record ≡ false) }
+    ensures in_no_record { IfErr result (λ fault. IsInRecord fault → ⊥) }
     ensures no_memory { IfErr result (λ fault. fault ≡ Fault.OutOfMemory → ⊥) }
 {
     if file.len() < LEAST_HEADER {

@@ -1,7 +1,7 @@
 //! Opening a file by how it begins.
 
-ghost use Rattle.std.specs.Prelude.{◌≡◌, false, IfOk, IfErr};
-ghost use Rattle.draw_ops.specs.FaultTable.{fault_row};
+ghost use Rattle.std.specs.Prelude.{◌≡◌, IfOk, IfErr};
+ghost use Rattle.draw_ops.specs.Fault.{IsInRecord};
 ghost use Rattle.draw_ops.specs.Results.{result_map};
 ghost use Rattle.meta_headers.specs.Headers.{is_too_long};
 ghost use Rattle.meta_headers.specs.OpenedOf.{opened_of};
@@ -22,7 +22,7 @@ const FILE_LIMIT: usize = 67108864;
 pub fn open_file(file: &[u8]) -> Result<Opened<'_>, Fault>
     ensures opened { opened file.entry.now ≡ result_map opened_of result }
     ensures records { IfOk result (λ o. o.records.now ≡ record_bytes o.format file.entry.now) }
-    ensures in_no_record { IfErr result (λ fault. (fault_row fault).in_record ≡ false) }
+    ensures in_no_record { IfErr result (λ fault. IsInRecord fault → ⊥) }
     ensures no_memory { IfErr result (λ fault. fault ≡ Fault.OutOfMemory → ⊥) }
 {
     if is_too_long(file) {

@@ -1,8 +1,8 @@
 //! META_PLACEABLE ([MS-WMF] 2.3.2.3): Key, HWmf, BoundingBox, Inch, Reserved, Checksum. META_HEADER stands
 //! behind it.
 
-ghost use Rattle.std.specs.Prelude.{◌≡◌, ◌-ℤ◌, ◌+◌, ◌≤◌, ◌==◌, ◌||◌, false, unsigned_abs, is_none, IfSome, IfOk, IfErr, length, drop};
-ghost use Rattle.draw_ops.specs.FaultTable.{fault_row};
+ghost use Rattle.std.specs.Prelude.{◌≡◌, ◌-ℤ◌, ◌+◌, ◌≤◌, ◌==◌, ◌||◌, unsigned_abs, is_none, IfSome, IfOk, IfErr, length, drop};
+ghost use Rattle.draw_ops.specs.Fault.{IsInRecord};
 ghost use Rattle.draw_ops.specs.NoteSet.{notes_in};
 ghost use Rattle.draw_ops.specs.Results.{result_map};
 ghost use Rattle.point_views.specs.Numbers.{i16_at};
@@ -37,7 +37,7 @@ pub(crate) fn open_placeable(file: &[u8]) -> Result<Opened<'_>, Fault>
     ensures opened { placeable_file file.entry.now ≡ result_map opened_of result }
     ensures format { IfOk result (λ o. o.format ≡ FileFormat.Placeable) }
     ensures records { IfOk result (λ o. o.records.now ≡ drop 40 file.entry.now) }
-    ensures in_no_record { IfErr result (λ fault. (fault_row fault).in_record ≡ false) }
+    ensures in_no_record { IfErr result (λ fault. IsInRecord fault → ⊥) }
     ensures no_memory { IfErr result (λ fault. fault ≡ Fault.OutOfMemory → ⊥) }
 {
     if file.len() < HEADERS {
@@ -55,7 +55,7 @@ fn open_boxed(file: &[u8]) -> Result<Opened<'_>, Fault>
     ensures opened { boxed_file file.entry.now ≡ result_map opened_of result }
     ensures format { IfOk result (λ o. o.format ≡ FileFormat.Placeable) }
     ensures records { IfOk result (λ o. o.records.now ≡ drop 40 file.entry.now) }
-    ensures in_no_record { IfErr result (λ fault. (fault_row fault).in_record ≡ false) }
+    ensures in_no_record { IfErr result (λ fault. IsInRecord fault → ⊥) }
     ensures no_memory { IfErr result (λ fault. fault ≡ Fault.OutOfMemory → ⊥) }
 {
     let corner = Point {

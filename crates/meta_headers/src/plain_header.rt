@@ -1,7 +1,7 @@
 //! Opening a plain WMF file, whose size its records tell.
 
-ghost use Rattle.std.specs.Prelude.{◌≡◌, ◌≢◌, ◌≤◌, pos, unsigned_abs, false, IfOk, IfErr, IfSome, length, drop};
-ghost use Rattle.draw_ops.specs.FaultTable.{fault_row};
+ghost use Rattle.std.specs.Prelude.{◌≡◌, ◌≢◌, ◌≤◌, pos, unsigned_abs, IfOk, IfErr, IfSome, length, drop};
+ghost use Rattle.draw_ops.specs.Fault.{IsInRecord};
 ghost use Rattle.draw_ops.specs.Results.{result_map};
 ghost use Rattle.meta_headers.specs.OpenedOf.{opened_of};
 ghost use Rattle.meta_headers.specs.PlainHeader.{is_plain, plain_file};
@@ -25,7 +25,7 @@ pub(crate) fn open_plain(file: &[u8]) -> Result<Opened<'_>, Fault>
     ensures opened { plain_file file.entry.now ≡ result_map opened_of result }
     ensures format { IfOk result (λ o. o.format ≡ FileFormat.Plain) }
     ensures records { IfOk result (λ o. o.records.now ≡ drop 18 file.entry.now) }
-    ensures in_no_record { IfErr result (λ fault. (fault_row fault).in_record ≡ false) }
+    ensures in_no_record { IfErr result (λ fault. IsInRecord fault → ⊥) }
     ensures no_memory { IfErr result (λ fault. fault ≡ Fault.OutOfMemory → ⊥) }
 {
     if file.len() < HEADER_LENGTH {

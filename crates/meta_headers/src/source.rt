@@ -1,6 +1,6 @@
 //! The source of an opened file's steps, whatever its format.
 
-use draw_ops::{Fault, HasContent, OpSource, Step};
+use draw_ops::{HasContent, OpSource, RecordFault, Step};
 use emf_records::EmfOps;
 use wmf_records::WmfOps;
 
@@ -21,7 +21,7 @@ impl<'a> HasContent for Source<'a> {
 
 impl<'a> OpSource<'a> for Source<'a> {
     /// The next record's step, none behind the end record, or the fault at which the records break.
-    fn next_op(&mut self) -> Result<Option<Step<'a>>, Fault> {
+    fn next_op(&mut self) -> Result<Option<Step<'a>>, RecordFault> {
         match self {
             Source::Wmf(ops) => ops.next_op(),
             Source::Emf(ops) => ops.next_op(),

@@ -1,3 +1,4 @@
 pub mod SlotLemmas
 pub mod StoreLemmas
 pub mod WorkedRows
+pub mod OrderLemmas

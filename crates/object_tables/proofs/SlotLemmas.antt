@@ -1,8 +1,8 @@
 -- The least free index of slots in order.
 use Rattle.std.proofs.Common.{◌≡◌, ℕ, suc, ◌+◌, ◌<◌, ◌≤◌, Bool, true, false, cond, nat_le, nat_lt, List, [], ◌∷◌, length, inl, inr, Option, Some, None, IsSome, refl, sym, ap, ◌∙◌, subst, arith}
 use Rattle.std.proofs.lemmas.Bool.{and_parts, ltb-true, eq-eqb, ne_eqb, cases_eq}
-use Rattle.draw_ops.specs.declared.fault.Fault.{Fault}
-use Rattle.draw_ops.specs.declared.fault.Fault.TheVariants.{HandleTaken, NoSuchHandle, TableFull}
+use Rattle.draw_ops.specs.declared.record_fault.RecordFault.{RecordFault}
+use Rattle.draw_ops.specs.declared.record_fault.RecordFault.TheVariants.{HandleTaken, NoSuchHandle, TableFull}
 use Rattle.object_tables.specs.Slots.{IsInOrderFrom, Slots, is_taken, left_out_from, object_at}
 use Rattle.object_tables.specs.Table.{CreatedIndexIsBelowBound, LowestFreeIsLeast, by_given_index, by_lowest_free, may_be_given, slot_limit}
 
@@ -72,7 +72,7 @@ left_out_within k (slot ∷ slots) = elim (cases_eq slot.0 k) [
 ]
 
 -- what a test lets through
-passed : (a b : Bool) (first second : Fault) → cond a (cond b (Some first) None) (Some second) ≡ None → a ≡ true
+passed : (a b : Bool) (first second : RecordFault) → cond a (cond b (Some first) None) (Some second) ≡ None → a ≡ true
 passed true b first second h = refl
 passed false b first second h = cc
 

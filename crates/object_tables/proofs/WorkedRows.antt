@@ -1,7 +1,7 @@
 -- The definitions on worked values.
 use Rattle.std.proofs.Common.{◌≡◌, [], ◌∷◌, Option, Some, None, refl}
 use Rattle.draw_ops.specs.Objects.{ObjectValue, brush_object, font_object, null_brush}
-use Rattle.draw_ops.specs.declared.fault.Fault.TheVariants.{HandleTaken, NoSuchHandle}
+use Rattle.draw_ops.specs.declared.record_fault.RecordFault.TheVariants.{HandleTaken, NoSuchHandle}
 use Rattle.object_tables.specs.Slots.{Slots, lowest_free, object_at, with_object, without_object}
 use Rattle.object_tables.specs.Table.{by_given_index, by_lowest_free, create_fault, created_index}
 

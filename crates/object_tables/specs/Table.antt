@@ -1,9 +1,11 @@
 -- How objects come into a table and leave it.
 use Rattle.std.specs.Prelude.{◌≡◌, ℕ, ◌<◌, ◌≤◌, nat_le, nat_lt, Bool, ◌&&◌, if◌then◌else◌, length, Option, Some, None, ◌⊎◌}
-use Rattle.std.specs.Option.{unwrap_or}
+use Rattle.std.specs.Option.{option_map, unwrap_or}
 use Rattle.draw_ops.specs.Objects.{ObjectValue}
 use Rattle.draw_ops.specs.declared.fault.Fault.{Fault}
-use Rattle.draw_ops.specs.declared.fault.Fault.TheVariants.{HandleTaken, NoSuchHandle, OutOfMemory, TableFull}
+use Rattle.draw_ops.specs.declared.fault.Fault.TheVariants.{OutOfMemory, Record}
+use Rattle.draw_ops.specs.declared.record_fault.RecordFault.{RecordFault}
+use Rattle.draw_ops.specs.declared.record_fault.RecordFault.TheVariants.{HandleTaken, NoSuchHandle, TableFull}
 use Rattle.object_tables.specs.Slots.{IsInOrder, IsLowestFree, Slots, is_taken, lowest_free, with_object}
 
 -- Which index a new object gets: the least that is free, whatever its record says (WMF), or the one that its record gives, from 1 up
@@ -32,13 +34,13 @@ abbrev pub may_be_given : ℕ → ℕ → Bool
 may_be_given limit index = nat_le 1 index && nat_lt index limit
 
 -- the fault of making an object at the index that its record gives, where indexes are below a limit
-abbrev given_fault : ℕ → Option ℕ → Slots → Option Fault
+abbrev given_fault : ℕ → Option ℕ → Slots → Option RecordFault
 given_fault limit None slots = Some NoSuchHandle
 given_fault limit (Some index) slots =
     if may_be_given limit index then (if is_taken index slots then Some HandleTaken else None) else Some NoSuchHandle
 
 -- the fault of making an object
-abbrev pub create_fault : TableKind → Option ℕ → Slots → Option Fault
+abbrev pub create_fault : TableKind → Option ℕ → Slots → Option RecordFault
 create_fault by_lowest_free at slots = if nat_lt (length slots) slot_limit then None else Some TableFull
 create_fault (by_given_index limit) at slots = given_fault limit at slots
 
@@ -66,10 +68,10 @@ pub record WantsSlot (at : Option ℕ) (table : TableState) (fault : Fault) : Ty
 
 -- an object isn't made: by the first fault, or for want of memory
 abbrev pub RefusesCreate : Option ℕ → TableState → Fault → Type 0
-RefusesCreate at table fault = create_fault table.kind at table.slots ≡ Some fault ⊎ WantsSlot at table fault
+RefusesCreate at table fault = option_map Record (create_fault table.kind at table.slots) ≡ Some fault ⊎ WantsSlot at table fault
 
 -- the fault of taking an object out
-abbrev pub remove_fault : ℕ → Slots → Option Fault
+abbrev pub remove_fault : ℕ → Slots → Option RecordFault
 remove_fault index slots = if is_taken index slots then None else Some NoSuchHandle
 
 -- the least free index of slots in order is free, and each below it is taken

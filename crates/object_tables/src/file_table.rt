@@ -7,7 +7,7 @@ ghost use Rattle.object_tables.specs.Table.{index_bound, table_kind_of};
 use crate::given::Given;
 use crate::lowest_free::{LowestFree, MAX_SLOTS};
 use crate::table::{Contents, Table};
-use draw_ops::{Fault, Handle, Object};
+use draw_ops::{Fault, Handle, Object, RecordFault};
 use std::alloc::Global;
 
 /// The objects of a file. One type for all formats lets what reads and plays a record be compiled as one.
@@ -53,14 +53,14 @@ impl<'a> Table<'a> for FileTable<'a> {
         }
     }
 
-    fn get(&self, handle: Handle) -> Result<Object<'a>, Fault> {
+    fn get(&self, handle: Handle) -> Result<Object<'a>, RecordFault> {
         match self {
             FileTable::LowestFree(table) => table.get(handle),
             FileTable::Given(table) => table.get(handle),
         }
     }
 
-    fn remove(&mut self, handle: Handle) -> Result<(), Fault> {
+    fn remove(&mut self, handle: Handle) -> Result<(), RecordFault> {
         match self {
             FileTable::LowestFree(table) => table.remove(handle),
             FileTable::Given(table) => table.remove(handle),

@@ -5,7 +5,7 @@ ghost use Rattle.object_tables.specs.Table.{by_given_index};
 
 use crate::store::Store;
 use crate::table::{Contents, Table};
-use draw_ops::{Fault, Handle, Object};
+use draw_ops::{Fault, Handle, Object, RecordFault};
 use std::alloc::Global;
 use std::marker::Model;
 
@@ -47,22 +47,22 @@ impl<'a> Table<'a> for Given<'a> {
     fn create(&mut self, at: Option<Handle>, object: Object<'a>) -> Result<Handle, Fault> {
         let limit = u32::from(self.handles);
         let Some(handle) = at else {
-            return Err(Fault::NoSuchHandle);
+            return Err(Fault::Record(RecordFault::NoSuchHandle));
         };
         if handle.0 == 0 || handle.0 >= limit {
-            return Err(Fault::NoSuchHandle);
+            return Err(Fault::Record(RecordFault::NoSuchHandle));
         }
         if self.store.is_taken(handle) {
-            return Err(Fault::HandleTaken);
+            return Err(Fault::Record(RecordFault::HandleTaken));
         }
         self.store.put(handle.0, object)
     }
 
-    fn get(&self, handle: Handle) -> Result<Object<'a>, Fault> {
+    fn get(&self, handle: Handle) -> Result<Object<'a>, RecordFault> {
         self.store.get(handle)
     }
 
-    fn remove(&mut self, handle: Handle) -> Result<(), Fault> {
+    fn remove(&mut self, handle: Handle) -> Result<(), RecordFault> {
         self.store.remove(handle)
     }
 

@@ -11,7 +11,8 @@
 //! - After a refusal the objects are what they were. Memory is refused only where an index lies
 //!   past the room, which no call makes smaller (`Table::create`, `Table::reserve`).
 //! - The least free index is free, and each below it is taken (`lowest_free_law`); the index of a new
-//!   object is below the table's bound (`created_index_law`).
+//!   object is below the table's bound (`created_index_law`); objects are in the order of their indexes, and stay so
+//!   (`order_law`).
 #![tactic(auto)]
 
 mod file_table;
@@ -23,6 +24,6 @@ mod table;
 
 pub use file_table::{FileTable, full_slots};
 pub use given::Given;
-pub use laws::{created_index_law, lowest_free_law};
+pub use laws::{created_index_law, lowest_free_law, order_law};
 pub use lowest_free::{LowestFree, MAX_SLOTS};
 pub use table::{Contents, Table};

@@ -5,7 +5,7 @@ ghost use Rattle.object_tables.specs.Table.{by_lowest_free};
 
 use crate::store::Store;
 use crate::table::{Contents, Table};
-use draw_ops::{Fault, Handle, Object};
+use draw_ops::{Fault, Handle, Object, RecordFault};
 use std::alloc::Global;
 use std::marker::Model;
 
@@ -51,16 +51,16 @@ impl<'a> Table<'a> for LowestFree<'a> {
     fn create(&mut self, at: Option<Handle>, object: Object<'a>) -> Result<Handle, Fault> {
         let index = self.store.lowest_free();
         if index >= MAX_SLOTS {
-            return Err(Fault::TableFull);
+            return Err(Fault::Record(RecordFault::TableFull));
         }
         self.store.put(index as u32, object)
     }
 
-    fn get(&self, handle: Handle) -> Result<Object<'a>, Fault> {
+    fn get(&self, handle: Handle) -> Result<Object<'a>, RecordFault> {
         self.store.get(handle)
     }
 
-    fn remove(&mut self, handle: Handle) -> Result<(), Fault> {
+    fn remove(&mut self, handle: Handle) -> Result<(), RecordFault> {
         self.store.remove(handle)
     }
 

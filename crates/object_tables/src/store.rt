@@ -6,12 +6,13 @@ ghost use Rattle.std.specs.Option.{is_none, ok_or, option_map};
 ghost use Rattle.std.specs.Result.{result_err};
 ghost use Rattle.draw_ops.specs.Objects.{object_value_of};
 ghost use Rattle.draw_ops.specs.Results.{result_map};
-ghost use Rattle.draw_ops.specs.declared.fault.Fault.TheVariants.{NoSuchHandle, OutOfMemory};
+ghost use Rattle.draw_ops.specs.declared.fault.Fault.TheVariants.{OutOfMemory};
+ghost use Rattle.draw_ops.specs.declared.record_fault.RecordFault.TheVariants.{NoSuchHandle};
 ghost use Rattle.object_tables.specs.Slots.{IsInOrder, is_taken, lowest_free, object_at, with_object, without_object};
 ghost use Rattle.object_tables.specs.Store.{places_taken};
 ghost use Rattle.object_tables.specs.Table.{remove_fault};
 
-use draw_ops::{Fault, Handle, Object};
+use draw_ops::{Fault, Handle, Object, RecordFault};
 use std::alloc::Global;
 use std::marker::Model;
 
@@ -57,13 +58,13 @@ impl<'a> Store<'a> {
     }
 
     /// The object at an index, or `NoSuchHandle` where there is none.
-    pub(crate) fn get(&self, handle: Handle) -> Result<Object<'a>, Fault>
+    pub(crate) fn get(&self, handle: Handle) -> Result<Object<'a>, RecordFault>
         ensures object { result_map object_value_of result ≡ ok_or (object_at handle.0 self.now.slots) NoSuchHandle }
         ensures in_order { IsInOrder self.now.slots }
     {
         match self.at(handle.0) {
             Some(object) => Ok(object),
-            None => Err(Fault::NoSuchHandle),
+            None => Err(RecordFault::NoSuchHandle),
         }
     }
 
@@ -112,7 +113,7 @@ impl<'a> Store<'a> {
     }
 
     /// Takes the object at an index out, or answers `NoSuchHandle` where there is none.
-    pub(crate) fn remove(&mut self, handle: Handle) -> Result<(), Fault>
+    pub(crate) fn remove(&mut self, handle: Handle) -> Result<(), RecordFault>
         ensures fault { result_err result ≡ remove_fault handle.0 self.old.slots }
         ensures removed { OnOk result (self.new.slots ≡ without_object handle.0 self.old.slots) }
         ensures kept { OnErr result (self.new.slots ≡ self.old.slots) }
@@ -120,7 +121,7 @@ impl<'a> Store<'a> {
         ensures room { self.new.room ≡ self.old.room }
     {
         if !self.is_taken(handle) {
-            return Err(Fault::NoSuchHandle);
+            return Err(RecordFault::NoSuchHandle);
         }
         self.places[handle.0 as usize] = None;
         Ok(())

@@ -5,11 +5,12 @@ ghost use Rattle.std.specs.Option.{ok_or};
 ghost use Rattle.std.specs.Result.{result_err};
 ghost use Rattle.draw_ops.specs.Objects.{index_of, object_value_of};
 ghost use Rattle.draw_ops.specs.Results.{result_map};
-ghost use Rattle.draw_ops.specs.declared.fault.Fault.TheVariants.{NoSuchHandle, OutOfMemory};
+ghost use Rattle.draw_ops.specs.declared.fault.Fault.TheVariants.{OutOfMemory};
+ghost use Rattle.draw_ops.specs.declared.record_fault.RecordFault.TheVariants.{NoSuchHandle};
 ghost use Rattle.object_tables.specs.Slots.{IsInOrder, object_at, without_object};
 ghost use Rattle.object_tables.specs.Table.{HasCreated, RefusesCreate, TableState, remove_fault};
 
-use draw_ops::{Fault, Handle, Object};
+use draw_ops::{Fault, Handle, Object, RecordFault};
 
 /// A value that holds objects by their indexes.
 pub trait Contents: Drop {
@@ -31,12 +32,12 @@ pub trait Table<'a>: Contents {
         ensures room { (Self.state self.old).room ≤ (Self.state self.new).room };
 
     /// The object at an index, or `NoSuchHandle` where there is none.
-    fn get(&self, handle: Handle) -> Result<Object<'a>, Fault>
+    fn get(&self, handle: Handle) -> Result<Object<'a>, RecordFault>
         ensures object { result_map object_value_of result ≡ ok_or (object_at handle.0 (Self.state self.now).slots) NoSuchHandle }
         ensures in_order { IsInOrder (Self.state self.now).slots };
 
     /// Takes the object at an index out, or answers `NoSuchHandle` where there is none.
-    fn remove(&mut self, handle: Handle) -> Result<(), Fault>
+    fn remove(&mut self, handle: Handle) -> Result<(), RecordFault>
         ensures fault { result_err result ≡ remove_fault handle.0 (Self.state self.old).slots }
         ensures removed { OnOk result ((Self.state self.new).slots ≡ without_object handle.0 (Self.state self.old).slots) }
         ensures kept { OnErr result ((Self.state self.new).slots ≡ (Self.state self.old).slots) }

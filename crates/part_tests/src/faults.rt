@@ -1,7 +1,7 @@
 //! What faults show to users.
 
 use crate::comparing::same;
-use draw_ops::Fault;
+use draw_ops::{Fault, RecordFault};
 use std::test::Fail;
 
 #[test]
@@ -9,19 +9,29 @@ fn a_fault_shows_its_name_and_the_record_that_it_speaks_of(rt: HostRuntime) -> R
     for (fault, code, name, text) in [
         (Fault::TooLong, 1, "TooLong", "TooLong"),
         (
-            Fault::UnknownRecord(2457),
+            Fault::Record(RecordFault::UnknownRecord(2457)),
             14,
             "UnknownRecord",
             "UnknownRecord 2457",
         ),
         (
-            Fault::Unsupported(2610),
+            Fault::Record(RecordFault::Unsupported(2610)),
             15,
             "Unsupported",
             "Unsupported 2610",
         ),
-        (Fault::HeldObject, 27, "HeldObject", "HeldObject"),
-        (Fault::BoxTooSmall, 39, "BoxTooSmall", "BoxTooSmall"),
+        (
+            Fault::Record(RecordFault::HeldObject),
+            27,
+            "HeldObject",
+            "HeldObject",
+        ),
+        (
+            Fault::Record(RecordFault::BoxTooSmall),
+            39,
+            "BoxTooSmall",
+            "BoxTooSmall",
+        ),
         (
             Fault::BudgetTooSmall,
             41,
@@ -35,8 +45,16 @@ fn a_fault_shows_its_name_and_the_record_that_it_speaks_of(rt: HostRuntime) -> R
         let shown = format!(in rt.alloc(); "{fault}")?;
         same(&rt, shown.as_str(), text);
     }
-    same(&rt, Fault::Unsupported(2610).number(), Some(2610));
-    same(&rt, Fault::UnknownRecord(0).number(), Some(0));
-    same(&rt, Fault::NoEnd.number(), None);
+    same(
+        &rt,
+        Fault::Record(RecordFault::Unsupported(2610)).number(),
+        Some(2610),
+    );
+    same(
+        &rt,
+        Fault::Record(RecordFault::UnknownRecord(0)).number(),
+        Some(0),
+    );
+    same(&rt, Fault::Record(RecordFault::NoEnd).number(), None);
     Ok(())
 }

@@ -1,7 +1,7 @@
 //! The steps of EMF records, with their numbers and notes.
 
 use crate::headers::NIL_EMF;
-use draw_ops::{Fault, Handle, Note, NoteSet, Object, Op, OpSource, Pen, Step};
+use draw_ops::{Handle, Note, NoteSet, Object, Op, OpSource, Pen, RecordFault, Step};
 use emf_records::EmfOps;
 use point_views::{Points, Polys};
 use std::test::Fail;
@@ -42,7 +42,7 @@ fn a_polygon_has_its_points(rt: HostRuntime) -> Result<(), Fail> {
     let mut source = EmfOps::new(&polygon);
     let step = first(Op::Polygon(Polys::one(points)), NoteSet::none());
     assert!(rt; source.next_op()? == Some(step));
-    assert_eq!(rt; source.next_op().err(), Some(Fault::NoEnd));
+    assert_eq!(rt; source.next_op().err(), Some(RecordFault::NoEnd));
     Ok(())
 }
 

@@ -1,7 +1,7 @@
 //! The steps of WMF records, with their numbers and notes.
 
 use crate::comparing::same;
-use draw_ops::{Fault, Note, NoteSet, Object, Op, OpSource, Pen, Step};
+use draw_ops::{Note, NoteSet, Object, Op, OpSource, Pen, RecordFault, Step};
 use mapping::{Colour, MapMode, Point};
 use std::test::Fail;
 use wmf_records::WmfOps;
@@ -60,16 +60,20 @@ fn a_fault_comes_again_at_each_call(rt: HostRuntime) -> Result<(), Fail> {
     let front = PIXEL_AND_END.get(..19).ok_or("a front")?;
     let mut source = WmfOps::new(front);
     assert!(rt; source.next_op()? == Some(pixel()));
-    same(&rt, source.next_op().err(), Some(Fault::NoEnd));
-    same(&rt, source.next_op().err(), Some(Fault::NoEnd));
-    same(&rt, source.next_op().err(), Some(Fault::NoEnd));
+    same(&rt, source.next_op().err(), Some(RecordFault::NoEnd));
+    same(&rt, source.next_op().err(), Some(RecordFault::NoEnd));
+    same(&rt, source.next_op().err(), Some(RecordFault::NoEnd));
     Ok(())
 }
 
 #[test]
 fn no_bytes_have_no_end(rt: HostRuntime) -> Result<(), Fail> {
     let empty: [u8; 0] = [];
-    same(&rt, WmfOps::new(&empty).next_op().err(), Some(Fault::NoEnd));
+    same(
+        &rt,
+        WmfOps::new(&empty).next_op().err(),
+        Some(RecordFault::NoEnd),
+    );
     Ok(())
 }
 

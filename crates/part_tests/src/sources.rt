@@ -1,7 +1,7 @@
 //! What a listed source gives, and how many steps it has.
 
 use crate::comparing::same;
-use draw_ops::{Fault, Listed, Note, NoteSet, Op, OpSource, Step, count_steps};
+use draw_ops::{Listed, Note, NoteSet, Op, OpSource, RecordFault, Step, count_steps};
 use mapping::Point;
 use point_views::{Points, Polys};
 use std::test::Fail;
@@ -56,10 +56,10 @@ fn gives_its_steps_and_then_none_twice(rt: HostRuntime) -> Result<(), Fail> {
 #[test]
 fn gives_its_steps_and_then_the_fault_twice(rt: HostRuntime) -> Result<(), Fail> {
     let steps = [move_to()];
-    let mut source = Listed::new(&steps, Some(Fault::ShortRecord));
+    let mut source = Listed::new(&steps, Some(RecordFault::ShortRecord));
     assert!(rt; source.next_op()? == Some(move_to()));
-    same(&rt, source.next_op().err(), Some(Fault::ShortRecord));
-    same(&rt, source.next_op().err(), Some(Fault::ShortRecord));
+    same(&rt, source.next_op().err(), Some(RecordFault::ShortRecord));
+    same(&rt, source.next_op().err(), Some(RecordFault::ShortRecord));
     Ok(())
 }
 
@@ -75,16 +75,16 @@ fn counts_the_steps_of_a_list(rt: HostRuntime) -> Result<(), Fail> {
 #[test]
 fn gives_the_fault_in_place_of_a_count(rt: HostRuntime) -> Result<(), Fail> {
     let steps = [save(), move_to(), skipped()];
-    let fault = Some(Fault::UnknownRecord(2457));
+    let fault = Some(RecordFault::UnknownRecord(2457));
     same(
         &rt,
         count_steps(&mut Listed::new(&steps, fault)),
-        Err(Fault::UnknownRecord(2457)),
+        Err(RecordFault::UnknownRecord(2457)),
     );
     same(
         &rt,
-        count_steps(&mut Listed::new(&[], Some(Fault::NoEnd))),
-        Err(Fault::NoEnd),
+        count_steps(&mut Listed::new(&[], Some(RecordFault::NoEnd))),
+        Err(RecordFault::NoEnd),
     );
     let mut counted = Listed::new(&steps, None);
     same(&rt, count_steps(&mut counted), Ok(3));

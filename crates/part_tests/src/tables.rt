@@ -1,7 +1,7 @@
 //! Tables of objects: indexes, and refused growth.
 
 use crate::comparing::same;
-use draw_ops::{Brush, Fault, Handle, Object, Pen};
+use draw_ops::{Brush, Fault, Handle, Object, Pen, RecordFault};
 use object_tables::{Given, LowestFree, Table};
 use std::test::Fail;
 
@@ -18,7 +18,7 @@ fn the_least_free_index_is_taken(rt: HostRuntime) -> Result<(), Fail> {
     for index in [0, 1, 3] {
         same(&rt, table.create(None, FONT), Ok(Handle(index)));
     }
-    same(&rt, table.remove(Handle(4)), Err(Fault::NoSuchHandle));
+    same(&rt, table.remove(Handle(4)), Err(RecordFault::NoSuchHandle));
     Ok(())
 }
 
@@ -29,9 +29,13 @@ fn a_table_has_1024_objects(rt: HostRuntime) -> Result<(), Fail> {
     for index in 0..1024 {
         same(&rt, table.create(None, FONT), Ok(Handle(index)));
     }
-    same(&rt, table.create(None, FONT), Err(Fault::TableFull));
+    same(
+        &rt,
+        table.create(None, FONT),
+        Err(Fault::Record(RecordFault::TableFull)),
+    );
     table.clear();
-    same(&rt, table.get(Handle(0)), Err(Fault::NoSuchHandle));
+    same(&rt, table.get(Handle(0)), Err(RecordFault::NoSuchHandle));
     same(&rt, table.create(None, FONT), Ok(Handle(0)));
     Ok(())
 }
@@ -45,7 +49,7 @@ fn an_index_is_given_once(rt: HostRuntime) -> Result<(), Fail> {
     same(
         &rt,
         table.create(Some(Handle(2)), brush),
-        Err(Fault::HandleTaken),
+        Err(Fault::Record(RecordFault::HandleTaken)),
     );
     same(&rt, table.get(Handle(2)), Ok(pen));
     for absent in [
@@ -54,9 +58,13 @@ fn an_index_is_given_once(rt: HostRuntime) -> Result<(), Fail> {
         Some(Handle(u32::MAX)),
         None,
     ] {
-        same(&rt, table.create(absent, brush), Err(Fault::NoSuchHandle));
+        same(
+            &rt,
+            table.create(absent, brush),
+            Err(Fault::Record(RecordFault::NoSuchHandle)),
+        );
     }
-    same(&rt, table.get(Handle(1)), Err(Fault::NoSuchHandle));
+    same(&rt, table.get(Handle(1)), Err(RecordFault::NoSuchHandle));
     same(&rt, table.create(Some(Handle(1)), brush), Ok(Handle(1)));
     Ok(())
 }
@@ -68,7 +76,11 @@ fn a_create_under_refused_growth(rt: HostRuntime) -> Result<(), Fail> {
     for index in 0..100 {
         let mut made = table.create(None, FONT);
         if made == Err(Fault::OutOfMemory) {
-            same(&rt, table.get(Handle(index)), Err(Fault::NoSuchHandle));
+            same(
+                &rt,
+                table.get(Handle(index)),
+                Err(RecordFault::NoSuchHandle),
+            );
             if index > 0 {
                 same(&rt, table.get(Handle(index - 1)), Ok(FONT));
             }
@@ -87,7 +99,7 @@ fn a_given_index_under_refused_growth(rt: HostRuntime) -> Result<(), Fail> {
         let at = Handle(index);
         let mut made = table.create(Some(at), FONT);
         if made == Err(Fault::OutOfMemory) {
-            same(&rt, table.get(at), Err(Fault::NoSuchHandle));
+            same(&rt, table.get(at), Err(RecordFault::NoSuchHandle));
             made = table.create(Some(at), FONT);
         }
         same(&rt, made, Ok(at));

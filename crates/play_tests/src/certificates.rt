@@ -2,7 +2,7 @@
 
 use crate::comparing::same;
 use crate::files::{certificate, enhanced, placeable};
-use draw_ops::Fault;
+use draw_ops::{Fault, RecordFault};
 use part_tests::DOT;
 use preflight_cert::{Refusal, check, prepare};
 use std::alloc::{AllocError, Global};
@@ -57,7 +57,7 @@ fn prepares(
 }
 
 /// A file has no certificate at a bound, by this fault in this record.
-fn stops(rt: &impl Abort, alloc: Global, file: &[u8], side: u32, number: u32, fault: Fault) {
+fn stops(rt: &impl Abort, alloc: Global, file: &[u8], side: u32, number: u32, fault: RecordFault) {
     let refused = prepare(alloc, file, side, side).err();
     same(rt, refused, Some(Refusal::at(number, fault)));
 }
@@ -171,15 +171,15 @@ fn the_plane_ends_where_it_does(rt: HostRuntime) -> Result<(), Fail> {
     prepares(&rt, rt.alloc(), &file, 8192, 8192, &numbers)?;
     for column in [268_435_457, 2_147_483_647] {
         let file = enhanced(rt.alloc(), 8191, &[54, 16, column, 0])?;
-        stops(&rt, rt.alloc(), &file, 8192, 1, Fault::OffPlane);
+        stops(&rt, rt.alloc(), &file, 8192, 1, RecordFault::OffPlane);
     }
     Ok(())
 }
 
 #[test]
 fn each_number_of_a_certificate_is_looked_at(rt: HostRuntime) -> Result<(), Fail> {
-    let wrong = Refusal::at(0, Fault::WrongEntry);
-    let small = Refusal::at(0, Fault::BoxTooSmall);
+    let wrong = Refusal::at(0, RecordFault::WrongEntry);
+    let small = Refusal::at(0, RecordFault::BoxTooSmall);
     for (place, byte, refusal) in [
         (0, 0x4e, Some(Refusal::of_file(Fault::NotCertificate))),
         (4, 0, Some(Refusal::of_file(Fault::BadBound))),
@@ -209,7 +209,7 @@ fn the_first_of_two_faults_is_told(rt: HostRuntime) -> Result<(), Fail> {
     for (longs, refusal) in [
         (
             [4, 4, 31, 0, 0, 0, 2, 0, 1, 0, 0, 0, 3, 4],
-            Refusal::at(0, Fault::BoxTooSmall),
+            Refusal::at(0, RecordFault::BoxTooSmall),
         ),
         (
             [4, 4, 31, 0, 0, 0, 2, 0, 1, 0, 0, 0, 4, 4],
@@ -221,7 +221,7 @@ fn the_first_of_two_faults_is_told(rt: HostRuntime) -> Result<(), Fail> {
         ),
         (
             [4, 4, 32, 0, 0, 0, 3, 0, 1, 9, 0, 0, 3, 4],
-            Refusal::at(0, Fault::WrongEntry),
+            Refusal::at(0, RecordFault::WrongEntry),
         ),
     ] {
         let text = certificate(rt.alloc(), &longs)?;
@@ -247,17 +247,17 @@ fn entries_stand_in_the_order_of_their_drawings(rt: HostRuntime) -> Result<(), F
         (
             3,
             [first, second, second],
-            Some(Refusal::at(2, Fault::WrongEntry)),
+            Some(Refusal::at(2, RecordFault::WrongEntry)),
         ),
         (
             3,
             [second, first, first],
-            Some(Refusal::at(0, Fault::WrongEntry)),
+            Some(Refusal::at(0, RecordFault::WrongEntry)),
         ),
         (
             3,
             [first, first, second],
-            Some(Refusal::at(1, Fault::WrongEntry)),
+            Some(Refusal::at(1, RecordFault::WrongEntry)),
         ),
     ] {
         let mut longs = Vec::from_slice(rt.alloc(), &[4, 4, 2, 0, 0, 0, 0, 0, count])?;
@@ -268,7 +268,10 @@ fn entries_stand_in_the_order_of_their_drawings(rt: HostRuntime) -> Result<(), F
         let refused = check(rt.alloc(), &file, text.as_slice()).err();
         same(&rt, (count, refused), (count, refusal));
     }
-    for (count, refusal) in [(1, Some(Refusal::at(1, Fault::WrongEntry))), (2, None)] {
+    for (count, refusal) in [
+        (1, Some(Refusal::at(1, RecordFault::WrongEntry))),
+        (2, None),
+    ] {
         let mut longs = Vec::from_slice(rt.alloc(), &[4, 4, 2, 0, 0, 0, 0, 0, count])?;
         longs.extend_from_slice(&first)?;
         if count == 2 {
@@ -289,7 +292,7 @@ fn an_entry_that_is_left_over_is_refused_at_the_end_record(rt: HostRuntime) -> R
     }
     text.extend_from_slice(&CERTIFICATE[40..])?;
     let refused = check(rt.alloc(), &POLYGON, text.as_slice()).err();
-    same(&rt, refused, Some(Refusal::at(1, Fault::WrongEntry)));
+    same(&rt, refused, Some(Refusal::at(1, RecordFault::WrongEntry)));
     Ok(())
 }
 
@@ -297,7 +300,7 @@ fn an_entry_that_is_left_over_is_refused_at_the_end_record(rt: HostRuntime) -> R
 fn what_is_off_at_the_bound_may_be_on_at_less(rt: HostRuntime) -> Result<(), Fail> {
     // With a frame of one unit, the column 32,769 lands past the limit on a surface of 8,192 columns.
     let file = enhanced(rt.alloc(), 0, &[54, 16, 32_769, 0])?;
-    stops(&rt, rt.alloc(), &file, 8192, 1, Fault::OffPlane);
+    stops(&rt, rt.alloc(), &file, 8192, 1, RecordFault::OffPlane);
     let numbers = [1, 1, 1, 0, 0, 0, 2, 0, 1, 1, 0, 0, 32_769, 0];
     prepares(&rt, rt.alloc(), &file, 1, 1, &numbers)?;
     let wide = certificate(
@@ -305,7 +308,7 @@ fn what_is_off_at_the_bound_may_be_on_at_less(rt: HostRuntime) -> Result<(), Fai
         &[8192, 1, 8192, 0, 0, 0, 2, 0, 1, 1, 0, 0, 32_769, 0],
     )?;
     let refused = check(rt.alloc(), &file, wide.as_slice()).err();
-    same(&rt, refused, Some(Refusal::at(1, Fault::OffPlane)));
+    same(&rt, refused, Some(Refusal::at(1, RecordFault::OffPlane)));
     Ok(())
 }
 
@@ -322,7 +325,7 @@ fn a_bound_and_a_file_are_refused(rt: HostRuntime) -> Result<(), Fail> {
     let none = Refusal::of_file(Fault::NotMetafile);
     same(&rt, prepare(rt.alloc(), &[], 4, 4).err(), Some(none));
     same(&rt, check(rt.alloc(), &[], &CERTIFICATE).err(), Some(none));
-    let cut = Refusal::at(1, Fault::NoEnd);
+    let cut = Refusal::at(1, RecordFault::NoEnd);
     same(&rt, prepare(rt.alloc(), &DOT[..54], 4, 4).err(), Some(cut));
     Ok(())
 }

@@ -3,7 +3,7 @@
 use crate::comparing::same;
 use crate::stepping::{machine, step};
 use dc_stack::{Draw, Mark, Needs};
-use draw_ops::{Fault, FillMode, Handle, Object, Op, SavedState};
+use draw_ops::{Fault, FillMode, Handle, Object, Op, RecordFault, SavedState};
 use mapping::{Point, Rect};
 use meta_headers::open_file;
 use part_tests::{DOT, RED};
@@ -76,8 +76,14 @@ fn needs_are_the_greatest_since_the_start(rt: HostRuntime) -> Result<(), Fail> {
     same(&rt, machine.needs(), none);
     same(&rt, machine.dc().modes.fill_mode, FillMode::Alternate);
     for (op, fault) in [
-        (Op::Select(Handle(0)), Fault::NoSuchHandle),
-        (Op::Restore(SavedState(-1)), Fault::NoSavedState),
+        (
+            Op::Select(Handle(0)),
+            Fault::Record(RecordFault::NoSuchHandle),
+        ),
+        (
+            Op::Restore(SavedState(-1)),
+            Fault::Record(RecordFault::NoSavedState),
+        ),
     ] {
         same(&rt, step(&mut machine, op), Err(fault));
     }

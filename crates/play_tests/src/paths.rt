@@ -3,7 +3,7 @@
 use crate::comparing::same;
 use crate::stepping::{machine, step};
 use dc_stack::MAX_PIECES;
-use draw_ops::{Fault, Op};
+use draw_ops::{Fault, Op, RecordFault};
 use mapping::Point;
 use meta_headers::open_file;
 use part_tests::DOT;
@@ -26,7 +26,7 @@ fn pieces_are_lent_until_the_next_accepted_step(rt: HostRuntime) -> Result<(), F
         (LINE, Ok(false), 0),
         (Op::EndPath, Ok(false), 0),
         (Op::FillPath, Ok(true), 2),
-        (Op::EndPath, Err(Fault::PathState), 2),
+        (Op::EndPath, Err(Fault::Record(RecordFault::PathState)), 2),
         (Op::NoEffect, Ok(false), 0),
     ] {
         same(&rt, step(&mut machine, op), answer);
@@ -41,7 +41,11 @@ fn a_new_start_has_no_path(rt: HostRuntime) -> Result<(), Fail> {
     let mut machine = machine(rt.alloc(), &opened);
     same(&rt, step(&mut machine, Op::BeginPath), Ok(false));
     machine.restart(&opened);
-    same(&rt, step(&mut machine, Op::EndPath), Err(Fault::PathState));
+    same(
+        &rt,
+        step(&mut machine, Op::EndPath),
+        Err(Fault::Record(RecordFault::PathState)),
+    );
     same(&rt, machine.needs().pieces, 0);
     Ok(())
 }
@@ -52,9 +56,17 @@ fn a_refused_line_begins_no_figure(rt: HostRuntime) -> Result<(), Fail> {
     let mut machine = machine(rt.alloc(), &opened);
     for (op, answer, pieces) in [
         (Op::BeginPath, Ok(false), 0),
-        (Op::LineTo(FAR), Err(Fault::OffPlane), 0),
+        (
+            Op::LineTo(FAR),
+            Err(Fault::Record(RecordFault::OffPlane)),
+            0,
+        ),
         (LINE, Ok(false), 2),
-        (Op::LineTo(FAR), Err(Fault::OffPlane), 2),
+        (
+            Op::LineTo(FAR),
+            Err(Fault::Record(RecordFault::OffPlane)),
+            2,
+        ),
         (LINE, Ok(false), 3),
     ] {
         same(&rt, step(&mut machine, op), answer);
@@ -94,6 +106,10 @@ fn reserved_path_steps_under_refused_growth(rt: HostRuntime) -> Result<(), Fail>
     for _ in 1..MAX_PIECES {
         same(&rt, step(&mut machine, LINE), Ok(false));
     }
-    same(&rt, step(&mut machine, LINE), Err(Fault::TooManyPieces));
+    same(
+        &rt,
+        step(&mut machine, LINE),
+        Err(Fault::Record(RecordFault::TooManyPieces)),
+    );
     Ok(())
 }

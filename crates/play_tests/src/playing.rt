@@ -2,7 +2,7 @@
 
 use crate::comparing::same;
 use canvas::Canvas;
-use draw_ops::Fault;
+use draw_ops::{Fault, RecordFault};
 use mapping::Colour;
 use part_tests::{DOT, RED, changed};
 use player::play_file;
@@ -62,9 +62,9 @@ fn each_front_of_a_file_has_its_fault(rt: HostRuntime) -> Result<(), Fail> {
     for (from, to, number, fault) in [
         (0, 4, None, Fault::NotMetafile),
         (4, 40, None, Fault::ShortHeader),
-        (40, 46, Some(0), Fault::NoEnd),
-        (46, 54, Some(0), Fault::PastEnd),
-        (54, 60, Some(1), Fault::NoEnd),
+        (40, 46, Some(0), Fault::Record(RecordFault::NoEnd)),
+        (46, 54, Some(0), Fault::Record(RecordFault::PastEnd)),
+        (54, 60, Some(1), Fault::Record(RecordFault::NoEnd)),
     ] {
         for length in from..to {
             let front = DOT.get(..length).ok_or("a front")?;
@@ -91,14 +91,44 @@ fn each_change_of_a_file_has_its_fault(rt: HostRuntime) -> Result<(), Fail> {
         (27, b"\x02", none, Fault::BadHeader),
         (10, b"\x00", none, Fault::NoFrame),
         (12, b"\x00", none, Fault::NoFrame),
-        (40, b"\x00", Some(0), Fault::ShortRecord),
-        (40, b"\x02", Some(0), Fault::ShortRecord),
-        (40, b"\x0b", Some(0), Fault::PastEnd),
-        (40, b"\xff\xff\xff\xff", Some(0), Fault::PastEnd),
-        (40, b"\x06", Some(0), Fault::BadParams),
-        (44, b"\x32\x0a", Some(0), Fault::Unsupported(2610)),
-        (49, b"\x01", Some(0), Fault::PaletteColour),
-        (54, b"\x02", Some(1), Fault::ShortRecord),
+        (
+            40,
+            b"\x00",
+            Some(0),
+            Fault::Record(RecordFault::ShortRecord),
+        ),
+        (
+            40,
+            b"\x02",
+            Some(0),
+            Fault::Record(RecordFault::ShortRecord),
+        ),
+        (40, b"\x0b", Some(0), Fault::Record(RecordFault::PastEnd)),
+        (
+            40,
+            b"\xff\xff\xff\xff",
+            Some(0),
+            Fault::Record(RecordFault::PastEnd),
+        ),
+        (40, b"\x06", Some(0), Fault::Record(RecordFault::BadParams)),
+        (
+            44,
+            b"\x32\x0a",
+            Some(0),
+            Fault::Record(RecordFault::Unsupported(2610)),
+        ),
+        (
+            49,
+            b"\x01",
+            Some(0),
+            Fault::Record(RecordFault::PaletteColour),
+        ),
+        (
+            54,
+            b"\x02",
+            Some(1),
+            Fault::Record(RecordFault::ShortRecord),
+        ),
     ];
     for (place, bytes, number, fault) in changes {
         let file = changed(rt.alloc(), place, bytes)?;
@@ -200,7 +230,7 @@ fn a_point_far_outside_is_off_the_plane(rt: HostRuntime) -> Result<(), Fail> {
     let refusal = play_file(rt.alloc(), file.as_slice(), 8192, 1).err();
     let off_plane = Refusal {
         number: Some(0),
-        fault: Fault::OffPlane,
+        fault: Fault::Record(RecordFault::OffPlane),
     };
     same(&rt, refusal, Some(off_plane));
     let canvas = play_file(rt.alloc(), file.as_slice(), 4096, 1)?;
@@ -225,7 +255,7 @@ fn a_file_has_at_most_1048576_records(rt: HostRuntime) -> Result<(), Fail> {
     file.extend_from_slice(b"\x03\x00\x00\x00\x00\x00")?;
     let too_many = Refusal {
         number: Some(1048576),
-        fault: Fault::TooManyRecords,
+        fault: Fault::Record(RecordFault::TooManyRecords),
     };
     let refusal = play_file(rt.alloc(), file.as_slice(), 4, 4).err();
     same(&rt, refusal, Some(too_many));
@@ -252,10 +282,14 @@ fn a_file_has_at_most_67108864_bytes(rt: HostRuntime) -> Result<(), Fail> {
 fn a_refusal_shows_its_record(rt: HostRuntime) -> Result<(), Fail> {
     for (number, fault, text) in [
         (None, Fault::NotMetafile, "NotMetafile"),
-        (Some(0), Fault::PastEnd, "PastEnd at record 0"),
+        (
+            Some(0),
+            Fault::Record(RecordFault::PastEnd),
+            "PastEnd at record 0",
+        ),
         (
             Some(3),
-            Fault::Unsupported(2610),
+            Fault::Record(RecordFault::Unsupported(2610)),
             "Unsupported 2610 at record 3",
         ),
     ] {

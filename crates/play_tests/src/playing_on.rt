@@ -6,7 +6,7 @@ use crate::comparing::same;
 use crate::playing::{BLUE, colour};
 use canvas::Canvas;
 use dc_stack::{MAX_PIECES, Machine};
-use draw_ops::Fault;
+use draw_ops::{Fault, RecordFault};
 use mapping::Place;
 use meta_headers::open_file;
 use object_tables::LowestFree;
@@ -65,7 +65,7 @@ fn a_broken_file_has_its_fault(rt: HostRuntime) -> Result<(), Fail> {
     let broken = changed(rt.alloc(), 54, b"\x02")?;
     let short = Refusal {
         number: Some(1),
-        fault: Fault::ShortRecord,
+        fault: Fault::Record(RecordFault::ShortRecord),
     };
     same(
         &rt,

@@ -2,7 +2,7 @@
 //! answer, and none is refused for memory.
 
 use crate::playing::colour;
-use draw_ops::Fault;
+use draw_ops::{Fault, RecordFault};
 use part_tests::{DOT, RED};
 use player::play_file;
 use preflight_cert::Refusal;
@@ -70,7 +70,7 @@ fn has_no_end(alloc: Global, skipped: &[u8], number: usize) -> bool {
     };
     let refusal = Refusal {
         number: Some(place),
-        fault: Fault::NoEnd,
+        fault: Fault::Record(RecordFault::NoEnd),
     };
     play_file(alloc, front, 1, 1).err() == Some(refusal)
 }

@@ -1,14 +1,15 @@
 -- A step that is refused on a machine with room has the operation's fault.
-use Rattle.std.proofs.Common.{◌≡◌, ℕ, ◌↔◌, IsSome, Option, Some, Result, Ok, Err, inl, inr, refl, ◌∙◌, arith}
+use Rattle.std.proofs.Common.{◌≡◌, ℕ, Option, Some, None, Result, Ok, Err, inl, inr, refl, ◌∙◌, arith}
+use Rattle.std.specs.Option.{option_map}
 use Rattle.mapping.specs.Surface.{Surface}
 use Rattle.draw_ops.specs.Content.{Content, StepValue, broken_by, with_step}
-use Rattle.draw_ops.specs.Fault.{IsInRecord}
 use Rattle.draw_ops.specs.Gives.{Gives, Stays}
 use Rattle.draw_ops.specs.StepOf.{step_value_of}
 use Rattle.draw_ops.specs.declared.step.Step.{Step}
 use Rattle.draw_ops.specs.Operation.{Operation}
 use Rattle.draw_ops.specs.declared.fault.Fault.{Fault}
-use Rattle.dc_stack.specs.FaultLaws.{FaultLaws}
+use Rattle.draw_ops.specs.declared.fault.Fault.TheVariants.{Record}
+use Rattle.draw_ops.specs.declared.record_fault.RecordFault.{RecordFault}
 use Rattle.dc_stack.specs.MachineState.{IsUnchanged, MachineState, RefusesStep, WantsRoom}
 use Rattle.dc_stack.specs.Needs.{greater_needs, needs_of}
 use Rattle.dc_stack.specs.Next.{next}
@@ -19,6 +20,7 @@ use Rattle.player.specs.After.{HasRoomForSteps, IsEnoughRoom}
 use Rattle.player.specs.Leaving.{IsLeftBy}
 use Rattle.player.specs.Plays.{StopsBy}
 use Rattle.preflight_cert.specs.NeedLaws.{HasRoomFor, NeedLaws}
+use Rattle.preflight_cert.specs.Refusal.{number_told}
 use Rattle.preflight_cert.specs.Stop.{stop_at, stop_of, stopped}
 use Rattle.preflight_cert.specs.declared.refusal.Refusal.{Refusal}
 
@@ -38,14 +40,14 @@ wants_none laws left rest step m fault is room wants = elim room [
 ]
 
 pub refused_by_fault : NeedLaws → (left rest : Content) (step : StepValue) (m : MachineState) (fault : Fault) → left ≡ with_step step rest → HasRoomForSteps left m → RefusesStep step.operation m fault
-    → fault_of step.operation m.state m.surface ≡ Some fault
+    → option_map Record (fault_of step.operation m.state m.surface) ≡ Some fault
 refused_by_fault laws left rest step m fault is room refuses = elim refuses [
   | inl h ↦ h
   | inr wants ↦ absurd (wants_none laws left rest step m fault is room wants)
 ]
 
 -- what is left stops where it breaks
-pub stops_where_broken : (before : ℕ) (left new : Content) (state : State) (s : Surface) (result : Result (Option Step) Fault) (fault : Fault) (r : Refusal) → Gives left result new → result ≡ Err fault → r.number ≡ Some before → r.fault ≡ fault → StopsAfter before left state s r
+pub stops_where_broken : (before : ℕ) (left new : Content) (state : State) (s : Surface) (result : Result (Option Step) RecordFault) (fault : RecordFault) (r : Refusal) → Gives left result new → result ≡ Err fault → r.number ≡ Some before → r.fault ≡ Record fault → StopsAfter before left state s r
 stops_where_broken before left new state s result fault r gives e number by =
     let given : Stays (broken_by fault) left new = rw e at gives in
     record {
@@ -55,14 +57,26 @@ stops_where_broken before left new state s result fault r gives e number by =
       fault = by;
     }
 
+-- the fault that was found, in a record
+record IsThatOf (found : Option RecordFault) (fault : Fault) : Type 0 where
+  here : RecordFault
+  there : found ≡ Some here
+  same : fault ≡ Record here
+
+that_of : (found : Option RecordFault) (fault : Fault) → option_map Record found ≡ Some fault → IsThatOf found fault
+that_of None fault h = cc
+that_of (Some here) fault h = record { here = here; there = refl; same = cc }
+
 -- or at its first step, if that has a fault
-pub stops_at_first : (before : ℕ) (left rest : Content) (step : StepValue) (state : State) (s : Surface) (fault : Fault) (r : Refusal) → left ≡ with_step step rest → fault_of step.operation state s ≡ Some fault → r.number ≡ Some step.number → r.fault ≡ fault → StopsAfter before left state s r
-stops_at_first before left rest step state s fault r is h number by = record {
-  stop = stop_at step.number fault;
-  stops = rw (is, h) refl;
-  number = number;
-  fault = by;
-}
+pub stops_at_first : (before : ℕ) (left rest : Content) (step : StepValue) (state : State) (s : Surface) (fault : Fault) (r : Refusal) → left ≡ with_step step rest → option_map Record (fault_of step.operation state s) ≡ Some fault → r.number ≡ number_told step.number fault → r.fault ≡ fault → StopsAfter before left state s r
+stops_at_first before left rest step state s fault r is h number by =
+    let found = that_of (fault_of step.operation state s) fault h in
+    record {
+      stop = stop_at step.number found.here;
+      stops = rw (is, found.there) refl;
+      number = rw found.same at number;
+      fault = by ∙ found.same;
+    }
 
 -- where what is left stops, the whole does
 pub stops_by : (whole left : Content) (before : ℕ) (start state : State) (s : Surface) (r : Refusal) → stop_of whole start s ≡ stopped left.steps left.fault before state s → StopsAfter before left state s r → StopsBy whole start s r
@@ -73,14 +87,11 @@ stops_by whole left before start state s r same after = record {
   fault = after.fault;
 }
 
--- and lies in its record
-pub lies_in_record : FaultLaws → (operation : Operation) (state : State) (s : Surface) (fault : Fault) (number : ℕ) (r : Refusal) → fault_of operation state s ≡ Some fault → r.number ≡ Some number → r.fault ≡ fault → IsSome r.number ↔ IsInRecord r.fault
-lies_in_record laws operation state s fault number r h at by = (λ some. rw by (laws.in_record operation state s fault h), λ lies. rw at refl)
-
 -- what is left begins with the step that was given
-pub begins_with : (old new : Content) (result : Result (Option Step) Fault) (step : Step) → Gives old result new → result ≡ Ok (Some step) → old ≡ with_step (step_value_of step) new
+pub begins_with : (old new : Content) (result : Result (Option Step) RecordFault) (step : Step) → Gives old result new → result ≡ Ok (Some step) → old ≡ with_step (step_value_of step) new
 begins_with old new result step gives e = rw e at gives
 
 -- where the first step has a fault, and the machine is unchanged, it is left as it was
-pub left_at_first : (left rest : Content) (step : StepValue) (start end : MachineState) (fault : Fault) → left ≡ with_step step rest → fault_of step.operation start.state start.surface ≡ Some fault → IsUnchanged start end → IsLeftBy left start end
-left_at_first left rest step start end fault is fails same = rw is (record { state = rw fails same.state; needs = rw fails same.needs })
+pub left_at_first : (left rest : Content) (step : StepValue) (start end : MachineState) (fault : Fault) → left ≡ with_step step rest → option_map Record (fault_of step.operation start.state start.surface) ≡ Some fault → IsUnchanged start end → IsLeftBy left start end
+left_at_first left rest step start end fault is fails same =
+    let found = that_of (fault_of step.operation start.state start.surface) fault fails in rw is (record { state = rw found.there same.state; needs = rw found.there same.needs })

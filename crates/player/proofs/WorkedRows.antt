@@ -11,7 +11,7 @@ use Rattle.draw_ops.specs.NoteKinds.{noted}
 use Rattle.draw_ops.specs.Operation.{no_effect, pixel}
 use Rattle.draw_ops.specs.RecordContent.{content_of}
 use Rattle.draw_ops.specs.Records.{Record}
-use Rattle.draw_ops.specs.declared.fault.Fault.TheVariants.{PaletteColour}
+use Rattle.draw_ops.specs.declared.record_fault.RecordFault.TheVariants.{PaletteColour}
 use Rattle.draw_ops.specs.declared.note.Note.TheVariants.{AfterEnd}
 use Rattle.draw_ops.specs.declared.raster_op.RasterOp.TheVariants.{CopyPen, Not, XorPen}
 use Rattle.preflight_cert.specs.Apply.{image_after}

@@ -2,6 +2,7 @@
 use Rattle.std.specs.Prelude.{◌≡◌, ℕ, Option, Some, None, IfSome, Result, Ok, Err}
 use Rattle.mapping.specs.Surface.{Surface}
 use Rattle.draw_ops.specs.Content.{Content, StepValue, nothing_left, with_step}
+use Rattle.draw_ops.specs.declared.fault.Fault.TheVariants.{Record}
 use Rattle.dc_stack.specs.Draws.{IsPlacedDraw}
 use Rattle.dc_stack.specs.MachineState.{HasStepped, IsDrawingOf, MachineState}
 use Rattle.dc_stack.specs.State.{State}
@@ -28,7 +29,7 @@ pub record StopsAfter (before : ℕ) (left : Content) (state : State) (s : Surfa
   pub stop : Stop
   pub stops : stopped left.steps left.fault before state s ≡ Some stop
   pub number : r.number ≡ Some stop.number
-  pub fault : r.fault ≡ stop.fault
+  pub fault : r.fault ≡ Record stop.fault
 
 -- a step was played, or nothing was left, or what is left stops in its first record
 abbrev pub Advances : ℕ → Content → MachineState → Result (Option (Option Draw)) Refusal → Content → MachineState → Type 0

@@ -2,7 +2,7 @@
 use Rattle.std.specs.Prelude.{◌≡◌, ℕ, List, [], ◌∷◌, Option, Some, None}
 use Rattle.mapping.specs.Surface.{Surface}
 use Rattle.draw_ops.specs.Content.{Content, StepValue}
-use Rattle.draw_ops.specs.declared.fault.Fault.{Fault}
+use Rattle.draw_ops.specs.declared.record_fault.RecordFault.{RecordFault}
 use Rattle.meta_headers.specs.Opening.{HasContentOf}
 use Rattle.meta_headers.specs.declared.opened.FileFormat.{FileFormat}
 use Rattle.dc_stack.specs.MachineState.{MachineState}
@@ -18,7 +18,7 @@ pub record Leaving : Type 0 where
   pub needs : Needs
 
 -- what is there, where there is a fault, and what comes later where there is none
-abbrev pub left_at : Option Fault → Leaving → Leaving → Leaving
+abbrev pub left_at : Option RecordFault → Leaving → Leaving → Leaving
 left_at None here later = later
 left_at (Some fault) here later = here
 

@@ -2,7 +2,7 @@
 use Rattle.std.specs.Prelude.{◌≡◌, ℕ, ◌+◌, List, Option, Some, None, IsOk}
 use Rattle.mapping.specs.Surface.{Surface}
 use Rattle.draw_ops.specs.Content.{Content}
-use Rattle.draw_ops.specs.declared.fault.Fault.TheVariants.{OutOfMemory}
+use Rattle.draw_ops.specs.declared.fault.Fault.TheVariants.{OutOfMemory, Record}
 use Rattle.canvas.specs.CanvasState.{CanvasState, image_of}
 use Rattle.preflight_cert.specs.After.{needs_after, state_after}
 use Rattle.preflight_cert.specs.Apply.{apply_all, image_after}
@@ -67,7 +67,7 @@ pub record StopsBy (content : Content) (state : State) (s : Surface) (r : Refusa
   pub stop : Stop
   pub stops : stop_of content state s ≡ Some stop
   pub number : r.number ≡ Some stop.number
-  pub fault : r.fault ≡ stop.fault
+  pub fault : r.fault ≡ Record stop.fault
 
 -- all records of a file in some format were played and drawn
 pub record PlaysRecords (format : FileFormat) (records : List ℕ) (start end : MachineState) (old new : CanvasState) : Type 0 where

@@ -1,13 +1,13 @@
 //! Playing one step of a source.
 
-ghost use Rattle.std.specs.Prelude.{◌≡◌, ◌↔◌, IfErr, IsSome, OnErr, OnOk};
-ghost use Rattle.draw_ops.specs.Fault.{IsInRecord};
+ghost use Rattle.std.specs.Prelude.{◌≡◌, IfErr, OnErr, OnOk};
 ghost use Rattle.dc_stack.specs.MachineState.{GoesOn};
 ghost use Rattle.player.specs.Advances.{Advances};
 ghost use Rattle.player.specs.After.{HasRoomForSteps};
 ghost use Rattle.player.specs.Leaving.{IsLeftBy};
+ghost use Rattle.preflight_cert.specs.Refusal.{TellsNumber};
 
-use dc_stack::{Draw, Machine, fault_law};
+use dc_stack::{Draw, Machine};
 use draw_ops::OpSource;
 use object_tables::Table;
 use preflight_cert::{Refusal, need_law};
@@ -23,13 +23,12 @@ pub(crate) fn advance<'a, S: OpSource<'a>, T: Table<'a>>(
 ) -> Result<Option<Option<Draw<'a>>>, Refusal>
     requires room { HasRoomForSteps (S.content source.old) machine.old }
     ensures advances { Advances before (S.content source.old) machine.old result (S.content source.new) machine.new }
-    ensures record { IfErr result (λ r. IsSome r.number ↔ IsInRecord r.fault) }
+    ensures number_told { IfErr result TellsNumber }
     ensures goes_on { GoesOn machine.old machine.new }
     ensures room { OnOk result (HasRoomForSteps (S.content source.new) machine.new) }
     ensures left { OnErr result (IsLeftBy (S.content source.old) machine.old machine.new) }
 {
     need_law();
-    fault_law();
     let told = source.next_op();
     let next = match &told {
         Ok(next) => next,
@@ -40,6 +39,6 @@ pub(crate) fn advance<'a, S: OpSource<'a>, T: Table<'a>>(
     };
     match machine.step_by(&step.op) {
         Ok(drawn) => Ok(Some(drawn)),
-        Err(fault) => Err(Refusal::at(step.number, fault)),
+        Err(fault) => Err(Refusal::of_step(step.number, fault)),
     }
 }

@@ -1,15 +1,15 @@
 //! Playing a file: its records' steps in order, on a machine and a canvas.
 
-ghost use Rattle.std.specs.Prelude.{◌≡◌, ◌+◌, ◌≤◌, ◌↔◌, ◌⊎◌, ◌^◌, IsSome, IfOk, IfErr, OnErr, OnOk, length};
+ghost use Rattle.std.specs.Prelude.{◌≡◌, ◌+◌, ◌≤◌, ◌⊎◌, ◌^◌, IfOk, IfErr, OnErr, OnOk, length};
 ghost use Rattle.mapping.specs.Limits.{IsSurfaceSide};
 ghost use Rattle.canvas.specs.CanvasState.{image_of};
-ghost use Rattle.draw_ops.specs.Fault.{IsInRecord};
 ghost use Rattle.draw_ops.specs.Records.{record_limit};
 ghost use Rattle.meta_headers.specs.OpenedOf.{opened_of};
 ghost use Rattle.dc_stack.specs.MachineState.{GoesOn, HasFullRoom};
 ghost use Rattle.player.specs.After.{HasLines, HasLinesForRecords, HasRoomForRecords, HasRoomForSteps};
 ghost use Rattle.player.specs.Leaving.{IsLeftBy, IsLeftByRecords};
 ghost use Rattle.player.specs.Plays.{HoldsSurface, PlaysContent, PlaysFile, PlaysOpened, SameRows, StopsBy, StopsFileBy, StopsOpenedBy, WantsMemory};
+ghost use Rattle.preflight_cert.specs.Refusal.{TellsNumber};
 ghost use Rattle.preflight_cert.specs.Run.{Refused, Run, Writes, shown, white};
 
 use crate::advance::advance;
@@ -40,7 +40,7 @@ pub fn play_file(alloc: Global, file: &[u8], width: u32, height: u32) -> Result<
     ensures whole_surface { IfOk result (λ canvas. canvas.first ≡ 0) }
     ensures refusal { IfErr result (λ r. WantsMemory file.now r ⊎ Refused file.now width height r.number r.fault) }
     ensures memory { IfErr result (λ r. r.fault ≡ Fault.OutOfMemory → WantsMemory file.now r) }
-    ensures record { IfErr result (λ r. IsSome r.number ↔ IsInRecord r.fault) }
+    ensures number_told { IfErr result TellsNumber }
 {
     let opened = match open_file(file) {
         Ok(opened) => opened,
@@ -69,7 +69,7 @@ fn play_opened(
         (λ played. OnOk played (PlaysOpened (opened_of opened.now) opened.now.records.now canvas.old canvas.new)) }
     ensures refusal { IfOk result
         (λ played. IfErr played (StopsOpenedBy (opened_of opened.now) opened.now.records.now canvas.old)) }
-    ensures record { IfOk result (λ played. IfErr played (λ r. IsSome r.number ↔ IsInRecord r.fault)) }
+    ensures number_told { IfOk result (λ played. IfErr played TellsNumber) }
     ensures undrawn { OnErr result (canvas.new ≡ canvas.old) }
     ensures rows { SameRows canvas.old canvas.new }
 {
@@ -110,7 +110,7 @@ pub fn play_on<'a, T: Table<'a>>(
         (StopsFileBy opened.now machine.old.state machine.old.surface) }
     ensures left { OnErr result
         (IsLeftByRecords opened.now.format opened.now.records.now machine.old machine.new) }
-    ensures record { IfErr result (λ r. IsSome r.number ↔ IsInRecord r.fault) }
+    ensures number_told { IfErr result TellsNumber }
     ensures rows { SameRows canvas.old canvas.new }
     ensures goes_on { GoesOn machine.old machine.new }
     ensures lines { rows.new.room ≡ rows.old.room }
@@ -136,7 +136,7 @@ pub(crate) fn play_records<'a, T: Table<'a>>(
         (StopsFileBy opened.now machine.old.state machine.old.surface) }
     ensures left { OnErr result
         (IsLeftByRecords opened.now.format opened.now.records.now machine.old machine.new) }
-    ensures record { IfErr result (λ r. IsSome r.number ↔ IsInRecord r.fault) }
+    ensures number_told { IfErr result TellsNumber }
     ensures rows { SameRows canvas.old canvas.new }
     ensures goes_on { GoesOn machine.old machine.new }
     ensures lines { rows.new.room ≡ rows.old.room }
@@ -163,7 +163,7 @@ fn play_steps<'a, S: OpSource<'a>, T: Table<'a>>(
     ensures played { OnOk result (PlaysContent (S.content source.old) machine.old machine.new canvas.old canvas.new) }
     ensures refusal { IfErr result (StopsBy (S.content source.old) machine.old.state machine.old.surface) }
     ensures left { OnErr result (IsLeftBy (S.content source.old) machine.old machine.new) }
-    ensures record { IfErr result (λ r. IsSome r.number ↔ IsInRecord r.fault) }
+    ensures number_told { IfErr result TellsNumber }
     ensures rows { SameRows canvas.old canvas.new }
     ensures goes_on { GoesOn machine.old machine.new }
     ensures lines { rows.new.room ≡ rows.old.room }

@@ -1,14 +1,14 @@
 //! Looking through a file's records before any is drawn: the first fault, and how many lines a drawing has.
 
-ghost use Rattle.std.specs.Prelude.{◌≡◌, ◌≤◌, ◌↔◌, IfErr, IfOk, IsSome, OnOk, length};
+ghost use Rattle.std.specs.Prelude.{◌≡◌, ◌≤◌, IfErr, IfOk, OnOk, length};
 ghost use Rattle.mapping.specs.PageMap.{map_numbers};
-ghost use Rattle.draw_ops.specs.Fault.{IsInRecord};
 ghost use Rattle.draw_ops.specs.Records.{record_limit};
 ghost use Rattle.dc_stack.specs.MachineState.{GoesOn, HasFullRoom};
 ghost use Rattle.dc_stack.specs.Needs.{no_needs};
 ghost use Rattle.dc_stack.specs.State.{start_state};
 ghost use Rattle.player.specs.After.{AreLinesOfRecords, HasRoomForSteps};
 ghost use Rattle.player.specs.Plays.{RunsThrough, StopsBy, StopsFileBy};
+ghost use Rattle.preflight_cert.specs.Refusal.{TellsNumber};
 
 use crate::advance::advance;
 use dc_stack::Machine;
@@ -28,7 +28,7 @@ pub(crate) fn count_lines<'a, T: Table<'a>>(
         (λ lines. AreLinesOfRecords lines opened.now.format opened.now.records.now machine.old) }
     ensures refusal { IfErr result
         (StopsFileBy opened.now machine.old.state machine.old.surface) }
-    ensures record { IfErr result (λ r. IsSome r.number ↔ IsInRecord r.fault) }
+    ensures number_told { IfErr result TellsNumber }
     ensures state { machine.new.state ≡ start_state (map_numbers opened.now.start_map) machine.old.state.table_kind }
     ensures needs { machine.new.needs ≡ no_needs }
     ensures goes_on { GoesOn machine.old machine.new }
@@ -52,7 +52,7 @@ fn survey<'a, S: OpSource<'a>, T: Table<'a>>(
     requires room { HasRoomForSteps (S.content source.old) machine.old }
     ensures played { OnOk result (RunsThrough (S.content source.old) machine.old machine.new) }
     ensures refusal { IfErr result (StopsBy (S.content source.old) machine.old.state machine.old.surface) }
-    ensures record { IfErr result (λ r. IsSome r.number ↔ IsInRecord r.fault) }
+    ensures number_told { IfErr result TellsNumber }
     ensures goes_on { GoesOn machine.old machine.new }
 {
     let mut before: u32 = 0;

@@ -9,7 +9,9 @@ use Rattle.draw_ops.specs.Content.{Content, StepValue}
 use Rattle.draw_ops.specs.ExactlyOne.{ExactlyOne}
 use Rattle.draw_ops.specs.RecordContent.{ContentIsOne}
 use Rattle.draw_ops.specs.declared.fault.Fault.{Fault}
-use Rattle.draw_ops.specs.declared.fault.Fault.TheVariants.{BoxTooSmall, BudgetTooSmall, NeedTooSmall, WrongEntry}
+use Rattle.draw_ops.specs.declared.fault.Fault.TheVariants.{BudgetTooSmall, NeedTooSmall}
+use Rattle.draw_ops.specs.declared.record_fault.RecordFault.{RecordFault}
+use Rattle.draw_ops.specs.declared.record_fault.RecordFault.TheVariants.{BoxTooSmall, WrongEntry}
 use Rattle.meta_headers.specs.File.{FileIsOne, IsFile}
 use Rattle.meta_headers.specs.Headers.{OpenedValue}
 use Rattle.meta_headers.specs.Opening.{framing_of, meaning_of, opened, record_bytes, surface_for}
@@ -36,11 +38,11 @@ use Rattle.preflight_cert.proofs.RunLemmas.{opens_or_not}
 use Rattle.preflight_cert.proofs.StopLemmas.{none_first, none_here, none_later, none_second}
 
 -- behind the last step
-none_at_end : (fault : Option Fault) (before : ℕ) (entries : List Entry) → checked_end fault before entries ≡ None → fault ≡ None
+none_at_end : (fault : Option RecordFault) (before : ℕ) (entries : List Entry) → checked_end fault before entries ≡ None → fault ≡ None
 none_at_end None before entries h = refl
 none_at_end (Some fault) before entries h = absurd (cc)
 
-covered_end : (fault : Option Fault) (before : ℕ) (entries : List Entry) → checked_end fault before entries ≡ None → AreCovered [] entries
+covered_end : (fault : Option RecordFault) (before : ℕ) (entries : List Entry) → checked_end fault before entries ≡ None → AreCovered [] entries
 covered_end None before [] h = tt
 covered_end None before (entry ∷ entries) h = absurd (cc)
 covered_end (Some fault) before entries h = absurd (cc)
@@ -76,7 +78,7 @@ covered_behind number (Some drawing) later [] h = absurd h
 covered_behind number (Some drawing) later (entry ∷ entries) h = h.1
 
 module _ (s : Surface) where
-  unstopped_of : (steps : List StepValue) (fault : Option Fault) (before : ℕ) (state : State) (entries : List Entry) →
+  unstopped_of : (steps : List StepValue) (fault : Option RecordFault) (before : ℕ) (state : State) (entries : List Entry) →
       checked steps fault before state s entries ≡ None → stopped steps fault before state s ≡ None
   unstopped_of [] fault before state entries h = rw (none_at_end fault before entries h) refl
   unstopped_of (step ∷ steps) fault before state entries h =
@@ -84,7 +86,7 @@ module _ (s : Surface) where
       let rest = unstopped_of steps fault (suc before) (next step.operation state) (entries_behind (drawing_of step.operation state) entries) (none_later _ _ _ h) in
       rw (here, rest) refl
 
-  covered_of : (steps : List StepValue) (fault : Option Fault) (before : ℕ) (state : State) (entries : List Entry) →
+  covered_of : (steps : List StepValue) (fault : Option RecordFault) (before : ℕ) (state : State) (entries : List Entry) →
       checked steps fault before state s entries ≡ None → AreCovered (drawings_of steps state) entries
   covered_of [] fault before state entries h = covered_end fault before entries h
   covered_of (step ∷ steps) fault before state entries h =
@@ -92,12 +94,12 @@ module _ (s : Surface) where
       covered_then step.number (drawing_of step.operation state) (drawings_of steps (next step.operation state)) entries fits
       (covered_of steps fault (suc before) (next step.operation state) (entries_behind (drawing_of step.operation state) entries) (none_later _ _ _ h))
 
-  checked_at_end : (fault : Option Fault) (before : ℕ) (state : State) (entries : List Entry) → stopped [] fault before state s ≡ None → AreCovered [] entries → checked_end fault before entries ≡ None
+  checked_at_end : (fault : Option RecordFault) (before : ℕ) (state : State) (entries : List Entry) → stopped [] fault before state s ≡ None → AreCovered [] entries → checked_end fault before entries ≡ None
   checked_at_end None before state [] h covered = refl
   checked_at_end None before state (entry ∷ entries) h covered = absurd covered
   checked_at_end (Some fault) before state entries h covered = absurd (cc)
 
-  checked_from : (steps : List StepValue) (fault : Option Fault) (before : ℕ) (state : State) (entries : List Entry) →
+  checked_from : (steps : List StepValue) (fault : Option RecordFault) (before : ℕ) (state : State) (entries : List Entry) →
       stopped steps fault before state s ≡ None → AreCovered (drawings_of steps state) entries → checked steps fault before state s entries ≡ None
   checked_from [] fault before state entries h covered = checked_at_end fault before state entries h covered
   checked_from (step ∷ steps) fault before state entries h covered =
@@ -193,7 +195,7 @@ module _ (one : FileIsOne) (laws : SizeLaws) (file : List ℕ) (o : OpenedValue)
   never_stops width height number fault w h k =
       let e = ap (λ (it : OpenedValue × Content). stop_of it.1 (start_of it.0) (surface_for it.0 width height)) (same k.headers k.content k.of_file) in
       let none = unstopped width height w h in
-      let some = k.stops in some_none _ (stop_at number fault) some (e ∙ none)
+      let some = k.stops in some_none _ (stop_at number k.here) some (e ∙ none)
 
   never_refused : (width height : ℕ) (number : Option ℕ) (fault : Fault) → width ≤ c.max_width → height ≤ c.max_height → Refused file width height number fault → ⊥
   never_refused width height None fault w h k = opens_or_not (opened file) o fault opens k

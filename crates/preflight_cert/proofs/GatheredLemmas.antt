@@ -7,7 +7,7 @@ use Rattle.draw_ops.specs.Content.{Content, with_step}
 use Rattle.draw_ops.specs.Gives.{Gives}
 use Rattle.draw_ops.specs.OperationOf.{operation_of}
 use Rattle.draw_ops.specs.StepOf.{step_value_of}
-use Rattle.draw_ops.specs.declared.fault.Fault.{Fault}
+use Rattle.draw_ops.specs.declared.record_fault.RecordFault.{RecordFault}
 use Rattle.draw_ops.specs.declared.step.Step.{Step}
 use Rattle.dc_stack.specs.Drawing.{Drawing, drawing_of}
 use Rattle.dc_stack.specs.Next.{next}
@@ -30,11 +30,11 @@ entries_then number (Some drawing) later fits all = All-cons IsEntry (least_entr
 
 pub ruleset gathered = (texts_then, budget_then)
 
-begins_with : (old new : Content) (result : Result (Option Step) Fault) (step : Step) → Gives old result new → result ≡ Ok (Some step) → old ≡ with_step (step_value_of step) new
+begins_with : (old new : Content) (result : Result (Option Step) RecordFault) (step : Step) → Gives old result new → result ≡ Ok (Some step) → old ≡ with_step (step_value_of step) new
 begins_with old new result step h e = rw e at h
 
 -- where a step's entry and all later ones have numbers of 32 bits, all from that step on have
-pub step_entries : (old new : Content) (result : Result (Option Step) Fault) (step : Step) (state after : State) (drawing : Option Drawing) → Gives old result new → result ≡ Ok (Some step)
+pub step_entries : (old new : Content) (result : Result (Option Step) RecordFault) (step : Step) (state after : State) (drawing : Option Drawing) → Gives old result new → result ≡ Ok (Some step)
     → after ≡ next (operation_of step.op) state → drawing ≡ drawing_of (operation_of step.op) state → FitsEntry step.number drawing
     → All IsEntry (least_entries (drawings_of new.steps after)) → All IsEntry (least_entries (drawings_of old.steps state))
 step_entries old new result step state after drawing gives is stepped drawn fits all =
@@ -46,7 +46,7 @@ step_entries old new result step state after drawing gives is stepped drawn fits
     rw (begins_with old new result step gives is) whole
 
 -- what is written up to a step, and the texts of all later ones
-pub step_texts : (old new : Content) (result : Result (Option Step) Fault) (step : Step) (state after : State) (drawing : Option Drawing) (before now : List ℕ) → Gives old result new → result ≡ Ok (Some step)
+pub step_texts : (old new : Content) (result : Result (Option Step) RecordFault) (step : Step) (state after : State) (drawing : Option Drawing) (before now : List ℕ) → Gives old result new → result ≡ Ok (Some step)
     → after ≡ next (operation_of step.op) state → drawing ≡ drawing_of (operation_of step.op) state → now ≡ before ++ drawing_text step.number drawing
     → before ++ least_texts (drawings_of old.steps state) ≡ now ++ least_texts (drawings_of new.steps after)
 step_texts old new result step state after drawing before now gives is stepped drawn written =

@@ -2,7 +2,7 @@
 use Rattle.std.proofs.Common.{◌≡◌, ℕ, suc, List, [], ◌∷◌, Option, None, refl, subst, ◌∙◌, arith}
 use Rattle.mapping.specs.Surface.{Surface}
 use Rattle.draw_ops.specs.Content.{Content, StepValue}
-use Rattle.draw_ops.specs.declared.fault.Fault.{Fault}
+use Rattle.draw_ops.specs.declared.record_fault.RecordFault.{RecordFault}
 use Rattle.meta_headers.specs.Headers.{OpenedValue}
 use Rattle.object_tables.specs.Table.{CreatedIndexIsBelowBound, TableKind, table_kind_of}
 use Rattle.dc_stack.specs.Needs.{greater_needs, needs_of, no_needs}
@@ -24,7 +24,7 @@ both_within first second most a b =
 
 -- and all steps
 module _ (laws : CreatedIndexIsBelowBound) (kind : TableKind) (s : Surface) where
-  all_within : (steps : List StepValue) (fault : Option Fault) (before : ℕ) (state : State) (needs : Needs) → stopped steps fault before state s ≡ None → state.table_kind ≡ kind
+  all_within : (steps : List StepValue) (fault : Option RecordFault) (before : ℕ) (state : State) (needs : Needs) → stopped steps fault before state s ≡ None → state.table_kind ≡ kind
       → AreWithin needs (most_needs kind) → AreWithin (needs_after steps state needs) (most_needs kind)
   all_within [] fault before state needs h e most = most
   all_within (step ∷ steps) fault before state needs h e most =

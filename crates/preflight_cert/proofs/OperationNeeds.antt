@@ -4,7 +4,7 @@ use Rattle.std.specs.Option.{option_or}
 use Rattle.std.specs.Prelude.{nat_le, nat_lt}
 use Rattle.std.proofs.lemmas.Bool.{leb-true, ltb-true}
 use Rattle.draw_ops.specs.Operation.{Operation, no_effect, save, restore, set_background_mode, set_map_mode, set_raster_op, set_fill_mode, set_background_colour, set_window_origin, set_window_extent, set_viewport_origin, set_viewport_extent, offset_window_origin, offset_viewport_origin, exclude_clip, intersect_clip, remove_clip, move_to, line_to, pixel, rectangle, polyline, polygon, polyline_to, blit, create, select, select_palette, delete, begin_path, end_path, close_figure, abort_path, fill_path, stroke_path, stroke_and_fill_path}
-use Rattle.draw_ops.specs.declared.fault.Fault.TheVariants.{DepthLimit, TooManyEdges, TooManyPieces}
+use Rattle.draw_ops.specs.declared.record_fault.RecordFault.TheVariants.{DepthLimit, TooManyEdges, TooManyPieces}
 use Rattle.object_tables.specs.Table.{CreatedIndexIsBelowBound, TableKind}
 use Rattle.dc_stack.specs.Drawing.{drawing_edges, drawing_of, edge_limit}
 use Rattle.dc_stack.specs.Figures.{with_current_done}

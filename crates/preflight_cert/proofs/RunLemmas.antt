@@ -1,6 +1,7 @@
 -- A run ends in one way.
 use Rattle.std.proofs.Common.{◌≡◌, ℕ, List, Option, Some, None, Result, Ok, Err, refl, sym, ap, ◌∙◌}
 use Rattle.draw_ops.specs.declared.fault.Fault.{Fault}
+use Rattle.draw_ops.specs.declared.fault.Fault.TheVariants.{Record}
 use Rattle.draw_ops.specs.Content.{Content}
 use Rattle.draw_ops.specs.ExactlyOne.{ExactlyOne}
 use Rattle.mapping.specs.Image.{Image}
@@ -59,13 +60,13 @@ module _ (one : FileIsOne) (file : List ℕ) (width height : ℕ) (image : Image
   only_shown (refused (Some number) f) n h =
       absurd (none_some _ _ n (sym (ap (stop width height) (the_one.only (h.headers, h.content) h.of_file)) ∙ h.stops))
 
-  only_stopped : (other : Outcome) (at : Stop) → stop width height the_one.value ≡ Some at → Run file width height image other → other ≡ refused (Some at.number) at.fault
+  only_stopped : (other : Outcome) (at : Stop) → stop width height the_one.value ≡ Some at → Run file width height image other → other ≡ refused (Some at.number) (Record at.fault)
   only_stopped (shown after) at s h =
       absurd (none_some _ _ (sym (ap (stop width height) (the_one.only (h.headers, h.content) h.of_file)) ∙ h.unstopped) s)
   only_stopped (refused None f) at s h = absurd (opens_or_not (opened file) headers f e h)
   only_stopped (refused (Some number) f) at s h =
       let there = same_stop _ _ _ (sym (ap (stop width height) (the_one.only (h.headers, h.content) h.of_file)) ∙ h.stops) s in
-      ap (λ (t : Stop). refused (Some t.number) t.fault) there
+      rw h.in_record (ap (λ (t : Stop). refused (Some t.number) (Record t.fault)) there)
 
   by_stop : (stops : Option Stop) → stop width height the_one.value ≡ stops → ExactlyOne (Run file width height image)
   by_stop None n = record {
@@ -74,8 +75,8 @@ module _ (one : FileIsOne) (file : List ℕ) (width height : ℕ) (image : Image
     only = λ other h. only_shown other n h;
   }
   by_stop (Some at) s = record {
-    value = refused (Some at.number) at.fault;
-    holds = record { headers = the_one.value.0; content = the_one.value.1; of_file = the_one.holds; stops = s };
+    value = refused (Some at.number) (Record at.fault);
+    holds = record { headers = the_one.value.0; content = the_one.value.1; of_file = the_one.holds; here = at.fault; in_record = refl; stops = s };
     only = λ other h. only_stopped other at s h;
   }
 

@@ -3,7 +3,7 @@ use Rattle.std.proofs.Common.{◌≡◌, ℕ, suc, ◌≤◌, List, [], ◌∷�
 use Rattle.mapping.specs.PlacingLaws.{IsNoLarger, ShowsFrame}
 use Rattle.mapping.specs.Surface.{Surface}
 use Rattle.draw_ops.specs.Content.{StepValue}
-use Rattle.draw_ops.specs.declared.fault.Fault.{Fault}
+use Rattle.draw_ops.specs.declared.record_fault.RecordFault.{RecordFault}
 use Rattle.dc_stack.specs.FaultLaws.{FaultLaws}
 use Rattle.dc_stack.specs.Next.{next}
 use Rattle.dc_stack.specs.State.{State}
@@ -18,7 +18,7 @@ use Rattle.preflight_cert.proofs.StopLemmas.{none_here, none_later}
 
 -- faults and budgets from the larger surface to the smaller
 module _ (faults : FaultLaws) (boxes : DrawingBoxLaws) (smaller larger : Surface) (shows : ShowsFrame larger) (no_larger : IsNoLarger smaller larger) where
-  unstopped : (steps : List StepValue) (fault : Option Fault) (before : ℕ) (state : State) →
+  unstopped : (steps : List StepValue) (fault : Option RecordFault) (before : ℕ) (state : State) →
       stopped steps fault before state larger ≡ None → stopped steps fault before state smaller ≡ None
   unstopped [] fault before state h = h
   unstopped (step ∷ steps) fault before state h =

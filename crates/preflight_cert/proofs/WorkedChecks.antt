@@ -8,8 +8,8 @@ use Rattle.mapping.specs.declared.geometry.Point.{Point}
 use Rattle.draw_ops.specs.Content.{StepValue}
 use Rattle.draw_ops.specs.NoteCounts.{no_notes}
 use Rattle.draw_ops.specs.Operation.{Operation, line_to, no_effect, pixel}
-use Rattle.draw_ops.specs.declared.fault.Fault.{Fault}
-use Rattle.draw_ops.specs.declared.fault.Fault.TheVariants.{BoxTooSmall, NoEnd, OffPlane, WrongEntry}
+use Rattle.draw_ops.specs.declared.record_fault.RecordFault.{RecordFault}
+use Rattle.draw_ops.specs.declared.record_fault.RecordFault.TheVariants.{BoxTooSmall, NoEnd, OffPlane, WrongEntry}
 use Rattle.object_tables.specs.Table.{by_lowest_free}
 use Rattle.dc_stack.specs.Drawing.{edge_limit}
 use Rattle.dc_stack.specs.Path.{piece_limit}
@@ -44,7 +44,7 @@ abbrev line_entry : Entry
 line_entry = entry 1 (pos 0) (pos 0) (pos 3) (pos 0)
 
 -- where these steps and then this fault stop, beside these entries
-abbrev stop_beside : Option Fault → List Entry → Option Stop
+abbrev stop_beside : Option RecordFault → List Entry → Option Stop
 stop_beside fault entries = checked steps fault 0 start four entries
 
 each_has_its_own : stop_beside None (dot_entry ∷ line_entry ∷ []) ≡ None

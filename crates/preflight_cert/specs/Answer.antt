@@ -6,7 +6,7 @@ use Rattle.mapping.specs.Surface.{Surface}
 use Rattle.draw_ops.specs.Content.{Content}
 use Rattle.draw_ops.specs.ExactlyOne.{ExactlyOne}
 use Rattle.draw_ops.specs.declared.fault.Fault.{Fault}
-use Rattle.draw_ops.specs.declared.fault.Fault.TheVariants.{BudgetTooSmall, NeedTooSmall}
+use Rattle.draw_ops.specs.declared.fault.Fault.TheVariants.{BudgetTooSmall, NeedTooSmall, Record}
 use Rattle.meta_headers.specs.Headers.{OpenedValue}
 use Rattle.meta_headers.specs.Opening.{HasContentOf, opened, record_bytes, surface_for}
 use Rattle.dc_stack.specs.State.{start_of}
@@ -53,7 +53,7 @@ total_fault needs budget c =
 
 -- where the steps and entries stop, or else the fault of the whole
 abbrev pub answer_from : Option Stop → Option Fault → Answer
-answer_from (Some stop) total = refuses (Some stop.number) stop.fault
+answer_from (Some stop) total = refuses (Some stop.number) (Record stop.fault)
 answer_from None (Some fault) = refuses None fault
 answer_from None None = accepted
 

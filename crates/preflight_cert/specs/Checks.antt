@@ -1,7 +1,7 @@
 -- What checking steps against entries tells.
 use Rattle.std.specs.Prelude.{◌≡◌, ℕ, List, length, Option, Some, None, Result, Ok, Err}
 use Rattle.draw_ops.specs.Content.{Content}
-use Rattle.draw_ops.specs.declared.fault.Fault.TheVariants.{OutOfMemory}
+use Rattle.draw_ops.specs.declared.fault.Fault.TheVariants.{OutOfMemory, Record}
 use Rattle.dc_stack.specs.MachineState.{MachineState}
 use Rattle.preflight_cert.specs.After.{needs_after, notes_after}
 use Rattle.preflight_cert.specs.Checked.{checked, checked_end}
@@ -22,7 +22,7 @@ pub record TellsStop (stop : Option Stop) (r : Refusal) : Type 0 where
   pub at : Stop
   pub stops : stop ≡ Some at
   pub number : r.number ≡ Some at.number
-  pub fault : r.fault ≡ at.fault
+  pub fault : r.fault ≡ Record at.fault
 
 -- the entries fit all steps of a content, and the needs and the totals are theirs, beside notes from before
 pub record Checks (content : Content) (old : MachineState) (entries : List Entry) (noted : List ℕ) (totals : Totals) (new : MachineState) : Type 0 where

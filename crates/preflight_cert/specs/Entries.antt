@@ -5,8 +5,8 @@ use Rattle.mapping.specs.Boxes.{HasPoint}
 use Rattle.mapping.specs.Surface.{Surface}
 use Rattle.mapping.specs.declared.geometry.Point.{Point}
 use Rattle.mapping.specs.declared.geometry.Rect.{Rect}
-use Rattle.draw_ops.specs.declared.fault.Fault.{Fault}
-use Rattle.draw_ops.specs.declared.fault.Fault.TheVariants.{BoxTooSmall, WrongEntry}
+use Rattle.draw_ops.specs.declared.record_fault.RecordFault.{RecordFault}
+use Rattle.draw_ops.specs.declared.record_fault.RecordFault.TheVariants.{BoxTooSmall, WrongEntry}
 use Rattle.dc_stack.specs.Drawing.{Drawing, drawing_points}
 use Rattle.preflight_cert.specs.Budget.{layers_budget}
 use Rattle.preflight_cert.specs.Drawings.{NumberedDrawing}
@@ -40,13 +40,13 @@ abbrev pub covers : Rect → List Point → Bool
 covers box points = list_all (has_point box) points
 
 -- the fault of the entry that comes next, at a drawing: it is of another record, or there is none, or its box lacks a point
-abbrev pub drawing_fault : ℕ → Drawing → List Entry → Option Fault
+abbrev pub drawing_fault : ℕ → Drawing → List Entry → Option RecordFault
 drawing_fault number drawing [] = Some WrongEntry
 drawing_fault number drawing (entry ∷ entries) =
     if entry.number == number then (if covers entry.bounds (drawing_points drawing) then None else Some BoxTooSmall) else Some WrongEntry
 
 -- the same, where an operation draws
-abbrev pub entry_fault : ℕ → Option Drawing → List Entry → Option Fault
+abbrev pub entry_fault : ℕ → Option Drawing → List Entry → Option RecordFault
 entry_fault number None entries = None
 entry_fault number (Some drawing) entries = drawing_fault number drawing entries
 

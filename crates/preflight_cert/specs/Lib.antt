@@ -31,3 +31,4 @@ pub mod Preparation
 pub mod PreparationLaws
 pub mod Gathered
 pub mod PreparedRecords
+pub mod ObjectOrder

@@ -3,6 +3,8 @@ use Rattle.std.specs.Prelude.{◌≡◌, ℕ, List, Option, Some, None, Err}
 use Rattle.mapping.specs.Colours.{white_colour}
 use Rattle.mapping.specs.Image.{Image, blank}
 use Rattle.draw_ops.specs.declared.fault.Fault.{Fault}
+use Rattle.draw_ops.specs.declared.fault.Fault.TheVariants.{Record}
+use Rattle.draw_ops.specs.declared.record_fault.RecordFault.{RecordFault}
 use Rattle.draw_ops.specs.Content.{Content}
 use Rattle.draw_ops.specs.ExactlyOne.{ExactlyOne}
 use Rattle.preflight_cert.specs.Apply.{image_after}
@@ -19,7 +21,9 @@ pub record StopsInRecord (file : List ℕ) (width height number : ℕ) (fault : 
   pub headers : OpenedValue
   pub content : Content
   pub of_file : IsFile file headers content
-  pub stops : stop_of content (start_of headers) (surface_for headers width height) ≡ Some (stop_at number fault)
+  pub here : RecordFault
+  pub in_record : fault ≡ Record here
+  pub stops : stop_of content (start_of headers) (surface_for headers width height) ≡ Some (stop_at number here)
 
 -- The run of a file at a size is refused by this fault, in the record with this number, or in none where it doesn't open, over any image.
 abbrev pub Refused : List ℕ → ℕ → ℕ → Option ℕ → Fault → Type 0

@@ -1,6 +1,6 @@
 //! Certificates, read in place.
 
-ghost use Rattle.std.specs.Prelude.{◌≡◌, ◌<◌, length, Some, slice_get};
+ghost use Rattle.std.specs.Prelude.{◌≡◌, ◌<◌, length, IfErr, Some, slice_get};
 ghost use Rattle.mapping.specs.Limits.{IsSurfaceSide};
 
 use crate::certificate_reading::{HEAD_SIZE, is_bounded, read_whole};
@@ -30,6 +30,7 @@ pub struct Certificate<'a> {
 }
 
 impl<'a> Certificate<'a> {
+    ghost use Rattle.draw_ops.specs.Fault.{IsInRecord};
     ghost use Rattle.draw_ops.specs.Results.{result_map};
     ghost use Rattle.preflight_cert.specs.CertificateOf.{certificate_of};
     ghost use Rattle.preflight_cert.specs.CertificateReading.{read_certificate};
@@ -40,7 +41,8 @@ impl<'a> Certificate<'a> {
     /// `ShortCertificate` where entries are missing, and `TrailingBytes` where bytes stand behind them.
     #[tactic(auto, unfolding(crate::specs::CertificateReading::mark))]
     pub fn read(bytes: &'a [u8]) -> Result<Certificate<'a>, Fault>
-        ensures { read_certificate bytes.now ≡ result_map certificate_of result }
+        ensures value { read_certificate bytes.now ≡ result_map certificate_of result }
+        ensures in_no_record { IfErr result (λ fault. IsInRecord fault → ⊥) }
     {
         if bytes.len() < 4 || u32_at(bytes, 0) != MARK {
             return Err(Fault::NotCertificate);

@@ -1,8 +1,9 @@
 //! The parts of a certificate's bytes.
 
-ghost use Rattle.std.specs.Prelude.{◌≡◌, ◌≤◌, ◌+◌, length, IsTrue, nat_le};
+ghost use Rattle.std.specs.Prelude.{◌≡◌, ◌≤◌, ◌+◌, length, IfErr, IsTrue, nat_le};
 ghost use Rattle.mapping.specs.Limits.{IsSurfaceSide, is_surface_side};
 ghost use Rattle.point_views.specs.Numbers.{number_at};
+ghost use Rattle.draw_ops.specs.Fault.{IsInRecord};
 ghost use Rattle.draw_ops.specs.Results.{result_map};
 ghost use Rattle.dc_stack.specs.Drawing.{edge_limit};
 ghost use Rattle.dc_stack.specs.Path.{piece_limit};
@@ -88,7 +89,8 @@ pub(crate) fn read_whole(bytes: &[u8]) -> Result<Certificate<'_>, Fault>
     requires head { head_size ≤ length bytes.now }
     requires wide { IsSurfaceSide (number_at bytes.now 4 4) }
     requires high { IsSurfaceSide (number_at bytes.now 8 4) }
-    ensures { read_whole bytes.now ≡ result_map certificate_of result }
+    ensures value { read_whole bytes.now ≡ result_map certificate_of result }
+    ensures in_no_record { IfErr result (λ fault. IsInRecord fault → ⊥) }
 {
     let end = HEAD_SIZE + ENTRY_SIZE * u32_at(bytes, 36) as usize;
     if bytes.len() < end {

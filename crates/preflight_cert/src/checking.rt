@@ -1,12 +1,14 @@
 //! Checking a certificate against a file.
 
-ghost use Rattle.std.specs.Prelude.{◌≡◌, ◌⊎◌, Ok, IfErr, IfOk, OnOk};
+ghost use Rattle.std.specs.Prelude.{◌≡◌, ◌⊎◌, Ok, IfErr, IfOk, IfSome, OnOk};
+ghost use Rattle.draw_ops.specs.Fault.{IsInRecord};
 ghost use Rattle.meta_headers.specs.File.{IsOpenedFrom};
 ghost use Rattle.meta_headers.specs.OpenedOf.{opened_of};
 ghost use Rattle.preflight_cert.specs.Answer.{CountsRecords, IsAnswer, RecordsAnswer, Sound, accepted, are_within, refuses, total_fault};
 ghost use Rattle.preflight_cert.specs.CertificateOf.{certificate_of};
 ghost use Rattle.preflight_cert.specs.CertificateReading.{read_certificate};
 ghost use Rattle.preflight_cert.specs.Checks.{IsWantOfMemory};
+ghost use Rattle.preflight_cert.specs.Refusal.{TellsNumber};
 
 use crate::certificate::Certificate;
 use crate::cleared::Cleared;
@@ -35,6 +37,7 @@ pub fn check<'a>(
     ensures counts { IfOk result (λ c. CountsRecords (opened_of c.opened) c.opened.records.now c.records c.notes.counts) }
     ensures sound { IfOk result (λ c. Sound file.now c.certificate.max_width c.certificate.max_height c.certificate.writes) }
     ensures refusal { IfErr result (λ r. IsAnswer file.now certificate.now (refuses r.number r.fault) ⊎ IsWantOfMemory r) }
+    ensures number_told { IfErr result TellsNumber }
 {
     answer_law();
     let opened = match open_file(file) {
@@ -64,6 +67,7 @@ fn check_opened<'a>(
         (RecordsAnswer (opened_of opened.entry) opened.entry.records.now (certificate_of certificate.entry) accepted) }
     ensures refusal { IfErr result
         (λ r. RecordsAnswer (opened_of opened.entry) opened.entry.records.now (certificate_of certificate.entry) (refuses r.number r.fault) ⊎ IsWantOfMemory r) }
+    ensures number_told { IfErr result TellsNumber }
 {
     content_law();
     let place = Place::new(&opened.frame, certificate.max_width, certificate.max_height);
@@ -92,7 +96,8 @@ fn check_opened<'a>(
 
 /// The fault of what a certificate says of the whole: a need that is too small, or else too few writes.
 fn total_fault(needs: Needs, budget: u64, certificate: &Certificate<'_>) -> Option<Fault>
-    ensures { result ≡ total_fault needs budget (certificate_of certificate.now) }
+    ensures fault { result ≡ total_fault needs budget (certificate_of certificate.now) }
+    ensures in_no_record { IfSome result (λ fault. IsInRecord fault → ⊥) }
 {
     if !are_within(needs, certificate.needs) {
         return Some(Fault::NeedTooSmall);

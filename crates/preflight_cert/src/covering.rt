@@ -16,7 +16,7 @@ use crate::budget::box_cells;
 use crate::entry::Entries;
 use crate::layer_count::layer_count;
 use dc_stack::{Draw, Machine};
-use draw_ops::Fault;
+use draw_ops::RecordFault;
 use mapping::{Place, Rect};
 use object_tables::Table;
 
@@ -29,7 +29,7 @@ pub(crate) fn take_entry<'a, T: Table<'a>>(
     machine: &Machine<'a, T>,
     place: Place,
     entries: &mut Entries<'_>,
-) -> Result<u64, Fault>
+) -> Result<u64, RecordFault>
     requires place { surface_of place ≡ machine.now.surface }
     requires placed { IfSome drawn.now (IsPlacedDraw machine.now.surface machine.now.painted) }
     ensures fault { result_err result ≡ entry_fault number (option_map (drawing_with machine.now) drawn.now) (entries_of entries.old) }
@@ -43,13 +43,13 @@ pub(crate) fn take_entry<'a, T: Table<'a>>(
         return Ok(0);
     };
     let Some((entry, rest)) = entries.split_first() else {
-        return Err(Fault::WrongEntry);
+        return Err(RecordFault::WrongEntry);
     };
     if entry.number != number {
-        return Err(Fault::WrongEntry);
+        return Err(RecordFault::WrongEntry);
     }
     if !covers(entry.bounds, drawn.bounds) {
-        return Err(Fault::BoxTooSmall);
+        return Err(RecordFault::BoxTooSmall);
     }
     *entries = rest;
     Ok(pixel_budget(layer_count(drawn, machine), box_cells(entry.bounds, place)))

@@ -8,6 +8,7 @@ ghost use Rattle.dc_stack.specs.Draws.{IsPlacedDraw};
 ghost use Rattle.dc_stack.specs.MachineState.{drawing_with};
 ghost use Rattle.preflight_cert.specs.Checks.{IsWantOfMemory};
 ghost use Rattle.preflight_cert.specs.Gathered.{FitsEntry, Gathers, StopsGathering, drawing_text, least_drawing_budget};
+ghost use Rattle.preflight_cert.specs.Refusal.{TellsNumber};
 
 use crate::budget::box_cells;
 use crate::covering::pixel_budget;
@@ -35,6 +36,7 @@ pub(crate) fn gather<'a, S: OpSource<'a>, T: Table<'a>>(
         (λ budget. Gathers (S.content source.old) machine.old entries.old.items budget machine.new entries.new.items) }
     ensures few { OnOk result (length entries.new.items ≤ length entries.old.items + 20 * 2 ^ 20) }
     ensures refusal { IfErr result (λ r. StopsGathering (S.content source.old) machine.old r ⊎ IsWantOfMemory r) }
+    ensures number_told { IfErr result TellsNumber }
 {
     let mut before: u32 = 0;
     let mut writes: u64 = 0;
@@ -50,8 +52,7 @@ pub(crate) fn gather<'a, S: OpSource<'a>, T: Table<'a>>(
         let played = machine.step_by(&step.op);
         let drawn = match &played {
             Ok(drawn) => drawn,
-            Err(Fault::OutOfMemory) => return Err(Refusal::of_file(Fault::OutOfMemory)),
-            Err(fault) => return Err(Refusal::at(step.number, *fault)),
+            Err(fault) => return Err(Refusal::of_step(step.number, *fault)),
         };
         match add_entry(step.number, drawn, machine, place, entries) {
             Ok(more) => writes += more,

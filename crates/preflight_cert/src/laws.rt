@@ -3,6 +3,7 @@
 ghost use Rattle.preflight_cert.specs.Answer.{AnswerLaws};
 ghost use Rattle.preflight_cert.specs.DrawingBoxLaws.{DrawingBoxLaws};
 ghost use Rattle.preflight_cert.specs.NeedLaws.{NeedLaws};
+ghost use Rattle.preflight_cert.specs.ObjectOrder.{ObjectsAreInOrder};
 ghost use Rattle.preflight_cert.specs.PreparationLaws.{PreparationLaws};
 ghost use Rattle.preflight_cert.specs.Run.{RefusedOverAnyImage, RunEndsInOneWay, WritesAreOne};
 ghost use Rattle.preflight_cert.specs.SizeLaws.{SizeLaws};
@@ -12,17 +13,20 @@ use dc_stack::fault_law;
 use draw_ops::content_law;
 use mapping::{cell_law, placing_law};
 use meta_headers::file_law;
-use object_tables::created_index_law;
+use object_tables::{created_index_law, order_law};
 use span_fill::line_box_law;
 
 /// A run ends in one way, and whether it is refused, and by which fault, doesn't depend on the image
-/// that it starts from; without a fault it writes one number of pixels.
+/// that it starts from; without a fault it writes one number of pixels. At any point of it the objects are in the
+/// order of their indexes, each once.
 pub fn run_law()
     ensures end { RunEndsInOneWay }
     ensures refusal { RefusedOverAnyImage }
     ensures writes { WritesAreOne }
+    ensures objects { ObjectsAreInOrder }
 {
     file_law();
+    order_law();
 }
 
 /// The law of drawings' boxes: a shape that isn't the inside of open figures has pixels only where a box

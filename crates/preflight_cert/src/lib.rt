@@ -3,7 +3,7 @@
 //! # What is promised
 //!
 //! - A run ends in one way, and whether it is refused doesn't depend on the image that it starts
-//!   from (`run_law`).
+//!   from; at any point of it the objects are in the order of their indexes (`run_law`).
 //! - A drawing writes only pixels of a box that has its points, and so at most as many as its layers'
 //!   budget by that box says, on this surface and on each that is no larger (`drawing_box_law`).
 //! - Records without a fault at one size have none at a smaller one, and their drawings write there no

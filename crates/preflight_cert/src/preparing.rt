@@ -9,6 +9,7 @@ ghost use Rattle.preflight_cert.specs.CertificateReading.{read_certificate};
 ghost use Rattle.preflight_cert.specs.Checks.{IsWantOfMemory};
 ghost use Rattle.preflight_cert.specs.Preparation.{Prepares, PreparesRecords, StopsPreparing, is_bound};
 ghost use Rattle.preflight_cert.specs.PreparedRecords.{StopsRecords};
+ghost use Rattle.preflight_cert.specs.Refusal.{TellsNumber};
 
 use crate::certificate_reading::is_side;
 use crate::gathering::gather;
@@ -36,6 +37,7 @@ pub fn prepare(
     ensures accepted { IfOk result (λ text. IsAnswer file.now text.items accepted) }
     ensures refusal { IfErr result (λ r. StopsPreparing file.now max_width max_height r.number r.fault ⊎ IsWantOfMemory r) }
     ensures bound { IfErr result (λ r. is_bound max_width max_height ≡ false → r.fault ≡ BadBound) }
+    ensures number_told { IfErr result TellsNumber }
 {
     if !(is_side(max_width) && is_side(max_height)) {
         return Err(Refusal::of_file(Fault::BadBound));
@@ -62,6 +64,7 @@ fn prepare_opened(
     ensures text { IfOk result (λ text. PreparesRecords (opened_of opened.entry) opened.entry.records.now max_width max_height text.items) }
     ensures accepted { IfOk result (λ text. AnswersRead (read_certificate text.items) (opened_of opened.entry) opened.entry.records.now accepted) }
     ensures refusal { IfErr result (λ r. StopsRecords (opened_of opened.entry) opened.entry.records.now max_width max_height r ⊎ IsWantOfMemory r) }
+    ensures number_told { IfErr result TellsNumber }
 {
     answer_law();
     box_law();

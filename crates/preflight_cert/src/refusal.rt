@@ -1,8 +1,11 @@
 //! Why a file isn't played, and where in it the fault lies.
 
 ghost use Rattle.std.specs.Prelude.{◌≡◌, Some, None};
+ghost use Rattle.draw_ops.specs.Fault.{IsInRecord};
+ghost use Rattle.draw_ops.specs.declared.fault.Fault.TheVariants.{Record};
+ghost use Rattle.preflight_cert.specs.Refusal.{TellsNumber, number_told};
 
-use draw_ops::Fault;
+use draw_ops::{Fault, RecordFault};
 use std::error::Error;
 use std::fmt;
 
@@ -18,6 +21,7 @@ impl Refusal {
     pub fn of_file(fault: Fault) -> Refusal
         ensures number { result.number ≡ None }
         ensures fault { result.fault ≡ fault }
+        ensures number_told { (IsInRecord fault → ⊥) → TellsNumber result }
     {
         Refusal {
             number: None,
@@ -26,13 +30,26 @@ impl Refusal {
     }
 
     /// A fault in a record.
-    pub fn at(number: u32, fault: Fault) -> Refusal
+    pub fn at(number: u32, fault: RecordFault) -> Refusal
         ensures number { result.number ≡ Some number }
-        ensures fault { result.fault ≡ fault }
+        ensures fault { result.fault ≡ Record fault }
+        ensures number_told { TellsNumber result }
     {
         Refusal {
             number: Some(number),
-            fault,
+            fault: Fault::Record(fault),
+        }
+    }
+
+    /// What a step of the record with this number is refused by: a fault in that record, or one that lies in none.
+    pub fn of_step(number: u32, fault: Fault) -> Refusal
+        ensures number { result.number ≡ number_told number fault }
+        ensures fault { result.fault ≡ fault }
+        ensures number_told { TellsNumber result }
+    {
+        match fault {
+            Fault::Record(fault) => Refusal::at(number, fault),
+            _ => Refusal::of_file(fault),
         }
     }
 }

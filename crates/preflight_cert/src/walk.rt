@@ -5,12 +5,13 @@ ghost use Rattle.mapping.specs.PlaceOf.{surface_of};
 ghost use Rattle.draw_ops.specs.Records.{record_limit};
 ghost use Rattle.preflight_cert.specs.Checks.{Checks, EndsCheck, IsWantOfMemory, StopsCheck};
 ghost use Rattle.preflight_cert.specs.EntriesOf.{entries_of};
+ghost use Rattle.preflight_cert.specs.Refusal.{TellsNumber};
 
 use crate::covering::take_entry;
 use crate::entry::Entries;
 use crate::refusal::Refusal;
-use dc_stack::{Machine, fault_law};
-use draw_ops::{Fault, Notes, OpSource};
+use dc_stack::Machine;
+use draw_ops::{Notes, OpSource, RecordFault};
 use mapping::Place;
 use object_tables::Table;
 
@@ -40,8 +41,8 @@ pub(crate) fn check_steps<'a, S: OpSource<'a>, T: Table<'a>>(
     ensures checked { IfOk result
         (λ totals. Checks (S.content source.old) machine.old (entries_of given.entry) noted.counts totals machine.new) }
     ensures refusal { IfErr result (λ r. StopsCheck (S.content source.old) machine.old (entries_of given.entry) r ⊎ IsWantOfMemory r) }
+    ensures number_told { IfErr result TellsNumber }
 {
-    fault_law();
     let mut entries = given;
     let mut totals = Totals {
         writes: 0,
@@ -60,8 +61,7 @@ pub(crate) fn check_steps<'a, S: OpSource<'a>, T: Table<'a>>(
         let played = machine.step_by(&step.op);
         let drawn = match &played {
             Ok(drawn) => drawn,
-            Err(Fault::OutOfMemory) => return Err(Refusal::of_file(Fault::OutOfMemory)),
-            Err(fault) => return Err(Refusal::at(step.number, *fault)),
+            Err(fault) => return Err(Refusal::of_step(step.number, *fault)),
         };
         match take_entry(step.number, drawn, machine, place, &mut entries) {
             Ok(more) => totals.writes += more,
@@ -75,9 +75,10 @@ pub(crate) fn check_steps<'a, S: OpSource<'a>, T: Table<'a>>(
 /// Behind the last record no entry is left.
 fn checked_end(entries: Entries<'_>, totals: Totals) -> Result<Totals, Refusal>
     ensures end { EndsCheck totals.records (entries_of entries.entry) totals result }
+    ensures number_told { IfErr result TellsNumber }
 {
     if entries.is_empty() {
         return Ok(totals);
     }
-    Err(Refusal::at(totals.records.saturating_sub(1), Fault::WrongEntry))
+    Err(Refusal::at(totals.records.saturating_sub(1), RecordFault::WrongEntry))
 }

@@ -8,7 +8,7 @@ use Rattle.draw_ops.specs.Meaning.{unnoted}
 use Rattle.draw_ops.specs.Objects.{brush_object, tile_brush}
 use Rattle.draw_ops.specs.Operation.{blit, create}
 use Rattle.draw_ops.specs.Records.{Record}
-use Rattle.draw_ops.specs.declared.fault.Fault.TheVariants.{BadDib, BadParams, CompressedDib, PaletteColour, ShortDib}
+use Rattle.draw_ops.specs.declared.record_fault.RecordFault.TheVariants.{BadDib, BadParams, CompressedDib, PaletteColour, ShortDib}
 use Rattle.wmf_records.specs.BitmapRecords.{blit_to}
 use Rattle.wmf_records.specs.Wmf.{wmf_meaning, wmf_record}
 

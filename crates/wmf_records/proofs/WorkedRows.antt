@@ -7,7 +7,7 @@ use Rattle.draw_ops.specs.NoteKinds.{noted}
 use Rattle.draw_ops.specs.Objects.{brush_object, hatched_brush, null_brush, pen_object}
 use Rattle.draw_ops.specs.Operation.{create, no_effect, polygon, restore, set_window_origin}
 use Rattle.draw_ops.specs.Records.{Record}
-use Rattle.draw_ops.specs.declared.fault.Fault.TheVariants.{BadParams, BadValue, MetricMode, PaletteColour, UnknownRecord, Unsupported}
+use Rattle.draw_ops.specs.declared.record_fault.RecordFault.TheVariants.{BadParams, BadValue, MetricMode, PaletteColour, UnknownRecord, Unsupported}
 use Rattle.draw_ops.specs.declared.hatch.Hatch.TheVariants.{Cross}
 use Rattle.draw_ops.specs.declared.note.Note.TheVariants.{DashedPen, WidePen, Skipped as NoteSkipped}
 use Rattle.draw_ops.specs.declared.objects.Pen.TheVariants.{Null as NullPen, Solid as SolidPen}

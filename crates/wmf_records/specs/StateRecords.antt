@@ -6,51 +6,51 @@ use Rattle.draw_ops.specs.Fields.{needs_bytes, rgb_at, turned_box_at, yx_at}
 use Rattle.draw_ops.specs.Meaning.{MeantValue, noting, plain, unnoted}
 use Rattle.draw_ops.specs.Modes.{background_mode_meant, fill_mode_meant, map_mode_meant, raster_op_meant}
 use Rattle.draw_ops.specs.Operation.{Operation, no_effect, exclude_clip, intersect_clip, restore, set_background_colour}
-use Rattle.draw_ops.specs.declared.fault.Fault.{Fault}
-use Rattle.draw_ops.specs.declared.fault.Fault.TheVariants.{Unsupported}
+use Rattle.draw_ops.specs.declared.record_fault.RecordFault.{RecordFault}
+use Rattle.draw_ops.specs.declared.record_fault.RecordFault.TheVariants.{Unsupported}
 use Rattle.draw_ops.specs.declared.note.Note.TheVariants.{Skipped as NoteSkipped}
 
 -- META_EXCLUDECLIPRECT and META_INTERSECTCLIPRECT, 2.3.5.2 and 2.3.5.3: bottom, right, top and left
-abbrev pub exclude_clip_rect : List ℕ → Result MeantValue Fault
+abbrev pub exclude_clip_rect : List ℕ → Result MeantValue RecordFault
 exclude_clip_rect bytes = needs_bytes 14 bytes (Ok (unnoted (exclude_clip (turned_box_at bytes 6))))
 
 -- the same, kept in place of cut out
-abbrev pub intersect_clip_rect : List ℕ → Result MeantValue Fault
+abbrev pub intersect_clip_rect : List ℕ → Result MeantValue RecordFault
 intersect_clip_rect bytes = needs_bytes 14 bytes (Ok (unnoted (intersect_clip (turned_box_at bytes 6))))
 
 -- an origin, an extent, an offset or a position, by its record: y and x
-abbrev pub point_in : List ℕ → Result Point Fault
+abbrev pub point_in : List ℕ → Result Point RecordFault
 point_in bytes = needs_bytes 10 bytes (Ok (yx_at bytes 6))
 
 -- each of them makes its operation of the point
-abbrev pub point_record : (Point → Operation) → List ℕ → Result MeantValue Fault
+abbrev pub point_record : (Point → Operation) → List ℕ → Result MeantValue RecordFault
 point_record make bytes = plain make (point_in bytes)
 
 -- META_RESTOREDC, 2.3.5.10: which saved state
-abbrev pub restore_dc : List ℕ → Result MeantValue Fault
+abbrev pub restore_dc : List ℕ → Result MeantValue RecordFault
 restore_dc bytes = needs_bytes 8 bytes (Ok (unnoted (restore (i16_at bytes 6))))
 
 -- META_SETBKCOLOR, 2.3.5.14: the colour
-abbrev pub set_bk_color : List ℕ → Result MeantValue Fault
+abbrev pub set_bk_color : List ℕ → Result MeantValue RecordFault
 set_bk_color bytes = needs_bytes 10 bytes (plain set_background_colour (rgb_at bytes 6))
 
 -- META_SETBKMODE, META_SETMAPMODE, META_SETPOLYFILLMODE and META_SETROP2, 2.3.5.15, 2.3.5.17, 2.3.5.20 and 2.3.5.22: the mode
-abbrev pub set_bk_mode : List ℕ → Result MeantValue Fault
+abbrev pub set_bk_mode : List ℕ → Result MeantValue RecordFault
 set_bk_mode bytes = needs_bytes 8 bytes (background_mode_meant (number_at bytes 6 2))
 
 -- the same of the map mode
-abbrev pub set_map_mode_record : List ℕ → Result MeantValue Fault
+abbrev pub set_map_mode_record : List ℕ → Result MeantValue RecordFault
 set_map_mode_record bytes = needs_bytes 8 bytes (map_mode_meant (number_at bytes 6 2))
 
 -- the same of the fill mode
-abbrev pub set_poly_fill_mode : List ℕ → Result MeantValue Fault
+abbrev pub set_poly_fill_mode : List ℕ → Result MeantValue RecordFault
 set_poly_fill_mode bytes = needs_bytes 8 bytes (fill_mode_meant (number_at bytes 6 2))
 
 -- the same of the binary raster operation
-abbrev pub set_rop2 : List ℕ → Result MeantValue Fault
+abbrev pub set_rop2 : List ℕ → Result MeantValue RecordFault
 set_rop2 bytes = needs_bytes 8 bytes (raster_op_meant (number_at bytes 6 2))
 
 -- META_SETLAYOUT, 2.3.5.16: only the layout from left to right, 0, is played, and has no effect
-abbrev pub set_layout : List ℕ → Result MeantValue Fault
+abbrev pub set_layout : List ℕ → Result MeantValue RecordFault
 set_layout bytes =
     needs_bytes 8 bytes (if number_at bytes 6 2 == 0 then Ok (noting NoteSkipped no_effect) else Err (Unsupported 0x0149))

@@ -4,8 +4,8 @@ use Rattle.draw_ops.specs.Meaning.{Meaning, MeantValue, noting, unnoted}
 use Rattle.draw_ops.specs.Objects.{font_object, palette_object}
 use Rattle.draw_ops.specs.Operation.{no_effect, save, move_to, offset_viewport_origin, offset_window_origin, set_viewport_extent, set_viewport_origin, set_window_extent, set_window_origin, select, select_palette, delete}
 use Rattle.draw_ops.specs.Records.{Record}
-use Rattle.draw_ops.specs.declared.fault.Fault.{Fault}
-use Rattle.draw_ops.specs.declared.fault.Fault.TheVariants.{UnknownRecord, Unsupported}
+use Rattle.draw_ops.specs.declared.record_fault.RecordFault.{RecordFault}
+use Rattle.draw_ops.specs.declared.record_fault.RecordFault.TheVariants.{UnknownRecord, Unsupported}
 use Rattle.draw_ops.specs.declared.note.Note.TheVariants.{Skipped as NoteSkipped}
 use Rattle.wmf_records.specs.BitmapRecords.{dib_bit_blt, dib_create_pattern_brush, dib_stretch_blt, pat_blt, stretch_dib}
 use Rattle.wmf_records.specs.DrawingRecords.{line_to_record, poly_polygon_record, polygon_record, polyline_record, rectangle_record, set_pixel}
@@ -16,7 +16,7 @@ use Rattle.wmf_records.specs.declared.entry.WmfEntry.{WmfEntry}
 use Rattle.wmf_records.specs.declared.entry.WmfEntry.TheVariants.{DibBitBlt, DibStretchBlt, StretchDib, Eof, LineTo, PatBlt, Polyline, Polygon, PolyPolygon, Rectangle, SetPixel, CreateBrushIndirect, CreateFontIndirect, CreatePalette, CreatePenIndirect, DeleteObject, DibCreatePatternBrush, SelectObject, SelectPalette, ExcludeClipRect, IntersectClipRect, MoveTo, OffsetViewportOrg, OffsetWindowOrg, RestoreDc, SaveDc, SetBkColor, SetBkMode, SetLayout, SetMapMode, SetPolyFillMode, SetRop2, SetViewportExt, SetViewportOrg, SetWindowExt, SetWindowOrg, Skipped, Refused}
 
 -- what a record with each entry means, by its function and its bytes
-unfoldable pub wmf_record : WmfEntry → ℕ → List ℕ → Result MeantValue Fault
+unfoldable pub wmf_record : WmfEntry → ℕ → List ℕ → Result MeantValue RecordFault
 wmf_record DibBitBlt function bytes = dib_bit_blt bytes
 wmf_record DibStretchBlt function bytes = dib_stretch_blt bytes
 wmf_record StretchDib function bytes = stretch_dib bytes
@@ -57,7 +57,7 @@ wmf_record Skipped function bytes = Ok (noting NoteSkipped no_effect)
 wmf_record Refused function bytes = Err (Unsupported function)
 
 -- a function that the standard doesn't have is unknown
-abbrev pub wmf_record_if : Option WmfEntry → Record → Result MeantValue Fault
+abbrev pub wmf_record_if : Option WmfEntry → Record → Result MeantValue RecordFault
 wmf_record_if None r = Err (UnknownRecord r.kind)
 wmf_record_if (Some entry) r = wmf_record entry r.kind r.bytes
 

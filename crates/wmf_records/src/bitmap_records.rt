@@ -1,9 +1,8 @@
 //! The records that bring bitmaps, or paint as those do ([MS-WMF] 2.3.1, 2.3.3.12 and 2.3.4.8).
 
-ghost use Rattle.std.specs.Prelude.{◌≡◌, ◌+◌, ◌≤◌, IfErr, length};
+ghost use Rattle.std.specs.Prelude.{◌≡◌, ◌+◌, ◌≤◌, length};
 ghost use Rattle.dib_views.specs.PictureOf.{dib_of};
 ghost use Rattle.draw_ops.specs.Blits.{source_of};
-ghost use Rattle.draw_ops.specs.Fault.{IsInRecord};
 ghost use Rattle.draw_ops.specs.RecordOf.{meant_of};
 ghost use Rattle.draw_ops.specs.Results.{result_map};
 ghost use Rattle.wmf_records.specs.BitmapRecords.{blit_to, dib_bit_blt, dib_bit_blt_with, dib_bit_blt_without, dib_create_pattern_brush};
@@ -13,7 +12,7 @@ ghost use Rattle.wmf_records.specs.BitmapRecords.{pat_blt, pattern_dib, stretch_
 use crate::functions::{META_DIBBITBLT, META_DIBSTRETCHBLT};
 use dib_views::DibView;
 use draw_ops::{
-    BlitSource, Fault, Meant, blit_meant, dib_at, pattern_brush_meant, rgb_dib_at,
+    BlitSource, Meant, RecordFault, blit_meant, dib_at, pattern_brush_meant, rgb_dib_at,
     source_as_stored, source_from_top, yx_at,
 };
 use point_views::{u16_at, u32_at};
@@ -27,13 +26,11 @@ const BS_PATTERN: u16 = 3;
 fn blit_to<'a>(
     bytes: &'a [u8],
     place: usize,
-    source: Result<BlitSource<'a>, Fault>,
-) -> Result<Meant<'a>, Fault>
+    source: Result<BlitSource<'a>, RecordFault>,
+) -> Result<Meant<'a>, RecordFault>
     requires operation { 10 ≤ length bytes.now }
     requires rectangle { place + 8 ≤ length bytes.now }
-    requires source { IfErr source IsInRecord }
     ensures value { blit_to bytes.entry.now place (result_map source_of source.entry) ≡ result_map meant_of result }
-    ensures in_record { IfErr result IsInRecord }
 {
     let code = u32_at(bytes, 6);
     let extent = yx_at(bytes, place);
@@ -42,12 +39,11 @@ fn blit_to<'a>(
 }
 
 /// META_PATBLT (2.3.3.12): RasterOperation, Height, Width, YLeft, XLeft.
-pub(crate) fn pat_blt(bytes: &[u8]) -> Result<Meant<'_>, Fault>
+pub(crate) fn pat_blt(bytes: &[u8]) -> Result<Meant<'_>, RecordFault>
     ensures value { pat_blt bytes.entry.now ≡ result_map meant_of result }
-    ensures in_record { IfErr result IsInRecord }
 {
     if bytes.len() < 18 {
-        return Err(Fault::BadParams);
+        return Err(RecordFault::BadParams);
     }
     blit_to(bytes, 10, Ok(BlitSource::Missing))
 }
@@ -61,9 +57,8 @@ fn is_without_bitmap(function: u32, bytes: &[u8]) -> bool
 }
 
 /// META_DIBBITBLT (2.3.1.2).
-pub(crate) fn dib_bit_blt(bytes: &[u8]) -> Result<Meant<'_>, Fault>
+pub(crate) fn dib_bit_blt(bytes: &[u8]) -> Result<Meant<'_>, RecordFault>
     ensures value { dib_bit_blt bytes.entry.now ≡ result_map meant_of result }
-    ensures in_record { IfErr result IsInRecord }
 {
     if is_without_bitmap(META_DIBBITBLT, bytes) {
         dib_bit_blt_without(bytes)
@@ -74,30 +69,27 @@ pub(crate) fn dib_bit_blt(bytes: &[u8]) -> Result<Meant<'_>, Fault>
 
 /// META_DIBBITBLT with a bitmap (2.3.1.2.1): RasterOperation, YSrc, XSrc, Height, Width, YDest, XDest, Target.
 /// Height and width are those of the source as well.
-fn dib_bit_blt_with(bytes: &[u8]) -> Result<Meant<'_>, Fault>
+fn dib_bit_blt_with(bytes: &[u8]) -> Result<Meant<'_>, RecordFault>
     ensures value { dib_bit_blt_with bytes.entry.now ≡ result_map meant_of result }
-    ensures in_record { IfErr result IsInRecord }
 {
     if bytes.len() < 22 {
-        return Err(Fault::BadParams);
+        return Err(RecordFault::BadParams);
     }
     let source = source_from_top(yx_at(bytes, 10), yx_at(bytes, 14), dib_at(bytes, 22));
     blit_to(bytes, 14, source)
 }
 
 /// META_DIBBITBLT without one (2.3.1.2.2): RasterOperation, YSrc, XSrc, Reserved, Height, Width, YDest, XDest.
-fn dib_bit_blt_without(bytes: &[u8]) -> Result<Meant<'_>, Fault>
+fn dib_bit_blt_without(bytes: &[u8]) -> Result<Meant<'_>, RecordFault>
     requires { 24 ≤ length bytes.now }
     ensures value { dib_bit_blt_without bytes.entry.now ≡ result_map meant_of result }
-    ensures in_record { IfErr result IsInRecord }
 {
     blit_to(bytes, 16, Ok(BlitSource::Missing))
 }
 
 /// META_DIBSTRETCHBLT (2.3.1.3).
-pub(crate) fn dib_stretch_blt(bytes: &[u8]) -> Result<Meant<'_>, Fault>
+pub(crate) fn dib_stretch_blt(bytes: &[u8]) -> Result<Meant<'_>, RecordFault>
     ensures value { dib_stretch_blt bytes.entry.now ≡ result_map meant_of result }
-    ensures in_record { IfErr result IsInRecord }
 {
     if is_without_bitmap(META_DIBSTRETCHBLT, bytes) {
         dib_stretch_blt_without(bytes)
@@ -108,12 +100,11 @@ pub(crate) fn dib_stretch_blt(bytes: &[u8]) -> Result<Meant<'_>, Fault>
 
 /// META_DIBSTRETCHBLT with a bitmap (2.3.1.3.1): RasterOperation, SrcHeight, SrcWidth, YSrc, XSrc, DestHeight,
 /// DestWidth, YDest, XDest, Target.
-fn dib_stretch_blt_with(bytes: &[u8]) -> Result<Meant<'_>, Fault>
+fn dib_stretch_blt_with(bytes: &[u8]) -> Result<Meant<'_>, RecordFault>
     ensures value { dib_stretch_blt_with bytes.entry.now ≡ result_map meant_of result }
-    ensures in_record { IfErr result IsInRecord }
 {
     if bytes.len() < 26 {
-        return Err(Fault::BadParams);
+        return Err(RecordFault::BadParams);
     }
     let source = source_from_top(yx_at(bytes, 14), yx_at(bytes, 10), dib_at(bytes, 26));
     blit_to(bytes, 18, source)
@@ -121,22 +112,20 @@ fn dib_stretch_blt_with(bytes: &[u8]) -> Result<Meant<'_>, Fault>
 
 /// META_DIBSTRETCHBLT without one (2.3.1.3.2): RasterOperation, SrcHeight, SrcWidth, YSrc, XSrc, Reserved,
 /// DestHeight, DestWidth, YDest, XDest.
-fn dib_stretch_blt_without(bytes: &[u8]) -> Result<Meant<'_>, Fault>
+fn dib_stretch_blt_without(bytes: &[u8]) -> Result<Meant<'_>, RecordFault>
     requires { 28 ≤ length bytes.now }
     ensures value { dib_stretch_blt_without bytes.entry.now ≡ result_map meant_of result }
-    ensures in_record { IfErr result IsInRecord }
 {
     blit_to(bytes, 20, Ok(BlitSource::Missing))
 }
 
 /// META_STRETCHDIB (2.3.1.6): RasterOperation, ColorUsage, SrcHeight, SrcWidth, YSrc, XSrc, DestHeight, DestWidth,
 /// yDst, xDst, DIB.
-pub(crate) fn stretch_dib(bytes: &[u8]) -> Result<Meant<'_>, Fault>
+pub(crate) fn stretch_dib(bytes: &[u8]) -> Result<Meant<'_>, RecordFault>
     ensures value { stretch_dib bytes.entry.now ≡ result_map meant_of result }
-    ensures in_record { IfErr result IsInRecord }
 {
     if bytes.len() < 28 {
-        return Err(Fault::BadParams);
+        return Err(RecordFault::BadParams);
     }
     let dib = rgb_dib_at(u32::from(u16_at(bytes, 10)), bytes, 28);
     let source = source_as_stored(yx_at(bytes, 16), yx_at(bytes, 12), dib);
@@ -144,22 +133,20 @@ pub(crate) fn stretch_dib(bytes: &[u8]) -> Result<Meant<'_>, Fault>
 }
 
 /// META_DIBCREATEPATTERNBRUSH (2.3.4.8): Style, ColorUsage, Target. The brush is made at the lowest free index.
-pub(crate) fn dib_create_pattern_brush(bytes: &[u8]) -> Result<Meant<'_>, Fault>
+pub(crate) fn dib_create_pattern_brush(bytes: &[u8]) -> Result<Meant<'_>, RecordFault>
     ensures value { dib_create_pattern_brush bytes.entry.now ≡ result_map meant_of result }
-    ensures in_record { IfErr result IsInRecord }
 {
     if bytes.len() < 10 {
-        return Err(Fault::BadParams);
+        return Err(RecordFault::BadParams);
     }
     pattern_brush_meant(None, pattern_dib(bytes))
 }
 
 /// The bitmap of META_DIBCREATEPATTERNBRUSH. It is read whatever the style is; of BS_PATTERN the usage isn't
 /// looked at.
-fn pattern_dib(bytes: &[u8]) -> Result<DibView<'_>, Fault>
+fn pattern_dib(bytes: &[u8]) -> Result<DibView<'_>, RecordFault>
     requires { 10 ≤ length bytes.now }
     ensures value { pattern_dib bytes.entry.now ≡ result_map dib_of result }
-    ensures in_record { IfErr result IsInRecord }
 {
     if u16_at(bytes, 6) == BS_PATTERN {
         dib_at(bytes, 10)

@@ -1,8 +1,7 @@
 //! Drawing records ([MS-WMF] 2.3.3).
 
-ghost use Rattle.std.specs.Prelude.{◌≡◌, ◌≤◌, IfErr, Some, length};
+ghost use Rattle.std.specs.Prelude.{◌≡◌, ◌≤◌, Some, length};
 ghost use Rattle.std.specs.Option.{option_map};
-ghost use Rattle.draw_ops.specs.Fault.{IsInRecord};
 ghost use Rattle.draw_ops.specs.RecordOf.{meant_of};
 ghost use Rattle.draw_ops.specs.Results.{result_map};
 ghost use Rattle.point_views.specs.Counts.{counts_of};
@@ -13,50 +12,46 @@ ghost use Rattle.wmf_records.specs.DrawingRecords.{points_for, poly_polygon_reco
 ghost use Rattle.point_views.specs.Numbers.{i16_at};
 
 use draw_ops::{
-    Fault, Meant, Op, RectangleEdges, counts_at, points_at, rgb_at, turned_box_at, yx_at,
+    Meant, Op, RecordFault, RectangleEdges, counts_at, points_at, rgb_at, turned_box_at, yx_at,
 };
 use point_views::{Counts, NumberWidth, Points, Polys, i16_at, u16_at};
 
 /// META_LINETO (2.3.3.10): y, x.
-pub(crate) fn line_to(bytes: &[u8]) -> Result<Meant<'_>, Fault>
+pub(crate) fn line_to(bytes: &[u8]) -> Result<Meant<'_>, RecordFault>
     ensures value { line_to_record bytes.entry.now ≡ result_map meant_of result }
-    ensures in_record { IfErr result IsInRecord }
 {
     if bytes.len() < 10 {
-        return Err(Fault::BadParams);
+        return Err(RecordFault::BadParams);
     }
     Ok(Meant::unnoted(Op::LineTo(yx_at(bytes, 6))))
 }
 
 /// META_POLYLINE (2.3.3.14): NumberOfPoints, aPoints.
-pub(crate) fn polyline(bytes: &[u8]) -> Result<Meant<'_>, Fault>
+pub(crate) fn polyline(bytes: &[u8]) -> Result<Meant<'_>, RecordFault>
     ensures value { polyline_record bytes.entry.now ≡ result_map meant_of result }
-    ensures in_record { IfErr result IsInRecord }
 {
     let points = points(bytes)?;
     Ok(Meant::unnoted(Op::Polyline(Polys::one(points))))
 }
 
 /// META_POLYGON (2.3.3.15): NumberOfPoints, aPoints.
-pub(crate) fn polygon(bytes: &[u8]) -> Result<Meant<'_>, Fault>
+pub(crate) fn polygon(bytes: &[u8]) -> Result<Meant<'_>, RecordFault>
     ensures value { polygon_record bytes.entry.now ≡ result_map meant_of result }
-    ensures in_record { IfErr result IsInRecord }
 {
     let points = points(bytes)?;
     Ok(Meant::unnoted(Op::Polygon(Polys::one(points))))
 }
 
 /// A count of points, and the points.
-fn points(bytes: &[u8]) -> Result<Points<'_>, Fault>
+fn points(bytes: &[u8]) -> Result<Points<'_>, RecordFault>
     ensures value { point_list bytes.entry.now ≡ result_map points_of result }
-    ensures in_record { IfErr result IsInRecord }
 {
     if bytes.len() < 8 {
-        return Err(Fault::BadParams);
+        return Err(RecordFault::BadParams);
     }
     match counted_points(i16_at(bytes, 6), bytes) {
         Some(points) => Ok(points),
-        None => Err(Fault::BadParams),
+        None => Err(RecordFault::BadParams),
     }
 }
 
@@ -72,16 +67,15 @@ fn counted_points(count: i16, bytes: &[u8]) -> Option<Points<'_>>
 }
 
 /// META_POLYPOLYGON (2.3.3.16): NumberOfPolygons, aPointsPerPolygon, aPoints.
-pub(crate) fn poly_polygon(bytes: &[u8]) -> Result<Meant<'_>, Fault>
+pub(crate) fn poly_polygon(bytes: &[u8]) -> Result<Meant<'_>, RecordFault>
     ensures value { poly_polygon_record bytes.entry.now ≡ result_map meant_of result }
-    ensures in_record { IfErr result IsInRecord }
 {
     if bytes.len() < 8 {
-        return Err(Fault::BadParams);
+        return Err(RecordFault::BadParams);
     }
     match polygons(usize::from(u16_at(bytes, 6)), bytes) {
         Some(polygons) => Ok(Meant::unnoted(Op::Polygon(polygons))),
-        None => Err(Fault::BadParams),
+        None => Err(RecordFault::BadParams),
     }
 }
 
@@ -111,12 +105,11 @@ fn points_for<'a>(counts: Counts<'a>, bytes: &'a [u8], place: usize) -> Option<P
 }
 
 /// META_RECTANGLE (2.3.3.17): BottomRect, RightRect, TopRect, LeftRect.
-pub(crate) fn rectangle(bytes: &[u8]) -> Result<Meant<'_>, Fault>
+pub(crate) fn rectangle(bytes: &[u8]) -> Result<Meant<'_>, RecordFault>
     ensures value { rectangle_record bytes.entry.now ≡ result_map meant_of result }
-    ensures in_record { IfErr result IsInRecord }
 {
     if bytes.len() < 14 {
-        return Err(Fault::BadParams);
+        return Err(RecordFault::BadParams);
     }
     Ok(Meant::unnoted(Op::Rectangle {
         corners: turned_box_at(bytes, 6),
@@ -125,12 +118,11 @@ pub(crate) fn rectangle(bytes: &[u8]) -> Result<Meant<'_>, Fault>
 }
 
 /// META_SETPIXEL (2.3.3.19): ColorRef, y, x.
-pub(crate) fn set_pixel(bytes: &[u8]) -> Result<Meant<'_>, Fault>
+pub(crate) fn set_pixel(bytes: &[u8]) -> Result<Meant<'_>, RecordFault>
     ensures value { set_pixel bytes.entry.now ≡ result_map meant_of result }
-    ensures in_record { IfErr result IsInRecord }
 {
     if bytes.len() < 14 {
-        return Err(Fault::BadParams);
+        return Err(RecordFault::BadParams);
     }
     let colour = rgb_at(bytes, 6)?;
     let point = yx_at(bytes, 10);

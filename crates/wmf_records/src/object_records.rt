@@ -1,7 +1,6 @@
 //! Object records ([MS-WMF] 2.3.4). Each object is made at the lowest free index.
 
-ghost use Rattle.std.specs.Prelude.{◌≡◌, ◌+◌, ◌≤◌, pos, int_lt, Ok, IfOk, IfErr, length};
-ghost use Rattle.draw_ops.specs.Fault.{IsInRecord};
+ghost use Rattle.std.specs.Prelude.{◌≡◌, ◌+◌, ◌≤◌, pos, int_lt, Ok, IfOk, length};
 ghost use Rattle.draw_ops.specs.Objects.{object_value_of};
 ghost use Rattle.draw_ops.specs.Operation.{delete, select, select_palette};
 ghost use Rattle.draw_ops.specs.RecordOf.{meant_of};
@@ -9,16 +8,15 @@ ghost use Rattle.draw_ops.specs.Results.{result_map};
 ghost use Rattle.point_views.specs.Numbers.{i16_at};
 ghost use Rattle.wmf_records.specs.ObjectRecords.{create_brush_indirect, create_pen_indirect, created, index_in, index_record};
 
-use draw_ops::{Fault, Handle, Meant, Object, Op, PenStyle, brush_meant, pen_meant, rgb_at};
+use draw_ops::{Handle, Meant, Object, Op, PenStyle, RecordFault, brush_meant, pen_meant, rgb_at};
 use point_views::{i16_at, u16_at};
 
 /// META_CREATEBRUSHINDIRECT (2.3.4.1): BrushStyle, ColorRef, BrushHatch.
-pub(crate) fn create_brush_indirect(bytes: &[u8]) -> Result<Meant<'_>, Fault>
+pub(crate) fn create_brush_indirect(bytes: &[u8]) -> Result<Meant<'_>, RecordFault>
     ensures value { create_brush_indirect bytes.entry.now ≡ result_map meant_of result }
-    ensures in_record { IfErr result IsInRecord }
 {
     if bytes.len() < 14 {
-        return Err(Fault::BadParams);
+        return Err(RecordFault::BadParams);
     }
     let style = u32::from(u16_at(bytes, 6));
     let colour = rgb_at(bytes, 8);
@@ -27,12 +25,11 @@ pub(crate) fn create_brush_indirect(bytes: &[u8]) -> Result<Meant<'_>, Fault>
 }
 
 /// META_CREATEPENINDIRECT (2.3.4.5): PenStyle, Width, ColorRef. Of the width, a point, y isn't read.
-pub(crate) fn create_pen_indirect(bytes: &[u8]) -> Result<Meant<'_>, Fault>
+pub(crate) fn create_pen_indirect(bytes: &[u8]) -> Result<Meant<'_>, RecordFault>
     ensures value { create_pen_indirect bytes.entry.now ≡ result_map meant_of result }
-    ensures in_record { IfErr result IsInRecord }
 {
     if bytes.len() < 16 {
-        return Err(Fault::BadParams);
+        return Err(RecordFault::BadParams);
     }
     let style = PenStyle::from_code(u32::from(u16_at(bytes, 6)));
     let colour = rgb_at(bytes, 12);
@@ -48,44 +45,39 @@ fn is_wide(bytes: &[u8], place: usize) -> bool
 }
 
 /// META_CREATEFONTINDIRECT (2.3.4.2) and META_CREATEPALETTE (2.3.4.3): nothing of them is read.
-pub(crate) fn created<'a>(object: Object<'a>) -> Result<Meant<'a>, Fault>
+pub(crate) fn created<'a>(object: Object<'a>) -> Result<Meant<'a>, RecordFault>
     ensures value { Ok (created (object_value_of object.entry)) ≡ result_map meant_of result }
-    ensures in_record { IfErr result IsInRecord }
 {
     Ok(Meant::unnoted(Op::Create { at: None, object }))
 }
 
 /// META_DELETEOBJECT (2.3.4.7): ObjectIndex.
-pub(crate) fn delete_object(bytes: &[u8]) -> Result<Meant<'_>, Fault>
+pub(crate) fn delete_object(bytes: &[u8]) -> Result<Meant<'_>, RecordFault>
     ensures value { index_record delete bytes.entry.now ≡ result_map meant_of result }
-    ensures in_record { IfErr result IsInRecord }
 {
     Ok(Meant::unnoted(Op::Delete(index(bytes)?)))
 }
 
 /// META_SELECTOBJECT (2.3.4.10): ObjectIndex.
-pub(crate) fn select_object(bytes: &[u8]) -> Result<Meant<'_>, Fault>
+pub(crate) fn select_object(bytes: &[u8]) -> Result<Meant<'_>, RecordFault>
     ensures value { index_record select bytes.entry.now ≡ result_map meant_of result }
-    ensures in_record { IfErr result IsInRecord }
 {
     Ok(Meant::unnoted(Op::Select(index(bytes)?)))
 }
 
 /// META_SELECTPALETTE (2.3.4.11): Palette.
-pub(crate) fn select_palette(bytes: &[u8]) -> Result<Meant<'_>, Fault>
+pub(crate) fn select_palette(bytes: &[u8]) -> Result<Meant<'_>, RecordFault>
     ensures value { index_record select_palette bytes.entry.now ≡ result_map meant_of result }
-    ensures in_record { IfErr result IsInRecord }
 {
     Ok(Meant::unnoted(Op::SelectPalette(index(bytes)?)))
 }
 
 /// The index of an object.
-fn index(bytes: &[u8]) -> Result<Handle, Fault>
+fn index(bytes: &[u8]) -> Result<Handle, RecordFault>
     ensures value { index_in bytes.now ≡ result_map (λ handle. handle.0) result }
-    ensures in_record { IfErr result IsInRecord }
 {
     if bytes.len() < 8 {
-        return Err(Fault::BadParams);
+        return Err(RecordFault::BadParams);
     }
     Ok(Handle(u32::from(u16_at(bytes, 6))))
 }

@@ -1,7 +1,6 @@
 //! The records of WMF: how they are framed, and what each means.
 
-ghost use Rattle.std.specs.Prelude.{◌≡◌, IfErr};
-ghost use Rattle.draw_ops.specs.Fault.{IsInRecord};
+ghost use Rattle.std.specs.Prelude.{◌≡◌};
 ghost use Rattle.draw_ops.specs.RecordOf.{meant_of};
 ghost use Rattle.draw_ops.specs.Results.{result_map};
 ghost use Rattle.wmf_records.specs.Framing.{wmf_framing};
@@ -22,7 +21,7 @@ use crate::state_records::{
     restore_dc, set_bk_color, set_bk_mode, set_layout, set_map_mode, set_poly_fill_mode, set_rop2,
     set_viewport_ext, set_viewport_org, set_window_ext, set_window_org,
 };
-use draw_ops::{Fault, Format, Meant, Note, Object, Op, RawRecord, RecordOps};
+use draw_ops::{Format, Meant, Note, Object, Op, RawRecord, RecordFault, RecordOps};
 use point_views::{u16_at, u32_at};
 
 /// The bytes of a record's head: the size in words of two bytes, and the function.
@@ -60,19 +59,18 @@ impl Format for Wmf {
         META_EOF
     }
 
-    fn read(_number: u32, front: RawRecord<'_>) -> Result<Meant<'_>, Fault> {
+    fn read(_number: u32, front: RawRecord<'_>) -> Result<Meant<'_>, RecordFault> {
         match entry_of(front.kind) {
             Some(entry) => record(entry, front.kind, front.bytes),
-            None => Err(Fault::UnknownRecord(front.kind)),
+            None => Err(RecordFault::UnknownRecord(front.kind)),
         }
     }
 }
 
 /// What a record with this entry means, or its first fault.
 #[tactic(auto, unfolding(crate::specs::Wmf::wmf_record))]
-fn record(entry: WmfEntry, function: u32, bytes: &[u8]) -> Result<Meant<'_>, Fault>
+fn record(entry: WmfEntry, function: u32, bytes: &[u8]) -> Result<Meant<'_>, RecordFault>
     ensures value { wmf_record entry function bytes.entry.now ≡ result_map meant_of result }
-    ensures in_record { IfErr result IsInRecord }
 {
     match entry {
         WmfEntry::DibBitBlt => dib_bit_blt(bytes),
@@ -112,6 +110,6 @@ fn record(entry: WmfEntry, function: u32, bytes: &[u8]) -> Result<Meant<'_>, Fau
         WmfEntry::SetWindowExt => set_window_ext(bytes),
         WmfEntry::SetWindowOrg => set_window_org(bytes),
         WmfEntry::Skipped => Ok(Meant::noting(Note::Skipped, Op::NoEffect)),
-        WmfEntry::Refused => Err(Fault::Unsupported(function)),
+        WmfEntry::Refused => Err(RecordFault::Unsupported(function)),
     }
 }

@@ -7,7 +7,7 @@ use crate::clip::Clip;
 use crate::draw::Draw;
 use crate::machine::Machine;
 use crate::placing::land_clip_box;
-use draw_ops::Fault;
+use draw_ops::{Fault, RecordFault};
 use mapping::{Rect, placing_law};
 use object_tables::Table;
 
@@ -18,14 +18,14 @@ impl<'a, T: Table<'a>> Machine<'a, T> {
         ensures goes_on { GoesOn self.old self.new }
     {
         if !self.dc.clip.may_be_cut() {
-            return Err(Fault::TooManyCuts);
+            return Err(Fault::Record(RecordFault::TooManyCuts));
         }
         match land_clip_box(&self.dc.map, self.place, corners) {
             Ok(landed) => {
                 self.dc.clip.cut(landed);
                 Ok(None)
             }
-            Err(fault) => Err(fault),
+            Err(fault) => Err(Fault::Record(fault)),
         }
     }
 
@@ -40,7 +40,7 @@ impl<'a, T: Table<'a>> Machine<'a, T> {
                 self.dc.clip.keep(landed);
                 Ok(None)
             }
-            Err(fault) => Err(fault),
+            Err(fault) => Err(Fault::Record(fault)),
         }
     }
 

@@ -20,7 +20,7 @@ use crate::piece::{Joining, PiecePoints};
 use crate::placing::{
     land, land_blit, land_lists, land_pair, land_through, left_top_of, right_bottom_of,
 };
-use draw_ops::{Blit, BlitSource, Fault, RectangleEdges, TernaryOp};
+use draw_ops::{Blit, BlitSource, Fault, RecordFault, RectangleEdges, TernaryOp};
 use mapping::{Colour, Point, Rect, box_law};
 use object_tables::Table;
 use point_views::{Points, Polys};
@@ -39,7 +39,7 @@ impl<'a, T: Table<'a>> Machine<'a, T> {
                 bounds: Rect::around(at),
                 edges: 0,
             })),
-            Err(fault) => Err(fault),
+            Err(fault) => Err(Fault::Record(fault)),
         }
     }
 
@@ -49,7 +49,7 @@ impl<'a, T: Table<'a>> Machine<'a, T> {
         ensures goes_on { GoesOn self.old self.new }
     {
         if let Some(fault) = source_fault(asked.operation, &asked.source) {
-            return Err(fault);
+            return Err(Fault::Record(fault));
         }
         box_law();
         match land_blit(&self.dc.map, self.place, &asked) {
@@ -63,7 +63,7 @@ impl<'a, T: Table<'a>> Machine<'a, T> {
                 bounds: Rect::between(first, second),
                 edges: 0,
             })),
-            Err(fault) => Err(fault),
+            Err(fault) => Err(Fault::Record(fault)),
         }
     }
 
@@ -162,7 +162,7 @@ impl<'a, T: Table<'a>> Machine<'a, T> {
                     edges: 2,
                 }))
             }
-            Err(fault) => Err(fault),
+            Err(fault) => Err(Fault::Record(fault)),
         }
     }
 
@@ -191,7 +191,7 @@ impl<'a, T: Table<'a>> Machine<'a, T> {
                     edges: 4,
                 }))
             }
-            Err(fault) => Err(fault),
+            Err(fault) => Err(Fault::Record(fault)),
         }
     }
 
@@ -228,7 +228,7 @@ impl<'a, T: Table<'a>> Machine<'a, T> {
                     edges: extent.count,
                 }))
             }
-            Err(fault) => Err(fault),
+            Err(fault) => Err(Fault::Record(fault)),
         }
     }
 
@@ -255,21 +255,21 @@ impl<'a, T: Table<'a>> Machine<'a, T> {
                     edges: extent.count,
                 }))
             }
-            Err(fault) => Err(fault),
+            Err(fault) => Err(Fault::Record(fault)),
         }
     }
 }
 
 /// `SourceMissing` or `SourceOutside`, where the operation depends on the source and there is nothing to read.
-fn source_fault(operation: TernaryOp, source: &BlitSource<'_>) -> Option<Fault>
+fn source_fault(operation: TernaryOp, source: &BlitSource<'_>) -> Option<RecordFault>
     ensures { result ≡ source_fault operation.table (source_of source.now) }
 {
     if !uses_source(operation) || is_readable(source) {
         return None;
     }
     match source {
-        BlitSource::Missing => Some(Fault::SourceMissing),
-        BlitSource::FromTop(_) | BlitSource::FromBottom(_) => Some(Fault::SourceOutside),
+        BlitSource::Missing => Some(RecordFault::SourceMissing),
+        BlitSource::FromTop(_) | BlitSource::FromBottom(_) => Some(RecordFault::SourceOutside),
     }
 }
 

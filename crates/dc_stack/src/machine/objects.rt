@@ -13,7 +13,7 @@ use crate::dc::Dc;
 use crate::draw::Draw;
 use crate::machine::Machine;
 use crate::stock::{is_stock, own_handle, stock_object};
-use draw_ops::{Fault, Handle, Object};
+use draw_ops::{Fault, Handle, Object, RecordFault};
 use object_tables::Table;
 
 impl<'a, T: Table<'a>> Machine<'a, T> {
@@ -41,8 +41,8 @@ impl<'a, T: Table<'a>> Machine<'a, T> {
         ensures goes_on { GoesOn self.old self.new }
     {
         match self.named(handle) {
-            None => Err(Fault::NoSuchHandle),
-            Some(Object::Palette) => Err(Fault::WrongKind),
+            None => Err(Fault::Record(RecordFault::NoSuchHandle)),
+            Some(Object::Palette) => Err(Fault::Record(RecordFault::WrongKind)),
             Some(object) => {
                 self.dc.selected.select(own_handle(handle), object);
                 Ok(None)
@@ -56,12 +56,12 @@ impl<'a, T: Table<'a>> Machine<'a, T> {
         ensures goes_on { GoesOn self.old self.new }
     {
         match self.named(handle) {
-            None => Err(Fault::NoSuchHandle),
+            None => Err(Fault::Record(RecordFault::NoSuchHandle)),
             Some(Object::Palette) => {
                 self.dc.selected.select(own_handle(handle), Object::Palette);
                 Ok(None)
             }
-            Some(_) => Err(Fault::WrongKind),
+            Some(_) => Err(Fault::Record(RecordFault::WrongKind)),
         }
     }
 
@@ -71,14 +71,14 @@ impl<'a, T: Table<'a>> Machine<'a, T> {
         ensures goes_on { GoesOn self.old self.new }
     {
         if self.table.get(handle).is_err() {
-            return Err(Fault::NoSuchHandle);
+            return Err(Fault::Record(RecordFault::NoSuchHandle));
         }
         if self.is_held(handle) {
-            return Err(Fault::HeldObject);
+            return Err(Fault::Record(RecordFault::HeldObject));
         }
         match self.table.remove(handle) {
             Ok(()) => Ok(None),
-            Err(fault) => Err(fault),
+            Err(fault) => Err(Fault::Record(fault)),
         }
     }
 

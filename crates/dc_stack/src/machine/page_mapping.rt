@@ -5,7 +5,7 @@ ghost use Rattle.dc_stack.specs.MachineState.{GoesOn, Plays};
 
 use crate::draw::Draw;
 use crate::machine::Machine;
-use draw_ops::Fault;
+use draw_ops::{Fault, RecordFault};
 use mapping::{MapMode, Point};
 use object_tables::Table;
 
@@ -44,7 +44,7 @@ impl<'a, T: Table<'a>> Machine<'a, T> {
     {
         match self.dc.map.set_window_extent(extent) {
             Ok(()) => Ok(None),
-            Err(_) => Err(Fault::ZeroExtent),
+            Err(_) => Err(Fault::Record(RecordFault::ZeroExtent)),
         }
     }
 
@@ -55,7 +55,7 @@ impl<'a, T: Table<'a>> Machine<'a, T> {
     {
         match self.dc.map.set_viewport_extent(extent) {
             Ok(()) => Ok(None),
-            Err(_) => Err(Fault::ZeroExtent),
+            Err(_) => Err(Fault::Record(RecordFault::ZeroExtent)),
         }
     }
 
@@ -66,7 +66,7 @@ impl<'a, T: Table<'a>> Machine<'a, T> {
     {
         match self.dc.map.offset_window_origin(offset) {
             Ok(()) => Ok(None),
-            Err(_) => Err(Fault::OffPlane),
+            Err(_) => Err(Fault::Record(RecordFault::OffPlane)),
         }
     }
 
@@ -80,7 +80,7 @@ impl<'a, T: Table<'a>> Machine<'a, T> {
     {
         match self.dc.map.offset_viewport_origin(offset) {
             Ok(()) => Ok(None),
-            Err(_) => Err(Fault::OffPlane),
+            Err(_) => Err(Fault::Record(RecordFault::OffPlane)),
         }
     }
 }

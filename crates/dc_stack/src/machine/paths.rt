@@ -6,7 +6,7 @@ ghost use Rattle.dc_stack.specs.MachineState.{GoesOn, Plays, painting_operation}
 use crate::draw::{Draw, FigurePoints, Mark, Painting};
 use crate::machine::Machine;
 use crate::plane_box::least;
-use draw_ops::Fault;
+use draw_ops::{Fault, RecordFault};
 use mapping::Point;
 use object_tables::Table;
 
@@ -17,7 +17,7 @@ impl<'a, T: Table<'a>> Machine<'a, T> {
         ensures goes_on { GoesOn self.old self.new }
     {
         if self.path.is_open() {
-            return Err(Fault::PathState);
+            return Err(Fault::Record(RecordFault::PathState));
         }
         self.path.begin();
         Ok(None)
@@ -29,7 +29,7 @@ impl<'a, T: Table<'a>> Machine<'a, T> {
         ensures goes_on { GoesOn self.old self.new }
     {
         if !self.path.is_open() {
-            return Err(Fault::PathState);
+            return Err(Fault::Record(RecordFault::PathState));
         }
         self.path.finish();
         Ok(None)
@@ -41,7 +41,7 @@ impl<'a, T: Table<'a>> Machine<'a, T> {
         ensures goes_on { GoesOn self.old self.new }
     {
         if !self.path.is_open() {
-            return Err(Fault::PathState);
+            return Err(Fault::Record(RecordFault::PathState));
         }
         self.path.close_figure();
         Ok(None)
@@ -72,11 +72,11 @@ impl<'a, T: Table<'a>> Machine<'a, T> {
         ensures goes_on { GoesOn self.old self.new }
     {
         if !self.path.is_finished() {
-            return Err(Fault::PathState);
+            return Err(Fault::Record(RecordFault::PathState));
         }
         let edges = match self.path.count_points() {
             Some(count) => count,
-            None => return Err(Fault::TooManyEdges),
+            None => return Err(Fault::Record(RecordFault::TooManyEdges)),
         };
         let bounds = least(self.path.bounds);
         self.needs.raise_edges(edges);

@@ -6,7 +6,7 @@ ghost use Rattle.dc_stack.specs.MachineState.{GoesOn, Plays};
 use crate::draw::Draw;
 use crate::machine::Machine;
 use crate::saved::place_of;
-use draw_ops::{Fault, SavedState};
+use draw_ops::{Fault, RecordFault, SavedState};
 use object_tables::Table;
 
 /// How many states are saved at most at a time.
@@ -19,7 +19,7 @@ impl<'a, T: Table<'a>> Machine<'a, T> {
         ensures goes_on { GoesOn self.old self.new }
     {
         if self.saved.len() >= MAX_SAVED_STATES {
-            return Err(Fault::DepthLimit);
+            return Err(Fault::Record(RecordFault::DepthLimit));
         }
         match self.saved.push(self.dc) {
             Ok(()) => {
@@ -36,7 +36,7 @@ impl<'a, T: Table<'a>> Machine<'a, T> {
         ensures goes_on { GoesOn self.old self.new }
     {
         let Some(place) = place_of(which, self.saved.len()) else {
-            return Err(Fault::NoSavedState);
+            return Err(Fault::Record(RecordFault::NoSavedState));
         };
         self.dc = self.saved[place];
         self.saved.truncate(place);

@@ -1,8 +1,7 @@
 -- A step that is refused is where what is left stops.
 use Rattle.std.proofs.Common.{Ok, ap, ◌∙◌}
-use Rattle.draw_ops.specs.OperationOf.{operation_of}
 use Rattle.draw_ops.specs.StepOf.{step_value_of}
-use Rattle.player.proofs.StepLemmas.{begins_with, left_at_first, lies_in_record, refused_by_fault, stops_at_first, stops_where_broken}
+use Rattle.player.proofs.StepLemmas.{begins_with, left_at_first, refused_by_fault, stops_at_first, stops_where_broken}
 use Rattle.player.proofs.advance.advance.Goals as goal
 
 pub returns-in-Err-clause-advances : goal.returns-in-Err-clause-advances
@@ -20,18 +19,7 @@ returns-in-Err-step_by-clause-advances g c =
     let rest = content c.next_op-told.new.self in
     let given = begins_with left rest c.next_op-told.result step c.next_op-told.ensures.gives (c.in-Ok.is ∙ ap Ok c.in-Some.is) in
     let fault = refused_by_fault c.need_law.ensures left rest (step_value_of step) machine c.in-Err-step_by.fault given c.requires.room c.in-Err-step_by.ensures.refused in
-    stops_at_first c.args.before (content c.args.source.now) (content c.next_op-told.new.self) (step_value_of step) machine.state machine.surface c.in-Err-step_by.fault c.at-in-Err-step_by.result given fault c.at-in-Err-step_by.ensures.number c.at-in-Err-step_by.ensures.fault
-
-pub returns-in-Err-step_by-clause-record : goal.returns-in-Err-step_by-clause-record
-returns-in-Err-step_by-clause-record g c =
-    let content = g.S.HasContent.content in
-    let machine = c.args.machine.now in
-    let step = c.in-Some.step in
-    let left = content c.args.source.now in
-    let rest = content c.next_op-told.new.self in
-    let given = begins_with left rest c.next_op-told.result step c.next_op-told.ensures.gives (c.in-Ok.is ∙ ap Ok c.in-Some.is) in
-    let fault = refused_by_fault c.need_law.ensures left rest (step_value_of step) machine c.in-Err-step_by.fault given c.requires.room c.in-Err-step_by.ensures.refused in
-    lies_in_record c.fault_law.ensures (operation_of step.op) machine.state machine.surface c.in-Err-step_by.fault step.number c.at-in-Err-step_by.result fault c.at-in-Err-step_by.ensures.number c.at-in-Err-step_by.ensures.fault
+    stops_at_first c.args.before (content c.args.source.now) (content c.next_op-told.new.self) (step_value_of step) machine.state machine.surface c.in-Err-step_by.fault c.of_step.result given fault c.of_step.ensures.number c.of_step.ensures.fault
 
 pub returns-in-Err-step_by-clause-left : goal.returns-in-Err-step_by-clause-left
 returns-in-Err-step_by-clause-left g c =

@@ -9,12 +9,12 @@ pub returns-in-Ok-check_opened-clause-sound : goal.returns-in-Ok-check_opened-cl
 returns-in-Ok-check_opened-clause-sound c =
     let o = c.in-Ok.opened in
     let k = c.in-Ok-read.certificate in
-    let answer = file_answer c.args.file.now c.args.certificate.now o.records.now (opened_of o) (certificate_of k) accepted c.in-Ok.ensures.opened c.in-Ok-read.ensures c.in-Ok.ensures.records c.in-Ok-check_opened.ensures.accepted in
-    let sound = c.answer_law.ensures.sound c.args.file.now c.args.certificate.now (opened_of o) (certificate_of k) c.in-Ok.ensures.opened c.in-Ok-read.ensures (record { wide = o.frame.wide; high = o.frame.high }) answer in
+    let answer = file_answer c.args.file.now c.args.certificate.now o.records.now (opened_of o) (certificate_of k) accepted c.in-Ok.ensures.opened c.in-Ok-read.ensures.value c.in-Ok.ensures.records c.in-Ok-check_opened.ensures.accepted in
+    let sound = c.answer_law.ensures.sound c.args.file.now c.args.certificate.now (opened_of o) (certificate_of k) c.in-Ok.ensures.opened c.in-Ok-read.ensures.value (record { wide = o.frame.wide; high = o.frame.high }) answer in
     rw c.in-Ok-check_opened.ensures.certificate sound
 
 pub returns-in-Err-check_opened-clause-refusal : goal.returns-in-Err-check_opened-clause-refusal
 returns-in-Err-check_opened-clause-refusal c =
     let o = c.in-Ok.opened in
     let k = c.in-Ok-read.certificate in
-    file_refusal c.args.file.now c.args.certificate.now o.records.now (opened_of o) (certificate_of k) (refuses c.in-Err-check_opened.refusal.number c.in-Err-check_opened.refusal.fault) c.in-Ok.ensures.opened c.in-Ok-read.ensures c.in-Ok.ensures.records c.in-Err-check_opened.ensures.refusal
+    file_refusal c.args.file.now c.args.certificate.now o.records.now (opened_of o) (certificate_of k) (refuses c.in-Err-check_opened.refusal.number c.in-Err-check_opened.refusal.fault) c.in-Ok.ensures.opened c.in-Ok-read.ensures.value c.in-Ok.ensures.records c.in-Err-check_opened.ensures.refusal

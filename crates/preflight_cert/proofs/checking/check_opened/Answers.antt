@@ -20,7 +20,7 @@ invariant_of-result c =
           (records_accepted (source_content c.source.result) o c.args.opened.records.now (certificate_of c.args.certificate) c.new-machine.result c.source.ensures.content
           (record { state = state; surface = c.new-machine.ensures.surface ∙ c.new-place.ensures.surface; needs = c.new-machine.ensures.needs })
           c.of.result.counts c.check_steps.new.machine c.in-Ok.totals c.in-Ok.ensures.checked
-          (ap (λ (needs : Needs). total_fault needs c.in-Ok.totals.writes (certificate_of c.args.certificate)) (sym c.needs.ensures) ∙ sym c.total_fault.ensures ∙ c.in-None.is));
+          (ap (λ (needs : Needs). total_fault needs c.in-Ok.totals.writes (certificate_of c.args.certificate)) (sym c.needs.ensures) ∙ sym c.total_fault.ensures.fault ∙ c.in-None.is));
     }
 
 pub returns-in-None-clause-counts : goal.returns-in-None-clause-counts

@@ -1,3 +1,4 @@
+use Rattle.preflight_cert.proofs.ObjectLemmas.{objects_in_order}
 use Rattle.preflight_cert.proofs.RunLemmas.{run_ends, refused_over_any, writes_are_one}
 use Rattle.preflight_cert.proofs.laws.run_law.Goals as goal
 
@@ -9,3 +10,6 @@ returns-clause-refusal c = refused_over_any
 
 pub returns-clause-writes : goal.returns-clause-writes
 returns-clause-writes c = writes_are_one c.file_law.ensures
+
+pub returns-clause-objects : goal.returns-clause-objects
+returns-clause-objects c = objects_in_order c.order_law.ensures

@@ -1,4 +1,6 @@
-use Rattle.std.proofs.Common.{◌≡◌, None, arith, inl, refl, rules, sym}
+use Rattle.std.proofs.Common.{◌≡◌, None, arith, inl, refl, rules, sym, ap}
+use Rattle.std.specs.Option.{option_map}
+use Rattle.draw_ops.specs.declared.fault.Fault.TheVariants.{Record}
 use Rattle.mapping.specs.PageMap.{map_numbers}
 use Rattle.mapping.specs.PlaceOf.{surface_of}
 use Rattle.draw_ops.specs.Blits.{blit_value_of, source_of}
@@ -36,7 +38,7 @@ returns-clause-plays g c =
           })
       | in-Err w ↦
           rw (w.result-is, ← c.self.view_is) (record {
-            refused = inl (rw none (sym w.in-Err.ensures.fault));
+            refused = inl (rw none (ap (option_map Record) (sym w.in-Err.ensures.fault)));
             kept = record { state = refl; painted = refl; needs = refl };
           })
     ]

@@ -1,4 +1,6 @@
 use Rattle.std.proofs.Common.{◌≡◌, List, [], ◌∷◌, length, Some, None, ap, refl, sym, ◌∙◌, subst}
+use Rattle.std.specs.Option.{option_map}
+use Rattle.draw_ops.specs.declared.fault.Fault.TheVariants.{Record}
 use Rattle.mapping.specs.Boxes.{IsLeastBox}
 use Rattle.mapping.specs.PageMap.{map_numbers}
 use Rattle.mapping.specs.PlaceOf.{surface_of}
@@ -49,6 +51,6 @@ returns-in-Err-clause-draws g c =
     let map = map_numbers c.self.inside.dc.map in
     let some = has_points (points_of c.args.points) _ c.is_empty.ensures c.if-is_empty.false in
     rw (← c.self.view_is) (record {
-      refused = ap (λ ps. points_fault ps (surface_of c.self.inside.place)) (points_listed (mapped_lists map (going_on c.self.inside.dc.position (points_of c.args.points)))) ∙ through_fault map c.self.inside.dc.position (points_of c.args.points) (surface_of c.self.inside.place) some ∙ sym c.in-Err.ensures.fault;
+      refused = ap (option_map Record) (ap (λ ps. points_fault ps (surface_of c.self.inside.place)) (points_listed (mapped_lists map (going_on c.self.inside.dc.position (points_of c.args.points)))) ∙ through_fault map c.self.inside.dc.position (points_of c.args.points) (surface_of c.self.inside.place) some ∙ sym c.in-Err.ensures.fault);
       kept = record { state = refl; painted = refl; needs = refl };
     })

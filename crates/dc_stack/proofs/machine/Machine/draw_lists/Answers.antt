@@ -1,4 +1,6 @@
 use Rattle.std.proofs.Common.{◌≤◌, List, length, ap, refl, sym, ◌∙◌, subst}
+use Rattle.std.specs.Option.{option_map}
+use Rattle.draw_ops.specs.declared.fault.Fault.TheVariants.{Record}
 use Rattle.std.specs.List.{list_all}
 use Rattle.mapping.specs.Boxes.{IsLeastBox}
 use Rattle.mapping.specs.PageMap.{map_numbers}
@@ -40,6 +42,6 @@ returns-in-Err-clause-draws g c =
     let surface = surface_of c.self.inside.place in
     let on_plane = mapped_lists (map_numbers c.self.inside.dc.map) (lists_of c.args.lists) in
     rw (← c.self.view_is) (record {
-      refused = ap (λ ps. points_fault ps surface) (points_listed on_plane) ∙ sym c.in-Err.ensures.fault;
+      refused = ap (option_map Record) (ap (λ ps. points_fault ps surface) (points_listed on_plane) ∙ sym c.in-Err.ensures.fault);
       kept = record { state = refl; painted = refl; needs = refl };
     })

@@ -1,4 +1,6 @@
-use Rattle.std.proofs.Common.{[], ◌∷◌, arith, refl, sym}
+use Rattle.std.proofs.Common.{[], ◌∷◌, arith, refl, sym, ap}
+use Rattle.std.specs.Option.{option_map}
+use Rattle.draw_ops.specs.declared.fault.Fault.TheVariants.{Record}
 use Rattle.mapping.specs.PageMap.{map_numbers}
 use Rattle.mapping.specs.PlaceOf.{surface_of}
 use Rattle.dc_stack.specs.Mapped.{mapped_list}
@@ -32,6 +34,6 @@ returns-in-Ok-clause-draws g c =
 pub returns-in-Err-clause-draws : goal.returns-in-Err-clause-draws
 returns-in-Err-clause-draws g c =
     rw (← c.self.view_is) (record {
-      refused = rw (few_then 2 (omega arith)) (sym c.in-Err.ensures.fault);
+      refused = rw (few_then 2 (omega arith)) (ap (option_map Record) (sym c.in-Err.ensures.fault));
       kept = record { state = refl; painted = refl; needs = refl };
     })

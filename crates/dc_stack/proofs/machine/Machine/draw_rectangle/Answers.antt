@@ -1,4 +1,6 @@
-use Rattle.std.proofs.Common.{arith, refl, sym}
+use Rattle.std.proofs.Common.{arith, refl, sym, ap}
+use Rattle.std.specs.Option.{option_map}
+use Rattle.draw_ops.specs.declared.fault.Fault.TheVariants.{Record}
 use Rattle.mapping.specs.PageMap.{map_numbers}
 use Rattle.mapping.specs.PlaceOf.{surface_of}
 use Rattle.dc_stack.specs.Mapped.{mapped_corners}
@@ -32,6 +34,6 @@ pub returns-in-Err-clause-draws : goal.returns-in-Err-clause-draws
 returns-in-Err-clause-draws g c =
     let lands = rw (c.left_top_of-left_top.ensures, c.right_bottom_of-right_bottom.ensures) at c.in-Err.ensures.fault in
     rw (← c.self.view_is) (record {
-      refused = rw (few_then 4 (omega arith)) (sym lands);
+      refused = rw (few_then 4 (omega arith)) (ap (option_map Record) (sym lands));
       kept = record { state = refl; painted = refl; needs = refl };
     })

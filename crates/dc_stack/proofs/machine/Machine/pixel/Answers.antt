@@ -1,4 +1,6 @@
-use Rattle.std.proofs.Common.{[], ◌∷◌, arith, inl, refl, rules, sym}
+use Rattle.std.proofs.Common.{[], ◌∷◌, arith, inl, refl, rules, sym, ap}
+use Rattle.std.specs.Option.{option_map}
+use Rattle.draw_ops.specs.declared.fault.Fault.TheVariants.{Record}
 use Rattle.mapping.specs.PlaceOf.{surface_of}
 use Rattle.dc_stack.specs.Placing.{plane_list}
 use Rattle.dc_stack.proofs.LandingLemmas.{all_land}
@@ -29,7 +31,7 @@ returns-clause-plays g c =
           })
       | in-Err w ↦
           rw (w.result-is, ← c.self.view_is) (record {
-            refused = inl (sym w.in-Err.ensures.fault);
+            refused = inl (ap (option_map Record) (sym w.in-Err.ensures.fault));
             kept = record { state = refl; painted = refl; needs = refl };
           })
     ]

@@ -1,4 +1,6 @@
 use Rattle.std.proofs.Common.{◌≡◌, ◌+◌, List, [], ◌∷◌, ◌++◌, length, Some, nat_le, rules, true, inl, ap, subst, sym, ◌∙◌}
+use Rattle.std.specs.Option.{option_map}
+use Rattle.draw_ops.specs.declared.fault.Fault.TheVariants.{Record}
 use Rattle.mapping.specs.Boxes.{IsBoxOf}
 use Rattle.mapping.specs.PageMap.{map_numbers}
 use Rattle.mapping.specs.PlaceOf.{surface_of}
@@ -21,7 +23,7 @@ returns-in-Err-clause-answer c =
     let start = mapped_point map c.args.position in
     let through = mapped_list map (page_points c.args.points) in
     let few : nat_le (length c.args.self.now.pieces.items + 2) piece_limit ≡ true = search rules in
-    inl (few_then (length c.args.self.now.pieces.items + 2) (start ∷ through) s few ∙ sym (first_point_off s start through c.in-Err.fault c.in-Err.ensures.fault))
+    inl (ap (option_map Record) (few_then (length c.args.self.now.pieces.items + 2) (start ∷ through) s few ∙ sym (first_point_off s start through c.in-Err.fault c.in-Err.ensures.fault)))
 
 pub returns-in-Err-land_piece-clause-answer : goal.returns-in-Err-land_piece-clause-answer
 returns-in-Err-land_piece-clause-answer c =
@@ -30,7 +32,7 @@ returns-in-Err-land_piece-clause-answer c =
     let start = mapped_point map c.args.position in
     let through = mapped_list map (page_points c.args.points) in
     let few : nat_le (length c.args.self.now.pieces.items + 2) piece_limit ≡ true = search rules in
-    inl (few_then (length c.args.self.now.pieces.items + 2) (start ∷ through) s few ∙ sym (others_off s start through (Some c.in-Err-land_piece.fault) c.in-Ok.ensures.fault c.in-Err-land_piece.ensures.fault))
+    inl (ap (option_map Record) (few_then (length c.args.self.now.pieces.items + 2) (start ∷ through) s few ∙ sym (others_off s start through (Some c.in-Err-land_piece.fault) c.in-Ok.ensures.fault c.in-Err-land_piece.ensures.fault)))
 
 pub returns-in-Ok-make_room-clause-lands : goal.returns-in-Ok-make_room-clause-lands
 returns-in-Ok-make_room-clause-lands c = λ h.

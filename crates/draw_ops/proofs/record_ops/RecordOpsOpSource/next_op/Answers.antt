@@ -2,7 +2,7 @@
 use Rattle.std.proofs.Common.{◌≡◌, ℕ, suc, ◌+◌, ◌-◌, ◌≤◌, List, Result, take, drop, length, refl, sym, ap, ◌∙◌, rules, add-one}
 use Rattle.std.proofs.lemmas.Bool.{eq-eqb, ne_eqb}
 use Rattle.std.proofs.lemmas.List.{take_rest}
-use Rattle.draw_ops.specs.declared.fault.Fault.{Fault}
+use Rattle.draw_ops.specs.declared.record_fault.RecordFault.{RecordFault}
 use Rattle.draw_ops.specs.Content.{Content, StepValue, broken_by, with_step}
 use Rattle.draw_ops.specs.Meaning.{Meaning}
 use Rattle.draw_ops.specs.Reading.{content_from, content_left, front_step, first_then}
@@ -14,10 +14,10 @@ use Rattle.draw_ops.proofs.ContentLemmas.{content_step}
 use Rattle.draw_ops.proofs.record_ops.RecordOpsOpSource.next_op.Goals as goal
 
 -- what is left, by the first record
-left_by : (f : Framing) (meaning : Meaning) (reading : Reading) (number : ℕ) (rest : List ℕ) (value : Content) (first : Result StepValue Fault) → reading ≡ Records → number ≤ record_limit → content_left f meaning reading number rest ≡ value → front_step f meaning number rest ≡ first → value ≡ first_then f rest first (content_from f meaning (record_limit - suc number) (suc number) (rest_of f rest))
+left_by : (f : Framing) (meaning : Meaning) (reading : Reading) (number : ℕ) (rest : List ℕ) (value : Content) (first : Result StepValue RecordFault) → reading ≡ Records → number ≤ record_limit → content_left f meaning reading number rest ≡ value → front_step f meaning number rest ≡ first → value ≡ first_then f rest first (content_from f meaning (record_limit - suc number) (suc number) (rest_of f rest))
 left_by f meaning reading number rest value first r h v e =
     sym v ∙ ap (λ (s : Reading). content_left f meaning s number rest) r ∙ content_step f meaning number rest h
-    ∙ ap (λ (g : Result StepValue Fault). first_then f rest g (content_from f meaning (record_limit - suc number) (suc number) (rest_of f rest))) e
+    ∙ ap (λ (g : Result StepValue RecordFault). first_then f rest g (content_from f meaning (record_limit - suc number) (suc number) (rest_of f rest))) e
 
 -- what is left behind the first record
 left_behind : (f : Framing) (meaning : Meaning) (reading : Reading) (number n : ℕ) (rest : List ℕ) → reading ≡ Records → n ≡ size_of f rest → content_left f meaning reading (number + 1) (take (length rest - n) (drop n rest)) ≡ content_from f meaning (record_limit - suc number) (suc number) (rest_of f rest)
@@ -30,17 +30,17 @@ overflow_add-self g c = search rules
 pub returns-in-Err-clause-gives : goal.returns-in-Err-clause-gives
 returns-in-Err-clause-gives g c =
     let e : c.args.self.now ≡ broken_by c.in-Err.fault =
-    left_by g.F.Format.framing g.F.Format.meaning _ _ _ _ _ c.in-Records.is c.self.invariant.within c.self.view_is (rw c.in-Err.is at c.step.ensures.value) in record { is = e; stays = sym e }
+    left_by g.F.Format.framing g.F.Format.meaning _ _ _ _ _ c.in-Records.is c.self.invariant c.self.view_is (rw c.in-Err.is at c.step.ensures.value) in record { is = e; stays = sym e }
 
 pub returns-then-kind-end_kind-clause-gives : goal.returns-then-kind-end_kind-clause-gives
 returns-then-kind-end_kind-clause-gives g c =
-    let e = left_by g.F.Format.framing g.F.Format.meaning _ _ _ _ _ c.in-Records.is c.self.invariant.within c.self.view_is (rw c.in-Ok.is at c.step.ensures.value) in
+    let e = left_by g.F.Format.framing g.F.Format.meaning _ _ _ _ _ c.in-Records.is c.self.invariant c.self.view_is (rw c.in-Ok.is at c.step.ensures.value) in
     let last = eq-eqb _ _ (sym c.kind.ensures ∙ c.if-kind-end_kind.true ∙ c.end_kind.ensures) in
     rw last at e
 
 pub returns-else-kind-end_kind-clause-gives : goal.returns-else-kind-end_kind-clause-gives
 returns-else-kind-end_kind-clause-gives g c =
-    let e = left_by g.F.Format.framing g.F.Format.meaning _ _ _ _ _ c.in-Records.is c.self.invariant.within c.self.view_is (rw c.in-Ok.is at c.step.ensures.value) in
+    let e = left_by g.F.Format.framing g.F.Format.meaning _ _ _ _ _ c.in-Records.is c.self.invariant c.self.view_is (rw c.in-Ok.is at c.step.ensures.value) in
     let goes_on = ne_eqb _ _ (λ p. c.if-kind-end_kind.false (c.kind.ensures ∙ p ∙ sym c.end_kind.ensures)) in
     rw goes_on at e
     ∙ ap (with_step (step_value_of c.in-Ok.step)) (sym (left_behind g.F.Format.framing g.F.Format.meaning c.self.inside.reading c.self.inside.number c.size.result c.self.inside.rest.now c.in-Records.is c.size.ensures))
