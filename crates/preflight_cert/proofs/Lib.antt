@@ -23,3 +23,4 @@ pub mod PreparationLemmas
 pub mod GatheredLemmas
 pub mod PreparedLemmas
 pub mod WorkedChecks
+pub mod RowsLemmas
