@@ -47,3 +47,15 @@ returns-clause-pixels c =
     let shown = c.visible-region in
     let drawn = c.common-drawn in
     box_done c.args.paint.now c.args.inside c.args.canvas.now c.writing_law.ensures shown.ensures.whole shown.result drawn.result shown.ensures.kept drawn.ensures.has_columns drawn.ensures.has_rows c.loop-y.canvas c.loop-y.y c.loop-y-test.false c.loop-y.invariant
+
+pub put_uncut-requires-clause-row : goal.put_uncut-requires-clause-row
+put_uncut-requires-clause-row c =
+    let low = c.loop-y.auto.y in
+    let high = c.loop-y-test.true in
+    let top = c.visible-region.ensures.top in
+    let above = c.common-drawn.ensures.top in
+    let last = c.common-drawn.ensures.bottom in
+    let bottom = c.visible-region.ensures.bottom in
+    let first = c.loop-y.invariant.painted.first in
+    let rows = c.loop-y.invariant.painted.rows in
+    record { from_first = omega (arith, low, above, top, first); to_last = omega (arith, high, last, bottom, first, rows) }

@@ -77,3 +77,15 @@ returns-clause-pixels g c =
     let end = c.loop-y-test.false in
     omega (arith, last, end))
     c.loop-y.invariant.painted
+
+pub put_spans-requires-clause-row : goal.put_spans-requires-clause-row
+put_spans-requires-clause-row g c =
+    let low = c.loop-y.auto.y in
+    let high = c.loop-y-test.true in
+    let top = c.visible-region.ensures.top in
+    let above = c.rows_between-drawn.ensures.top in
+    let last = c.rows_between-drawn.ensures.bottom in
+    let bottom = c.visible-region.ensures.bottom in
+    let first = c.loop-y.invariant.painted.painted.first in
+    let rows = c.loop-y.invariant.painted.painted.rows in
+    record { from_first = omega (arith, low, above, top, first); to_last = omega (arith, high, last, bottom, first, rows) }
