@@ -84,10 +84,11 @@ impl Canvas {
         self.first
     }
 
-    /// How many rows are held.
+    /// How many rows are held. They are among 8,192.
     pub fn rows(&self) -> u32
         ensures rows { result ≡ self.now.rows }
         ensures side { IsSurfaceSide self.now.rows }
+        ensures within { self.now.first + self.now.rows ≤ surface_side_limit }
     {
         self.rows
     }

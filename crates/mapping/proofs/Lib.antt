@@ -13,3 +13,4 @@ pub mod CountLemmas
 pub mod CellLemmas
 pub mod MetLemmas
 pub mod FitLemmas
+pub mod LaidRowsLemmas

@@ -17,3 +17,4 @@ pub mod BoxLaws
 pub mod PixelBoxes
 pub mod Cells
 pub mod CellLaws
+pub mod LaidRowsLaws

@@ -33,7 +33,7 @@ use Rattle.preflight_cert.specs.Layer.{blit_layer, blit_paint, brushed_now}
 use Rattle.preflight_cert.specs.Mixing.{ternary}
 use Rattle.preflight_cert.specs.Paint.{paint_at, solid}
 use Rattle.player.specs.Painted.{colour_of, colour_seen, made, paints}
-use Rattle.player.specs.Plays.{DrawsLayers, HoldsSurface}
+use Rattle.player.specs.Plays.{DrawsLayers, HoldsRows}
 use Rattle.player.specs.RasterOperation.{joined_if}
 use Rattle.preflight_cert.specs.Writes.{writes_pixel}
 use Rattle.player.specs.declared.brushing.Brushing.{Brushing}
@@ -95,7 +95,7 @@ joined_same : (op : TernaryOp) (s : Surface) (p q : Point) (source : Option Sour
 joined_same op s p q source x y None old = refl
 joined_same op s p q source x y (Some paint) old = refl
 
-module _ (laws : WritingLaws) (s : Surface) (old new : CanvasState) (there : IsWhole old) (whole : HoldsSurface old s) where
+module _ (laws : WritingLaws) (s : Surface) (old new : CanvasState) (there : IsWhole old) (held : HoldsRows old s) where
   -- And that is the layer of the blit.
   pub blit_drawn :
       (dc : Dc) (tools : Tools) (blit : PlaneBlit)
@@ -113,7 +113,7 @@ module _ (laws : WritingLaws) (s : Surface) (old new : CanvasState) (there : IsW
       let colour : (x y : ℕ) → blit_colour op dc x y ≡ paint_at (blit_paint op.table tools) s x y =
       λ x y. ap (λ (m : Modes). cond (uses_pattern op.table) (brush_paint (brush_value_of dc.selected.brush) m.background_mode m.background_colour x y) (Some black_colour)) modes
       ∙ layer_colour (uses_pattern op.table) dc.selected.brush tools s x y brush in
-      layer_drawn laws s old new there whole layer
+      layer_drawn laws s old new there held layer
       (laws.same (blit_paints blit s dc) (writes_pixel layer s) (blit_made blit s dc) (ink_of layer s) old new there
       (λ x y held.
       ap (λ (boxes : ClipValue). in_boxes boxes x y && in_box (box_between first second) x y && is_some (blit_colour op dc x y)) clip

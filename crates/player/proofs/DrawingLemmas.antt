@@ -5,7 +5,7 @@ use Rattle.mapping.specs.Surface.{Surface, is_pixel, placed_point}
 use Rattle.mapping.specs.declared.geometry.Colour.{Colour}
 use Rattle.mapping.specs.declared.geometry.Point.{Point}
 use Rattle.mapping.specs.Image.{Image}
-use Rattle.mapping.specs.Pixels.{count_pixels, repainted}
+use Rattle.mapping.specs.Pixels.{count_pixels}
 use Rattle.draw_ops.specs.Objects.{brush_value_of}
 use Rattle.draw_ops.specs.declared.objects.Brush.{Brush}
 use Rattle.draw_ops.specs.declared.objects.Brush.TheVariants.{Hatched, Null, Solid, Tiled}
@@ -27,7 +27,7 @@ use Rattle.preflight_cert.specs.Layer.{Layer, brushed_now, filled, layer_now, st
 use Rattle.preflight_cert.specs.Mixing.{binary, copied}
 use Rattle.preflight_cert.specs.Paint.{Paint, paint_at, solid}
 use Rattle.player.specs.Painted.{colour_of, colour_seen, made, paints}
-use Rattle.player.specs.Plays.{DrawsLayers, HoldsSurface, SameRows}
+use Rattle.player.specs.Plays.{DrawsLayers, HoldsRows, SameRows}
 use Rattle.preflight_cert.specs.Shape.{Shape, in_shape, pixel_under}
 use Rattle.preflight_cert.specs.Writes.{writes_of_layers, writes_pixel}
 use Rattle.player.specs.RasterOperation.{joined_if}
@@ -44,15 +44,15 @@ applied_in_turn : (first second : List Layer) (s : Surface) (image : Image) → 
 applied_in_turn [] second s image = refl
 applied_in_turn (layer ∷ first) second s image = applied_in_turn first second s _
 
-counted_in_turn : (first second : List Layer) (s : Surface) → writes_of_layers (first ++ second) s ≡ writes_of_layers first s + writes_of_layers second s
-counted_in_turn [] second s = omega arith
-counted_in_turn (layer ∷ first) second s = let rest = counted_in_turn first second s in omega (arith, rest)
+counted_in_turn : (first second : List Layer) (s : Surface) (top rows : ℕ) → writes_of_layers (first ++ second) s top rows ≡ writes_of_layers first s top rows + writes_of_layers second s top rows
+counted_in_turn [] second s top rows = omega arith
+counted_in_turn (layer ∷ first) second s top rows = let rest = counted_in_turn first second s top rows in omega (arith, rest)
 
-pub drawn_in_turn : (first second : List Layer) (s : Surface) (old between new : CanvasState) → DrawsLayers first s old between → DrawsLayers second s between new → DrawsLayers (first ++ second) s old new
-drawn_in_turn first second s old between new a b =
+pub drawn_in_turn : (first second : List Layer) (s : Surface) (old between new : CanvasState) → SameRows old between → DrawsLayers first s old between → DrawsLayers second s between new → DrawsLayers (first ++ second) s old new
+drawn_in_turn first second s old between new same a b =
     let a_writes = a.writes in
-    let b_writes = b.writes in
-    let counted = counted_in_turn first second s in
+    let b_writes : new.writes ≡ between.writes + writes_of_layers second s old.first old.rows = rw (same.first, same.rows) at b.writes in
+    let counted = counted_in_turn first second s old.first old.rows in
     record {
       image = b.image ∙ ap (apply_all second s) a.image ∙ sym (applied_in_turn first second s (image_of old));
       writes = omega (arith, a_writes, b_writes, counted);
@@ -67,14 +67,13 @@ joined_same : (op : RasterOp) (s : Surface) (x y : ℕ) (source : Colour) (paint
 joined_same op s x y source None old = refl
 joined_same op s x y source (Some paint) old = refl
 
-module _ (laws : WritingLaws) (s : Surface) (old new : CanvasState) (there : IsWhole old) (whole : HoldsSurface old s) where
+module _ (laws : WritingLaws) (s : Surface) (old new : CanvasState) (there : IsWhole old) (held : HoldsRows old s) where
   -- what writes the pixels of a layer draws it
   pub layer_drawn : (layer : Layer) → Repaints (writes_pixel layer s) (ink_of layer s) old new → DrawsLayers (layer ∷ []) s old new
   layer_drawn layer r =
       let writes = r.writes in
-      let counted : count_pixels (writes_pixel layer s) old.width old.first old.rows ≡ count_pixels (writes_pixel layer s) s.width 0 s.height = rw (whole.width, whole.first, whole.height) refl in
-      let colours : new.colours ≡ repainted (writes_pixel layer s) (ink_of layer s) s.width 0 old.colours = rw (whole.width, whole.first) at r.colours in
-      record { image = rw (r.width, r.rows, colours) refl; writes = omega (arith, writes, counted) }
+      let counted : count_pixels (writes_pixel layer s) old.width old.first old.rows ≡ count_pixels (writes_pixel layer s) s.width old.first old.rows = ap (λ (w : ℕ). count_pixels (writes_pixel layer s) w old.first old.rows) held.width in
+      record { image = rw (r.width, r.first, r.rows, r.colours) refl; writes = omega (arith, writes, counted) }
 
   module _ (paint : Brushing) (tools : Tools) (modes : paint.modes ≡ tools.modes) (operation : paint.operation ≡ Binary tools.modes.raster_op) (clip : placed_value paint.clip.now ≡ placed_clip s tools.clip) where
     -- so does what a paint makes of a shape

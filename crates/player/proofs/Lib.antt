@@ -24,3 +24,4 @@ pub mod PaintedFigureLemmas
 pub mod WorkedPaths
 pub mod WorkedFigures
 pub mod ClearedLemmas
+pub mod WholeSurfaceLemmas

@@ -19,7 +19,7 @@ use Rattle.span_fill.specs.declared.line.Line.{Line}
 use Rattle.span_fill.specs.declared.pixel.Pixel.{Pixel}
 use Rattle.span_fill.specs.declared.span.Region.{Region}
 use Rattle.player.specs.LineSteps.{MayTake, is_taken, is_within}
-use Rattle.player.proofs.TestLemmas.{nat_lt-from, nat_lt-true, same_test}
+use Rattle.player.proofs.TestLemmas.{nat_le-true, nat_lt-from, nat_lt-true, same_test}
 
 -- the number of a column or a row, of a coordinate
 abbrev natural : ℤ → ℕ
@@ -143,10 +143,10 @@ inside_width region x y h =
     let a = and_parts (in_span region.columns x) (in_span region.rows y) h in
     let b = and_parts (nat_le region.columns.from x) (nat_lt x region.columns.to) a.0 in nat_lt-true x region.columns.to b.1
 
-inside_height : (region : Region) (x y : ℕ) → IsTrue (in_region region x y) → y < region.rows.to
+inside_height : (region : Region) (x y : ℕ) → IsTrue (in_region region x y) → (region.rows.from ≤ y) × (y < region.rows.to)
 inside_height region x y h =
     let a = and_parts (in_span region.columns x) (in_span region.rows y) h in
-    let b = and_parts (nat_le region.rows.from y) (nat_lt y region.rows.to) a.1 in nat_lt-true y region.rows.to b.1
+    let b = and_parts (nat_le region.rows.from y) (nat_lt y region.rows.to) a.1 in (nat_le-true region.rows.from y b.0, nat_lt-true y region.rows.to b.1)
 
 -- before the first step nothing is taken
 none_taken : (clip : ClipValue) (steps : StepsState) (line : Line) → line ≡ steps.line → HasAllSteps steps → (canvas : CanvasState) → PassesNone canvas (is_taken clip line steps.region steps.next)
@@ -208,16 +208,18 @@ module _ (laws : WritingLaws) (clip : ClipValue) (f : ℕ → ℕ → Colour →
     has_step =
         let column = inside_width all.region pixel.x pixel.y given_step.inside in
         let row = inside_height all.region pixel.x pixel.y given_step.inside in
+        let low = row.0 in
+        let high = row.1 in
         let columns = may.columns in
-        let rows = may.rows in
-        let zero = may.first in
+        let top = may.top in
+        let bottom = may.bottom in
         let width = so_far.drawn.width in
         let first = so_far.drawn.first in
-        let height = so_far.drawn.rows in
+        let rows = so_far.drawn.rows in
         record {
           column = omega (arith, column, columns, width);
-          from_first = omega (arith, zero, first);
-          to_last = omega (arith, row, rows, zero, first, height);
+          from_first = omega (arith, low, top, first);
+          to_last = omega (arith, high, bottom, first, rows);
         }
 
     -- one more may be counted
@@ -253,13 +255,13 @@ module _ (laws : WritingLaws) (clip : ClipValue) (f : ℕ → ℕ → Colour →
       so_far.drawn
 
 -- the steps that a region has of a line, where the canvas has the region
-pub may_take : (steps : StepsState) (region : Region) (canvas : CanvasState) → steps.region ≡ region → HasAllSteps steps → IsWhole canvas → canvas.first ≡ 0 → region.columns.to ≤ canvas.width → region.rows.to ≤ canvas.rows → canvas.rows * canvas.width ≤ 2 ^ 26 → canvas.writes + 2 ^ 27 < 2 ^ 64 → MayTake steps canvas
-may_take steps region canvas same all whole first columns rows pixels countable = record {
+pub may_take : (steps : StepsState) (region : Region) (canvas : CanvasState) → steps.region ≡ region → HasAllSteps steps → IsWhole canvas → region.columns.to ≤ canvas.width → canvas.first ≤ region.rows.from → region.rows.to ≤ canvas.first + canvas.rows → canvas.rows * canvas.width ≤ 2 ^ 26 → canvas.writes + 2 ^ 27 < 2 ^ 64 → MayTake steps canvas
+may_take steps region canvas same all whole columns top bottom pixels countable = record {
   all = all;
   whole = whole;
-  first = first;
   columns = rw same columns;
-  rows = rw same rows;
+  top = rw same top;
+  bottom = rw same bottom;
   countable = omega (arith, pixels, countable);
 }
 
@@ -280,10 +282,7 @@ uncut x y [] e = refl
 uncut x y (cut ∷ cuts) e = cc
 
 -- a region that has of the canvas what the clip keeps
-module _ (laws : WritingLaws) (clip : ClipValue) (line : Line) (region : Region) (start : CanvasState) (whole : IsWhole start) (first : start.first ≡ 0) (kept : (x y : ℕ) → x < start.width → y < start.rows → in_region region x y ≡ in_kept clip.kept x y) where
-  kept_there : (x y : ℕ) → HasPixel start x y → in_region region x y ≡ in_kept clip.kept x y
-  kept_there x y held = let last = held.to_last in kept x y held.column (omega (arith, first, last))
-
+module _ (laws : WritingLaws) (clip : ClipValue) (line : Line) (region : Region) (start : CanvasState) (whole : IsWhole start) (kept : (x y : ℕ) → HasPixel start x y → in_region region x y ≡ in_kept clip.kept x y) where
   of_clip : (x y : ℕ) → HasPixel start x y → is_within clip line region x y ≡ (in_boxes clip x y && on_line line (pos x) (pos y))
   of_clip x y held = same_test _ _
       (λ h.
@@ -292,17 +291,17 @@ module _ (laws : WritingLaws) (clip : ClipValue) (line : Line) (region : Region)
       (λ h.
       let a = and_parts (in_boxes clip x y) (on_line line (pos x) (pos y)) h in
       let keeps = and_parts (in_kept clip.kept x y) _ a.0 in
-      and_from (in_boxes clip x y) _ a.0 (and_from (on_line line (pos x) (pos y)) (in_region region x y) a.1 (kept_there x y held ∙ keeps.0)))
+      and_from (in_boxes clip x y) _ a.0 (and_from (on_line line (pos x) (pos y)) (in_region region x y) a.1 (kept x y held ∙ keeps.0)))
 
   of_kept : clip.cuts ≡ [] → (x y : ℕ) → HasPixel start x y → is_within unclipped line region x y ≡ (in_boxes clip x y && on_line line (pos x) (pos y))
   of_kept none x y held = same_test _ _
       (λ h.
       let b = and_parts (on_line line (pos x) (pos y)) (in_region region x y) h in
-      let keeps = sym (kept_there x y held) ∙ b.1 in
+      let keeps = sym (kept x y held) ∙ b.1 in
       and_from (in_boxes clip x y) (on_line line (pos x) (pos y)) (and_from (in_kept clip.kept x y) _ keeps (uncut x y clip.cuts none)) b.0)
       (λ h.
       let a = and_parts (in_boxes clip x y) (on_line line (pos x) (pos y)) h in
-      let keeps = and_parts (in_kept clip.kept x y) _ a.0 in and_from (on_line line (pos x) (pos y)) (in_region region x y) a.1 (kept_there x y held ∙ keeps.0))
+      let keeps = and_parts (in_kept clip.kept x y) _ a.0 in and_from (on_line line (pos x) (pos y)) (in_region region x y) a.1 (kept x y held ∙ keeps.0))
 
   -- what is drawn within the clip and the region is what the clip has of the line
   pub clip_drawn : (f : ℕ → ℕ → Colour → Colour) (now : CanvasState) → Repaints (is_within clip line region) f start now → Repaints (λ x y. in_boxes clip x y && on_line line (pos x) (pos y)) f start now

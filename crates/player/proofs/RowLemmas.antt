@@ -5,7 +5,7 @@ use Rattle.std.proofs.lemmas.Int.{by_lt_z, ints}
 use Rattle.std.proofs.Math.Bool.{and-true}
 use Rattle.mapping.specs.declared.geometry.Colour.{Colour}
 use Rattle.mapping.specs.declared.geometry.Rect.{Rect}
-use Rattle.canvas.specs.CanvasState.{CanvasState, HasPixel}
+use Rattle.canvas.specs.CanvasState.{CanvasState, HasPixel, HasRow}
 use Rattle.canvas.specs.Writing.{Repaints}
 use Rattle.canvas.specs.WritingLaws.{IsWhole, WritingLaws}
 use Rattle.dc_stack.specs.Clip.{in_box, in_boxes, in_kept, is_from_to}
@@ -196,16 +196,19 @@ module _ (paint : Brushing) (shape : ℕ → ℕ → Bool) where
     pub nothing_painted : ((x y : ℕ) → HasPixel start x y → paints paint shape x y ≡ true → ⊥) → Repaints (paints paint shape) (made paint) start start
     nothing_painted none = laws.none (paints paint shape) (made paint) start whole (λ x y held. false_from_ne_true (paints paint shape x y) (none x y held))
 
--- the part of a surface that a drawing may write, and the rows of it in which a shape lies
-module _ (paint : Brushing) (shape : ℕ → ℕ → Bool) (canvas : CanvasState) (first : canvas.first ≡ 0) (region : Region) (kept : (x y : ℕ) → x < canvas.width → y < canvas.rows → in_region region x y ≡ in_kept (placed_value paint.clip.now).kept x y) where
+-- a pixel of a row that is held is held
+pub pixel_held : (canvas : CanvasState) (x y : ℕ) → x < canvas.width → HasRow canvas y → HasPixel canvas x y
+pixel_held canvas x y column row = record { column = column; from_first = row.from_first; to_last = row.to_last }
+
+-- the part of the rows held that a drawing may write, and the rows of it in which a shape lies
+module _ (paint : Brushing) (shape : ℕ → ℕ → Bool) (canvas : CanvasState) (region : Region) (kept : (x y : ℕ) → HasPixel canvas x y → in_region region x y ≡ in_kept (placed_value paint.clip.now).kept x y) where
   -- a pixel that is painted lies in the region, and in the shape
   pub seen : (x y : ℕ) → HasPixel canvas x y → paints paint shape x y ≡ true → (in_region region x y ≡ true) × (shape x y ≡ true)
   seen x y held h =
       let clip = placed_value paint.clip.now in
       let a = paints_parts paint shape x y h in
       let b = and_parts (in_kept clip.kept x y) (is_uncut clip.cuts x y) a.0 in
-      let last = held.to_last in
-      (kept x y held.column (omega (arith, last, first)) ∙ b.0, a.1)
+      (kept x y held ∙ b.0, a.1)
 
   module _ (rows : Span) (from to : ℤ) (numbers : (n : ℕ) → in_span rows n ≡ (in_span region.rows n && is_from_to from to n)) where
     -- a pixel that is painted lies in the rows
@@ -220,20 +223,20 @@ module _ (paint : Brushing) (shape : ℕ → ℕ → Bool) (canvas : CanvasState
     row_parts y low high = and_parts (in_span region.rows y) (is_from_to from to y) (sym (numbers y) ∙ column_from rows.from rows.to y low high)
 
     -- what a row's spans have is what the kept box and the shape have of it
-    pub row_columns : (spans : List Span) (test : ℕ → Bool) (x y : ℕ) → AreRow test region.columns spans → rows.from ≤ y → y < rows.to → y < canvas.rows → x < canvas.width → in_spans spans x ≡ (in_kept (placed_value paint.clip.now).kept x y && test x)
+    pub row_columns : (spans : List Span) (test : ℕ → Bool) (x y : ℕ) → AreRow test region.columns spans → rows.from ≤ y → y < rows.to → HasRow canvas y → x < canvas.width → in_spans spans x ≡ (in_kept (placed_value paint.clip.now).kept x y && test x)
     row_columns spans test x y row low high held column =
         let inside = (row_parts y low high).0 in
         let all : in_region region x y ≡ in_span region.columns x = ap (λ (b : Bool). in_span region.columns x && b) inside ∙ and-true (in_span region.columns x) in
-        spans_are region.columns spans test x row ∙ ap (λ (b : Bool). b && test x) (sym all ∙ kept x y column held)
+        spans_are region.columns spans test x row ∙ ap (λ (b : Bool). b && test x) (sym all ∙ kept x y (pixel_held canvas x y column held))
 
     -- so is what a box has of it
-    pub box_columns : (box : Rect) (columns : Span) (x y : ℕ) → from ≡ box.t → to ≡ box.b → ((n : ℕ) → in_span columns n ≡ (in_span region.columns n && is_from_to box.l box.r n)) → rows.from ≤ y → y < rows.to → y < canvas.rows → x < canvas.width → is_column columns.from columns.to x ≡ (in_kept (placed_value paint.clip.now).kept x y && in_box box x y)
+    pub box_columns : (box : Rect) (columns : Span) (x y : ℕ) → from ≡ box.t → to ≡ box.b → ((n : ℕ) → in_span columns n ≡ (in_span region.columns n && is_from_to box.l box.r n)) → rows.from ≤ y → y < rows.to → HasRow canvas y → x < canvas.width → is_column columns.from columns.to x ≡ (in_kept (placed_value paint.clip.now).kept x y && in_box box x y)
     box_columns box columns x y top bottom narrow low high held column =
         let parts = row_parts y low high in
         let row : is_from_to box.t box.b y ≡ true = subst (λ (v : ℤ). is_from_to box.t v y ≡ true) bottom (subst (λ (v : ℤ). is_from_to v to y ≡ true) top parts.1) in
         let all : in_region region x y ≡ in_span region.columns x = ap (λ (b : Bool). in_span region.columns x && b) parts.0 ∙ and-true (in_span region.columns x) in
         let there : in_box box x y ≡ is_from_to box.l box.r x = ap (λ (b : Bool). is_from_to box.l box.r x && b) row ∙ and-true (is_from_to box.l box.r x) in
-        narrow x ∙ ap (λ (b : Bool). b && is_from_to box.l box.r x) (sym all ∙ kept x y column held) ∙ ap (λ (b : Bool). in_kept (placed_value paint.clip.now).kept x y && b) (sym there)
+        narrow x ∙ ap (λ (b : Bool). b && is_from_to box.l box.r x) (sym all ∙ kept x y (pixel_held canvas x y column held)) ∙ ap (λ (b : Bool). in_kept (placed_value paint.clip.now).kept x y && b) (sym there)
 
 -- what is written of a surface counts at most as many as it has
 pub few_written : WritingLaws → (test : ℕ → ℕ → Bool) (f : ℕ → ℕ → Colour → Colour) (start now : CanvasState) → Repaints test f start now → start.rows * start.width ≤ 2 ^ 26 → now.writes ≤ start.writes + 2 ^ 26

@@ -22,7 +22,7 @@ is_taken clip line region step x y =
 pub record MayTake (steps : StepsState) (canvas : CanvasState) : Type 0 where
   pub all : HasAllSteps steps
   pub whole : IsWhole canvas
-  pub first : canvas.first ≡ 0
   pub columns : steps.region.columns.to ≤ canvas.width
-  pub rows : steps.region.rows.to ≤ canvas.rows
+  pub top : canvas.first ≤ steps.region.rows.from
+  pub bottom : steps.region.rows.to ≤ canvas.first + canvas.rows
   pub countable : canvas.writes + canvas.rows * canvas.width + 1 < 2 ^ 64

@@ -1,5 +1,5 @@
 -- What playing does to a canvas.
-use Rattle.std.specs.Prelude.{◌≡◌, ℕ, ◌+◌, List, Option, Some, None, IsOk}
+use Rattle.std.specs.Prelude.{◌≡◌, ◌≤◌, ℕ, ◌+◌, List, Option, Some, None, IsOk}
 use Rattle.mapping.specs.Surface.{Surface}
 use Rattle.draw_ops.specs.Content.{Content}
 use Rattle.draw_ops.specs.declared.fault.Fault.TheVariants.{OutOfMemory, Record}
@@ -16,7 +16,7 @@ use Rattle.preflight_cert.specs.Layer.{Layer, layers_if_drawn}
 use Rattle.meta_headers.specs.Headers.{OpenedValue}
 use Rattle.dc_stack.specs.State.{State, start_of}
 use Rattle.preflight_cert.specs.Stop.{Stop, stop_of}
-use Rattle.preflight_cert.specs.Writes.{writes_after, writes_of_layers}
+use Rattle.preflight_cert.specs.Writes.{writes_after, writes_of_drawings, writes_of_layers}
 use Rattle.preflight_cert.specs.declared.refusal.Refusal.{Refusal}
 
 -- memory was refused: no record is told
@@ -29,11 +29,10 @@ pub record WantsMemory (file : List ℕ) (r : Refusal) : Type 0 where
   pub opens : IsOk (opened file)
   pub wants : IsWantOfMemory r
 
--- the canvas holds a whole surface
-pub record HoldsSurface (canvas : CanvasState) (s : Surface) : Type 0 where
+-- the canvas holds rows of a surface
+pub record HoldsRows (canvas : CanvasState) (s : Surface) : Type 0 where
   pub width : canvas.width ≡ s.width
-  pub height : canvas.rows ≡ s.height
-  pub first : canvas.first ≡ 0
+  pub within : canvas.first + canvas.rows ≤ s.height
 
 -- the canvas holds the same rows of the same surface
 pub record SameRows (old new : CanvasState) : Type 0 where
@@ -41,10 +40,10 @@ pub record SameRows (old new : CanvasState) : Type 0 where
   pub first : new.first ≡ old.first
   pub rows : new.rows ≡ old.rows
 
--- layers were drawn: on the image, and their pixels on the count
+-- layers were drawn: on the image of the rows held, and their pixels there on the count
 pub record DrawsLayers (layers : List Layer) (s : Surface) (old new : CanvasState) : Type 0 where
   pub image : image_of new ≡ apply_all layers s (image_of old)
-  pub writes : new.writes ≡ old.writes + writes_of_layers layers s
+  pub writes : new.writes ≡ old.writes + writes_of_layers layers s old.first old.rows
 
 -- a drawing was drawn, if there is one
 abbrev pub DrawsDrawing : Option Drawing → Surface → CanvasState → CanvasState → Type 0
@@ -60,7 +59,7 @@ pub record RunsThrough (content : Content) (start end : MachineState) : Type 0 w
 pub record PlaysContent (content : Content) (start end : MachineState) (old new : CanvasState) : Type 0 where
   pub runs : RunsThrough content start end
   pub image : image_of new ≡ image_after (drawings_of content.steps start.state) start.surface (image_of old)
-  pub writes : new.writes ≡ old.writes + writes_after (drawings_of content.steps start.state) start.surface
+  pub writes : new.writes ≡ old.writes + writes_of_drawings (drawings_of content.steps start.state) start.surface old.first old.rows
 
 -- the content stops at the refusal's record, by its fault
 pub record StopsBy (content : Content) (state : State) (s : Surface) (r : Refusal) : Type 0 where

@@ -49,7 +49,6 @@ pub(crate) fn blit(
     room: &mut InkRoom,
     canvas: &mut Canvas,
 )
-    requires first { canvas.old.first ≡ 0 }
     requires countable { canvas.old.writes + 2 ^ 27 < 2 ^ 64 }
     requires near { FitsPlace (placed_point asked.now.first (surface_of place)) }
     requires far { FitsPlace (placed_point asked.now.second (surface_of place)) }
@@ -85,7 +84,6 @@ fn blit_box(
     paint: &Brushing<'_, '_>,
     room: &mut InkRoom,
 )
-    requires first { canvas.old.first ≡ 0 }
     requires countable { canvas.old.writes + 2 ^ 27 < 2 ^ 64 }
     requires blit { IsBlit paint.now operation reader.now }
     requires reads { ReadsBox reader.now inside }

@@ -8,7 +8,7 @@ ghost use Rattle.dc_stack.specs.Drawing.{edge_limit};
 ghost use Rattle.dc_stack.specs.Needs.{no_needs};
 ghost use Rattle.dc_stack.specs.State.{start_of};
 ghost use Rattle.player.specs.ClearedPlay.{AreRunWrites, IsTooLarge, IsWithinBound, LeavesRun};
-ghost use Rattle.player.specs.Plays.{HoldsSurface, PlaysFile, PlaysOpened, SameRows};
+ghost use Rattle.player.specs.Plays.{HoldsRows, PlaysFile, PlaysOpened, SameRows};
 ghost use Rattle.preflight_cert.specs.NeedLaws.{HasRoomFor};
 
 use crate::playing::play_records;
@@ -82,7 +82,8 @@ fn play_reserved<'a, T: Table<'a>>(
     rows: &mut RowBuf,
     canvas: &mut Canvas,
 ) -> u64
-    requires whole { HoldsSurface canvas.old machine.old.surface }
+    requires whole { canvas.old.first ≡ 0 }
+    requires held { HoldsRows canvas.old machine.old.surface }
     requires countable { canvas.old.writes ≤ 2 ^ 63 }
     requires within { IsWithinBound canvas.old cleared.now.certificate }
     requires room { HasRoomFor cleared.now.certificate.needs machine.old }

@@ -7,23 +7,26 @@ ghost use Rattle.dc_stack.specs.Values.{placed_value};
 ghost use Rattle.mapping.specs.Surface.{is_pixel};
 ghost use Rattle.player.specs.Dots.{indexes_of};
 
+use crate::regions::whole_law;
 use canvas::{Canvas, writing_law};
 use dc_stack::Clip;
 use mapping::{Colour, Point};
 
-/// Writes the pixel that a placed point is, if the surface and the clip have it.
+/// Writes the pixel that a placed point is, if the canvas and the clip have it.
 pub(crate) fn put(point: Point, colour: Colour, clip: &Clip, canvas: &mut Canvas)
-    requires first { canvas.old.first ≡ 0 }
     requires countable { canvas.old.writes + 1 < 2 ^ 64 }
     ensures pixels { Repaints (λ x y. in_boxes (placed_value clip.now) x y && is_pixel point x y) (λ x y old. colour) canvas.old canvas.new }
     ensures few { canvas.new.writes ≤ canvas.old.writes + 1 }
 {
     writing_law();
-    let width = canvas.width();
+    whole_law(canvas);
     let Some((x, y)) = indexes(point) else {
         return;
     };
-    if x < width && y < canvas.rows() && clip.has(x, y) {
+    if !canvas.has_pixel(x, y) {
+        return;
+    }
+    if clip.has(x, y) {
         canvas.put(x, y, colour);
     }
 }

@@ -7,7 +7,7 @@ ghost use Rattle.dc_stack.specs.Drawing.{drawing_edges, mark_edges, tools_of};
 ghost use Rattle.dc_stack.specs.MachineState.{drawing_with};
 ghost use Rattle.draw_ops.specs.declared.objects.Pen.TheVariants.{Solid};
 ghost use Rattle.preflight_cert.specs.Layer.{fills_of, outlines_of, strokes_of};
-ghost use Rattle.player.specs.Plays.{DrawsDrawing, DrawsLayers, HoldsSurface, SameRows};
+ghost use Rattle.player.specs.Plays.{DrawsDrawing, DrawsLayers, HoldsRows, SameRows};
 
 use crate::blits::blit;
 use crate::brushing::Brushing;
@@ -36,7 +36,7 @@ pub(crate) fn draw<'a, T: Table<'a>>(
     room: &mut InkRoom,
     canvas: &mut Canvas,
 )
-    requires whole { HoldsSurface canvas.old machine.now.surface }
+    requires held { HoldsRows canvas.old machine.now.surface }
     requires countable { canvas.old.writes + 2 ^ 28 < 2 ^ 64 }
     requires placed { IfSome step (IsPlacedDraw machine.now.surface machine.now.painted) }
     requires lines { drawing_edges (option_map (drawing_with machine.now) step) ≤ rows.old.room }
@@ -59,7 +59,7 @@ fn fill<'a, T: Table<'a>>(
     room: &mut InkRoom,
     canvas: &mut Canvas,
 )
-    requires whole { HoldsSurface canvas.old machine.now.surface }
+    requires held { HoldsRows canvas.old machine.now.surface }
     requires countable { canvas.old.writes + 2 ^ 27 < 2 ^ 64 }
     requires placed { IsPlacedDraw machine.now.surface machine.now.painted drawn }
     requires lines { mark_edges (mark_of machine.now.painted drawn) ≤ rows.old.room }
@@ -106,7 +106,7 @@ fn stroke<'a, T: Table<'a>>(
     room: &mut InkRoom,
     canvas: &mut Canvas,
 )
-    requires whole { HoldsSurface canvas.old machine.now.surface }
+    requires held { HoldsRows canvas.old machine.now.surface }
     requires countable { canvas.old.writes + 2 ^ 27 < 2 ^ 64 }
     requires placed { IsPlacedDraw machine.now.surface machine.now.painted drawn }
     requires lines { mark_edges (mark_of machine.now.painted drawn) ≤ rows.old.room }
@@ -141,7 +141,7 @@ fn stroke_outline<'a, T: Table<'a>>(
     rows: &mut RowBuf,
     canvas: &mut Canvas,
 )
-    requires whole { HoldsSurface canvas.old machine.now.surface }
+    requires held { HoldsRows canvas.old machine.now.surface }
     requires countable { canvas.old.writes + 2 ^ 27 < 2 ^ 64 }
     requires placed { IsPlacedDraw machine.now.surface machine.now.painted drawn }
     requires lines { mark_edges (mark_of machine.now.painted drawn) ≤ rows.old.room }

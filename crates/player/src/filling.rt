@@ -28,7 +28,6 @@ pub(crate) fn fill_lines<O: Outline + Copy>(
     paint: &Brushing<'_, '_>,
     room: &mut InkRoom,
 )
-    requires first { canvas.old.first ≡ 0 }
     requires countable { canvas.old.writes + 2 ^ 27 < 2 ^ 64 }
     requires alone { paint.now.source ≡ None }
     requires room { length (O.lines outline) ≤ rows.old.room }
@@ -58,7 +57,6 @@ pub(crate) fn fill_box(
     room: &mut InkRoom,
 )
     requires alone { paint.now.source ≡ None }
-    requires first { canvas.old.first ≡ 0 }
     requires countable { canvas.old.writes + 2 ^ 27 < 2 ^ 64 }
     ensures pixels { Repaints (paints paint.now (in_box inside)) (made paint.now) canvas.old canvas.new }
     ensures few { canvas.new.writes ≤ canvas.old.writes + 2 ^ 26 }

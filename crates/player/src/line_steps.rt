@@ -21,7 +21,6 @@ use span_fill::{Line, Pixel, Steps, line_law};
 /// Mixes those pixels of a line that a clip has. It isn't inlined, which leaves its loops enough registers.
 #[inline(never)]
 pub(crate) fn mix_line(canvas: &mut Canvas, line: Line, mix: Mix, clip: &Clip)
-    requires first { canvas.old.first ≡ 0 }
     requires near { HasNearEnds line }
     requires countable { canvas.old.writes + 2 ^ 27 < 2 ^ 64 }
     ensures few { canvas.new.writes ≤ canvas.old.writes + 2 ^ 26 }

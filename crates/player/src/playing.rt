@@ -8,7 +8,7 @@ ghost use Rattle.meta_headers.specs.OpenedOf.{opened_of};
 ghost use Rattle.dc_stack.specs.MachineState.{GoesOn, HasFullRoom};
 ghost use Rattle.player.specs.After.{HasLines, HasLinesForRecords, HasRoomForRecords, HasRoomForSteps};
 ghost use Rattle.player.specs.Leaving.{IsLeftBy, IsLeftByRecords};
-ghost use Rattle.player.specs.Plays.{HoldsSurface, PlaysContent, PlaysFile, PlaysOpened, SameRows, StopsBy, StopsFileBy, StopsOpenedBy, WantsMemory};
+ghost use Rattle.player.specs.Plays.{HoldsRows, PlaysContent, PlaysFile, PlaysOpened, SameRows, StopsBy, StopsFileBy, StopsOpenedBy, WantsMemory};
 ghost use Rattle.preflight_cert.specs.Refusal.{TellsNumber};
 ghost use Rattle.preflight_cert.specs.Run.{Refused, Run, Writes, shown, white};
 
@@ -89,8 +89,8 @@ fn play_opened(
 }
 
 /// Plays an opened file's records on a machine that has room for any file, with rows that have room for
-/// any drawing, and on a canvas that holds the machine's surface, over what it shows, and tells how many
-/// pixels were written. The refusal is the first fault of the records: no memory is wanted. Behind a play the machine is in the
+/// any drawing, and on a canvas that holds rows of the machine's surface, over what it shows, and tells how many
+/// of their pixels were written. The refusal is the first fault of the records: no memory is wanted. Behind a play the machine is in the
 /// state, and tells the needs, that the records leave, and after a refusal those that the records before the fault leave. The canvas
 /// may then show what these drew.
 pub fn play_on<'a, T: Table<'a>>(
@@ -99,7 +99,7 @@ pub fn play_on<'a, T: Table<'a>>(
     rows: &mut RowBuf,
     canvas: &mut Canvas,
 ) -> Result<u64, Refusal>
-    requires whole { HoldsSurface canvas.old machine.old.surface }
+    requires held { HoldsRows canvas.old machine.old.surface }
     requires room { HasFullRoom machine.old }
     requires lines { 2 ^ 20 ≤ rows.old.room }
     requires countable { canvas.old.writes ≤ 2 ^ 63 }
@@ -125,7 +125,7 @@ pub(crate) fn play_records<'a, T: Table<'a>>(
     rows: &mut RowBuf,
     canvas: &mut Canvas,
 ) -> Result<u64, Refusal>
-    requires whole { HoldsSurface canvas.old machine.old.surface }
+    requires held { HoldsRows canvas.old machine.old.surface }
     requires room { HasRoomForRecords opened.now.format opened.now.records.now machine.old }
     requires lines { HasLinesForRecords rows.old.room opened.now.format opened.now.records.now machine.old }
     requires countable { canvas.old.writes ≤ 2 ^ 63 }
@@ -156,7 +156,7 @@ fn play_steps<'a, S: OpSource<'a>, T: Table<'a>>(
     canvas: &mut Canvas,
 ) -> Result<(), Refusal>
     requires short { length (S.content source.old).steps ≤ record_limit }
-    requires whole { HoldsSurface canvas.old machine.old.surface }
+    requires held { HoldsRows canvas.old machine.old.surface }
     requires room { HasRoomForSteps (S.content source.old) machine.old }
     requires lines { HasLines rows.old.room (S.content source.old) machine.old }
     requires countable { canvas.old.writes ≤ 2 ^ 63 }

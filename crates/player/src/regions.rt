@@ -1,6 +1,7 @@
 //! The part of a surface that a drawing may write.
 
-ghost use Rattle.std.specs.Prelude.{◌≡◌, ◌≤◌, ◌<◌, ◌*◌, ◌^◌, ◌&&◌, ◌↔◌, ◌+ℤ◌, ◌<ℤ◌, pos, ℕ};
+ghost use Rattle.std.specs.Prelude.{◌≡◌, ◌≤◌, ◌<◌, ◌+◌, ◌*◌, ◌^◌, ◌&&◌, ◌↔◌, ◌+ℤ◌, ◌<ℤ◌, pos, ℕ};
+ghost use Rattle.canvas.specs.CanvasState.{HasPixel};
 ghost use Rattle.canvas.specs.WritingLaws.{IsWhole};
 ghost use Rattle.dc_stack.specs.Clip.{in_kept, is_from_to};
 ghost use Rattle.dc_stack.specs.Values.{placed_value};
@@ -23,31 +24,42 @@ pub(crate) fn whole_law(canvas: &Canvas)
     canvas.width();
 }
 
-/// The part of a canvas that the kept box of a clip has. A canvas is whole, and has at most 2^26 pixels.
+/// The part of the rows held that the kept box of a clip has. A canvas is whole, and has at most 2^26 pixels.
 pub(crate) fn visible(canvas: &Canvas, clip: &Clip) -> Region
     ensures right { result.columns.to ≤ canvas.now.width }
-    ensures bottom { result.rows.to ≤ canvas.now.rows }
+    ensures top { canvas.now.first ≤ result.rows.from }
+    ensures bottom { result.rows.to ≤ canvas.now.first + canvas.now.rows }
     ensures columns { IsOfSide result.columns }
     ensures rows { IsOfSide result.rows }
     ensures side { canvas.now.width ≤ 8192 }
-    ensures height { canvas.now.rows ≤ 8192 }
     ensures whole { IsWhole canvas.now }
     ensures pixels { canvas.now.rows * canvas.now.width ≤ 2 ^ 26 }
-    ensures kept { (x y : ℕ) → x < canvas.now.width → y < canvas.now.rows → in_region result x y ≡ in_kept (placed_value clip.now).kept x y }
+    ensures kept { (x y : ℕ) → HasPixel canvas.now x y → in_region result x y ≡ in_kept (placed_value clip.now).kept x y }
 {
-    let surface = Region {
+    let held = Region {
         columns: Span {
             from: 0,
             to: canvas.width(),
         },
-        rows: Span {
-            from: 0,
-            to: canvas.rows(),
-        },
+        rows: rows_held(canvas),
     };
     match clip.kept {
-        None => surface,
-        Some(kept) => common(surface, kept.placed),
+        None => held,
+        Some(kept) => common(held, kept.placed),
+    }
+}
+
+/// The rows that a canvas holds.
+fn rows_held(canvas: &Canvas) -> Span
+    ensures from { result.from ≡ canvas.now.first }
+    ensures to { result.to ≡ canvas.now.first + canvas.now.rows }
+    ensures rows { IsOfSide result }
+    ensures few { canvas.now.rows ≤ 8192 }
+{
+    let (first, rows) = (canvas.first(), canvas.rows());
+    Span {
+        from: first,
+        to: first + rows,
     }
 }
 
@@ -57,6 +69,7 @@ pub(crate) fn common(region: Region, inside: Rect) -> Region
     requires columns { IsOfSide region.columns }
     requires rows { IsOfSide region.rows }
     ensures right { result.columns.to ≤ region.columns.to }
+    ensures top { region.rows.from ≤ result.rows.from }
     ensures bottom { result.rows.to ≤ region.rows.to }
     ensures columns { IsOfSide result.columns }
     ensures rows { IsOfSide result.rows }
@@ -93,6 +106,7 @@ pub(crate) fn landed_box(place: Place, bounds: Rect) -> Rect
 /// The rows from the top of a box to its bottom, which is included.
 pub(crate) fn rows_between(rows: Span, bounds: Rect) -> Span
     requires { IsOfSide rows }
+    ensures top { rows.from ≤ result.from }
     ensures bottom { result.to ≤ rows.to }
     ensures rows { IsOfSide result }
     ensures has_rows { (n : ℕ) → in_span result n ≡ in_span rows n && is_from_to bounds.t (bounds.b +ℤ pos 1) n }
@@ -104,6 +118,7 @@ pub(crate) fn rows_between(rows: Span, bounds: Rect) -> Span
 fn narrowed(span: Span, from: i64, to: i64) -> Span
     requires { IsOfSide span }
     ensures side { IsOfSide result }
+    ensures from { span.from ≤ result.from }
     ensures to { result.to ≤ span.to }
     ensures numbers { (n : ℕ) → in_span result n ≡ in_span span n && is_from_to from to n }
 {

@@ -30,7 +30,6 @@ pub(crate) fn stroke_lines<O: Outline + Copy>(
     paint: &Brushing<'_, '_>,
     colour: Colour,
 )
-    requires first { canvas.old.first ≡ 0 }
     requires countable { canvas.old.writes + 2 ^ 27 < 2 ^ 64 }
     requires pen { IsPen paint.now colour }
     requires room { length (O.lines outline) ≤ rows.old.room }
@@ -60,7 +59,6 @@ pub(crate) fn stroke_box(
     paint: &Brushing<'_, '_>,
     colour: Colour,
 )
-    requires first { canvas.old.first ≡ 0 }
     requires countable { canvas.old.writes + 2 ^ 27 < 2 ^ 64 }
     requires pen { IsPen paint.now colour }
     requires room { 4 ≤ rows.old.room }
@@ -81,7 +79,6 @@ pub(crate) fn stroke_box(
 
 /// Paints the pixels of a lone line in the colour of a paint of one colour.
 pub(crate) fn stroke_line(canvas: &mut Canvas, line: Line, paint: &Brushing<'_, '_>, colour: Colour)
-    requires first { canvas.old.first ≡ 0 }
     requires countable { canvas.old.writes + 2 ^ 27 < 2 ^ 64 }
     requires near { HasNearEnds line }
     requires pen { IsPen paint.now colour }

@@ -125,7 +125,7 @@ module _ (cell_laws : CellLaws) (boxes : LineBoxLaws) (placing : PlacingLaws) (b
         and_from _ _ (int_le-from (placed box.t s.height s.frame_height) (pos y) p.top) (int_le-from (pos y) (placed box.b s.height s.frame_height) p.bottom),
       )
 
-  layer_few : (layer : Layer) → IsLayerIn box layer → writes_of_layer layer s ≤ box_cells box s
+  layer_few : (layer : Layer) → IsLayerIn box layer → writes_of_layer layer s 0 s.height ≤ box_cells box s
   layer_few layer h =
       by_lt_z box.r box.l
       (λ (g : box.r <ℤ box.l).
@@ -140,7 +140,7 @@ module _ (cell_laws : CellLaws) (boxes : LineBoxLaws) (placing : PlacingLaws) (b
       let product = mul-le-mul rows columns in
       omega (arith, counted, product)))
 
-  layers_few : (layers : List Layer) → All (IsLayerIn box) layers → writes_of_layers layers s ≤ layers_budget layers box s
+  layers_few : (layers : List Layer) → All (IsLayerIn box) layers → writes_of_layers layers s 0 s.height ≤ layers_budget layers box s
   layers_few [] all = omega arith
   layers_few (layer ∷ layers) all =
       let first = layer_few layer (All-head (IsLayerIn box) layer layers all) in
@@ -168,7 +168,7 @@ shows_smaller smaller larger shows no_larger = record {
 -- the law, by the laws of cells, of lines and of places
 module _ (cell_laws : CellLaws) (boxes : LineBoxLaws) (placing : PlacingLaws) where
   drawing_few : (drawing : Drawing) (box : Rect) (smaller larger : Surface) → ShowsFrame larger → IsNoLarger smaller larger → All (HasPoint box) (drawing_points drawing) →
-      writes_of_layers (layers_of drawing) smaller ≤ layers_budget (layers_of drawing) box larger
+      writes_of_layers (layers_of drawing) smaller 0 smaller.height ≤ layers_budget (layers_of drawing) box larger
   drawing_few drawing box smaller larger shows no_larger all =
       let here = layers_few cell_laws boxes placing box smaller (shows_smaller smaller larger shows no_larger) (layers_of drawing) (layers_in box drawing all) in
       let more = budget_grows cell_laws box smaller larger shows no_larger (layers_of drawing) in omega (arith, here, more)

@@ -25,3 +25,4 @@ pub mod GatheredLemmas
 pub mod PreparedLemmas
 pub mod WorkedChecks
 pub mod ObjectLemmas
+pub mod RowsLemmas

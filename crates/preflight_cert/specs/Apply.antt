@@ -19,12 +19,13 @@ mixed_with mixing s x y (Some paint) old = mixed mixing s x y paint old
 abbrev pub ink_of : Layer → Surface → ℕ → ℕ → Colour → Colour
 ink_of layer s x y old = mixed_with layer.mixing s x y (paint_at layer.paint s x y) old
 
--- the image after a layer: the pixels that the layer writes, and every other as it was
+-- the image after a layer: those of its pixels that the layer writes, and every other as it was
 abbrev pub apply : Layer → Surface → Image → Image
 apply layer s image = record {
   width = image.width;
-  height = image.height;
-  colours = repainted (writes_pixel layer s) (ink_of layer s) s.width 0 image.colours;
+  first = image.first;
+  rows = image.rows;
+  colours = repainted (writes_pixel layer s) (ink_of layer s) image.width image.first image.colours;
 }
 
 -- the image after some layers, one after another

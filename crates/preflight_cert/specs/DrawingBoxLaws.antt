@@ -50,4 +50,4 @@ pub record DrawingBoxLaws : Type 0 where
   pub drawing :
       (drawing : Drawing) (box : Rect) (smaller larger : Surface) → ShowsFrame larger → IsNoLarger smaller larger
       → All (HasPoint box) (drawing_points drawing)
-      → writes_of_layers (layers_of drawing) smaller ≤ layers_budget (layers_of drawing) box larger
+      → writes_of_layers (layers_of drawing) smaller 0 smaller.height ≤ layers_budget (layers_of drawing) box larger

@@ -18,6 +18,7 @@ pub mod Checked
 pub mod Checks
 pub mod DrawingBoxLaws
 pub mod SizeLaws
+pub mod RowsLaws
 pub mod NeedLaws
 pub mod CertificateReading
 pub mod EntriesOf

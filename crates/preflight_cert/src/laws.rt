@@ -5,13 +5,14 @@ ghost use Rattle.preflight_cert.specs.DrawingBoxLaws.{DrawingBoxLaws};
 ghost use Rattle.preflight_cert.specs.NeedLaws.{NeedLaws};
 ghost use Rattle.preflight_cert.specs.ObjectOrder.{ObjectsAreInOrder};
 ghost use Rattle.preflight_cert.specs.PreparationLaws.{PreparationLaws};
+ghost use Rattle.preflight_cert.specs.RowsLaws.{RowsLaws};
 ghost use Rattle.preflight_cert.specs.Run.{RefusedOverAnyImage, RunEndsInOneWay, WritesAreOne};
 ghost use Rattle.preflight_cert.specs.SizeLaws.{SizeLaws};
 ghost use Rattle.preflight_cert.specs.TextLaws.{TextLaws};
 
 use dc_stack::fault_law;
 use draw_ops::content_law;
-use mapping::{cell_law, placing_law};
+use mapping::{cell_law, laid_rows_law, placing_law};
 use meta_headers::file_law;
 use object_tables::{created_index_law, order_law};
 use span_fill::line_box_law;
@@ -38,6 +39,14 @@ pub fn drawing_box_law()
     cell_law();
     line_box_law();
     placing_law();
+}
+
+/// The law of rows: images of rows that are laid together, after layers or drawings, are the images after those laid together,
+/// and writes on rows laid together are the sum of those on each.
+pub fn rows_law()
+    ensures { RowsLaws }
+{
+    laid_rows_law();
 }
 
 /// The law of sizes: records without a fault on a surface have none on one that is no larger, and

@@ -13,14 +13,14 @@ pub returns-then-columns-clause-pixels : goal.returns-then-columns-clause-pixels
 returns-then-columns-clause-pixels c =
     let shown = c.visible-region in
     let drawn = c.common-drawn in
-    box_unseen c.args.paint.now c.args.inside c.args.canvas.now c.requires.first c.writing_law.ensures shown.ensures.whole shown.result drawn.result shown.ensures.kept drawn.ensures.has_columns drawn.ensures.has_rows c.if-columns.true
+    box_unseen c.args.paint.now c.args.inside c.args.canvas.now c.writing_law.ensures shown.ensures.whole shown.result drawn.result shown.ensures.kept drawn.ensures.has_columns drawn.ensures.has_rows c.if-columns.true
 
 pub loop-y-init : goal.loop-y-init
 loop-y-init c =
     let shown = c.visible-region in
     let drawn = c.common-drawn in
     record {
-      painted = box_begun c.args.paint.now c.args.inside c.args.canvas.now c.requires.first c.writing_law.ensures shown.ensures.whole shown.result drawn.result shown.ensures.kept drawn.ensures.has_columns drawn.ensures.has_rows;
+      painted = box_begun c.args.paint.now c.args.inside c.args.canvas.now c.writing_law.ensures shown.ensures.whole shown.result drawn.result shown.ensures.kept drawn.ensures.has_columns drawn.ensures.has_rows;
       long = refl;
       held = λ row e. cc;
     }
@@ -53,11 +53,14 @@ loop-y-preserved c =
     let drawn = c.common-drawn in
     let high = c.loop-y-test.true in
     let last = drawn.ensures.bottom in
+    let top = shown.ensures.top in
+    let above = drawn.ensures.top in
+    let low = c.loop-y.auto.y in
     let bottom = shown.ensures.bottom in
     let sources = c.keep_row.new.sources in
     record {
-      painted = box_row c.args.paint.now c.args.inside c.args.canvas.now c.requires.first c.writing_law.ensures shown.ensures.whole shown.result drawn.result shown.ensures.kept drawn.ensures.has_columns drawn.ensures.has_rows
-          c.loop-y.canvas c.put_uncut.new.canvas c.loop-y.y c.source_ink-ink.result c.source_ink-ink.ensures.test c.source_ink-ink.ensures.ink c.loop-y.auto.y high (omega (arith, high, last, bottom))
+      painted = box_row c.args.paint.now c.args.inside c.args.canvas.now c.writing_law.ensures shown.ensures.whole shown.result drawn.result shown.ensures.kept drawn.ensures.has_columns drawn.ensures.has_rows
+          c.loop-y.canvas c.put_uncut.new.canvas c.loop-y.y c.source_ink-ink.result c.source_ink-ink.ensures.test c.source_ink-ink.ensures.ink low high (record { from_first = omega (arith, low, above, top); to_last = omega (arith, high, last, bottom) })
           c.loop-y.invariant.painted (rw c.cut_boxes.ensures at c.put_uncut.ensures.pixels);
       long = c.keep_row.auto.sources ∙ c.loop-y.invariant.long;
       held = λ row e. subst (λ (r : ℕ). HoldsRow c.args.reader.now drawn.result.columns r sources) (same_Some _ _ e) c.keep_row.ensures;
@@ -70,4 +73,16 @@ pub returns-clause-pixels : goal.returns-clause-pixels
 returns-clause-pixels c =
     let shown = c.visible-region in
     let drawn = c.common-drawn in
-    box_done c.args.paint.now c.args.inside c.args.canvas.now c.requires.first c.writing_law.ensures shown.ensures.whole shown.result drawn.result shown.ensures.kept drawn.ensures.has_columns drawn.ensures.has_rows c.loop-y.canvas c.loop-y.y c.loop-y-test.false c.loop-y.invariant.painted
+    box_done c.args.paint.now c.args.inside c.args.canvas.now c.writing_law.ensures shown.ensures.whole shown.result drawn.result shown.ensures.kept drawn.ensures.has_columns drawn.ensures.has_rows c.loop-y.canvas c.loop-y.y c.loop-y-test.false c.loop-y.invariant.painted
+
+pub put_uncut-requires-clause-row : goal.put_uncut-requires-clause-row
+put_uncut-requires-clause-row c =
+    let low = c.loop-y.auto.y in
+    let high = c.loop-y-test.true in
+    let top = c.visible-region.ensures.top in
+    let above = c.common-drawn.ensures.top in
+    let last = c.common-drawn.ensures.bottom in
+    let bottom = c.visible-region.ensures.bottom in
+    let first = c.loop-y.invariant.painted.painted.first in
+    let rows = c.loop-y.invariant.painted.painted.rows in
+    record { from_first = omega (arith, low, above, top, first); to_last = omega (arith, high, last, bottom, first, rows) }

@@ -1,12 +1,13 @@
 -- A cleared file never stops, and writes no more than certified.
-use Rattle.std.proofs.Common.{◌≡◌, ◌+◌, refl, subst}
+use Rattle.std.proofs.Common.{◌≡◌, ◌+◌, ap, refl, subst}
 use Rattle.mapping.specs.PlacingLaws.{IsNoLarger, ShowsFrame}
+use Rattle.mapping.specs.Surface.{Surface}
 use Rattle.meta_headers.specs.OpenedOf.{opened_of}
 use Rattle.dc_stack.specs.State.{State}
 use Rattle.preflight_cert.specs.Answer.{bound_of}
 use Rattle.preflight_cert.specs.CertificateOf.{certificate_of}
 use Rattle.preflight_cert.specs.Drawings.{drawings_of}
-use Rattle.preflight_cert.specs.Writes.{writes_after}
+use Rattle.preflight_cert.specs.Writes.{writes_after, writes_of_drawings}
 use Rattle.player.specs.Plays.{StopsRecordsBy}
 use Rattle.player.proofs.ClearedLemmas.{few_written, never_stops}
 use Rattle.player.proofs.cleared_play.play_reserved.Goals as goal
@@ -34,5 +35,7 @@ returns-clause-few g c =
     let smaller : IsNoLarger s (bound_of o k) = rw c.requires.surface (record { width = c.requires.within.wide; height = c.requires.within.high; frame_width = refl; frame_height = refl }) in
     let frame : ShowsFrame (bound_of o k) = record { wide = cleared.opened.frame.wide; high = cleared.opened.frame.high } in
     let played = c.in-Ok.ensures.played in
-    let count = subst (λ (state : State). new ≡ old + writes_after (drawings_of played.content.steps state) s) c.requires.state played.plays.writes in
+    let height : s.height ≡ c.args.canvas.now.rows = ap (λ (t : Surface). t.height) c.requires.surface in
+    let whole : new ≡ old + writes_of_drawings (drawings_of played.content.steps c.args.machine.now.state) s 0 s.height = rw height (rw c.requires.whole at played.plays.writes) in
+    let count = subst (λ (state : State). new ≡ old + writes_after (drawings_of played.content.steps state) s) c.requires.state whole in
     few_written c.answer_law.ensures o cleared.opened.records.now k cleared.checked c.size_law.ensures s frame smaller played.content played.of_records old new c.in-Ok.writes c.in-Ok.ensures.count count

@@ -10,4 +10,4 @@ returns-in-Some-clause-drawn g c =
     let mark = mark_of machine.painted c.in-Some.drawn in
     let tools = tools_of machine.state.dc in
     rw c.in-Some.is
-    (drawn_in_turn (fills_of mark tools) (strokes_of mark tools) machine.surface c.args.canvas.now c.fill.new.canvas c.stroke.new.canvas c.fill.ensures.drawn c.stroke.ensures.drawn)
+    (drawn_in_turn (fills_of mark tools) (strokes_of mark tools) machine.surface c.args.canvas.now c.fill.new.canvas c.stroke.new.canvas c.fill.ensures.rows c.fill.ensures.drawn c.stroke.ensures.drawn)

@@ -73,7 +73,7 @@ returns-in_default-painting g c =
     let shape = inside_figures tools.modes.fill_mode (all_closed figures) in
     let lines = c.new-outline.ensures ∙ closed_lines_along s figures in
     let rule = c.rule_of-rule.ensures ∙ ap (λ (d : DcValue). fill_rule_of d.modes.fill_mode) value in
-    let drawn = brush_drawn c.writing_law.ensures s c.args.canvas.now c.fill_lines.new.canvas c.whole_law.ensures c.requires.whole paint tools modes operation clip _ shape (ap brush_value_of c.with-paint.ensures.brush ∙ brush) (λ x y. rw (rule, lines) refl) c.fill_lines.ensures.pixels in
+    let drawn = brush_drawn c.writing_law.ensures s c.args.canvas.now c.fill_lines.new.canvas c.whole_law.ensures c.requires.held paint tools modes operation clip _ shape (ap brush_value_of c.with-paint.ensures.brush ∙ brush) (λ x y. rw (rule, lines) refl) c.fill_lines.ensures.pixels in
     record {
       drawn = rw (c.in-Figures.is, fills_figures c.in-Figures.painting figures tools c.in_default-painting.not-Stroke, brush_fills dc.selected.brush shape tools c.in_default.not-Null brush) drawn;
       rows = same_rows _ _ c.args.canvas.now c.fill_lines.new.canvas c.fill_lines.ensures.pixels;
@@ -98,5 +98,5 @@ returns-in-Rectangle-clause-drawn g c =
     let shape = inside_rectangle first second edges in
     let inside = c.rectangle_box-inside.ensures.value in
     let place = c.place-place.result in
-    let drawn = brush_drawn c.writing_law.ensures s c.args.canvas.now c.fill_box.new.canvas c.whole_law.ensures c.requires.whole paint tools modes operation clip _ shape (ap brush_value_of c.with-paint.ensures.brush ∙ brush) (λ x y. rw (inside, lands_there place s first c.at.result c.place-place.ensures c.at.ensures, lands_there place s second c.at-in-Rectangle.result c.place-place.ensures c.at-in-Rectangle.ensures) refl) c.fill_box.ensures.pixels in
+    let drawn = brush_drawn c.writing_law.ensures s c.args.canvas.now c.fill_box.new.canvas c.whole_law.ensures c.requires.held paint tools modes operation clip _ shape (ap brush_value_of c.with-paint.ensures.brush ∙ brush) (λ x y. rw (inside, lands_there place s first c.at.result c.place-place.ensures c.at.ensures, lands_there place s second c.at-in-Rectangle.result c.place-place.ensures c.at-in-Rectangle.ensures) refl) c.fill_box.ensures.pixels in
     rw (c.in-Rectangle.is, brush_fills dc.selected.brush shape tools c.in_default.not-Null brush) drawn

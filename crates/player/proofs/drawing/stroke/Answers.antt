@@ -16,7 +16,7 @@ returns-in-Dot-clause-drawn g c =
     let lands = lands_there c.place-place.result s at c.at.result c.place-place.ensures c.at.ensures in
     let dc = c.dc-dc.result.now in
     let clip = clip_placed s dc.clip dc state refl c.dc-dc.ensures.value c.dc-dc.ensures.placed in
-    let drawn = dot_drawn c.writing_law.ensures s c.args.canvas.now c.put.new.canvas c.whole_law.ensures c.requires.whole at c.at.result c.in-Dot.colour dc.clip (tools_of state) lands clip c.put.ensures.pixels in
+    let drawn = dot_drawn c.writing_law.ensures s c.args.canvas.now c.put.new.canvas c.whole_law.ensures c.requires.held at c.at.result c.in-Dot.colour dc.clip (tools_of state) lands clip c.put.ensures.pixels in
     rw c.in-Dot.is drawn
 
 pub at-requires : goal.at-requires
@@ -33,7 +33,6 @@ blit-requires g c =
     let second = c.in-Blit.asked.second in
     let both = two_land s first second (rw c.in-Blit.is at c.requires.placed.within) in
     record {
-      first = c.requires.whole.first;
       countable = c.requires.countable;
       near = fits_there c.place-place.result s first c.place-place.ensures both.0;
       far = fits_there c.place-place.result s second c.place-place.ensures both.1;
@@ -49,7 +48,7 @@ returns-in-Blit g c =
     let brush = ap (λ (d : DcValue). d.selected.brush.object) value in
     let modes = ap (λ (d : DcValue). d.modes) value in
     let clip = clip_placed s dc.clip dc state refl value c.dc-dc.ensures.placed in
-    let drawn = blit_drawn c.writing_law.ensures s c.args.canvas.now c.blit.new.canvas c.whole_law.ensures c.requires.whole dc (tools_of state) c.in-Blit.asked brush modes clip (rw c.place-place.ensures at c.blit.ensures.pixels) in
+    let drawn = blit_drawn c.writing_law.ensures s c.args.canvas.now c.blit.new.canvas c.whole_law.ensures c.requires.held dc (tools_of state) c.in-Blit.asked brush modes clip (rw c.place-place.ensures at c.blit.ensures.pixels) in
     record {
       drawn = rw c.in-Blit.is drawn;
       rows = same_rows _ _ _ _ c.blit.ensures.pixels;

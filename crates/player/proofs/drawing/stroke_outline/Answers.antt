@@ -108,7 +108,7 @@ returns-in-Line-clause-drawn g c =
     let ends = lands_there place s to c.at-in-Line.result c.place-place.ensures c.at-in-Line.ensures in
     let same : line ≡ there = ap (λ (p : Point). line_from p c.at-in-Line.result) begins ∙ ap (λ (p : Point). line_from (placed_point from s) p) ends in
     let shape = along_figures (figures_of_lists ((from ∷ to ∷ []) ∷ [])) in
-    let drawn = pen_drawn c.writing_law.ensures s c.args.canvas.now c.stroke_line.new.canvas c.whole_law.ensures c.requires.whole paint tools modes operation clip _ shape c.args.colour c.with-paint.ensures.brush (λ x y. lone_stroke line there x y same) c.stroke_line.ensures.pixels in
+    let drawn = pen_drawn c.writing_law.ensures s c.args.canvas.now c.stroke_line.new.canvas c.whole_law.ensures c.requires.held paint tools modes operation clip _ shape c.args.colour c.with-paint.ensures.brush (λ x y. lone_stroke line there x y same) c.stroke_line.ensures.pixels in
     rw (c.in-Line.is, pen_strokes shape tools c.args.colour c.requires.pen) drawn
 
 pub returns-in-Some-clause-drawn : goal.returns-in-Some-clause-drawn
@@ -126,7 +126,7 @@ returns-in-Some-clause-drawn g c =
     let figures = figures_drawn c.args.machine.now.painted c.in-Figures.points in
     let asked : stroked_ends c.in-Figures.painting ≡ Some ends = search rules in
     let shape = stroked_shape ends figures in
-    let drawn = pen_drawn c.writing_law.ensures s c.args.canvas.now c.stroke_lines.new.canvas c.whole_law.ensures c.requires.whole paint tools modes operation clip _ shape c.args.colour c.with-paint.ensures.brush (λ x y. ap (λ (list : List Line). in_stroke list x y) c.new-outline.ensures ∙ stroked_lines s ends figures x y) c.stroke_lines.ensures.pixels in
+    let drawn = pen_drawn c.writing_law.ensures s c.args.canvas.now c.stroke_lines.new.canvas c.whole_law.ensures c.requires.held paint tools modes operation clip _ shape c.args.colour c.with-paint.ensures.brush (λ x y. ap (λ (list : List Line). in_stroke list x y) c.new-outline.ensures ∙ stroked_lines s ends figures x y) c.stroke_lines.ensures.pixels in
     rw (c.in-Figures.is, strokes_figures c.in-Figures.painting ends figures tools asked, pen_strokes shape tools c.args.colour c.requires.pen) drawn
 
 pub returns-in-Rectangle-clause-drawn : goal.returns-in-Rectangle-clause-drawn
@@ -145,7 +145,7 @@ returns-in-Rectangle-clause-drawn g c =
     let inside = c.rectangle_box-inside.ensures.value in
     let place = c.place-place.result in
     let shape = round_rectangle first second c.in-Rectangle.edges in
-    let drawn = pen_drawn c.writing_law.ensures s c.args.canvas.now c.stroke_box.new.canvas c.whole_law.ensures c.requires.whole paint tools modes operation clip _ shape c.args.colour c.with-paint.ensures.brush (λ x y. rw (inside, lands_there place s first c.at-in-Rectangle.result c.place-place.ensures c.at-in-Rectangle.ensures, lands_there place s second c.at-in-Rectangle-2.result c.place-place.ensures c.at-in-Rectangle-2.ensures) refl) c.stroke_box.ensures.pixels in
+    let drawn = pen_drawn c.writing_law.ensures s c.args.canvas.now c.stroke_box.new.canvas c.whole_law.ensures c.requires.held paint tools modes operation clip _ shape c.args.colour c.with-paint.ensures.brush (λ x y. rw (inside, lands_there place s first c.at-in-Rectangle.result c.place-place.ensures c.at-in-Rectangle.ensures, lands_there place s second c.at-in-Rectangle-2.result c.place-place.ensures c.at-in-Rectangle-2.ensures) refl) c.stroke_box.ensures.pixels in
     rw (c.in-Rectangle.is, pen_strokes shape tools c.args.colour c.requires.pen) drawn
 
 pub stroke_box-requires-clause-room : goal.stroke_box-requires-clause-room

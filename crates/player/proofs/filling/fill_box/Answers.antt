@@ -7,13 +7,13 @@ pub returns-then-drawn-clause-pixels : goal.returns-then-drawn-clause-pixels
 returns-then-drawn-clause-pixels c =
     let shown = c.visible-region in
     let drawn = c.common-drawn in
-    box_unseen c.args.paint.now c.args.inside c.args.canvas.now c.requires.first c.writing_law.ensures shown.ensures.whole shown.result drawn.result shown.ensures.kept drawn.ensures.has_columns drawn.ensures.has_rows c.if-drawn.true
+    box_unseen c.args.paint.now c.args.inside c.args.canvas.now c.writing_law.ensures shown.ensures.whole shown.result drawn.result shown.ensures.kept drawn.ensures.has_columns drawn.ensures.has_rows c.if-drawn.true
 
 pub loop-y-init : goal.loop-y-init
 loop-y-init c =
     let shown = c.visible-region in
     let drawn = c.common-drawn in
-    box_begun c.args.paint.now c.args.inside c.args.canvas.now c.requires.first c.writing_law.ensures shown.ensures.whole shown.result drawn.result shown.ensures.kept drawn.ensures.has_columns drawn.ensures.has_rows
+    box_begun c.args.paint.now c.args.inside c.args.canvas.now c.writing_law.ensures shown.ensures.whole shown.result drawn.result shown.ensures.kept drawn.ensures.has_columns drawn.ensures.has_rows
 
 pub put_uncut-requires-clause-countable : goal.put_uncut-requires-clause-countable
 put_uncut-requires-clause-countable c =
@@ -31,9 +31,12 @@ loop-y-preserved c =
     let drawn = c.common-drawn in
     let high = c.loop-y-test.true in
     let last = drawn.ensures.bottom in
+    let top = shown.ensures.top in
+    let above = drawn.ensures.top in
+    let low = c.loop-y.auto.y in
     let bottom = shown.ensures.bottom in
-    box_row c.args.paint.now c.args.inside c.args.canvas.now c.requires.first c.writing_law.ensures shown.ensures.whole shown.result drawn.result shown.ensures.kept drawn.ensures.has_columns drawn.ensures.has_rows
-    c.loop-y.canvas c.put_uncut.new.canvas c.loop-y.y c.row-ink.result c.row-ink.ensures.test c.row-ink.ensures.ink c.loop-y.auto.y high (omega (arith, high, last, bottom))
+    box_row c.args.paint.now c.args.inside c.args.canvas.now c.writing_law.ensures shown.ensures.whole shown.result drawn.result shown.ensures.kept drawn.ensures.has_columns drawn.ensures.has_rows
+    c.loop-y.canvas c.put_uncut.new.canvas c.loop-y.y c.row-ink.result c.row-ink.ensures.test c.row-ink.ensures.ink low high (record { from_first = omega (arith, low, above, top); to_last = omega (arith, high, last, bottom) })
     c.loop-y.invariant (rw c.cut_boxes.ensures at c.put_uncut.ensures.pixels)
 
 pub returns-clause-few : goal.returns-clause-few
@@ -43,4 +46,16 @@ pub returns-clause-pixels : goal.returns-clause-pixels
 returns-clause-pixels c =
     let shown = c.visible-region in
     let drawn = c.common-drawn in
-    box_done c.args.paint.now c.args.inside c.args.canvas.now c.requires.first c.writing_law.ensures shown.ensures.whole shown.result drawn.result shown.ensures.kept drawn.ensures.has_columns drawn.ensures.has_rows c.loop-y.canvas c.loop-y.y c.loop-y-test.false c.loop-y.invariant
+    box_done c.args.paint.now c.args.inside c.args.canvas.now c.writing_law.ensures shown.ensures.whole shown.result drawn.result shown.ensures.kept drawn.ensures.has_columns drawn.ensures.has_rows c.loop-y.canvas c.loop-y.y c.loop-y-test.false c.loop-y.invariant
+
+pub put_uncut-requires-clause-row : goal.put_uncut-requires-clause-row
+put_uncut-requires-clause-row c =
+    let low = c.loop-y.auto.y in
+    let high = c.loop-y-test.true in
+    let top = c.visible-region.ensures.top in
+    let above = c.common-drawn.ensures.top in
+    let last = c.common-drawn.ensures.bottom in
+    let bottom = c.visible-region.ensures.bottom in
+    let first = c.loop-y.invariant.painted.first in
+    let rows = c.loop-y.invariant.painted.rows in
+    record { from_first = omega (arith, low, above, top, first); to_last = omega (arith, high, last, bottom, first, rows) }

@@ -10,15 +10,15 @@ use Rattle.player.proofs.line_steps.mix_line.Goals as goal
 
 pub mix_uncut-requires-clause-steps : goal.mix_uncut-requires-clause-steps
 mix_uncut-requires-clause-steps c =
-    may_take c.new-steps.result c.visible.result c.args.canvas.now c.new-steps.ensures.region c.new-steps.ensures.all c.visible.ensures.whole c.requires.first c.visible.ensures.right c.visible.ensures.bottom c.visible.ensures.pixels c.requires.countable
+    may_take c.new-steps.result c.visible.result c.args.canvas.now c.new-steps.ensures.region c.new-steps.ensures.all c.visible.ensures.whole c.visible.ensures.right c.visible.ensures.top c.visible.ensures.bottom c.visible.ensures.pixels c.requires.countable
 
 pub put_steps-requires : goal.put_steps-requires
 put_steps-requires c =
-    may_take c.new-steps.result c.visible.result c.args.canvas.now c.new-steps.ensures.region c.new-steps.ensures.all c.visible.ensures.whole c.requires.first c.visible.ensures.right c.visible.ensures.bottom c.visible.ensures.pixels c.requires.countable
+    may_take c.new-steps.result c.visible.result c.args.canvas.now c.new-steps.ensures.region c.new-steps.ensures.all c.visible.ensures.whole c.visible.ensures.right c.visible.ensures.top c.visible.ensures.bottom c.visible.ensures.pixels c.requires.countable
 
 pub mix_steps-requires : goal.mix_steps-requires
 mix_steps-requires c =
-    may_take c.new-steps.result c.visible.result c.args.canvas.now c.new-steps.ensures.region c.new-steps.ensures.all c.visible.ensures.whole c.requires.first c.visible.ensures.right c.visible.ensures.bottom c.visible.ensures.pixels c.requires.countable
+    may_take c.new-steps.result c.visible.result c.args.canvas.now c.new-steps.ensures.region c.new-steps.ensures.all c.visible.ensures.whole c.visible.ensures.right c.visible.ensures.top c.visible.ensures.bottom c.visible.ensures.pixels c.requires.countable
 
 pub returns-then-not-is_empty-clause-few : goal.returns-then-not-is_empty-clause-few
 returns-then-not-is_empty-clause-few c =
@@ -34,12 +34,12 @@ returns-in_default-clause-few c =
 
 pub returns-then-not-is_empty-clause-pixels : goal.returns-then-not-is_empty-clause-pixels
 returns-then-not-is_empty-clause-pixels c =
-    clip_drawn c.writing_law.ensures (placed_value c.args.clip.now) c.args.line c.visible.result c.args.canvas.now c.visible.ensures.whole c.requires.first c.visible.ensures.kept (λ (x y : ℕ) (old : Colour). mixed_by c.args.mix old) c.mix_uncut.new.canvas (rw (c.new-steps.ensures.line, c.new-steps.ensures.region) at c.mix_uncut.ensures)
+    clip_drawn c.writing_law.ensures (placed_value c.args.clip.now) c.args.line c.visible.result c.args.canvas.now c.visible.ensures.whole c.visible.ensures.kept (λ (x y : ℕ) (old : Colour). mixed_by c.args.mix old) c.mix_uncut.new.canvas (rw (c.new-steps.ensures.line, c.new-steps.ensures.region) at c.mix_uncut.ensures)
 
 pub returns-in-Some-clause-pixels : goal.returns-in-Some-clause-pixels
 returns-in-Some-clause-pixels c =
-    kept_drawn c.writing_law.ensures (placed_value c.args.clip.now) c.args.line c.visible.result c.args.canvas.now c.visible.ensures.whole c.requires.first c.visible.ensures.kept (λ (x y : ℕ) (old : Colour). c.in-Some.colour) (λ (x y : ℕ) (old : Colour). mixed_by c.args.mix old) c.put_steps.new.canvas (no_cuts c.args.clip.now c.cut_boxes.result.now c.cut_boxes.ensures (sym c.is_empty.ensures ∙ c.if-not-is_empty.false)) (λ x y old. sym (c.in-Some.ensures.colour old)) (rw (c.new-steps.ensures.line, c.new-steps.ensures.region) at c.put_steps.ensures)
+    kept_drawn c.writing_law.ensures (placed_value c.args.clip.now) c.args.line c.visible.result c.args.canvas.now c.visible.ensures.whole c.visible.ensures.kept (λ (x y : ℕ) (old : Colour). c.in-Some.colour) (λ (x y : ℕ) (old : Colour). mixed_by c.args.mix old) c.put_steps.new.canvas (no_cuts c.args.clip.now c.cut_boxes.result.now c.cut_boxes.ensures (sym c.is_empty.ensures ∙ c.if-not-is_empty.false)) (λ x y old. sym (c.in-Some.ensures.colour old)) (rw (c.new-steps.ensures.line, c.new-steps.ensures.region) at c.put_steps.ensures)
 
 pub returns-in_default-clause-pixels : goal.returns-in_default-clause-pixels
 returns-in_default-clause-pixels c =
-    kept_drawn c.writing_law.ensures (placed_value c.args.clip.now) c.args.line c.visible.result c.args.canvas.now c.visible.ensures.whole c.requires.first c.visible.ensures.kept (λ (x y : ℕ) (old : Colour). mixed_by c.args.mix old) (λ (x y : ℕ) (old : Colour). mixed_by c.args.mix old) c.mix_steps.new.canvas (no_cuts c.args.clip.now c.cut_boxes.result.now c.cut_boxes.ensures (sym c.is_empty.ensures ∙ c.if-not-is_empty.false)) (λ x y old. refl) (rw (c.new-steps.ensures.line, c.new-steps.ensures.region) at c.mix_steps.ensures)
+    kept_drawn c.writing_law.ensures (placed_value c.args.clip.now) c.args.line c.visible.result c.args.canvas.now c.visible.ensures.whole c.visible.ensures.kept (λ (x y : ℕ) (old : Colour). mixed_by c.args.mix old) (λ (x y : ℕ) (old : Colour). mixed_by c.args.mix old) c.mix_steps.new.canvas (no_cuts c.args.clip.now c.cut_boxes.result.now c.cut_boxes.ensures (sym c.is_empty.ensures ∙ c.if-not-is_empty.false)) (λ x y old. refl) (rw (c.new-steps.ensures.line, c.new-steps.ensures.region) at c.mix_steps.ensures)

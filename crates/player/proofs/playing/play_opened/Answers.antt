@@ -1,6 +1,6 @@
 use Rattle.std.proofs.Common.{◌≡◌, rules}
 use Rattle.player.specs.After.{HasLinesForRecords, HasRoomForRecords}
-use Rattle.player.specs.Plays.{HoldsSurface}
+use Rattle.player.specs.Plays.{HoldsRows}
 use Rattle.player.proofs.AfterLemmas.{lines_for_records}
 use Rattle.player.proofs.playing.play_opened.Goals as goal
 
@@ -9,9 +9,9 @@ play_records-requires c =
     let o = c.args.opened.now in
     let before = c.reserve_all.new.machine in
     let machine = c.count_lines.new.machine in
-    let whole : HoldsSurface c.args.canvas.now machine.surface = search rules in
+    let held : HoldsRows c.args.canvas.now machine.surface = search rules in
     let room : HasRoomForRecords o.format o.records.now machine = search rules in
     let state : machine.state ≡ before.state = search rules in
     let needs : machine.needs ≡ before.needs = search rules in
     let lines : HasLinesForRecords c.in_ok-rows.rows.room o.format o.records.now machine = lines_for_records before machine c.in-Ok.lines c.in_ok-rows.rows.room o.format o.records.now state needs c.in-Ok.ensures.lines c.in_ok-rows.ensures.room in
-    search (whole, room, lines, rules)
+    search (held, room, lines, rules)

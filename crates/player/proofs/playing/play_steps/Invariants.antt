@@ -7,9 +7,9 @@ use Rattle.player.specs.Leaving.{left_by}
 use Rattle.preflight_cert.specs.After.{needs_after, state_after}
 use Rattle.preflight_cert.specs.Apply.{image_after}
 use Rattle.preflight_cert.specs.Drawings.{drawings_of}
-use Rattle.player.specs.Plays.{HoldsSurface, SameRows}
+use Rattle.player.specs.Plays.{HoldsRows, SameRows}
 use Rattle.preflight_cert.specs.Stop.{stopped}
-use Rattle.preflight_cert.specs.Writes.{writes_after}
+use Rattle.preflight_cert.specs.Writes.{writes_of_drawings}
 use Rattle.player.proofs.playing.play_steps.Given as goal
 
 -- what is left of the run ends as the whole run does
@@ -25,14 +25,14 @@ invariant-loop-drawn g l =
       room : HasRoomForSteps (content l.source) l.machine;
       same_room : l.rows.room ≡ l.fn.rows.room;
       lines : HasLines l.rows.room (content l.source) l.machine;
-      whole : HoldsSurface l.canvas start;
+      held : HoldsRows l.canvas start;
       rows : SameRows l.fn.canvas l.canvas;
       stops : stopped (content l.fn.source).steps (content l.fn.source).fault 0 l.fn.machine.state start ≡ stopped (content l.source).steps (content l.source).fault l.before l.machine.state start;
       state : state_after (content l.fn.source).steps l.fn.machine.state ≡ state_after (content l.source).steps l.machine.state;
       needs : needs_after (content l.fn.source).steps l.fn.machine.state l.fn.machine.needs ≡ needs_after (content l.source).steps l.machine.state l.machine.needs;
       left : left_by (content l.fn.source).steps l.fn.machine.state l.fn.machine.needs start ≡ left_by (content l.source).steps l.machine.state l.machine.needs start;
       image : image_after (drawings_of (content l.fn.source).steps l.fn.machine.state) start (image_of l.fn.canvas) ≡ image_after (drawings_of (content l.source).steps l.machine.state) start (image_of l.canvas);
-      writes : l.fn.canvas.writes + writes_after (drawings_of (content l.fn.source).steps l.fn.machine.state) start ≡ l.canvas.writes + writes_after (drawings_of (content l.source).steps l.machine.state) start;
+      writes : l.fn.canvas.writes + writes_of_drawings (drawings_of (content l.fn.source).steps l.fn.machine.state) start l.fn.canvas.first l.fn.canvas.rows ≡ l.canvas.writes + writes_of_drawings (drawings_of (content l.source).steps l.machine.state) start l.fn.canvas.first l.fn.canvas.rows;
     }
 
 abbrev pub decreases-loop-drawn : goal.decreases-loop-drawn

@@ -18,7 +18,7 @@ loop-y-init g c =
       next = begun.next;
       room = begun.room;
       painted = before_first paint shape c.writing_law.ensures canvas c.visible-region.ensures.whole c.rows_between-drawn.result.from
-          (λ x y held h. (seen_in_rows paint shape canvas c.requires.first c.visible-region.result c.visible-region.ensures.kept c.rows_between-drawn.result _ _ c.rows_between-drawn.ensures.has_rows lies x y held h).0);
+          (λ x y held h. (seen_in_rows paint shape canvas c.visible-region.result c.visible-region.ensures.kept c.rows_between-drawn.result _ _ c.rows_between-drawn.ensures.has_rows lies x y held h).0);
     }
 
 pub loop-y-preserved : goal.loop-y-preserved
@@ -32,6 +32,8 @@ loop-y-preserved g c =
     let low = c.loop-y.auto.y in
     let high = c.loop-y-test.true in
     let last = c.rows_between-drawn.ensures.bottom in
+    let top = c.visible-region.ensures.top in
+    let above = c.rows_between-drawn.ensures.top in
     let bottom = c.visible-region.ensures.bottom in
     let row = rw (inv.kind, inv.taken, inv.next) at c.next_stroke.ensures.spans in
     record {
@@ -40,7 +42,7 @@ loop-y-preserved g c =
       next = c.next_stroke.ensures.next ∙ ap (λ n. n + 1) inv.next;
       room = same.room ∙ inv.room;
       painted = one_row_more paint shape c.writing_law.ensures canvas c.visible-region.ensures.whole c.loop-y.canvas c.put_spans.new.canvas c.loop-y.y c.pen_ink-ink.result (in_spans c.next_stroke.new.self.spans) (λ x. c.pen_ink-ink.ensures.test x c.loop-y.y) (λ x old there i. c.pen_ink-ink.ensures.ink x c.loop-y.y old i)
-          (λ x column. row_columns paint shape canvas c.requires.first c.visible-region.result c.visible-region.ensures.kept c.rows_between-drawn.result _ _ c.rows_between-drawn.ensures.has_rows c.next_stroke.new.self.spans (λ n. in_stroke lines n c.loop-y.y) x c.loop-y.y row low high (omega (arith, high, last, bottom)) column)
+          (λ x column. row_columns paint shape canvas c.visible-region.result c.visible-region.ensures.kept c.rows_between-drawn.result _ _ c.rows_between-drawn.ensures.has_rows c.next_stroke.new.self.spans (λ n. in_stroke lines n c.loop-y.y) x c.loop-y.y row low high (record { from_first = omega (arith, low, above, top); to_last = omega (arith, high, last, bottom) }) column)
           inv.painted (rw (c.spans.ensures, c.cut_boxes.ensures) at c.put_spans.ensures.pixels);
     }
 
@@ -71,7 +73,19 @@ returns-clause-pixels g c =
     let lies = λ (x y : ℕ). between_rows (shape x y) c.args.bounds.t c.args.bounds.b y (c.row_law.ensures.stroke lines c.args.bounds.t c.args.bounds.b x y c.requires.bounds) in
     behind_last paint shape c.writing_law.ensures canvas c.visible-region.ensures.whole c.loop-y.canvas c.loop-y.y
     (λ x y held h.
-    let last = (seen_in_rows paint shape canvas c.requires.first c.visible-region.result c.visible-region.ensures.kept c.rows_between-drawn.result _ _ c.rows_between-drawn.ensures.has_rows lies x y held h).1 in
+    let last = (seen_in_rows paint shape canvas c.visible-region.result c.visible-region.ensures.kept c.rows_between-drawn.result _ _ c.rows_between-drawn.ensures.has_rows lies x y held h).1 in
     let end = c.loop-y-test.false in
     omega (arith, last, end))
     c.loop-y.invariant.painted
+
+pub put_spans-requires-clause-row : goal.put_spans-requires-clause-row
+put_spans-requires-clause-row g c =
+    let low = c.loop-y.auto.y in
+    let high = c.loop-y-test.true in
+    let top = c.visible-region.ensures.top in
+    let above = c.rows_between-drawn.ensures.top in
+    let last = c.rows_between-drawn.ensures.bottom in
+    let bottom = c.visible-region.ensures.bottom in
+    let first = c.loop-y.invariant.painted.painted.first in
+    let rows = c.loop-y.invariant.painted.painted.rows in
+    record { from_first = omega (arith, low, above, top, first); to_last = omega (arith, high, last, bottom, first, rows) }

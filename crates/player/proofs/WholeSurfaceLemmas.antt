@@ -1,0 +1,29 @@
+-- Records that are played on a whole surface from their start on.
+use Rattle.std.proofs.Common.{◌≡◌, ℕ, ◌+◌, List, refl, subst}
+use Rattle.draw_ops.specs.Content.{Content}
+use Rattle.mapping.specs.Surface.{Surface}
+use Rattle.canvas.specs.CanvasState.{CanvasState, image_of}
+use Rattle.meta_headers.specs.Headers.{OpenedValue}
+use Rattle.meta_headers.specs.Opening.{surface_for}
+use Rattle.dc_stack.specs.MachineState.{MachineState}
+use Rattle.dc_stack.specs.State.{State, start_of}
+use Rattle.preflight_cert.specs.Drawings.{drawings_of}
+use Rattle.preflight_cert.specs.Writes.{writes_after, writes_of_drawings}
+use Rattle.player.specs.Plays.{PlaysContent, PlaysOpened, PlaysRecords}
+
+-- a canvas whose first row is 0, and that has all rows of its surface, counts the writes of the whole surface
+whole_count : (content : Content) (state : State) (s : Surface) (old new : CanvasState) → old.first ≡ 0 → s.height ≡ old.rows → new.writes ≡ old.writes + writes_of_drawings (drawings_of content.steps state) s old.first old.rows → new.writes ≡ old.writes + writes_after (drawings_of content.steps state) s
+whole_count content state s old new first height count =
+    let top : new.writes ≡ old.writes + writes_of_drawings (drawings_of content.steps state) s 0 old.rows = subst (λ (n : ℕ). new.writes ≡ old.writes + writes_of_drawings (drawings_of content.steps state) s n old.rows) first count in
+    rw height top
+
+pub whole_played : (o : OpenedValue) (records : List ℕ) (start end : MachineState) (old new : CanvasState) → old.first ≡ 0 → start.state ≡ start_of o → start.surface ≡ surface_for o old.width old.rows → PlaysRecords o.format records start end old new → PlaysOpened o records old new
+whole_played o records start end old new first state surface played =
+    let plays : PlaysContent played.content start end old new = played.plays in
+    record {
+      content = played.content;
+      of_records = played.of_records;
+      unstopped = rw (state, surface) at plays.runs.unstopped;
+      image = rw (state, surface) at plays.image;
+      writes = whole_count played.content (start_of o) (surface_for o old.width old.rows) old new first refl (rw (state, surface) at plays.writes);
+    }
