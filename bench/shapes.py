@@ -1,15 +1,24 @@
-"""Files of many shapes, at 1,024 and at 4,096 pixels a side, beside an empty picture of that size. Their goals are for a
-quiet machine of 2.5 GHz."""
+"""Files of many shapes, at 1,024 and at 4,096 pixels a side, beside an empty picture of that size; on maps that scale, as files of EMF
+mostly have them, beside the same places on one that doesn't; and lines by lists of two points beside those by moves. Their goals are for
+a quiet machine of 2.5 GHz."""
 
 import random
+from collections.abc import Callable
+from typing import NamedTuple
 
 from timing import Row, least_seconds
-from writers import WMF
+from writers import EMF, WMF, Form
 
 SIDES = 1024, 4096
 
 # The side of the frame.
 FRAME = 4096
+
+# How many units of the page a map that scales has on the frame.
+PAGE = 20_000
+
+# How many indexes a file of EMF has for objects.
+HANDLES = 64
 
 TRANSPARENT, OPAQUE = 1, 2
 ALTERNATE, WINDING = 1, 2
@@ -21,32 +30,59 @@ def place_in(chance, left, top, side):
     return left + chance.randrange(side), top + chance.randrange(side)
 
 
-def pens_and_brushes(chance, *names):
+def pens_and_brushes(chance, *names, form=WMF):
     """Sixteen objects of each of these kinds, by turns, in any colours."""
     for number in range(16):
         for at, name in enumerate(names):
-            yield WMF.step(name, number * len(names) + at, chance.getrandbits(24))
+            yield form.step(name, number * len(names) + at, chance.getrandbits(24))
 
 
-def small_polygons():
+def map_of(form, page):
+    """Records by which the page has so many units on each side of the frame."""
+    return form.records(f"map_mode 8; window_extent {page} {page}; viewport_extent {FRAME} {FRAME}")
+
+
+def on_page(places, page):
+    """The numbers of places of the frame on a page of so many units."""
+    return [number * page // FRAME for place in places for number in place]
+
+
+def small_polygons(form=WMF, page=FRAME):
     """10,000 polygons, filled and stroked, each within an eighth of the frame's sides, by turns with each tool."""
     chance, side = random.Random(1), FRAME // 8
-    yield from pens_and_brushes(chance, "solid_pen", "solid_brush")
+    yield from pens_and_brushes(chance, "solid_pen", "solid_brush", form=form)
     for number in range(10_000):
-        yield WMF.step("select", number % 16 * 2) + WMF.step("select", number % 16 * 2 + 1)
+        yield form.step("select", number % 16 * 2) + form.step("select", number % 16 * 2 + 1)
         corner = place_in(chance, 0, 0, FRAME - side)
         places = [place_in(chance, *corner, side) for _ in range(chance.randrange(3, 9))]
-        yield WMF.step("polygon", *sum(places, ()))
+        yield form.step("polygon", *on_page(places, page))
 
 
-def any_lines():
-    """50,000 lines of any slope between any two places, by turns with each of sixteen pens."""
+def near_places(chance, count):
+    """Places of the frame, each of them at most a unit from the last on each axis."""
+    place = place_in(chance, 0, 0, FRAME)
+    for _ in range(count):
+        yield place
+        place = tuple(min(max(number + chance.randrange(-1, 2), 0), FRAME - 1) for number in place)
+
+
+def polylines(form, page):
+    """10,000 lists of 100 points, each near to the last: where points land is much of the work."""
+    chance = random.Random(6)
+    yield from form.records("solid_pen 0 0x8040; select 0")
+    for _ in range(10_000):
+        yield form.step("polyline", *on_page(near_places(chance, 100), page))
+
+
+def any_lines(as_lists=False):
+    """50,000 lines of any slope between any two places, by turns with each of sixteen pens, by moves or as lists of two points."""
     chance = random.Random(2)
     yield from pens_and_brushes(chance, "solid_pen")
     for number in range(50_000):
         if number % 64 == 0:
             yield WMF.step("select", number // 64 % 16)
-        yield WMF.step("move", *place_in(chance, 0, 0, FRAME)) + WMF.step("line", *place_in(chance, 0, 0, FRAME))
+        start, end = place_in(chance, 0, 0, FRAME), place_in(chance, 0, 0, FRAME)
+        yield WMF.step("polyline", *start, *end) if as_lists else WMF.step("move", *start) + WMF.step("line", *end)
 
 
 def any_rectangle(chance):
@@ -93,23 +129,48 @@ def large_polygon(mode):
     return [*filled(mode), WMF.step("polygon", *sum(corners(FRAME), ()))]
 
 
-# Each with its goals at the two sides, if it has any.
+EMPTY, LINES = "an empty picture", "50,000 lines of any slope"
+
+
+class Work(NamedTuple):
+    """What the records of a file draw, its format, what it stands beside, and its goals at the two sides, if it has any."""
+
+    records: Callable
+    goals: tuple = (None, None)
+    form: Form = WMF
+    beside: str = EMPTY
+
+
+def mapped_work(form):
+    """Shapes of a format on a map that scales, beside the same places on one that doesn't."""
+    for what, records in (("10,000 polylines of 100 points", polylines), ("10,000 polygons", small_polygons)):
+        plain = f"{form.name}: {what}, one to one"
+        for name, page, beside in ((plain, FRAME, EMPTY), (f"{form.name}: {what}, on a map that scales", PAGE, plain)):
+            made = lambda records=records, page=page: [*map_of(form, page), *records(form, page)]  # noqa: E731
+            yield name, Work(made, form=form, beside=beside)
+
+
 WORK = {
-    "10,000 polygons of 3 to 8 corners": (small_polygons, (0.35, 1.4)),
-    "50,000 lines of any slope": (any_lines, (0.15, 2.0)),
-    "2,000 hatched rectangles": (hatched_rectangles, (0.04, 0.5)),
-    "a polygon of 4,000 edges, ALTERNATE": (lambda: large_polygon(ALTERNATE), (0.03, 0.15)),
-    "a polygon of 4,000 edges, WINDING": (lambda: large_polygon(WINDING), (0.03, 0.15)),
-    "2,000 rectangles under R2_XORPEN": (mixed_rectangles, (None, None)),
+    "10,000 polygons of 3 to 8 corners": Work(small_polygons, (0.35, 1.4)),
+    LINES: Work(any_lines, (0.15, 2.0)),
+    "50,000 lines as lists of two points": Work(lambda: any_lines(as_lists=True), beside=LINES),
+    "2,000 hatched rectangles": Work(hatched_rectangles, (0.04, 0.5)),
+    "a polygon of 4,000 edges, ALTERNATE": Work(lambda: large_polygon(ALTERNATE), (0.03, 0.15)),
+    "a polygon of 4,000 edges, WINDING": Work(lambda: large_polygon(WINDING), (0.03, 0.15)),
+    "2,000 rectangles under R2_XORPEN": Work(mixed_rectangles),
+    **dict(mapped_work(WMF)),
+    **dict(mapped_work(EMF)),
 }
 
 
 def rows(bench):
     """All of them."""
-    makers = {"empty": list} | {name: make for name, (make, _) in WORK.items()}
-    paths = {name: bench.write(lambda make=make: [WMF.file(list(make()), FRAME, 0)]) for name, make in makers.items()}
+    paths = {
+        name: bench.write(lambda work=work: [work.form.file(list(work.records()), FRAME, HANDLES)])
+        for name, work in {EMPTY: Work(list), **WORK}.items()
+    }
     taken = least_seconds({(name, side): bench.show(path, side) for name, path in paths.items() for side in SIDES})
-    for name, (_, goals) in WORK.items():
-        for side, goal in zip(SIDES, goals):
-            empty = taken["empty", side]
-            yield Row(f"{name}, {side:,} a side", "s", taken[name, side], empty, "an empty picture", goal)
+    for name, work in WORK.items():
+        for side, goal in zip(SIDES, work.goals):
+            beside = taken[work.beside, side]
+            yield Row(f"{name}, {side:,} a side", "s", taken[name, side], beside, work.beside, goal)

@@ -11,7 +11,7 @@ sys.path.insert(0, str(ROOT / "tests"))
 
 from metafile.bitmaps import Bitmap, header  # noqa: E402
 from metafile.blits import MASKED, PATCOPY, PATINVERT, SRCCOPY  # noqa: E402
-from metafile.scripts import EMF, WMF  # noqa: E402
+from metafile.scripts import EMF, WMF, Form  # noqa: E402
 from metafile.shapes import BETWEEN  # noqa: E402
 
-__all__ = ["BETWEEN", "EMF", "MASKED", "PATCOPY", "PATINVERT", "PROGRAM", "ROOT", "SRCCOPY", "WMF", "Bitmap", "header"]
+__all__ = ["BETWEEN", "EMF", "MASKED", "PATCOPY", "PATINVERT", "PROGRAM", "ROOT", "SRCCOPY", "WMF", "Bitmap", "Form", "header"]

@@ -1,0 +1,69 @@
+"""docs/FAULTS.md has each row of the table of faults once, under whose fault it is, and no other."""
+
+import re
+import unittest
+
+from built import ROOT
+
+PAGE = (ROOT / "docs" / "FAULTS.md").read_text(encoding="utf-8")
+
+# A row of the table of faults: the name twice, its code, and whether it lies in a record.
+DEFINED = re.compile(r'(?m)^fault_row (?:\((\w+) kind\)|(\w+)) = row (\d+) \(codes "(\w+)"\) (true|false)$')
+
+ROW = re.compile(r"(?m)^\| (\d+) \| `(\w+)` \|")
+
+# Whose fault each code is, by the headings of the page.
+WHOSE = {
+    "The file: how it begins": range(1, 6),
+    "The file: where a record ends": range(10, 14),
+    "The file: what a record says": range(14, 20),
+    "The file: a bitmap in a record": range(20, 23),
+    "The file: objects, saved states and the clip": range(23, 31),
+    "The file: what a record draws": range(31, 38),
+    "The certificate": [*range(6, 10), *range(38, 42)],
+    "The size": [42],
+    "The image": [43],
+    "The machine": [44, 45],
+}
+
+
+def defined():
+    """The rows of the table of faults: the code of each name, and whether it lies in a record."""
+    text = (ROOT / "crates" / "draw_ops" / "specs" / "FaultTable.antt").read_text(encoding="utf-8")
+    return {name: (int(code), lies == "true") for _, _, code, name, lies in DEFINED.findall(text)}
+
+
+def sections():
+    """The rows of the page by their headings."""
+    parts = re.split(r"(?m)^## (.*)$", PAGE)
+    return {heading: ROW.findall(text) for heading, text in zip(parts[1::2], parts[2::2], strict=True)}
+
+
+class Faults(unittest.TestCase):
+    """The page beside the table."""
+
+    def test_each_fault_has_one_row_with_its_code(self):
+        rows = [(name, int(code)) for code, name in ROW.findall(PAGE)]
+        self.assertEqual(sorted(rows), sorted((name, code) for name, (code, _) in defined().items()))
+        self.assertEqual(len(rows), 45)
+
+    def test_each_name_stands_once_between_backticks(self):
+        quoted = re.findall(r"`(\w+)`", PAGE)
+        self.assertEqual([name for name in defined() if quoted.count(name) != 1], [])
+
+    def test_each_row_stands_under_whose_fault_it_is(self):
+        told = {heading: [int(code) for code, _ in rows] for heading, rows in sections().items()}
+        self.assertEqual(told, {heading: list(codes) for heading, codes in WHOSE.items()})
+
+    def test_the_faults_that_lie_in_a_record_are_those_that_the_page_says(self):
+        codes = sorted(code for code, lies in defined().values() if lies)
+        self.assertEqual(codes, list(range(10, 40)))
+        self.assertIn(f"for the faults {codes[0]} to {codes[-1]}, the record", PAGE)
+
+    def test_each_row_has_every_column(self):
+        rows = [line for line in PAGE.splitlines() if ROW.match(line)]
+        self.assertEqual([line for line in rows if not re.fullmatch(r"\|(?: [^|]+ \|){5}", line)], [])
+
+
+if __name__ == "__main__":
+    unittest.main()

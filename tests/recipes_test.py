@@ -1,0 +1,171 @@
+"""The recipes of docs/recipes/, each where the program that it is for is on the machine and the built program has the command that it calls."""
+
+import json
+import os
+import pathlib
+import shutil
+import struct
+import subprocess
+import tempfile
+import unittest
+import zlib
+
+from built import DOT, DOT_IMAGE, PROGRAMS, ROOT, SAMPLES
+
+RECIPES = ROOT / "docs" / "recipes"
+
+HELD = SAMPLES / "held.wmf"
+
+HELD_LINE = b"metaplay: HeldObject at record 5\n"
+
+
+def has_command(name):
+    """Whether the built program has a command."""
+    ended = subprocess.run([PROGRAMS[0], name, "--help"], stdin=subprocess.DEVNULL, capture_output=True, text=True)
+    return f" {name} " in ended.stdout
+
+
+def image_magick():
+    """ImageMagick's command, if it is on the machine. Another program may go by its name."""
+    for name in ("magick", "convert"):
+        path = shutil.which(name)
+        if path and subprocess.run([path, "--version"], capture_output=True).stdout.startswith(b"Version: ImageMagick"):
+            return path
+    return None
+
+
+def needs(*names):
+    """A test that is tried where these programs are on the machine."""
+    missing = [name for name in names if not shutil.which(name)]
+    return unittest.skipIf(missing, f"not on this machine: {', '.join(missing)}")
+
+
+def png_pixels(data):
+    """The sides and the pixels of a PNG, of red, green and blue or of colours from a palette, in rows that are stored as they are or by the row above."""
+    parts, at = {}, 8
+    while at < len(data):
+        length, kind = struct.unpack_from(">I4s", data, at)
+        parts[kind] = parts.get(kind, b"") + data[at + 8 : at + 8 + length]
+        at += 12 + length
+    width, height, depth, colours = struct.unpack_from(">IIBB", parts[b"IHDR"])
+    bits = depth * (3 if colours == 2 else 1)
+    stored, size, above, pixels = zlib.decompress(parts[b"IDAT"]), (width * bits + 7) // 8, b"", []
+    for y in range(height):
+        way, row = stored[y * (size + 1)], stored[y * (size + 1) + 1 :][:size]
+        row = row if way == 0 else undone(way, row, above or bytes(size), max(bits // 8, 1))
+        above = row
+        if colours == 2:
+            pixels += [row[3 * x : 3 * x + 3] for x in range(width)]
+        else:
+            places = "".join(f"{byte:08b}" for byte in row)
+            pixels += [parts[b"PLTE"][3 * int(places[x * bits : (x + 1) * bits], 2) :][:3] for x in range(width)]
+    return width, height, b"".join(pixels)
+
+
+def undone(way, row, above, step):
+    """A row of a PNG without its filter: what was taken away of the byte before, of the one above, or of both."""
+    made = bytearray()
+    for place, byte in enumerate(row):
+        left, up = made[place - step] if place >= step else 0, above[place]
+        corner = above[place - step] if place >= step else 0
+        nearest = min((left, up, corner), key=lambda one: abs(left + up - corner - one))
+        made.append((byte + (0, left, up, (left + up) // 2, nearest)[way]) % 256)
+    return bytes(made)
+
+
+class Recipes(unittest.TestCase):
+    """Each recipe on a file that is shown and on one that is refused."""
+
+    def setUp(self):
+        """A folder with the program by its name, and files."""
+        folder = tempfile.TemporaryDirectory()
+        self.addCleanup(folder.cleanup)
+        self.folder = pathlib.Path(folder.name)
+        (self.folder / "metaplay").symlink_to(PROGRAMS[0])
+        (self.folder / "dot.wmf").write_bytes(DOT)
+        (self.folder / "held file.wmf").write_bytes(HELD.read_bytes())
+        self.settings = {**os.environ, "PATH": f"{self.folder}:{os.environ['PATH']}"}
+        self.settings.pop("METAPLAY", None)
+
+    def run_words(self, *words, given=b"", **settings):
+        """What a command answers in that folder."""
+        ended = subprocess.run(words, input=given, capture_output=True, cwd=self.folder, env=self.settings | settings, timeout=120)
+        return ended.returncode, ended.stdout, ended.stderr
+
+    @needs("pnmtopng")
+    def test_to_png(self):
+        status, out, err = self.run_words(RECIPES / "to-png", "dot.wmf", "4", "4")
+        self.assertEqual((status, out[:8]), (0, b"\x89PNG\r\n\x1a\n"), err)
+        self.assertEqual(png_pixels(out), (4, 4, DOT_IMAGE[-48:]))
+        self.assertEqual(self.run_words(RECIPES / "to-png", "held file.wmf", "4", "4"), (1, b"", HELD_LINE))
+
+    @unittest.skipUnless(image_magick(), "ImageMagick is not on this machine")
+    def test_the_delegate_of_image_magick(self):
+        settings = {"MAGICK_CONFIGURE_PATH": str(RECIPES)}
+        status, out, err = self.run_words(image_magick(), "metaplay:dot.wmf", "ppm:-", **settings)
+        # The pixel (2,1) of 4 by 4 is the one at (512,256) of 1,024 by 1,024.
+        place = 3 * (256 * 1024 + 512)
+        rows = b"\xff" * (place + 1) + b"\0\0" + b"\xff" * (3 * 1024 * 1024 - place - 3)
+        self.assertEqual((status, out == b"P6\n1024 1024\n255\n" + rows), (0, True), err)
+        status, out, err = self.run_words(image_magick(), "metaplay:held file.wmf", "ppm:-", **settings)
+        self.assertNotEqual(status, 0)
+        self.assertEqual(out, b"")
+        self.assertIn(HELD_LINE, err)
+
+    def test_the_filter_of_cups(self):
+        job = [RECIPES / "metaplaytopnm", "7", "somebody", "a title", "1", ""]
+        self.assertEqual(self.run_words(*job, "dot.wmf", METAPLAY_SIDE="4"), (0, DOT_IMAGE, b""))
+        self.assertEqual(self.run_words(*job, given=DOT, METAPLAY_SIDE="4"), (0, DOT_IMAGE, b""))
+        self.assertEqual(self.run_words(*job, "held file.wmf"), (1, b"", b"ERROR: " + HELD_LINE))
+        status, out, _ = self.run_words(*job, "dot.wmf")
+        self.assertEqual((status, out[:17]), (0, b"P6\n2400 2400\n255\n"))
+
+    @needs("jq", "xargs", "find")
+    def test_a_folder_side_by_side(self):
+        if not (has_command("prepare") and has_command("check")):
+            self.skipTest("the program has no commands for certificates")
+        line = f"find . -name '*.[we]mf' -print0 | xargs -0 -r -n 1 -P 4 {RECIPES / 'check-file'} 64 64"
+        for _ in range(2):
+            # The second time the certificate of the file that is accepted is there.
+            status, out, err = self.run_words("sh", "-c", line)
+            told = {report["file"]: report for report in map(json.loads, out.splitlines())}
+            self.assertEqual((status, sorted(told)), (123, ["./dot.wmf", "./held file.wmf"]), err)
+            self.assertEqual([told[name]["accepted"] for name in sorted(told)], [True, False])
+            self.assertEqual(told["./held file.wmf"]["said"], HELD_LINE.decode()[10:-1])
+            self.assertTrue((self.folder / "dot.wmf.mpc").exists())
+        # A certificate of another file is refused by the report.
+        shutil.copy(self.folder / "dot.wmf.mpc", self.folder / "held file.wmf.mpc")
+        (self.folder / "held file.wmf").write_bytes((SAMPLES / "lines.wmf").read_bytes())
+        status, out, _ = self.run_words(RECIPES / "check-file", "64", "64", "held file.wmf")
+        report = json.loads(out)
+        self.assertEqual((status, report["accepted"], report["file"]), (1, False, "held file.wmf"))
+        self.assertIn("fault", report)
+
+    @needs("git", "xargs")
+    def test_a_hook_of_git(self):
+        if not has_command("prepare"):
+            self.skipTest("the program has no commands for certificates")
+        git = ["git", "-c", "user.name=a", "-c", "user.email=a@b", "-c", "init.defaultBranch=main"]
+        self.assertEqual(self.run_words(*git, "init", "-q")[0], 0)
+        (self.folder / ".git" / "hooks" / "pre-commit").symlink_to(RECIPES / "pre-commit")
+        self.run_words(*git, "add", "dot.wmf")
+        status, _, err = self.run_words(*git, "commit", "-q", "-m", "one")
+        self.assertEqual(status, 0, err)
+        self.run_words(*git, "add", "held file.wmf")
+        status, _, err = self.run_words(*git, "commit", "-q", "-m", "two")
+        self.assertEqual((status != 0, HELD_LINE in err, b"pre-commit: refused: held file.wmf\n" in err), (True, True, True), err)
+        self.assertEqual(self.run_words(RECIPES / "pre-commit", "dot.wmf")[0], 0)
+        self.assertEqual(self.run_words(RECIPES / "pre-commit", "dot.wmf", "held file.wmf", "dot.wmf")[0], 1)
+
+
+class Page(unittest.TestCase):
+    """The page of recipes."""
+
+    def test_each_script_is_on_the_page_and_is_there(self):
+        page = (ROOT / "docs" / "RECIPES.md").read_text(encoding="utf-8")
+        named = {word.rpartition("/")[2] for word in page.replace("`", " ").split() if "docs/recipes/" in word} - {"", "recipes"}
+        self.assertEqual(named, {path.name for path in RECIPES.iterdir()})
+
+
+if __name__ == "__main__":
+    unittest.main()
