@@ -12,30 +12,30 @@ use Rattle.draw_ops.specs.declared.note.Note.TheVariants.{PlaceableChecksum, Pla
 use Rattle.draw_ops.specs.declared.record_fault.RecordFault.TheVariants.{NoEnd, ShortRecord, PastEnd, TooManyRecords, UnknownRecord, Unsupported, BadParams, BadValue, PaletteColour, MetricMode, BadDib, CompressedDib, ShortDib, TableFull, HandleTaken, NoSuchHandle, WrongKind, HeldObject, NoSavedState, DepthLimit, TooManyCuts, ZeroExtent, OffPlane, SourceMissing, SourceOutside, PathState, TooManyEdges, TooManyPieces, WrongEntry, BoxTooSmall}
 
 -- the same codes of a name
-same_name : List ℕ → List ℕ → Bool
+abbrev same_name : List ℕ → List ℕ → Bool
 same_name [] [] = true
 same_name [] (c ∷ cs) = false
 same_name (c ∷ cs) [] = false
 same_name (c ∷ cs) (d ∷ ds) = c == d && same_name cs ds
 
 -- the faults in the order of their codes, those that speak of a kind of record with this one
-faults : ℕ → List Fault
+abbrev faults : ℕ → List Fault
 faults kind = TooLong ∷ NotMetafile ∷ ShortHeader ∷ BadHeader ∷ NoFrame ∷ NotCertificate ∷ ShortCertificate ∷ BadBound ∷ TrailingBytes ∷ (Record NoEnd) ∷ (Record ShortRecord) ∷ (Record PastEnd) ∷ (Record TooManyRecords) ∷ (Record (UnknownRecord kind)) ∷ (Record (Unsupported kind)) ∷ (Record BadParams) ∷ (Record BadValue) ∷ (Record PaletteColour) ∷ (Record MetricMode) ∷ (Record BadDib) ∷ (Record CompressedDib) ∷ (Record ShortDib) ∷ (Record TableFull) ∷ (Record HandleTaken) ∷ (Record NoSuchHandle) ∷ (Record WrongKind) ∷ (Record HeldObject) ∷ (Record NoSavedState) ∷ (Record DepthLimit) ∷ (Record TooManyCuts) ∷ (Record ZeroExtent) ∷ (Record OffPlane) ∷ (Record SourceMissing) ∷ (Record SourceOutside) ∷ (Record PathState) ∷ (Record TooManyEdges) ∷ (Record TooManyPieces) ∷ (Record WrongEntry) ∷ (Record BoxTooSmall) ∷ NeedTooSmall ∷ BudgetTooSmall ∷ SurfaceTooLarge ∷ BadImage ∷ WriteFault ∷ OutOfMemory ∷ []
 
 -- the place of a fault in a list, or 0
-nth : {A : Type 0} → A → List A → ℕ → A
+abbrev nth : {A : Type 0} → A → List A → ℕ → A
 nth first [] n = first
 nth first (a ∷ rest) zero = a
 nth first (a ∷ rest) (suc n) = nth first rest n
 
-kind_or_0 : Option ℕ → ℕ
+abbrev kind_or_0 : Option ℕ → ℕ
 kind_or_0 None = 0
 kind_or_0 (Some kind) = kind
 
-fault_at : ℕ → Option ℕ → Fault
+abbrev fault_at : ℕ → Option ℕ → Fault
 fault_at code kind = nth TooLong (faults (kind_or_0 kind)) (code - 1)
 
-code_named : ℕ → List Fault → List ℕ → ℕ
+abbrev code_named : ℕ → List Fault → List ℕ → ℕ
 code_named code [] name = 0
 code_named code (fault ∷ rest) name = cond (same_name name (fault_row fault).name) code (code_named (suc code) rest name)
 
@@ -100,8 +100,8 @@ tested : (first last n : ℕ) → IsFromTo first last n → nat_le first n && na
 tested first last n h = and_from (nat_le first n) (nat_le n last) (le-leb _ _ h.low) (le-leb _ _ h.high)
 
 -- faults whose codes count up
-CountUp : ℕ → List Fault → Type 0
-CountUp code [] = ⊤
+abbrev CountUp : ℕ → List Fault → Type 0
+CountUp code [] = Unit
 CountUp code (fault ∷ rest) = ((fault_row fault).code ≡ code) × CountUp (suc code) rest
 
 has_code : (rest : List Fault) (n code : ℕ) → CountUp code rest → code ≤ n → n < code + length rest → IsCode n
@@ -112,7 +112,7 @@ has_code (fault ∷ rest) n code up a b = elim (cases_eq n code) [
 ]
 
 all_count_up : CountUp 1 (faults 0)
-all_count_up = (refl, refl, refl, refl, refl, refl, refl, refl, refl, refl, refl, refl, refl, refl, refl, refl, refl, refl, refl, refl, refl, refl, refl, refl, refl, refl, refl, refl, refl, refl, refl, refl, refl, refl, refl, refl, refl, refl, refl, refl, refl, refl, refl, refl, refl, tt)
+all_count_up = (refl, (refl, (refl, (refl, (refl, (refl, (refl, (refl, (refl, (refl, (refl, (refl, (refl, (refl, (refl, (refl, (refl, (refl, (refl, (refl, (refl, (refl, (refl, (refl, (refl, (refl, (refl, (refl, (refl, (refl, (refl, (refl, (refl, (refl, (refl, (refl, (refl, (refl, (refl, (refl, (refl, (refl, (refl, (refl, (refl, tt)))))))))))))))))))))))))))))))))))))))))))))
 
 same_fault : (fault other : Fault) → (fault_row fault).code ≡ (fault_row other).code → record_kind_of fault ≡ record_kind_of other → fault ≡ other
 same_fault fault other code kind =
@@ -128,10 +128,10 @@ fault_table = record {
 }
 
 -- the kinds of notes in the order of their indexes
-notes : List Note
+abbrev notes : List Note
 notes = PlaceableChecksum ∷ PlaceableFields ∷ SizeField ∷ AfterEnd ∷ DashedPen ∷ WidePen ∷ Isotropic ∷ EmfPlus ∷ Skipped ∷ []
 
-index_named : ℕ → List Note → List ℕ → ℕ
+abbrev index_named : ℕ → List Note → List ℕ → ℕ
 index_named index [] name = 0
 index_named index (note ∷ rest) name = cond (same_name name (note_row_of note).name) index (index_named (suc index) rest name)
 
@@ -151,8 +151,8 @@ note_facts Isotropic = record { at = refl; named = refl; within = refl }
 note_facts EmfPlus = record { at = refl; named = refl; within = refl }
 note_facts Skipped = record { at = refl; named = refl; within = refl }
 
-NotesCountUp : ℕ → List Note → Type 0
-NotesCountUp index [] = ⊤
+abbrev NotesCountUp : ℕ → List Note → Type 0
+NotesCountUp index [] = Unit
 NotesCountUp index (note ∷ rest) = ((note_row_of note).index ≡ index) × NotesCountUp (suc index) rest
 
 has_index : (rest : List Note) (n index : ℕ) → NotesCountUp index rest → index ≤ n → n < index + length rest → IsIndex n
@@ -163,7 +163,7 @@ has_index (note ∷ rest) n index up a b = elim (cases_eq n index) [
 ]
 
 notes_count_up : NotesCountUp 0 notes
-notes_count_up = (refl, refl, refl, refl, refl, refl, refl, refl, refl, tt)
+notes_count_up = (refl, (refl, (refl, (refl, (refl, (refl, (refl, (refl, (refl, tt)))))))))
 
 same_note : (note other : Note) → (note_row_of note).index ≡ (note_row_of other).index → note ≡ other
 same_note note other index = sym (note_facts note).at ∙ ap (nth PlaceableChecksum notes) index ∙ (note_facts other).at

@@ -45,6 +45,7 @@ impl<'a, F: Format> Model for RecordOps<'a, F> {
 
     ghost Value = { Content };
 
+    ghost use Rattle.std.specs.Prelude.{◌≤◌};
     ghost use Rattle.draw_ops.specs.Reading.{content_left};
     ghost use Rattle.draw_ops.specs.Records.{record_limit};
 

@@ -27,20 +27,22 @@ pub overflow_add-self : goal.overflow_add-self
 unfolding record_limit
 overflow_add-self g c = search rules
 
-pub returns-in-Err-clause-gives : goal.returns-in-Err-clause-gives
-returns-in-Err-clause-gives g c =
+pub returns-in-Err : goal.returns-in-Err
+returns-in-Err g c =
     let e : c.args.self.now ≡ broken_by c.in-Err.fault =
-    left_by g.F.Format.framing g.F.Format.meaning _ _ _ _ _ c.in-Records.is c.self.invariant c.self.view_is (rw c.in-Err.is at c.step.ensures.value) in record { is = e; stays = sym e }
+    left_by g.F.Format.framing g.F.Format.meaning _ _ _ _ _ c.in-Records.is c.self.invariant c.self.view_is (rw c.in-Err.is at c.step.ensures.value) in record { gives = record { is = e; stays = sym e } }
 
-pub returns-then-kind-end_kind-clause-gives : goal.returns-then-kind-end_kind-clause-gives
-returns-then-kind-end_kind-clause-gives g c =
+pub returns-then-kind-end_kind : goal.returns-then-kind-end_kind
+returns-then-kind-end_kind g c =
     let e = left_by g.F.Format.framing g.F.Format.meaning _ _ _ _ _ c.in-Records.is c.self.invariant c.self.view_is (rw c.in-Ok.is at c.step.ensures.value) in
     let last = eq-eqb _ _ (sym c.kind.ensures ∙ c.if-kind-end_kind.true ∙ c.end_kind.ensures) in
-    rw last at e
+    record { gives = rw last at e }
 
-pub returns-else-kind-end_kind-clause-gives : goal.returns-else-kind-end_kind-clause-gives
-returns-else-kind-end_kind-clause-gives g c =
+pub returns-else-kind-end_kind : goal.returns-else-kind-end_kind
+returns-else-kind-end_kind g c =
     let e = left_by g.F.Format.framing g.F.Format.meaning _ _ _ _ _ c.in-Records.is c.self.invariant c.self.view_is (rw c.in-Ok.is at c.step.ensures.value) in
     let goes_on = ne_eqb _ _ (λ p. c.if-kind-end_kind.false (c.kind.ensures ∙ p ∙ sym c.end_kind.ensures)) in
-    rw goes_on at e
-    ∙ ap (with_step (step_value_of c.in-Ok.step)) (sym (left_behind g.F.Format.framing g.F.Format.meaning c.self.inside.reading c.self.inside.number c.size.result c.self.inside.rest.now c.in-Records.is c.size.ensures))
+    record {
+      gives = rw goes_on at e
+          ∙ ap (with_step (step_value_of c.in-Ok.step)) (sym (left_behind g.F.Format.framing g.F.Format.meaning c.self.inside.reading c.self.inside.number c.size.result c.self.inside.rest.now c.in-Records.is c.size.ensures));
+    }
