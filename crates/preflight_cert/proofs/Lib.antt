@@ -23,4 +23,5 @@ pub mod PreparationLemmas
 pub mod GatheredLemmas
 pub mod PreparedLemmas
 pub mod WorkedChecks
+pub mod LaidRowsLemmas
 pub mod RowsLemmas
