@@ -13,7 +13,7 @@ pub record CanvasState : Type 0 where
 
 -- the image of the rows held
 abbrev pub image_of : CanvasState → Image
-image_of canvas = record { width = canvas.width; first = canvas.first; rows = canvas.rows; colours = canvas.colours }
+image_of canvas = record { width = canvas.width; height = canvas.rows; colours = canvas.colours }
 
 -- the canvas holds the surface's pixel (x, y)
 pub record HasPixel (canvas : CanvasState) (x y : ℕ) : Type 0 where

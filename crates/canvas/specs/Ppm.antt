@@ -19,7 +19,7 @@ raster colours = flat_map pixel_bytes colours
 
 -- the P6 text of an image: the header, and then the raster row by row
 abbrev pub ppm_text : Image → List ℕ
-ppm_text image = header image.width image.rows ++ raster image.colours
+ppm_text image = header image.width image.height ++ raster image.colours
 
 -- known bytes grow by a front of the text
 pub record AppendsFront (old new : Option (List ℕ)) (text : List ℕ) : Type 0 where

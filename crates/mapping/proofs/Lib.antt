@@ -13,4 +13,3 @@ pub mod CountLemmas
 pub mod CellLemmas
 pub mod MetLemmas
 pub mod FitLemmas
-pub mod LaidRowsLemmas

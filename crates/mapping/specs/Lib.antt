@@ -17,4 +17,3 @@ pub mod BoxLaws
 pub mod PixelBoxes
 pub mod Cells
 pub mod CellLaws
-pub mod LaidRowsLaws

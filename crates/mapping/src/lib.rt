@@ -23,7 +23,6 @@
 //!   least box around what the points are mapped to, by two of its corners, which tell whether all land (`box_law`).
 //! - A part of the plane meets at most so many columns, or rows, of a surface (`cells`), no fewer of a larger one, and a larger part
 //!   no fewer (`cell_law`).
-//! - Rows that are laid together are changed and counted each by itself (`laid_rows_law`).
 //! - A mix keeps, drops and flips the bits of a colour that it says, and no other (`Mix::apply`, by
 //!   `mixed_by`), and one of them makes a given colour of every colour (`Mix::copy`).
 //!
@@ -35,7 +34,6 @@ mod cell_count;
 mod divisor;
 mod floor;
 mod geometry;
-mod laid_rows;
 mod limits;
 mod map_error;
 mod map_mode;
@@ -47,7 +45,6 @@ mod place;
 pub use cell_count::{cell_law, cells};
 pub use floor::floor_division_law;
 pub use geometry::{Colour, Frame, Point, Rect};
-pub use laid_rows::laid_rows_law;
 pub use limits::{MAX_FRAME_SIDE, MAX_SURFACE_SIDE, limits_law};
 pub use map_error::{OffPlane, ZeroExtent};
 pub use map_mode::MapMode;

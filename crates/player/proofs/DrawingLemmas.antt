@@ -40,9 +40,9 @@ pub no_layer_drawn : (s : Surface) (canvas : CanvasState) → DrawsLayers [] s c
 no_layer_drawn s canvas = record { image = refl; writes = omega arith }
 
 -- layers behind others
-applied_in_turn : (first second : List Layer) (s : Surface) (image : Image) → apply_all (first ++ second) s image ≡ apply_all second s (apply_all first s image)
-applied_in_turn [] second s image = refl
-applied_in_turn (layer ∷ first) second s image = applied_in_turn first second s _
+applied_in_turn : (first second : List Layer) (s : Surface) (top : ℕ) (image : Image) → apply_all (first ++ second) s top image ≡ apply_all second s top (apply_all first s top image)
+applied_in_turn [] second s top image = refl
+applied_in_turn (layer ∷ first) second s top image = applied_in_turn first second s top _
 
 counted_in_turn : (first second : List Layer) (s : Surface) (top rows : ℕ) → writes_of_layers (first ++ second) s top rows ≡ writes_of_layers first s top rows + writes_of_layers second s top rows
 counted_in_turn [] second s top rows = omega arith
@@ -51,10 +51,11 @@ counted_in_turn (layer ∷ first) second s top rows = let rest = counted_in_turn
 pub drawn_in_turn : (first second : List Layer) (s : Surface) (old between new : CanvasState) → SameRows old between → DrawsLayers first s old between → DrawsLayers second s between new → DrawsLayers (first ++ second) s old new
 drawn_in_turn first second s old between new same a b =
     let a_writes = a.writes in
+    let b_image : image_of new ≡ apply_all second s old.first (image_of between) = rw same.first at b.image in
     let b_writes : new.writes ≡ between.writes + writes_of_layers second s old.first old.rows = rw (same.first, same.rows) at b.writes in
     let counted = counted_in_turn first second s old.first old.rows in
     record {
-      image = b.image ∙ ap (apply_all second s) a.image ∙ sym (applied_in_turn first second s (image_of old));
+      image = b_image ∙ ap (apply_all second s old.first) a.image ∙ sym (applied_in_turn first second s old.first (image_of old));
       writes = omega (arith, a_writes, b_writes, counted);
     }
 
@@ -73,7 +74,7 @@ module _ (laws : WritingLaws) (s : Surface) (old new : CanvasState) (there : IsW
   layer_drawn layer r =
       let writes = r.writes in
       let counted : count_pixels (writes_pixel layer s) old.width old.first old.rows ≡ count_pixels (writes_pixel layer s) s.width old.first old.rows = ap (λ (w : ℕ). count_pixels (writes_pixel layer s) w old.first old.rows) held.width in
-      record { image = rw (r.width, r.first, r.rows, r.colours) refl; writes = omega (arith, writes, counted) }
+      record { image = rw (r.width, r.rows, r.colours) refl; writes = omega (arith, writes, counted) }
 
   module _ (paint : Brushing) (tools : Tools) (modes : paint.modes ≡ tools.modes) (operation : paint.operation ≡ Binary tools.modes.raster_op) (clip : placed_value paint.clip.now ≡ placed_clip s tools.clip) where
     -- so does what a paint makes of a shape

@@ -7,6 +7,7 @@ use Rattle.meta_headers.specs.Headers.{OpenedValue}
 use Rattle.meta_headers.specs.Opening.{surface_for}
 use Rattle.dc_stack.specs.MachineState.{MachineState}
 use Rattle.dc_stack.specs.State.{State, start_of}
+use Rattle.preflight_cert.specs.Apply.{image_after, rows_after}
 use Rattle.preflight_cert.specs.Drawings.{drawings_of}
 use Rattle.preflight_cert.specs.Writes.{writes_after, writes_of_drawings}
 use Rattle.player.specs.Plays.{PlaysContent, PlaysOpened, PlaysRecords}
@@ -17,6 +18,9 @@ whole_count content state s old new first height count =
     let top : new.writes ≡ old.writes + writes_of_drawings (drawings_of content.steps state) s 0 old.rows = subst (λ (n : ℕ). new.writes ≡ old.writes + writes_of_drawings (drawings_of content.steps state) s n old.rows) first count in
     rw height top
 
+whole_image : (content : Content) (state : State) (s : Surface) (old new : CanvasState) → old.first ≡ 0 → image_of new ≡ rows_after (drawings_of content.steps state) s old.first (image_of old) → image_of new ≡ image_after (drawings_of content.steps state) s (image_of old)
+whole_image content state s old new first image = subst (λ (n : ℕ). image_of new ≡ rows_after (drawings_of content.steps state) s n (image_of old)) first image
+
 pub whole_played : (o : OpenedValue) (records : List ℕ) (start end : MachineState) (old new : CanvasState) → old.first ≡ 0 → start.state ≡ start_of o → start.surface ≡ surface_for o old.width old.rows → PlaysRecords o.format records start end old new → PlaysOpened o records old new
 whole_played o records start end old new first state surface played =
     let plays : PlaysContent played.content start end old new = played.plays in
@@ -24,6 +28,6 @@ whole_played o records start end old new first state surface played =
       content = played.content;
       of_records = played.of_records;
       unstopped = rw (state, surface) at plays.runs.unstopped;
-      image = rw (state, surface) at plays.image;
+      image = whole_image played.content (start_of o) (surface_for o old.width old.rows) old new first (rw (state, surface) at plays.image);
       writes = whole_count played.content (start_of o) (surface_for o old.width old.rows) old new first refl (rw (state, surface) at plays.writes);
     }

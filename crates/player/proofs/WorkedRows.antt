@@ -64,7 +64,7 @@ abbrev two_by_two : Surface
 two_by_two = record { width = 2; height = 2; frame_width = 4; frame_height = 4 }
 
 -- at 2 by 2 the pixel is in column 1 of row 0, and it is one write
-dot_at_2_by_2 : image_after (drawings_of (red_step ∷ []) start) two_by_two (blank 2 2 white_colour) ≡ record { width = 2; first = 0; rows = 2; colours = white_colour ∷ red ∷ white_colour ∷ white_colour ∷ [] }
+dot_at_2_by_2 : image_after (drawings_of (red_step ∷ []) start) two_by_two (blank 2 2 white_colour) ≡ record { width = 2; height = 2; colours = white_colour ∷ red ∷ white_colour ∷ white_colour ∷ [] }
 dot_at_2_by_2 = refl
 
 dot_writes_once : writes_after (drawings_of (red_step ∷ []) start) two_by_two ≡ 1

@@ -5,7 +5,7 @@ use Rattle.draw_ops.specs.Content.{Content}
 use Rattle.draw_ops.specs.declared.fault.Fault.TheVariants.{OutOfMemory, Record}
 use Rattle.canvas.specs.CanvasState.{CanvasState, image_of}
 use Rattle.preflight_cert.specs.After.{needs_after, state_after}
-use Rattle.preflight_cert.specs.Apply.{apply_all, image_after}
+use Rattle.preflight_cert.specs.Apply.{apply_all, image_after, rows_after}
 use Rattle.meta_headers.specs.Opening.{HasContentOf, opened, surface_for}
 use Rattle.meta_headers.specs.declared.opened.FileFormat.{FileFormat}
 use Rattle.meta_headers.specs.declared.opened.Opened.{Opened}
@@ -42,7 +42,7 @@ pub record SameRows (old new : CanvasState) : Type 0 where
 
 -- layers were drawn: on the image of the rows held, and their pixels there on the count
 pub record DrawsLayers (layers : List Layer) (s : Surface) (old new : CanvasState) : Type 0 where
-  pub image : image_of new ≡ apply_all layers s (image_of old)
+  pub image : image_of new ≡ apply_all layers s old.first (image_of old)
   pub writes : new.writes ≡ old.writes + writes_of_layers layers s old.first old.rows
 
 -- a drawing was drawn, if there is one
@@ -58,7 +58,7 @@ pub record RunsThrough (content : Content) (start end : MachineState) : Type 0 w
 -- and drawn on a canvas
 pub record PlaysContent (content : Content) (start end : MachineState) (old new : CanvasState) : Type 0 where
   pub runs : RunsThrough content start end
-  pub image : image_of new ≡ image_after (drawings_of content.steps start.state) start.surface (image_of old)
+  pub image : image_of new ≡ rows_after (drawings_of content.steps start.state) start.surface old.first (image_of old)
   pub writes : new.writes ≡ old.writes + writes_of_drawings (drawings_of content.steps start.state) start.surface old.first old.rows
 
 -- the content stops at the refusal's record, by its fault

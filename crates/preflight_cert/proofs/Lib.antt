@@ -25,4 +25,5 @@ pub mod GatheredLemmas
 pub mod PreparedLemmas
 pub mod WorkedChecks
 pub mod ObjectLemmas
+pub mod LaidRowsLemmas
 pub mod RowsLemmas

@@ -19,21 +19,25 @@ mixed_with mixing s x y (Some paint) old = mixed mixing s x y paint old
 abbrev pub ink_of : Layer → Surface → ℕ → ℕ → Colour → Colour
 ink_of layer s x y old = mixed_with layer.mixing s x y (paint_at layer.paint s x y) old
 
--- the image after a layer: those of its pixels that the layer writes, and every other as it was
-abbrev pub apply : Layer → Surface → Image → Image
-apply layer s image = record {
+-- the image of rows of a surface, the first of them row `first`, after a layer: those of its pixels that the layer writes, and every other
+-- as it was
+abbrev pub apply : Layer → Surface → ℕ → Image → Image
+apply layer s first image = record {
   width = image.width;
-  first = image.first;
-  rows = image.rows;
-  colours = repainted (writes_pixel layer s) (ink_of layer s) image.width image.first image.colours;
+  height = image.height;
+  colours = repainted (writes_pixel layer s) (ink_of layer s) image.width first image.colours;
 }
 
--- the image after some layers, one after another
-abbrev pub apply_all : List Layer → Surface → Image → Image
-apply_all [] s image = image
-apply_all (layer ∷ layers) s image = apply_all layers s (apply layer s image)
+-- the image of those rows after some layers, one after another
+abbrev pub apply_all : List Layer → Surface → ℕ → Image → Image
+apply_all [] s first image = image
+apply_all (layer ∷ layers) s first image = apply_all layers s first (apply layer s first image)
 
--- the image after some drawings, one after another
+-- the image of those rows after some drawings, one after another
+abbrev pub rows_after : List NumberedDrawing → Surface → ℕ → Image → Image
+rows_after [] s first image = image
+rows_after (drawing ∷ later) s first image = rows_after later s first (apply_all (layers_of drawing.drawing) s first image)
+
+-- the image of the whole surface after them
 abbrev pub image_after : List NumberedDrawing → Surface → Image → Image
-image_after [] s image = image
-image_after (first ∷ later) s image = image_after later s (apply_all (layers_of first.drawing) s image)
+image_after drawings s image = rows_after drawings s 0 image

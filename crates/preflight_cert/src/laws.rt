@@ -12,7 +12,7 @@ ghost use Rattle.preflight_cert.specs.TextLaws.{TextLaws};
 
 use dc_stack::fault_law;
 use draw_ops::content_law;
-use mapping::{cell_law, laid_rows_law, placing_law};
+use mapping::{cell_law, placing_law};
 use meta_headers::file_law;
 use object_tables::{created_index_law, order_law};
 use span_fill::line_box_law;
@@ -41,13 +41,11 @@ pub fn drawing_box_law()
     placing_law();
 }
 
-/// The law of rows: images of rows that are laid together, after layers or drawings, are the images after those laid together,
-/// and writes on rows laid together are the sum of those on each.
+/// The law of rows: rows that are laid together, after layers or drawings, are the upper ones and the lower ones after those laid
+/// together, each where it stands on the surface, and writes on rows laid together are the sum of those on each.
 pub fn rows_law()
     ensures { RowsLaws }
-{
-    laid_rows_law();
-}
+{}
 
 /// The law of sizes: records without a fault on a surface have none on one that is no larger, and
 /// drawings that entries cover write no more pixels there than the entries' budget on the larger one.

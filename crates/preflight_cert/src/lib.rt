@@ -8,8 +8,8 @@
 //!   budget by that box says, on this surface and on each that is no larger (`drawing_box_law`).
 //! - Records without a fault at one size have none at a smaller one, and their drawings write there no
 //!   more pixels than the budget of entries that cover them (`size_law`).
-//! - Images of rows that are laid together, after drawings, are the images after those laid together, and counts of writes add up
-//!   (`rows_law`).
+//! - Rows that are laid together, after drawings, are the upper ones and the lower ones after those laid together, and counts of writes
+//!   add up (`rows_law`).
 //! - Room for an operation's needs is enough for it, and full room for any (`need_law`).
 //! - A certificate's bytes are read whole or refused by their first fault (`Certificate::read`), and its entries are
 //!   those of the bytes, by their index and from the front (`Certificate::entry`, `Entries`).

@@ -5,7 +5,7 @@ use Rattle.dc_stack.specs.MachineState.{GoesOn}
 use Rattle.player.specs.After.{HasLines, HasRoomForSteps}
 use Rattle.player.specs.Leaving.{left_by}
 use Rattle.preflight_cert.specs.After.{needs_after, state_after}
-use Rattle.preflight_cert.specs.Apply.{image_after}
+use Rattle.preflight_cert.specs.Apply.{rows_after}
 use Rattle.preflight_cert.specs.Drawings.{drawings_of}
 use Rattle.player.specs.Plays.{HoldsRows, SameRows}
 use Rattle.preflight_cert.specs.Stop.{stopped}
@@ -31,7 +31,7 @@ invariant-loop-drawn g l =
       state : state_after (content l.fn.source).steps l.fn.machine.state ≡ state_after (content l.source).steps l.machine.state;
       needs : needs_after (content l.fn.source).steps l.fn.machine.state l.fn.machine.needs ≡ needs_after (content l.source).steps l.machine.state l.machine.needs;
       left : left_by (content l.fn.source).steps l.fn.machine.state l.fn.machine.needs start ≡ left_by (content l.source).steps l.machine.state l.machine.needs start;
-      image : image_after (drawings_of (content l.fn.source).steps l.fn.machine.state) start (image_of l.fn.canvas) ≡ image_after (drawings_of (content l.source).steps l.machine.state) start (image_of l.canvas);
+      image : rows_after (drawings_of (content l.fn.source).steps l.fn.machine.state) start l.fn.canvas.first (image_of l.fn.canvas) ≡ rows_after (drawings_of (content l.source).steps l.machine.state) start l.fn.canvas.first (image_of l.canvas);
       writes : l.fn.canvas.writes + writes_of_drawings (drawings_of (content l.fn.source).steps l.fn.machine.state) start l.fn.canvas.first l.fn.canvas.rows ≡ l.canvas.writes + writes_of_drawings (drawings_of (content l.source).steps l.machine.state) start l.fn.canvas.first l.fn.canvas.rows;
     }
 

@@ -2,4 +2,4 @@ use Rattle.preflight_cert.proofs.RowsLemmas.{rows_laws}
 use Rattle.preflight_cert.proofs.laws.rows_law.Goals as goal
 
 pub returns : goal.returns
-returns c = rows_laws c.laid_rows_law.ensures
+returns c = rows_laws

@@ -2,9 +2,17 @@
 use Rattle.std.proofs.Common.{◌≡◌, ℕ, zero, suc, ◌+◌, ◌*◌, ◌/◌, ◌%◌, ◌<◌, ◌≤◌, Bool, cond, List, [], ◌∷◌, ◌++◌, length, refl, sym, ap, ◌∙◌, arith}
 use Rattle.std.proofs.Math.Nat.{add-mul, mul-add-div_right, mul-add-mod_self_right}
 use Rattle.mapping.specs.declared.geometry.Colour.{Colour}
-use Rattle.mapping.specs.LaidRowsLaws.{LaidRowsLaws}
 use Rattle.mapping.specs.Pixels.{count_indexes, count_pixels, map_indexed, repainted}
-use Rattle.mapping.proofs.CountLemmas.{count_joined}
+
+-- what is counted of indexes is what is counted of the first and of the others
+count_joined : (test : ℕ → Bool) (k m n : ℕ) → count_indexes test k (m + n) ≡ count_indexes test k m + count_indexes test (k + m) n
+count_joined test k zero n = let e : k ≡ k + zero = omega arith in let f : zero + n ≡ n = omega arith in rw f (ap (λ (i : ℕ). count_indexes test i n) e ∙ (omega arith))
+count_joined test k (suc m) n =
+    let e : suc k + m ≡ k + suc m = omega arith in
+    let f : suc m + n ≡ suc (m + n) = omega arith in
+    let rest = count_joined test (suc k) m n in
+    let moved : count_indexes test (suc k + m) n ≡ count_indexes test (k + suc m) n = ap (λ (i : ℕ). count_indexes test i n) e in
+    rw f (omega (arith, rest, moved))
 
 -- a list behind another is changed at the indexes behind it
 map_joined : (f : ℕ → Colour → Colour) (k : ℕ) (cs ds : List Colour) → map_indexed f k (cs ++ ds) ≡ map_indexed f k cs ++ map_indexed f (k + length cs) ds
@@ -80,16 +88,10 @@ module _ (width first rows : ℕ) (wide : 1 ≤ width) where
           (ap (λ (k : ℕ). map_indexed p k lower) e ∙ map_moved p q (rows * width) 0 lower pixel_moved)
 
 -- without a column nothing is counted
-counted_always : (test : ℕ → ℕ → Bool) (width first rows more : ℕ) → count_pixels test width first (rows + more) ≡ count_pixels test width first rows + count_pixels test width (first + rows) more
+pub counted_always : (test : ℕ → ℕ → Bool) (width first rows more : ℕ) → count_pixels test width first (rows + more) ≡ count_pixels test width first rows + count_pixels test width (first + rows) more
 counted_always test zero first rows more =
     let all = count_no_index (λ k. test (k % zero) (first + k / zero)) ((rows + more) * zero) (omega arith) in
     let upper = count_no_index (λ k. test (k % zero) (first + k / zero)) (rows * zero) (omega arith) in
     let lower = count_no_index (λ k. test (k % zero) ((first + rows) + k / zero)) (more * zero) (omega arith) in
     omega (arith, all, upper, lower)
 counted_always test (suc width) first rows more = counted (suc width) first rows (omega arith) test more
-
-pub laid_rows_laws : LaidRowsLaws
-laid_rows_laws = record {
-  repainted = λ test f width first rows upper lower wide long. painted width first rows wide test f upper lower long;
-  counted = counted_always;
-}
