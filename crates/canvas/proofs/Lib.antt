@@ -1,4 +1,7 @@
 pub mod SendingLemmas
+pub mod ReadingLemmas
+pub mod PpmLawLemmas
+pub mod PpmBothWays
 pub mod IndexLemmas
 pub mod WritingLawLemmas
 pub mod SpanLemmas

@@ -39,3 +39,7 @@ unwritten width first rows colour = record {
   colours = replicate (rows * width) colour;
   writes = 0;
 }
+
+-- a canvas that shows a whole surface's image, before anything is written
+abbrev pub showing : Image → CanvasState
+showing image = record { width = image.width; first = 0; rows = image.height; colours = image.colours; writes = 0 }

@@ -10,6 +10,8 @@
 //! - Writes that share no pixel are put together as one (`writing_law`).
 //! - What is written out is the P6 text of the image, byte for byte, and after a failure a front of
 //!   that text (`Canvas::write_ppm`, by `ppm_text`).
+//! - What is read from a P6 text is exactly the image that the text says, and it is refused exactly where it says
+//!   none (`Canvas::from_ppm`, by `read_ppm`); the text that is written for an image reads back as that image (`ppm_law`).
 //! - Bytes are sent whole, or a front of them, whatever the writer takes a call (`send`).
 //!
 //! Memory, three bytes a pixel, is taken when a canvas is made. No other call takes any: no contract says
@@ -20,11 +22,12 @@ mod canvas_error;
 mod laws;
 mod parts;
 mod ppm;
+mod reading;
 mod sending;
 mod surface;
 mod writing;
 
-pub use canvas_error::{OutOfMemory, WriteFault};
-pub use laws::writing_law;
+pub use canvas_error::{ImageError, OutOfMemory, WriteFault};
+pub use laws::{ppm_law, writing_law};
 pub use sending::send;
 pub use surface::Canvas;

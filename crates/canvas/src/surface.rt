@@ -1,15 +1,18 @@
 //! The canvas: the rows of a surface, each pixel with its colour.
 
-ghost use Rattle.std.specs.Prelude.{◌≡◌, ◌+◌, ◌*◌, ◌<◌, ◌≤◌, ◌^◌, ◌↔◌, Some, IsTrue, IfOk, OnOk, OnErr, length, slice_get, slice_set};
+ghost use Rattle.std.specs.Prelude.{◌≡◌, ◌+◌, ◌*◌, ◌<◌, ◌≤◌, ◌^◌, ◌↔◌, Some, None, IsTrue, IfOk, IfErr, OnOk, OnErr, length, slice_get, slice_set};
 ghost use Rattle.std.specs.Io.KnownBytes.{Appends};
 ghost use Rattle.mapping.specs.Limits.{IsSurfaceSide, surface_side_limit};
-ghost use Rattle.canvas.specs.CanvasState.{HasPixel, image_of, colour_index, unwritten};
+ghost use Rattle.canvas.specs.CanvasState.{HasPixel, image_of, colour_index, showing, unwritten};
 ghost use Rattle.canvas.specs.Writing.{Repaints, is_at};
 ghost use Rattle.canvas.specs.WritingLaws.{IsWhole};
 ghost use Rattle.canvas.specs.Ppm.{AppendsFront, ppm_text};
+ghost use Rattle.canvas.specs.PpmReading.{read_ppm};
+ghost use Rattle.canvas.specs.declared.canvas_error.ImageError.TheVariants.{BadImage};
 
-use crate::canvas_error::{OutOfMemory, WriteFault};
+use crate::canvas_error::{ImageError, OutOfMemory, WriteFault};
 use crate::ppm::write_text;
+use crate::reading::{read_colours, read_head};
 use mapping::Colour;
 use std::alloc::Global;
 use std::io::Write;
@@ -64,6 +67,35 @@ impl Canvas {
             width,
             first: 0,
             rows: height,
+            writes: 0,
+        })
+    }
+
+    /// The image that a P6 text says (ppm(5)): comments may stand in its gaps and directly behind a digit, and bytes
+    /// behind its raster aren't looked at. `BadImage` where it says none whose sides are from 1 to 8,192 and whose samples
+    /// go up to 255, and `OutOfMemory` where memory was refused.
+    pub fn from_ppm(alloc: Global, bytes: &[u8]) -> Result<Canvas, ImageError>
+        ensures image { IfOk result (λ canvas. read_ppm bytes.now ≡ Some (image_of canvas)) }
+        ensures shown { IfOk result (λ canvas. canvas ≡ showing (image_of canvas)) }
+        ensures bad { IfErr result (λ error. error ≡ BadImage ↔ read_ppm bytes.now ≡ None) }
+    {
+        let Some(head) = read_head(bytes) else {
+            return Err(ImageError::BadImage);
+        };
+        let samples = &bytes[head.start..];
+        let count = pixels(head.height, head.width);
+        if samples.len() / 3 < count {
+            return Err(ImageError::BadImage);
+        }
+        let Ok(mut colours) = Vec::from_elem(alloc, Colour::WHITE, count) else {
+            return Err(ImageError::OutOfMemory);
+        };
+        read_colours(&mut colours, samples);
+        Ok(Canvas {
+            colours,
+            width: head.width,
+            first: 0,
+            rows: head.height,
             writes: 0,
         })
     }

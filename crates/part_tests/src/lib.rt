@@ -14,6 +14,8 @@ mod faults;
 #[cfg(test)]
 mod headers;
 #[cfg(test)]
+mod images;
+#[cfg(test)]
 mod lists_of_points;
 #[cfg(test)]
 mod notes;
