@@ -32,8 +32,7 @@ OTHERS = {
     "rt version": "a program",
     "serde_json": "a library that is to come",
     "specs/": "a folder of each crate",
-    "stdin": "a word of the command line",
-    "try": "a word of the command line",
+    "try": "a word of the launcher",
     "valgrind": "a program",
 }
 
@@ -43,6 +42,9 @@ TOLD = re.compile(r"metaplay:? ")
 ROW = re.compile(r"(?m)^\| (`[^|]*) \| ([^|]*) \| ([^|]*) \|$")
 
 CRATES = crates()
+
+# The words of the command line: each stands by itself in the sources of the commands.
+WORDS = {word for text in CRATES["commands"].sources.values() for word in re.findall(r'"([a-z]+)"', text)}
 
 
 def text_of(page):
@@ -78,7 +80,7 @@ def front_files():
 def is_known(name, files):
     """Whether a word of a page is a name of the sources or definitions, or of a file."""
     plain = re.sub(r"<.*>", "", name)
-    if name in OTHERS or TOLD.match(name) or plain in {*CRATES, *sum(libraries().values(), [])}:
+    if name in OTHERS or name in WORDS or TOLD.match(name) or plain in {*CRATES, *sum(libraries().values(), [])}:
         return True
     if re.fullmatch(r"\w+::\w+", plain):
         owner, member = plain.split("::")
