@@ -1,4 +1,4 @@
-"""The pages name nothing that isn't there: each name between backticks is one of the sources, of the definitions, of a crate, a library or a file.
+"""Pages name nothing that isn't there: each name between backticks is one of the sources, of the definitions, of a crate, a library or a file.
 
 A row of docs/DEFINITIONS.md names its file, in which its definitions stand; and each definition that the contract of a public function cites has a
 row there.
@@ -12,29 +12,36 @@ from page_names import crates, libraries, quoted, without_blocks
 
 DEFINITIONS = "docs/DEFINITIONS.md"
 
-PAGES = ["README.md", DEFINITIONS, "docs/PROMISES.md", "docs/LAYERS.md"]
+PAGES = ["README.md", DEFINITIONS, "docs/PROMISES.md", "docs/LAYERS.md", "docs/DECISIONS.md", "docs/TESTS.md"]
 
 # Words that are neither names of this repository nor files of it.
 OTHERS = {
+    "#": "a sign of pictures",
     "13f": "a version of the toolchain",
     "Display": "a trait of the toolchain's",
+    "assert_eq!": "a macro of the toolchain's",
     "Err": "a variant of the toolchain's",
+    "Global": "a type of the toolchain's",
     "MPC1": "bytes of a certificate",
     "Ok": "a variant of the toolchain's",
     "P6": "bytes of an image",
     "cannot read": "what standard error tells",
     "cannot write": "what standard error tells",
     "cc": "a program",
+    "malloc": "a call of the C library's",
     "python3": "a program",
+    "realloc": "a call of the C library's",
     "rattle-kit-13b logic dac8208d650f15bf": "a version of the toolchain",
     "rt": "a program",
     "rt ci": "a program",
+    "rt plant": "a program",
     "rt version": "a program",
+    "search rules": "an answer of a proof",
     "serde_json": "a library that is to come",
     "specs/": "a folder of each crate",
-    "stdin": "a word of the command line",
-    "try": "a word of the command line",
+    "try": "a word of the launcher",
     "valgrind": "a program",
+    "write_all": "a function of the toolchain's",
 }
 
 # What a line that tells something, or a command line, begins with.
@@ -43,6 +50,9 @@ TOLD = re.compile(r"metaplay:? ")
 ROW = re.compile(r"(?m)^\| (`[^|]*) \| ([^|]*) \| ([^|]*) \|$")
 
 CRATES = crates()
+
+# The words of the command line: each stands by itself in the sources of the commands.
+WORDS = {word for text in CRATES["commands"].sources.values() for word in re.findall(r'"([a-z]+)"', text)}
 
 
 def text_of(page):
@@ -75,10 +85,18 @@ def front_files():
     return tuple({it.removesuffix(".antt") for it in quoted(text)} for text in (values, private))
 
 
+def files_known():
+    """The files that a page may name alone, or by their place in a crate, and wrong bodies, whose names are those of files."""
+    crates = [path for part in ("src", "specs", "proofs") for folder in (ROOT / "crates").glob(f"*/{part}") for path in folder.rglob("*")]
+    names = {it.name for it in crates} | {"/".join(it.parts[-2:]) for it in crates}
+    others = {it.name for folder in ("samples", "tests", "docs") for it in (ROOT / folder).rglob("*")}
+    return names | others | {it.stem for it in (ROOT / "edits").glob("*/*.edit")}
+
+
 def is_known(name, files):
     """Whether a word of a page is a name of the sources or definitions, or of a file."""
     plain = re.sub(r"<.*>", "", name)
-    if name in OTHERS or TOLD.match(name) or plain in {*CRATES, *sum(libraries().values(), [])}:
+    if name in OTHERS or name in WORDS or TOLD.match(name) or plain in {*CRATES, *sum(libraries().values(), [])}:
         return True
     if re.fullmatch(r"\w+::\w+", plain):
         owner, member = plain.split("::")
@@ -91,10 +109,10 @@ class Names(unittest.TestCase):
     """The names on the pages."""
 
     def test_that_each_name_is_there(self):
-        files = {it.name for folder in (*(ROOT / "crates").glob("*/src"), ROOT / "samples") for it in folder.rglob("*")}
-        specs = {it.name for it in (ROOT / "crates").glob("*/specs/*.antt")}
+        files = files_known()
+        specs = {it.stem for it in (ROOT / "crates").glob("*/specs/*.antt")}
         for page in PAGES:
-            more = {*specs, *(it.removesuffix(".antt") for it in specs), "Of", "_with", "_without"} if page == DEFINITIONS else set()
+            more = specs | ({"Of", "_with", "_without"} if page == DEFINITIONS else set())
             unknown = {name for name in quoted(text_of(page)) if not is_known(name, files | more)}
             self.assertEqual(unknown, set(), page)
 
