@@ -21,14 +21,7 @@ use Rattle.dc_stack.specs.Values.{placed_value}
 use Rattle.dc_stack.specs.declared.dc.Dc.{Dc}
 use Rattle.dc_stack.specs.declared.draw.PlaneBlit.{PlaneBlit}
 use Rattle.span_fill.specs.declared.span.Span.{Span}
-use Rattle.player.specs.RasterOperation.{joined_if}
-use Rattle.player.specs.declared.brushing.Brushing.{Brushing}
-use Rattle.player.specs.declared.raster_operation.RasterOperation.TheVariants.{Ternary}
-
--- the paint is that of a blit with this operation, which reads so
-pub record IsBlit (paint : Brushing) (operation : TernaryOp) (reader : SourceReader) : Type 0 where
-  pub joins : paint.operation ≡ Ternary operation
-  pub reads : paint.source ≡ Some reader
+use Rattle.player.specs.Joined.{joined_if}
 
 -- a reader's box is this one
 pub record ReadsBox (reader : SourceReader) (box : Rect) : Type 0 where
@@ -59,4 +52,4 @@ blit_paints blit s dc x y =
 -- and becomes this
 abbrev pub blit_made : PlaneBlit → Surface → Dc → ℕ → ℕ → Colour → Colour
 blit_made blit s dc x y old =
-    joined_if (Ternary blit.operation) (source_colour (source_of blit.source) (placed_point blit.first s) (placed_point blit.second s) x y) (blit_colour blit.operation dc x y) old
+    joined_if blit.operation.table (source_colour (source_of blit.source) (placed_point blit.first s) (placed_point blit.second s) x y) (blit_colour blit.operation dc x y) old

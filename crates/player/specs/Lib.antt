@@ -12,7 +12,7 @@ pub mod PlacedLines
 pub mod LinesToCome
 pub mod FigureOutlines
 pub mod RowInks
-pub mod RasterOperation
+pub mod Joined
 pub mod Painted
 pub mod Pens
 pub mod Blits

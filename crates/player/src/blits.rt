@@ -15,26 +15,21 @@ ghost use Rattle.raster_ops.specs.BrushRows.{row_paint};
 ghost use Rattle.raster_ops.specs.Bytes.{HasBytes};
 ghost use Rattle.raster_ops.specs.Sources.{is_readable};
 ghost use Rattle.raster_ops.specs.TernaryOps.{uses_source};
-ghost use Rattle.player.specs.Blits.{HoldsRow, IsBlit, ReadsBox, blit_made, blit_paints};
+ghost use Rattle.player.specs.Blits.{HoldsRow, ReadsBox, blit_made, blit_paints};
 ghost use Rattle.player.specs.Painted.{colour_of, colour_seen, made, paints};
 ghost use Rattle.player.specs.RowInks.{inked, is_inked};
-ghost use Rattle.player.specs.declared.raster_operation.RasterOperation.TheVariants.{Ternary};
 
 use crate::brushing::Brushing;
 use crate::filling::fill_box;
-use crate::ink_room::{InkRoom, MAX_SIDE};
-use crate::raster_operation::BLACK;
+use crate::ink_room::{BLACK, InkRoom, MAX_SIDE};
 use crate::rectangles::between;
 use crate::regions::{common, visible, whole_law};
 use crate::row_ink::RowInk;
 use crate::strips::put_uncut;
 use canvas::{Canvas, writing_law};
 use dc_stack::{Dc, PlaneBlit};
-use draw_ops::TernaryOp;
 use mapping::{Colour, Place, Rect};
-use raster_ops::{
-    BrushRow, SourceReader, TernaryMixer, copy_law, dependence_law, gather_pattern, uses_source,
-};
+use raster_ops::{BrushRow, SourceReader, copy_law, dependence_law, gather_pattern, uses_source};
 use span_fill::Span;
 
 /// The table of the operation that copies the source, whatever the pattern and the colour that is there are.
@@ -72,7 +67,7 @@ pub(crate) fn blit(
         return;
     };
     let paint = Brushing::of_blit(operation, Some(reader), dc);
-    blit_box(canvas, inside, &reader, operation, &paint, room);
+    blit_box(canvas, inside, &reader, &paint, room);
 }
 
 /// Paints a box with what a blit reads. A row of the picture is gathered once, and kept while the rows of the box
@@ -81,13 +76,12 @@ fn blit_box(
     canvas: &mut Canvas,
     inside: Rect,
     reader: &SourceReader<'_>,
-    operation: TernaryOp,
     paint: &Brushing<'_, '_>,
     room: &mut InkRoom,
 )
     requires first { canvas.old.first ≡ 0 }
     requires countable { canvas.old.writes + 2 ^ 27 < 2 ^ 64 }
-    requires blit { IsBlit paint.now operation reader.now }
+    requires blit { paint.now.source ≡ Some reader.now }
     requires reads { ReadsBox reader.now inside }
     ensures pixels { Repaints (paints paint.now (in_box inside)) (made paint.now) canvas.old canvas.new }
     ensures few { canvas.new.writes ≤ canvas.old.writes + 2 ^ 26 }
@@ -105,7 +99,7 @@ fn blit_box(
         let row = reader.row_at(y);
         keep_row(reader, row, columns, kept, &mut sources);
         kept = Some(row);
-        let ink = source_ink(paint, operation, y, columns, &sources, room);
+        let ink = source_ink(paint, y, columns, &sources, room);
         put_uncut(
             canvas,
             &ink,
@@ -144,7 +138,6 @@ fn keep_row(
 /// What a blit makes of the pixels of a row in these columns, whose sources stand each at its column.
 fn source_ink<'r>(
     paint: &Brushing<'_, '_>,
-    operation: TernaryOp,
     y: u32,
     columns: Span,
     sources: &'r [Colour; MAX_SIDE],
@@ -152,7 +145,6 @@ fn source_ink<'r>(
 ) -> RowInk<'r>
     requires order { columns.from ≤ columns.to }
     requires end { columns.to ≤ 8192 }
-    requires operation { paint.now.operation ≡ Ternary operation }
     requires sources { (x : ℕ) (d : Colour) → columns.from ≤ x → x < columns.to → slice_index_or sources.now x d ≡ colour_seen paint.now.source x y }
     requires parts { (x : ℕ) (d : Colour) → columns.from ≤ x → x < columns.to → HasBytes (slice_index_or sources.now x d) }
     ensures test { (x : ℕ) → is_inked result x ≡ is_some (colour_of paint.now x y) }
@@ -160,10 +152,10 @@ fn source_ink<'r>(
 {
     copy_law();
     let row = paint.brush_row(y);
-    if let (BrushRow::Solid(_), SRCCOPY) = (row, operation.table) {
+    if let (BrushRow::Solid(_), SRCCOPY) = (row, paint.operation.op.table) {
         return RowInk::Row(sources);
     }
-    gather_mixes(paint, operation, y, columns, sources, room);
+    gather_mixes(paint, y, columns, sources, room);
     mix_given(row, room)
 }
 
@@ -193,7 +185,6 @@ fn mix_given<'r>(row: BrushRow<'_>, room: &'r InkRoom) -> RowInk<'r>
 /// Mixes that join what the brush gives these columns of a row and their sources, each at its column.
 fn gather_mixes(
     paint: &Brushing<'_, '_>,
-    operation: TernaryOp,
     y: u32,
     columns: Span,
     sources: &[Colour],
@@ -202,7 +193,6 @@ fn gather_mixes(
     requires order { columns.from ≤ columns.to }
     requires end { columns.to ≤ 8192 }
     requires width { length sources.now ≡ 8192 }
-    requires operation { paint.now.operation ≡ Ternary operation }
     requires sources { (x : ℕ) (d : Colour) → columns.from ≤ x → x < columns.to → slice_index_or sources.now x d ≡ colour_seen paint.now.source x y }
     ensures { (x : ℕ) (old : Colour) → columns.from ≤ x → x < columns.to → is_some (colour_of paint.now x y) ≡ true → mixed_by (mix_at room.new.keeps room.new.flips x) old ≡ made paint.now x y old }
 {
@@ -214,5 +204,7 @@ fn gather_mixes(
         flips,
     } = room;
     gather_pattern(&row, from, to, patterns);
-    TernaryMixer::new(operation).gather(patterns, sources, from, to, keeps, flips);
+    paint
+        .operation
+        .gather(patterns, sources, from, to, keeps, flips);
 }

@@ -5,24 +5,23 @@ ghost use Rattle.mapping.specs.Colours.{black_colour};
 ghost use Rattle.mapping.specs.declared.geometry.Colour.{Colour};
 ghost use Rattle.draw_ops.specs.declared.objects.Brush.TheVariants.{Solid};
 ghost use Rattle.raster_ops.specs.BrushRows.{row_paint};
+ghost use Rattle.raster_ops.specs.RasterOps.{binary_table};
 ghost use Rattle.raster_ops.specs.TernaryOps.{uses_pattern};
 ghost use Rattle.player.specs.RowInks.{inked, is_inked};
-ghost use Rattle.player.specs.declared.raster_operation.RasterOperation.TheVariants.{Binary, Ternary};
 
-use crate::ink_room::InkRoom;
-use crate::raster_operation::{BLACK, RasterOperation};
+use crate::ink_room::{BLACK, InkRoom};
 use crate::row_ink::{RowInk, full, row_ink};
 use dc_stack::{Clip, Dc, Modes};
 use draw_ops::{Brush, TernaryOp};
 use mapping::Colour;
-use raster_ops::{BrushRow, SourceReader, brush_row, uses_pattern};
+use raster_ops::{BrushRow, SourceReader, TernaryMixer, brush_row, ternary_of, uses_pattern};
 
 /// What a brush makes of pixels, in the modes of the moment and under a clip. A pen is a brush of one colour.
 #[derive(Clone, Copy, Debug)]
 pub(crate) struct Brushing<'d, 'a> {
     pub(crate) brush: Brush<'a>,
     pub(crate) modes: Modes,
-    pub(crate) operation: RasterOperation,
+    pub(crate) operation: TernaryMixer,
     /// What a blit reads, where its operation depends on that.
     pub(crate) source: Option<SourceReader<'a>>,
     pub(crate) clip: &'d Clip,
@@ -36,14 +35,14 @@ impl<'d, 'a> Brushing<'d, 'a> {
     pub(crate) fn with(brush: Brush<'a>, dc: &'d Dc<'a>) -> Brushing<'d, 'a>
         ensures brush { result.brush ≡ brush.entry }
         ensures modes { result.modes ≡ dc.now.modes }
-        ensures operation { result.operation ≡ Binary dc.now.modes.raster_op }
+        ensures operation { result.operation.op.table ≡ binary_table dc.now.modes.raster_op }
         ensures alone { result.source ≡ None }
         ensures clip { result.clip.now ≡ dc.now.clip }
     {
         Brushing {
             brush,
             modes: dc.modes,
-            operation: RasterOperation::Binary(dc.modes.raster_op),
+            operation: TernaryMixer::new(ternary_of(dc.modes.raster_op)),
             source: None,
             clip: &dc.clip,
         }
@@ -58,7 +57,7 @@ impl<'d, 'a> Brushing<'d, 'a> {
     ) -> Brushing<'d, 'a>
         ensures brush { result.brush ≡ (if uses_pattern operation.table then dc.now.selected.brush else Solid black_colour) }
         ensures modes { result.modes ≡ dc.now.modes }
-        ensures operation { result.operation ≡ Ternary operation }
+        ensures operation { result.operation.op ≡ operation }
         ensures source { result.source ≡ source.entry }
         ensures clip { result.clip.now ≡ dc.now.clip }
     {
@@ -70,7 +69,7 @@ impl<'d, 'a> Brushing<'d, 'a> {
         Brushing {
             brush,
             modes: dc.modes,
-            operation: RasterOperation::Ternary(operation),
+            operation: TernaryMixer::new(operation),
             source,
             clip: &dc.clip,
         }
@@ -100,6 +99,6 @@ impl<'d, 'a> Brushing<'d, 'a> {
         ensures test { (x y : ℕ) → is_inked result x ≡ is_some (colour_of self.now x y) }
         ensures ink { (x y : ℕ) (old : Colour) → is_inked result x ≡ true → inked result x old ≡ made self.now x y old }
     {
-        full(self.operation.mix(colour))
+        full(self.operation.mix(colour, BLACK))
     }
 }

@@ -24,6 +24,7 @@ use dc_stack::{Draw, Machine, Mark, Painting};
 use draw_ops::{Brush, Pen};
 use mapping::Colour;
 use object_tables::Table;
+use raster_ops::binary_law;
 use span_fill::{Line, RowBuf};
 
 /// Draws what a step of the machine draws, if it draws, with the tools of its moment. The count of
@@ -70,6 +71,7 @@ fn fill<'a, T: Table<'a>>(
 {
     writing_law();
     whole_law(canvas);
+    binary_law();
     let dc = machine.dc();
     let place = machine.place();
     if let Brush::Null = dc.selected.brush {
@@ -153,6 +155,7 @@ fn stroke_outline<'a, T: Table<'a>>(
 {
     writing_law();
     whole_law(canvas);
+    binary_law();
     let dc = machine.dc();
     let place = machine.place();
     let paint = Brushing::with(Brush::Solid(colour), dc);

@@ -1,7 +1,9 @@
 //! Room for what becomes of the pixels of a row.
 
-use crate::raster_operation::BLACK;
 use mapping::Colour;
+
+/// The colour that stands for what isn't looked at.
+pub(crate) const BLACK: Colour = Colour { r: 0, g: 0, b: 0 };
 
 /// The longest side of a surface.
 pub(crate) const MAX_SIDE: usize = 8192;

@@ -31,7 +31,6 @@ mod path_moves;
 mod piece_lines;
 mod placed_lines;
 mod playing;
-mod raster_operation;
 mod rectangles;
 mod regions;
 mod room;

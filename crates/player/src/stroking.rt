@@ -12,6 +12,7 @@ ghost use Rattle.preflight_cert.specs.Rectangles.{rectangle_lines};
 ghost use Rattle.player.specs.RectangleBoxes.{IsNearBox};
 
 use crate::brushing::Brushing;
+use crate::ink_room::BLACK;
 use crate::line_steps::mix_line;
 use crate::rectangles::{LineList, box_lines, has_inside};
 use crate::regions::{rows_between, visible, whole_law};
@@ -90,5 +91,5 @@ pub(crate) fn stroke_line(canvas: &mut Canvas, line: Line, paint: &Brushing<'_, 
 {
     writing_law();
     whole_law(canvas);
-    mix_line(canvas, line, paint.operation.mix(colour), paint.clip);
+    mix_line(canvas, line, paint.operation.mix(colour, BLACK), paint.clip);
 }

@@ -7,7 +7,7 @@ use Rattle.preflight_cert.specs.FigureLines.{all_closed}
 use Rattle.player.specs.FigureOutlines.{outline_left}
 use Rattle.preflight_cert.specs.Shape.{fill_rule_of, inside_figures, inside_rectangle}
 use Rattle.player.specs.declared.list_lines.Ends.TheVariants.{Closed}
-use Rattle.player.specs.declared.raster_operation.RasterOperation.TheVariants.{Binary}
+use Rattle.raster_ops.specs.RasterOps.{binary_table}
 use Rattle.player.proofs.DrawingLemmas.{brush_drawn, brush_fills, clip_placed, same_rows}
 use Rattle.player.proofs.LandingLemmas.{fits_there, landed_inside, lands_there, two_land}
 use Rattle.player.proofs.FigureLemmas.{closed_lines_along}
@@ -66,14 +66,14 @@ returns-in_default-painting g c =
     let paint = c.with-paint.result in
     let value = c.dc-dc.ensures.value in
     let modes = c.with-paint.ensures.modes ∙ ap (λ (d : DcValue). d.modes) value in
-    let operation = c.with-paint.ensures.operation ∙ ap (λ (d : DcValue). Binary d.modes.raster_op) value in
+    let operation = c.with-paint.ensures.operation ∙ ap (λ (d : DcValue). binary_table d.modes.raster_op) value in
     let clip = clip_placed s paint.clip.now dc c.args.machine.now.state.dc c.with-paint.ensures.clip value c.dc-dc.ensures.placed in
     let brush = ap (λ (d : DcValue). d.selected.brush.object) value in
     let figures = figures_drawn c.args.machine.now.painted c.in-Figures.points in
     let shape = inside_figures tools.modes.fill_mode (all_closed figures) in
     let lines = c.new-outline.ensures ∙ closed_lines_along s figures in
     let rule = c.rule_of-rule.ensures ∙ ap (λ (d : DcValue). fill_rule_of d.modes.fill_mode) value in
-    let drawn = brush_drawn c.writing_law.ensures s c.args.canvas.now c.fill_lines.new.canvas c.whole_law.ensures c.requires.whole paint tools modes operation clip _ shape (ap brush_value_of c.with-paint.ensures.brush ∙ brush) (λ x y. rw (rule, lines) refl) c.fill_lines.ensures.pixels in
+    let drawn = brush_drawn c.writing_law.ensures s c.args.canvas.now c.fill_lines.new.canvas c.whole_law.ensures c.requires.whole c.binary_law.ensures.same paint tools modes operation clip _ shape (ap brush_value_of c.with-paint.ensures.brush ∙ brush) (λ x y. rw (rule, lines) refl) c.fill_lines.ensures.pixels in
     record {
       drawn = rw (c.in-Figures.is, fills_figures c.in-Figures.painting figures tools c.in_default-painting.not-Stroke, brush_fills dc.selected.brush shape tools c.in_default.not-Null brush) drawn;
       rows = same_rows _ _ c.args.canvas.now c.fill_lines.new.canvas c.fill_lines.ensures.pixels;
@@ -92,11 +92,11 @@ returns-in-Rectangle-clause-drawn g c =
     let paint = c.with-paint.result in
     let value = c.dc-dc.ensures.value in
     let modes = c.with-paint.ensures.modes ∙ ap (λ (d : DcValue). d.modes) value in
-    let operation = c.with-paint.ensures.operation ∙ ap (λ (d : DcValue). Binary d.modes.raster_op) value in
+    let operation = c.with-paint.ensures.operation ∙ ap (λ (d : DcValue). binary_table d.modes.raster_op) value in
     let clip = clip_placed s paint.clip.now dc c.args.machine.now.state.dc c.with-paint.ensures.clip value c.dc-dc.ensures.placed in
     let brush = ap (λ (d : DcValue). d.selected.brush.object) value in
     let shape = inside_rectangle first second edges in
     let inside = c.rectangle_box-inside.ensures.value in
     let place = c.place-place.result in
-    let drawn = brush_drawn c.writing_law.ensures s c.args.canvas.now c.fill_box.new.canvas c.whole_law.ensures c.requires.whole paint tools modes operation clip _ shape (ap brush_value_of c.with-paint.ensures.brush ∙ brush) (λ x y. rw (inside, lands_there place s first c.at.result c.place-place.ensures c.at.ensures, lands_there place s second c.at-in-Rectangle.result c.place-place.ensures c.at-in-Rectangle.ensures) refl) c.fill_box.ensures.pixels in
+    let drawn = brush_drawn c.writing_law.ensures s c.args.canvas.now c.fill_box.new.canvas c.whole_law.ensures c.requires.whole c.binary_law.ensures.same paint tools modes operation clip _ shape (ap brush_value_of c.with-paint.ensures.brush ∙ brush) (λ x y. rw (inside, lands_there place s first c.at.result c.place-place.ensures c.at.ensures, lands_there place s second c.at-in-Rectangle.result c.place-place.ensures c.at-in-Rectangle.ensures) refl) c.fill_box.ensures.pixels in
     rw (c.in-Rectangle.is, brush_fills dc.selected.brush shape tools c.in_default.not-Null brush) drawn
