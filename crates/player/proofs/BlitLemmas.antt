@@ -1,7 +1,5 @@
 -- What a blit paints is a layer.
-use Rattle.std.proofs.Common.{◌≡◌, ℕ, ℤ, pos, ◌+ℤ◌, arith, Bool, true, false, cond, ◌&&◌, [], ◌∷◌, Option, Some, None, is_some, refl, ◌∙◌, ap}
-use Rattle.std.proofs.lemmas.Int.{ints}
-use Rattle.std.specs.Int.{int_max, int_min}
+use Rattle.std.proofs.Common.{◌≡◌, ℕ, Bool, true, false, cond, ◌&&◌, [], ◌∷◌, Option, Some, None, is_some, refl, ◌∙◌, ap}
 use Rattle.mapping.specs.Colours.{black_colour}
 use Rattle.mapping.specs.Surface.{Surface, placed_point}
 use Rattle.mapping.specs.declared.geometry.Colour.{Colour}
@@ -17,7 +15,7 @@ use Rattle.draw_ops.specs.declared.objects.Brush.TheVariants.{Solid}
 use Rattle.draw_ops.specs.declared.settings.BackgroundMode.{BackgroundMode}
 use Rattle.draw_ops.specs.declared.ternary_op.TernaryOp.{TernaryOp}
 use Rattle.raster_ops.specs.Paints.{brush_paint}
-use Rattle.raster_ops.specs.Sources.{distance, source_colour}
+use Rattle.raster_ops.specs.Sources.{source_colour}
 use Rattle.raster_ops.specs.TernaryOps.{ternary_colour, uses_pattern}
 use Rattle.dc_stack.specs.Clip.{ClipValue, in_box, in_boxes, placed_clip}
 use Rattle.mapping.specs.Boxes.{box_between}
@@ -38,13 +36,6 @@ use Rattle.player.specs.Joined.{joined_if}
 use Rattle.preflight_cert.specs.Writes.{writes_pixel}
 use Rattle.player.specs.declared.brushing.Brushing.{Brushing}
 use Rattle.player.proofs.DrawingLemmas.{layer_drawn}
-
--- the greater of two ends is as far behind the lesser as they are apart
-ends_apart : (v w : ℤ) → int_max v w ≡ int_min v w +ℤ pos (distance v w)
-ends_apart v w = grind (arith, ints)
-
-pub greatest_end : (v w near : ℤ) (side : ℕ) → near ≡ int_min v w → side ≡ distance v w → int_max v w ≡ near +ℤ pos side
-greatest_end v w near side same long = ends_apart v w ∙ rw (same, long) refl
 
 -- the brush's colour, where the operation depends on the pattern, and else one that stands for it
 chosen_colour : (b : Bool) (brush : Brush) (mode : BackgroundMode) (background : Colour) (x y : ℕ) → brush_paint (brush_value_of (cond b brush (Solid black_colour))) mode background x y ≡ cond b (brush_paint (brush_value_of brush) mode background x y) (Some black_colour)

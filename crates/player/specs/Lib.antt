@@ -15,10 +15,12 @@ pub mod RowInks
 pub mod Joined
 pub mod Painted
 pub mod Pens
+pub mod SourceRows
 pub mod Blits
 pub mod Strips
 pub mod LineSteps
 pub mod RowsPainted
+pub mod Parts
 pub mod Dots
 pub mod RectangleBoxes
 pub mod Regions
