@@ -1,7 +1,5 @@
 -- What a blit paints is a layer.
-use Rattle.std.proofs.Common.{◌≡◌, ℕ, ℤ, pos, ◌+ℤ◌, arith, Bool, true, false, cond, ◌&&◌, [], ◌∷◌, Option, Some, None, is_some, refl, ◌∙◌, ap}
-use Rattle.std.proofs.lemmas.Int.{ints}
-use Rattle.std.specs.Int.{int_max, int_min}
+use Rattle.std.proofs.Common.{◌≡◌, ℕ, Bool, true, false, cond, ◌&&◌, [], ◌∷◌, Option, Some, None, is_some, refl, ◌∙◌, ap}
 use Rattle.mapping.specs.Colours.{black_colour}
 use Rattle.mapping.specs.Surface.{Surface, placed_point}
 use Rattle.mapping.specs.declared.geometry.Colour.{Colour}
@@ -17,7 +15,7 @@ use Rattle.draw_ops.specs.declared.objects.Brush.TheVariants.{Solid}
 use Rattle.draw_ops.specs.declared.settings.BackgroundMode.{BackgroundMode}
 use Rattle.draw_ops.specs.declared.ternary_op.TernaryOp.{TernaryOp}
 use Rattle.raster_ops.specs.Paints.{brush_paint}
-use Rattle.raster_ops.specs.Sources.{distance, source_colour}
+use Rattle.raster_ops.specs.Sources.{source_colour}
 use Rattle.raster_ops.specs.TernaryOps.{ternary_colour, uses_pattern}
 use Rattle.dc_stack.specs.Clip.{ClipValue, in_box, in_boxes, placed_clip}
 use Rattle.mapping.specs.Boxes.{box_between}
@@ -34,19 +32,10 @@ use Rattle.preflight_cert.specs.Mixing.{ternary}
 use Rattle.preflight_cert.specs.Paint.{paint_at, solid}
 use Rattle.player.specs.Painted.{colour_of, colour_seen, made, paints}
 use Rattle.player.specs.Plays.{DrawsLayers, HoldsRows}
-use Rattle.player.specs.RasterOperation.{joined_if}
+use Rattle.player.specs.Joined.{joined_if}
 use Rattle.preflight_cert.specs.Writes.{writes_pixel}
 use Rattle.player.specs.declared.brushing.Brushing.{Brushing}
-use Rattle.player.specs.declared.raster_operation.RasterOperation.{RasterOperation}
-use Rattle.player.specs.declared.raster_operation.RasterOperation.TheVariants.{Ternary}
 use Rattle.player.proofs.DrawingLemmas.{layer_drawn}
-
--- the greater of two ends is as far behind the lesser as they are apart
-ends_apart : (v w : ℤ) → int_max v w ≡ int_min v w +ℤ pos (distance v w)
-ends_apart v w = grind (arith, ints)
-
-pub greatest_end : (v w near : ℤ) (side : ℕ) → near ≡ int_min v w → side ≡ distance v w → int_max v w ≡ near +ℤ pos side
-greatest_end v w near side same long = ends_apart v w ∙ rw (same, long) refl
 
 -- the brush's colour, where the operation depends on the pattern, and else one that stands for it
 chosen_colour : (b : Bool) (brush : Brush) (mode : BackgroundMode) (background : Colour) (x y : ℕ) → brush_paint (brush_value_of (cond b brush (Solid black_colour))) mode background x y ≡ cond b (brush_paint (brush_value_of brush) mode background x y) (Some black_colour)
@@ -54,14 +43,14 @@ chosen_colour true brush mode background x y = refl
 chosen_colour false brush mode background x y = refl
 
 -- paint joined with what is read is the same, where what is read gives the same
-joined_alike : (op : TernaryOp) (seen source : Colour) (paint : Option Colour) (old : Colour) → ((p : Colour) → ternary_colour op.table p seen old ≡ ternary_colour op.table p source old) → joined_if (Ternary op) seen paint old ≡ joined_if (Ternary op) source paint old
+joined_alike : (op : TernaryOp) (seen source : Colour) (paint : Option Colour) (old : Colour) → ((p : Colour) → ternary_colour op.table p seen old ≡ ternary_colour op.table p source old) → joined_if op.table seen paint old ≡ joined_if op.table source paint old
 joined_alike op seen source None old same = refl
 joined_alike op seen source (Some p) old same = same p
 
 -- What a paint of a blit makes of its box is what the blit makes of it.
 pub blit_painted :
     WritingLaws → (s : Surface) (paint : Brushing) (dc : Dc) (blit : PlaneBlit) (box : Rect) (old new : CanvasState) → IsWhole old
-    → paint.brush ≡ cond (uses_pattern blit.operation.table) dc.selected.brush (Solid black_colour) → paint.modes ≡ dc.modes → paint.operation ≡ Ternary blit.operation → paint.clip.now ≡ dc.clip
+    → paint.brush ≡ cond (uses_pattern blit.operation.table) dc.selected.brush (Solid black_colour) → paint.modes ≡ dc.modes → paint.operation.op ≡ blit.operation → paint.clip.now ≡ dc.clip
     → box ≡ box_between (placed_point blit.first s) (placed_point blit.second s)
     → ((x y : ℕ) (p c : Colour) → ternary_colour blit.operation.table p (colour_seen paint.source x y) c ≡ ternary_colour blit.operation.table p (source_colour (source_of blit.source) (placed_point blit.first s) (placed_point blit.second s) x y) c)
     → Repaints (paints paint (in_box box)) (made paint) old new
@@ -81,8 +70,8 @@ blit_painted laws s paint dc blit box old new whole brush modes operation clip i
     ∙ ap (λ (b : Rect). in_boxes (placed_value dc.clip) x y && in_box b x y && is_some (colour_of paint x y)) inside
     ∙ ap (λ (c : Option Colour). in_boxes (placed_value dc.clip) x y && in_box (box_between first second) x y && is_some c) (colour x y))
     (λ x y c held t.
-    ap (λ (o : RasterOperation). joined_if o (colour_seen paint.source x y) (colour_of paint x y) c) operation
-    ∙ ap (λ (p : Option Colour). joined_if (Ternary op) (colour_seen paint.source x y) p c) (colour x y)
+    ap (λ (o : TernaryOp). joined_if o.table (colour_seen paint.source x y) (colour_of paint x y) c) operation
+    ∙ ap (λ (p : Option Colour). joined_if op.table (colour_seen paint.source x y) p c) (colour x y)
     ∙ joined_alike op (colour_seen paint.source x y) (source_colour source first second x y) (blit_colour op dc x y) c (λ p. same x y p c))
     r
 
@@ -91,7 +80,7 @@ layer_colour : (b : Bool) (brush : Brush) (tools : Tools) (s : Surface) (x y : �
 layer_colour true brush tools s x y same = ap (λ b. brush_paint b tools.modes.background_mode tools.modes.background_colour x y) same
 layer_colour false brush tools s x y same = refl
 
-joined_same : (op : TernaryOp) (s : Surface) (p q : Point) (source : Option SourceValue) (x y : ℕ) (paint : Option Colour) (old : Colour) → joined_if (Ternary op) (source_colour source (placed_point p s) (placed_point q s) x y) paint old ≡ mixed_with (ternary op.table source p q) s x y paint old
+joined_same : (op : TernaryOp) (s : Surface) (p q : Point) (source : Option SourceValue) (x y : ℕ) (paint : Option Colour) (old : Colour) → joined_if op.table (source_colour source (placed_point p s) (placed_point q s) x y) paint old ≡ mixed_with (ternary op.table source p q) s x y paint old
 joined_same op s p q source x y None old = refl
 joined_same op s p q source x y (Some paint) old = refl
 
@@ -119,6 +108,6 @@ module _ (laws : WritingLaws) (s : Surface) (old new : CanvasState) (there : IsW
       ap (λ (boxes : ClipValue). in_boxes boxes x y && in_box (box_between first second) x y && is_some (blit_colour op dc x y)) clip
       ∙ ap (λ (k : Option Colour). in_boxes (placed_clip s tools.clip) x y && in_box (box_between first second) x y && is_some k) (colour x y))
       (λ x y c held t.
-      ap (λ (k : Option Colour). joined_if (Ternary op) (source_colour source first second x y) k c) (colour x y)
+      ap (λ (k : Option Colour). joined_if op.table (source_colour source first second x y) k c) (colour x y)
       ∙ joined_same op s p q source x y (paint_at (blit_paint op.table tools) s x y) c)
       r)

@@ -11,6 +11,7 @@ use Rattle.draw_ops.specs.declared.objects.Brush.{Brush}
 use Rattle.draw_ops.specs.declared.objects.Brush.TheVariants.{Hatched, Null, Solid, Tiled}
 use Rattle.draw_ops.specs.declared.objects.Pen.TheVariants.{Solid as SolidPen}
 use Rattle.draw_ops.specs.declared.raster_op.RasterOp.{RasterOp}
+use Rattle.raster_ops.specs.RasterOps.{BinaryIsTernary, binary_table}
 use Rattle.canvas.specs.CanvasState.{CanvasState, image_of}
 use Rattle.canvas.specs.Writing.{Repaints}
 use Rattle.canvas.specs.WritingLaws.{WritingLaws, IsWhole}
@@ -30,10 +31,8 @@ use Rattle.player.specs.Painted.{colour_of, colour_seen, made, paints}
 use Rattle.player.specs.Plays.{DrawsLayers, HoldsRows, SameRows}
 use Rattle.preflight_cert.specs.Shape.{Shape, in_shape, pixel_under}
 use Rattle.preflight_cert.specs.Writes.{writes_of_layers, writes_pixel}
-use Rattle.player.specs.RasterOperation.{joined_if}
+use Rattle.player.specs.Joined.{joined_if}
 use Rattle.player.specs.declared.brushing.Brushing.{Brushing}
-use Rattle.player.specs.declared.raster_operation.RasterOperation.{RasterOperation}
-use Rattle.player.specs.declared.raster_operation.RasterOperation.TheVariants.{Binary}
 
 -- no layer draws nothing
 pub no_layer_drawn : (s : Surface) (canvas : CanvasState) → DrawsLayers [] s canvas canvas
@@ -64,9 +63,9 @@ pub same_rows : (test : ℕ → ℕ → Bool) (f : ℕ → ℕ → Colour → Co
 same_rows test f old new r = record { width = r.width; first = r.first; rows = r.rows }
 
 -- a paint joins the old colour by the raster operation
-joined_same : (op : RasterOp) (s : Surface) (x y : ℕ) (source : Colour) (paint : Option Colour) (old : Colour) → joined_if (Binary op) source paint old ≡ mixed_with (binary op) s x y paint old
-joined_same op s x y source None old = refl
-joined_same op s x y source (Some paint) old = refl
+joined_same : BinaryIsTernary → (op : RasterOp) (s : Surface) (x y : ℕ) (source : Colour) (paint : Option Colour) (old : Colour) → joined_if (binary_table op) source paint old ≡ mixed_with (binary op) s x y paint old
+joined_same law op s x y source None old = refl
+joined_same law op s x y source (Some paint) old = sym (law op paint source old)
 
 module _ (laws : WritingLaws) (s : Surface) (old new : CanvasState) (there : IsWhole old) (held : HoldsRows old s) where
   -- what writes the pixels of a layer draws it
@@ -76,7 +75,7 @@ module _ (laws : WritingLaws) (s : Surface) (old new : CanvasState) (there : IsW
       let counted : count_pixels (writes_pixel layer s) old.width old.first old.rows ≡ count_pixels (writes_pixel layer s) s.width old.first old.rows = ap (λ (w : ℕ). count_pixels (writes_pixel layer s) w old.first old.rows) held.width in
       record { image = rw (r.width, r.rows, r.colours) refl; writes = omega (arith, writes, counted) }
 
-  module _ (paint : Brushing) (tools : Tools) (modes : paint.modes ≡ tools.modes) (operation : paint.operation ≡ Binary tools.modes.raster_op) (clip : placed_value paint.clip.now ≡ placed_clip s tools.clip) where
+  module _ (law : BinaryIsTernary) (paint : Brushing) (tools : Tools) (modes : paint.modes ≡ tools.modes) (operation : paint.operation.op.table ≡ binary_table tools.modes.raster_op) (clip : placed_value paint.clip.now ≡ placed_clip s tools.clip) where
     -- so does what a paint makes of a shape
     painted_drawn : (shape : ℕ → ℕ → Bool) (drawn : Shape) (colours : Paint) → ((x y : ℕ) → shape x y ≡ in_shape drawn s x y) → ((x y : ℕ) → colour_of paint x y ≡ paint_at colours s x y) → Repaints (paints paint shape) (made paint) old new → DrawsLayers (layer_now drawn colours tools ∷ []) s old new
     painted_drawn shape drawn colours same_shape same_colour r =
@@ -87,9 +86,9 @@ module _ (laws : WritingLaws) (s : Surface) (old new : CanvasState) (there : IsW
         ∙ ap (λ (b : Bool). in_boxes (placed_clip s tools.clip) x y && b && is_some (colour_of paint x y)) (same_shape x y)
         ∙ ap (λ (c : Option Colour). in_boxes (placed_clip s tools.clip) x y && in_shape drawn s x y && is_some c) (same_colour x y))
         (λ x y c held t.
-        ap (λ (o : RasterOperation). joined_if o (colour_seen paint.source x y) (colour_of paint x y) c) operation
-        ∙ ap (λ (p : Option Colour). joined_if (Binary tools.modes.raster_op) (colour_seen paint.source x y) p c) (same_colour x y)
-        ∙ joined_same tools.modes.raster_op s x y (colour_seen paint.source x y) (paint_at colours s x y) c) r)
+        ap (λ (table : ℕ). joined_if table (colour_seen paint.source x y) (colour_of paint x y) c) operation
+        ∙ ap (λ (p : Option Colour). joined_if (binary_table tools.modes.raster_op) (colour_seen paint.source x y) p c) (same_colour x y)
+        ∙ joined_same law tools.modes.raster_op s x y (colour_seen paint.source x y) (paint_at colours s x y) c) r)
 
     -- by a brush
     pub brush_drawn : (shape : ℕ → ℕ → Bool) (drawn : Shape) → brush_value_of paint.brush ≡ tools.brush → ((x y : ℕ) → shape x y ≡ in_shape drawn s x y) → Repaints (paints paint shape) (made paint) old new → DrawsLayers (layer_now drawn (brushed_now tools.brush tools) tools ∷ []) s old new

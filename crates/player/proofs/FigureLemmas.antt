@@ -1,15 +1,10 @@
--- In which rows the lines of figures lie, and how many there are.
-use Rattle.std.proofs.Common.{◌≡◌, ◌≤◌, Bool, true, false, if◌then◌else◌, List, [], ◌∷◌, ◌++◌, length, arith, refl, ap, subst, ◌∙◌, length-append}
-use Rattle.std.proofs.lemmas.List.{length-map, map-append}
-use Rattle.std.proofs.lemmas.List.Elements.{All-append, All-nil}
-use Rattle.std.specs.List.{All}
+-- The lines of figures, and how many there are.
+use Rattle.std.proofs.Common.{◌≡◌, ◌≤◌, Bool, true, false, if◌then◌else◌, List, [], ◌∷◌, ◌++◌, length, arith, refl, ap, ◌∙◌, length-append}
+use Rattle.std.proofs.lemmas.List.{length-map}
 use Rattle.mapping.specs.Surface.{Surface, placed_point}
 use Rattle.mapping.specs.declared.geometry.Point.{Point}
-use Rattle.mapping.specs.declared.geometry.Rect.{Rect}
-use Rattle.dc_stack.specs.Boxes.{HasAll, placed_list}
-use Rattle.mapping.specs.Boxes.{HasPoint}
+use Rattle.dc_stack.specs.Boxes.{placed_list}
 use Rattle.dc_stack.specs.Figures.{Figure, points_of_figures}
-use Rattle.span_fill.specs.RowLaws.{LiesBetween}
 use Rattle.span_fill.specs.declared.line.Line.{Line}
 use Rattle.player.specs.FigureEnds.{figure_ends, lines_of_figure, lines_of_figures}
 use Rattle.preflight_cert.specs.FigureLines.{all_closed, lines_along, placed_figure, placed_figures}
@@ -18,7 +13,6 @@ use Rattle.player.specs.PlacedLines.{lines_between}
 use Rattle.player.specs.declared.list_lines.Ends.{Ends}
 use Rattle.player.specs.declared.list_lines.Ends.TheVariants.{Open, Closed}
 use Rattle.player.proofs.CountLemmas.{length-closed_lines, open_lines_few}
-use Rattle.player.proofs.OutlineLemmas.{all_behind, all_front, list_lies}
 
 -- a list has no more lines than points
 lines_few : (ends : Ends) (ps : List Point) → length (lines_between ends ps) ≤ length ps
@@ -40,17 +34,6 @@ module _ (s : Surface) where
       let others = figure_lines_few ends fs in
       let a = length-append (lines_of_figure ends (placed_figure s f)) (lines_of_figures ends (placed_figures s fs)) in
       let b = length-append f.points (points_of_figures fs) in omega arith
-
-  -- where a box has all points where they land, the lines lie in its rows
-  pub figure_lines_lie : (box : Rect) (ends : Ends) (figures : List Figure) → HasAll box (placed_list s (points_of_figures figures)) → All (LiesBetween box.t box.b) (lines_of_figures ends (placed_figures s figures))
-  figure_lines_lie box ends [] h = All-nil (LiesBetween box.t box.b)
-  figure_lines_lie box ends (f ∷ fs) h =
-      let first = placed_list s f.points in
-      let others = placed_list s (points_of_figures fs) in
-      let all : HasAll box (first ++ others) = subst (HasAll box) (map-append (λ p. placed_point p s) f.points (points_of_figures fs)) h in
-      All-append (LiesBetween box.t box.b) (lines_of_figure ends (placed_figure s f)) (lines_of_figures ends (placed_figures s fs))
-      (list_lies box (figure_ends ends f.is_closed) first (all_front (HasPoint box) first others all))
-      (figure_lines_lie box ends fs (all_behind (HasPoint box) first others all))
 
   -- the lines of figures that are closed or not as they say
   as_they_say : (is_closed : Bool) (ps : List Point) → lines_between (figure_ends Open is_closed) ps ≡ (if is_closed then closed_lines ps else open_lines ps)

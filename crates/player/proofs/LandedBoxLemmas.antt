@@ -1,19 +1,32 @@
--- The points of a drawing land in the box between where two corners of its least box do.
-use Rattle.std.proofs.Common.{◌≡◌, Bool, true, false, ◌&&◌, List, [], ◌∷◌, map, refl, ap, sym, ◌∙◌}
-use Rattle.std.proofs.lemmas.Bool.{and_parts}
-use Rattle.std.proofs.lemmas.List.Elements.{All-nil}
-use Rattle.std.specs.List.{list_all}
-use Rattle.mapping.specs.Boxes.{HasPoint, IsTight, KeepsBetween, box_between, far_corner, mapped_by, near_corner}
+-- The pixels of a drawing lie in the box between where two corners of its least box land.
+use Rattle.std.proofs.Common.{◌≡◌, ℕ, ℤ, pos, negsuc, ◌+ℤ◌, ◌≤ℤ◌, ◌<ℤ◌, Bool, true, false, ◌&&◌, List, [], ◌∷◌, map, arith, refl, ap, subst, sym, ◌∙◌}
+use Rattle.std.proofs.lemmas.Bool.{and_from, and_parts}
+use Rattle.std.proofs.lemmas.Int.{ints}
+use Rattle.std.proofs.lemmas.List.Elements.{All-cons, All-nil}
+use Rattle.std.specs.Int.{int_max, int_min}
+use Rattle.std.specs.List.{All, list_all}
+use Rattle.mapping.specs.Boxes.{HasPoint, IsLeastBox, IsTight, KeepsBetween, box_between, far_corner, mapped_by, near_corner}
 use Rattle.mapping.specs.BoxLaws.{BoxLaws}
 use Rattle.mapping.specs.PlaceOf.{surface_of}
 use Rattle.mapping.specs.Plane.{is_on_plane}
 use Rattle.mapping.specs.PlacingLaws.{ShowsFrame}
-use Rattle.mapping.specs.Surface.{Surface, fits_place, lands_within_limits, placed, placed_point}
+use Rattle.mapping.specs.Surface.{Surface, fits_place, lands_within_limits, placed_point}
 use Rattle.mapping.specs.declared.geometry.Point.{Point}
 use Rattle.mapping.specs.declared.geometry.Rect.{Rect}
 use Rattle.mapping.specs.declared.place.Place.{Place}
-use Rattle.dc_stack.specs.Boxes.{HasAll, placed_list}
+use Rattle.draw_ops.specs.declared.operation.RectangleEdges.TheVariants.{Inclusive}
+use Rattle.dc_stack.specs.Clip.{in_box, is_from_to}
+use Rattle.preflight_cert.specs.DrawingBoxLaws.{DrawingBoxLaws, IsClosedShape, Reaches, shape_points}
+use Rattle.preflight_cert.specs.Rectangles.{raised}
+use Rattle.preflight_cert.specs.Shape.{Shape, in_shape}
 use Rattle.player.specs.Regions.{HasLanded}
+use Rattle.player.proofs.TestLemmas.{from_to_from}
+
+least_low : (a b v : ℤ) → a ≤ℤ v → int_min a b ≤ℤ v
+least_low a b v h = grind (arith, ints)
+
+most_high : (a b v : ℤ) → v ≤ℤ b → v <ℤ (int_max a b +ℤ pos 1)
+most_high a b v h = grind (arith, ints)
 
 same_points : (points : List Point) → map (mapped_by (λ v. v) (λ v. v)) points ≡ points
 same_points [] = refl
@@ -26,40 +39,40 @@ pub second_off : (a b : Bool) → b ≡ false → (a && b) ≡ false
 second_off true b h = h
 second_off false b h = refl
 
+-- what the least box reaches lies between where its corners land
+pub reached_between : (s : Surface) (bounds : Rect) (x y : ℕ) → Reaches bounds s x y → in_box (raised Inclusive (box_between (placed_point (near_corner bounds) s) (placed_point (far_corner bounds) s))) x y ≡ true
+reached_between s bounds x y reached =
+    let near = placed_point (near_corner bounds) s in
+    let far = placed_point (far_corner bounds) s in
+    let pixel = reached.pixel in
+    and_from (is_from_to (int_min near.x far.x) (int_max near.x far.x +ℤ pos 1) x) (is_from_to (int_min near.y far.y) (int_max near.y far.y +ℤ pos 1) y)
+    (from_to_from _ _ x (least_low near.x far.x (pos x) pixel.left) (most_high near.x far.x (pos x) pixel.right))
+    (from_to_from _ _ y (least_low near.y far.y (pos y) pixel.top) (most_high near.y far.y (pos y) pixel.bottom))
+
+pub shows : (place : Place) → ShowsFrame (surface_of place)
+shows place = record { wide = place.frame.wide; high = place.frame.high }
+
 module _ (laws : BoxLaws) (place : Place) (bounds : Rect) where
   abbrev s : Surface
   s = surface_of place
-
-  shows : ShowsFrame s
-  shows = record { wide = place.frame.wide; high = place.frame.high }
-
-  of_x : KeepsBetween (λ v. placed v s.width s.frame_width)
-  of_x = laws.place s.width s.frame_width shows.wide
-
-  of_y : KeepsBetween (λ v. placed v s.height s.frame_height)
-  of_y = laws.place s.height s.frame_height shows.high
-
-  by_corners : (points : List Point) → IsTight bounds points → HasAll (box_between (placed_point (near_corner bounds) s) (placed_point (far_corner bounds) s)) (placed_list s points)
-  by_corners points tight = (laws.boxes (λ v. placed v s.width s.frame_width) (λ v. placed v s.height s.frame_height) bounds points of_x of_y tight).all
-
-  pub lands_between : HasLanded s bounds (box_between (placed_point (near_corner bounds) s) (placed_point (far_corner bounds) s))
-  lands_between [] least within = All-nil (HasPoint (box_between (placed_point (near_corner bounds) s) (placed_point (far_corner bounds) s)))
-  lands_between (p ∷ ps) least within = by_corners (p ∷ ps) least
 
   -- where all points land, so do the corners
   corners_land : (points : List Point) → IsTight bounds points → list_all (λ point. lands_within_limits point s) points ≡ true → (lands_within_limits (near_corner bounds) s && lands_within_limits (far_corner bounds) s) ≡ true
   corners_land points tight within =
       let same = same_points points in
-      let laid = laws.lands (λ v. v) (λ v. v) s bounds points shows (λ from v to between. between) (λ from v to between. between) tight in
+      let laid = laws.lands (λ v. v) (λ v. v) s bounds points (shows place) (λ from v to between. between) (λ from v to between. between) tight in
       sym laid ∙ ap (λ (ps : List Point). list_all (λ point. lands_within_limits point s) ps) same ∙ within
 
   corner_fits : (p : Point) → lands_within_limits p s ≡ true → fits_place (placed_point p s) ≡ true
   corner_fits p h = (and_parts (is_on_plane p) (fits_place (placed_point p s)) h).1
 
-  -- so where one doesn't, there is no point
-  pub none_lands : (box : Rect) → (fits_place (placed_point (near_corner bounds) s) && fits_place (placed_point (far_corner bounds) s)) ≡ false → HasLanded s bounds box
-  none_lands box off [] least within = All-nil (HasPoint box)
-  none_lands box off (p ∷ ps) least within =
+  -- so where one doesn't, nothing is reached
+  pub none_reached : (box : Rect) → (fits_place (placed_point (near_corner bounds) s) && fits_place (placed_point (far_corner bounds) s)) ≡ false → HasLanded s bounds box
+  none_reached box off [] least within x y reached = absurd (empty (rw least at reached.wide))
+    where
+      empty : pos 0 ≤ℤ negsuc 0 → ⊥
+      empty h = omega (arith, ints, h)
+  none_reached box off (p ∷ ps) least within x y reached =
       let both = and_parts (lands_within_limits (near_corner bounds) s) (lands_within_limits (far_corner bounds) s) (corners_land (p ∷ ps) least within) in
       let near = corner_fits (near_corner bounds) both.0 in
       let far = corner_fits (far_corner bounds) both.1 in
@@ -69,3 +82,19 @@ module _ (laws : BoxLaws) (place : Place) (bounds : Rect) where
       contradicts true true e f h = cc
       contradicts true false e f h = cc
       contradicts false b e f h = cc
+
+-- the least box of points has them
+has_all : (bounds : Rect) (points : List Point) → IsLeastBox bounds points → All (HasPoint bounds) points
+has_all bounds [] least = All-nil (HasPoint bounds)
+has_all bounds (p ∷ ps) least = least.all
+
+-- so a shape told by them lies in the box in which what it reaches lies
+pub shape_landed :
+    DrawingBoxLaws → (place : Place) (s : Surface) → surface_of place ≡ s → (bounds box : Rect) → HasLanded (surface_of place) bounds box
+    → (points : List Point) → IsLeastBox bounds points → list_all (λ point. lands_within_limits point s) points ≡ true
+    → (shape : Shape) → IsClosedShape shape → shape_points shape ≡ points → (x y : ℕ) → in_shape shape s x y ≡ true → in_box box x y ≡ true
+shape_landed laws place s e bounds box landed points least within shape closed told x y h =
+    let here : ShowsFrame s = subst ShowsFrame e (shows place) in
+    let there : HasLanded s bounds box = subst (λ (r : Surface). HasLanded r bounds box) e landed in
+    let all : All (HasPoint bounds) (shape_points shape) = subst (All (HasPoint bounds)) (sym told) (has_all bounds points least) in
+    there points least within x y (laws.shape shape bounds s x y here closed all h)

@@ -13,17 +13,14 @@ use Rattle.mapping.specs.Plane.{is_on_plane}
 use Rattle.mapping.specs.PlaceOf.{surface_of}
 use Rattle.mapping.specs.Surface.{FitsPlace, IsPlaceCoordinate, Surface, fits_place, lands_within_limits, placed_point}
 use Rattle.mapping.specs.declared.geometry.Point.{Point}
-use Rattle.mapping.specs.Boxes.{IsLeastBox}
 use Rattle.mapping.specs.declared.geometry.Rect.{Rect}
 use Rattle.mapping.specs.declared.place.Place.{Place}
-use Rattle.dc_stack.specs.Boxes.{HasAll, placed_list}
 use Rattle.dc_stack.specs.Drawing.{points_of_lists}
 use Rattle.dc_stack.specs.Figures.{box_corners}
 use Rattle.dc_stack.specs.Mapped.{mapped_list, mapped_lists, mapped_point}
 use Rattle.dc_stack.specs.Projected.{is_projected, projected}
 use Rattle.dc_stack.specs.declared.projection.Projection.{Projection}
 use Rattle.span_fill.specs.Lines.{IsNear, IsNearPoint}
-use Rattle.player.specs.Regions.{HasLanded}
 use Rattle.player.specs.PlacedLines.{AllLand, AllListsLand}
 
 true_le : (a b : ℤ) → int_le a b ≡ true → a ≤ℤ b
@@ -130,10 +127,6 @@ module _ (by : Projection) where
         let all : list_all test (p ∷ others) ≡ true = ap (list_all test) (sym (append-nil (p ∷ others))) ∙ t in
         let parts = and_parts (test p) (list_all test others) all in
         (landed_near s p parts.0, list_lands ps parts.1)
-
--- a box of the surface has where the points of a drawing land
-pub landed_inside : (place : Place) (s : Surface) → surface_of place ≡ s → (bounds box : Rect) → HasLanded (surface_of place) bounds box → (points : List Point) → IsLeastBox bounds points → list_all (λ point. lands_within_limits point s) points ≡ true → HasAll box (placed_list s points)
-landed_inside place s e bounds box has points least within = subst (λ (r : Surface). HasLanded r bounds box) e has points least within
 
 -- the points of one list are its points
 pub joined_one : (points : List Point) → points_of_lists (points ∷ []) ≡ points

@@ -15,7 +15,8 @@ pub mod OutlineLemmas
 pub mod DrawingLemmas
 pub mod DotLemmas
 pub mod BlitLemmas
-pub mod BoxPaintLemmas
+pub mod RegionLemmas
+pub mod SourceLemmas
 pub mod RectangleLemmas
 pub mod MoveLemmas
 pub mod PieceLemmas

@@ -1,24 +1,24 @@
 -- Figures that are painted: their lines, and the layers that they make.
-use Rattle.std.proofs.Common.{◌≡◌, ℕ, ◌<◌, ◌≤◌, ◌^◌, true, false, List, [], ◌∷◌, ◌++◌, length, Some, None, arith, refl, ap, subst, sym, ◌∙◌}
+use Rattle.std.proofs.Common.{◌≡◌, ℕ, ◌<◌, ◌≤◌, ◌^◌, true, false, List, [], ◌∷◌, ◌++◌, length, Some, None, arith, refl, ap, sym, ◌∙◌}
 use Rattle.std.specs.List.{All, flat_map, list_all}
 use Rattle.std.proofs.lemmas.List.{append-nil}
+use Rattle.std.proofs.lemmas.List.Elements.{All-cons, All-nil}
 use Rattle.std.proofs.lemmas.List.Folds.{flat_map-map}
 use Rattle.mapping.specs.PageMap.{map_numbers}
 use Rattle.mapping.specs.PlaceOf.{surface_of}
 use Rattle.mapping.specs.Surface.{Surface, lands_within_limits, placed_point}
 use Rattle.mapping.specs.declared.geometry.Point.{Point}
-use Rattle.mapping.specs.declared.geometry.Rect.{Rect}
-use Rattle.dc_stack.specs.Boxes.{HasAll, placed_list}
+use Rattle.dc_stack.specs.Boxes.{placed_list}
 use Rattle.dc_stack.specs.Drawing.{Tools, edge_limit, points_of_lists}
 use Rattle.dc_stack.specs.Figures.{Figure, figures_of_lists, points_of_figures}
 use Rattle.dc_stack.specs.Mapped.{mapped_list, mapped_lists}
 use Rattle.dc_stack.specs.declared.draw.Painting.{Painting}
 use Rattle.dc_stack.specs.declared.draw.Painting.TheVariants.{Fill, Stroke, StrokeAndFill}
 use Rattle.dc_stack.specs.declared.projection.Projection.{Projection}
-use Rattle.span_fill.specs.RowLaws.{LiesBetween}
 use Rattle.span_fill.specs.Strokes.{in_stroke}
 use Rattle.span_fill.specs.declared.line.Line.{Line}
 use Rattle.player.specs.FigureEnds.{figure_ends, lines_of_figures, stroked_ends}
+use Rattle.preflight_cert.specs.DrawingBoxLaws.{IsClosedFigure, IsClosedShape, shape_points}
 use Rattle.preflight_cert.specs.FigureLines.{all_closed, placed_figures}
 use Rattle.preflight_cert.specs.Layer.{figures_filled, figures_stroked, filled, stroked}
 use Rattle.preflight_cert.specs.Outlines.{closed_lines, open_lines}
@@ -26,7 +26,7 @@ use Rattle.player.specs.PlacedLines.{AllListsLand, lines_between, lines_of_lists
 use Rattle.preflight_cert.specs.Shape.{Shape, along_figures, in_shape, inside_figures, placed_lists}
 use Rattle.player.specs.declared.list_lines.Ends.{Ends}
 use Rattle.player.specs.declared.list_lines.Ends.TheVariants.{Open, Closed}
-use Rattle.player.proofs.FigureLemmas.{closed_lines_along, figure_lines_few, figure_lines_lie, said_lines}
+use Rattle.player.proofs.FigureLemmas.{closed_lines_along, figure_lines_few, said_lines}
 use Rattle.player.proofs.LandingLemmas.{lists_land}
 use Rattle.player.proofs.OutlineLemmas.{placed_lines, placed_through}
 
@@ -40,13 +40,27 @@ module _ (s : Surface) (figures : List Figure) (ends : Ends) (lines : List Line)
   pub lines_few : length lines ≤ length (points_of_figures figures)
   lines_few = rw drawn (figure_lines_few s ends figures)
 
-  pub lines_lie : (box : Rect) → HasAll box (placed_list s (points_of_figures figures)) → All (LiesBetween box.t box.b) lines
-  lines_lie box inside = subst (All (LiesBetween box.t box.b)) (sym drawn) (figure_lines_lie s box ends figures inside)
+-- figures that are all closed have the points that they had
+pub points_closed : (figures : List Figure) → points_of_figures (all_closed figures) ≡ points_of_figures figures
+points_closed [] = refl
+points_closed (f ∷ fs) = ap (λ (rest : List Point). f.points ++ rest) (points_closed fs)
+
+pub figures_closed : (figures : List Figure) → All IsClosedFigure (all_closed figures)
+figures_closed [] = All-nil IsClosedFigure
+figures_closed (f ∷ fs) = All-cons IsClosedFigure _ (all_closed fs) refl (figures_closed fs)
 
 -- what a painting strokes
 abbrev pub stroked_shape : Ends → List Figure → Shape
 stroked_shape Open figures = along_figures figures
 stroked_shape Closed figures = along_figures (all_closed figures)
+
+pub stroke_told : (ends : Ends) (figures : List Figure) → shape_points (stroked_shape ends figures) ≡ points_of_figures figures
+stroke_told Open figures = refl
+stroke_told Closed figures = points_closed figures
+
+pub stroke_closed : (ends : Ends) (figures : List Figure) → IsClosedShape (stroked_shape ends figures)
+stroke_closed Open figures = tt
+stroke_closed Closed figures = tt
 
 pub strokes_figures : (painting : Painting) (ends : Ends) (figures : List Figure) (tools : Tools) → stroked_ends painting ≡ Some ends → figures_stroked painting figures tools ≡ stroked (stroked_shape ends figures) tools
 strokes_figures Fill ends figures tools h = cc

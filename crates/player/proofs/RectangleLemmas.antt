@@ -1,18 +1,20 @@
 -- The lines around a box.
 use Rattle.std.proofs.Common.{◌≡◌, ℕ, ℤ, pos, ◌≤ℤ◌, ◌<ℤ◌, ◌-ℤ◌, true, false, int_lt, List, [], ◌∷◌, All, arith, refl, sym, ◌∙◌, ap}
-use Rattle.std.proofs.lemmas.Bool.{and_parts}
+use Rattle.std.proofs.lemmas.Bool.{and_from, and_parts}
 use Rattle.std.proofs.lemmas.Int.{ints}
 use Rattle.std.proofs.lemmas.List.Elements.{All-cons, All-nil, All-same}
 use Rattle.mapping.specs.declared.geometry.Point.{Point}
 use Rattle.mapping.specs.declared.geometry.Rect.{Rect}
+use Rattle.mapping.specs.Boxes.{HasPoint}
+use Rattle.dc_stack.specs.Clip.{in_box, is_from_to}
+use Rattle.span_fill.specs.LineBoxes.{HasLine, LineBoxLaws}
 use Rattle.span_fill.specs.Lines.{HasNearEnds, IsNear, IsNearPoint}
-use Rattle.span_fill.specs.RowLaws.{LiesBetween}
 use Rattle.span_fill.specs.Strokes.{in_stroke}
 use Rattle.span_fill.specs.declared.line.Line.{Line}
 use Rattle.preflight_cert.specs.Outlines.{line_from}
 use Rattle.preflight_cert.specs.Rectangles.{has_inside, rectangle_lines}
 use Rattle.player.specs.RectangleBoxes.{IsNearBox}
-use Rattle.player.proofs.TestLemmas.{int_lt-true}
+use Rattle.player.proofs.TestLemmas.{from_to_from, int_lt-true}
 
 -- what four lines have, all of them have
 all_four : (P : Line → Type 0) (a b c d : Line) → P a → P b → P c → P d → All P (a ∷ b ∷ c ∷ d ∷ [])
@@ -27,6 +29,9 @@ near_before first edge h f e =
     let low = f.low in
     let high = e.high in
     record { low = omega (arith, ints, h, low); high = omega (arith, ints, high) }
+
+before_edge : (n : ℕ) (edge : ℤ) → pos n ≤ℤ (edge -ℤ pos 1) → pos n <ℤ edge
+before_edge n edge h = omega (arith, ints, h)
 
 -- a box without a pixel has no lines
 pub no_stroke : (box : Rect) (x y : ℕ) → has_inside box ≡ false → in_stroke (rectangle_lines box) x y ≡ false
@@ -78,17 +83,29 @@ module _ (box : Rect) where
         (all_four HasNearEnds (line_from left_top right_top) (line_from right_top right_bottom) (line_from right_bottom left_bottom) (line_from left_bottom left_top)
         (record { from = a; to = b }) (record { from = b; to = c }) (record { from = c; to = d }) (record { from = d; to = a }))
 
-    -- and lie between the top and the bottom
-    pub lines_between : All (LiesBetween box.t box.b) (rectangle_lines box)
-    lines_between =
-        let order = high in
-        let above : box.t ≤ℤ box.t = omega (arith, ints) in
-        let below : box.t ≤ℤ box.b = omega (arith, ints, order) in
-        let low : box.t ≤ℤ (box.b -ℤ pos 1) = omega (arith, ints, order) in
-        let last : (box.b -ℤ pos 1) ≤ℤ box.b = omega (arith, ints) in
-        All-same (LiesBetween box.t box.b) (rectangle_lines box) lines (sym lines_there)
-        (all_four (LiesBetween box.t box.b) (line_from left_top right_top) (line_from right_top right_bottom) (line_from right_bottom left_bottom) (line_from left_bottom left_top)
-        (record { from_first = above; from_last = below; to_first = above; to_last = below })
-        (record { from_first = above; from_last = below; to_first = low; to_last = last })
-        (record { from_first = low; from_last = last; to_first = low; to_last = last })
-        (record { from_first = low; from_last = last; to_first = above; to_last = below }))
+    -- the box of the outer pixels has them, and so the rectangle has their pixels
+    abbrev outer : Rect
+    outer = record { l = box.l; t = box.t; r = box.r -ℤ pos 1; b = box.b -ℤ pos 1 }
+
+    across : (box.l ≤ℤ box.l) × (box.l ≤ℤ (box.r -ℤ pos 1)) × ((box.r -ℤ pos 1) ≤ℤ (box.r -ℤ pos 1))
+    across = let order = wide in (omega (arith, ints), omega (arith, ints, order), omega (arith, ints))
+
+    down : (box.t ≤ℤ box.t) × (box.t ≤ℤ (box.b -ℤ pos 1)) × ((box.b -ℤ pos 1) ≤ℤ (box.b -ℤ pos 1))
+    down = let order = high in (omega (arith, ints), omega (arith, ints, order), omega (arith, ints))
+
+    lines_within : All (HasLine outer) (rectangle_lines box)
+    lines_within =
+        let a : HasPoint outer left_top = record { left = across.0; top = down.0; right = across.1; bottom = down.1 } in
+        let b : HasPoint outer right_top = record { left = across.1; top = down.0; right = across.2; bottom = down.1 } in
+        let c : HasPoint outer right_bottom = record { left = across.1; top = down.1; right = across.2; bottom = down.2 } in
+        let d : HasPoint outer left_bottom = record { left = across.0; top = down.1; right = across.1; bottom = down.2 } in
+        All-same (HasLine outer) (rectangle_lines box) lines (sym lines_there)
+        (all_four (HasLine outer) (line_from left_top right_top) (line_from right_top right_bottom) (line_from right_bottom left_bottom) (line_from left_bottom left_top)
+        (record { from = a; to = b }) (record { from = b; to = c }) (record { from = c; to = d }) (record { from = d; to = a }))
+
+    pub stroke_within : LineBoxLaws → (x y : ℕ) → in_stroke (rectangle_lines box) x y ≡ true → in_box box x y ≡ true
+    stroke_within laws x y h =
+        let there = laws.stroke outer (rectangle_lines box) x y lines_within h in
+        and_from (is_from_to box.l box.r x) (is_from_to box.t box.b y)
+        (from_to_from box.l box.r x there.left (before_edge x box.r there.right))
+        (from_to_from box.t box.b y there.top (before_edge y box.b there.bottom))

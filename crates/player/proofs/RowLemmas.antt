@@ -39,15 +39,8 @@ or_cases : (a b : Bool) → (a || b) ≡ true → (a ≡ true) ⊎ (b ≡ true)
 or_cases true b h = inl refl
 or_cases false b h = inr h
 
--- a row in which a shape has a pixel lies between those above and below which it has none
-pub between_rows : (has : Bool) (first last : ℤ) (y : ℕ) → ((pos y <ℤ first) ⊎ (last <ℤ pos y) → has ≡ false) → has ≡ true → is_from_to first (last +ℤ pos 1) y ≡ true
-between_rows has first last y out h =
-    let low : first ≤ℤ pos y = by_lt_z (pos y) first (λ above. absurd (true≢false (sym h ∙ out (inl above)))) (λ fine. fine) in
-    let high : pos y ≤ℤ last = by_lt_z last (pos y) (λ below. absurd (true≢false (sym h ∙ out (inr below)))) (λ fine. fine) in
-    from_to_from first (last +ℤ pos 1) y low (omega (arith, ints, high))
-
 -- spans that lie apart between two numbers have no other
-pub within_ends : (first last : ℕ) (spans : List Span) (x : ℕ) → AreApart first last spans → in_spans spans x ≡ true → (first ≤ x) × (x < last)
+within_ends : (first last : ℕ) (spans : List Span) (x : ℕ) → AreApart first last spans → in_spans spans x ≡ true → (first ≤ x) × (x < last)
 within_ends first last [] x apart h = absurd (true≢false (sym h))
 within_ends first last (span ∷ spans) x apart h =
     let low = apart.0 in
@@ -61,7 +54,7 @@ within_ends first last (span ∷ spans) x apart h =
     ]
 
 -- the spans of a row have what the test has of the interval
-spans_are : (interval : Span) (spans : List Span) (test : ℕ → Bool) (x : ℕ) → AreRow test interval spans → in_spans spans x ≡ (in_span interval x && test x)
+pub spans_are : (interval : Span) (spans : List Span) (test : ℕ → Bool) (x : ℕ) → AreRow test interval spans → in_spans spans x ≡ (in_span interval x && test x)
 spans_are interval spans test x row = same_test _ _
     (λ h.
     let at = within_ends interval.from interval.to spans x row.apart h in
@@ -221,22 +214,6 @@ module _ (paint : Brushing) (shape : ℕ → ℕ → Bool) (canvas : CanvasState
     -- one of the rows is one of the region's, and lies between
     pub row_parts : (y : ℕ) → rows.from ≤ y → y < rows.to → (in_span region.rows y ≡ true) × (is_from_to from to y ≡ true)
     row_parts y low high = and_parts (in_span region.rows y) (is_from_to from to y) (sym (numbers y) ∙ column_from rows.from rows.to y low high)
-
-    -- what a row's spans have is what the kept box and the shape have of it
-    pub row_columns : (spans : List Span) (test : ℕ → Bool) (x y : ℕ) → AreRow test region.columns spans → rows.from ≤ y → y < rows.to → HasRow canvas y → x < canvas.width → in_spans spans x ≡ (in_kept (placed_value paint.clip.now).kept x y && test x)
-    row_columns spans test x y row low high held column =
-        let inside = (row_parts y low high).0 in
-        let all : in_region region x y ≡ in_span region.columns x = ap (λ (b : Bool). in_span region.columns x && b) inside ∙ and-true (in_span region.columns x) in
-        spans_are region.columns spans test x row ∙ ap (λ (b : Bool). b && test x) (sym all ∙ kept x y (pixel_held canvas x y column held))
-
-    -- so is what a box has of it
-    pub box_columns : (box : Rect) (columns : Span) (x y : ℕ) → from ≡ box.t → to ≡ box.b → ((n : ℕ) → in_span columns n ≡ (in_span region.columns n && is_from_to box.l box.r n)) → rows.from ≤ y → y < rows.to → HasRow canvas y → x < canvas.width → is_column columns.from columns.to x ≡ (in_kept (placed_value paint.clip.now).kept x y && in_box box x y)
-    box_columns box columns x y top bottom narrow low high held column =
-        let parts = row_parts y low high in
-        let row : is_from_to box.t box.b y ≡ true = subst (λ (v : ℤ). is_from_to box.t v y ≡ true) bottom (subst (λ (v : ℤ). is_from_to v to y ≡ true) top parts.1) in
-        let all : in_region region x y ≡ in_span region.columns x = ap (λ (b : Bool). in_span region.columns x && b) parts.0 ∙ and-true (in_span region.columns x) in
-        let there : in_box box x y ≡ is_from_to box.l box.r x = ap (λ (b : Bool). is_from_to box.l box.r x && b) row ∙ and-true (is_from_to box.l box.r x) in
-        narrow x ∙ ap (λ (b : Bool). b && is_from_to box.l box.r x) (sym all ∙ kept x y (pixel_held canvas x y column held)) ∙ ap (λ (b : Bool). in_kept (placed_value paint.clip.now).kept x y && b) (sym there)
 
 -- what is written of a surface counts at most as many as it has
 pub few_written : WritingLaws → (test : ℕ → ℕ → Bool) (f : ℕ → ℕ → Colour → Colour) (start now : CanvasState) → Repaints test f start now → start.rows * start.width ≤ 2 ^ 26 → now.writes ≤ start.writes + 2 ^ 26

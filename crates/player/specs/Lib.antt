@@ -12,13 +12,15 @@ pub mod PlacedLines
 pub mod LinesToCome
 pub mod FigureOutlines
 pub mod RowInks
-pub mod RasterOperation
+pub mod Joined
 pub mod Painted
 pub mod Pens
+pub mod SourceRows
 pub mod Blits
 pub mod Strips
 pub mod LineSteps
 pub mod RowsPainted
+pub mod Parts
 pub mod Dots
 pub mod RectangleBoxes
 pub mod Regions

@@ -10,7 +10,7 @@ use Rattle.dc_stack.specs.Values.{placed_value}
 use Rattle.raster_ops.specs.Paints.{brush_paint}
 use Rattle.raster_ops.specs.Readers.{column_read, row_read}
 use Rattle.raster_ops.specs.declared.sources.SourceReader.{SourceReader}
-use Rattle.player.specs.RasterOperation.{joined_if}
+use Rattle.player.specs.Joined.{joined_if}
 use Rattle.player.specs.declared.brushing.Brushing.{Brushing}
 
 -- the paint's colour at a pixel, or nothing
@@ -28,4 +28,4 @@ paints paint shape x y = in_boxes (placed_value paint.clip.now) x y && shape x y
 
 -- and makes this of its old colour
 abbrev pub made : Brushing → ℕ → ℕ → Colour → Colour
-made paint x y old = joined_if paint.operation (colour_seen paint.source x y) (colour_of paint x y) old
+made paint x y old = joined_if paint.operation.op.table (colour_seen paint.source x y) (colour_of paint x y) old

@@ -1,11 +1,12 @@
 -- Columns and rows of surfaces, and the boxes that drawings take there.
-use Rattle.std.specs.Prelude.{◌≤◌, List, IsTrue}
+use Rattle.std.specs.Prelude.{◌≡◌, ℕ, ◌≤◌, true, List, IsTrue}
 use Rattle.std.specs.List.{list_all}
 use Rattle.mapping.specs.Boxes.{IsLeastBox}
 use Rattle.mapping.specs.Surface.{Surface, lands_within_limits}
 use Rattle.mapping.specs.declared.geometry.Point.{Point}
 use Rattle.mapping.specs.declared.geometry.Rect.{Rect}
-use Rattle.dc_stack.specs.Boxes.{HasAll, placed_list}
+use Rattle.dc_stack.specs.Clip.{in_box}
+use Rattle.preflight_cert.specs.DrawingBoxLaws.{Reaches}
 use Rattle.span_fill.specs.declared.span.Span.{Span}
 
 -- the ends of a span are at most 8,192, the longest side of a surface
@@ -13,8 +14,8 @@ pub record IsOfSide (span : Span) : Type 0 where
   pub from : span.from ≤ 8192
   pub to : span.to ≤ 8192
 
--- a box of the surface has where points land that have this least box on the plane, if all of them land within the limits
+-- a box of the surface has each pixel that this least box on the plane of some points reaches, if all of them land within the limits
 abbrev pub HasLanded : Surface → Rect → Rect → Type 0
 HasLanded s bounds box =
     (points : List Point) → IsLeastBox bounds points → IsTrue (list_all (λ point. lands_within_limits point s) points)
-    → HasAll box (placed_list s points)
+    → (x y : ℕ) → Reaches bounds s x y → in_box box x y ≡ true

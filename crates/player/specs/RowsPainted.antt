@@ -1,7 +1,11 @@
 -- What of a shape is painted, row by row.
-use Rattle.std.specs.Prelude.{ℕ, Bool, ◌&&◌, ◌==◌, nat_lt}
-use Rattle.player.specs.Painted.{paints}
+use Rattle.std.specs.Prelude.{◌≡◌, ℕ, ◌≤◌, ◌<◌, Bool, true, ◌&&◌, ◌==◌, nat_lt, is_some}
+use Rattle.mapping.specs.declared.geometry.Colour.{Colour}
+use Rattle.span_fill.specs.declared.span.Span.{Span}
+use Rattle.player.specs.Painted.{colour_of, made, paints}
+use Rattle.player.specs.RowInks.{inked, is_inked}
 use Rattle.player.specs.declared.brushing.Brushing.{Brushing}
+use Rattle.player.specs.declared.row_ink.RowInk.{RowInk}
 
 -- in the rows before this one
 abbrev pub paints_above : Brushing → (ℕ → ℕ → Bool) → ℕ → ℕ → ℕ → Bool
@@ -10,3 +14,8 @@ paints_above paint shape y column row = paints paint shape column row && nat_lt 
 -- in this row
 abbrev pub paints_row : Brushing → (ℕ → ℕ → Bool) → ℕ → ℕ → ℕ → Bool
 paints_row paint shape y column row = paints paint shape column row && row == y
+
+-- an ink writes what a paint does in a row, and makes the same of it in these columns
+pub record IsInk (paint : Brushing) (columns : Span) (y : ℕ) (ink : RowInk) : Type 0 where
+  pub test : (x : ℕ) → is_inked ink x ≡ is_some (colour_of paint x y)
+  pub colour : (x : ℕ) (old : Colour) → columns.from ≤ x → x < columns.to → is_inked ink x ≡ true → inked ink x old ≡ made paint x y old

@@ -1,49 +1,50 @@
 //! Brushing: what a brush makes of pixels by a raster operation, in the modes of the moment and under a clip.
 
-ghost use Rattle.std.specs.Prelude.{◌≡◌, ◌≤◌, ◌<◌, ℕ, None, Some, true, is_some, if◌then◌else◌};
+ghost use Rattle.std.specs.Prelude.{◌≡◌, ◌≤◌, ℕ, None, IfSome, if◌then◌else◌};
 ghost use Rattle.mapping.specs.Colours.{black_colour};
-ghost use Rattle.mapping.specs.declared.geometry.Colour.{Colour};
 ghost use Rattle.draw_ops.specs.declared.objects.Brush.TheVariants.{Solid};
 ghost use Rattle.raster_ops.specs.BrushRows.{row_paint};
+ghost use Rattle.raster_ops.specs.RasterOps.{binary_table};
+ghost use Rattle.raster_ops.specs.Readers.{row_read};
 ghost use Rattle.raster_ops.specs.TernaryOps.{uses_pattern};
-ghost use Rattle.player.specs.RowInks.{inked, is_inked};
-ghost use Rattle.player.specs.declared.raster_operation.RasterOperation.TheVariants.{Binary, Ternary};
+ghost use Rattle.span_fill.specs.declared.span.Span.{Span};
+ghost use Rattle.player.specs.SourceRows.{HoldsRow};
 
-use crate::ink_room::InkRoom;
-use crate::raster_operation::{BLACK, RasterOperation};
-use crate::row_ink::{RowInk, full, row_ink};
+use crate::ink_room::{BLACK, MAX_SIDE, MixRoom};
+use crate::row_ink::{RowInk, full, row_ink, source_ink};
 use dc_stack::{Clip, Dc, Modes};
 use draw_ops::{Brush, TernaryOp};
 use mapping::Colour;
-use raster_ops::{BrushRow, SourceReader, brush_row, uses_pattern};
+use raster_ops::{BrushRow, SourceReader, TernaryMixer, brush_row, ternary_of, uses_pattern};
+use span_fill::Span;
 
 /// What a brush makes of pixels, in the modes of the moment and under a clip. A pen is a brush of one colour.
 #[derive(Clone, Copy, Debug)]
 pub(crate) struct Brushing<'d, 'a> {
     pub(crate) brush: Brush<'a>,
     pub(crate) modes: Modes,
-    pub(crate) operation: RasterOperation,
+    pub(crate) operation: TernaryMixer,
     /// What a blit reads, where its operation depends on that.
     pub(crate) source: Option<SourceReader<'a>>,
     pub(crate) clip: &'d Clip,
 }
 
 impl<'d, 'a> Brushing<'d, 'a> {
-    ghost use Rattle.player.specs.Painted.{colour_of, made};
-    ghost use Rattle.player.specs.Pens.{IsPen};
+    ghost use Rattle.player.specs.Painted.{colour_of};
+    ghost use Rattle.player.specs.RowsPainted.{IsInk};
 
     /// What a brush makes of pixels at the moment.
     pub(crate) fn with(brush: Brush<'a>, dc: &'d Dc<'a>) -> Brushing<'d, 'a>
         ensures brush { result.brush ≡ brush.entry }
         ensures modes { result.modes ≡ dc.now.modes }
-        ensures operation { result.operation ≡ Binary dc.now.modes.raster_op }
+        ensures operation { result.operation.op.table ≡ binary_table dc.now.modes.raster_op }
         ensures alone { result.source ≡ None }
         ensures clip { result.clip.now ≡ dc.now.clip }
     {
         Brushing {
             brush,
             modes: dc.modes,
-            operation: RasterOperation::Binary(dc.modes.raster_op),
+            operation: TernaryMixer::new(ternary_of(dc.modes.raster_op)),
             source: None,
             clip: &dc.clip,
         }
@@ -58,7 +59,7 @@ impl<'d, 'a> Brushing<'d, 'a> {
     ) -> Brushing<'d, 'a>
         ensures brush { result.brush ≡ (if uses_pattern operation.table then dc.now.selected.brush else Solid black_colour) }
         ensures modes { result.modes ≡ dc.now.modes }
-        ensures operation { result.operation ≡ Ternary operation }
+        ensures operation { result.operation.op ≡ operation }
         ensures source { result.source ≡ source.entry }
         ensures clip { result.clip.now ≡ dc.now.clip }
     {
@@ -70,36 +71,52 @@ impl<'d, 'a> Brushing<'d, 'a> {
         Brushing {
             brush,
             modes: dc.modes,
-            operation: RasterOperation::Ternary(operation),
+            operation: TernaryMixer::new(operation),
             source,
             clip: &dc.clip,
         }
     }
 
-    /// What it makes of the pixels of a row in the columns from one on up to before another. Nothing is read.
-    pub(crate) fn row<'r>(&self, y: u32, from: u32, to: u32, room: &'r mut InkRoom) -> RowInk<'r>
-        requires end { to ≤ 8192 }
-        requires alone { self.now.source ≡ None }
-        ensures test { (x : ℕ) → is_inked result x ≡ is_some (colour_of self.now x y) }
-        ensures ink { (x : ℕ) (old : Colour) → from ≤ x → x < to → is_inked result x ≡ true → inked result x old ≡ made self.now x y old }
+    /// What it makes of the pixels of each row, if that is the same in each: its brush has one colour, and nothing is read.
+    pub(crate) fn same_ink(&self) -> Option<RowInk<'static>>
+        ensures { IfSome result (λ ink. (columns : Span) (y : ℕ) → IsInk self.now columns y ink) }
     {
-        row_ink(self.brush_row(y), self.operation, from, to, room)
+        match (self.brush, self.source) {
+            (Brush::Solid(colour), None) => Some(full(self.operation.mix(colour, BLACK))),
+            _ => None,
+        }
+    }
+
+    /// What it makes of the pixels of a row in some columns, what it reads there being gathered: this, if that is the same in each row.
+    pub(crate) fn row<'r>(
+        &self,
+        same: Option<RowInk<'static>>,
+        y: u32,
+        columns: Span,
+        sources: &'r [Colour; MAX_SIDE],
+        room: &'r mut MixRoom,
+    ) -> RowInk<'r>
+        requires same { IfSome same (λ ink. IsInk self.now columns y ink) }
+        requires order { columns.from ≤ columns.to }
+        requires end { columns.to ≤ 8192 }
+        requires seen { IfSome self.now.source (λ reader. HoldsRow reader columns (row_read reader y) sources.now) }
+        ensures { IsInk self.now columns y result }
+    {
+        if let Some(ink) = same {
+            return ink;
+        }
+        let row = self.brush_row(y);
+        match self.source {
+            None => row_ink(&row, self.operation, columns, room),
+            Some(_) => source_ink(&row, self.operation, columns, sources, room),
+        }
     }
 
     /// What the brush gives a row.
-    pub(crate) fn brush_row(&self, y: u32) -> BrushRow<'a>
+    fn brush_row(&self, y: u32) -> BrushRow<'a>
         ensures { (x : ℕ) → row_paint result x ≡ colour_of self.now x y }
     {
         let mode = self.modes.background_mode;
         brush_row(&self.brush, y, mode, self.modes.background_colour)
-    }
-
-    /// What a pen of one colour makes of the pixels of each row.
-    pub(crate) fn pen_ink(&self, colour: Colour) -> RowInk<'static>
-        requires pen { IsPen self.now colour }
-        ensures test { (x y : ℕ) → is_inked result x ≡ is_some (colour_of self.now x y) }
-        ensures ink { (x y : ℕ) (old : Colour) → is_inked result x ≡ true → inked result x old ≡ made self.now x y old }
-    {
-        full(self.operation.mix(colour))
     }
 }

@@ -13,17 +13,20 @@ use crate::blits::blit;
 use crate::brushing::Brushing;
 use crate::dots::put;
 use crate::figure_outline::{FigureOutline, stroked_ends};
-use crate::filling::{fill_box, fill_lines, rule_of};
+use crate::filling::{fill_box, paint_part, rule_of};
 use crate::ink_room::InkRoom;
 use crate::list_lines::Ends;
+use crate::parts::Part;
 use crate::rectangles::rectangle_box;
 use crate::regions::{landed_box, whole_law};
-use crate::stroking::{stroke_box, stroke_line, stroke_lines};
+use crate::stroking::{stroke_box, stroke_line};
 use canvas::{Canvas, writing_law};
 use dc_stack::{Draw, Machine, Mark, Painting};
 use draw_ops::{Brush, Pen};
 use mapping::Colour;
 use object_tables::Table;
+use preflight_cert::drawing_box_law;
+use raster_ops::binary_law;
 use span_fill::{Line, RowBuf};
 
 /// Draws what a step of the machine draws, if it draws, with the tools of its moment. The count of
@@ -70,6 +73,8 @@ fn fill<'a, T: Table<'a>>(
 {
     writing_law();
     whole_law(canvas);
+    binary_law();
+    drawing_box_law();
     let dc = machine.dc();
     let place = machine.place();
     if let Brush::Null = dc.selected.brush {
@@ -82,9 +87,9 @@ fn fill<'a, T: Table<'a>>(
                 return;
             }
             let outline = FigureOutline::new(points, Ends::Closed, machine);
-            let rule = rule_of(dc.modes.fill_mode);
+            let part = Part::Inside(rule_of(dc.modes.fill_mode));
             let landed = landed_box(place, drawn.bounds);
-            fill_lines(canvas, rows, outline, rule, landed, &paint, room);
+            paint_part(canvas, rows, outline, part, landed, &paint, room);
         }
         Mark::Rectangle {
             first,
@@ -130,7 +135,7 @@ fn stroke<'a, T: Table<'a>>(
     let Pen::Solid { colour } = dc.selected.pen else {
         return;
     };
-    stroke_outline(drawn, colour, machine, rows, canvas);
+    stroke_outline(drawn, colour, machine, rows, room, canvas);
 }
 
 /// Strokes the outline of what a step draws, in the colour of the pen. A dot and a blit have none.
@@ -139,6 +144,7 @@ fn stroke_outline<'a, T: Table<'a>>(
     colour: Colour,
     machine: &Machine<'a, T>,
     rows: &mut RowBuf,
+    room: &mut InkRoom,
     canvas: &mut Canvas,
 )
     requires held { HoldsRows canvas.old machine.now.surface }
@@ -153,6 +159,8 @@ fn stroke_outline<'a, T: Table<'a>>(
 {
     writing_law();
     whole_law(canvas);
+    binary_law();
+    drawing_box_law();
     let dc = machine.dc();
     let place = machine.place();
     let paint = Brushing::with(Brush::Solid(colour), dc);
@@ -171,7 +179,7 @@ fn stroke_outline<'a, T: Table<'a>>(
             };
             let outline = FigureOutline::new(points, ends, machine);
             let landed = landed_box(place, drawn.bounds);
-            stroke_lines(canvas, rows, outline, landed, &paint, colour);
+            paint_part(canvas, rows, outline, Part::Lines, landed, &paint, room);
         }
         Mark::Rectangle {
             first,
@@ -179,7 +187,7 @@ fn stroke_outline<'a, T: Table<'a>>(
             edges,
         } => {
             let inside = rectangle_box(place.at(first), place.at(second), edges);
-            stroke_box(canvas, rows, inside, &paint, colour);
+            stroke_box(canvas, rows, inside, &paint, room);
         }
     }
 }

@@ -1,29 +1,30 @@
-//! What is inside, painted row by row.
+//! Parts of outlines, and boxes, painted row by row.
 
-ghost use Rattle.std.specs.Prelude.{◌≡◌, None, ◌+◌, ◌<◌, ◌≤◌, ◌^◌, length};
-ghost use Rattle.std.specs.List.{All};
+ghost use Rattle.std.specs.Prelude.{◌≡◌, ℕ, None, IfSome, true, ◌+◌, ◌<◌, ◌≤◌, ◌^◌, length};
 ghost use Rattle.canvas.specs.Writing.{Repaints};
 ghost use Rattle.dc_stack.specs.Clip.{in_box};
-ghost use Rattle.span_fill.specs.Fill.{in_fill};
-ghost use Rattle.span_fill.specs.RowLaws.{LiesBetween};
 ghost use Rattle.player.specs.Painted.{made, paints};
+ghost use Rattle.player.specs.Parts.{part_has};
+ghost use Rattle.player.specs.SourceRows.{ReadsBox};
 ghost use Rattle.preflight_cert.specs.Shape.{fill_rule_of};
 
 use crate::brushing::Brushing;
 use crate::ink_room::InkRoom;
-use crate::regions::{common, rows_between, visible};
+use crate::parts::{Part, begin_rows, next_row};
+use crate::regions::{common, visible};
+use crate::source_rows::read_row;
 use crate::strips::{put_spans, put_uncut};
 use canvas::{Canvas, writing_law};
 use draw_ops::FillMode;
 use mapping::Rect;
-use span_fill::{FillRule, Outline, RowBuf, row_law};
+use span_fill::{FillRule, Outline, RowBuf};
 
-/// Paints what is inside of an outline whose lines lie in the rows of a box, its bottom included.
-pub(crate) fn fill_lines<O: Outline + Copy>(
+/// Paints a part of an outline that lies in a box. Nothing is read.
+pub(crate) fn paint_part<O: Outline + Copy>(
     canvas: &mut Canvas,
     rows: &mut RowBuf,
     outline: O,
-    rule: FillRule,
+    part: Part,
     bounds: Rect,
     paint: &Brushing<'_, '_>,
     room: &mut InkRoom,
@@ -31,50 +32,59 @@ pub(crate) fn fill_lines<O: Outline + Copy>(
     requires countable { canvas.old.writes + 2 ^ 27 < 2 ^ 64 }
     requires alone { paint.now.source ≡ None }
     requires room { length (O.lines outline) ≤ rows.old.room }
-    requires bounds { All (LiesBetween bounds.t bounds.b) (O.lines outline) }
-    ensures pixels { Repaints (paints paint.now (in_fill rule (O.lines outline))) (made paint.now) canvas.old canvas.new }
+    requires within { (x y : ℕ) → part_has part (O.lines outline) x y ≡ true → in_box bounds x y ≡ true }
+    ensures pixels { Repaints (paints paint.now (part_has part (O.lines outline))) (made paint.now) canvas.old canvas.new }
     ensures few { canvas.new.writes ≤ canvas.old.writes + 2 ^ 26 }
     ensures room { rows.new.room ≡ rows.old.room }
 {
     writing_law();
-    row_law();
     let region = visible(canvas, paint.clip);
-    let drawn = rows_between(region.rows, bounds);
+    let drawn = common(region, bounds);
+    let columns = drawn.columns;
+    if columns.from >= columns.to {
+        return;
+    }
+    let same = paint.same_ink();
     let mut lines = outline;
-    rows.begin_fill(&mut lines, rule, drawn.from);
-    for y in drawn.from..drawn.to {
-        rows.next_fill(region.columns);
-        let ink = paint.row(y, region.columns.from, region.columns.to, room);
+    begin_rows(rows, &mut lines, part, drawn.rows.from);
+    for y in drawn.rows.from..drawn.rows.to {
+        next_row(rows, part, columns);
+        let ink = paint.row(same, y, columns, &room.sources, &mut room.mixes);
         put_spans(canvas, &ink, y, rows.spans(), paint.clip.cut_boxes());
     }
 }
 
-/// Paints what is inside of a box.
+/// Paints a box, which is that of what is read, if a paint reads. A row of a picture is gathered once, and kept while the rows of the
+/// box read it.
 pub(crate) fn fill_box(
     canvas: &mut Canvas,
     inside: Rect,
     paint: &Brushing<'_, '_>,
     room: &mut InkRoom,
 )
-    requires alone { paint.now.source ≡ None }
     requires countable { canvas.old.writes + 2 ^ 27 < 2 ^ 64 }
+    requires reads { IfSome paint.now.source (λ reader. ReadsBox reader inside) }
     ensures pixels { Repaints (paints paint.now (in_box inside)) (made paint.now) canvas.old canvas.new }
     ensures few { canvas.new.writes ≤ canvas.old.writes + 2 ^ 26 }
 {
     writing_law();
     let region = visible(canvas, paint.clip);
     let drawn = common(region, inside);
-    if drawn.columns.from >= drawn.columns.to {
+    let columns = drawn.columns;
+    if columns.from >= columns.to {
         return;
     }
+    let same = paint.same_ink();
+    let mut kept = None;
     for y in drawn.rows.from..drawn.rows.to {
-        let ink = paint.row(y, drawn.columns.from, drawn.columns.to, room);
+        kept = read_row(paint.source, columns, y, kept, &mut room.sources);
+        let ink = paint.row(same, y, columns, &room.sources, &mut room.mixes);
         put_uncut(
             canvas,
             &ink,
             y,
-            drawn.columns.from,
-            drawn.columns.to,
+            columns.from,
+            columns.to,
             paint.clip.cut_boxes(),
         );
     }

@@ -9,8 +9,10 @@ ghost use Rattle.mapping.specs.PlaceOf.{surface_of};
 ghost use Rattle.player.specs.Regions.{HasLanded, IsOfSide};
 ghost use Rattle.span_fill.specs.Spans.{in_region, in_span};
 
+use crate::rectangles::rectangle_box;
 use canvas::Canvas;
 use dc_stack::Clip;
+use draw_ops::RectangleEdges;
 use mapping::{Place, Point, Rect, box_law};
 use span_fill::{Region, Span};
 
@@ -82,8 +84,8 @@ pub(crate) fn common(region: Region, inside: Rect) -> Region
     }
 }
 
-/// The box around where the points of a drawing land, whose least box on the plane this is: its two corners land where they do, since
-/// a place keeps what lies between.
+/// The box in which the pixels of a drawing lie whose least box on the plane this is: from its left and top on, up to before its right
+/// and bottom. Its two corners land where its points do, since a place keeps what lies between.
 pub(crate) fn landed_box(place: Place, bounds: Rect) -> Rect
     ensures { HasLanded (surface_of place) bounds result }
 {
@@ -97,21 +99,10 @@ pub(crate) fn landed_box(place: Place, bounds: Rect) -> Rect
         y: bounds.b,
     });
     match (near, far) {
-        (Some(near), Some(far)) => Rect::between(near, far),
+        (Some(near), Some(far)) => rectangle_box(near, far, RectangleEdges::Inclusive),
         // (there is no point)
         _ => Rect::NONE,
     }
-}
-
-/// The rows from the top of a box to its bottom, which is included.
-pub(crate) fn rows_between(rows: Span, bounds: Rect) -> Span
-    requires { IsOfSide rows }
-    ensures top { rows.from ≤ result.from }
-    ensures bottom { result.to ≤ rows.to }
-    ensures rows { IsOfSide result }
-    ensures has_rows { (n : ℕ) → in_span result n ≡ in_span rows n && is_from_to bounds.t (bounds.b +ℤ pos 1) n }
-{
-    narrowed(rows, i64::from(bounds.t), i64::from(bounds.b) + 1)
 }
 
 /// What a span has of the numbers from one on, up to before another.

@@ -6,14 +6,23 @@ ghost use Rattle.mapping.specs.Colours.{black_colour};
 ghost use Rattle.mapping.specs.Mixes.{mixed_by};
 ghost use Rattle.mapping.specs.Pixels.{is_cell};
 ghost use Rattle.mapping.specs.declared.geometry.Colour.{Colour};
-ghost use Rattle.player.specs.RasterOperation.{joined_by, joined_if};
+ghost use Rattle.player.specs.Joined.{joined_if};
 ghost use Rattle.player.specs.RowInks.{inked, is_inked};
 ghost use Rattle.raster_ops.specs.BrushRows.{row_paint};
+ghost use Rattle.raster_ops.specs.Bytes.{HasBytes};
+ghost use Rattle.raster_ops.specs.TernaryOps.{ternary_colour};
 
-use crate::ink_room::{InkRoom, MAX_SIDE};
-use crate::raster_operation::RasterOperation;
+use crate::ink_room::{BLACK, MAX_SIDE, MixRoom};
+use draw_ops::TernaryOp;
 use mapping::{Colour, Mix};
-use raster_ops::{BrushRow, gather_pattern, pattern};
+use raster_ops::{BrushRow, TernaryMixer, copy_law, gather_pattern, pattern};
+use span_fill::Span;
+
+/// The table of the operation that copies the pattern, whatever the colour that is there is.
+const PATCOPY: u8 = 0xf0;
+
+/// The table of the operation that copies the source, whatever the pattern and the colour that is there are.
+const SRCCOPY: u8 = 0xcc;
 
 /// What the pixels of a row become, by their columns.
 #[derive(Clone, Copy, Debug)]
@@ -49,74 +58,151 @@ pub(crate) enum RowInk<'r> {
     },
 }
 
-/// What a row of a brush makes of its pixels in the columns from one on up to before another. Nothing is read.
+/// What a row of a brush makes of its pixels in some columns. Nothing is read.
 pub(crate) fn row_ink<'r>(
-    row: BrushRow<'_>,
-    operation: RasterOperation,
-    from: u32,
-    to: u32,
-    room: &'r mut InkRoom,
+    row: &BrushRow<'_>,
+    operation: TernaryMixer,
+    columns: Span,
+    room: &'r mut MixRoom,
 ) -> RowInk<'r>
-    requires end { to ≤ 8192 }
-    ensures test { (x : ℕ) → is_inked result x ≡ is_some (row_paint row.entry x) }
-    ensures ink { (x : ℕ) (old : Colour) → from ≤ x → x < to → is_inked result x ≡ true → inked result x old ≡ joined_if operation black_colour (row_paint row.entry x) old }
+    requires order { columns.from ≤ columns.to }
+    requires end { columns.to ≤ 8192 }
+    ensures test { (x : ℕ) → is_inked result x ≡ is_some (row_paint row.now x) }
+    ensures ink { (x : ℕ) (old : Colour) → columns.from ≤ x → x < columns.to → is_inked result x ≡ true → inked result x old ≡ joined_if operation.op.table black_colour (row_paint row.now x) old }
 {
-    match row {
+    match *row {
         BrushRow::Nothing => RowInk::Nothing,
-        BrushRow::Solid(colour) => full(operation.mix(colour)),
+        BrushRow::Solid(colour) => full(operation.mix(colour, BLACK)),
         BrushRow::Hatched {
             cells,
             colour,
             gaps: None,
         } => RowInk::Cells {
             cells,
-            mix: operation.mix(colour),
+            mix: operation.mix(colour, BLACK),
             gaps: None,
         },
         BrushRow::Hatched {
             cells,
             colour,
             gaps: Some(gaps),
-        } => two(cells, operation.mix(colour), operation.mix(gaps)),
-        BrushRow::Tiled(_) => tile_ink(&row, operation, from, to, room),
+        } => two(
+            cells,
+            operation.mix(colour, BLACK),
+            operation.mix(gaps, BLACK),
+        ),
+        BrushRow::Tiled(_) => tile_ink(row, operation, columns, room),
     }
 }
 
 /// What a row of a picture that is repeated makes of those pixels: its colours, where the operation copies them.
 fn tile_ink<'r>(
     row: &BrushRow<'_>,
-    operation: RasterOperation,
-    from: u32,
-    to: u32,
-    room: &'r mut InkRoom,
+    operation: TernaryMixer,
+    columns: Span,
+    room: &'r mut MixRoom,
 ) -> RowInk<'r>
-    requires end { to ≤ 8192 }
+    requires order { columns.from ≤ columns.to }
+    requires end { columns.to ≤ 8192 }
     requires tiled { (x : ℕ) → is_some (row_paint row.now x) ≡ true }
     ensures test { (x : ℕ) → is_inked result x ≡ true }
-    ensures ink { (x : ℕ) (old : Colour) → from ≤ x → x < to → inked result x old ≡ joined_if operation black_colour (row_paint row.now x) old }
+    ensures ink { (x : ℕ) (old : Colour) → columns.from ≤ x → x < columns.to → inked result x old ≡ joined_if operation.op.table black_colour (row_paint row.now x) old }
 {
-    if from > to {
+    gather_pattern(row, columns.from, columns.to, &mut room.patterns);
+    if copies_pattern(operation.op) {
         return RowInk::Row(&room.patterns);
     }
-    gather_pattern(row, from, to, &mut room.patterns);
-    if operation.copies_paint() {
-        return RowInk::Row(&room.patterns);
-    }
-    mix_patterns(operation, from, to, room);
+    mix_patterns(operation, columns.from, columns.to, room);
     RowInk::MixRow {
         keeps: &room.keeps,
         flips: &room.flips,
     }
 }
 
+/// What a row of a brush makes of its pixels in some columns, and of what is read there, each at its column: that, where the operation
+/// copies it and the brush leaves no pixel out.
+pub(crate) fn source_ink<'r>(
+    row: &BrushRow<'_>,
+    operation: TernaryMixer,
+    columns: Span,
+    sources: &'r [Colour; MAX_SIDE],
+    room: &'r mut MixRoom,
+) -> RowInk<'r>
+    requires order { columns.from ≤ columns.to }
+    requires end { columns.to ≤ 8192 }
+    requires parts { (x : ℕ) (d : Colour) → columns.from ≤ x → x < columns.to → HasBytes (slice_index_or sources.now x d) }
+    ensures test { (x : ℕ) → is_inked result x ≡ is_some (row_paint row.now x) }
+    ensures ink { (x : ℕ) (d old : Colour) → columns.from ≤ x → x < columns.to → is_inked result x ≡ true → inked result x old ≡ joined_if operation.op.table (slice_index_or sources.entry.now x d) (row_paint row.now x) old }
+{
+    copy_law();
+    if let (BrushRow::Solid(_), SRCCOPY) = (*row, operation.op.table) {
+        return RowInk::Row(sources);
+    }
+    gather_mixes(row, operation, columns, sources, room);
+    mix_given(row, room)
+}
+
+/// The mixes of the columns to which a row of a brush gives a colour.
+fn mix_given<'r>(row: &BrushRow<'_>, room: &'r MixRoom) -> RowInk<'r>
+    ensures test { (x : ℕ) → is_inked result x ≡ is_some (row_paint row.now x) }
+    ensures ink { (x : ℕ) (old : Colour) → is_inked result x ≡ true → inked result x old ≡ mixed_by (mix_at room.entry.now.keeps room.entry.now.flips x) old }
+{
+    let (keeps, flips) = (&room.keeps, &room.flips);
+    match *row {
+        BrushRow::Nothing => RowInk::Nothing,
+        BrushRow::Solid(_) => RowInk::MixRow { keeps, flips },
+        BrushRow::Hatched {
+            cells,
+            gaps: None,
+            ..
+        } => RowInk::MixCells {
+            cells,
+            keeps,
+            flips,
+        },
+        BrushRow::Hatched { gaps: Some(_), .. } => RowInk::MixRow { keeps, flips },
+        BrushRow::Tiled(_) => RowInk::MixRow { keeps, flips },
+    }
+}
+
+/// Mixes that join what a row of a brush gives these columns and what is read there, each at its column.
+fn gather_mixes(
+    row: &BrushRow<'_>,
+    operation: TernaryMixer,
+    columns: Span,
+    sources: &[Colour; MAX_SIDE],
+    room: &mut MixRoom,
+)
+    requires order { columns.from ≤ columns.to }
+    requires end { columns.to ≤ 8192 }
+    ensures { (x : ℕ) (d old : Colour) → columns.from ≤ x → x < columns.to → is_some (row_paint row.now x) ≡ true → mixed_by (mix_at room.new.keeps room.new.flips x) old ≡ joined_if operation.op.table (slice_index_or sources.now x d) (row_paint row.now x) old }
+{
+    let (from, to) = (columns.from, columns.to);
+    let MixRoom {
+        patterns,
+        keeps,
+        flips,
+    } = room;
+    gather_pattern(row, from, to, patterns);
+    operation.gather(patterns, sources, from, to, keeps, flips);
+}
+
+/// Whether an operation is known to give every pixel the pattern.
+fn copies_pattern(operation: TernaryOp) -> bool
+    ensures { result ≡ true → (p s old : Colour) → HasBytes p → ternary_colour operation.table p s old ≡ p }
+{
+    copy_law();
+    operation.table == PATCOPY
+}
+
 /// Mixes that join the patterns of the columns from one on up to before another, each at its column.
-fn mix_patterns(operation: RasterOperation, from: u32, to: u32, room: &mut InkRoom)
+fn mix_patterns(operation: TernaryMixer, from: u32, to: u32, room: &mut MixRoom)
     requires order { from ≤ to }
     requires end { to ≤ 8192 }
-    ensures { (x : ℕ) (d old : Colour) → from ≤ x → x < to → mixed_by (mix_at room.new.keeps room.new.flips x) old ≡ joined_by operation black_colour (slice_index_or room.old.patterns x d) old }
+    ensures { (x : ℕ) (d old : Colour) → from ≤ x → x < to → mixed_by (mix_at room.new.keeps room.new.flips x) old ≡ ternary_colour operation.op.table (slice_index_or room.old.patterns x d) black_colour old }
 {
     for x in from as usize..to as usize {
-        let mix = operation.mix(room.patterns[x]);
+        let mix = operation.mix(room.patterns[x], BLACK);
         room.keeps[x] = mix.keep;
         room.flips[x] = mix.flip;
     }

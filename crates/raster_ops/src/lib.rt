@@ -4,7 +4,7 @@
 //!
 //! - A binary raster operation makes of each bit of the paint and the bit that is there what the standard's
 //!   table says (`rop2`, by `mixed_colour`).
-//! - With a paint it is a mix: some bits are kept, and some are then flipped, whatever is there (`mix_of`).
+//! - It is a ternary operation, too (`ternary_of`), whose pattern is the paint and which doesn't look at the source (`binary_law`).
 //! - A ternary raster operation makes of each bit of the pattern, of the source and of what is there what its
 //!   table says (`rop3`, by `ternary_colour`), and with pattern and source it is a mix (`ternary_mix`, or
 //!   along a row, into slices, of which all other places stay, `TernaryMixer::gather`).
@@ -29,10 +29,10 @@
 #![tactic(auto)]
 
 mod axes;
+mod binary;
 mod brushes;
 mod gathering;
 mod hatches;
-mod mixing;
 mod patterns;
 mod rectangles;
 mod rows;
@@ -41,8 +41,8 @@ mod sources;
 mod steps;
 mod ternary;
 
+pub use binary::{binary_law, rop2, ternary_of};
 pub use brushes::{brush_at, brush_row, gather_pattern};
-pub use mixing::{mix_of, rop2};
 pub use patterns::pattern;
 pub use rectangles::is_readable;
 pub use rows::{BrushRow, TileRow};

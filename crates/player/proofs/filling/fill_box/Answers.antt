@@ -1,23 +1,37 @@
-use Rattle.std.proofs.Common.{arith}
-use Rattle.player.proofs.BoxPaintLemmas.{box_begun, box_done, box_row, box_unseen}
+use Rattle.std.proofs.Common.{◌≡◌, ℕ, ◌+◌, ◌-◌, ◌≤◌, arith, refl, sym, ap, ◌∙◌, true, ◌&&◌}
+use Rattle.std.proofs.lemmas.Bool.{and_parts}
+use Rattle.std.proofs.Math.Bool.{and-true}
+use Rattle.dc_stack.specs.Clip.{in_box, is_from_to}
+use Rattle.span_fill.specs.Spans.{in_span}
+use Rattle.player.proofs.RegionLemmas.{box_row, none_seen, row_added, rows_begun, rows_done}
 use Rattle.player.proofs.RowLemmas.{few_written}
+use Rattle.player.proofs.SourceLemmas.{columns_read}
 use Rattle.player.proofs.filling.fill_box.Goals as goal
 
-pub returns-then-drawn-clause-pixels : goal.returns-then-drawn-clause-pixels
-returns-then-drawn-clause-pixels c =
+pub returns-then-columns-clause-pixels : goal.returns-then-columns-clause-pixels
+returns-then-columns-clause-pixels c =
     let shown = c.visible-region in
     let drawn = c.common-drawn in
-    box_unseen c.args.paint.now c.args.inside c.args.canvas.now c.writing_law.ensures shown.ensures.whole shown.result drawn.result shown.ensures.kept drawn.ensures.has_columns drawn.ensures.has_rows c.if-drawn.true
+    none_seen c.args.paint.now (in_box c.args.inside) c.args.inside (λ x y h. h) c.args.canvas.now c.writing_law.ensures shown.ensures.whole shown.result drawn.result shown.ensures.kept drawn.ensures.has_columns drawn.ensures.has_rows c.if-columns.true
 
 pub loop-y-init : goal.loop-y-init
 loop-y-init c =
     let shown = c.visible-region in
     let drawn = c.common-drawn in
-    box_begun c.args.paint.now c.args.inside c.args.canvas.now c.writing_law.ensures shown.ensures.whole shown.result drawn.result shown.ensures.kept drawn.ensures.has_columns drawn.ensures.has_rows
+    record {
+      painted = rows_begun c.args.paint.now (in_box c.args.inside) c.args.inside (λ x y h. h) c.args.canvas.now c.writing_law.ensures shown.ensures.whole shown.result drawn.result shown.ensures.kept drawn.ensures.has_columns drawn.ensures.has_rows;
+      long = refl;
+      held = tt;
+    }
+
+pub read_row-kept-requires-clause-reads : goal.read_row-kept-requires-clause-reads
+read_row-kept-requires-clause-reads c =
+    let drawn = c.common-drawn in
+    columns_read c.args.paint.now.source c.args.inside c.visible-region.result drawn.result drawn.ensures.has_columns drawn.ensures.has_rows c.requires.reads c.if-columns.false c.loop-y.y c.loop-y.auto.y c.loop-y-test.true
 
 pub put_uncut-requires-clause-countable : goal.put_uncut-requires-clause-countable
 put_uncut-requires-clause-countable c =
-    let painted = c.loop-y.invariant.painted in
+    let painted = c.loop-y.invariant.painted.painted in
     let few = few_written c.writing_law.ensures _ _ c.args.canvas.now c.loop-y.canvas painted c.visible-region.ensures.pixels in
     let right = c.common-drawn.ensures.right in
     let width = c.visible-region.ensures.right in
@@ -29,24 +43,30 @@ pub loop-y-preserved : goal.loop-y-preserved
 loop-y-preserved c =
     let shown = c.visible-region in
     let drawn = c.common-drawn in
+    let low = c.loop-y.auto.y in
     let high = c.loop-y-test.true in
     let last = drawn.ensures.bottom in
     let top = shown.ensures.top in
     let above = drawn.ensures.top in
-    let low = c.loop-y.auto.y in
     let bottom = shown.ensures.bottom in
-    box_row c.args.paint.now c.args.inside c.args.canvas.now c.writing_law.ensures shown.ensures.whole shown.result drawn.result shown.ensures.kept drawn.ensures.has_columns drawn.ensures.has_rows
-    c.loop-y.canvas c.put_uncut.new.canvas c.loop-y.y c.row-ink.result c.row-ink.ensures.test c.row-ink.ensures.ink low high (record { from_first = omega (arith, low, above, top); to_last = omega (arith, high, last, bottom) })
-    c.loop-y.invariant (rw c.cut_boxes.ensures at c.put_uncut.ensures.pixels)
+    record {
+      painted = row_added c.args.paint.now (in_box c.args.inside) c.args.inside (λ x y h. h) c.args.canvas.now c.writing_law.ensures shown.ensures.whole shown.result drawn.result shown.ensures.kept drawn.ensures.has_columns drawn.ensures.has_rows
+          c.loop-y.canvas c.put_uncut.new.canvas c.loop-y.y c.row-ink.result (in_span drawn.result.columns)
+          (λ x. box_row shown.result drawn.result c.args.inside drawn.ensures.has_columns drawn.ensures.has_rows x c.loop-y.y low high)
+          c.row-ink.ensures low high (record { from_first = omega (arith, low, above, top); to_last = omega (arith, high, last, bottom) })
+          c.loop-y.invariant.painted (rw c.cut_boxes.ensures at c.put_uncut.ensures.pixels);
+      long = c.read_row-kept.auto.sources ∙ c.loop-y.invariant.long;
+      held = c.read_row-kept.ensures.kept;
+    }
 
 pub returns-clause-few : goal.returns-clause-few
-returns-clause-few c = few_written c.writing_law.ensures _ _ c.args.canvas.now c.loop-y.canvas c.loop-y.invariant.painted c.visible-region.ensures.pixels
+returns-clause-few c = few_written c.writing_law.ensures _ _ c.args.canvas.now c.loop-y.canvas c.loop-y.invariant.painted.painted c.visible-region.ensures.pixels
 
 pub returns-clause-pixels : goal.returns-clause-pixels
 returns-clause-pixels c =
     let shown = c.visible-region in
     let drawn = c.common-drawn in
-    box_done c.args.paint.now c.args.inside c.args.canvas.now c.writing_law.ensures shown.ensures.whole shown.result drawn.result shown.ensures.kept drawn.ensures.has_columns drawn.ensures.has_rows c.loop-y.canvas c.loop-y.y c.loop-y-test.false c.loop-y.invariant
+    rows_done c.args.paint.now (in_box c.args.inside) c.args.inside (λ x y h. h) c.args.canvas.now c.writing_law.ensures shown.ensures.whole shown.result drawn.result shown.ensures.kept drawn.ensures.has_columns drawn.ensures.has_rows c.loop-y.canvas c.loop-y.y c.loop-y-test.false c.loop-y.invariant.painted
 
 pub put_uncut-requires-clause-row : goal.put_uncut-requires-clause-row
 put_uncut-requires-clause-row c =
@@ -56,6 +76,6 @@ put_uncut-requires-clause-row c =
     let above = c.common-drawn.ensures.top in
     let last = c.common-drawn.ensures.bottom in
     let bottom = c.visible-region.ensures.bottom in
-    let first = c.loop-y.invariant.painted.first in
-    let rows = c.loop-y.invariant.painted.rows in
+    let first = c.loop-y.invariant.painted.painted.first in
+    let rows = c.loop-y.invariant.painted.painted.rows in
     record { from_first = omega (arith, low, above, top, first); to_last = omega (arith, high, last, bottom, first, rows) }

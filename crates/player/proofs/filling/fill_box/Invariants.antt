@@ -1,7 +1,14 @@
+use Rattle.std.proofs.Common.{◌≡◌, ℕ, length}
+use Rattle.std.specs.Prelude.{IfSome}
 use Rattle.dc_stack.specs.Clip.{in_box}
+use Rattle.player.specs.SourceRows.{HoldsRow}
 use Rattle.player.proofs.RowLemmas.{HasRowsPainted}
 use Rattle.player.proofs.filling.fill_box.Given as goal
 
--- the rows so far are painted
+-- the rows so far are painted, and what was gathered last is held
 abbrev pub invariant-loop-y : goal.invariant-loop-y
-invariant-loop-y l = HasRowsPainted l.paint (in_box l.fn.inside) l.y l.fn.canvas l.canvas
+invariant-loop-y l = record {
+  painted : HasRowsPainted l.paint (in_box l.fn.inside) l.y l.fn.canvas l.canvas;
+  long : length l.room.sources ≡ 8192;
+  held : IfSome l.kept (λ row. IfSome l.paint.source (λ reader. HoldsRow reader l.columns row l.room.sources));
+}

@@ -5,8 +5,10 @@ use Rattle.mapping.specs.Boxes.{box_between, far_corner, near_corner}
 use Rattle.mapping.specs.PlaceOf.{surface_of}
 use Rattle.mapping.specs.Surface.{placed_point}
 use Rattle.mapping.specs.declared.geometry.Rect.{Rect}
+use Rattle.draw_ops.specs.declared.operation.RectangleEdges.TheVariants.{Inclusive}
+use Rattle.preflight_cert.specs.Rectangles.{raised}
 use Rattle.player.specs.Regions.{HasLanded}
-use Rattle.player.proofs.LandedBoxLemmas.{first_off, lands_between, none_lands, second_off}
+use Rattle.player.proofs.LandedBoxLemmas.{first_off, none_reached, reached_between, second_off}
 use Rattle.player.proofs.regions.landed_box.Goals as goal
 
 pub returns-in-Some-Some : goal.returns-in-Some-Some
@@ -15,8 +17,8 @@ returns-in-Some-Some c =
     let bounds = c.args.bounds in
     let near : c.in-Some-Some.near ≡ placed_point (near_corner bounds) s = search rules in
     let far : c.in-Some-Some.far ≡ placed_point (far_corner bounds) s = search rules in
-    let box = c.between.ensures ∙ ap (λ p. box_between p c.in-Some-Some.far) near ∙ ap (box_between (placed_point (near_corner bounds) s)) far in
-    subst (λ (there : Rect). HasLanded s bounds there) (sym box) (lands_between c.box_law.ensures c.args.place bounds)
+    let box = c.rectangle_box.ensures.value ∙ ap (λ p. raised Inclusive (box_between p c.in-Some-Some.far)) near ∙ ap (λ p. raised Inclusive (box_between (placed_point (near_corner bounds) s) p)) far in
+    subst (λ (there : Rect). HasLanded s bounds there) (sym box) (λ points least within x y reached. reached_between s bounds x y reached)
 
 pub returns-in_default : goal.returns-in_default
 returns-in_default c =
@@ -24,7 +26,7 @@ returns-in_default c =
     let r : to_z w32 (of_z w32 bounds.r) ≡ bounds.r = omega (arith, ints) in
     let b : to_z w32 (of_z w32 bounds.b) ≡ bounds.b = omega (arith, ints) in
     let off = sym (rw (r, b) at c.place-far.ensures.test) ∙ ap is_some c.in_default.is-1 in
-    none_lands c.box_law.ensures c.args.place bounds _ (second_off _ _ off)
+    none_reached c.box_law.ensures c.args.place bounds _ (second_off _ _ off)
 
 pub returns-in_default-2 : goal.returns-in_default-2
 returns-in_default-2 c =
@@ -32,4 +34,4 @@ returns-in_default-2 c =
     let l : to_z w32 (of_z w32 bounds.l) ≡ bounds.l = omega (arith, ints) in
     let t : to_z w32 (of_z w32 bounds.t) ≡ bounds.t = omega (arith, ints) in
     let off = sym (rw (l, t) at c.place-near.ensures.test) ∙ ap is_some c.in_default.is-0 in
-    none_lands c.box_law.ensures c.args.place bounds _ (first_off _ _ off)
+    none_reached c.box_law.ensures c.args.place bounds _ (first_off _ _ off)

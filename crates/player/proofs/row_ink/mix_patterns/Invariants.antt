@@ -3,7 +3,7 @@ use Rattle.mapping.specs.Colours.{black_colour}
 use Rattle.mapping.specs.Mixes.{mixed_by}
 use Rattle.mapping.specs.declared.geometry.Colour.{Colour}
 use Rattle.canvas.specs.MixRows.{mix_at}
-use Rattle.player.specs.RasterOperation.{joined_by}
+use Rattle.raster_ops.specs.TernaryOps.{ternary_colour}
 use Rattle.player.proofs.row_ink.mix_patterns.Given as goal
 
 -- the mixes so far join the colours at their places
@@ -12,5 +12,5 @@ invariant-loop-x l = record {
   patterns : l.room.patterns ≡ l.fn.room.patterns;
   keeps : length l.room.keeps ≡ 8192;
   flips : length l.room.flips ≡ 8192;
-  done : (x : ℕ) (d old : Colour) → l.fn.from ≤ x → x < l.x → mixed_by (mix_at l.room.keeps l.room.flips x) old ≡ joined_by l.operation black_colour (slice_index_or l.fn.room.patterns x d) old;
+  done : (x : ℕ) (d old : Colour) → l.fn.from ≤ x → x < l.x → mixed_by (mix_at l.room.keeps l.room.flips x) old ≡ ternary_colour l.operation.op.table (slice_index_or l.fn.room.patterns x d) black_colour old;
 }

@@ -1,13 +1,12 @@
-use Rattle.std.proofs.Common.{◌≡◌, ◌&&◌, true, false, is_some, sym, ◌∙◌}
+use Rattle.std.proofs.Common.{◌≡◌, ◌&&◌, true, false, List, is_some, ap, sym, ◌∙◌}
 use Rattle.std.proofs.lemmas.Bool.{and_parts, true≢false}
-use Rattle.std.proofs.lemmas.List.Elements.{All-same}
 use Rattle.dc_stack.specs.Clip.{in_boxes}
 use Rattle.dc_stack.specs.Values.{placed_value}
-use Rattle.span_fill.specs.RowLaws.{LiesBetween}
 use Rattle.span_fill.specs.Strokes.{in_stroke}
+use Rattle.span_fill.specs.declared.line.Line.{Line}
 use Rattle.player.specs.Painted.{colour_of}
 use Rattle.preflight_cert.specs.Rectangles.{has_inside, rectangle_lines}
-use Rattle.player.proofs.RectangleLemmas.{lines_between, no_stroke}
+use Rattle.player.proofs.RectangleLemmas.{no_stroke, stroke_within}
 use Rattle.player.proofs.RowLemmas.{nothing_painted}
 use Rattle.player.proofs.stroking.stroke_box.Goals as goal
 
@@ -22,7 +21,8 @@ returns-then-not-has_inside-clause-pixels c =
     let there = and_parts (in_boxes (placed_value paint.clip.now) x y) (shape x y) painted.0 in
     true≢false (sym there.1 ∙ no_stroke c.args.inside x y none))
 
-pub stroke_lines-requires-clause-bounds : goal.stroke_lines-requires-clause-bounds
-stroke_lines-requires-clause-bounds c =
+pub paint_part-requires-clause-within : goal.paint_part-requires-clause-within
+paint_part-requires-clause-within c = λ x y h.
     let some : has_inside c.args.inside ≡ true = sym c.if-not-has_inside.ensures in
-    All-same (LiesBetween c.args.inside.t c.args.inside.b) _ (rectangle_lines c.args.inside) c.box_lines-lines.ensures.lines (lines_between c.args.inside some)
+    let there = ap (λ (lines : List Line). in_stroke lines x y) c.box_lines-lines.ensures.lines in
+    stroke_within c.args.inside some c.line_box_law.ensures x y (sym there ∙ h)

@@ -1,8 +1,7 @@
 use Rattle.std.proofs.Common.{◌≡◌}
-use Rattle.span_fill.specs.Strokes.{in_stroke}
-use Rattle.span_fill.specs.RowState.{stroking}
+use Rattle.player.specs.Parts.{part_has, work_of}
 use Rattle.player.proofs.RowLemmas.{HasRowsPainted}
-use Rattle.player.proofs.stroking.stroke_lines.Given as goal
+use Rattle.player.proofs.filling.paint_part.Given as goal
 
 -- the rows so far are painted, and the buffer is at the next
 abbrev pub invariant-loop-y : goal.invariant-loop-y
@@ -10,8 +9,8 @@ invariant-loop-y g l =
     let lines = g.O.Outline.lines l.fn.outline in
     record {
       taken : l.rows.lines ≡ lines;
-      kind : l.rows.work ≡ stroking;
+      kind : l.rows.work ≡ work_of l.fn.part;
       next : l.rows.next ≡ l.y;
       room : l.rows.room ≡ l.fn.rows.room;
-      painted : HasRowsPainted l.paint (in_stroke lines) l.y l.fn.canvas l.canvas;
+      painted : HasRowsPainted l.paint (part_has l.fn.part lines) l.y l.fn.canvas l.canvas;
     }
