@@ -24,3 +24,4 @@ pub mod GatheredLemmas
 pub mod PreparedLemmas
 pub mod WorkedChecks
 pub mod ObjectLemmas
+pub mod RefusalLemmas
