@@ -27,3 +27,4 @@ pub mod WorkedChecks
 pub mod ObjectLemmas
 pub mod LaidRowsLemmas
 pub mod RowsLemmas
+pub mod RefusalLemmas

@@ -5,8 +5,9 @@ use Rattle.draw_ops.specs.Content.{with_step}
 use Rattle.draw_ops.specs.OperationOf.{operation_of}
 use Rattle.draw_ops.specs.Records.{record_limit}
 use Rattle.draw_ops.specs.StepOf.{step_value_of}
-use Rattle.dc_stack.specs.MachineState.{HasStepped, IsDrawingOf, drawing_with}
+use Rattle.dc_stack.specs.MachineState.{HasStepped, IsDrawingOf, RefusesStep, drawing_with}
 use Rattle.preflight_cert.proofs.GatheredLemmas.{budget_then, step_entries, step_texts}
+use Rattle.preflight_cert.proofs.RefusalLemmas.{gathering_refused}
 use Rattle.preflight_cert.proofs.gathering.gather.Goals as goal
 
 pub overflow_add-before : goal.overflow_add-before
@@ -46,3 +47,14 @@ loop-next-preserved g c =
       budget = search (begins, stepped, drawn, rules, budget_then);
       needs = search (begins, stepped, rules);
     }
+
+pub returns-in-Err-played-clause-refusal : goal.returns-in-Err-played-clause-refusal
+returns-in-Err-played-clause-refusal g c =
+    let content = g.S.HasContent.content in
+    let m = c.loop-next.machine in
+    let step = c.in-Some.step in
+    let is = c.in-Ok.is ∙ ap Ok c.in-Some.is in
+    let begins : content c.loop-next.source ≡ with_step (step_value_of step) (content c.next_op-told.new.self) = rw is at c.next_op-told.ensures.gives in
+    let refused : RefusesStep (operation_of step.op) m c.in-Err-played.fault = rw c.in-Err-played.is at c.step_by-played.ensures.refused in
+    gathering_refused _ (content c.loop-next.source) (content c.next_op-told.new.self) (step_value_of step) c.loop-next.before m c.in-Err-played.fault c.of_step.result
+    (rw c.loop-next.invariant.same_surface c.loop-next.invariant.stops) begins refused c.of_step.ensures.number c.of_step.ensures.fault

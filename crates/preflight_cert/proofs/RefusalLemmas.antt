@@ -1,0 +1,52 @@
+-- A step that is refused is where its records stop, or memory was wanted.
+use Rattle.std.proofs.Common.{◌≡◌, ◌⊎◌, ℕ, List, inl, inr, Option, Some, None, refl, ◌∙◌}
+use Rattle.std.specs.Option.{option_map}
+use Rattle.mapping.specs.Surface.{Surface}
+use Rattle.draw_ops.specs.Content.{Content, StepValue, with_step}
+use Rattle.draw_ops.specs.declared.fault.Fault.{Fault}
+use Rattle.draw_ops.specs.declared.fault.Fault.TheVariants.{Record}
+use Rattle.draw_ops.specs.declared.record_fault.RecordFault.{RecordFault}
+use Rattle.dc_stack.specs.MachineState.{MachineState, RefusesStep}
+use Rattle.dc_stack.specs.OperationFault.{fault_of}
+use Rattle.dc_stack.specs.State.{State}
+use Rattle.preflight_cert.specs.Checked.{checked}
+use Rattle.preflight_cert.specs.Checks.{IsWantOfMemory, TellsStop}
+use Rattle.preflight_cert.specs.Refusal.{number_told}
+use Rattle.preflight_cert.specs.Stop.{Stop, stop_at, stopped}
+use Rattle.preflight_cert.specs.declared.entry.Entry.{Entry}
+use Rattle.preflight_cert.specs.declared.refusal.Refusal.{Refusal}
+
+-- the fault that was found is told, in the record with this number
+record ToldAt (found : Option RecordFault) (n : ℕ) (r : Refusal) : Type 0 where
+  here : RecordFault
+  there : found ≡ Some here
+  number : r.number ≡ Some n
+  fault : r.fault ≡ Record here
+
+told_at : (found : Option RecordFault) (fault : Fault) (number : ℕ) (r : Refusal) → option_map Record found ≡ Some fault → r.number ≡ number_told number fault → r.fault ≡ fault → ToldAt found number r
+told_at None fault number r h numbered by = cc
+told_at (Some here) fault number r h numbered by =
+    let same : fault ≡ Record here = cc in record { here = here; there = refl; number = rw same at numbered; fault = by ∙ same }
+
+told_or_wanted : (step : StepValue) (m : MachineState) (fault : Fault) (r : Refusal) → RefusesStep step.operation m fault → r.number ≡ number_told step.number fault → r.fault ≡ fault
+    → ToldAt (fault_of step.operation m.state m.surface) step.number r ⊎ IsWantOfMemory r
+told_or_wanted step m fault r (inl found) numbered by = inl (told_at (fault_of step.operation m.state m.surface) fault step.number r found numbered by)
+told_or_wanted step m fault r (inr wants) numbered by = inr (record { number = rw wants.memory at numbered; fault = by ∙ wants.memory })
+
+-- where entries are checked
+pub check_refused : (whole : Option Stop) (left rest : Content) (step : StepValue) (before : ℕ) (m : MachineState) (entries : List Entry) (fault : Fault) (r : Refusal)
+    → whole ≡ checked left.steps left.fault before m.state m.surface entries → left ≡ with_step step rest
+    → RefusesStep step.operation m fault → r.number ≡ number_told step.number fault → r.fault ≡ fault → TellsStop whole r ⊎ IsWantOfMemory r
+check_refused whole left rest step before m entries fault r order begins refused numbered by = elim (told_or_wanted step m fault r refused numbered by) [
+  | inl told ↦ inl (record { at = stop_at step.number told.here; stops = order ∙ rw (begins, told.there) refl; number = told.number; fault = told.fault })
+  | inr wants ↦ inr wants
+]
+
+-- and where they are gathered
+pub gathering_refused : (whole : Option Stop) (left rest : Content) (step : StepValue) (before : ℕ) (m : MachineState) (fault : Fault) (r : Refusal)
+    → whole ≡ stopped left.steps left.fault before m.state m.surface → left ≡ with_step step rest
+    → RefusesStep step.operation m fault → r.number ≡ number_told step.number fault → r.fault ≡ fault → TellsStop whole r ⊎ IsWantOfMemory r
+gathering_refused whole left rest step before m fault r order begins refused numbered by = elim (told_or_wanted step m fault r refused numbered by) [
+  | inl told ↦ inl (record { at = stop_at step.number told.here; stops = order ∙ rw (begins, told.there) refl; number = told.number; fault = told.fault })
+  | inr wants ↦ inr wants
+]
