@@ -1,4 +1,8 @@
 pub mod SendingLemmas
+pub mod BandLawLemmas
+pub mod ReadingLemmas
+pub mod PpmLawLemmas
+pub mod PpmBothWays
 pub mod IndexLemmas
 pub mod WritingLawLemmas
 pub mod SpanLemmas

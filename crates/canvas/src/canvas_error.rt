@@ -1,4 +1,4 @@
-//! What can go wrong outside a canvas: the system refuses memory, or a writer fails.
+//! What can go wrong outside a canvas: the system refuses memory, a writer fails, or a text is no image.
 
 use std::error::Error;
 use std::fmt;
@@ -36,3 +36,29 @@ impl fmt::Display for WriteFault {
 }
 
 impl Error for WriteFault {}
+
+/// An image can't be read: the text says none, or memory for its colours was refused.
+#[derive(Clone, Copy, Debug, PartialEq, Eq)]
+pub enum ImageError {
+    /// The text isn't a P6 text, or its image is none that a canvas can have.
+    BadImage,
+    /// Memory was refused.
+    OutOfMemory,
+}
+
+impl fmt::Display for ImageError {
+    ghost use Rattle.std.specs.Prelude.{Some};
+    ghost use Rattle.canvas.specs.ImageErrors.{name_of};
+
+    ghost output = { λ fault. Some (name_of fault) };
+
+    /// The name.
+    fn fmt<W: fmt::Write>(&self, f: &mut fmt::Formatter<W>) -> fmt::Result {
+        match self {
+            ImageError::BadImage => write!(f, "BadImage"),
+            ImageError::OutOfMemory => write!(f, "OutOfMemory"),
+        }
+    }
+}
+
+impl Error for ImageError {}

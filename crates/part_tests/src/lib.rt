@@ -3,6 +3,8 @@
 #![tactic(auto)]
 
 #[cfg(test)]
+mod bands;
+#[cfg(test)]
 mod canvases;
 #[cfg(test)]
 mod codes;
@@ -13,6 +15,8 @@ mod dot;
 mod faults;
 #[cfg(test)]
 mod headers;
+#[cfg(test)]
+mod images;
 #[cfg(test)]
 mod lists_of_points;
 #[cfg(test)]
