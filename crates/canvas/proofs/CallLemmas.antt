@@ -63,14 +63,14 @@ module _ (y from to place k : ℕ) (f : ℕ → ℕ → Colour → Colour) (was 
         → ((j : ℕ) (d : Colour) → j < to - from → get_or made j d ≡ cond (t (from + j) y) (f (from + j) y (get_or lent (place + j) d)) (get_or lent (place + j) d))
         → (length (take place lent ++ (made ++ post_of place k lent)) ≡ length lent → new.colours ≡ take place lent ++ (made ++ post_of place k lent))
         → new.writes ≡ was.writes + count_indexes (λ j. t (from + j) y) 0 (to - from)
-        → new.width ≡ was.width → new.first ≡ was.first → new.rows ≡ was.rows
+        → new.width ≡ was.width → new.first ≡ was.first → new.rows ≡ was.rows → new.most ≡ was.most
         → Repaints t f old new
-    wrote t inside each colours writes w fi r =
+    wrote t inside each colours writes w fi r m =
         subst (λ (s : CanvasState). Repaints t f s new) same
         (wrote_part y from to t f was new made part_was inside whole long
         (λ j d h. rw (sym at, sym borrowed) (each j d h))
         (colours length-written ∙ written_is)
-        writes w fi r)
+        writes w fi r m)
 
     -- every pixel of the span is written
     spanned : (j : ℕ) → j < to - from → in_span y from to (from + j) y ≡ true
@@ -80,14 +80,14 @@ module _ (y from to place k : ℕ) (f : ℕ → ℕ → Colour → Colour) (was 
         ((j : ℕ) (d : Colour) → j < to - from → get_or made j d ≡ f (from + j) y (get_or lent (place + j) d))
         → (length (take place lent ++ (made ++ post_of place k lent)) ≡ length lent → new.colours ≡ take place lent ++ (made ++ post_of place k lent))
         → new.writes ≡ was.writes + (to - from)
-        → new.width ≡ was.width → new.first ≡ was.first → new.rows ≡ was.rows
+        → new.width ≡ was.width → new.first ≡ was.first → new.rows ≡ was.rows → new.most ≡ was.most
         → Repaints (in_span y from to) f old new
-    wrote_span each colours writes w fi r =
+    wrote_span each colours writes w fi r m =
         wrote (in_span y from to) (λ x row h. h)
         (λ j d h. each j d h ∙ sym (cond-true _ (f (from + j) y (get_or lent (place + j) d)) (get_or lent (place + j) d) (spanned j h)))
         colours
         (writes ∙ ap (λ (n : ℕ). was.writes + n) (sym (count_all (λ j. in_span y from to (from + j) y) 0 (to - from) (λ j a b. spanned j (omega arith)))))
-        w fi r
+        w fi r m
 
 -- a helper was lent the part, and each of its colours is what f makes of it
 pub helped_span :
@@ -98,7 +98,7 @@ pub helped_span :
     → ((j : ℕ) (d : Colour) → j < length (take k (drop place lent)) → get_or made j d ≡ f (from + j) y (get_or (take k (drop place lent)) j d))
     → (length (take place lent ++ (made ++ post_of place k lent)) ≡ length lent → new.colours ≡ take place lent ++ (made ++ post_of place k lent))
     → new.writes ≡ was.writes + (to - from)
-    → new.width ≡ was.width → new.first ≡ was.first → new.rows ≡ was.rows
+    → new.width ≡ was.width → new.first ≡ was.first → new.rows ≡ was.rows → new.most ≡ was.most
     → Repaints (in_span y from to) f old new
 helped_span y from to place k f was old new lent made same part borrowed whole at count kept each =
     let within = part_fits y from to was old same part whole in
@@ -117,9 +117,9 @@ pub helped_cells :
     → count ≡ count_indexes (λ j. is_cell cells (from + j)) 0 (length (take k (drop place lent)))
     → (length (take place lent ++ (made ++ post_of place k lent)) ≡ length lent → new.colours ≡ take place lent ++ (made ++ post_of place k lent))
     → new.writes ≡ was.writes + count
-    → new.width ≡ was.width → new.first ≡ was.first → new.rows ≡ was.rows
+    → new.width ≡ was.width → new.first ≡ was.first → new.rows ≡ was.rows → new.most ≡ was.most
     → Repaints (in_cells y from to cells) (λ column row x. g x) old new
-helped_cells y from to place k cells count g was old new lent made same part borrowed whole at counted kept each number colours writes w fi r =
+helped_cells y from to place k cells count g was old new lent made same part borrowed whole at counted kept each number colours writes w fi r m =
     let within = part_fits y from to was old same part whole in
     let room : place + k ≤ length lent = omega (arith, at, counted, ap length borrowed, within) in
     let long = length_part place k lent room in
@@ -130,7 +130,7 @@ helped_cells y from to place k cells count g was old new lent made same part bor
     (λ j d h. rw (spanned j h, ← part_at place k lent j d (omega arith)) (each j d (omega (arith, long, counted))))
     colours
     (writes ∙ ap (λ (n : ℕ). was.writes + n) (number ∙ ap (λ (n : ℕ). count_indexes (λ j. is_cell cells (from + j)) 0 n) (long ∙ counted) ∙ count_same (λ j. is_cell cells (from + j)) (λ j. in_cells y from to cells (from + j) y) 0 (to - from) (λ j a b. rw (spanned j (omega arith)) refl)))
-    w fi r
+    w fi r m
 
 -- one pixel is a part with one column
 module _ (x y : ℕ) (f : ℕ → ℕ → Colour → Colour) (was old new : CanvasState) (value : Colour) (same : was ≡ old) (held : HasPixel old x y) where
@@ -161,9 +161,9 @@ module _ (x y : ℕ) (f : ℕ → ℕ → Colour → Colour) (was old new : Canv
 
     pub wrote_pixel :
         new.colours ≡ set was.colours (place_in was x y) value → new.writes ≡ was.writes + 1
-        → new.width ≡ was.width → new.first ≡ was.first → new.rows ≡ was.rows
+        → new.width ≡ was.width → new.first ≡ was.first → new.rows ≡ was.rows → new.most ≡ was.most
         → Repaints (is_at x y) f old new
-    wrote_pixel colours writes w fi r =
+    wrote_pixel colours writes w fi r m =
         let within = fits was.width was.first was.rows y x (x + 1) one_column in
         let inside : place_in was x y < length was.colours = omega (arith, whole, within) in
         let one : x + 1 - x ≡ 1 = omega arith in
@@ -174,4 +174,4 @@ module _ (x y : ℕ) (f : ℕ → ℕ → Colour → Colour) (was old new : Canv
         (wrote_part y x (x + 1) (is_at x y) f was new (value ∷ []) one_column at_parts whole (sym one) each_first
         (colours ∙ split)
         (writes ∙ ap (λ (n : ℕ). was.writes + n) (sym counted))
-        w fi r)
+        w fi r m)

@@ -1,5 +1,5 @@
 -- Lists that are changed, and tests that are counted, index by index.
-use Rattle.std.proofs.Common.{◌≡◌, ℕ, zero, suc, ◌+◌, ◌<◌, ◌≤◌, Bool, true, false, ◌&&◌, ◌||◌, cond, List, [], ◌∷◌, length, get_or, refl, ap, ◌∙◌, arith}
+use Rattle.std.proofs.Common.{◌≡◌, ℕ, zero, suc, ◌+◌, ◌<◌, ◌≤◌, Bool, true, false, ◌&&◌, ◌||◌, cond, List, [], ◌∷◌, ◌++◌, length, get_or, refl, sym, ap, ◌∙◌, arith}
 use Rattle.std.proofs.lemmas.Bool.{true≢false}
 use Rattle.mapping.specs.declared.geometry.Colour.{Colour}
 use Rattle.mapping.specs.Pixels.{map_indexed, count_indexes}
@@ -15,6 +15,19 @@ get_or-map_indexed f k (c ∷ cs) zero d h = let e : k ≡ k + zero = omega arit
 get_or-map_indexed f k (c ∷ cs) (suc i) d h =
     let e : suc k + i ≡ k + suc i = omega arith in
     get_or-map_indexed f (suc k) cs i d (omega arith) ∙ ap (λ (n : ℕ). f n (get_or cs i d)) e
+
+-- each by its index behind others, and from another index on
+pub map_indexed-append : (f : ℕ → Colour → Colour) (k : ℕ) (xs ys : List Colour) → map_indexed f k (xs ++ ys) ≡ map_indexed f k xs ++ map_indexed f (k + length xs) ys
+map_indexed-append f k [] ys = let e : k + zero ≡ k = omega arith in ap (λ (i : ℕ). map_indexed f i ys) (sym e)
+map_indexed-append f k (x ∷ xs) ys =
+    let e : suc k + length xs ≡ k + suc (length xs) = omega arith in
+    ap (λ (cs : List Colour). f k x ∷ cs) (map_indexed-append f (suc k) xs ys ∙ ap (λ (i : ℕ). map_indexed f (suc k) xs ++ map_indexed f i ys) e)
+
+pub map_indexed_shift : (f : ℕ → Colour → Colour) (k m : ℕ) (cs : List Colour) → map_indexed f (k + m) cs ≡ map_indexed (λ i c. f (k + i) c) m cs
+map_indexed_shift f k m [] = refl
+map_indexed_shift f k m (c ∷ cs) =
+    let e : suc (k + m) ≡ k + suc m = omega arith in
+    ap (λ (i : ℕ). f (k + m) c ∷ map_indexed f i cs) e ∙ ap (λ (rest : List Colour). f (k + m) c ∷ rest) (map_indexed_shift f k (suc m) cs)
 
 -- functions that agree within the list make the same of it
 pub map_indexed_same : (f g : ℕ → Colour → Colour) (k : ℕ) (cs : List Colour) → ((i : ℕ) (c : Colour) → k ≤ i → i < k + length cs → f i c ≡ g i c) → map_indexed f k cs ≡ map_indexed g k cs

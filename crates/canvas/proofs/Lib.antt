@@ -1,4 +1,5 @@
 pub mod SendingLemmas
+pub mod BandLawLemmas
 pub mod ReadingLemmas
 pub mod PpmLawLemmas
 pub mod PpmBothWays

@@ -11,7 +11,7 @@ use Rattle.mapping.specs.declared.geometry.Colour.{Colour}
 use Rattle.mapping.specs.Image.{Image}
 use Rattle.mapping.specs.Limits.{IsSurfaceSide, is_surface_side}
 use Rattle.canvas.specs.Ppm.{raster, ppm_text}
-use Rattle.canvas.specs.PpmReading.{AreItems, IsGap, Writes, IsPpm, is_white, ends_line, is_in_gap, behind_gap, behind_digits, number_at, number_of, colours_at, has_head, has_image, begins_ppm, pixels_of, read_ppm, width_text, height_text, most_text, space_text}
+use Rattle.canvas.specs.PpmReading.{AreItems, IsGap, Writes, IsPpm, is_white, ends_line, is_in_gap, behind_gap, behind_digits, number_at, number_of, colours_at, ends_head, has_head, has_image, begins_ppm, pixels_of, read_ppm, width_text, height_text, most_text, space_text}
 use Rattle.canvas.specs.PpmReading.AreItems.{no_item, white_item, comment_item}
 use Rattle.canvas.specs.PpmLaws.{IsSurfaceImage, PpmLaws}
 use Rattle.canvas.proofs.PpmLawLemmas.{OneLine, white_in_gap, white_no_comment, white_no_digit, gap_no_digit, comment_goes_on, comment_ends, reads_number, gap_begins, length-raster, colours_back, length-colours_at, samples_back}
@@ -171,7 +171,7 @@ to_read text image p =
     let long : 3 * pixels_of text ≤ length (drop 1 (space_text text)) =
     omega (arith, count, ap length samples, length-append (raster image.colours) p.behind, length-raster image.colours) in
     let has : has_image text ≡ true =
-    and_from _ _ (and_from _ _ (and_from _ _ (and_from _ _ (and_from _ _ begins wide) high) most) white) (le-leb _ _ long) in
+    and_from _ _ (and_from _ _ begins (and_from _ _ (and_from _ _ (and_from _ _ wide high) most) white)) (le-leb _ _ long) in
     let colours : colours_at (pixels_of text) (drop 1 (space_text text)) ≡ image.colours =
     ap (λ n. colours_at n (drop 1 (space_text text))) count ∙ ap (λ (t : List ℕ). colours_at (length image.colours) t) samples ∙ colours_back image.colours p.behind in
     cond-true (has_image text) _ _ has ∙ ap Some (same_image _ _ _ image wn hn colours)
@@ -192,14 +192,14 @@ image_in text = record { width = number_at (width_text text); height = number_at
 said_image : (text : List ℕ) → has_image text ≡ true → IsPpm text (image_in text)
 said_image text e =
     let all = and_parts (has_head text) (leb (3 * pixels_of text) (length (drop 1 (space_text text)))) e in
-    let white = and_parts (begins_ppm text && is_surface_side (number_at (width_text text)) && is_surface_side (number_at (height_text text)) && (number_at (most_text text) == 255)) (is_white (get_or (space_text text) 0 0)) all.0 in
-    let most = and_parts (begins_ppm text && is_surface_side (number_at (width_text text)) && is_surface_side (number_at (height_text text))) (number_at (most_text text) == 255) white.0 in
-    let high = and_parts (begins_ppm text && is_surface_side (number_at (width_text text))) (is_surface_side (number_at (height_text text))) most.0 in
-    let wide = and_parts (begins_ppm text) (is_surface_side (number_at (width_text text))) high.0 in
-    let gap = and_parts ((get_or text 0 0 == 80) && (get_or text 1 0 == 54)) (is_in_gap false (get_or text 2 0)) wide.0 in
+    let head = and_parts (begins_ppm text) (ends_head (number_at (width_text text)) (number_at (height_text text)) (number_at (most_text text)) (space_text text)) all.0 in
+    let white = and_parts (is_surface_side (number_at (width_text text)) && is_surface_side (number_at (height_text text)) && (number_at (most_text text) == 255)) (is_white (get_or (space_text text) 0 0)) head.1 in
+    let most = and_parts (is_surface_side (number_at (width_text text)) && is_surface_side (number_at (height_text text))) (number_at (most_text text) == 255) white.0 in
+    let sides = and_parts (is_surface_side (number_at (width_text text))) (is_surface_side (number_at (height_text text))) most.0 in
+    let gap = and_parts ((get_or text 0 0 == 80) && (get_or text 1 0 == 54)) (is_in_gap false (get_or text 2 0)) head.0 in
     let magic = and_parts (get_or text 0 0 == 80) (get_or text 1 0 == 54) gap.0 in
-    let wide_side = side_is (number_at (width_text text)) wide.1 in
-    let high_side = side_is (number_at (height_text text)) high.1 in
+    let wide_side = side_is (number_at (width_text text)) sides.0 in
+    let high_side = side_is (number_at (height_text text)) sides.1 in
     let greatest : number_at (most_text text) ≡ 255 = eqb-true (number_at (most_text text)) 255 most.1 in
     let first : is_ascii_digit (get_or (drop 2 text) 0 0) ≡ false = ap is_ascii_digit (get_or-drop 2 text 0 0) ∙ gap_no_digit (get_or text 2 0) gap.1 in
     let s1 = said (drop 2 text) first wide_side.not_empty in

@@ -5,7 +5,7 @@ use Rattle.std.proofs.lemmas.List.{get_or-drop, drop-drop}
 use Rattle.mapping.specs.declared.geometry.Colour.{Colour}
 use Rattle.mapping.specs.Limits.{is_surface_side}
 use Rattle.canvas.specs.PpmHead.{IsHeadOf, IsNumberAt}
-use Rattle.canvas.specs.PpmReading.{begins_ppm, behind_gap, colours_at, has_head, height_text, is_white, most_text, number_at, space_text, width_text}
+use Rattle.canvas.specs.PpmReading.{begins_ppm, behind_gap, colours_at, ends_head, has_head, height_text, is_white, most_text, number_at, space_text, width_text}
 use Rattle.canvas.specs.declared.reading.NumberRead.{NumberRead}
 use Rattle.canvas.specs.declared.reading.PpmHead.{PpmHead}
 
@@ -85,20 +85,19 @@ module _ (text : List ℕ) (w h m : NumberRead)
   most : IsNumberAt text (most_text text) m
   most = subst (λ (t : List ℕ). IsNumberAt text (behind_gap false t) m) high.behind third
 
-  pub head_tests : begins_ppm text ≡ true → has_head text ≡ (is_surface_side w.value && is_surface_side h.value && m.value == 255 && is_white (get_or (drop m.end text) 0 0))
+  pub head_tests : begins_ppm text ≡ true → has_head text ≡ ends_head w.value h.value m.value (drop m.end text)
   head_tests begins =
       let a : is_surface_side (number_at (width_text text)) ≡ is_surface_side w.value = sym (ap is_surface_side first.value ∙ capped_side (number_at (width_text text))) in
       let b : is_surface_side (number_at (height_text text)) ≡ is_surface_side h.value = sym (ap is_surface_side high.value ∙ capped_side (number_at (height_text text))) in
       let c : (number_at (most_text text) == 255) ≡ (m.value == 255) = sym (ap (λ n. n == 255) most.value ∙ capped_most (number_at (most_text text))) in
-      let d : is_white (get_or (space_text text) 0 0) ≡ is_white (get_or (drop m.end text) 0 0) = ap (λ (t : List ℕ). is_white (get_or t 0 0)) (sym most.behind) in
-      ap (λ t. t && is_surface_side (number_at (width_text text)) && is_surface_side (number_at (height_text text)) && number_at (most_text text) == 255 && is_white (get_or (space_text text) 0 0)) begins
+      ap (λ t. t && ends_head (number_at (width_text text)) (number_at (height_text text)) (number_at (most_text text)) (space_text text)) begins
       ∙ ap (λ t. t && is_surface_side (number_at (height_text text)) && number_at (most_text text) == 255 && is_white (get_or (space_text text) 0 0)) a
       ∙ ap (λ t. is_surface_side w.value && t && number_at (most_text text) == 255 && is_white (get_or (space_text text) 0 0)) b
       ∙ ap (λ t. is_surface_side w.value && is_surface_side h.value && t && is_white (get_or (space_text text) 0 0)) c
-      ∙ ap (λ t. is_surface_side w.value && is_surface_side h.value && m.value == 255 && t) d
+      ∙ ap (λ (t : List ℕ). ends_head w.value h.value m.value t) (sym most.behind)
 
   pub head_is : (head : PpmHead) → head.width ≡ w.value → head.height ≡ h.value → head.start ≡ m.end + 1
-      → begins_ppm text ≡ true → (is_surface_side w.value && is_surface_side h.value && m.value == 255 && is_white (get_or (drop m.end text) 0 0)) ≡ true
+      → begins_ppm text ≡ true → ends_head w.value h.value m.value (drop m.end text) ≡ true
       → m.end < length text → IsHeadOf text head
   head_is head wide high_is start begins passes there =
       let white = and_parts (is_surface_side w.value && is_surface_side h.value && (m.value == 255)) (is_white (get_or (drop m.end text) 0 0)) passes in

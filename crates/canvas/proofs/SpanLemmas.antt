@@ -162,12 +162,13 @@ pub wrote_part :
     → ((k : ℕ) (d : Colour) → k < to - from → get_or made k d ≡ cond (t (from + k) y) (f (from + k) y (get_or old.colours (start old.width old.first old.rows y from to part + k) d)) (get_or old.colours (start old.width old.first old.rows y from to part + k) d))
     → new.colours ≡ take (start old.width old.first old.rows y from to part) old.colours ++ (made ++ drop (start old.width old.first old.rows y from to part + (to - from)) old.colours)
     → new.writes ≡ old.writes + count_indexes (λ k. t (from + k) y) 0 (to - from)
-    → new.width ≡ old.width → new.first ≡ old.first → new.rows ≡ old.rows
+    → new.width ≡ old.width → new.first ≡ old.first → new.rows ≡ old.rows → new.most ≡ old.most
     → Repaints t f old new
-wrote_part y from to t f old new made part inside whole long each colours writes w fi r = record {
+wrote_part y from to t f old new made part inside whole long each colours writes w fi r m = record {
   colours = colours ∙ part_repainted old.width old.first old.rows y from to part t inside f old.colours made whole long each;
   writes = writes ∙ ap (λ (n : ℕ). old.writes + n) (sym (count_part old.width old.first old.rows y from to part t inside));
   width = w;
   first = fi;
   rows = r;
+  most = m;
 }

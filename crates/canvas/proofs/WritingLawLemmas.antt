@@ -26,6 +26,7 @@ none t f canvas whole passes =
       width = refl;
       first = refl;
       rows = refl;
+      most = refl;
     }
 
 -- tests and functions that agree at a pixel make the same of it
@@ -44,6 +45,7 @@ same t u f g old new whole tests makes r =
       width = r.width;
       first = r.first;
       rows = r.rows;
+      most = r.most;
     }
 
 -- a pixel that one of two tests has, and not both
@@ -67,6 +69,7 @@ both t u f old between new whole apart r s =
       width = s.width ∙ r.width;
       first = s.first ∙ r.first;
       rows = s.rows ∙ r.rows;
+      most = s.most ∙ r.most;
     }
 
 span : (y from to : ℕ) (f : ℕ → ℕ → Colour → Colour) (old new : CanvasState) → IsWhole old → HasRow old y → from ≤ to → to ≤ old.width → Repaints (in_span y from to) f old new → new.writes ≡ old.writes + (to - from)

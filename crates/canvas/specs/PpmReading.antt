@@ -104,11 +104,15 @@ space_text text = behind_digits (most_text text)
 abbrev pub begins_ppm : List ℕ → Bool
 begins_ppm text = slice_index text 0 == 80 && slice_index text 1 == 54 && is_in_gap false (slice_index text 2)
 
--- the sides are sides of a surface, the greatest value of a sample is 255, and a white space byte is behind it
+-- the sides are sides of a surface, the greatest value of a sample is 255, and the text behind it begins with a white
+-- space byte
+abbrev pub ends_head : ℕ → ℕ → ℕ → List ℕ → Bool
+ends_head width height most behind = is_surface_side width && is_surface_side height && most == 255 && is_white (slice_index behind 0)
+
+-- the text begins with the header of an image
 abbrev pub has_head : List ℕ → Bool
 has_head text =
-    begins_ppm text && is_surface_side (number_at (width_text text)) && is_surface_side (number_at (height_text text))
-    && number_at (most_text text) == 255 && is_white (slice_index (space_text text) 0)
+    begins_ppm text && ends_head (number_at (width_text text)) (number_at (height_text text)) (number_at (most_text text)) (space_text text)
 
 -- how many pixels the sides say
 abbrev pub pixels_of : List ℕ → ℕ

@@ -7,13 +7,14 @@ use Rattle.canvas.specs.CanvasState.{CanvasState}
 use Rattle.canvas.specs.MixRows.{mix_at}
 
 -- The pixels held that pass the test are written, each with what f makes of its column, its row and its old colour.
--- Every other stays, and each write is counted.
+-- Every other stays, and so do the rows that are held, and each write is counted.
 pub record Repaints (test : ℕ → ℕ → Bool) (f : ℕ → ℕ → Colour → Colour) (old new : CanvasState) : Type 0 where
   pub colours : new.colours ≡ repainted test f old.width old.first old.colours
   pub writes : new.writes ≡ old.writes + count_pixels test old.width old.first old.rows
   pub width : new.width ≡ old.width
   pub first : new.first ≡ old.first
   pub rows : new.rows ≡ old.rows
+  pub most : new.most ≡ old.most
 
 -- the pixel in column x of row y
 abbrev pub is_at : ℕ → ℕ → ℕ → ℕ → Bool

@@ -2,20 +2,22 @@
 //!
 //! # What is promised
 //!
-//! - A new canvas shows one colour and counts no write (`Canvas::new`).
+//! - A new canvas shows one colour and counts no write (`Canvas::new`, and `Canvas::band` for a band of rows).
+//! - A canvas can be shown again on other rows, in one colour: it keeps its count and takes no memory (`Canvas::again`).
 //! - A write changes the pixel that it names and no other, and is counted once (`Canvas::put`).
 //! - A call that writes a part of a row writes the pixels of the row that it names, each with the colour that
 //!   it says, leaves every other pixel as it is and counts each write (`Canvas::put_span`, `put_pattern`,
 //!   `put_row`, `mix_span`, `mix_row`, `mix_cells`, `mix`, by `Repaints`).
 //! - Writes that share no pixel are put together as one (`writing_law`).
 //! - What is written out is the P6 text of the image, byte for byte, and after a failure a front of
-//!   that text (`Canvas::write_ppm`, by `ppm_text`).
+//!   that text (`Canvas::write_ppm`, by `ppm_text`). Header and rows can be written apart (`write_header`,
+//!   `Canvas::write_rows`), and the text of an image is its header and then the rasters of its bands (`band_law`).
 //! - What is read from a P6 text is exactly the image that the text says, and it is refused exactly where it says
 //!   none (`Canvas::from_ppm`, by `read_ppm`); the text that is written for an image reads back as that image (`ppm_law`).
 //! - Bytes are sent whole, or a front of them, whatever the writer takes a call (`send`).
 //!
 //! Memory, three bytes a pixel, is taken when a canvas is made. No other call takes any: no contract says
-//! that, and a test over the built program counts its calls for memory.
+//! that but by the room that a canvas has, and a test over the built program counts its calls for memory.
 #![tactic(auto)]
 
 mod canvas_error;
@@ -28,6 +30,7 @@ mod surface;
 mod writing;
 
 pub use canvas_error::{ImageError, OutOfMemory, WriteFault};
-pub use laws::{ppm_law, writing_law};
+pub use laws::{band_law, ppm_law, writing_law};
+pub use ppm::write_header;
 pub use sending::send;
 pub use surface::Canvas;

@@ -19,6 +19,18 @@ const HEADER_ROOM: usize = 32;
 /// Room for a piece, three bytes a pixel.
 const PIECE_ROOM: usize = HEADER_ROOM + 3 * PIECE_PIXELS;
 
+/// Writes the header of a P6 text (ppm(5)), for an image of these sides in pixels: the text of the image is this
+/// header, and then its rows. The writer isn't flushed. `WriteFault` where the writer failed or took no byte: then a
+/// front of the header was written.
+pub fn write_header<W: Write>(out: &mut W, width: u32, height: u32) -> Result<(), WriteFault>
+    ensures ok { OnOk result (Appends (W.contents out.old) (W.contents out.new) (header width height)) }
+    ensures err { OnErr result (AppendsFront (W.contents out.old) (W.contents out.new) (header width height)) }
+{
+    let mut text = [0u8; HEADER_ROOM];
+    let length = put_header(&mut text, width, height);
+    send(out, &text[..length])
+}
+
 /// Writes the P6 text of an image.
 pub(crate) fn write_text<W: Write>(
     out: &mut W,
@@ -30,11 +42,36 @@ pub(crate) fn write_text<W: Write>(
     ensures err { OnErr result (AppendsFront (W.contents out.old) (W.contents out.new) (header width height ++ raster colours.now)) }
 {
     let mut piece = [0u8; PIECE_ROOM];
-    let mut filled = put_header(&mut piece, width, height);
+    let ready = put_header(&mut piece, width, height);
+    write_pieces(out, &mut piece, ready, colours)
+}
+
+/// Writes the samples of the colours.
+pub(crate) fn write_raster<W: Write>(out: &mut W, colours: &[Colour]) -> Result<(), WriteFault>
+    ensures ok { OnOk result (Appends (W.contents out.old) (W.contents out.new) (raster colours.now)) }
+    ensures err { OnErr result (AppendsFront (W.contents out.old) (W.contents out.new) (raster colours.now)) }
+{
+    let mut piece = [0u8; PIECE_ROOM];
+    write_pieces(out, &mut piece, 0, colours)
+}
+
+/// Writes what is ready at the start of the piece, and then the samples of the colours, a piece at a time.
+fn write_pieces<W: Write>(
+    out: &mut W,
+    piece: &mut [u8],
+    ready: usize,
+    colours: &[Colour],
+) -> Result<(), WriteFault>
+    requires room { 12320 ≤ length piece.old }
+    requires few { ready ≤ 32 }
+    ensures ok { OnOk result (Appends (W.contents out.old) (W.contents out.new) (take ready piece.old ++ raster colours.now)) }
+    ensures err { OnErr result (AppendsFront (W.contents out.old) (W.contents out.new) (take ready piece.old ++ raster colours.now)) }
+{
+    let mut filled = ready;
     let mut rest = colours;
     while !rest.is_empty() {
         let (front, after) = rest.split_at(rest.len().min(PIECE_PIXELS));
-        filled = put_pixels(&mut piece, filled, front);
+        filled = put_pixels(piece, filled, front);
         send(out, &piece[..filled])?;
         filled = 0;
         rest = after;

@@ -1,10 +1,10 @@
 //! Reading a P6 text (ppm(5)): where its numbers and its raster stand, and the colours of the raster.
 
-ghost use Rattle.std.specs.Prelude.{◌≡◌, ◌==◌, ◌&&◌, ◌+◌, ◌*◌, ◌<◌, ◌≤◌, false, length, drop, min, slice_index, IsTrue, MatchOption};
+ghost use Rattle.std.specs.Prelude.{◌≡◌, ◌+◌, ◌*◌, ◌<◌, ◌≤◌, false, length, drop, min, IsTrue, MatchOption};
 ghost use Rattle.std.specs.List.{prefix_len};
 ghost use Rattle.mapping.specs.Limits.{is_surface_side};
 ghost use Rattle.std.specs.Char.{is_ascii_digit};
-ghost use Rattle.canvas.specs.PpmReading.{is_white, is_in_gap, is_in_comment, behind_gap, number_of, begins_ppm, has_head, colours_at};
+ghost use Rattle.canvas.specs.PpmReading.{is_white, is_in_gap, is_in_comment, behind_gap, number_of, begins_ppm, ends_head, has_head, colours_at};
 ghost use Rattle.canvas.specs.PpmHead.{IsNumberAt, IsHeadOf};
 
 use mapping::Colour;
@@ -53,7 +53,7 @@ pub(crate) fn read_head(bytes: &[u8]) -> Option<PpmHead>
 /// Whether a surface may have these sides, the greatest value of a sample is 255, and a white space byte is behind it.
 fn ends_head(bytes: &[u8], width: u32, height: u32, most: NumberRead) -> bool
     requires { most.end ≤ length bytes.now }
-    ensures tests { result ≡ (is_surface_side width && is_surface_side height && most.value == 255 && is_white (slice_index (drop most.end bytes.now) 0)) }
+    ensures tests { result ≡ ends_head width height most.value (drop most.end bytes.now) }
     ensures there { IsTrue result → most.end < length bytes.now }
 {
     is_side(width)

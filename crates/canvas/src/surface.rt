@@ -1,17 +1,17 @@
 //! The canvas: the rows of a surface, each pixel with its colour.
 
-ghost use Rattle.std.specs.Prelude.{◌≡◌, ◌+◌, ◌*◌, ◌<◌, ◌≤◌, ◌^◌, ◌↔◌, Some, None, IsTrue, IfOk, IfErr, OnOk, OnErr, length, slice_get, slice_set};
+ghost use Rattle.std.specs.Prelude.{◌≡◌, ◌+◌, ◌*◌, ◌<◌, ◌≤◌, ◌^◌, ◌↔◌, Some, None, IsTrue, IfOk, IfErr, OnOk, OnErr, length, slice_get, slice_set, vec_len};
 ghost use Rattle.std.specs.Io.KnownBytes.{Appends};
 ghost use Rattle.mapping.specs.Limits.{IsSurfaceSide, surface_side_limit};
-ghost use Rattle.canvas.specs.CanvasState.{HasPixel, image_of, colour_index, showing, unwritten};
+ghost use Rattle.canvas.specs.CanvasState.{HasPixel, image_of, colour_index, made_of, showing, shown_again, unwritten};
 ghost use Rattle.canvas.specs.Writing.{Repaints, is_at};
 ghost use Rattle.canvas.specs.WritingLaws.{IsWhole};
-ghost use Rattle.canvas.specs.Ppm.{AppendsFront, ppm_text};
+ghost use Rattle.canvas.specs.Ppm.{AppendsFront, ppm_text, raster};
 ghost use Rattle.canvas.specs.PpmReading.{read_ppm};
 ghost use Rattle.canvas.specs.declared.canvas_error.ImageError.TheVariants.{BadImage};
 
 use crate::canvas_error::{ImageError, OutOfMemory, WriteFault};
-use crate::ppm::write_text;
+use crate::ppm::{write_raster, write_text};
 use crate::reading::{read_colours, read_head};
 use mapping::Colour;
 use std::alloc::Global;
@@ -24,12 +24,14 @@ use std::marker::Model;
 ///
 /// - The width is from 1 to 8,192 pixels, and the rows held are among 8,192.
 /// - There is one colour for each pixel held.
+/// - There is room for as many rows as the canvas was made for.
 #[derive(Debug, Drop)]
 pub struct Canvas {
     pub(crate) colours: Vec<Colour>,
     pub(crate) width: u32,
     pub(crate) first: u32,
     rows: u32,
+    most: u32,
     pub(crate) writes: u64,
 }
 
@@ -39,7 +41,7 @@ impl Model for Canvas {
 
     ghost Value = { CanvasState };
 
-    ghost view = { λ a. record { width = a.width; first = a.first; rows = a.rows; colours = a.colours.items; writes = a.writes } };
+    ghost view = { λ a. record { width = a.width; first = a.first; rows = a.rows; colours = a.colours.items; writes = a.writes; most = a.most } };
 
     ghost use Rattle.canvas.specs.Canvas.{IsCanvas};
 
@@ -59,16 +61,41 @@ impl Canvas {
         requires high { IsSurfaceSide height }
         ensures { IfOk result (λ canvas. canvas ≡ unwritten width 0 height colour) }
     {
-        let Ok(colours) = Vec::from_elem(alloc, colour, pixels(height, width)) else {
+        Canvas::band(alloc, width, 0, height, colour)
+    }
+
+    /// The rows of a surface of `width` columns from row `first` on, `rows` of them, that show one colour:
+    /// `OutOfMemory` where memory for them was refused.
+    pub fn band(
+        alloc: Global,
+        width: u32,
+        first: u32,
+        rows: u32,
+        colour: Colour,
+    ) -> Result<Canvas, OutOfMemory>
+        requires wide { IsSurfaceSide width }
+        requires high { 1 ≤ rows }
+        requires within { first + rows ≤ surface_side_limit }
+        ensures { IfOk result (λ canvas. canvas ≡ unwritten width first rows colour) }
+    {
+        let Ok(colours) = Vec::from_elem(alloc, colour, pixels(rows, width)) else {
             return Err(OutOfMemory);
         };
-        Ok(Canvas {
-            colours,
-            width,
-            first: 0,
-            rows: height,
-            writes: 0,
-        })
+        Ok(Canvas::of(colours, width, first, rows))
+    }
+
+    /// Shows one colour on other rows, `rows` of them from row `first` on, at most as many as the canvas was made for.
+    /// It keeps its count of writes, and takes no memory.
+    pub fn again(&mut self, first: u32, rows: u32, colour: Colour)
+        requires high { 1 ≤ rows }
+        requires within { first + rows ≤ surface_side_limit }
+        requires most { rows ≤ self.old.most }
+        ensures { self.new ≡ shown_again first rows colour self.old }
+    {
+        self.colours.clear();
+        let count = pixels(rows, self.width);
+        let _ = self.colours.resize(count, colour);
+        (self.first, self.rows) = (first, rows);
     }
 
     /// The image that a P6 text says (ppm(5)): comments may stand in its gaps and directly behind a digit, and bytes
@@ -91,13 +118,25 @@ impl Canvas {
             return Err(ImageError::OutOfMemory);
         };
         read_colours(&mut colours, samples);
-        Ok(Canvas {
+        Ok(Canvas::of(colours, head.width, 0, head.height))
+    }
+
+    /// The rows that show these colours, before anything is written.
+    fn of(colours: Vec<Colour>, width: u32, first: u32, rows: u32) -> Canvas
+        requires wide { IsSurfaceSide width }
+        requires high { 1 ≤ rows }
+        requires within { first + rows ≤ surface_side_limit }
+        requires whole { vec_len colours ≡ rows * width }
+        ensures { result ≡ made_of colours.items width first rows }
+    {
+        Canvas {
             colours,
-            width: head.width,
-            first: 0,
-            rows: head.height,
+            width,
+            first,
+            rows,
+            most: rows,
             writes: 0,
-        })
+        }
     }
 
     /// The width of the surface, in pixels.
@@ -123,6 +162,14 @@ impl Canvas {
         ensures within { self.now.first + self.now.rows ≤ surface_side_limit }
     {
         self.rows
+    }
+
+    /// How many rows the canvas was made for: no more can be shown.
+    pub fn most_rows(&self) -> u32
+        ensures most { result ≡ self.now.most }
+        ensures held { self.now.rows ≤ self.now.most }
+    {
+        self.most
     }
 
     /// How many pixels were written since the canvas was made, each write counted.
@@ -173,6 +220,15 @@ impl Canvas {
         ensures err { OnErr result (AppendsFront (W.contents out.old) (W.contents out.new) (ppm_text (image_of self.now))) }
     {
         write_text(out, self.width, self.rows, self.colours.as_slice())
+    }
+
+    /// Writes the raster of the rows held, red, green and blue of each pixel row by row (ppm(5)), without a header. The
+    /// writer isn't flushed. `WriteFault` where the writer failed or took no byte: then a front of the raster was written.
+    pub fn write_rows<W: Write>(&self, out: &mut W) -> Result<(), WriteFault>
+        ensures ok { OnOk result (Appends (W.contents out.old) (W.contents out.new) (raster self.now.colours)) }
+        ensures err { OnErr result (AppendsFront (W.contents out.old) (W.contents out.new) (raster self.now.colours)) }
+    {
+        write_raster(out, self.colours.as_slice())
     }
 }
 

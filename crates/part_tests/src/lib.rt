@@ -3,6 +3,8 @@
 #![tactic(auto)]
 
 #[cfg(test)]
+mod bands;
+#[cfg(test)]
 mod canvases;
 #[cfg(test)]
 mod codes;

@@ -60,7 +60,7 @@ drawn_in_turn first second s old between new same a b =
 
 -- a canvas holds the rows that it held
 pub same_rows : (test : ℕ → ℕ → Bool) (f : ℕ → ℕ → Colour → Colour) (old new : CanvasState) → Repaints test f old new → SameRows old new
-same_rows test f old new r = record { width = r.width; first = r.first; rows = r.rows }
+same_rows test f old new r = record { width = r.width; first = r.first; rows = r.rows; most = r.most }
 
 -- a paint joins the old colour by the raster operation
 joined_same : BinaryIsTernary → (op : RasterOp) (s : Surface) (x y : ℕ) (source : Colour) (paint : Option Colour) (old : Colour) → joined_if (binary_table op) source paint old ≡ mixed_with (binary op) s x y paint old

@@ -39,6 +39,7 @@ pub record SameRows (old new : CanvasState) : Type 0 where
   pub width : new.width ≡ old.width
   pub first : new.first ≡ old.first
   pub rows : new.rows ≡ old.rows
+  pub most : new.most ≡ old.most
 
 -- layers were drawn: on the image of the rows held, and their pixels there on the count
 pub record DrawsLayers (layers : List Layer) (s : Surface) (old new : CanvasState) : Type 0 where

@@ -1,4 +1,4 @@
-use Rattle.std.proofs.Common.{◌≡◌, rules}
+use Rattle.std.proofs.Common.{◌≡◌, arith, rules}
 use Rattle.player.specs.After.{HasLinesForRecords, HasRoomForRecords}
 use Rattle.player.specs.Plays.{HoldsRows}
 use Rattle.player.proofs.AfterLemmas.{lines_for_records}
@@ -9,7 +9,11 @@ play_records-requires c =
     let o = c.args.opened.now in
     let before = c.reserve_all.new.machine in
     let machine = c.count_lines.new.machine in
-    let held : HoldsRows c.args.canvas.now machine.surface = search rules in
+    let canvas = c.args.canvas.now in
+    let first = c.requires.whole in
+    let width : canvas.width ≡ machine.surface.width = search rules in
+    let height : canvas.rows ≡ machine.surface.height = search rules in
+    let held : HoldsRows canvas machine.surface = record { width = width; within = omega (arith, first, height) } in
     let room : HasRoomForRecords o.format o.records.now machine = search rules in
     let state : machine.state ≡ before.state = search rules in
     let needs : machine.needs ≡ before.needs = search rules in

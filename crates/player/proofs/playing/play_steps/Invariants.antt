@@ -31,8 +31,8 @@ invariant-loop-drawn g l =
       state : state_after (content l.fn.source).steps l.fn.machine.state ≡ state_after (content l.source).steps l.machine.state;
       needs : needs_after (content l.fn.source).steps l.fn.machine.state l.fn.machine.needs ≡ needs_after (content l.source).steps l.machine.state l.machine.needs;
       left : left_by (content l.fn.source).steps l.fn.machine.state l.fn.machine.needs start ≡ left_by (content l.source).steps l.machine.state l.machine.needs start;
-      image : rows_after (drawings_of (content l.fn.source).steps l.fn.machine.state) start l.fn.canvas.first (image_of l.fn.canvas) ≡ rows_after (drawings_of (content l.source).steps l.machine.state) start l.fn.canvas.first (image_of l.canvas);
-      writes : l.fn.canvas.writes + writes_of_drawings (drawings_of (content l.fn.source).steps l.fn.machine.state) start l.fn.canvas.first l.fn.canvas.rows ≡ l.canvas.writes + writes_of_drawings (drawings_of (content l.source).steps l.machine.state) start l.fn.canvas.first l.fn.canvas.rows;
+      image : rows_after (drawings_of (content l.fn.source).steps l.fn.machine.state) start l.fn.canvas.first (image_of l.fn.canvas) ≡ rows_after (drawings_of (content l.source).steps l.machine.state) start l.canvas.first (image_of l.canvas);
+      writes : l.fn.canvas.writes + writes_of_drawings (drawings_of (content l.fn.source).steps l.fn.machine.state) start l.fn.canvas.first l.fn.canvas.rows ≡ l.canvas.writes + writes_of_drawings (drawings_of (content l.source).steps l.machine.state) start l.canvas.first l.canvas.rows;
     }
 
 abbrev pub decreases-loop-drawn : goal.decreases-loop-drawn

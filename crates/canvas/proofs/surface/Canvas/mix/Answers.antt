@@ -14,4 +14,4 @@ returns-clause-pixel c =
     whole
     (λ d. c.apply.ensures ∙ ap (mixed_by c.args.mix) (get_or_read items c.place-place.result c.index.result.now within c.index.ensures d ∙ ap (λ (i : ℕ). get_or items i d) c.place-place.ensures))
     (ap (λ (i : ℕ). set items i c.apply.result) c.place-place.ensures)
-    refl refl refl refl
+    refl refl refl refl refl

@@ -16,4 +16,4 @@ returns-clause-pixels c =
     c.mix_cells_of-count.ensures.colours
     c.mix_cells_of-count.ensures.count
     (λ long. with_items_is c.self.inside.colours _ (long ∙ c.deref_mut.ensures.len))
-    refl refl refl refl
+    refl refl refl refl refl

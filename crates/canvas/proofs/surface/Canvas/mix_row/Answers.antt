@@ -16,4 +16,4 @@ returns-clause-pixels c =
     c.mix_each.auto.part
     (λ j d h. let at : from + j - from ≡ j = omega arith in rw at (c.mix_each.ensures j d h))
     (λ long. with_items_is c.self.inside.colours _ (long ∙ c.deref_mut.ensures.len))
-    (omega arith) refl refl refl
+    (omega arith) refl refl refl refl

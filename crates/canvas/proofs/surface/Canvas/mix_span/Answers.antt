@@ -14,4 +14,4 @@ returns-clause-pixels c =
     c.mix_all.auto.part
     c.mix_all.ensures
     (λ long. with_items_is c.self.inside.colours _ (long ∙ c.deref_mut.ensures.len))
-    (omega arith) refl refl refl
+    (omega arith) refl refl refl refl

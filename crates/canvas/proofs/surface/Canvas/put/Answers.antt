@@ -8,4 +8,4 @@ returns-clause-repaints c =
     (sym c.self.inside.colours.ok.0 ∙ c.self.invariant.whole)
     (λ d. refl)
     (ap (λ (i : ℕ). set c.self.inside.colours.items i c.args.colour) c.place-place.ensures)
-    refl refl refl refl
+    refl refl refl refl refl

@@ -14,4 +14,4 @@ returns-clause-pixels c =
     c.fill_with_pattern.auto.part
     (λ j d h. c.fill_with_pattern.ensures j d h ∙ get_or_default c.args.pattern.now ((c.args.x_from + j) % 8) d _ (let t = c.told-pattern in omega arith))
     (λ long. with_items_is c.self.inside.colours _ (long ∙ c.deref_mut.ensures.len))
-    (omega arith) refl refl refl
+    (omega arith) refl refl refl refl

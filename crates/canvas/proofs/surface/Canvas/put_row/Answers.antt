@@ -19,4 +19,4 @@ returns-clause-pixels c =
     (ap length made ∙ sym count)
     (λ j d h. let at : from + j - from ≡ j = omega arith in rw (made, at) (get_or_default inks j d _ (omega arith)))
     (λ long. with_items_is c.self.inside.colours _ (long ∙ c.deref_mut.ensures.len))
-    (omega arith) refl refl refl
+    (omega arith) refl refl refl refl

@@ -14,4 +14,4 @@ returns-clause-pixels c =
     c.fill_with.auto.part
     c.fill_with.ensures
     (λ long. with_items_is c.self.inside.colours _ (long ∙ c.deref_mut.ensures.len))
-    (omega arith) refl refl refl
+    (omega arith) refl refl refl refl

@@ -5,7 +5,7 @@ use Rattle.std.proofs.lemmas.Result.{err_from_is_err_and, on_err_weaker}
 use Rattle.mapping.specs.declared.geometry.Colour.{Colour}
 use Rattle.canvas.specs.Ppm.{raster, pixel_bytes}
 use Rattle.canvas.proofs.SendingLemmas.{sending_more, sending_front_more}
-use Rattle.canvas.proofs.ppm.write_text.Goals as goal
+use Rattle.canvas.proofs.ppm.write_pieces.Goals as goal
 
 -- a piece takes the samples of the front of the rest, and what is to be sent stays the same
 cut : (bytes piece : List ℕ) (front after rest : List Colour) → rest ≡ front ++ after → piece ≡ bytes ++ raster front → bytes ++ raster rest ≡ piece ++ raster after
