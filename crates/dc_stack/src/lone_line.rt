@@ -1,15 +1,17 @@
 //! Lists that are one line.
 
-ghost use Rattle.std.specs.Prelude.{◌≡◌, [], ◌∷◌, IfSome};
+ghost use Rattle.std.specs.Prelude.{◌≡◌, [], ◌∷◌, Some, IfSome};
+ghost use Rattle.mapping.specs.declared.geometry.Point.{Point};
 ghost use Rattle.point_views.specs.Points.{points_of};
 ghost use Rattle.point_views.specs.Polys.{lists_of};
 
 use mapping::Point;
 use point_views::{Points, Polys};
 
-/// The ends of a line, where the lists are one list of two points: such a line goes by its steps, without any rows.
+/// The ends of a line, exactly where the lists are one list of two points: such a line goes by its steps, without any rows.
 pub(crate) fn lone_line(lists: Polys<'_>) -> Option<(Point, Point)>
-    ensures { IfSome result (λ line. lists_of lists.entry ≡ (line.0 ∷ line.1 ∷ []) ∷ []) }
+    ensures line { IfSome result (λ line. lists_of lists.entry ≡ (line.0 ∷ line.1 ∷ []) ∷ []) }
+    ensures each { (from to : Point) → lists_of lists.entry ≡ (from ∷ to ∷ []) ∷ [] → result ≡ Some (from, to) }
 {
     let Some((points, rest)) = lists.split_first() else {
         return None;
@@ -21,9 +23,10 @@ pub(crate) fn lone_line(lists: Polys<'_>) -> Option<(Point, Point)>
     }
 }
 
-/// Both points, where there are two.
+/// Both points, exactly where there are two.
 fn two_points(points: Points<'_>) -> Option<(Point, Point)>
-    ensures { IfSome result (λ line. points_of points.entry ≡ line.0 ∷ line.1 ∷ []) }
+    ensures points { IfSome result (λ line. points_of points.entry ≡ line.0 ∷ line.1 ∷ []) }
+    ensures each { (from to : Point) → points_of points.entry ≡ from ∷ to ∷ [] → result ≡ Some (from, to) }
 {
     let Some((from, rest)) = points.split_first() else {
         return None;

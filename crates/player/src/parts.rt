@@ -1,10 +1,21 @@
-//! Parts of an outline, row by row: what is inside of it, or its lines.
+//! Parts of outlines, painted row by row: what is inside, or the lines.
 
-ghost use Rattle.std.specs.Prelude.{◌≡◌, ◌+◌, ◌<◌, ◌≤◌, length};
+ghost use Rattle.std.specs.Prelude.{◌≡◌, ℕ, None, true, ◌+◌, ◌<◌, ◌≤◌, ◌^◌, length};
+ghost use Rattle.canvas.specs.Writing.{Repaints};
+ghost use Rattle.dc_stack.specs.Clip.{in_box};
+ghost use Rattle.preflight_cert.specs.Shape.{fill_rule_of};
 ghost use Rattle.span_fill.specs.RowState.{SameWork};
 ghost use Rattle.span_fill.specs.Spans.{AreRow};
+ghost use Rattle.player.specs.Painted.{made, paints};
 ghost use Rattle.player.specs.Parts.{part_has, work_of};
 
+use crate::brushing::Brushing;
+use crate::ink_room::InkRoom;
+use crate::regions::{common, visible};
+use crate::strips::put_spans;
+use canvas::{Canvas, writing_law};
+use draw_ops::FillMode;
+use mapping::Rect;
 use span_fill::{FillRule, Outline, RowBuf, Span};
 
 /// What of an outline is painted.
@@ -17,7 +28,7 @@ pub(crate) enum Part {
 }
 
 /// Begins with a part of an outline, at row `y`.
-pub(crate) fn begin_rows<O: Outline>(rows: &mut RowBuf, outline: &mut O, part: Part, y: u32)
+fn begin_rows<O: Outline>(rows: &mut RowBuf, outline: &mut O, part: Part, y: u32)
     requires count { length (O.lines outline.old) ≤ rows.old.room }
     requires row { y ≤ 8192 }
     ensures lines { rows.new.lines ≡ O.lines outline.old }
@@ -32,7 +43,7 @@ pub(crate) fn begin_rows<O: Outline>(rows: &mut RowBuf, outline: &mut O, part: P
 }
 
 /// The spans of the next row of the part that was begun with.
-pub(crate) fn next_row(rows: &mut RowBuf, part: Part, columns: Span)
+fn next_row(rows: &mut RowBuf, part: Part, columns: Span)
     requires work { rows.old.work ≡ work_of part }
     requires next { rows.old.next < 8192 }
     requires interval { columns.to ≤ 8192 }
@@ -43,5 +54,50 @@ pub(crate) fn next_row(rows: &mut RowBuf, part: Part, columns: Span)
     match part {
         Part::Inside(_) => rows.next_fill(columns),
         Part::Lines => rows.next_stroke(columns),
+    }
+}
+
+/// Paints a part of an outline that lies in a box. Nothing is read.
+pub(crate) fn paint_part<O: Outline + Copy>(
+    canvas: &mut Canvas,
+    rows: &mut RowBuf,
+    outline: O,
+    part: Part,
+    bounds: Rect,
+    paint: &Brushing<'_, '_>,
+    room: &mut InkRoom,
+)
+    requires countable { canvas.old.writes + 2 ^ 27 < 2 ^ 64 }
+    requires alone { paint.now.source ≡ None }
+    requires room { length (O.lines outline) ≤ rows.old.room }
+    requires within { (x y : ℕ) → part_has part (O.lines outline) x y ≡ true → in_box bounds x y ≡ true }
+    ensures pixels { Repaints (paints paint.now (part_has part (O.lines outline))) (made paint.now) canvas.old canvas.new }
+    ensures few { canvas.new.writes ≤ canvas.old.writes + 2 ^ 26 }
+    ensures room { rows.new.room ≡ rows.old.room }
+{
+    writing_law();
+    let region = visible(canvas, paint.clip);
+    let drawn = common(region, bounds);
+    let columns = drawn.columns;
+    if columns.from >= columns.to {
+        return;
+    }
+    let same = paint.same_ink();
+    let mut lines = outline;
+    begin_rows(rows, &mut lines, part, drawn.rows.from);
+    for y in drawn.rows.from..drawn.rows.to {
+        next_row(rows, part, columns);
+        let ink = paint.row(same, y, columns, &room.sources, &mut room.mixes);
+        put_spans(canvas, &ink, y, rows.spans(), paint.clip.cut_boxes());
+    }
+}
+
+/// The rule of a fill mode.
+pub(crate) fn rule_of(mode: FillMode) -> FillRule
+    ensures { result ≡ fill_rule_of mode }
+{
+    match mode {
+        FillMode::Alternate => FillRule::EvenOdd,
+        FillMode::Winding => FillRule::NonZero,
     }
 }

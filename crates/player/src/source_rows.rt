@@ -12,7 +12,7 @@ use span_fill::Span;
 /// Gathers what these columns of a row read, each at its column, if something is read, and tells the row of the picture that is held
 /// then. Nothing is gathered where that row was kept.
 pub(crate) fn read_row(
-    source: Option<SourceReader<'_>>,
+    source: &Option<SourceReader<'_>>,
     columns: Span,
     y: u32,
     kept: Option<u32>,
@@ -20,10 +20,10 @@ pub(crate) fn read_row(
 ) -> Option<u32>
     requires order { columns.from ≤ columns.to }
     requires room { columns.to ≤ length sources.old }
-    requires reads { IfSome source (λ reader. ReadsRow reader columns y) }
-    requires kept { IfSome kept (λ row. IfSome source (λ reader. HoldsRow reader columns row sources.old)) }
-    ensures kept { IfSome result (λ row. IfSome source.entry (λ reader. HoldsRow reader columns row sources.new)) }
-    ensures read { IfSome source.entry (λ reader. HoldsRow reader columns (row_read reader y) sources.new) }
+    requires reads { IfSome source.now (λ reader. ReadsRow reader columns y) }
+    requires kept { IfSome kept (λ row. IfSome source.now (λ reader. HoldsRow reader columns row sources.old)) }
+    ensures kept { IfSome result (λ row. IfSome source.now (λ reader. HoldsRow reader columns row sources.new)) }
+    ensures read { IfSome source.now (λ reader. HoldsRow reader columns (row_read reader y) sources.new) }
 {
     let Some(reader) = source else {
         return None;

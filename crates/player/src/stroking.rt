@@ -10,10 +10,9 @@ ghost use Rattle.preflight_cert.specs.Rectangles.{rectangle_lines};
 ghost use Rattle.player.specs.RectangleBoxes.{IsNearBox};
 
 use crate::brushing::Brushing;
-use crate::filling::paint_part;
 use crate::ink_room::{BLACK, InkRoom};
 use crate::line_steps::mix_line;
-use crate::parts::Part;
+use crate::parts::{Part, paint_part};
 use crate::rectangles::{LineList, box_lines, has_inside};
 use crate::regions::whole_law;
 use canvas::{Canvas, writing_law};

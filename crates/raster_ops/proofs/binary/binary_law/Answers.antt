@@ -15,7 +15,7 @@ number_below : (op : RasterOp) → raster_op_code op - 1 < 16
 number_below op = grind (arith)
 
 -- the bit of a table of sixteen that two bits name is that of the ternary table
-same_bit : ℕ → ℕ → ℕ → ℕ → Bool
+abbrev same_bit : ℕ → ℕ → ℕ → ℕ → Bool
 same_bit s p o t = eqb (bit_at t (2 * p + o)) (table_bit (5 * (t % 4) + 80 * (t / 4)) p s o)
 
 by_computing : (s p o t : ℕ) → agree_below (same_bit s p o) (λ n. true) 16 ≡ true → t < 16 → bit_at t (2 * p + o) ≡ table_bit (5 * (t % 4) + 80 * (t / 4)) p s o

@@ -3,7 +3,7 @@ use Rattle.span_fill.specs.Spans.{in_spans}
 use Rattle.player.specs.Parts.{part_has}
 use Rattle.player.proofs.RegionLemmas.{none_seen, row_added, rows_begun, rows_done}
 use Rattle.player.proofs.RowLemmas.{apart_within, few_written, spans_are}
-use Rattle.player.proofs.filling.paint_part.Goals as goal
+use Rattle.player.proofs.parts.paint_part.Goals as goal
 
 pub returns-then-columns-clause-pixels : goal.returns-then-columns-clause-pixels
 returns-then-columns-clause-pixels g c =

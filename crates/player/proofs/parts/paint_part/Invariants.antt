@@ -1,7 +1,7 @@
 use Rattle.std.proofs.Common.{◌≡◌}
 use Rattle.player.specs.Parts.{part_has, work_of}
 use Rattle.player.proofs.RowLemmas.{HasRowsPainted}
-use Rattle.player.proofs.filling.paint_part.Given as goal
+use Rattle.player.proofs.parts.paint_part.Given as goal
 
 -- the rows so far are painted, and the buffer is at the next
 abbrev pub invariant-loop-y : goal.invariant-loop-y
