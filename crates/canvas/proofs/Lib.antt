@@ -1,4 +1,5 @@
 pub mod SendingLemmas
+pub mod PieceLemmas
 pub mod BandLawLemmas
 pub mod ReadingLemmas
 pub mod PpmLawLemmas

@@ -15,22 +15,31 @@
 //! - What is read from a P6 text is exactly the image that the text says, and it is refused exactly where it says
 //!   none (`Canvas::from_ppm`, by `read_ppm`); the text that is written for an image reads back as that image (`ppm_law`).
 //! - Bytes are sent whole, or a front of them, whatever the writer takes a call (`send`).
+//! - Over a writer that counts its faults, a `WriteFault` comes only where the count rose in that call, and so never over
+//!   one that never failed (`send_counted`, `write_header_to`, `Canvas::write_ppm_to`, `Canvas::write_rows_to`); `Counting`
+//!   makes such a writer of any other.
 //!
 //! Memory, three bytes a pixel, is taken when a canvas is made. No other call takes any: no contract says
 //! that but by the room that a canvas has, and a test over the built program counts its calls for memory.
 #![tactic(auto)]
 
 mod canvas_error;
+mod counted_sending;
+mod counting;
 mod laws;
 mod parts;
 mod ppm;
+mod ppm_counted;
 mod reading;
 mod sending;
 mod surface;
 mod writing;
 
 pub use canvas_error::{ImageError, OutOfMemory, WriteFault};
+pub use counted_sending::send_counted;
+pub use counting::{Counting, FaultCount};
 pub use laws::{band_law, ppm_law, writing_law};
 pub use ppm::write_header;
+pub use ppm_counted::write_header_to;
 pub use sending::send;
 pub use surface::Canvas;

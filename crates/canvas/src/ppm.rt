@@ -11,13 +11,13 @@ use mapping::Colour;
 use std::io::Write;
 
 /// How many pixels go into a piece. The first piece has the header as well.
-const PIECE_PIXELS: usize = 4096;
+pub(crate) const PIECE_PIXELS: usize = 4096;
 
 /// Room for the longest header, 29 bytes: its two numbers have at most ten digits each.
-const HEADER_ROOM: usize = 32;
+pub(crate) const HEADER_ROOM: usize = 32;
 
 /// Room for a piece, three bytes a pixel.
-const PIECE_ROOM: usize = HEADER_ROOM + 3 * PIECE_PIXELS;
+pub(crate) const PIECE_ROOM: usize = HEADER_ROOM + 3 * PIECE_PIXELS;
 
 /// Writes the header of a P6 text (ppm(5)), for an image of these sides in pixels: the text of the image is this
 /// header, and then its rows. The writer isn't flushed. `WriteFault` where the writer failed or took no byte: then a
@@ -80,7 +80,7 @@ fn write_pieces<W: Write>(
 }
 
 /// Puts the header at the start of the buffer, and tells its length.
-fn put_header(buffer: &mut [u8], width: u32, height: u32) -> usize
+pub(crate) fn put_header(buffer: &mut [u8], width: u32, height: u32) -> usize
     requires { 32 ≤ length buffer.old }
     ensures text { take result buffer.new ≡ header width height }
     ensures short { result ≤ 32 }
@@ -115,7 +115,7 @@ fn put_text(buffer: &mut [u8], at: usize, text: &[u8]) -> usize
 }
 
 /// Puts the samples of the colours behind the first `at` bytes, and tells where they end.
-fn put_pixels(buffer: &mut [u8], at: usize, colours: &[Colour]) -> usize
+pub(crate) fn put_pixels(buffer: &mut [u8], at: usize, colours: &[Colour]) -> usize
     requires { at + 3 * length colours.now ≤ length buffer.old }
     ensures text { take result buffer.new ≡ take at buffer.old ++ raster colours.now }
     ensures end { result ≡ at + 3 * length colours.now }

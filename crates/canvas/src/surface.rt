@@ -1,6 +1,6 @@
 //! The canvas: the rows of a surface, each pixel with its colour.
 
-ghost use Rattle.std.specs.Prelude.{◌≡◌, ◌+◌, ◌*◌, ◌<◌, ◌≤◌, ◌^◌, ◌↔◌, Some, None, IsTrue, IfOk, IfErr, OnOk, OnErr, length, slice_get, slice_set, vec_len};
+ghost use Rattle.std.specs.Prelude.{◌≡◌, ◌+◌, ◌-◌, ◌*◌, ◌<◌, ◌≤◌, ◌^◌, ◌↔◌, Some, None, IsTrue, IfOk, IfErr, OnOk, OnErr, length, slice_get, slice_set, vec_len};
 ghost use Rattle.std.specs.Io.KnownBytes.{Appends};
 ghost use Rattle.mapping.specs.Limits.{IsSurfaceSide, surface_side_limit};
 ghost use Rattle.canvas.specs.CanvasState.{HasPixel, image_of, colour_index, made_of, showing, shown_again, unwritten};
@@ -11,7 +11,9 @@ ghost use Rattle.canvas.specs.PpmReading.{read_ppm};
 ghost use Rattle.canvas.specs.declared.canvas_error.ImageError.TheVariants.{BadImage};
 
 use crate::canvas_error::{ImageError, OutOfMemory, WriteFault};
+use crate::counting::FaultCount;
 use crate::ppm::{write_raster, write_text};
+use crate::ppm_counted::{write_raster_to, write_text_to};
 use crate::reading::{read_colours, read_head};
 use mapping::Colour;
 use std::alloc::Global;
@@ -229,6 +231,32 @@ impl Canvas {
         ensures err { OnErr result (AppendsFront (W.contents out.old) (W.contents out.new) (raster self.now.colours)) }
     {
         write_raster(out, self.colours.as_slice())
+    }
+
+    /// The same as `write_ppm`, to a writer that counts its faults and has room for one more: `WriteFault` comes only
+    /// where the count rose.
+    pub fn write_ppm_to<W: FaultCount>(&self, out: &mut W) -> Result<(), WriteFault>
+        requires room { W.fault_count out.old < 2 ^ 64 - 1 }
+        ensures ok { OnOk result (Appends (W.contents out.old) (W.contents out.new) (ppm_text (image_of self.now))) }
+        ensures err { OnErr result (AppendsFront (W.contents out.old) (W.contents out.new) (ppm_text (image_of self.now))) }
+        ensures fault { OnErr result (W.fault_count out.old < W.fault_count out.new) }
+        ensures room { OnOk result (W.fault_count out.new < 2 ^ 64 - 1) }
+        ensures count { W.fault_count out.old ≤ W.fault_count out.new }
+    {
+        write_text_to(out, self.width, self.rows, self.colours.as_slice())
+    }
+
+    /// The same as `write_rows`, to a writer that counts its faults and has room for one more: `WriteFault` comes only
+    /// where the count rose.
+    pub fn write_rows_to<W: FaultCount>(&self, out: &mut W) -> Result<(), WriteFault>
+        requires room { W.fault_count out.old < 2 ^ 64 - 1 }
+        ensures ok { OnOk result (Appends (W.contents out.old) (W.contents out.new) (raster self.now.colours)) }
+        ensures err { OnErr result (AppendsFront (W.contents out.old) (W.contents out.new) (raster self.now.colours)) }
+        ensures fault { OnErr result (W.fault_count out.old < W.fault_count out.new) }
+        ensures room { OnOk result (W.fault_count out.new < 2 ^ 64 - 1) }
+        ensures count { W.fault_count out.old ≤ W.fault_count out.new }
+    {
+        write_raster_to(out, self.colours.as_slice())
     }
 }
 

@@ -13,9 +13,9 @@ const GREY: Colour = Colour { r: 7, g: 8, b: 9 };
 
 /// A writer that takes a number of bytes, and then none.
 #[derive(Drop)]
-struct Full {
-    taken: Vec<u8>,
-    most: usize,
+pub(crate) struct Full {
+    pub taken: Vec<u8>,
+    pub most: usize,
 }
 
 impl Write for Full {

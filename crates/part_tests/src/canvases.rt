@@ -12,15 +12,15 @@ const RED: Colour = Colour { r: 255, g: 0, b: 0 };
 /// A writer that takes a few bytes a call, is interrupted at every other call, and fails after a
 /// number of bytes.
 #[derive(Drop)]
-struct Slow {
-    taken: Vec<u8>,
+pub(crate) struct Slow {
+    pub taken: Vec<u8>,
     a_call: usize,
     most: usize,
     rested: bool,
 }
 
 impl Slow {
-    fn new(taken: Vec<u8>, a_call: usize, most: usize) -> Slow {
+    pub(crate) fn new(taken: Vec<u8>, a_call: usize, most: usize) -> Slow {
         Slow {
             taken,
             a_call,

@@ -10,6 +10,8 @@ mod canvases;
 mod codes;
 #[cfg(test)]
 mod comparing;
+#[cfg(test)]
+mod counted_writers;
 mod dot;
 #[cfg(test)]
 mod faults;

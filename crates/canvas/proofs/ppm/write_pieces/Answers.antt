@@ -1,16 +1,8 @@
-use Rattle.std.proofs.Common.{◌≡◌, ◌++◌, List, ℕ, sym, refl, arith}
-use Rattle.std.proofs.lemmas.List.{append_assoc}
-use Rattle.std.proofs.lemmas.List.Concat.{flat_map-append}
+use Rattle.std.proofs.Common.{refl, arith}
 use Rattle.std.proofs.lemmas.Result.{err_from_is_err_and, on_err_weaker}
-use Rattle.mapping.specs.declared.geometry.Colour.{Colour}
-use Rattle.canvas.specs.Ppm.{raster, pixel_bytes}
 use Rattle.canvas.proofs.SendingLemmas.{sending_more, sending_front_more}
+use Rattle.canvas.proofs.PieceLemmas.{cut}
 use Rattle.canvas.proofs.ppm.write_pieces.Goals as goal
-
--- a piece takes the samples of the front of the rest, and what is to be sent stays the same
-cut : (bytes piece : List ℕ) (front after rest : List Colour) → rest ≡ front ++ after → piece ≡ bytes ++ raster front → bytes ++ raster rest ≡ piece ++ raster after
-cut bytes piece front after rest e p =
-    rw (e, p, flat_map-append pixel_bytes front after) (sym (append_assoc bytes (raster front) (raster after)))
 
 pub returns-in_err-send-clause-err : goal.returns-in_err-send-clause-err
 returns-in_err-send-clause-err g c =

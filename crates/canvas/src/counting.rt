@@ -1,0 +1,84 @@
+//! Writers that count how often they failed.
+
+ghost use Rattle.std.specs.Prelude.{◌≡◌, ℕ, ◌-◌, ◌^◌, ◌<◌};
+ghost use Rattle.std.specs.Io.{WritesAtMost};
+ghost use Rattle.std.specs.Io.KnownBytes.{WriteAppends};
+ghost use Rattle.canvas.specs.Faults.{CountsFault};
+
+use std::io;
+use std::io::Write;
+
+/// A writer that counts its faults: the calls that failed, and those that took no byte of some. So what writes to it
+/// can be shown to tell a fault only where there was one.
+pub trait FaultCount: Write {
+    ghost fault_count: { Self → ℕ };
+
+    /// How many faults there were.
+    fn faults(&self) -> u64
+        ensures { result ≡ fault_count self.now };
+
+    /// Writes some of the bytes and tells how many, as `write` does, and counts a fault.
+    fn write_counted(&mut self, buf: &[u8]) -> io::Result<usize>
+        requires room { fault_count self.old < 2 ^ 64 - 1 }
+        ensures bound { WritesAtMost result buf.now }
+        ensures bytes { WriteAppends (Self.contents self.old) (Self.contents self.new) result buf.now }
+        ensures count { CountsFault (fault_count self.old) (fault_count self.new) result buf.now };
+}
+
+/// Any writer, with a count of its faults. Bytes written by `write` go to it as they are, and aren't looked at.
+#[derive(Drop)]
+pub struct Counting<W> {
+    writer: W,
+    faults: u64,
+}
+
+impl<W: Write + Drop> Counting<W> {
+    /// The writer, whose faults are counted from now on.
+    pub fn new(writer: W) -> Counting<W>
+        ensures contents { ⟦<Counting<W> as Write>⟧.contents result ≡ W.contents writer }
+        ensures count { ⟦<Counting<W> as FaultCount>⟧.fault_count result ≡ 0 }
+    {
+        Counting { writer, faults: 0 }
+    }
+
+    /// The writer itself.
+    pub fn into_writer(self) -> W
+        ensures { W.contents result ≡ ⟦<Counting<W> as Write>⟧.contents self }
+    {
+        self.writer
+    }
+}
+
+impl<W: Write + Drop> Write for Counting<W> {
+    ghost contents = { λ counting. W.contents counting.writer };
+
+    fn write(&mut self, buf: &[u8]) -> io::Result<usize> {
+        self.writer.write(buf)
+    }
+
+    fn flush(&mut self) -> io::Result<()> {
+        self.writer.flush()
+    }
+}
+
+impl<W: Write + Drop> FaultCount for Counting<W> {
+    ghost fault_count = { λ counting. counting.faults };
+
+    fn faults(&self) -> u64 {
+        self.faults
+    }
+
+    fn write_counted(&mut self, buf: &[u8]) -> io::Result<usize> {
+        match self.writer.write(buf) {
+            Ok(0) if !buf.is_empty() => {
+                self.faults += 1;
+                Ok(0)
+            }
+            Ok(count) => Ok(count),
+            Err(error) => {
+                self.faults += 1;
+                Err(error)
+            }
+        }
+    }
+}

@@ -1,0 +1,100 @@
+//! Writers that count their faults: what is counted, and when a write fault comes.
+
+use crate::bands::Full;
+use crate::canvases::Slow;
+use crate::comparing::same;
+use canvas::{Canvas, Counting, FaultCount, WriteFault, send_counted, write_header_to};
+use mapping::Colour;
+use std::io::Write;
+use std::test::Fail;
+
+const GREY: Colour = Colour { r: 7, g: 8, b: 9 };
+
+#[test]
+fn a_writer_that_takes_all_has_no_fault(rt: HostRuntime) -> Result<(), Fail> {
+    let canvas = Canvas::new(rt.alloc(), 1, 1, GREY)?;
+    let mut out = Counting::new(Vec::new(rt.alloc()));
+    assert!(rt; out.faults() == 0);
+    canvas.write_ppm_to(&mut out)?;
+    same(&rt, out.faults(), 0);
+    let taken = out.into_writer();
+    same(
+        &rt,
+        taken.as_slice(),
+        b"P6\n1 1\n255\n\x07\x08\x09".as_slice(),
+    );
+    Ok(())
+}
+
+#[test]
+fn an_interrupted_writer_gets_the_text_and_its_faults_are_counted(
+    rt: HostRuntime,
+) -> Result<(), Fail> {
+    let canvas = Canvas::new(rt.alloc(), 1, 1, GREY)?;
+    let mut out = Counting::new(Slow::new(Vec::new(rt.alloc()), 1, 1000));
+    assert!(rt; out.faults() == 0);
+    canvas.write_ppm_to(&mut out)?;
+    same(&rt, out.faults(), 14);
+    let slow = out.into_writer();
+    same(
+        &rt,
+        slow.taken.as_slice(),
+        b"P6\n1 1\n255\n\x07\x08\x09".as_slice(),
+    );
+    Ok(())
+}
+
+#[test]
+fn a_writer_that_takes_nothing_has_one_fault(rt: HostRuntime) -> Result<(), Fail> {
+    let band = Canvas::band(rt.alloc(), 2, 1, 1, GREY)?;
+    for most in 0..6 {
+        let full = Full {
+            taken: Vec::new(rt.alloc()),
+            most,
+        };
+        let mut out = Counting::new(full);
+        assert!(rt; out.faults() == 0);
+        same(&rt, band.write_rows_to(&mut out), Err(WriteFault));
+        same(&rt, out.faults(), 1);
+        let full = out.into_writer();
+        same(
+            &rt,
+            full.taken.as_slice(),
+            &b"\x07\x08\x09\x07\x08\x09"[..most],
+        );
+    }
+    Ok(())
+}
+
+#[test]
+fn a_writer_that_fails_has_a_fault_more_than_interruptions(rt: HostRuntime) -> Result<(), Fail> {
+    for most in 0..11 {
+        let mut out = Counting::new(Slow::new(Vec::new(rt.alloc()), 1, most));
+        assert!(rt; out.faults() == 0);
+        same(&rt, write_header_to(&mut out, 1, 2), Err(WriteFault));
+        same(&rt, out.faults(), most as u64 + 2);
+        let slow = out.into_writer();
+        same(&rt, slow.taken.as_slice(), &b"P6\n1 2\n255\n"[..most]);
+    }
+    Ok(())
+}
+
+#[test]
+fn nothing_is_sent_without_a_fault(rt: HostRuntime) -> Result<(), Fail> {
+    let full = Full {
+        taken: Vec::new(rt.alloc()),
+        most: 0,
+    };
+    let mut out = Counting::new(full);
+    assert!(rt; out.faults() == 0);
+    send_counted(&mut out, b"".as_slice())?;
+    same(&rt, out.faults(), 0);
+    assert!(rt; out.faults() == 0);
+    same(&rt, out.write_counted(b"".as_slice()).is_ok(), true);
+    same(&rt, out.faults(), 0);
+    assert!(rt; out.faults() == 0);
+    same(&rt, out.write_counted(b"a".as_slice()).is_ok(), true);
+    same(&rt, out.faults(), 1);
+    out.flush()?;
+    Ok(())
+}
