@@ -20,6 +20,8 @@ mod playing;
 #[cfg(test)]
 mod playing_on;
 #[cfg(test)]
+mod rows_apart;
+#[cfg(test)]
 mod sizes;
 #[cfg(test)]
 mod stepping;

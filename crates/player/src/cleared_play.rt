@@ -45,6 +45,7 @@ pub fn play(alloc: Global, cleared: &Cleared<'_>, canvas: &mut Canvas) -> Result
 }
 
 /// The same on a surface within the certificate's bound.
+#[tactic(auto, using(crate::proofs::WholeSurfaceLemmas::whole))]
 fn play_within(alloc: Global, cleared: &Cleared<'_>, canvas: &mut Canvas) -> Result<u64, Fault>
     requires whole { canvas.old.first ≡ 0 }
     requires countable { canvas.old.writes ≤ 2 ^ 63 }

@@ -58,6 +58,7 @@ pub fn play_file(alloc: Global, file: &[u8], width: u32, height: u32) -> Result<
 
 /// Plays an opened file's records from their start on. All memory is taken before the first of them is drawn, once
 /// it is known how many lines a drawing has: where it is refused, the canvas is what it was. The refusal is the records' first fault.
+#[tactic(auto, using(crate::proofs::WholeSurfaceLemmas::whole))]
 fn play_opened(
     alloc: Global,
     opened: &Opened<'_>,

@@ -1,0 +1,70 @@
+//! A picture drawn on rows of a surface, each by themselves, with the answers by hand.
+
+ghost use Rattle.std.specs.Prelude.{◌≤◌, ◌^◌, IfOk};
+
+use crate::comparing::same;
+use crate::files::placeable;
+use crate::playing::{BLUE, colour};
+use canvas::Canvas;
+use dc_stack::{MAX_PIECES, Machine};
+use mapping::{Colour, Place};
+use meta_headers::open_file;
+use object_tables::LowestFree;
+use player::play_on;
+use span_fill::RowBuf;
+use std::alloc::Global;
+use std::test::Fail;
+
+/// Rows that have room for any drawing.
+fn full_rows(alloc: Global) -> Result<RowBuf, Fail>
+    ensures { IfOk result (λ rows. 2 ^ 20 ≤ rows.room) }
+{
+    let mut rows = RowBuf::new(alloc);
+    rows.reserve(1_048_576)?;
+    Ok(rows)
+}
+
+/// Plays a WMF file over blue on so many rows of a surface of 4 by 4 pixels, and tells how many pixels were written.
+fn play_part(alloc: Global, file: &[u8], canvas: &mut Canvas) -> Result<u64, Fail> {
+    let opened = open_file(file)?;
+    let place = Place::new(&opened.frame, 4, 4);
+    let mut machine = Machine::new(alloc, &opened, place, LowestFree::new(alloc));
+    machine.reserve(256, 1024, MAX_PIECES)?;
+    let mut rows = full_rows(alloc)?;
+    let (first, held) = (canvas.first(), canvas.rows());
+    if canvas.width() != 4 || first + held > 4 || canvas.writes() > 1000 {
+        return Err("the canvas of a test holds rows of four, and is new".into());
+    }
+    Ok(play_on(&opened, &mut machine, &mut rows, canvas)?)
+}
+
+/// The colour of the pen at the start.
+const BLACK: Colour = Colour { r: 0, g: 0, b: 0 };
+
+/// A black frame round a white pixel, in columns 1 to 3 and rows 1 to 3 of a surface of 4 by 4 pixels: META_RECTANGLE
+/// ([MS-WMF] 2.3.3.17) with its bottom, right, top and left.
+const FRAME: [u16; 7] = [7, 0, 0x41b, 4, 4, 1, 1];
+
+#[test]
+fn a_rectangle_goes_on_over_an_edge_of_rows(rt: HostRuntime) -> Result<(), Fail> {
+    let file = placeable(rt.alloc(), 4, &FRAME)?;
+    // nine pixels are filled and eight stroked: of row 1 three and three, of rows 2 and 3 six and five
+    for (first, rows, writes) in [(0, 2, 6), (2, 2, 11), (0, 1, 0), (1, 3, 17), (3, 1, 6)] {
+        let mut canvas = Canvas::band(rt.alloc(), 4, first, rows, BLUE)?;
+        same(&rt, play_part(rt.alloc(), &file, &mut canvas)?, writes);
+        same(&rt, canvas.writes(), writes);
+        for y in first..first + rows {
+            for x in 0..4 {
+                let want = if x == 0 || y == 0 {
+                    BLUE
+                } else if (x, y) == (2, 2) {
+                    Colour::WHITE
+                } else {
+                    BLACK
+                };
+                same(&rt, (x, y, colour(&canvas, x, y)), (x, y, Some(want)));
+            }
+        }
+    }
+    Ok(())
+}
