@@ -67,16 +67,16 @@ module _ (laws : BoxLaws) (place : Place) (bounds : Rect) where
   corner_fits p h = (and_parts (is_on_plane p) (fits_place (placed_point p s)) h).1
 
   -- so where one doesn't, nothing is reached
-  pub none_reached : (box : Rect) → (fits_place (placed_point (near_corner bounds) s) && fits_place (placed_point (far_corner bounds) s)) ≡ false → HasLanded s bounds box
-  none_reached box off [] least within x y reached = absurd (empty (rw least at reached.wide))
+  pub none_reached :
+      (fits_place (placed_point (near_corner bounds) s) && fits_place (placed_point (far_corner bounds) s)) ≡ false
+      → (points : List Point) → IsLeastBox bounds points → list_all (λ point. lands_within_limits point s) points ≡ true → (x y : ℕ) → Reaches bounds s x y → ⊥
+  none_reached off [] least within x y reached = empty (rw least at reached.wide)
     where
       empty : pos 0 ≤ℤ negsuc 0 → ⊥
       empty h = omega (arith, ints, h)
-  none_reached box off (p ∷ ps) least within x y reached =
+  none_reached off (p ∷ ps) least within x y reached =
       let both = and_parts (lands_within_limits (near_corner bounds) s) (lands_within_limits (far_corner bounds) s) (corners_land (p ∷ ps) least within) in
-      let near = corner_fits (near_corner bounds) both.0 in
-      let far = corner_fits (far_corner bounds) both.1 in
-      absurd (contradicts _ _ near far off)
+      contradicts _ _ (corner_fits (near_corner bounds) both.0) (corner_fits (far_corner bounds) both.1) off
     where
       contradicts : (a b : Bool) → a ≡ true → b ≡ true → (a && b) ≡ false → ⊥
       contradicts true true e f h = cc

@@ -96,15 +96,31 @@ impl<'d, 'a> Brushing<'d, 'a> {
         sources: &'r [Colour; MAX_SIDE],
         room: &'r mut MixRoom,
     ) -> RowInk<'r>
-        requires same { IfSome same (λ ink. IsInk self.now columns y ink) }
+        requires same { IfSome same (λ ink. (columns : Span) (y : ℕ) → IsInk self.now columns y ink) }
         requires order { columns.from ≤ columns.to }
         requires end { columns.to ≤ 8192 }
         requires seen { IfSome self.now.source (λ reader. HoldsRow reader columns (row_read reader y) sources.now) }
         ensures { IsInk self.now columns y result }
     {
-        if let Some(ink) = same {
-            return ink;
+        match same {
+            Some(ink) => ink,
+            None => self.new_row(y, columns, sources, room),
         }
+    }
+
+    /// The same, where it isn't.
+    fn new_row<'r>(
+        &self,
+        y: u32,
+        columns: Span,
+        sources: &'r [Colour; MAX_SIDE],
+        room: &'r mut MixRoom,
+    ) -> RowInk<'r>
+        requires order { columns.from ≤ columns.to }
+        requires end { columns.to ≤ 8192 }
+        requires seen { IfSome self.now.source (λ reader. HoldsRow reader columns (row_read reader y) sources.now) }
+        ensures { IsInk self.now columns y result }
+    {
         let row = self.brush_row(y);
         match self.source {
             None => row_ink(&row, self.operation, columns, room),

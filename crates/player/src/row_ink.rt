@@ -132,7 +132,7 @@ pub(crate) fn source_ink<'r>(
     requires end { columns.to ≤ 8192 }
     requires parts { (x : ℕ) (d : Colour) → columns.from ≤ x → x < columns.to → HasBytes (slice_index_or sources.now x d) }
     ensures test { (x : ℕ) → is_inked result x ≡ is_some (row_paint row.now x) }
-    ensures ink { (x : ℕ) (d old : Colour) → columns.from ≤ x → x < columns.to → is_inked result x ≡ true → inked result x old ≡ joined_if operation.op.table (slice_index_or sources.entry.now x d) (row_paint row.now x) old }
+    ensures ink { (x : ℕ) (old : Colour) → columns.from ≤ x → x < columns.to → is_inked result x ≡ true → inked result x old ≡ joined_if operation.op.table (slice_index_or sources.entry.now x black_colour) (row_paint row.now x) old }
 {
     copy_law();
     if let (BrushRow::Solid(_), SRCCOPY) = (*row, operation.op.table) {
@@ -175,7 +175,7 @@ fn gather_mixes(
 )
     requires order { columns.from ≤ columns.to }
     requires end { columns.to ≤ 8192 }
-    ensures { (x : ℕ) (d old : Colour) → columns.from ≤ x → x < columns.to → is_some (row_paint row.now x) ≡ true → mixed_by (mix_at room.new.keeps room.new.flips x) old ≡ joined_if operation.op.table (slice_index_or sources.now x d) (row_paint row.now x) old }
+    ensures { (x : ℕ) (old : Colour) → columns.from ≤ x → x < columns.to → is_some (row_paint row.now x) ≡ true → mixed_by (mix_at room.new.keeps room.new.flips x) old ≡ joined_if operation.op.table (slice_index_or sources.now x black_colour) (row_paint row.now x) old }
 {
     let (from, to) = (columns.from, columns.to);
     let MixRoom {

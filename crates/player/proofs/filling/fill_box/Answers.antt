@@ -1,7 +1,5 @@
-use Rattle.std.proofs.Common.{◌≡◌, ℕ, ◌+◌, ◌-◌, ◌≤◌, arith, refl, sym, ap, ◌∙◌, true, ◌&&◌}
-use Rattle.std.proofs.lemmas.Bool.{and_parts}
-use Rattle.std.proofs.Math.Bool.{and-true}
-use Rattle.dc_stack.specs.Clip.{in_box, is_from_to}
+use Rattle.std.proofs.Common.{◌≡◌, ℕ, length, rules, arith, ◌∙◌}
+use Rattle.dc_stack.specs.Clip.{in_box}
 use Rattle.span_fill.specs.Spans.{in_span}
 use Rattle.player.proofs.RegionLemmas.{box_row, none_seen, row_added, rows_begun, rows_done}
 use Rattle.player.proofs.RowLemmas.{few_written}
@@ -18,9 +16,10 @@ pub loop-y-init : goal.loop-y-init
 loop-y-init c =
     let shown = c.visible-region in
     let drawn = c.common-drawn in
+    let long : length c.args.room.now.sources ≡ 8192 = search rules in
     record {
       painted = rows_begun c.args.paint.now (in_box c.args.inside) c.args.inside (λ x y h. h) c.args.canvas.now c.writing_law.ensures shown.ensures.whole shown.result drawn.result shown.ensures.kept drawn.ensures.has_columns drawn.ensures.has_rows;
-      long = refl;
+      long = long;
       held = tt;
     }
 

@@ -26,7 +26,7 @@ returns-in_default c =
     let r : to_z w32 (of_z w32 bounds.r) ≡ bounds.r = omega (arith, ints) in
     let b : to_z w32 (of_z w32 bounds.b) ≡ bounds.b = omega (arith, ints) in
     let off = sym (rw (r, b) at c.place-far.ensures.test) ∙ ap is_some c.in_default.is-1 in
-    none_reached c.box_law.ensures c.args.place bounds _ (second_off _ _ off)
+    λ points least within x y reached. absurd (none_reached c.box_law.ensures c.args.place bounds (second_off _ _ off) points least within x y reached)
 
 pub returns-in_default-2 : goal.returns-in_default-2
 returns-in_default-2 c =
@@ -34,4 +34,4 @@ returns-in_default-2 c =
     let l : to_z w32 (of_z w32 bounds.l) ≡ bounds.l = omega (arith, ints) in
     let t : to_z w32 (of_z w32 bounds.t) ≡ bounds.t = omega (arith, ints) in
     let off = sym (rw (l, t) at c.place-near.ensures.test) ∙ ap is_some c.in_default.is-0 in
-    none_reached c.box_law.ensures c.args.place bounds _ (first_off _ _ off)
+    λ points least within x y reached. absurd (none_reached c.box_law.ensures c.args.place bounds (first_off _ _ off) points least within x y reached)

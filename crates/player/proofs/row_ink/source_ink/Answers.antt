@@ -2,5 +2,5 @@ use Rattle.std.proofs.Common.{sym, ◌∙◌}
 use Rattle.player.proofs.row_ink.source_ink.Goals as goal
 
 pub returns-clause-ink : goal.returns-clause-ink
-returns-clause-ink c = λ x d old low high i.
-    c.mix_given.ensures.ink x old i ∙ c.gather_mixes.ensures x d old low high (sym (c.mix_given.ensures.test x) ∙ i)
+returns-clause-ink c = λ x old low high i.
+    c.mix_given.ensures.ink x old i ∙ c.gather_mixes.ensures x old low high (sym (c.mix_given.ensures.test x) ∙ i)

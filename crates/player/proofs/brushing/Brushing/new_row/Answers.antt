@@ -5,7 +5,7 @@ use Rattle.mapping.specs.declared.geometry.Colour.{Colour}
 use Rattle.raster_ops.specs.declared.sources.SourceReader.{SourceReader}
 use Rattle.player.specs.Joined.{joined_if}
 use Rattle.player.specs.Painted.{colour_of, colour_seen}
-use Rattle.player.proofs.brushing.Brushing.row.Goals as goal
+use Rattle.player.proofs.brushing.Brushing.new_row.Goals as goal
 
 pub returns-in-None : goal.returns-in-None
 returns-in-None c =
@@ -27,7 +27,7 @@ returns-in-Some c =
     record {
       test = λ x. c.source_ink.ensures.test x ∙ ap is_some (given x);
       colour = λ x old low high i.
-          c.source_ink.ensures.ink x black_colour old low high i
+          c.source_ink.ensures.ink x old low high i
           ∙ ap (λ (seen : Colour). joined_if paint.operation.op.table seen _ old) (held.read x black_colour low high)
           ∙ ap (λ (p : Option Colour). joined_if paint.operation.op.table _ p old) (given x)
           ∙ ap (λ (source : Option SourceReader). joined_if paint.operation.op.table (colour_seen source x c.args.y) (colour_of paint x c.args.y) old) (sym c.in-Some.is);
