@@ -4,7 +4,7 @@ use Rattle.std.proofs.lemmas.Bool.{and_from, and_parts, le-leb, lt-leb}
 use Rattle.std.proofs.lemmas.List.Elements.{All-head, All-tail}
 use Rattle.std.proofs.lemmas.List.Folds.{list_all-append}
 use Rattle.std.specs.List.{flat_map, list_all}
-use Rattle.std.specs.Option.{option_or}
+use Rattle.std.specs.Option.{option_map, option_or}
 use Rattle.mapping.specs.Boxes.{IsLeastBox}
 use Rattle.mapping.specs.Limits.{is_within, place_limit, plane_limit}
 use Rattle.mapping.specs.PageMap.{map_numbers}
@@ -12,6 +12,7 @@ use Rattle.mapping.specs.Plane.{MapNumbers}
 use Rattle.mapping.specs.Surface.{Surface, lands_within_limits, placed}
 use Rattle.mapping.specs.declared.geometry.Point.{Point}
 use Rattle.mapping.specs.declared.geometry.Rect.{Rect}
+use Rattle.draw_ops.specs.declared.fault.Fault.TheVariants.{Record}
 use Rattle.draw_ops.specs.declared.record_fault.RecordFault.{RecordFault}
 use Rattle.draw_ops.specs.declared.record_fault.RecordFault.TheVariants.{TooManyEdges}
 use Rattle.point_views.specs.PartedPoints.{parts_of}
@@ -164,10 +165,12 @@ plays_painting old new painting bounds edges pieces at state lent needs counted 
     }
 
 -- or has more points than it may
-pub refuses_painting : (old new : MachineState) (painting : Painting) (pieces : List Piece) → old.state.path ≡ finished_path (all_figures (figures_of pieces)) → edge_limit < length (gathered_points pieces) → IsUnchanged old new → HasRefused (painting_operation painting) old new TooManyEdges
+pub refuses_painting : (old new : MachineState) (painting : Painting) (pieces : List Piece) → old.state.path ≡ finished_path (all_figures (figures_of pieces)) → edge_limit < length (gathered_points pieces) → IsUnchanged old new → HasRefused (painting_operation painting) old new (Record TooManyEdges)
 refuses_painting old new painting pieces at many kept =
     let figures = all_figures (figures_of pieces) in
+    let found : fault_of (painting_operation painting) old.state old.surface ≡ Some TooManyEdges =
+    painting_fault old.state figures at painting old.surface ∙ rw (lt-leb (length (gathered_points pieces)) edge_limit many) refl in
     record {
-      refused = inl (painting_fault old.state figures at painting old.surface ∙ rw (lt-leb (length (gathered_points pieces)) edge_limit many) refl);
+      refused = inl (ap (option_map Record) found);
       kept = kept;
     }
