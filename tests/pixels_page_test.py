@@ -1,10 +1,14 @@
-"""The pictures, numbers and tables of docs/PIXELS.md are those of the reference player, which is written from the same rules."""
+"""The pictures, numbers and tables of docs/PIXELS.md are those of the reference player, which is written from the same rules, and the built programs show
+the pictures."""
 
 import re
 import unittest
+from typing import NamedTuple
 
-from built import ROOT
+from answers import shown
+from built import ROOT, answer, for_each_program
 from metafile.bitmaps import bitmap
+from metafile.scripts import EMF, HANDLES, WMF
 from metafile.shapes import BETWEEN, rgb_of
 from reference.pixels import HATCHES, Axis, mixed
 from reference.player import Reference
@@ -87,6 +91,15 @@ def steps_of(step):
     return STEPS[name](*words) if name in STEPS else [(name, [word if word == BETWEEN else int(word) for word in words])]
 
 
+def numbered(steps):
+    """The same steps with an index of its own for each tool."""
+    made = 0
+    for name, words in steps:
+        is_tool = name.endswith(("_pen", "_brush"))
+        made += is_tool
+        yield name, [made - 1, *words[1:]] if is_tool or name == "select" else words
+
+
 class Counting(dict):
     """An image that counts how often a pixel is written."""
 
@@ -97,34 +110,67 @@ class Counting(dict):
         super().__setitem__(key, value)
 
 
-def drawn(script, width, height):
-    """What steps draw on a surface of these sides, as rows of signs, and how many pixels they write."""
-    told, frame, inclusive = [], (width, height), False
-    for step in map(str.strip, script.split(";")):
-        if step == "emf":
-            inclusive = True
-        elif step.startswith("frame "):
-            frame = tuple(map(int, step.split()[1:]))
-        else:
-            told += steps_of(step)
-    player = Reference([Axis(0, 1, 0, 1, 0, *sides) for sides in zip(frame, (width, height), strict=True)], inclusive)
-    player.image = Counting(player.image)
-    image, refusal = player.play(told)
-    assert refusal is None, (script, refusal)
-    return ["".join(SIGNS[image[x, y]] for x in range(width)) for y in range(height)], image.writes
+class Told(NamedTuple):
+    """What a picture tells: its steps, its frame, whether it is of EMF, its rows of signs, and how many pixels are written, if it says so."""
+
+    script: str
+    steps: list
+    frame: tuple[int, int]
+    is_emf: bool
+    rows: list
+    writes: int | None
+
+    @property
+    def surface(self):
+        """The sides of the surface."""
+        return len(self.rows[0]), len(self.rows)
+
+    def drawn(self):
+        """What the reference draws, and how many pixels it writes."""
+        player = Reference([Axis(0, 1, 0, 1, 0, *sides) for sides in zip(self.frame, self.surface, strict=True)], self.is_emf)
+        player.image = Counting(player.image)
+        image, refusal = player.play(self.steps)
+        assert refusal is None, (self.script, refusal)
+        return image, image.writes
+
+    def file(self):
+        """The steps as a file."""
+        form = EMF if self.is_emf else WMF
+        records = [form.pixel(*words) if name == "pixel" else form.step(name, *words) for name, words in self.steps]
+        return form.file(records, self.frame, HANDLES)
+
+    def image(self):
+        """The picture's pixels."""
+        return {(x, y): COLOURS[sign] for y, row in enumerate(self.rows) for x, sign in enumerate(row)}
+
+
+def told(picture):
+    """What a picture of the page tells."""
+    rows = [row[2:] for row in picture["rows"].splitlines()]
+    parts = [part.strip() for part in picture["steps"].split(";")]
+    frames = [tuple(map(int, part.split()[1:])) for part in parts if part.startswith("frame ")]
+    steps = [step for part in parts if part != "emf" and not part.startswith("frame ") for step in steps_of(part)]
+    frame = frames[0] if frames else (len(rows[0]), len(rows))
+    return Told(picture["steps"], list(numbered(steps)), frame, "emf" in parts, rows, int(picture["writes"]) if picture["writes"] else None)
 
 
 class Pictures(unittest.TestCase):
     """Each picture of the page."""
 
     def test_each_picture_is_what_the_reference_draws(self):
-        for it in PICTURE.finditer(PAGE):
-            rows = [row[2:] for row in it["rows"].splitlines()]
-            with self.subTest(steps=it["steps"]):
-                image, writes = drawn(it["steps"], len(it["columns"]), len(rows))
-                self.assertEqual(image, rows)
-                if it["writes"]:
-                    self.assertEqual(writes, int(it["writes"]))
+        for picture in map(told, PICTURE.finditer(PAGE)):
+            with self.subTest(steps=picture.script):
+                image, writes = picture.drawn()
+                width, height = picture.surface
+                self.assertEqual(["".join(SIGNS[image[x, y]] for x in range(width)) for y in range(height)], picture.rows)
+                self.assertEqual(writes, picture.writes or writes)
+
+    @for_each_program
+    def test_each_picture_is_what_the_program_shows(self, program):
+        for picture in map(told, PICTURE.finditer(PAGE)):
+            with self.subTest(steps=picture.script):
+                words = ["show", "stdin", *map(str, picture.surface)]
+                self.assertEqual(answer(program, words, picture.file()), shown(picture.image(), *picture.surface))
 
     def test_rows_and_columns_are_numbered(self):
         for it in PICTURE.finditer(PAGE):
