@@ -1,7 +1,7 @@
 //! Bands: rows of a surface that are held, shown again lower down, and written one behind the other.
 
 use crate::comparing::same;
-use canvas::{Canvas, WriteFault, write_header};
+use canvas::{Canvas, OutOfMemory, WriteFault, write_header};
 use mapping::Colour;
 use std::io;
 use std::io::Write;
@@ -120,6 +120,21 @@ fn a_full_writer_has_a_front_of_the_rows(rt: HostRuntime) -> Result<(), Fail> {
         };
         same(&rt, write_header(&mut full, 1, 2), Err(WriteFault));
         same(&rt, full.taken.as_slice(), &b"P6\n1 2\n255\n"[..most]);
+    }
+    Ok(())
+}
+
+// Run once more for each growth refused in turn, by tests/refused_growth_test.py.
+#[test]
+fn a_band_under_refused_growth(rt: HostRuntime) -> Result<(), Fail> {
+    match Canvas::band(rt.alloc(), 2, 3, 2, GREY) {
+        Ok(mut band) => {
+            assert!(rt; band.most_rows() == 2);
+            band.again(7, 2, RED);
+            assert!(rt; band.has_pixel(0, 7) && band.has_pixel(1, 8));
+            same(&rt, (band.colour(0, 7), band.colour(1, 8)), (RED, RED));
+        }
+        Err(error) => same(&rt, error, OutOfMemory),
     }
     Ok(())
 }

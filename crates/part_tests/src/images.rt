@@ -228,3 +228,28 @@ fn errors_display_their_names(rt: HostRuntime) -> Result<(), Fail> {
     same(&rt, memory.as_str(), "OutOfMemory");
     Ok(())
 }
+
+// Run once more for each growth refused in turn, by tests/refused_growth_test.py.
+#[test]
+fn an_image_under_refused_growth(rt: HostRuntime) -> Result<(), Fail> {
+    match Canvas::from_ppm(rt.alloc(), b"P6 1 2 255 abcdef".as_slice()) {
+        Ok(canvas) => {
+            assert!(rt; canvas.has_pixel(0, 0) && canvas.has_pixel(0, 1));
+            let (a, d) = (
+                Colour {
+                    r: 97,
+                    g: 98,
+                    b: 99,
+                },
+                Colour {
+                    r: 100,
+                    g: 101,
+                    b: 102,
+                },
+            );
+            same(&rt, (canvas.colour(0, 0), canvas.colour(0, 1)), (a, d));
+        }
+        Err(error) => same(&rt, error, ImageError::OutOfMemory),
+    }
+    Ok(())
+}
