@@ -8,6 +8,7 @@ use Rattle.draw_ops.specs.declared.fault.Fault.{Fault}
 use Rattle.dc_stack.specs.Needs.{greater_needs, needs_of}
 use Rattle.dc_stack.specs.Next.{next}
 use Rattle.dc_stack.specs.OperationFault.{place_fault, plain_fault}
+use Rattle.dc_stack.specs.Path.{piece_limit}
 use Rattle.dc_stack.specs.State.{State}
 use Rattle.dc_stack.specs.declared.needs.Needs.{Needs}
 use Rattle.preflight_cert.specs.After.{needs_after}
@@ -28,6 +29,7 @@ enough operation m fault room wants = elim wants.lacks [
 
 -- and full room is room for what an operation without a fault needs
 full : CreatedIndexIsBelowBound → (operation : Operation) (m : MachineState) (fault : Fault) → HasFullRoom m → WantsRoom operation m fault → ⊥
+unfolding piece_limit
 full laws operation m fault room wants =
     let one = within laws operation m.state (none_first (plain_fault operation m.state) (place_fault operation m.state m.surface) wants.no_fault) in
     let depth = one.depth in let slots = one.slots in let pieces = one.pieces in

@@ -35,4 +35,5 @@ returns-in-Ok-put_text c =
       accepted = records_read content o opened.records.now w h m c.source.ensures.content at c.in-Ok.writes new after text gathers written
           c.box_law.ensures c.need_law.ensures c.preparation_law.ensures c.text_law.ensures c.answer_law.ensures c.requires.wide c.requires.high handles fits (search rules);
       refusal = tt;
+      number_told = tt;
     }
