@@ -1,23 +1,25 @@
 -- What a blit reads, between where its corners land and in the part of its box that is seen.
-use Rattle.std.proofs.Common.{◌≡◌, ℕ, ◌+◌, ◌-◌, ◌<◌, ◌≤◌, ℤ, pos, ◌+ℤ◌, ◌≤ℤ◌, ◌<ℤ◌, ◌&&◌, Bool, true, false, Option, Some, None, is_some, arith, refl, sym, ap, ◌∙◌}
+use Rattle.std.proofs.Common.{◌≡◌, ℕ, ◌+◌, ◌-◌, ◌<◌, ◌≤◌, ℤ, pos, ◌+ℤ◌, ◌≤ℤ◌, ◌<ℤ◌, ◌&&◌, Bool, true, false, List, slice_index_or, Option, Some, None, is_some, arith, refl, sym, ap, ◌∙◌}
 use Rattle.std.proofs.lemmas.Bool.{and_parts}
 use Rattle.std.proofs.lemmas.Int.{ints}
 use Rattle.std.specs.Prelude.{IfSome}
 use Rattle.std.specs.Int.{int_max, int_min}
 use Rattle.mapping.specs.Boxes.{box_between}
+use Rattle.mapping.specs.Colours.{black_colour}
 use Rattle.mapping.specs.declared.geometry.Colour.{Colour}
 use Rattle.mapping.specs.declared.geometry.Point.{Point}
 use Rattle.mapping.specs.declared.geometry.Rect.{Rect}
 use Rattle.dc_stack.specs.Clip.{is_from_to}
 use Rattle.draw_ops.specs.Blits.{SourceValue}
-use Rattle.raster_ops.specs.Readers.{ReadsSource}
+use Rattle.raster_ops.specs.Readers.{ReadsSource, row_read}
 use Rattle.raster_ops.specs.Sources.{distance, source_colour}
 use Rattle.raster_ops.specs.TernaryOps.{ternary_colour}
 use Rattle.raster_ops.specs.declared.sources.SourceReader.{SourceReader}
 use Rattle.span_fill.specs.Spans.{in_span}
 use Rattle.span_fill.specs.declared.span.Region.{Region}
+use Rattle.span_fill.specs.declared.span.Span.{Span}
 use Rattle.player.specs.Painted.{colour_seen}
-use Rattle.player.specs.SourceRows.{ReadsBox, ReadsRow}
+use Rattle.player.specs.SourceRows.{HoldsRow, ReadsBox, ReadsRow}
 use Rattle.player.proofs.TestLemmas.{column_from, from_to_true}
 
 -- the greater of two ends is as far behind the lesser as they are apart
@@ -82,3 +84,10 @@ columns_read (Some r) box region drawn columns rows reads some y low high =
       top = rw reads.top row.0;
       bottom = rw (← reads.bottom) row.1;
     }
+
+-- a row of what is read that is held shows at each of its columns what is seen there
+pub held_seen :
+    (source : Option SourceReader) (columns : Span) (y : ℕ) (sources : List Colour) → IfSome source (λ r. HoldsRow r columns (row_read r y) sources) → is_some source ≡ true
+    → (x : ℕ) → columns.from ≤ x → x < columns.to → slice_index_or sources x black_colour ≡ colour_seen source x y
+held_seen None columns y sources held some x low high = cc
+held_seen (Some r) columns y sources held some x low high = held.read x black_colour low high

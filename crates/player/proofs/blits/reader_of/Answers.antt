@@ -1,4 +1,6 @@
 use Rattle.std.proofs.Common.{◌≡◌, false, true, sym, ◌∙◌}
+use Rattle.mapping.specs.Colours.{black_colour}
+use Rattle.raster_ops.specs.Sources.{source_colour}
 use Rattle.raster_ops.specs.TernaryOps.{uses_source}
 use Rattle.draw_ops.specs.Blits.{source_of}
 use Rattle.player.proofs.SourceLemmas.{box_read, read_seen}
@@ -15,8 +17,8 @@ returns-then-uses_source-clause-seen c = λ x y paint old.
     let used : uses_source table ≡ true = sym c.if-uses_source.ensures in
     read_seen c.new.result (source_of c.args.asked.now.source) c.args.first c.args.second c.new.ensures.reads (c.new.ensures.some ∙ c.requires.readable used) table x y paint old
 
-pub returns-else-uses_source-clause-seen : goal.returns-clause-seen
+pub returns-else-uses_source-clause-seen : goal.returns-else-uses_source-clause-seen
 returns-else-uses_source-clause-seen c = λ x y paint old.
     let table = c.args.asked.now.operation.table in
     let none : uses_source table ≡ false = sym c.if-uses_source.ensures in
-    c.dependence_law.ensures.source table paint _ _ old none
+    c.dependence_law.ensures.source table paint black_colour (source_colour (source_of c.args.asked.now.source) c.args.first c.args.second x y) old none
