@@ -1,5 +1,5 @@
 -- A step that is refused on a machine with room has the operation's fault.
-use Rattle.std.proofs.Common.{◌≡◌, ℕ, Option, Some, None, Result, Ok, Err, inl, inr, refl, ◌∙◌, arith}
+use Rattle.std.proofs.Common.{◌≡◌, ℕ, Option, Some, None, Result, Ok, Err, inl, inr, refl, ap, ◌∙◌, arith}
 use Rattle.std.specs.Option.{option_map}
 use Rattle.mapping.specs.Surface.{Surface}
 use Rattle.draw_ops.specs.Content.{Content, StepValue, broken_by, with_step}
@@ -67,16 +67,19 @@ that_of : (found : Option RecordFault) (fault : Fault) → option_map Record fou
 that_of None fault h = cc
 that_of (Some here) fault h = record { here = here; there = refl; same = cc }
 
+stops_there : (before : ℕ) (left rest : Content) (step : StepValue) (state : State) (s : Surface) (here : RecordFault) (r : Refusal) → left ≡ with_step step rest → fault_of step.operation state s ≡ Some here → r.number ≡ Some step.number → r.fault ≡ Record here → StopsAfter before left state s r
+stops_there before left rest step state s here r is there number by = record {
+  stop = stop_at step.number here;
+  stops = rw (is, there) refl;
+  number = number;
+  fault = by;
+}
+
 -- or at its first step, if that has a fault
 pub stops_at_first : (before : ℕ) (left rest : Content) (step : StepValue) (state : State) (s : Surface) (fault : Fault) (r : Refusal) → left ≡ with_step step rest → option_map Record (fault_of step.operation state s) ≡ Some fault → r.number ≡ number_told step.number fault → r.fault ≡ fault → StopsAfter before left state s r
 stops_at_first before left rest step state s fault r is h number by =
     let found = that_of (fault_of step.operation state s) fault h in
-    record {
-      stop = stop_at step.number found.here;
-      stops = rw (is, found.there) refl;
-      number = rw found.same at number;
-      fault = by ∙ found.same;
-    }
+    stops_there before left rest step state s found.here r is found.there (number ∙ ap (number_told step.number) found.same) (by ∙ found.same)
 
 -- where what is left stops, the whole does
 pub stops_by : (whole left : Content) (before : ℕ) (start state : State) (s : Surface) (r : Refusal) → stop_of whole start s ≡ stopped left.steps left.fault before state s → StopsAfter before left state s r → StopsBy whole start s r

@@ -1,5 +1,5 @@
 -- Records that are played on a whole surface from their start on.
-use Rattle.std.proofs.Common.{◌≡◌, ℕ, ◌+◌, List, refl, subst}
+use Rattle.std.proofs.Common.{◌≡◌, ℕ, ◌+◌, List, refl, subst, sym}
 use Rattle.draw_ops.specs.Content.{Content}
 use Rattle.mapping.specs.Surface.{Surface}
 use Rattle.canvas.specs.CanvasState.{CanvasState, image_of}
@@ -16,7 +16,7 @@ use Rattle.player.specs.Plays.{PlaysContent, PlaysOpened, PlaysRecords}
 whole_count : (content : Content) (state : State) (s : Surface) (old new : CanvasState) → old.first ≡ 0 → s.height ≡ old.rows → new.writes ≡ old.writes + writes_of_drawings (drawings_of content.steps state) s old.first old.rows → new.writes ≡ old.writes + writes_after (drawings_of content.steps state) s
 whole_count content state s old new first height count =
     let top : new.writes ≡ old.writes + writes_of_drawings (drawings_of content.steps state) s 0 old.rows = subst (λ (n : ℕ). new.writes ≡ old.writes + writes_of_drawings (drawings_of content.steps state) s n old.rows) first count in
-    rw height top
+    subst (λ (n : ℕ). new.writes ≡ old.writes + writes_of_drawings (drawings_of content.steps state) s 0 n) (sym height) top
 
 whole_image : (content : Content) (state : State) (s : Surface) (old new : CanvasState) → old.first ≡ 0 → image_of new ≡ rows_after (drawings_of content.steps state) s old.first (image_of old) → image_of new ≡ image_after (drawings_of content.steps state) s (image_of old)
 whole_image content state s old new first image = subst (λ (n : ℕ). image_of new ≡ rows_after (drawings_of content.steps state) s n (image_of old)) first image

@@ -1,5 +1,5 @@
 -- A cleared file never stops, and writes no more than certified.
-use Rattle.std.proofs.Common.{◌≡◌, ◌+◌, ap, refl, subst}
+use Rattle.std.proofs.Common.{◌≡◌, ℕ, ◌+◌, ap, refl, subst, sym}
 use Rattle.mapping.specs.PlacingLaws.{IsNoLarger, ShowsFrame}
 use Rattle.mapping.specs.Surface.{Surface}
 use Rattle.meta_headers.specs.OpenedOf.{opened_of}
@@ -36,6 +36,8 @@ returns-clause-few g c =
     let frame : ShowsFrame (bound_of o k) = record { wide = cleared.opened.frame.wide; high = cleared.opened.frame.high } in
     let played = c.in-Ok.ensures.played in
     let height : s.height ≡ c.args.canvas.now.rows = ap (λ (t : Surface). t.height) c.requires.surface in
-    let whole : new ≡ old + writes_of_drawings (drawings_of played.content.steps c.args.machine.now.state) s 0 s.height = rw height (rw c.requires.whole at played.plays.writes) in
+    let drawings = drawings_of played.content.steps c.args.machine.now.state in
+    let top : new ≡ old + writes_of_drawings drawings s 0 c.args.canvas.now.rows = subst (λ (n : ℕ). new ≡ old + writes_of_drawings drawings s n c.args.canvas.now.rows) c.requires.whole played.plays.writes in
+    let whole : new ≡ old + writes_of_drawings drawings s 0 s.height = subst (λ (n : ℕ). new ≡ old + writes_of_drawings drawings s 0 n) (sym height) top in
     let count = subst (λ (state : State). new ≡ old + writes_after (drawings_of played.content.steps state) s) c.requires.state whole in
     few_written c.answer_law.ensures o cleared.opened.records.now k cleared.checked c.size_law.ensures s frame smaller played.content played.of_records old new c.in-Ok.writes c.in-Ok.ensures.count count
