@@ -18,7 +18,7 @@ pub returns-then-has-clause-pixels : goal.returns-then-has-clause-pixels
 returns-then-has-clause-pixels c =
     dot_there c.writing_law.ensures (placed_value c.args.clip.now) c.args.point c.args.canvas.now c.whole_law.ensures (λ (x y : ℕ) (old : Colour). c.args.colour) c.in-Some.x c.in-Some.y (sym c.indexes.ensures ∙ c.in-Some.is) c.put.new.self (sym c.if-has.ensures) c.put.ensures.repaints
 
-pub returns-clause-pixels : goal.returns-clause-pixels
-returns-clause-pixels c =
+pub returns-else-has-clause-pixels : goal.returns-else-has-clause-pixels
+returns-else-has-clause-pixels c =
     no_dot_there c.writing_law.ensures (placed_value c.args.clip.now) c.args.point c.args.canvas.now c.whole_law.ensures (λ (x y : ℕ) (old : Colour). c.args.colour) c.in-Some.x c.in-Some.y (sym c.indexes.ensures ∙ c.in-Some.is)
     (λ held has. true≢false (sym has ∙ sym c.has.ensures ∙ c.if-has.false))
