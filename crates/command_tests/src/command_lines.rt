@@ -111,7 +111,7 @@ fn each_wrong_command_line_has_status_2(rt: HostRuntime) -> Result<(), Fail> {
         let mut err = Vec::new(rt.alloc());
         same(
             &rt,
-            (text, usage(&error, &mut out, &mut err).status),
+            (text, usage(&error, &mut out, &mut err).status()),
             (text, 2),
         );
         assert!(rt; out.is_empty(), "{text}");
@@ -135,7 +135,7 @@ fn help_that_was_asked_for_goes_to_standard_output(rt: HostRuntime) -> Result<()
         };
         let mut out = Vec::new(rt.alloc());
         let mut err = Vec::new(rt.alloc());
-        same(&rt, usage(&error, &mut out, &mut err).status, 2);
+        same(&rt, usage(&error, &mut out, &mut err).status(), 2);
         assert!(rt; err.is_empty());
         assert!(rt; str::from_utf8(out.as_slice())?.contains("Usage: metaplay"));
     }

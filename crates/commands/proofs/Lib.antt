@@ -1,2 +1,5 @@
-pub mod WordLemmas
+pub mod LineLemmas
+pub mod PreparedLemmas
+pub mod ReportLemmas
 pub mod TakenLemmas
+pub mod WordLemmas

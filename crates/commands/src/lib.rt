@@ -19,17 +19,30 @@
 
 mod answer;
 mod asked;
+mod check;
+mod check_report;
 mod command_line;
+mod declared;
+mod ending;
 mod input;
+mod inputs;
+mod output;
+mod play;
+mod playing;
+mod prepare;
 mod program;
 mod reporting;
 mod show;
-mod status;
+mod writing;
 
-pub use answer::Answer;
+pub use answer::{Answer, CommandEnd};
 pub use asked::CommandLine;
+pub use check::check_command;
 pub use command_line::line;
 pub use input::{InputFault, read_input};
-pub use program::{no_input, read_file, run, run_words, usage};
+pub use inputs::read_file;
+pub use play::play_command;
+pub use prepare::prepare_command;
+pub use program::{no_input, run, run_words, usage};
 pub use reporting::report;
 pub use show::show_command;

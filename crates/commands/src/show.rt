@@ -1,27 +1,27 @@
 //! The command `show`.
 
-ghost use Rattle.std.specs.Prelude.{◌≡◌, ◌⊎◌, OnOk, OnErr, codes};
-ghost use Rattle.std.specs.Io.KnownBytes.{Appends, Keeps};
+ghost use Rattle.std.specs.Prelude.{◌≡◌, IfOk};
 ghost use Rattle.mapping.specs.Limits.{IsSurfaceSide};
 ghost use Rattle.canvas.specs.CanvasState.{image_of};
-ghost use Rattle.canvas.specs.Ppm.{AppendsFront, ppm_text};
-ghost use Rattle.preflight_cert.specs.Refusal.{refusal_text};
-ghost use Rattle.commands.specs.Report.{Reports};
-ghost use Rattle.commands.specs.Show.{IsRefused, Opens, ReportsRefusal, Shows, ShowsFront};
+ghost use Rattle.preflight_cert.specs.Answer.{IsAnswer, accepted};
+ghost use Rattle.preflight_cert.specs.Preparation.{Prepares};
+ghost use Rattle.preflight_cert.specs.Run.{Run, shown, white};
+ghost use Rattle.commands.specs.Ends.{Opens, Tells, Writes};
+ghost use Rattle.commands.specs.Tasks.{show};
 
-use crate::answer::Answer;
-use crate::reporting::report;
-use crate::status::{DONE, INPUT_OR_OUTPUT, OUT_OF_MEMORY, REFUSED};
-use canvas::{Canvas, WriteFault};
+use crate::answer::{Answer, CommandEnd};
+use crate::ending::{cannot_write, done, out_of_memory, refused};
+use crate::playing::play_on_white;
+use crate::writing::write_image;
+use canvas::{Canvas, OutOfMemory};
 use draw_ops::Fault;
-use player::play_file;
-use preflight_cert::Refusal;
+use meta_headers::open_file;
+use preflight_cert::{Refusal, answer_law, check, prepare};
 use std::alloc::Global;
 use std::io::Write;
 
-/// Plays a file on a white surface, writes the image to `out` as P6 text once the whole file has
-/// been played, and answers the status. A refusal goes to `err` as one line; a fault of `err`
-/// changes no status.
+/// Prepares a file at the size of a surface, plays it on white, and writes the image to `out` as P6 text once the whole file has
+/// been played. A refusal goes to `err` as one line; a fault of `err` changes no status.
 pub fn show_command<O: Write, E: Write>(
     alloc: Global,
     file: &[u8],
@@ -32,59 +32,50 @@ pub fn show_command<O: Write, E: Write>(
 ) -> Answer
     requires wide { IsSurfaceSide width }
     requires high { IsSurfaceSide height }
-    ensures done { result.status ≡ 0 → Shows file.now width height (O.contents out.old) (O.contents out.new) }
-    ensures refused { result.status ≡ 1 → IsRefused file.now width height }
-    ensures refused_unwritten { result.status ≡ 1 → Keeps (O.contents out.old) (O.contents out.new) }
-    ensures half_written { result.status ≡ 3 → ShowsFront file.now width height (O.contents out.old) (O.contents out.new) }
-    ensures memory_unwritten { result.status ≡ 4 → Keeps (O.contents out.old) (O.contents out.new) }
-    ensures memory_opens { result.status ≡ 4 → Opens file.now }
-    ensures statuses { ((result.status ≡ 0) ⊎ (result.status ≡ 1)) ⊎ ((result.status ≡ 3) ⊎ (result.status ≡ 4)) }
-    ensures done_silent { result.status ≡ 0 → Keeps (E.contents err.old) (E.contents err.new) }
-    ensures refused_line { result.status ≡ 1 → ReportsRefusal file.now width height result.told (E.contents err.old) (E.contents err.new) }
-    ensures half_written_line { result.status ≡ 3 → Reports result.told (E.contents err.old) (E.contents err.new) (codes "cannot write") }
-    ensures memory_line { result.status ≡ 4 → Reports result.told (E.contents err.old) (E.contents err.new) (codes "OutOfMemory") }
+    ensures written { Writes (show file.now width height) result O.contents out.old out.new }
+    ensures told { Tells (show file.now width height) result E.contents err.old err.new }
+    ensures memory { result.end ≡ CommandEnd.OutOfMemory → Opens file.now }
 {
-    match play_file(alloc, file, width, height) {
-        Err(refusal) => refuse(refusal, err),
-        Ok(canvas) => match send(&canvas, out) {
-            Ok(()) => Answer {
-                status: DONE,
-                told: Ok(()),
+    // A file that doesn't open is refused before any memory is asked for.
+    if let Err(fault) = open_file(file) {
+        return refused(Refusal::of_file(fault), err);
+    }
+    match prepare(alloc, file, width, height) {
+        Ok(certificate) => match play_prepared(alloc, file, certificate.as_slice(), width, height) {
+            Ok(canvas) => match write_image(&canvas, out) {
+                Ok(()) => done(),
+                Err(_) => cannot_write(err),
             },
-            Err(_) => Answer {
-                status: INPUT_OR_OUTPUT,
-                told: report(err, "cannot write"),
-            },
+            Err(OutOfMemory) => out_of_memory(err),
         },
+        Err(refusal) if refusal.fault == Fault::OutOfMemory => out_of_memory(err),
+        Err(refusal) => refused(refusal, err),
     }
 }
 
-/// Reports a refusal.
-fn refuse<E: Write>(refusal: Refusal, err: &mut E) -> Answer
-    ensures memory { refusal.fault ≡ Fault.OutOfMemory → result.status ≡ 4 }
-    ensures file { (refusal.fault ≡ Fault.OutOfMemory → ⊥) → result.status ≡ 1 }
-    ensures statuses { (result.status ≡ 1) ⊎ (result.status ≡ 4) }
-    ensures only_file { result.status ≡ 1 → refusal.fault ≡ Fault.OutOfMemory → ⊥ }
-    ensures only_memory { result.status ≡ 4 → refusal.fault ≡ Fault.OutOfMemory }
-    ensures line { Reports result.told (E.contents err.old) (E.contents err.new) (refusal_text refusal) }
+/// Plays a file on white by the certificate that was prepared for it at the surface's size: for memory alone it is refused.
+fn play_prepared(
+    alloc: Global,
+    file: &[u8],
+    certificate: &[u8],
+    width: u32,
+    height: u32,
+) -> Result<Canvas, OutOfMemory>
+    requires wide { IsSurfaceSide width }
+    requires high { IsSurfaceSide height }
+    requires prepared { Prepares file.now width height certificate.now }
+    requires accepted { IsAnswer file.now certificate.now accepted }
+    ensures image { IfOk result (λ canvas. Run file.now width height (white width height) (shown (image_of canvas))) }
 {
-    let told = report(err, refusal);
-    let status = if refusal.fault == Fault::OutOfMemory {
-        OUT_OF_MEMORY
-    } else {
-        REFUSED
+    answer_law();
+    let cleared = match check(alloc, file, certificate) {
+        Ok(cleared) => cleared,
+        Err(refusal) if refusal.fault == Fault::OutOfMemory => return Err(OutOfMemory),
+        Err(_) => unreachable!(),
     };
-    Answer { status, told }
-}
-
-/// Writes the image, and has the writer pass on what it holds back.
-fn send<O: Write>(canvas: &Canvas, out: &mut O) -> Result<(), WriteFault>
-    ensures ok { OnOk result (Appends (O.contents out.old) (O.contents out.new) (ppm_text (image_of canvas.now))) }
-    ensures err { OnErr result (AppendsFront (O.contents out.old) (O.contents out.new) (ppm_text (image_of canvas.now))) }
-{
-    canvas.write_ppm(out)?;
-    match out.flush() {
-        Ok(()) => Ok(()),
-        Err(_) => Err(WriteFault),
+    match play_on_white(alloc, &cleared, width, height) {
+        Ok(canvas) => Ok(canvas),
+        Err(Fault::OutOfMemory) => Err(OutOfMemory),
+        Err(_) => unreachable!(),
     }
 }
