@@ -5,11 +5,14 @@ use Rattle.clap.specs.Words.{Text}
 use Rattle.commands.specs.CommandLine.{IsAskedByWords}
 use Rattle.commands.specs.Ends.{TellsBy, WritesBy}
 use Rattle.commands.specs.Lines.{ErrBy, ErrOfSome, ErrOfWords, IsInput, LineWrites, OutBy, OutOfSome, OutOfWords, task_of}
-use Rattle.commands.specs.Report.{Told}
+use Rattle.commands.specs.Faults.{end_of, fault_text}
+use Rattle.commands.specs.Report.{Reports, Told}
 use Rattle.commands.specs.Sides.{HasSides, file_of}
 use Rattle.commands.specs.declared.answer.CommandEnd.{CommandEnd}
 use Rattle.commands.specs.declared.answer.CommandEnd.TheVariants as end
 use Rattle.commands.specs.declared.asked.CommandLine.{CommandLine}
+use Rattle.commands.specs.declared.input.InputFault.{InputFault}
+use Rattle.commands.specs.declared.input.InputFault.TheVariants as fault
 use Rattle.commands.specs.declared.asked.CommandLine.TheVariants.{Check, Play, Prepare, Show}
 
 -- where memory was refused, a task has written nothing
@@ -35,6 +38,15 @@ module _ (line : CommandLine) (input : Option (List ℕ)) (file certificate : Li
   err_of_task end.OutOfMemory tells = tells
   err_of_task end.CannotRead tells = absurd tells
   err_of_task end.WrongUsage tells = absurd tells
+
+-- where an input was not read, a line leaves what is told of that
+pub out_unread : (line : CommandLine) (input : Option (List ℕ)) (f : InputFault) (e : CommandEnd) (old new : Option (List ℕ)) → e ≡ end_of f → Keeps old new → OutBy e line input old new
+out_unread line input fault.CannotRead e old new is keeps = rw is keeps
+out_unread line input fault.OutOfMemory e old new is keeps = rw is keeps
+
+pub err_unread : (line : CommandLine) (input : Option (List ℕ)) (f : InputFault) (e : CommandEnd) (told : Told) (old new : Option (List ℕ)) → e ≡ end_of f → Reports told old new (fault_text f) → ErrBy e line input told old new
+err_unread line input fault.CannotRead e told old new is reports = rw is reports
+err_unread line input fault.OutOfMemory e told old new is reports = rw is reports
 
 module _ (words : List Text) (line : CommandLine) (input : Option (List ℕ)) (sides : HasSides line) (asked : IsAskedByWords words line) where
   pub out_of_line : (e : CommandEnd) (old new : Option (List ℕ)) → OutBy e line input old new → OutOfWords e words input old new

@@ -27,11 +27,17 @@ pub record Excludes (certificate : List ℕ) (width height : ℕ) : Type 0 where
   pub read : read_certificate certificate ≡ Ok value
   pub larger : value.max_width < width ⊎ value.max_height < height
 
--- The certificate is accepted for the file and allows the surface, and the text is that of the image which the file's run leaves of another.
-pub record IsPlayedText (file certificate : List ℕ) (width height : ℕ) (start : Image) (text : List ℕ) : Type 0 where
+-- The certificate is accepted for the file and allows the surface, and the file's run leaves this image of another.
+pub record IsPlayed (file certificate : List ℕ) (width height : ℕ) (start image : Image) : Type 0 where
   pub accepted : IsAnswer file certificate accepted
   pub allowed : Allows certificate width height
-  pub text : IsRunText file width height start text
+  pub run : Run file width height start (shown image)
+
+-- the text is the P6 text of that image
+pub record IsPlayedText (file certificate : List ℕ) (width height : ℕ) (start : Image) (text : List ℕ) : Type 0 where
+  pub image : Image
+  pub played : IsPlayed file certificate width height start image
+  pub is_text : text ≡ ppm_text image
 
 -- the certificate is accepted for the file, and the surface is above its bound
 pub record IsTooLarge (file certificate : List ℕ) (width height : ℕ) (number : Option ℕ) (fault : Fault) : Type 0 where

@@ -8,6 +8,7 @@ pub mod Images
 pub mod Lines
 pub mod Reading
 pub mod Report
+pub mod Reported
 pub mod Sides
 pub mod Statuses
 pub mod Tasks

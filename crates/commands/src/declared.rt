@@ -84,7 +84,8 @@ fn check<'a>(alloc: Global) -> Result<Command<'a>, AllocError>
 fn play<'a>(alloc: Global) -> Result<Command<'a>, AllocError>
     ensures { IfOk result (IsLocalApp play_app) }
 {
-    let about = "Plays a metafile by its certificate on white, and writes the image to standard output";
+    let about =
+        "Plays a metafile by its certificate on white, and writes the image to standard output";
     let command = of_file(alloc, "play", about)?;
     let command = command.arg(name(alloc, "CERT", "The certificate"))?;
     with_sides(alloc, command)

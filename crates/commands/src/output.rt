@@ -1,9 +1,8 @@
 //! A file that is written.
 
-use std::fs;
-use std::io;
 use std::io::Write;
 use std::rt::Files;
+use std::{fs, io};
 
 /// A file that is made, or emptied, when the first bytes are written to it: until then one of that name is as it was.
 #[derive(Drop)]

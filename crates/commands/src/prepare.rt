@@ -6,11 +6,10 @@ ghost use Rattle.commands.specs.Ends.{Opens, Tells, Writes};
 ghost use Rattle.commands.specs.Tasks.{prepare};
 
 use crate::answer::{Answer, CommandEnd};
-use crate::ending::{cannot_write, done, out_of_memory, refused};
+use crate::preparing::prepare_file;
+use crate::reporting::report;
 use crate::writing::write_text;
 use draw_ops::Fault;
-use meta_headers::open_file;
-use preflight_cert::{Refusal, prepare};
 use std::alloc::Global;
 use std::io::Write;
 
@@ -30,16 +29,28 @@ pub fn prepare_command<O: Write, E: Write>(
     ensures told { Tells (prepare file.now width height) result E.contents err.old err.new }
     ensures memory { result.end ≡ CommandEnd.OutOfMemory → Opens file.now }
 {
-    // A file that doesn't open is refused before any memory is asked for.
-    if let Err(fault) = open_file(file) {
-        return refused(Refusal::of_file(fault), err);
-    }
-    match prepare(alloc, file, width, height) {
+    match prepare_file(alloc, file, width, height) {
         Ok(text) => match write_text(text.as_slice(), out) {
-            Ok(()) => done(),
-            Err(_) => cannot_write(err),
+            Ok(()) => Answer {
+                end: CommandEnd::Done,
+                told: Ok(()),
+            },
+            Err(_) => Answer {
+                end: CommandEnd::CannotWrite,
+                told: report(err, "cannot write"),
+            },
         },
-        Err(refusal) if refusal.fault == Fault::OutOfMemory => out_of_memory(err),
-        Err(refusal) => refused(refusal, err),
+        Err(refusal) => {
+            if refusal.fault == Fault::OutOfMemory {
+                return Answer {
+                    end: CommandEnd::OutOfMemory,
+                    told: report(err, "OutOfMemory"),
+                };
+            }
+            Answer {
+                end: CommandEnd::Refused,
+                told: report(err, refusal),
+            }
+        }
     }
 }

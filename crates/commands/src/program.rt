@@ -4,7 +4,7 @@ ghost use Rattle.std.specs.Prelude.{◌≡◌, ◌≢◌, ◌⊎◌, ◌↔◌, 
 ghost use Rattle.std.specs.Io.KnownBytes.{Keeps};
 ghost use Rattle.clap.specs.Words.{kind_of};
 ghost use Rattle.commands.specs.CommandLine.{AreRightWords};
-ghost use Rattle.commands.specs.Faults.{fault_text};
+ghost use Rattle.commands.specs.Faults.{end_of, fault_text};
 ghost use Rattle.commands.specs.Lines.{TaskTells, TaskWrites, TellsAsked, TellsLine, TellsMemory, TellsSome};
 ghost use Rattle.commands.specs.Lines.{WritesAsked, WritesLine, WritesSome, standard_input};
 ghost use Rattle.commands.specs.Report.{Reports};
@@ -14,7 +14,6 @@ use crate::answer::{Answer, CommandEnd};
 use crate::asked::CommandLine;
 use crate::check::check_command;
 use crate::command_line::line;
-use crate::ending::out_of_memory;
 use crate::input::InputFault;
 use crate::inputs::{Inputs, read_inputs};
 use crate::output::NamedOutput;
@@ -42,7 +41,10 @@ where
 {
     match words(rt) {
         Ok(words) => run_words(words.as_slice(), rt, input, out, err),
-        Err(InputFault::OutOfMemory) => out_of_memory(err),
+        Err(InputFault::OutOfMemory) => Answer {
+            end: CommandEnd::OutOfMemory,
+            told: report(err, "OutOfMemory"),
+        },
         Err(InputFault::CannotRead) => Answer {
             end: CommandEnd::WrongUsage,
             told: report(err, "the command line is not UTF-8 text"),
@@ -141,9 +143,7 @@ fn words<R: Env + AllocGlobal>(rt: &R) -> Result<Vec<String>, InputFault> {
 
 /// Reports that an input was not read.
 pub fn no_input<E: Write>(fault: InputFault, err: &mut E) -> Answer
-    ensures input { result.end ≡ CommandEnd.CannotRead ↔ fault ≡ InputFault.CannotRead }
-    ensures memory { result.end ≡ CommandEnd.OutOfMemory ↔ fault ≡ InputFault.OutOfMemory }
-    ensures ends { (result.end ≡ CommandEnd.CannotRead) ⊎ (result.end ≡ CommandEnd.OutOfMemory) }
+    ensures end { result.end ≡ end_of fault }
     ensures line { Reports result.told (E.contents err.old) (E.contents err.new) (fault_text fault) }
 {
     let told = report(err, fault.text());
@@ -162,7 +162,7 @@ pub fn usage<O: Write, E: Write>(error: &clap::Error, out: &mut O, err: &mut E) 
     ensures line { result.end ≡ CommandEnd.OutOfMemory → TellsMemory result E.contents err.old err.new }
 {
     if error.kind() == ErrorKind::OutOfMemory {
-        return out_of_memory(err);
+        return no_input(InputFault::OutOfMemory, err);
     }
     let shown = if error.use_stderr() {
         write!(err, "{error}")

@@ -1,22 +1,23 @@
 //! The command `show`.
 
-ghost use Rattle.std.specs.Prelude.{◌≡◌, IfOk};
+ghost use Rattle.std.specs.Prelude.{◌≡◌, ◌⊎◌, IfErr, IfOk};
 ghost use Rattle.mapping.specs.Limits.{IsSurfaceSide};
 ghost use Rattle.canvas.specs.CanvasState.{image_of};
 ghost use Rattle.preflight_cert.specs.Answer.{IsAnswer, accepted};
+ghost use Rattle.preflight_cert.specs.Checks.{IsWantOfMemory};
 ghost use Rattle.preflight_cert.specs.Preparation.{Prepares};
-ghost use Rattle.preflight_cert.specs.Run.{Run, shown, white};
+ghost use Rattle.preflight_cert.specs.Run.{Refused, Run, shown, white};
 ghost use Rattle.commands.specs.Ends.{Opens, Tells, Writes};
 ghost use Rattle.commands.specs.Tasks.{show};
 
 use crate::answer::{Answer, CommandEnd};
-use crate::ending::{cannot_write, done, out_of_memory, refused};
 use crate::playing::play_on_white;
+use crate::preparing::prepare_file;
+use crate::reporting::report;
 use crate::writing::write_image;
 use canvas::{Canvas, OutOfMemory};
 use draw_ops::Fault;
-use meta_headers::open_file;
-use preflight_cert::{Refusal, answer_law, check, prepare};
+use preflight_cert::{Refusal, answer_law, check};
 use std::alloc::Global;
 use std::io::Write;
 
@@ -36,20 +37,47 @@ pub fn show_command<O: Write, E: Write>(
     ensures told { Tells (show file.now width height) result E.contents err.old err.new }
     ensures memory { result.end ≡ CommandEnd.OutOfMemory → Opens file.now }
 {
-    // A file that doesn't open is refused before any memory is asked for.
-    if let Err(fault) = open_file(file) {
-        return refused(Refusal::of_file(fault), err);
-    }
-    match prepare(alloc, file, width, height) {
-        Ok(certificate) => match play_prepared(alloc, file, certificate.as_slice(), width, height) {
-            Ok(canvas) => match write_image(&canvas, out) {
-                Ok(()) => done(),
-                Err(_) => cannot_write(err),
+    match show_file(alloc, file, width, height) {
+        Ok(canvas) => match write_image(&canvas, out) {
+            Ok(()) => Answer {
+                end: CommandEnd::Done,
+                told: Ok(()),
             },
-            Err(OutOfMemory) => out_of_memory(err),
+            Err(_) => Answer {
+                end: CommandEnd::CannotWrite,
+                told: report(err, "cannot write"),
+            },
         },
-        Err(refusal) if refusal.fault == Fault::OutOfMemory => out_of_memory(err),
-        Err(refusal) => refused(refusal, err),
+        Err(refusal) => {
+            if refusal.fault == Fault::OutOfMemory {
+                return Answer {
+                    end: CommandEnd::OutOfMemory,
+                    told: report(err, "OutOfMemory"),
+                };
+            }
+            Answer {
+                end: CommandEnd::Refused,
+                told: report(err, refusal),
+            }
+        }
+    }
+}
+
+/// Prepares a file at the size of a surface, and plays it on white. A file that doesn't open is refused before any memory is asked for.
+fn show_file(alloc: Global, file: &[u8], width: u32, height: u32) -> Result<Canvas, Refusal>
+    requires wide { IsSurfaceSide width }
+    requires high { IsSurfaceSide height }
+    ensures image { IfOk result (λ canvas. Run file.now width height (white width height) (shown (image_of canvas))) }
+    ensures refusal { IfErr result (λ r. Refused file.now width height r.number r.fault ⊎ IsWantOfMemory r) }
+    ensures memory { IfErr result (λ r. r.fault ≡ Fault.OutOfMemory → Opens file.now) }
+{
+    let certificate = match prepare_file(alloc, file, width, height) {
+        Ok(certificate) => certificate,
+        Err(refusal) => return Err(refusal),
+    };
+    match play_prepared(alloc, file, certificate.as_slice(), width, height) {
+        Ok(canvas) => Ok(canvas),
+        Err(OutOfMemory) => Err(Refusal::of_file(Fault::OutOfMemory)),
     }
 }
 
@@ -66,16 +94,25 @@ fn play_prepared(
     requires prepared { Prepares file.now width height certificate.now }
     requires accepted { IsAnswer file.now certificate.now accepted }
     ensures image { IfOk result (λ canvas. Run file.now width height (white width height) (shown (image_of canvas))) }
+    ensures opens { Opens file.now }
 {
     answer_law();
     let cleared = match check(alloc, file, certificate) {
         Ok(cleared) => cleared,
-        Err(refusal) if refusal.fault == Fault::OutOfMemory => return Err(OutOfMemory),
-        Err(_) => unreachable!(),
+        Err(refusal) => {
+            if refusal.fault == Fault::OutOfMemory {
+                return Err(OutOfMemory);
+            }
+            unreachable!()
+        }
     };
     match play_on_white(alloc, &cleared, width, height) {
         Ok(canvas) => Ok(canvas),
-        Err(Fault::OutOfMemory) => Err(OutOfMemory),
-        Err(_) => unreachable!(),
+        Err(fault) => {
+            if fault == Fault::OutOfMemory {
+                return Err(OutOfMemory);
+            }
+            unreachable!()
+        }
     }
 }

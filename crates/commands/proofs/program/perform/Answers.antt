@@ -1,6 +1,6 @@
 -- What a task leaves of the bytes that were read is what its line leaves.
-use Rattle.std.proofs.Common.{inl, inr, subst}
-use Rattle.commands.proofs.LineLemmas.{err_of_task, out_of_task}
+use Rattle.std.proofs.Common.{rules}
+use Rattle.commands.proofs.LineLemmas.{err_of_task, err_unread, out_of_task, out_unread}
 use Rattle.commands.proofs.program.perform.Goals as goal
 
 pub returns-in-Ok-clause-written : goal.returns-in-Ok-clause-written
@@ -10,3 +10,9 @@ returns-in-Ok-clause-written g c =
 pub returns-in-Ok-clause-told : goal.returns-in-Ok-clause-told
 returns-in-Ok-clause-told g c =
     err_of_task c.args.line _ _ _ c.in-Ok.ensures.read _ _ _ c.run_task.result.end c.run_task.ensures.told
+
+pub returns-in-Err-clause-written : goal.returns-in-Err-clause-written
+returns-in-Err-clause-written g c = out_unread c.args.line _ c.in-Err.fault _ _ _ c.no_input.ensures.end (search rules)
+
+pub returns-in-Err-clause-told : goal.returns-in-Err-clause-told
+returns-in-Err-clause-told g c = err_unread c.args.line _ c.in-Err.fault _ _ _ _ c.no_input.ensures.end c.no_input.ensures.line
