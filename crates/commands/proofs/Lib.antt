@@ -1,4 +1,6 @@
+pub mod AskedLemmas
 pub mod LineLemmas
+pub mod PlayLemmas
 pub mod PreparedLemmas
 pub mod ReportLemmas
 pub mod TakenLemmas

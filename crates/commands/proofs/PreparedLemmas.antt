@@ -1,17 +1,25 @@
 -- A certificate that was prepared is read with the bound that it was prepared for, and its check refuses for memory alone.
-use Rattle.std.proofs.Common.{◌≡◌, ◌∙◌, ◌≤◌, Bool, true, false, ◌||◌, cond, ℕ, List, length, Result, Ok, Err, Option, ap, arith, refl, subst, sym}
-use Rattle.std.specs.Prelude.{◌==◌, nat_lt, not}
-use Rattle.std.proofs.lemmas.Bool.{true≢false}
+use Rattle.std.proofs.Common.{◌≡◌, ◌∙◌, ◌≤◌, ◌<◌, ◌⊎◌, inl, inr, Bool, true, false, ◌||◌, cond, ℕ, List, length, Result, Ok, Err, IsOk, Option, ap, arith, refl, subst, sym}
+use Rattle.std.specs.Prelude.{◌==◌, nat_le, nat_lt, not}
+use Rattle.std.proofs.lemmas.Bool.{and_from, le-leb, true≢false}
+use Rattle.mapping.specs.Limits.{IsSurfaceSide, is_surface_side}
 use Rattle.draw_ops.specs.ExactlyOne.{ExactlyOne}
 use Rattle.draw_ops.specs.declared.fault.Fault.{Fault}
-use Rattle.draw_ops.specs.declared.fault.Fault.TheVariants.{BadBound, NotCertificate, ShortCertificate, TrailingBytes}
+use Rattle.draw_ops.specs.declared.fault.Fault.TheVariants.{BadBound, NotCertificate, OutOfMemory, ShortCertificate, TrailingBytes}
 use Rattle.meta_headers.specs.Headers.{OpenedValue}
 use Rattle.meta_headers.specs.Opening.{opened}
 use Rattle.point_views.specs.Numbers.{number_at}
-use Rattle.preflight_cert.specs.Answer.{Answer, IsAnswer, accepted, refuses}
+use Rattle.preflight_cert.specs.Answer.{Answer, AnswersOpened, IsAnswer, accepted, refuses}
 use Rattle.preflight_cert.specs.CertificateReading.{CertificateValue, is_bounded, mark, read_certificate, read_whole, value_in, whole_size}
 use Rattle.preflight_cert.specs.CertificateText.{certificate_text}
-use Rattle.preflight_cert.specs.Preparation.{Prepares, PreparesIfOpened, PreparesWithin, is_bound}
+use Rattle.preflight_cert.specs.CertificateOf.{certificate_of}
+use Rattle.preflight_cert.specs.Checks.{IsWantOfMemory}
+use Rattle.preflight_cert.specs.Preparation.{Prepares, PreparesIfOpened, PreparesWithin, RefusesWithin, StopsPreparing, is_bound}
+use Rattle.preflight_cert.specs.Run.{Refused}
+use Rattle.preflight_cert.specs.declared.certificate.Certificate.{Certificate}
+use Rattle.preflight_cert.specs.declared.refusal.Refusal.{Refusal}
+use Rattle.commands.specs.ClearedFiles.{IsWithinBound, RefusesSurface}
+use Rattle.commands.specs.Ends.{Opens}
 
 -- a fault is no certificate
 is_value : Result CertificateValue Fault → Bool
@@ -100,3 +108,47 @@ unfolding is_accepted
 never_refused file certificate one yes number fault no =
     let same : accepted ≡ refuses number fault = one.only accepted yes ∙ sym (one.only (refuses number fault) no) in
     true≢false (ap is_accepted same)
+
+-- nor is memory all that is left
+pub only_memory : (file certificate : List ℕ) → ExactlyOne (IsAnswer file certificate) → IsAnswer file certificate accepted → (r : Refusal)
+    → (IsAnswer file certificate (refuses r.number r.fault) ⊎ IsWantOfMemory r) → (r.fault ≡ OutOfMemory → ⊥) → ⊥
+only_memory file certificate one yes r (inl no) other = never_refused file certificate one yes r.number r.fault no
+only_memory file certificate one yes r (inr want) other = other want.fault
+
+-- a surface of the sides that a certificate was prepared for isn't above its bound
+pub prepared_within : (file : List ℕ) (width height : ℕ) (bytes : List ℕ) → Prepares file width height bytes → IsSurfaceSide width → IsSurfaceSide height
+    → (c : Certificate) → read_certificate bytes ≡ Ok (certificate_of c) → IsWithinBound c width height
+prepared_within file width height bytes prepared wide high c read =
+    let is_wide : c.max_width ≡ width = prepared_wide file width height bytes prepared (certificate_of c) read wide.within in
+    let is_high : c.max_height ≡ height = prepared_high file width height bytes prepared (certificate_of c) read high.within in
+    record { wide = omega (arith, is_wide); high = omega (arith, is_high) }
+
+-- a surface that isn't above the bound is refused for memory alone
+pub never_above : (c : Certificate) (width height : ℕ) (fault : Fault) → IsWithinBound c width height → RefusesSurface c width height fault
+    → (fault ≡ OutOfMemory → ⊥) → ⊥
+never_above c width height fault within (inr want) other = other want
+never_above c width height fault within (inl above) other = go above.larger
+  where
+    go : (c.max_width < width ⊎ c.max_height < height) → ⊥
+    go (inl less) = let h = within.wide in absurd (omega (arith, less, h))
+    go (inr less) = let h = within.high in absurd (omega (arith, less, h))
+
+side_test : (side : ℕ) → IsSurfaceSide side → is_surface_side side ≡ true
+side_test side is = and_from (nat_le 1 side) (nat_le side 8192) (le-leb _ _ is.not_empty) (le-leb _ _ is.within)
+
+-- of sides that a surface may have, the refusal is the run's
+pub run_refused : (file : List ℕ) (width height : ℕ) → IsSurfaceSide width → IsSurfaceSide height → (r : Refusal)
+    → (StopsPreparing file width height r.number r.fault ⊎ IsWantOfMemory r) → (Refused file width height r.number r.fault ⊎ IsWantOfMemory r)
+run_refused file width height wide high r (inr want) = inr want
+run_refused file width height wide high r (inl stops) =
+    let bound : is_bound width height ≡ true = and_from (is_surface_side width) (is_surface_side height) (side_test width wide) (side_test height high) in
+    inl (subst (λ (allowed : Bool). RefusesWithin allowed file width height r.number r.fault) bound stops)
+
+-- an accepted file opens
+opened_of_answer : (file certificate : List ℕ) (r : Result OpenedValue Fault) → AnswersOpened r file certificate accepted → IsOk r
+unfolding is_accepted
+opened_of_answer file certificate (Ok o) yes = refl
+opened_of_answer file certificate (Err fault) yes = absurd (true≢false (ap is_accepted yes))
+
+pub accepted_opens : (file certificate : List ℕ) → IsAnswer file certificate accepted → Opens file
+accepted_opens file certificate yes = opened_of_answer file certificate (opened file) yes

@@ -1,5 +1,5 @@
 -- A report has no numbers but whole ones, and as many drawings as there are entries.
-use Rattle.std.proofs.Common.{◌≡◌, ◌∙◌, sym, Bool, true, false, ◌||◌, cond, ℕ, List, [], ◌∷◌, length, Option, Some, None, Ordering, Less, Equal, Greater, nat_cmp, refl}
+use Rattle.std.proofs.Common.{◌≡◌, ◌∙◌, ◌⊎◌, inl, inr, ap, subst, sym, Result, Ok, Bool, true, false, ◌||◌, cond, ℕ, List, [], ◌∷◌, length, Option, Some, None, Ordering, Less, Equal, Greater, nat_cmp, refl}
 use Rattle.std.specs.Prelude.{◌==◌}
 use Rattle.std.specs.Cmp.Lexicographic.{slice_cmp}
 use Rattle.std.specs.Ordering.{match_ordering}
@@ -10,13 +10,26 @@ use Rattle.draw_ops.specs.NoteCounts.{note_count}
 use Rattle.draw_ops.specs.NoteTable.{note_row_of}
 use Rattle.draw_ops.specs.declared.fault.Fault.{Fault}
 use Rattle.draw_ops.specs.declared.note.Note.{Note}
+use Rattle.draw_ops.specs.declared.fault.Fault.TheVariants.{OutOfMemory}
+use Rattle.dc_stack.specs.State.{start_of}
+use Rattle.meta_headers.specs.File.{IsOpenedFrom}
 use Rattle.meta_headers.specs.Headers.{OpenedValue}
-use Rattle.preflight_cert.specs.CertificateReading.{CertificateValue}
-use Rattle.preflight_cert.specs.Drawings.{NumberedDrawing}
+use Rattle.meta_headers.specs.OpenedOf.{opened_of}
+use Rattle.meta_headers.specs.Opening.{HasContentOf, opened, record_bytes}
+use Rattle.preflight_cert.specs.After.{file_notes}
+use Rattle.preflight_cert.specs.Answer.{AnswerLaws, AnswersOpened, AnswersRead, CountsRecords, Fits, IsAnswer, RecordsAnswer, accepted, refuses}
+use Rattle.preflight_cert.specs.CertificateOf.{certificate_of}
+use Rattle.preflight_cert.specs.CertificateReading.{CertificateValue, read_certificate}
+use Rattle.preflight_cert.specs.Checks.{IsWantOfMemory}
+use Rattle.preflight_cert.specs.EntriesOf.{entries_of}
+use Rattle.preflight_cert.specs.Drawings.{NumberedDrawing, drawings_of}
 use Rattle.preflight_cert.specs.Entries.{AreCovered}
 use Rattle.preflight_cert.specs.declared.entry.Entry.{Entry}
 use Rattle.draw_ops.specs.Fault.{record_kind_of}
-use Rattle.commands.specs.CheckReport.{accepted_report, all_kinds, noted_kinds, refused_report, whole, whole_if, with_kind}
+use Rattle.preflight_cert.specs.declared.cleared.Cleared.{Cleared}
+use Rattle.preflight_cert.specs.declared.refusal.Refusal.{Refusal}
+use Rattle.commands.specs.CheckReport.{ReportsAccepted, ReportsRefused, accepted_report, all_kinds, noted_kinds, refused_report, report_text, whole, whole_if, with_kind}
+use Rattle.commands.specs.ClearedFiles.{report_of}
 
 both_false : (a b : Bool) → a ≡ false → b ≡ false → (a || b) ≡ false
 both_false a b e f = rw e f
@@ -57,3 +70,45 @@ as_many [] [] covered = refl
 as_many [] (entry ∷ entries) covered = absurd covered
 as_many (one ∷ later) [] covered = absurd covered
 as_many (one ∷ later) (entry ∷ entries) covered = let e = as_many later entries covered.1 in rw e refl
+
+-- what was checked, and the report of it, in the words of the file and the certificate
+pub reports : (file bytes : List ℕ) (cleared : Cleared) (text : List ℕ) → AnswerLaws → IsAnswer file bytes accepted → IsOpenedFrom file cleared.opened
+    → read_certificate bytes ≡ Ok (certificate_of cleared.certificate)
+    → CountsRecords (opened_of cleared.opened) cleared.opened.records.now cleared.records cleared.notes.counts
+    → text ≡ report_text (report_of cleared) → ReportsAccepted file bytes text
+reports file bytes cleared text laws yes from read counts is = record {
+  accepted = yes;
+  headers = o;
+  content = answer.content;
+  of_file = record { opens = from.opens; records = answer.of_records };
+  value = k;
+  read = read;
+  is_text = is ∙ ap report_text same;
+}
+  where
+    o : OpenedValue
+    o = opened_of cleared.opened
+
+    k : CertificateValue
+    k = certificate_of cleared.certificate
+
+    read_answer : AnswersRead (read_certificate bytes) o (record_bytes o.format file) accepted
+    read_answer = subst (λ (r : Result OpenedValue Fault). AnswersOpened r file bytes accepted) from.opens yes
+
+    answer : RecordsAnswer o (record_bytes o.format file) k accepted
+    answer = subst (λ (r : Result CertificateValue Fault). AnswersRead r o (record_bytes o.format file) accepted) read read_answer
+
+    has : HasContentOf o.format cleared.opened.records.now answer.content
+    has = subst (λ (records : List ℕ). HasContentOf o.format records answer.content) (sym from.records) answer.of_records
+
+    fits : Fits k o answer.content
+    fits = (laws.fits answer.content o k).0 answer.answers
+
+    same : report_of cleared ≡ accepted_report o k (length answer.content.steps) (length (drawings_of answer.content.steps (start_of o))) (file_notes answer.content o)
+    same = rw (counts.all answer.content has, as_many _ _ fits.covered, counts.notes answer.content has) refl
+
+-- a refusal that isn't for memory
+pub refusal_reports : (file bytes : List ℕ) (r : Refusal) (text : List ℕ) → (IsAnswer file bytes (refuses r.number r.fault) ⊎ IsWantOfMemory r)
+    → (r.fault ≡ OutOfMemory → ⊥) → text ≡ report_text (refused_report r.number r.fault) → ReportsRefused file bytes text
+refusal_reports file bytes r text (inl refused) other is = record { in_record = r.number; fault = r.fault; refused = refused; is_text = is }
+refusal_reports file bytes r text (inr want) other is = absurd (other want.fault)

@@ -10,7 +10,7 @@ use crate::check_report::{accepted_report, refused_report};
 use crate::reporting::report;
 use crate::writing::write_text;
 use draw_ops::Fault;
-use preflight_cert::check;
+use preflight_cert::{answer_law, check};
 use std::alloc::{AllocError, Global};
 use std::io::Write;
 
@@ -67,6 +67,7 @@ enum Report {
 fn report_check(alloc: Global, file: &[u8], certificate: &[u8]) -> Result<Report, AllocError>
     ensures { IfOk result (IsReportOf file.now certificate.now) }
 {
+    answer_law();
     match check(alloc, file, certificate) {
         Ok(cleared) => match accepted_report(alloc, &cleared) {
             Ok(text) => Ok(Report::Accepted(text)),

@@ -31,6 +31,17 @@ pub(crate) fn prepare_file(
     if let Err(fault) = open_file(file) {
         return Err(Refusal::of_file(fault));
     }
+    prepare_within(alloc, file, width, height)
+}
+
+/// The same for any file. The sides are a surface's, so the refusal is that of the file's run.
+fn prepare_within(alloc: Global, file: &[u8], width: u32, height: u32) -> Result<Vec<u8>, Refusal>
+    requires wide { IsSurfaceSide width }
+    requires high { IsSurfaceSide height }
+    ensures text { IfOk result (λ text. Prepares file.now width height text.items) }
+    ensures accepted { IfOk result (λ text. IsAnswer file.now text.items accepted) }
+    ensures refusal { IfErr result (λ r. Refused file.now width height r.number r.fault ⊎ IsWantOfMemory r) }
+{
     match prepare(alloc, file, width, height) {
         Ok(text) => Ok(text),
         Err(refusal) => Err(refusal),

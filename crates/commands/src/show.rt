@@ -1,12 +1,16 @@
 //! The command `show`.
 
-ghost use Rattle.std.specs.Prelude.{◌≡◌, ◌⊎◌, IfErr, IfOk};
+ghost use Rattle.std.specs.Prelude.{◌≡◌, ◌⊎◌, IfErr, IfOk, Ok};
 ghost use Rattle.mapping.specs.Limits.{IsSurfaceSide};
 ghost use Rattle.canvas.specs.CanvasState.{image_of};
+ghost use Rattle.meta_headers.specs.File.{IsOpenedFrom};
 ghost use Rattle.preflight_cert.specs.Answer.{IsAnswer, accepted};
+ghost use Rattle.preflight_cert.specs.CertificateOf.{certificate_of};
+ghost use Rattle.preflight_cert.specs.CertificateReading.{read_certificate};
 ghost use Rattle.preflight_cert.specs.Checks.{IsWantOfMemory};
 ghost use Rattle.preflight_cert.specs.Preparation.{Prepares};
 ghost use Rattle.preflight_cert.specs.Run.{Refused, Run, shown, white};
+ghost use Rattle.commands.specs.ClearedFiles.{IsWithinBound, Leaves};
 ghost use Rattle.commands.specs.Ends.{Opens, Tells, Writes};
 ghost use Rattle.commands.specs.Tasks.{show};
 
@@ -17,7 +21,7 @@ use crate::reporting::report;
 use crate::writing::write_image;
 use canvas::{Canvas, OutOfMemory};
 use draw_ops::Fault;
-use preflight_cert::{Refusal, answer_law, check};
+use preflight_cert::{Cleared, Refusal, answer_law, check};
 use std::alloc::Global;
 use std::io::Write;
 
@@ -96,17 +100,51 @@ fn play_prepared(
     ensures image { IfOk result (λ canvas. Run file.now width height (white width height) (shown (image_of canvas))) }
     ensures opens { Opens file.now }
 {
-    answer_law();
-    let cleared = match check(alloc, file, certificate) {
+    let cleared = match check_prepared(alloc, file, certificate) {
         Ok(cleared) => cleared,
+        Err(OutOfMemory) => return Err(OutOfMemory),
+    };
+    match play_within(alloc, &cleared, width, height) {
+        Ok(canvas) => Ok(canvas),
+        Err(OutOfMemory) => Err(OutOfMemory),
+    }
+}
+
+/// Checks a certificate that is accepted: for memory alone it is refused.
+fn check_prepared<'a>(
+    alloc: Global,
+    file: &'a [u8],
+    certificate: &'a [u8],
+) -> Result<Cleared<'a>, OutOfMemory>
+    requires accepted { IsAnswer file.now certificate.now accepted }
+    ensures opened { IfOk result (λ c. IsOpenedFrom file.now c.opened) }
+    ensures read { IfOk result (λ c. read_certificate certificate.now ≡ Ok (certificate_of c.certificate)) }
+{
+    answer_law();
+    match check(alloc, file, certificate) {
+        Ok(cleared) => Ok(cleared),
         Err(refusal) => {
             if refusal.fault == Fault::OutOfMemory {
                 return Err(OutOfMemory);
             }
             unreachable!()
         }
-    };
-    match play_on_white(alloc, &cleared, width, height) {
+    }
+}
+
+/// Plays a cleared file on a white surface that isn't above the certificate's bound: for memory alone it is refused.
+fn play_within(
+    alloc: Global,
+    cleared: &Cleared<'_>,
+    width: u32,
+    height: u32,
+) -> Result<Canvas, OutOfMemory>
+    requires wide { IsSurfaceSide width }
+    requires high { IsSurfaceSide height }
+    requires within { IsWithinBound cleared.now.certificate width height }
+    ensures { IfOk result (λ canvas. Leaves cleared.now width height (white width height) (image_of canvas)) }
+{
+    match play_on_white(alloc, cleared, width, height) {
         Ok(canvas) => Ok(canvas),
         Err(fault) => {
             if fault == Fault::OutOfMemory {
