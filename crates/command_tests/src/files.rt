@@ -12,13 +12,15 @@ pub(crate) const TRI: &[u8] = b"\xd7\xcd\xc6\x9a\0\0\0\0\0\0\x04\0\x04\0\x60\0\0
     \x01\0\x09\0\0\x03\x16\0\0\0\0\0\x0a\0\0\0\0\0\
     \x0a\0\0\0\x24\x03\x03\0\0\0\0\0\x04\0\0\0\0\0\x04\0\x03\0\0\0\0\0";
 
-/// Its certificate for surfaces up to 4 by 4: a fill and a stroke of 16 pixels each, three points, and the box (0,0,4,4).
+/// Its certificate for surfaces up to 4 by 4: a fill and a stroke of 16 pixels each, three points, and the
+/// box (0,0,4,4).
 pub(crate) const TRI_CERT: &[u8] = b"MPC1\x04\0\0\0\x04\0\0\0\x20\0\0\0\0\0\0\0\
     \0\0\0\0\0\0\0\0\x03\0\0\0\0\0\0\0\x01\0\0\0\
     \0\0\0\0\0\0\0\0\0\0\0\0\x04\0\0\0\x04\0\0\0";
 
 /// An EMF file with bounds of one unit and no drawing.
-pub(crate) const NIL: &[u8] = b"\x01\0\0\0\x58\0\0\0\0\0\0\0\0\0\0\0\xff\xff\xff\xff\xff\xff\xff\xff\
+pub(crate) const NIL: &[u8] =
+    b"\x01\0\0\0\x58\0\0\0\0\0\0\0\0\0\0\0\xff\xff\xff\xff\xff\xff\xff\xff\
     \0\0\0\0\0\0\0\0\0\0\0\0\0\0\0\0\x20EMF\0\0\x01\0\
     \x6c\0\0\0\x02\0\0\0\x01\0\0\0\0\0\0\0\0\0\0\0\0\0\0\0\
     \0\0\0\0\0\0\0\0\0\0\0\0\0\0\0\0\
@@ -28,7 +30,8 @@ pub(crate) const NIL: &[u8] = b"\x01\0\0\0\x58\0\0\0\0\0\0\0\0\0\0\0\xff\xff\xff
 pub(crate) const NIL_CERT: &[u8] = b"MPC1\x02\0\0\0\x03\0\0\0\0\0\0\0\0\0\0\0\
     \0\0\0\0\0\0\0\0\0\0\0\0\0\0\0\0\0\0\0\0";
 
-/// A plain file of 5 by 6 units whose size is wrong: its extent, two escapes, a dashed pen of width 3, an end, and a byte behind it.
+/// A plain file of 5 by 6 units whose size is wrong: its extent, two escapes, a dashed pen of width 3, an
+/// end, and a byte behind it.
 pub(crate) const NOTED: &[u8] = b"\x01\0\x09\0\0\x03\0\0\0\0\0\0\0\0\0\0\0\0\
     \x05\0\0\0\x0c\x02\x06\0\x05\0\
     \x05\0\0\0\x26\x06\x01\0\0\0\

@@ -12,7 +12,11 @@ fn text_of(alloc: Global, header: &[u8], rows: &str) -> Result<Vec<u8>, AllocErr
     let mut text = Vec::new(alloc);
     text.extend_from_slice(header)?;
     for pixel in rows.as_bytes() {
-        let colour = if *pixel == b'#' { b"\x00\x00\x00" } else { b"\xff\xff\xff" };
+        let colour = if *pixel == b'#' {
+            b"\x00\x00\x00"
+        } else {
+            b"\xff\xff\xff"
+        };
         text.extend_from_slice(colour)?;
     }
     Ok(text)
@@ -30,7 +34,15 @@ fn a_file_is_played_at_the_bound_and_below(rt: HostRuntime) -> Result<(), Fail> 
         let want = text_of(rt.alloc(), header, rows)?;
         let mut out = limited(rt.alloc(), 1000, true);
         let mut err = Vec::new(rt.alloc());
-        let answer = play_command(rt.alloc(), file, certificate, width, height, &mut out, &mut err);
+        let answer = play_command(
+            rt.alloc(),
+            file,
+            certificate,
+            width,
+            height,
+            &mut out,
+            &mut err,
+        );
         same(&rt, answer.status(), 0);
         same(&rt, out.taken.as_slice(), want.as_slice());
         assert!(rt; err.is_empty() && answer.told.is_ok());
@@ -52,7 +64,15 @@ fn a_surface_above_the_bound_is_refused_behind_the_check(rt: HostRuntime) -> Res
     for (file, certificate, width, height, text) in cases {
         let mut out = limited(rt.alloc(), 1000, false);
         let mut err = Vec::new(rt.alloc());
-        let answer = play_command(rt.alloc(), file, certificate, width, height, &mut out, &mut err);
+        let answer = play_command(
+            rt.alloc(),
+            file,
+            certificate,
+            width,
+            height,
+            &mut out,
+            &mut err,
+        );
         same(&rt, answer.status(), 1);
         same(&rt, err.as_slice(), text);
         assert!(rt; out.taken.is_empty());
@@ -77,7 +97,15 @@ fn an_image_that_cannot_be_written_has_status_3(rt: HostRuntime) -> Result<(), F
 fn playing_under_refused_growth(rt: HostRuntime) -> Result<(), Fail> {
     let mut out = [0u8; 64];
     let mut err = [0u8; 64];
-    let answer = play_command(rt.alloc(), TRI, TRI_CERT, 1, 1, &mut out.as_mut_slice(), &mut err.as_mut_slice());
+    let answer = play_command(
+        rt.alloc(),
+        TRI,
+        TRI_CERT,
+        1,
+        1,
+        &mut out.as_mut_slice(),
+        &mut err.as_mut_slice(),
+    );
     if answer.status() == 0 {
         same(&rt, &out[..14], b"P6\n1 1\n255\n\0\0\0".as_slice());
         same(&rt, err[0], 0);

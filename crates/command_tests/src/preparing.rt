@@ -14,7 +14,11 @@ const DOT_CERT: &[u8] = b"MPC1\x04\0\0\0\x04\0\0\0\x01\0\0\0\0\0\0\0\
 
 #[test]
 fn a_certificate_is_written_whole(rt: HostRuntime) -> Result<(), Fail> {
-    let cases = [(TRI, 4, 4, TRI_CERT), (DOT, 4, 4, DOT_CERT), (NIL, 2, 3, NIL_CERT)];
+    let cases = [
+        (TRI, 4, 4, TRI_CERT),
+        (DOT, 4, 4, DOT_CERT),
+        (NIL, 2, 3, NIL_CERT),
+    ];
     for (file, width, height, want) in cases {
         let mut out = limited(rt.alloc(), 1000, true);
         let mut err = Vec::new(rt.alloc());
@@ -61,7 +65,14 @@ fn a_certificate_that_cannot_be_written_has_status_3(rt: HostRuntime) -> Result<
 fn preparing_under_refused_growth(rt: HostRuntime) -> Result<(), Fail> {
     let mut out = [0u8; 64];
     let mut err = [0u8; 64];
-    let answer = prepare_command(rt.alloc(), DOT, 4, 4, &mut out.as_mut_slice(), &mut err.as_mut_slice());
+    let answer = prepare_command(
+        rt.alloc(),
+        DOT,
+        4,
+        4,
+        &mut out.as_mut_slice(),
+        &mut err.as_mut_slice(),
+    );
     if answer.status() == 0 {
         same(&rt, &out[..60], DOT_CERT);
         same(&rt, err[0], 0);

@@ -26,11 +26,7 @@ fn an_input_that_fails_is_reported_in_one_line(rt: HostRuntime) -> Result<(), Fa
     ];
     for (fault, end, status, text) in cases {
         let mut err = Vec::new(rt.alloc());
-        same(
-            &rt,
-            no_input(fault, &mut err),
-            Answer { end, told: Ok(()) },
-        );
+        same(&rt, no_input(fault, &mut err), Answer { end, told: Ok(()) });
         same(&rt, end.status(), status);
         same(&rt, err.as_slice(), text);
     }

@@ -1,3 +1,4 @@
+pub mod AppLemmas
 pub mod AskedLemmas
 pub mod LineLemmas
 pub mod PlayLemmas

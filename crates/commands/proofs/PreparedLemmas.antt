@@ -105,15 +105,15 @@ is_accepted (refuses number fault) = false
 pub never_refused : (file certificate : List ℕ) → ExactlyOne (IsAnswer file certificate) → IsAnswer file certificate accepted
     → (number : Option ℕ) (fault : Fault) → IsAnswer file certificate (refuses number fault) → ⊥
 unfolding is_accepted
-never_refused file certificate one yes number fault no =
-    let same : accepted ≡ refuses number fault = one.only accepted yes ∙ sym (one.only (refuses number fault) no) in
+never_refused file certificate one accepts number fault denies =
+    let same : accepted ≡ refuses number fault = one.only accepted accepts ∙ sym (one.only (refuses number fault) denies) in
     true≢false (ap is_accepted same)
 
 -- nor is memory all that is left
 pub only_memory : (file certificate : List ℕ) → ExactlyOne (IsAnswer file certificate) → IsAnswer file certificate accepted → (r : Refusal)
     → (IsAnswer file certificate (refuses r.number r.fault) ⊎ IsWantOfMemory r) → (r.fault ≡ OutOfMemory → ⊥) → ⊥
-only_memory file certificate one yes r (inl no) other = never_refused file certificate one yes r.number r.fault no
-only_memory file certificate one yes r (inr want) other = other want.fault
+only_memory file certificate one accepts r (inl denies) other = never_refused file certificate one accepts r.number r.fault denies
+only_memory file certificate one accepts r (inr want) other = other want.fault
 
 -- a surface of the sides that a certificate was prepared for isn't above its bound
 pub prepared_within : (file : List ℕ) (width height : ℕ) (bytes : List ℕ) → Prepares file width height bytes → IsSurfaceSide width → IsSurfaceSide height
@@ -147,8 +147,8 @@ run_refused file width height wide high r (inl stops) =
 -- an accepted file opens
 opened_of_answer : (file certificate : List ℕ) (r : Result OpenedValue Fault) → AnswersOpened r file certificate accepted → IsOk r
 unfolding is_accepted
-opened_of_answer file certificate (Ok o) yes = refl
-opened_of_answer file certificate (Err fault) yes = absurd (true≢false (ap is_accepted yes))
+opened_of_answer file certificate (Ok o) accepts = refl
+opened_of_answer file certificate (Err fault) accepts = absurd (true≢false (ap is_accepted accepts))
 
 pub accepted_opens : (file certificate : List ℕ) → IsAnswer file certificate accepted → Opens file
-accepted_opens file certificate yes = opened_of_answer file certificate (opened file) yes
+accepted_opens file certificate accepts = opened_of_answer file certificate (opened file) accepts

@@ -10,7 +10,7 @@ pub record IsLocalApp (app : App) (command : Command) : Type 0 where
   pub is : app_of command ≡ app
   pub local : (out-Command command).has_globals ≡ false
 
--- a command is as another one, with W and H behind
+-- a command is as another one, with W and H behind, and still has no argument for other commands
 pub record AddsSides (old new : Command) : Type 0 where
   pub is : app_of new ≡ with_sides (app_of old)
-  pub local : (out-Command new).has_globals ≡ (out-Command old).has_globals
+  pub local : (out-Command old).has_globals ≡ false → (out-Command new).has_globals ≡ false

@@ -65,27 +65,27 @@ all_kinds =
 abbrev pub notes_data : List ℕ → Data
 notes_data counts = object (noted_kinds all_kinds counts)
 
--- The report of a certificate that is accepted for a file, of whose records and drawings there are so many.
+-- The report of a certificate that is accepted for a file, of whose records and drawings there are so many: its members by their names.
 abbrev pub accepted_report : OpenedValue → CertificateValue → ℕ → ℕ → List ℕ → Data
 accepted_report o c records drawings notes =
-    object (member (codes "accepted") (boolean true)
-    (member (codes "drawings") (whole drawings)
-    (member (codes "format") (string (format_name o.format))
-    (member (codes "frame") (sides o.frame_width o.frame_height)
-    (member (codes "max") (sides c.max_width c.max_height)
-    (member (codes "needs") (needs_data c.needs)
-    (member (codes "notes") (notes_data notes)
-    (member (codes "records") (whole records)
-    (member (codes "writes") (whole c.writes) no_members)))))))))
+    object (put (codes "accepted") (boolean true)
+    (put (codes "drawings") (whole drawings)
+    (put (codes "format") (string (format_name o.format))
+    (put (codes "frame") (sides o.frame_width o.frame_height)
+    (put (codes "max") (sides c.max_width c.max_height)
+    (put (codes "needs") (needs_data c.needs)
+    (put (codes "notes") (notes_data notes)
+    (put (codes "records") (whole records)
+    (put (codes "writes") (whole c.writes) no_members)))))))))
 
 -- The report of a refusal: the fault's code and name, the kind of record that it speaks of, and the number of the record that it lies in.
 abbrev pub refused_report : Option ℕ → Fault → Data
 refused_report record_number fault =
-    object (member (codes "accepted") (boolean false)
-    (member (codes "code") (whole (fault_row fault).code)
-    (member (codes "fault") (string (fault_row fault).name)
-    (member (codes "number") (whole_if (record_kind_of fault))
-    (member (codes "record") (whole_if record_number) no_members)))))
+    object (put (codes "accepted") (boolean false)
+    (put (codes "code") (whole (fault_row fault).code)
+    (put (codes "fault") (string (fault_row fault).name)
+    (put (codes "number") (whole_if (record_kind_of fault))
+    (put (codes "record") (whole_if record_number) no_members)))))
 
 -- the text of a report: compact JSON, and a line feed
 abbrev pub report_text : Data → List ℕ

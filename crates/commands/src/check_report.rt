@@ -1,9 +1,10 @@
 //! The report of a check, as JSON.
 
 ghost use Rattle.std.specs.Prelude.{◌≡◌, IfOk, OnOk, false};
+ghost use Rattle.serde_json.specs.Data.{put as with_member, string};
 ghost use Rattle.serde_json.specs.View.{members_view, view};
 ghost use Rattle.serde_json.specs.Written.{has_float};
-ghost use Rattle.commands.specs.CheckReport.{format_name, needs_data, notes_data, refused_report, report_text, with_kind};
+ghost use Rattle.commands.specs.CheckReport.{format_name, needs_data, notes_data, refused_report, report_text, sides, whole, whole_if, with_kind};
 ghost use Rattle.commands.specs.ClearedFiles.{report_of};
 
 use dc_stack::Needs;
@@ -25,21 +26,74 @@ pub(crate) fn accepted_report(alloc: Global, cleared: &Cleared<'_>) -> Result<Ve
 fn accepted_value(alloc: Global, cleared: &Cleared<'_>) -> Result<Value, AllocError>
     ensures { IfOk result (λ value. view value ≡ report_of cleared.now) }
 {
-    let frame = cleared.opened.frame;
     let certificate = cleared.certificate;
+    let format = format_name(cleared.opened.format);
+    let frame = sides_value(
+        alloc,
+        cleared.opened.frame.width,
+        cleared.opened.frame.height,
+    )?;
+    let max = sides_value(alloc, certificate.max_width, certificate.max_height)?;
     let needs = needs_value(alloc, certificate.needs)?;
     let notes = notes_value(alloc, cleared.notes)?;
-    json!(in alloc; {
-        "accepted": true,
-        "drawings": certificate.len(),
-        "format": format_name(cleared.opened.format),
-        "frame": [frame.width, frame.height],
-        "max": [certificate.max_width, certificate.max_height],
-        "needs": needs,
-        "notes": notes,
-        "records": cleared.records,
-        "writes": certificate.writes,
-    })
+    let mut members = Map::new(alloc);
+    put_number(&mut members, alloc, "writes", certificate.writes)?;
+    put_number(&mut members, alloc, "records", u64::from(cleared.records))?;
+    put(&mut members, alloc, "notes", notes)?;
+    put(&mut members, alloc, "needs", needs)?;
+    put(&mut members, alloc, "max", max)?;
+    put(&mut members, alloc, "frame", frame)?;
+    put_text(&mut members, alloc, "format", format)?;
+    put_number(&mut members, alloc, "drawings", certificate.len() as u64)?;
+    put(&mut members, alloc, "accepted", Value::from(true))?;
+    Ok(Value::from(members))
+}
+
+/// Puts a number with its name among members, which stand by their names.
+fn put_number(
+    members: &mut Map<String, Value>,
+    alloc: Global,
+    name: &str,
+    number: u64,
+) -> Result<(), AllocError>
+    ensures { OnOk result (members_view members.new.entries ≡ with_member name.now (whole number) (members_view members.old.entries)) }
+{
+    put(members, alloc, name, Value::from(number))
+}
+
+/// Puts a text with its name among members.
+fn put_text(
+    members: &mut Map<String, Value>,
+    alloc: Global,
+    name: &str,
+    text: &str,
+) -> Result<(), AllocError>
+    ensures { OnOk result (members_view members.new.entries ≡ with_member name.now (string text.now) (members_view members.old.entries)) }
+{
+    let value = Value::try_from_str(alloc, text)?;
+    put(members, alloc, name, value)
+}
+
+/// Puts a number, or null where there is none, with its name among members.
+fn put_option(
+    members: &mut Map<String, Value>,
+    alloc: Global,
+    name: &str,
+    number: Option<u32>,
+) -> Result<(), AllocError>
+    ensures { OnOk result (members_view members.new.entries ≡ with_member name.now (whole_if number) (members_view members.old.entries)) }
+{
+    match number {
+        Some(number) => put_number(members, alloc, name, u64::from(number)),
+        None => put(members, alloc, name, Value::Null),
+    }
+}
+
+/// A width and a height.
+fn sides_value(alloc: Global, width: u32, height: u32) -> Result<Value, AllocError>
+    ensures { IfOk result (λ value. view value ≡ sides width height) }
+{
+    json!(in alloc; [width, height])
 }
 
 /// The name of a format.
@@ -111,13 +165,13 @@ fn refused_value(alloc: Global, refusal: Refusal) -> Result<Value, AllocError>
     ensures { IfOk result (λ value. view value ≡ refused_report refusal.number refusal.fault) }
 {
     let fault = refusal.fault;
-    json!(in alloc; {
-        "accepted": false,
-        "code": fault.code(),
-        "fault": fault.name(),
-        "number": fault.number(),
-        "record": refusal.number,
-    })
+    let mut members = Map::new(alloc);
+    put_option(&mut members, alloc, "record", refusal.number)?;
+    put_option(&mut members, alloc, "number", fault.number())?;
+    put_text(&mut members, alloc, "fault", fault.name())?;
+    put_number(&mut members, alloc, "code", u64::from(fault.code()))?;
+    put(&mut members, alloc, "accepted", Value::from(false))?;
+    Ok(Value::from(members))
 }
 
 /// The text of a report, which has no numbers but whole ones: compact JSON, and a line feed.
