@@ -42,5 +42,5 @@ module _ {Z : Type 0} where
 
   -- where another command was met, `show` was not
   pub shown_name : (met : Option (Box SubCommand Z)) → IsRightShow (subcommand_rows met) → name_met met ≡ Some (codes "show")
-  shown_name None right = let bad = right.command in cc
-  shown_name (Some b) right = let is = right.command in cc
+  shown_name None right = ap (option_map (λ (command : Text × List Row). command.0)) right.command
+  shown_name (Some b) right = ap (option_map (λ (command : Text × List Row). command.0)) right.command

@@ -84,7 +84,7 @@ module _ (file : List ℕ) (width height : ℕ) (bytes : List ℕ) (prepared : P
   text = of_bound file width height bytes (is_bound width height) prepared
 
   read_text : value_in (certificate_text text.certificate) ≡ value
-  read_text = is_read _ value (subst (λ (b : List ℕ). read_certificate b ≡ Ok value) text.is_text read)
+  read_text = is_read (certificate_text text.certificate) value (subst (λ (b : List ℕ). read_certificate b ≡ Ok value) text.is_text read)
 
   pub prepared_wide : width ≤ 8192 → value.max_width ≡ width
   prepared_wide h =

@@ -38,14 +38,15 @@ both_false a b e f = rw e f
 
 put_whole : (k : List ℕ) (d : Data) (ms : Members) → has_float d ≡ false → members_have_float ms ≡ false → members_have_float (put k d ms) ≡ false
 put_whole k d no_members one others = both_false _ _ one refl
-put_whole k d (member l e ms) one others = go (slice_cmp nat_cmp k l)
+put_whole k d (member l e ms) one others =
+    let parts = or_parts (has_float e) (members_have_float ms) others in
+    go (slice_cmp nat_cmp k l) parts.0 parts.1 (put_whole k d ms one parts.1)
   where
-    go : (o : Ordering) → members_have_float (match_ordering o (member k d (member l e ms)) (member l d ms) (member l e (put k d ms))) ≡ false
-    go Less = both_false _ _ one others
-    go Equal = both_false _ _ one (or_parts (has_float e) (members_have_float ms) others).1
-    go Greater =
-        let parts = or_parts (has_float e) (members_have_float ms) others in
-        both_false _ _ parts.0 (put_whole k d ms one parts.1)
+    go : (o : Ordering) → has_float e ≡ false → members_have_float ms ≡ false → members_have_float (put k d ms) ≡ false
+        → members_have_float (match_ordering o (member k d (member l e ms)) (member l d ms) (member l e (put k d ms))) ≡ false
+    go Less first rest later = both_false _ _ one (both_false _ _ first rest)
+    go Equal first rest later = both_false _ _ one rest
+    go Greater first rest later = both_false _ _ first later
 
 kind_whole : (none : Bool) (k : List ℕ) (n : ℕ) (ms : Members) → members_have_float ms ≡ false → members_have_float (cond none ms (put k (whole n) ms)) ≡ false
 kind_whole true k n ms others = others
@@ -56,7 +57,7 @@ kinds_whole [] counts = refl
 kinds_whole (kind ∷ kinds) counts =
     kind_whole (note_count counts kind == 0) (note_row_of kind).name (note_count counts kind) (noted_kinds kinds counts) (kinds_whole kinds counts)
 
-pub accepted_whole : (o : OpenedValue) (c : CertificateValue) (records drawings : ℕ) (notes : List ℕ) → has_float (accepted_report o c records drawings notes) ≡ false
+accepted_whole : (o : OpenedValue) (c : CertificateValue) (records drawings : ℕ) (notes : List ℕ) → has_float (accepted_report o c records drawings notes) ≡ false
 accepted_whole o c records drawings notes =
     let m0 = put (codes "writes") (whole c.writes) no_members in
     let e0 : members_have_float m0 ≡ false = put_whole (codes "writes") (whole c.writes) no_members refl refl in
@@ -77,6 +78,10 @@ accepted_whole o c records drawings notes =
     let m8 = put (codes "accepted") (boolean true) m7 in
     let e8 : members_have_float m8 ≡ false = put_whole (codes "accepted") (boolean true) m7 refl e7 in
     e8
+
+pub report_whole : (cleared : Cleared) → has_float (report_of cleared) ≡ false
+report_whole cleared =
+    accepted_whole (opened_of cleared.opened) (certificate_of cleared.certificate) cleared.records (length (entries_of cleared.certificate.entries)) cleared.notes.counts
 
 if_whole : (n : Option ℕ) → has_float (whole_if n) ≡ false
 if_whole None = refl

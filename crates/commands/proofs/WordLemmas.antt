@@ -83,6 +83,10 @@ abbrev first_byte : Text → ℕ
 first_byte [] = 0
 first_byte (byte ∷ rest) = byte
 
+-- two bytes are the same
+abbrev is_byte : ℕ → ℕ → Type 0
+is_byte a b = a ≡ b
+
 one_name : (met : Option (Text × List Row)) (name other : Text) (given all : List Row) → met ≡ Some (name, given) → met ≡ Some (other, all) → first_byte name ≡ first_byte other
 one_name met name other given all e f = ap (λ (command : Text × List Row). first_byte command.0) (same_inside (sym e ∙ f))
 
@@ -108,13 +112,13 @@ given_words (Show name width height) program file wide high plain_file plain_wid
     by_rows _ (given_all file wide high) asked.given file wide high name.now width height plain_wide plain_high rows refl refl refl asked.command asked.gives.0 asked.gives.1
 given_words (Prepare name width height output) program file wide high plain_file plain_wide plain_high asked =
     let rows = shown_rows program file wide high plain_file plain_wide plain_high in
-    let bad : 115 ≡ 112 = one_name _ _ _ _ _ rows asked.command in absurd (omega arith)
+    let bad : is_byte 115 112 = one_name _ _ _ _ _ rows asked.command in absurd (omega (arith, bad))
 given_words (Check name certificate) program file wide high plain_file plain_wide plain_high asked =
     let rows = shown_rows program file wide high plain_file plain_wide plain_high in
-    let bad : 115 ≡ 99 = one_name _ _ _ _ _ rows asked.command in absurd (omega arith)
+    let bad : is_byte 115 99 = one_name _ _ _ _ _ rows asked.command in absurd (omega (arith, bad))
 given_words (Play name certificate width height) program file wide high plain_file plain_wide plain_high asked =
     let rows = shown_rows program file wide high plain_file plain_wide plain_high in
-    let bad : 115 ≡ 112 = one_name _ _ _ _ _ rows asked.command in absurd (omega arith)
+    let bad : is_byte 115 112 = one_name _ _ _ _ _ rows asked.command in absurd (omega (arith, bad))
 
 -- what five such words ask for
 pub plain_words : (words : List Text) (line : CommandLine) → IsAskedByWords words line → HasPlainWords words line
