@@ -200,7 +200,7 @@ fn a_report_that_cannot_be_written_has_status_3(rt: HostRuntime) -> Result<(), F
 
 #[test]
 fn checking_under_refused_growth(rt: HostRuntime) -> Result<(), Fail> {
-    let mut out = [0u8; 64];
+    let mut out = [0u8; 128];
     let mut err = [0u8; 64];
     let answer = check_command(
         rt.alloc(),
