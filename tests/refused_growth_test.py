@@ -165,12 +165,40 @@ class RefusedGrowth(unittest.TestCase):
                 with self.subTest(program=program.name, form=form.name, script=script):
                     self.assertEqual(answer(program, SHOW, state_file(form, script)), wanted)
 
-    def calls_for_memory(self, program, sides, given):
-        """How many calls for memory the program makes to show a file, which unlike a pipe is read in
-        pieces of one size."""
-        file = self.mark.with_name("shown")
+    def prepared(self, program, given, side):
+        """The names of a file of these bytes and of its certificate for a square surface. Unlike a pipe a file is read in pieces of one
+        size, and these certificates are no longer than one."""
+        file, certificate = self.mark.with_name("file"), self.mark.with_name("certificate")
         file.write_bytes(given)
-        return sum(1 for _ in self.under_refusals(program, ["show", str(file), *sides]))
+        made = answer(program, ["prepare", file, side, side, certificate])
+        self.assertEqual(made, Answer(0, b"", b""))
+        self.assertLessEqual(certificate.stat().st_size, 1 << 16)
+        return str(file), str(certificate)
+
+    def calls_for_memory(self, program, sides, given):
+        """How many calls for memory the program makes to play a file by its certificate."""
+        words = ["play", *self.prepared(program, given, "300"), *sides]
+        return sum(1 for _ in self.under_refusals(program, words))
+
+    def test_the_commands_for_certificates_answer_a_refusal_or_as_ever(self):
+        # An output that was begun is whole or not there: none of its bytes is written before all of it is known.
+        for program, given in itertools.product(PROGRAMS, [DOT, WHEEL.read_bytes(), SMALL_EMF.read_bytes()]):
+            file, certificate = self.prepared(program, given, "64")
+            output = self.mark.with_name("output")
+            lines = [["prepare", file, "64", "64", str(output)], ["check", file, certificate], ["check", certificate, file]]
+            lines += [["play", file, certificate, "64", "64"], ["play", file, certificate, "65", "64"]]
+            for words in lines:
+                ample = answer(program, words)
+                written = output.read_bytes() if output.exists() else None
+                output.unlink(missing_ok=True)
+                refusals = 0
+                for number, answered in self.under_refusals(program, words):
+                    with self.subTest(program=program.name, words=words, number=number):
+                        self.assertIn(answered, [OUT_OF_MEMORY, ample])
+                        self.assertEqual(output.read_bytes() if output.exists() else None, written if answered.status == 0 else None)
+                    output.unlink(missing_ok=True)
+                    refusals += answered == OUT_OF_MEMORY
+                self.assertGreater(refusals, 0, words)
 
     def test_records_and_pixels_take_no_memory(self):
         # Files of one length, with a thousand records before the end or behind it, and surfaces of

@@ -31,6 +31,49 @@ fn a_command_line_asks_for_a_file_and_sides(rt: HostRuntime) -> Result<(), Fail>
 }
 
 #[test]
+fn each_command_is_asked_for_by_its_words(rt: HostRuntime) -> Result<(), Fail> {
+    let lines: [(&[&str], CommandLine<'_>); 4] = [
+        (
+            &["metaplay", "prepare", "a.wmf", "4", "5", "b.cert"],
+            CommandLine::Prepare {
+                file: "a.wmf",
+                width: 4,
+                height: 5,
+                output: "b.cert",
+            },
+        ),
+        (
+            &["metaplay", "check", "a.wmf", "b.cert"],
+            CommandLine::Check {
+                file: "a.wmf",
+                certificate: "b.cert",
+            },
+        ),
+        (
+            &["metaplay", "play", "a.wmf", "b.cert", "4", "5"],
+            CommandLine::Play {
+                file: "a.wmf",
+                certificate: "b.cert",
+                width: 4,
+                height: 5,
+            },
+        ),
+        (
+            &["metaplay", "check", "--", "stdin", "--help"],
+            CommandLine::Check {
+                file: "stdin",
+                certificate: "--help",
+            },
+        ),
+    ];
+    for (list, want) in lines {
+        let asked = words(rt.alloc(), list)?;
+        assert!(rt; line(rt.alloc(), asked.as_slice()).ok() == Some(want));
+    }
+    Ok(())
+}
+
+#[test]
 fn each_side_from_1_to_8192_is_taken_in_both_places(rt: HostRuntime) -> Result<(), Fail> {
     for side in 0..=8193u32 {
         let text = format!(in rt.alloc(); "{side}")?;
@@ -70,7 +113,7 @@ fn each_wrong_command_line_has_status_2(rt: HostRuntime) -> Result<(), Fail> {
     let lines: [(&[&str], &str); 12] = [
         (&["metaplay"], "requires a subcommand"),
         (
-            &["metaplay", "play", "a.wmf", "4", "4"],
+            &["metaplay", "draw", "a.wmf", "4", "4"],
             "unrecognized subcommand",
         ),
         (&["metaplay", "show"], "were not provided"),
@@ -111,7 +154,7 @@ fn each_wrong_command_line_has_status_2(rt: HostRuntime) -> Result<(), Fail> {
         let mut err = Vec::new(rt.alloc());
         same(
             &rt,
-            (text, usage(&error, &mut out, &mut err).status),
+            (text, usage(&error, &mut out, &mut err).status()),
             (text, 2),
         );
         assert!(rt; out.is_empty(), "{text}");
@@ -123,9 +166,12 @@ fn each_wrong_command_line_has_status_2(rt: HostRuntime) -> Result<(), Fail> {
 
 #[test]
 fn help_that_was_asked_for_goes_to_standard_output(rt: HostRuntime) -> Result<(), Fail> {
-    let lines: [&[&str]; 3] = [
+    let lines: [&[&str]; 6] = [
         &["metaplay", "--help"],
         &["metaplay", "show", "--help"],
+        &["metaplay", "prepare", "--help"],
+        &["metaplay", "check", "--help"],
+        &["metaplay", "play", "--help"],
         &["metaplay", "help", "show"],
     ];
     for list in lines {
@@ -135,7 +181,7 @@ fn help_that_was_asked_for_goes_to_standard_output(rt: HostRuntime) -> Result<()
         };
         let mut out = Vec::new(rt.alloc());
         let mut err = Vec::new(rt.alloc());
-        same(&rt, usage(&error, &mut out, &mut err).status, 2);
+        same(&rt, usage(&error, &mut out, &mut err).status(), 2);
         assert!(rt; err.is_empty());
         assert!(rt; str::from_utf8(out.as_slice())?.contains("Usage: metaplay"));
     }
@@ -149,15 +195,13 @@ fn a_command_line_under_refused_growth(rt: HostRuntime) -> Result<(), Fail> {
         return Ok(());
     };
     match line(rt.alloc(), asked.as_slice()) {
-        Ok(
-            CommandLine::Show {
-                file,
-                width,
-                height,
-            },
-        ) => {
-            same(&rt, file, "a.wmf");
-            same(&rt, (width, height), (4, 5));
+        Ok(line) => {
+            let want = CommandLine::Show {
+                file: "a.wmf",
+                width: 4,
+                height: 5,
+            };
+            same(&rt, line, want);
         }
         Err(error) => assert!(rt; error.kind() == clap::error::ErrorKind::OutOfMemory),
     }

@@ -5,11 +5,19 @@
 #![tactic(auto)]
 
 #[cfg(test)]
+mod checking;
+#[cfg(test)]
 mod command_lines;
 #[cfg(test)]
 mod comparing;
 #[cfg(test)]
+mod files;
+#[cfg(test)]
 mod inputs;
+#[cfg(test)]
+mod playing;
+#[cfg(test)]
+mod preparing;
 #[cfg(test)]
 mod reports;
 #[cfg(test)]
@@ -20,11 +28,6 @@ mod writers;
 use std::alloc::Global;
 use std::io;
 use std::io::Write;
-
-/// A placeable file with the box (0,0,4,4), a red pixel at (2,1), and an end.
-const DOT: &[u8] = b"\xd7\xcd\xc6\x9a\0\0\0\0\0\0\x04\0\x04\0\x60\0\0\0\0\0\x71\x57\
-    \x01\0\x09\0\0\x03\x13\0\0\0\0\0\x07\0\0\0\0\0\
-    \x07\0\0\0\x1f\x04\xff\0\0\0\x01\0\x02\0\x03\0\0\0\0\0";
 
 /// A writer that keeps what it takes, and fails once it has taken so many bytes, or at a flush.
 #[derive(Drop)]

@@ -2,7 +2,7 @@
 
 use crate::comparing::same;
 use canvas::WriteFault;
-use commands::{Answer, InputFault, no_input, report};
+use commands::{Answer, CommandEnd, InputFault, no_input, report};
 use draw_ops::{Fault, RecordFault};
 use preflight_cert::Refusal;
 use std::alloc::{AllocError, Global};
@@ -10,20 +10,24 @@ use std::test::Fail;
 
 #[test]
 fn an_input_that_fails_is_reported_in_one_line(rt: HostRuntime) -> Result<(), Fail> {
-    let cases: [(InputFault, u8, &[u8]); 2] = [
-        (InputFault::CannotRead, 3, b"metaplay: cannot read\n"),
-        (InputFault::OutOfMemory, 4, b"metaplay: OutOfMemory\n"),
+    let cases: [(InputFault, CommandEnd, u8, &[u8]); 2] = [
+        (
+            InputFault::CannotRead,
+            CommandEnd::CannotRead,
+            3,
+            b"metaplay: cannot read\n",
+        ),
+        (
+            InputFault::OutOfMemory,
+            CommandEnd::OutOfMemory,
+            4,
+            b"metaplay: OutOfMemory\n",
+        ),
     ];
-    for (fault, status, text) in cases {
+    for (fault, end, status, text) in cases {
         let mut err = Vec::new(rt.alloc());
-        same(
-            &rt,
-            no_input(fault, &mut err),
-            Answer {
-                status,
-                told: Ok(()),
-            },
-        );
+        same(&rt, no_input(fault, &mut err), Answer { end, told: Ok(()) });
+        same(&rt, end.status(), status);
         same(&rt, err.as_slice(), text);
     }
     Ok(())

@@ -1,7 +1,8 @@
 //! Files that are shown, and files that are refused.
 
 use crate::comparing::same;
-use crate::{DOT, limited};
+use crate::files::DOT;
+use crate::limited;
 use commands::show_command;
 use std::alloc::{AllocError, Global};
 use std::test::Fail;
@@ -35,7 +36,7 @@ fn text_of(alloc: Global, strip: &Strip) -> Result<Vec<u8>, AllocError> {
 fn showing_a_dot_writes_its_image(rt: HostRuntime) -> Result<(), Fail> {
     let mut out = limited(rt.alloc(), 1000, true);
     let mut err = Vec::new(rt.alloc());
-    let status = show_command(rt.alloc(), DOT, 2, 2, &mut out, &mut err).status;
+    let status = show_command(rt.alloc(), DOT, 2, 2, &mut out, &mut err).status();
     same(&rt, status, 0);
     let want = b"P6\n2 2\n255\n\xff\xff\xff\xff\x00\x00\xff\xff\xff\xff\xff\xff";
     same(&rt, out.taken.as_slice(), want.as_slice());
@@ -50,7 +51,7 @@ fn a_file_that_draws_nothing_is_white(rt: HostRuntime) -> Result<(), Fail> {
     file.extend_from_slice(&DOT[54..])?;
     let mut out = limited(rt.alloc(), 1000, true);
     let mut err = Vec::new(rt.alloc());
-    let status = show_command(rt.alloc(), file.as_slice(), 2, 1, &mut out, &mut err).status;
+    let status = show_command(rt.alloc(), file.as_slice(), 2, 1, &mut out, &mut err).status();
     same(&rt, status, 0);
     let want = b"P6\n2 1\n255\n\xff\xff\xff\xff\xff\xff";
     same(&rt, out.taken.as_slice(), want.as_slice());
@@ -98,7 +99,7 @@ fn sides_of_1_8191_and_8192_are_shown(rt: HostRuntime) -> Result<(), Fail> {
         let want = text_of(rt.alloc(), &strip)?;
         let mut out = limited(rt.alloc(), 100000, true);
         let mut err = Vec::new(rt.alloc());
-        let status = show_command(rt.alloc(), DOT, width, height, &mut out, &mut err).status;
+        let status = show_command(rt.alloc(), DOT, width, height, &mut out, &mut err).status();
         same(&rt, status, 0);
         assert!(rt;
             out.taken.as_slice() == want.as_slice(),
@@ -116,7 +117,7 @@ fn each_height_from_1_to_8192_is_shown(rt: HostRuntime) -> Result<(), Fail> {
         let mut out = Vec::new(rt.alloc());
         let mut err = Vec::new(rt.alloc());
         let answer = show_command(rt.alloc(), DOT, 1, height, &mut out, &mut err);
-        same(&rt, (height, answer.status), (height, 0));
+        same(&rt, (height, answer.status()), (height, 0));
         assert!(rt;
             out.as_slice().starts_with(header.as_bytes()),
             "height {height}"
@@ -137,14 +138,14 @@ fn a_refused_file_is_reported_in_one_line(rt: HostRuntime) -> Result<(), Fail> {
     for (file, text) in cases {
         let mut out = limited(rt.alloc(), 1000, true);
         let mut err = Vec::new(rt.alloc());
-        let status = show_command(rt.alloc(), file, 4, 4, &mut out, &mut err).status;
+        let status = show_command(rt.alloc(), file, 4, 4, &mut out, &mut err).status();
         same(&rt, status, 1);
         same(&rt, err.as_slice(), text);
         assert!(rt; out.taken.is_empty());
         // A fault of standard error changes no status, and is told.
         let mut closed = limited(rt.alloc(), 0, false);
         let answer = show_command(rt.alloc(), file, 4, 4, &mut out, &mut closed);
-        same(&rt, answer.status, 1);
+        same(&rt, answer.status(), 1);
         assert!(rt; answer.told.is_err());
     }
     Ok(())
@@ -162,7 +163,7 @@ fn showing_under_refused_growth(rt: HostRuntime) -> Result<(), Fail> {
         &mut out.as_mut_slice(),
         &mut err.as_mut_slice(),
     )
-    .status;
+    .status();
     if status == 0 {
         same(&rt, &out[..14], b"P6\n1 1\n255\n\xff\0\0".as_slice());
         same(&rt, err[0], 0);

@@ -1,7 +1,8 @@
 //! Writers that fail, refuse, stop short or are interrupted.
 
 use crate::comparing::same;
-use crate::{DOT, limited};
+use crate::files::DOT;
+use crate::limited;
 use commands::show_command;
 use std::alloc::Global;
 use std::io;
@@ -76,7 +77,7 @@ fn a_failed_write_or_flush_has_status_3(rt: HostRuntime) -> Result<(), Fail> {
     for (most, can_flush) in [(0, true), (10, true), (58, true), (59, false)] {
         let mut out = limited(rt.alloc(), most, can_flush);
         let mut err = Vec::new(rt.alloc());
-        let status = show_command(rt.alloc(), DOT, 4, 4, &mut out, &mut err).status;
+        let status = show_command(rt.alloc(), DOT, 4, 4, &mut out, &mut err).status();
         same(&rt, (most, status), (most, 3));
         same(&rt, err.as_slice(), b"metaplay: cannot write\n".as_slice());
         same(&rt, out.taken.len(), most);
@@ -88,7 +89,7 @@ fn a_failed_write_or_flush_has_status_3(rt: HostRuntime) -> Result<(), Fail> {
 fn an_image_is_flushed_once_behind_its_last_byte(rt: HostRuntime) -> Result<(), Fail> {
     let mut out = Slow::new(rt.alloc(), u32::MAX, io::ErrorKind::Other);
     let mut err = Slow::new(rt.alloc(), u32::MAX, io::ErrorKind::Other);
-    let status = show_command(rt.alloc(), DOT, 4, 1, &mut out, &mut err).status;
+    let status = show_command(rt.alloc(), DOT, 4, 1, &mut out, &mut err).status();
     same(&rt, status, 0);
     same(&rt, out.taken.as_slice(), ROW);
     same(&rt, (out.flushes, out.taken_at_flush), (1, ROW.len()));
@@ -100,7 +101,7 @@ fn an_image_is_flushed_once_behind_its_last_byte(rt: HostRuntime) -> Result<(), 
 fn a_refused_file_writes_and_flushes_nothing(rt: HostRuntime) -> Result<(), Fail> {
     let mut out = Slow::new(rt.alloc(), u32::MAX, io::ErrorKind::Other);
     let mut err = Slow::new(rt.alloc(), u32::MAX, io::ErrorKind::Other);
-    let status = show_command(rt.alloc(), &DOT[..50], 4, 1, &mut out, &mut err).status;
+    let status = show_command(rt.alloc(), &DOT[..50], 4, 1, &mut out, &mut err).status();
     same(&rt, status, 1);
     same(&rt, (out.calls, out.flushes), (0, 0));
     same(
@@ -115,7 +116,7 @@ fn a_refused_file_writes_and_flushes_nothing(rt: HostRuntime) -> Result<(), Fail
 fn an_image_of_one_row_may_fail_at_its_flush(rt: HostRuntime) -> Result<(), Fail> {
     let mut out = limited(rt.alloc(), 1000, false);
     let mut err = Vec::new(rt.alloc());
-    let status = show_command(rt.alloc(), DOT, 4, 1, &mut out, &mut err).status;
+    let status = show_command(rt.alloc(), DOT, 4, 1, &mut out, &mut err).status();
     same(&rt, status, 3);
     same(&rt, out.taken.as_slice(), ROW);
     same(&rt, err.as_slice(), b"metaplay: cannot write\n".as_slice());
@@ -127,7 +128,7 @@ fn an_interrupted_write_is_tried_again(rt: HostRuntime) -> Result<(), Fail> {
     for fails_at in [0, 1, 10, 22] {
         let mut out = Slow::new(rt.alloc(), fails_at, io::ErrorKind::Interrupted);
         let mut err = Vec::new(rt.alloc());
-        let status = show_command(rt.alloc(), DOT, 4, 1, &mut out, &mut err).status;
+        let status = show_command(rt.alloc(), DOT, 4, 1, &mut out, &mut err).status();
         same(&rt, (fails_at, status), (fails_at, 0));
         same(&rt, out.taken.as_slice(), ROW);
         same(&rt, out.flushes, 1);
@@ -146,7 +147,7 @@ fn a_write_that_fails_otherwise_is_tried_once(rt: HostRuntime) -> Result<(), Fai
         for fails_at in [0, 5] {
             let mut out = Slow::new(rt.alloc(), fails_at, kind);
             let mut err = Vec::new(rt.alloc());
-            let status = show_command(rt.alloc(), DOT, 4, 1, &mut out, &mut err).status;
+            let status = show_command(rt.alloc(), DOT, 4, 1, &mut out, &mut err).status();
             same(&rt, status, 3);
             same(&rt, (out.calls, out.flushes), (fails_at + 1, 0));
             same(&rt, out.taken.as_slice(), &ROW[..fails_at as usize]);
@@ -159,11 +160,11 @@ fn a_write_that_fails_otherwise_is_tried_once(rt: HostRuntime) -> Result<(), Fai
 #[test]
 fn a_writer_that_takes_nothing_cannot_be_written(rt: HostRuntime) -> Result<(), Fail> {
     let mut err = Vec::new(rt.alloc());
-    let status = show_command(rt.alloc(), DOT, 4, 1, &mut Deaf, &mut err).status;
+    let status = show_command(rt.alloc(), DOT, 4, 1, &mut Deaf, &mut err).status();
     same(&rt, status, 3);
     same(&rt, err.as_slice(), b"metaplay: cannot write\n".as_slice());
     let mut out = Vec::new(rt.alloc());
-    let status = show_command(rt.alloc(), b"", 4, 1, &mut out, &mut Deaf).status;
+    let status = show_command(rt.alloc(), b"", 4, 1, &mut out, &mut Deaf).status();
     same(&rt, status, 1);
     Ok(())
 }
@@ -173,7 +174,7 @@ fn a_line_is_told_whole_where_standard_error_is_slow(rt: HostRuntime) -> Result<
     for fails_at in [0, 3, 21] {
         let mut out = Vec::new(rt.alloc());
         let mut err = Slow::new(rt.alloc(), fails_at, io::ErrorKind::Interrupted);
-        let status = show_command(rt.alloc(), b"", 4, 1, &mut out, &mut err).status;
+        let status = show_command(rt.alloc(), b"", 4, 1, &mut out, &mut err).status();
         same(&rt, status, 1);
         same(
             &rt,
@@ -188,7 +189,7 @@ fn a_line_is_told_whole_where_standard_error_is_slow(rt: HostRuntime) -> Result<
 fn a_line_ends_where_standard_error_fails(rt: HostRuntime) -> Result<(), Fail> {
     let mut out = Vec::new(rt.alloc());
     let mut err = Slow::new(rt.alloc(), 4, io::ErrorKind::WouldBlock);
-    let status = show_command(rt.alloc(), b"", 4, 1, &mut out, &mut err).status;
+    let status = show_command(rt.alloc(), b"", 4, 1, &mut out, &mut err).status();
     same(&rt, status, 1);
     same(&rt, err.taken.as_slice(), b"meta".as_slice());
     same(&rt, err.calls, 5);

@@ -125,7 +125,9 @@ right_show words right =
     record {
       given = given_all right.file right.wide right.high;
       command = ap (subcommand_of metaplay_app) right.are ∙ rows;
-      file = refl;
-      wide = record { text = right.wide; is_given = ap Some (no_minus right.wide wide_plain); is_side = right.wide_side };
-      high = record { text = right.high; is_given = ap Some (no_minus right.high high_plain); is_side = right.high_side };
+      allowed = record {
+        file = refl;
+        wide = record { text = right.wide; is_given = ap Some (no_minus right.wide wide_plain); is_side = right.wide_side };
+        high = record { text = right.high; is_given = ap Some (no_minus right.high high_plain); is_side = right.high_side };
+      };
     }

@@ -1,5 +1,5 @@
 -- What clap's walk makes of `show` and three words that are no flags.
-use Rattle.std.proofs.Common.{◌≡◌, ◌∙◌, ap, sym, subst, refl, ℕ, List, [], ◌∷◌, false, Option, Some, None, codes}
+use Rattle.std.proofs.Common.{◌≡◌, ◌∙◌, ap, sym, subst, refl, ℕ, List, [], ◌∷◌, false, Option, Some, None, arith, codes}
 use Rattle.std.proofs.lemmas.Bool.{ne_eqb}
 use Rattle.clap.specs.Lexer.{short_of, without_minus}
 use Rattle.clap.specs.Simple.{Shape, built}
@@ -7,8 +7,8 @@ use Rattle.clap.specs.Walk.{Held, Row, Rule, Step, Text, Walk, after_step, finis
 use Rattle.clap.specs.Words.{first_of, subcommand_of}
 use Rattle.clap.proofs.OnLiterals.{clap_on_literals}
 use Rattle.commands.specs.declared.asked.CommandLine.{CommandLine}
-use Rattle.commands.specs.declared.asked.CommandLine.TheVariants.{Show}
-use Rattle.commands.specs.CommandLine.{AreOfWords, GivesNumber, HasPlainWords, HasWords, IsAskedByWords, IsPlainWord, IsShow, metaplay_app, number_of}
+use Rattle.commands.specs.declared.asked.CommandLine.TheVariants.{Check, Play, Prepare, Show}
+use Rattle.commands.specs.CommandLine.{AreOfWords, GivesName, GivesNumber, GivesSides, HasPlainWords, HasWords, IsAskedByWords, IsPlainWord, metaplay_app, number_of}
 
 pub no_flags : (byte : ℕ) (rest : Text) → (byte ≡ 45 → ⊥) → short_of (byte ∷ rest) ≡ None
 no_flags byte rest plain = rw (ne_eqb byte 45 plain) refl
@@ -78,21 +78,47 @@ same_inside e = cc
 same_rows : (met : Option (Text × List Row)) (name other : Text) (given all : List Row) → met ≡ Some (name, given) → met ≡ Some (other, all) → given ≡ all
 same_rows met name other given all e f = ap (λ (command : Text × List Row). command.1) (same_inside (sym e ∙ f))
 
+-- the first byte of a command's name
+abbrev first_byte : Text → ℕ
+first_byte [] = 0
+first_byte (byte ∷ rest) = byte
+
+-- two bytes are the same
+abbrev is_byte : ℕ → ℕ → Type 0
+is_byte a b = a ≡ b
+
+one_name : (met : Option (Text × List Row)) (name other : Text) (given all : List Row) → met ≡ Some (name, given) → met ≡ Some (other, all) → first_byte name ≡ first_byte other
+one_name met name other given all e f = ap (λ (command : Text × List Row). first_byte command.0) (same_inside (sym e ∙ f))
+
 -- what a command says whose rows are known
-by_rows : (met : Option (Text × List Row)) (all : List Row) (file wide high name : Text) (width height : ℕ) → IsPlainWord wide → IsPlainWord high → met ≡ Some (codes "show", all) → first_of (codes "FILE") all ≡ Some file → one_of (codes "W") all ≡ Some (without_minus wide) → one_of (codes "H") all ≡ Some (without_minus high) → IsShow met name width height → AreOfWords file wide high name width height
-by_rows met all file wide high name width height plain_wide plain_high is has_file has_wide has_high show =
-    let same = same_rows met _ _ _ _ show.command is in
-    let named : first_of (codes "FILE") all ≡ Some name = rw same at show.file in
+by_rows : (met : Option (Text × List Row)) (all given : List Row) (file wide high name : Text) (width height : ℕ) → IsPlainWord wide → IsPlainWord high → met ≡ Some (codes "show", all) → first_of (codes "FILE") all ≡ Some file → one_of (codes "W") all ≡ Some (without_minus wide) → one_of (codes "H") all ≡ Some (without_minus high) → met ≡ Some (codes "show", given) → GivesName given (codes "FILE") name → GivesSides given width height → AreOfWords file wide high name width height
+by_rows met all given file wide high name width height plain_wide plain_high is has_file has_wide has_high command named sides =
+    let same = same_rows met _ _ _ _ command is in
+    let found : first_of (codes "FILE") all ≡ Some name = rw same at named in
     record {
-      named = same_inside (sym named ∙ has_file);
-      wide_reads = number_given wide all (codes "W") width plain_wide has_wide (rw same at show.wide);
-      high_reads = number_given high all (codes "H") height plain_high has_high (rw same at show.high);
+      named = same_inside (sym found ∙ has_file);
+      wide_reads = number_given wide all (codes "W") width plain_wide has_wide (rw same at sides.wide);
+      high_reads = number_given high all (codes "H") height plain_high has_high (rw same at sides.high);
     }
+
+-- the rows that five such words give
+shown_rows : (program file wide high : Text) → IsPlainWord file → IsPlainWord wide → IsPlainWord high → subcommand_of metaplay_app (program ∷ codes "show" ∷ file ∷ wide ∷ high ∷ []) ≡ Some (codes "show", given_all file wide high)
+shown_rows program file wide high plain_file plain_wide plain_high =
+    first_word program file wide high ∙ ap (λ (r : List Row). Some (codes "show", r)) (other_words file wide high plain_file plain_wide plain_high)
 
 given_words : (line : CommandLine) (program file wide high : Text) → IsPlainWord file → IsPlainWord wide → IsPlainWord high → IsAskedByWords (program ∷ codes "show" ∷ file ∷ wide ∷ high ∷ []) line → HasWords file wide high line
 given_words (Show name width height) program file wide high plain_file plain_wide plain_high asked =
-    let rows = first_word program file wide high ∙ ap (λ (r : List Row). Some (codes "show", r)) (other_words file wide high plain_file plain_wide plain_high) in
-    by_rows _ (given_all file wide high) file wide high name.now width height plain_wide plain_high rows refl refl refl asked
+    let rows = shown_rows program file wide high plain_file plain_wide plain_high in
+    by_rows _ (given_all file wide high) asked.given file wide high name.now width height plain_wide plain_high rows refl refl refl asked.command asked.gives.0 asked.gives.1
+given_words (Prepare name width height output) program file wide high plain_file plain_wide plain_high asked =
+    let rows = shown_rows program file wide high plain_file plain_wide plain_high in
+    let bad : is_byte 115 112 = one_name _ _ _ _ _ rows asked.command in absurd (omega (arith, bad))
+given_words (Check name certificate) program file wide high plain_file plain_wide plain_high asked =
+    let rows = shown_rows program file wide high plain_file plain_wide plain_high in
+    let bad : is_byte 115 99 = one_name _ _ _ _ _ rows asked.command in absurd (omega (arith, bad))
+given_words (Play name certificate width height) program file wide high plain_file plain_wide plain_high asked =
+    let rows = shown_rows program file wide high plain_file plain_wide plain_high in
+    let bad : is_byte 115 112 = one_name _ _ _ _ _ rows asked.command in absurd (omega (arith, bad))
 
 -- what five such words ask for
 pub plain_words : (words : List Text) (line : CommandLine) → IsAskedByWords words line → HasPlainWords words line

@@ -7,27 +7,48 @@ use Rattle.clap.specs.declared.builder.ArgAction.TheVariants.{Set}
 use Rattle.clap.specs.declared.builder.value_parser.ValueParser.TheVariants.{Signed}
 use Rattle.commands.specs.Sides.{HasSides}
 use Rattle.commands.specs.declared.asked.CommandLine.{CommandLine}
-use Rattle.commands.specs.declared.asked.CommandLine.TheVariants.{Show}
+use Rattle.commands.specs.declared.asked.CommandLine.TheVariants.{Check, Play, Prepare, Show}
 
--- FILE, which has to be given
-abbrev pub file_rule : Rule
-file_rule = record (new_rule (codes "FILE")) { required = true; action = Some Set }
+-- a file's name, which has to be given
+abbrev pub name_rule : Text → Rule
+name_rule id = record (new_rule id) { required = true; action = Some Set }
 
 -- W or H, which has to be given, from 1 to 8,192
 abbrev pub side_rule : Text → Rule
 side_rule id = record (new_rule id) { required = true; action = Some Set; parser = Some (Signed (pos 1) (pos surface_side_limit)) }
 
+-- a command, with FILE in front
+abbrev pub file_app : Text → App
+file_app name = with_rule (new_app name) (name_rule (codes "FILE"))
+
+-- and with W and H behind
+abbrev pub with_sides : App → App
+with_sides app = with_rule (with_rule app (side_rule (codes "W"))) (side_rule (codes "H"))
+
 -- show FILE W H
 abbrev pub show_app : App
-show_app = with_rule (with_rule (with_rule (new_app (codes "show")) file_rule) (side_rule (codes "W"))) (side_rule (codes "H"))
+show_app = with_sides (file_app (codes "show"))
+
+-- prepare FILE W H OUT
+abbrev pub prepare_app : App
+prepare_app = with_rule (with_sides (file_app (codes "prepare"))) (name_rule (codes "OUT"))
+
+-- check FILE CERT
+abbrev pub check_app : App
+check_app = with_rule (file_app (codes "check")) (name_rule (codes "CERT"))
+
+-- play FILE CERT W H
+abbrev pub play_app : App
+play_app = with_sides (with_rule (file_app (codes "play")) (name_rule (codes "CERT")))
 
 -- metaplay alone, which has to have a command
 abbrev pub bare_app : App
 bare_app = record (new_app (codes "metaplay")) { top = record (new_app (codes "metaplay")).top { subcommand_required = true } }
 
--- metaplay with its command
+-- metaplay with its commands
 abbrev pub metaplay_app : App
-metaplay_app = with_subcommand bare_app show_app.top
+metaplay_app =
+    with_subcommand (with_subcommand (with_subcommand (with_subcommand bare_app show_app.top) prepare_app.top) check_app.top) play_app.top
 
 -- what a text reads as: its decimal digits, behind a plus, if it has one
 abbrev pub number_of : Text → ℕ
@@ -39,19 +60,38 @@ pub record GivesNumber (given : List Row) (id : Text) (number : ℕ) : Type 0 wh
   pub is_given : one_of id given ≡ Some text
   pub reads : number ≡ number_of text
 
--- the command that was met is `show`, and was given this file and these sides
-pub record IsShow (met : Option (Text × List Row)) (name : Text) (width height : ℕ) : Type 0 where
-  pub given : List Row
-  pub command : met ≡ Some (codes "show", given)
-  pub file : first_of (codes "FILE") given ≡ Some name
+-- the texts that were given for W and H read as these numbers
+pub record GivesSides (given : List Row) (width height : ℕ) : Type 0 where
   pub wide : GivesNumber given (codes "W") width
   pub high : GivesNumber given (codes "H") height
 
--- the command that was met is the line's, and was given what the line has
-abbrev pub IsAskedBy : Option (Text × List Row) → CommandLine → Type 0
-IsAskedBy met (Show file width height) = IsShow met file.now width height
+-- this text was given for an id
+abbrev pub GivesName : List Row → Text → Text → Type 0
+GivesName given id name = first_of id given ≡ Some name
 
--- the line has what the words, the program's name first, give the command `show`
+-- a line's command
+abbrev pub command_name : CommandLine → Text
+command_name (Show file width height) = codes "show"
+command_name (Prepare file width height output) = codes "prepare"
+command_name (Check file certificate) = codes "check"
+command_name (Play file certificate width height) = codes "play"
+
+-- a line has the names and the numbers that were given
+abbrev pub Gives : List Row → CommandLine → Type 0
+Gives given (Show file width height) = GivesName given (codes "FILE") file.now × GivesSides given width height
+Gives given (Prepare file width height output) =
+    GivesName given (codes "FILE") file.now × GivesSides given width height × GivesName given (codes "OUT") output.now
+Gives given (Check file certificate) = GivesName given (codes "FILE") file.now × GivesName given (codes "CERT") certificate.now
+Gives given (Play file certificate width height) =
+    GivesName given (codes "FILE") file.now × GivesName given (codes "CERT") certificate.now × GivesSides given width height
+
+-- the command that was met is the line's, and was given what the line has
+pub record IsAskedBy (met : Option (Text × List Row)) (line : CommandLine) : Type 0 where
+  pub given : List Row
+  pub command : met ≡ Some (command_name line, given)
+  pub gives : Gives given line
+
+-- the line has what the words, the program's name first, give its command
 abbrev pub IsAskedByWords : List Text → CommandLine → Type 0
 IsAskedByWords words line = IsAskedBy (subcommand_of metaplay_app words) line
 
@@ -69,6 +109,7 @@ pub record AreOfWords (file wide high : Text) (name : Text) (width height : ℕ)
 -- the line shows the file of this name at these texts' numbers
 abbrev pub HasWords : Text → Text → Text → CommandLine → Type 0
 HasWords file wide high (Show name width height) = AreOfWords file wide high name.now width height
+HasWords file wide high line = ⊥
 
 -- where the words are five, the program's name, `show` and three that do not begin with a hyphen, the line has those three
 abbrev pub HasPlainWords : List Text → CommandLine → Type 0
@@ -88,13 +129,17 @@ pub record GivesSide (given : List Row) (id : Text) : Type 0 where
   pub is_given : one_of id given ≡ Some text
   pub is_side : IsSideText text
 
+-- a file and two sides were given
+pub record AllowsShow (given : List Row) : Type 0 where
+  pub file : IsSome (first_of (codes "FILE") given)
+  pub wide : GivesSide given (codes "W")
+  pub high : GivesSide given (codes "H")
+
 -- the command that was met is `show`, and was given a file and two sides
 pub record IsRightShow (met : Option (Text × List Row)) : Type 0 where
   pub given : List Row
   pub command : met ≡ Some (codes "show", given)
-  pub file : IsSome (first_of (codes "FILE") given)
-  pub wide : GivesSide given (codes "W")
-  pub high : GivesSide given (codes "H")
+  pub allowed : AllowsShow given
 
 -- five words: the program's name, `show`, a file that does not begin with a hyphen, and two sides
 pub record AreRightWords (words : List Text) : Type 0 where

@@ -1,5 +1,7 @@
--- The texts of what an input lacks.
+-- What is told of an input that was not read, and how a command ends then.
 use Rattle.std.specs.Prelude.{ℕ, List, codes}
+use Rattle.commands.specs.declared.answer.CommandEnd.{CommandEnd}
+use Rattle.commands.specs.declared.answer.CommandEnd.TheVariants as end
 use Rattle.commands.specs.declared.input.InputFault.{InputFault}
 use Rattle.commands.specs.declared.input.InputFault.TheVariants.{CannotRead, OutOfMemory}
 
@@ -7,3 +9,8 @@ use Rattle.commands.specs.declared.input.InputFault.TheVariants.{CannotRead, Out
 abbrev pub fault_text : InputFault → List ℕ
 fault_text CannotRead = codes "cannot read"
 fault_text OutOfMemory = codes "OutOfMemory"
+
+-- how a command ends that lacks an input
+abbrev pub end_of : InputFault → CommandEnd
+end_of CannotRead = end.CannotRead
+end_of OutOfMemory = end.OutOfMemory

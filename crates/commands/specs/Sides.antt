@@ -2,11 +2,14 @@
 use Rattle.std.specs.Prelude.{ℕ, List}
 use Rattle.mapping.specs.Limits.{IsSurfaceSide}
 use Rattle.commands.specs.declared.asked.CommandLine.{CommandLine}
-use Rattle.commands.specs.declared.asked.CommandLine.TheVariants.{Show}
+use Rattle.commands.specs.declared.asked.CommandLine.TheVariants.{Check, Play, Prepare, Show}
 
 -- the name of the file that a line asks for
 abbrev pub file_of : CommandLine → List ℕ
 file_of (Show file width height) = file.now
+file_of (Prepare file width height output) = file.now
+file_of (Check file certificate) = file.now
+file_of (Play file certificate width height) = file.now
 
 -- a width and a height that a surface may have
 pub record AreSides (width height : ℕ) : Type 0 where
@@ -16,8 +19,11 @@ pub record AreSides (width height : ℕ) : Type 0 where
 -- the sides that a line asks for are sides of a surface
 abbrev pub HasSides : CommandLine → Type 0
 HasSides (Show file width height) = AreSides width height
+HasSides (Prepare file width height output) = AreSides width height
+HasSides (Check file certificate) = Unit
+HasSides (Play file certificate width height) = AreSides width height
 
--- it holds of some line whose sides are sides of a surface
+-- it holds of a line whose sides are sides of a surface
 pub record HoldsOfSome (holds : CommandLine → Type 0) : Type 0 where
   pub line : CommandLine
   pub sides : HasSides line

@@ -1,18 +1,18 @@
 //! Reading the command line.
 
-ghost use Rattle.std.specs.Prelude.{◌≡◌, IfErr, IfOk, IfSome, IsSome, codes, false, map, string_bytes};
-ghost use Rattle.clap.specs.Words.{app_of, found_of, kind_of, rows_of, rule_of, subcommand_rows_of};
+ghost use Rattle.std.specs.Prelude.{◌≡◌, IfErr, IfOk, IfSome, IsSome, codes, map, string_bytes};
+ghost use Rattle.clap.specs.Words.{first_of, found_of, kind_of, rows_of, subcommand_rows_of};
 ghost use Rattle.mapping.specs.Limits.{IsSurfaceSide};
-ghost use Rattle.commands.specs.CommandLine.{AreRightWords, GivesNumber, GivesSide, HasPlainWords};
-ghost use Rattle.commands.specs.CommandLine.{IsAskedBy, IsAskedByWords, IsRightShow};
-ghost use Rattle.commands.specs.CommandLine.{file_rule, metaplay_app, side_rule};
-ghost use Rattle.commands.specs.Sides.{HasSides};
+ghost use Rattle.commands.specs.CommandLine.{AllowsShow, AreRightWords, Gives, GivesName, GivesNumber, GivesSide, GivesSides};
+ghost use Rattle.commands.specs.CommandLine.{HasPlainWords, IsAskedBy, IsAskedByWords, IsRightShow, command_name};
+ghost use Rattle.commands.specs.Sides.{AreSides, HasSides};
 
 use crate::asked::CommandLine;
+use crate::declared::metaplay;
 use clap::error::ErrorKind;
-use clap::{Arg, ArgAction, ArgMatches, Command, Error, value_parser};
+use clap::{ArgMatches, Error};
 use mapping::MAX_SURFACE_SIDE;
-use std::alloc::{AllocError, Global};
+use std::alloc::Global;
 
 /// What the words of a command line ask for, the program's name first, by `clap`'s walk over them.
 /// An error has the text that the user is shown, for asked-for help too.
@@ -20,7 +20,7 @@ pub fn line<'a>(alloc: Global, words: &'a [String]) -> Result<CommandLine<'a>, E
     ensures sides { IfOk result HasSides }
     ensures asked { IfOk result (IsAskedByWords (map string_bytes words.entry.now)) }
     ensures plain { IfOk result (HasPlainWords (map string_bytes words.entry.now)) }
-    ensures taken { IfErr result (λ error. AreRightWords (map string_bytes words.entry.now) → kind_of error ≡ ErrorKind.OutOfMemory) }
+    ensures taken { IfErr result (λ e. AreRightWords (map string_bytes words.entry.now) → kind_of e ≡ ErrorKind.OutOfMemory) }
 {
     let mut command = metaplay(alloc)?;
     let matches = command.try_get_matches_from_mut(words)?;
@@ -30,61 +30,38 @@ pub fn line<'a>(alloc: Global, words: &'a [String]) -> Result<CommandLine<'a>, E
     }
 }
 
-/// The program's command line.
-fn metaplay<'a>(alloc: Global) -> Result<Command<'a>, AllocError>
-    ensures { IfOk result (λ command. app_of command ≡ metaplay_app) }
-{
-    let show = Command::new(alloc, "show")
-        .about("Plays a metafile on white, and writes the image as P6 to standard output")
-        .arg(file(alloc))?
-        .arg(side(alloc, "W", "The surface's width in pixels"))?
-        .arg(side(alloc, "H", "The surface's height in pixels"))?;
-    Command::new(alloc, "metaplay")
-        .bin_name("metaplay")?
-        .about("Plays Windows metafiles on a pixel surface")
-        .subcommand_required(true)
-        .subcommand(show)
-}
-
-/// The metafile to read.
-fn file<'a>(alloc: Global) -> Arg<'a>
-    ensures rule { rule_of result ≡ file_rule }
-    ensures local { result.global ≡ false }
-{
-    Arg::new(alloc, "FILE")
-        .required(true)
-        .action(ArgAction::Set)
-        .help("The metafile, or the word stdin for standard input")
-}
-
-/// A side of the surface.
-fn side<'a>(alloc: Global, id: &'a str, help: &'a str) -> Arg<'a>
-    ensures rule { rule_of result ≡ side_rule id.entry.now }
-    ensures local { result.global ≡ false }
-{
-    Arg::new(alloc, id)
-        .required(true)
-        .action(ArgAction::Set)
-        .value_parser(value_parser!(u32).range(1..=i64::from(MAX_SURFACE_SIDE)))
-        .help(help)
-}
-
 /// The command that was met, if its numbers are within their range.
 fn asked<'a>(matches: &ArgMatches<'a>) -> Option<CommandLine<'a>>
     ensures sides { IfSome result HasSides }
     ensures asked { IfSome result (IsAskedBy (subcommand_rows_of matches.now)) }
     ensures taken { IsRightShow (subcommand_rows_of matches.now) → IsSome result }
 {
-    let Some(shown) = matches.subcommand_matches("show") else {
+    if let Some(given) = matches.subcommand_matches("show") {
+        return asked_show(given);
+    }
+    if let Some(given) = matches.subcommand_matches("prepare") {
+        return asked_prepare(given);
+    }
+    if let Some(given) = matches.subcommand_matches("check") {
+        return asked_check(given);
+    }
+    if let Some(given) = matches.subcommand_matches("play") {
+        return asked_play(given);
+    }
+    None
+}
+
+/// What `show` was given.
+fn asked_show<'a>(given: &ArgMatches<'a>) -> Option<CommandLine<'a>>
+    ensures sides { IfSome result HasSides }
+    ensures name { IfSome result (λ line. command_name line ≡ codes "show") }
+    ensures gives { IfSome result (Gives (rows_of (found_of given.now))) }
+    ensures taken { AllowsShow (rows_of (found_of given.now)) → IsSome result }
+{
+    let Some(file) = name_of(given, "FILE") else {
         return None;
     };
-    let Some(file) = shown.get_str("FILE") else {
-        return None;
-    };
-    let Some(width) = side_of(shown, "W") else {
-        return None;
-    };
-    let Some(height) = side_of(shown, "H") else {
+    let Some((width, height)) = sides_of(given) else {
         return None;
     };
     Some(CommandLine::Show {
@@ -92,6 +69,90 @@ fn asked<'a>(matches: &ArgMatches<'a>) -> Option<CommandLine<'a>>
         width,
         height,
     })
+}
+
+/// What `prepare` was given.
+fn asked_prepare<'a>(given: &ArgMatches<'a>) -> Option<CommandLine<'a>>
+    ensures sides { IfSome result HasSides }
+    ensures name { IfSome result (λ line. command_name line ≡ codes "prepare") }
+    ensures gives { IfSome result (Gives (rows_of (found_of given.now))) }
+{
+    let Some(file) = name_of(given, "FILE") else {
+        return None;
+    };
+    let Some((width, height)) = sides_of(given) else {
+        return None;
+    };
+    let Some(output) = name_of(given, "OUT") else {
+        return None;
+    };
+    Some(CommandLine::Prepare {
+        file,
+        width,
+        height,
+        output,
+    })
+}
+
+/// What `check` was given.
+fn asked_check<'a>(given: &ArgMatches<'a>) -> Option<CommandLine<'a>>
+    ensures sides { IfSome result HasSides }
+    ensures name { IfSome result (λ line. command_name line ≡ codes "check") }
+    ensures gives { IfSome result (Gives (rows_of (found_of given.now))) }
+{
+    let Some(file) = name_of(given, "FILE") else {
+        return None;
+    };
+    let Some(certificate) = name_of(given, "CERT") else {
+        return None;
+    };
+    Some(CommandLine::Check { file, certificate })
+}
+
+/// What `play` was given.
+fn asked_play<'a>(given: &ArgMatches<'a>) -> Option<CommandLine<'a>>
+    ensures sides { IfSome result HasSides }
+    ensures name { IfSome result (λ line. command_name line ≡ codes "play") }
+    ensures gives { IfSome result (Gives (rows_of (found_of given.now))) }
+{
+    let Some(file) = name_of(given, "FILE") else {
+        return None;
+    };
+    let Some(certificate) = name_of(given, "CERT") else {
+        return None;
+    };
+    let Some((width, height)) = sides_of(given) else {
+        return None;
+    };
+    Some(CommandLine::Play {
+        file,
+        certificate,
+        width,
+        height,
+    })
+}
+
+/// A file's name.
+fn name_of<'a>(given: &ArgMatches<'a>, id: &str) -> Option<&'a str>
+    ensures given { IfSome result (λ name. GivesName (rows_of (found_of given.now)) id.now name.now) }
+    ensures taken { IsSome (first_of id.now (rows_of (found_of given.now))) → IsSome result }
+{
+    given.get_str(id)
+}
+
+/// The sides of a surface, if they are within their range.
+fn sides_of(given: &ArgMatches<'_>) -> Option<(u32, u32)>
+    ensures sides { IfSome result (λ sides. AreSides sides.0 sides.1) }
+    ensures given { IfSome result (λ sides. GivesSides (rows_of (found_of given.now)) sides.0 sides.1) }
+    ensures taken { AllowsShow (rows_of (found_of given.now)) → IsSome result }
+{
+    let Some(width) = side_of(given, "W") else {
+        return None;
+    };
+    let Some(height) = side_of(given, "H") else {
+        return None;
+    };
+    Some((width, height))
 }
 
 /// A side, if it is within its range, as the parser sees to.

@@ -1,27 +1,32 @@
 //! The command `show`.
 
-ghost use Rattle.std.specs.Prelude.{◌≡◌, ◌⊎◌, OnOk, OnErr, codes};
-ghost use Rattle.std.specs.Io.KnownBytes.{Appends, Keeps};
+ghost use Rattle.std.specs.Prelude.{◌≡◌, ◌⊎◌, IfErr, IfOk, Ok};
 ghost use Rattle.mapping.specs.Limits.{IsSurfaceSide};
 ghost use Rattle.canvas.specs.CanvasState.{image_of};
-ghost use Rattle.canvas.specs.Ppm.{AppendsFront, ppm_text};
-ghost use Rattle.preflight_cert.specs.Refusal.{refusal_text};
-ghost use Rattle.commands.specs.Report.{Reports};
-ghost use Rattle.commands.specs.Show.{IsRefused, Opens, ReportsRefusal, Shows, ShowsFront};
+ghost use Rattle.meta_headers.specs.File.{IsOpenedFrom};
+ghost use Rattle.preflight_cert.specs.Answer.{IsAnswer, accepted};
+ghost use Rattle.preflight_cert.specs.CertificateOf.{certificate_of};
+ghost use Rattle.preflight_cert.specs.CertificateReading.{read_certificate};
+ghost use Rattle.preflight_cert.specs.Checks.{IsWantOfMemory};
+ghost use Rattle.preflight_cert.specs.Preparation.{Prepares};
+ghost use Rattle.preflight_cert.specs.Run.{Refused, Run, shown, white};
+ghost use Rattle.commands.specs.ClearedFiles.{IsWithinBound, Leaves};
+ghost use Rattle.commands.specs.Ends.{Opens, Tells, Writes};
+ghost use Rattle.commands.specs.Tasks.{show};
 
-use crate::answer::Answer;
+use crate::answer::{Answer, CommandEnd};
+use crate::playing::play_on_white;
+use crate::preparing::prepare_file;
 use crate::reporting::report;
-use crate::status::{DONE, INPUT_OR_OUTPUT, OUT_OF_MEMORY, REFUSED};
-use canvas::{Canvas, WriteFault};
+use crate::writing::write_image;
+use canvas::{Canvas, OutOfMemory};
 use draw_ops::Fault;
-use player::play_file;
-use preflight_cert::Refusal;
+use preflight_cert::{Cleared, Refusal, answer_law, check};
 use std::alloc::Global;
 use std::io::Write;
 
-/// Plays a file on a white surface, writes the image to `out` as P6 text once the whole file has
-/// been played, and answers the status. A refusal goes to `err` as one line; a fault of `err`
-/// changes no status.
+/// Prepares a file at the size of a surface, plays it on white, and writes the image to `out` as P6 text once the whole file has
+/// been played. A refusal goes to `err` as one line; a fault of `err` changes no status.
 pub fn show_command<O: Write, E: Write>(
     alloc: Global,
     file: &[u8],
@@ -32,59 +37,120 @@ pub fn show_command<O: Write, E: Write>(
 ) -> Answer
     requires wide { IsSurfaceSide width }
     requires high { IsSurfaceSide height }
-    ensures done { result.status ≡ 0 → Shows file.now width height (O.contents out.old) (O.contents out.new) }
-    ensures refused { result.status ≡ 1 → IsRefused file.now width height }
-    ensures refused_unwritten { result.status ≡ 1 → Keeps (O.contents out.old) (O.contents out.new) }
-    ensures half_written { result.status ≡ 3 → ShowsFront file.now width height (O.contents out.old) (O.contents out.new) }
-    ensures memory_unwritten { result.status ≡ 4 → Keeps (O.contents out.old) (O.contents out.new) }
-    ensures memory_opens { result.status ≡ 4 → Opens file.now }
-    ensures statuses { ((result.status ≡ 0) ⊎ (result.status ≡ 1)) ⊎ ((result.status ≡ 3) ⊎ (result.status ≡ 4)) }
-    ensures done_silent { result.status ≡ 0 → Keeps (E.contents err.old) (E.contents err.new) }
-    ensures refused_line { result.status ≡ 1 → ReportsRefusal file.now width height result.told (E.contents err.old) (E.contents err.new) }
-    ensures half_written_line { result.status ≡ 3 → Reports result.told (E.contents err.old) (E.contents err.new) (codes "cannot write") }
-    ensures memory_line { result.status ≡ 4 → Reports result.told (E.contents err.old) (E.contents err.new) (codes "OutOfMemory") }
+    ensures written { Writes (show file.now width height) result O.contents out.old out.new }
+    ensures told { Tells (show file.now width height) result E.contents err.old err.new }
+    ensures memory { result.end ≡ CommandEnd.OutOfMemory → Opens file.now }
 {
-    match play_file(alloc, file, width, height) {
-        Err(refusal) => refuse(refusal, err),
-        Ok(canvas) => match send(&canvas, out) {
+    match show_file(alloc, file, width, height) {
+        Ok(canvas) => match write_image(&canvas, out) {
             Ok(()) => Answer {
-                status: DONE,
+                end: CommandEnd::Done,
                 told: Ok(()),
             },
             Err(_) => Answer {
-                status: INPUT_OR_OUTPUT,
+                end: CommandEnd::CannotWrite,
                 told: report(err, "cannot write"),
             },
         },
+        Err(refusal) => {
+            if refusal.fault == Fault::OutOfMemory {
+                return Answer {
+                    end: CommandEnd::OutOfMemory,
+                    told: report(err, "OutOfMemory"),
+                };
+            }
+            Answer {
+                end: CommandEnd::Refused,
+                told: report(err, refusal),
+            }
+        }
     }
 }
 
-/// Reports a refusal.
-fn refuse<E: Write>(refusal: Refusal, err: &mut E) -> Answer
-    ensures memory { refusal.fault ≡ Fault.OutOfMemory → result.status ≡ 4 }
-    ensures file { (refusal.fault ≡ Fault.OutOfMemory → ⊥) → result.status ≡ 1 }
-    ensures statuses { (result.status ≡ 1) ⊎ (result.status ≡ 4) }
-    ensures only_file { result.status ≡ 1 → refusal.fault ≡ Fault.OutOfMemory → ⊥ }
-    ensures only_memory { result.status ≡ 4 → refusal.fault ≡ Fault.OutOfMemory }
-    ensures line { Reports result.told (E.contents err.old) (E.contents err.new) (refusal_text refusal) }
+/// Prepares a file at the size of a surface, and plays it on white. A file that doesn't open is refused before any memory is asked for.
+fn show_file(alloc: Global, file: &[u8], width: u32, height: u32) -> Result<Canvas, Refusal>
+    requires wide { IsSurfaceSide width }
+    requires high { IsSurfaceSide height }
+    ensures image { IfOk result (λ canvas. Run file.now width height (white width height) (shown (image_of canvas))) }
+    ensures refusal { IfErr result (λ r. Refused file.now width height r.number r.fault ⊎ IsWantOfMemory r) }
+    ensures memory { IfErr result (λ r. r.fault ≡ Fault.OutOfMemory → Opens file.now) }
 {
-    let told = report(err, refusal);
-    let status = if refusal.fault == Fault::OutOfMemory {
-        OUT_OF_MEMORY
-    } else {
-        REFUSED
+    let certificate = match prepare_file(alloc, file, width, height) {
+        Ok(certificate) => certificate,
+        Err(refusal) => return Err(refusal),
     };
-    Answer { status, told }
+    match play_prepared(alloc, file, certificate.as_slice(), width, height) {
+        Ok(canvas) => Ok(canvas),
+        Err(OutOfMemory) => Err(Refusal::of_file(Fault::OutOfMemory)),
+    }
 }
 
-/// Writes the image, and has the writer pass on what it holds back.
-fn send<O: Write>(canvas: &Canvas, out: &mut O) -> Result<(), WriteFault>
-    ensures ok { OnOk result (Appends (O.contents out.old) (O.contents out.new) (ppm_text (image_of canvas.now))) }
-    ensures err { OnErr result (AppendsFront (O.contents out.old) (O.contents out.new) (ppm_text (image_of canvas.now))) }
+/// Plays a file on white by the certificate that was prepared for it at the surface's size: for memory alone it is refused.
+fn play_prepared(
+    alloc: Global,
+    file: &[u8],
+    certificate: &[u8],
+    width: u32,
+    height: u32,
+) -> Result<Canvas, OutOfMemory>
+    requires wide { IsSurfaceSide width }
+    requires high { IsSurfaceSide height }
+    requires prepared { Prepares file.now width height certificate.now }
+    requires accepted { IsAnswer file.now certificate.now accepted }
+    ensures image { IfOk result (λ canvas. Run file.now width height (white width height) (shown (image_of canvas))) }
+    ensures opens { Opens file.now }
 {
-    canvas.write_ppm(out)?;
-    match out.flush() {
-        Ok(()) => Ok(()),
-        Err(_) => Err(WriteFault),
+    let cleared = match check_prepared(alloc, file, certificate) {
+        Ok(cleared) => cleared,
+        Err(OutOfMemory) => return Err(OutOfMemory),
+    };
+    match play_within(alloc, &cleared, width, height) {
+        Ok(canvas) => Ok(canvas),
+        Err(OutOfMemory) => Err(OutOfMemory),
+    }
+}
+
+/// Checks a certificate that is accepted: for memory alone it is refused.
+fn check_prepared<'a>(
+    alloc: Global,
+    file: &'a [u8],
+    certificate: &'a [u8],
+) -> Result<Cleared<'a>, OutOfMemory>
+    requires accepted { IsAnswer file.now certificate.now accepted }
+    ensures opened { IfOk result (λ c. IsOpenedFrom file.now c.opened) }
+    ensures read { IfOk result (λ c. read_certificate certificate.now ≡ Ok (certificate_of c.certificate)) }
+{
+    answer_law();
+    match check(alloc, file, certificate) {
+        Ok(cleared) => Ok(cleared),
+        Err(refusal) => {
+            if refusal.fault == Fault::OutOfMemory {
+                return Err(OutOfMemory);
+            }
+            unreachable!()
+        }
+    }
+}
+
+/// Plays a cleared file on a white surface that isn't above the certificate's bound: for memory alone it is refused.
+fn play_within(
+    alloc: Global,
+    cleared: &Cleared<'_>,
+    width: u32,
+    height: u32,
+) -> Result<Canvas, OutOfMemory>
+    requires wide { IsSurfaceSide width }
+    requires high { IsSurfaceSide height }
+    requires within { IsWithinBound cleared.now.certificate width height }
+    ensures { IfOk result (λ canvas. Leaves cleared.now width height (white width height) (image_of canvas)) }
+{
+    match play_on_white(alloc, cleared, width, height) {
+        Ok(canvas) => Ok(canvas),
+        Err(fault) => {
+            if fault == Fault::OutOfMemory {
+                return Err(OutOfMemory);
+            }
+            unreachable!()
+        }
     }
 }

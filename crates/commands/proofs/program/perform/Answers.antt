@@ -1,26 +1,18 @@
--- A line is its file and its sides.
-use Rattle.std.proofs.Common.{◌≡◌, ℕ, List, Bor, refl}
-use Rattle.commands.specs.declared.asked.CommandLine.{CommandLine}
-use Rattle.commands.specs.declared.asked.CommandLine.TheVariants.{Show}
+-- What a task leaves of the bytes that were read is what its line leaves.
+use Rattle.std.proofs.Common.{rules}
+use Rattle.commands.proofs.LineLemmas.{err_of_task, err_unread, out_of_task, out_unread}
 use Rattle.commands.proofs.program.perform.Goals as goal
 
-record Parts (line : CommandLine) : Type 0 where
-  file : Bor (List ℕ)
-  width : ℕ
-  height : ℕ
-  is : line ≡ Show file width height
+pub returns-in-Ok-clause-written : goal.returns-in-Ok-clause-written
+returns-in-Ok-clause-written g c =
+    out_of_task c.args.line _ _ _ c.in-Ok.ensures.read _ _ _ c.run_task.result.end _ _ c.run_task.ensures.written c.run_task.ensures.told
 
-parts : (line : CommandLine) → Parts line
-parts (Show file width height) = record { file = file; width = width; height = height; is = refl }
+pub returns-in-Ok-clause-told : goal.returns-in-Ok-clause-told
+returns-in-Ok-clause-told g c =
+    err_of_task c.args.line _ _ _ c.in-Ok.ensures.read _ _ _ c.run_task.result.end c.run_task.ensures.told
 
-pub returns-clause-done : goal.returns-clause-done
-returns-clause-done g c = λ status. let is = (parts c.args.line).is in rw is (rw is at c.show.ensures.done status)
+pub returns-in-Err-clause-written : goal.returns-in-Err-clause-written
+returns-in-Err-clause-written g c = out_unread c.args.line _ c.in-Err.fault _ _ _ c.no_input.ensures.end (search rules)
 
-pub returns-clause-refused : goal.returns-clause-refused
-returns-clause-refused g c = λ status. let is = (parts c.args.line).is in rw is (rw is at c.show.ensures.refused status)
-
-pub returns-clause-failed : goal.returns-clause-failed
-returns-clause-failed g c = λ status. let is = (parts c.args.line).is in rw is (rw is at c.show.ensures.failed status)
-
-pub returns-clause-unread : goal.returns-clause-unread
-returns-clause-unread g c = let is = (parts c.args.line).is in rw is (rw is at c.show.ensures.unread)
+pub returns-in-Err-clause-told : goal.returns-in-Err-clause-told
+returns-in-Err-clause-told g c = err_unread c.args.line _ c.in-Err.fault _ _ _ _ c.no_input.ensures.end c.no_input.ensures.line

@@ -1,17 +1,9 @@
--- What holds of a line that the words ask for holds of some line.
+-- What the words leave is what some line leaves.
+use Rattle.commands.proofs.LineLemmas.{err_of_asked, out_of_asked}
 use Rattle.commands.proofs.program.run.Goals as goal
 
-pub returns-in-Ok-clause-done : goal.returns-in-Ok-clause-done
-returns-in-Ok-clause-done g c = λ status.
-    let asked = c.run_words.ensures.done status in
-    record { line = asked.line; sides = asked.sides; fact = asked.fact }
+pub returns-in-Ok-clause-written : goal.returns-in-Ok-clause-written
+returns-in-Ok-clause-written g c = out_of_asked _ _ c.run_words.result.end _ _ c.run_words.ensures.written
 
-pub returns-in-Ok-clause-refused : goal.returns-in-Ok-clause-refused
-returns-in-Ok-clause-refused g c = λ status.
-    let asked = c.run_words.ensures.refused status in
-    record { line = asked.line; sides = asked.sides; fact = asked.fact }
-
-pub returns-in-Ok-clause-failed : goal.returns-in-Ok-clause-failed
-returns-in-Ok-clause-failed g c = λ status.
-    let asked = c.run_words.ensures.failed status in
-    record { line = asked.line; sides = asked.sides; fact = asked.fact }
+pub returns-in-Ok-clause-told : goal.returns-in-Ok-clause-told
+returns-in-Ok-clause-told g c = err_of_asked _ _ c.run_words.result.end _ _ _ c.run_words.ensures.told

@@ -1,0 +1,59 @@
+//! Files and certificates, written out byte by byte.
+
+use std::alloc::{AllocError, Global};
+
+/// A placeable file with the box (0,0,4,4), a red pixel at (2,1), and an end.
+pub(crate) const DOT: &[u8] = b"\xd7\xcd\xc6\x9a\0\0\0\0\0\0\x04\0\x04\0\x60\0\0\0\0\0\x71\x57\
+    \x01\0\x09\0\0\x03\x13\0\0\0\0\0\x07\0\0\0\0\0\
+    \x07\0\0\0\x1f\x04\xff\0\0\0\x01\0\x02\0\x03\0\0\0\0\0";
+
+/// A placeable file with the box (0,0,4,4), the polygon (0,0), (4,0), (0,4), and an end.
+pub(crate) const TRI: &[u8] = b"\xd7\xcd\xc6\x9a\0\0\0\0\0\0\x04\0\x04\0\x60\0\0\0\0\0\x71\x57\
+    \x01\0\x09\0\0\x03\x16\0\0\0\0\0\x0a\0\0\0\0\0\
+    \x0a\0\0\0\x24\x03\x03\0\0\0\0\0\x04\0\0\0\0\0\x04\0\x03\0\0\0\0\0";
+
+/// Its certificate for surfaces up to 4 by 4: a fill and a stroke of 16 pixels each, three points, and the
+/// box (0,0,4,4).
+pub(crate) const TRI_CERT: &[u8] = b"MPC1\x04\0\0\0\x04\0\0\0\x20\0\0\0\0\0\0\0\
+    \0\0\0\0\0\0\0\0\x03\0\0\0\0\0\0\0\x01\0\0\0\
+    \0\0\0\0\0\0\0\0\0\0\0\0\x04\0\0\0\x04\0\0\0";
+
+/// An EMF file with bounds of one unit and no drawing.
+pub(crate) const NIL: &[u8] =
+    b"\x01\0\0\0\x58\0\0\0\0\0\0\0\0\0\0\0\xff\xff\xff\xff\xff\xff\xff\xff\
+    \0\0\0\0\0\0\0\0\0\0\0\0\0\0\0\0\x20EMF\0\0\x01\0\
+    \x6c\0\0\0\x02\0\0\0\x01\0\0\0\0\0\0\0\0\0\0\0\0\0\0\0\
+    \0\0\0\0\0\0\0\0\0\0\0\0\0\0\0\0\
+    \x0e\0\0\0\x14\0\0\0\0\0\0\0\x10\0\0\0\x14\0\0\0";
+
+/// A certificate for surfaces up to 2 by 3 that allows nothing.
+pub(crate) const NIL_CERT: &[u8] = b"MPC1\x02\0\0\0\x03\0\0\0\0\0\0\0\0\0\0\0\
+    \0\0\0\0\0\0\0\0\0\0\0\0\0\0\0\0\0\0\0\0";
+
+/// A plain file of 5 by 6 units whose size is wrong: its extent, two escapes, a dashed pen of width 3, an
+/// end, and a byte behind it.
+pub(crate) const NOTED: &[u8] = b"\x01\0\x09\0\0\x03\0\0\0\0\0\0\0\0\0\0\0\0\
+    \x05\0\0\0\x0c\x02\x06\0\x05\0\
+    \x05\0\0\0\x26\x06\x01\0\0\0\
+    \x05\0\0\0\x26\x06\x01\0\0\0\
+    \x08\0\0\0\xfa\x02\x01\0\x03\0\0\0\0\0\0\0\
+    \x03\0\0\0\0\0\0";
+
+/// A certificate for surfaces up to 10 by 20, which allows 9 writes, 2 saved states and 7 slots.
+pub(crate) const NOTED_CERT: &[u8] = b"MPC1\x0a\0\0\0\x14\0\0\0\x09\0\0\0\0\0\0\0\
+    \x02\0\0\0\x07\0\0\0\0\0\0\0\0\0\0\0\0\0\0\0";
+
+/// Bytes with other ones from a place on.
+pub(crate) fn changed(
+    alloc: Global,
+    bytes: &[u8],
+    place: usize,
+    others: &[u8],
+) -> Result<Vec<u8>, AllocError> {
+    let mut changed = Vec::new(alloc);
+    for (at, byte) in bytes.iter().enumerate() {
+        let other = at.checked_sub(place).and_then(|k| others.get(k));
+        changed.push(*other.unwrap_or(byte))?;
+    }
+    Ok(changed)
+}

@@ -1,0 +1,86 @@
+-- What a task leaves is what its line leaves, and that is what the words leave.
+use Rattle.std.proofs.Common.{◌≡◌, ℕ, List, Option}
+use Rattle.std.specs.Io.KnownBytes.{Keeps}
+use Rattle.clap.specs.Words.{Text}
+use Rattle.commands.specs.CommandLine.{IsAskedByWords}
+use Rattle.commands.specs.Ends.{TellsBy, WritesBy}
+use Rattle.commands.specs.Lines.{ErrBy, ErrOfSome, ErrOfWords, IsInput, LineWrites, OutBy, OutOfSome, OutOfWords, task_of}
+use Rattle.commands.specs.Faults.{end_of, fault_text}
+use Rattle.commands.specs.Report.{Reports, Told}
+use Rattle.commands.specs.Sides.{HasSides, file_of}
+use Rattle.commands.specs.declared.answer.CommandEnd.{CommandEnd}
+use Rattle.commands.specs.declared.answer.CommandEnd.TheVariants as end
+use Rattle.commands.specs.declared.asked.CommandLine.{CommandLine}
+use Rattle.commands.specs.declared.input.InputFault.{InputFault}
+use Rattle.commands.specs.declared.input.InputFault.TheVariants as fault
+use Rattle.commands.specs.declared.asked.CommandLine.TheVariants.{Check, Play, Prepare, Show}
+
+-- where memory was refused, a task has written nothing
+kept : (line : CommandLine) (file certificate : List ℕ) (old new : Option (List ℕ)) → LineWrites line (task_of line file certificate) end.OutOfMemory old new → Keeps old new
+kept (Show name width height) file certificate old new keeps = keeps
+kept (Prepare name width height output) file certificate old new keeps = keeps
+kept (Check name other) file certificate old new keeps = keeps
+kept (Play name other width height) file certificate old new keeps = keeps
+
+module _ (line : CommandLine) (input : Option (List ℕ)) (file certificate : List ℕ) (read : IsInput (file_of line) input file) (told : Told) (before after : Option (List ℕ)) where
+  pub out_of_task : (e : CommandEnd) (old new : Option (List ℕ)) → LineWrites line (task_of line file certificate) e old new → TellsBy e (task_of line file certificate) told before after → OutBy e line input old new
+  out_of_task end.Done old new writes tells = record { file = file; certificate = certificate; read = read; written = writes }
+  out_of_task end.Refused old new writes tells = record { file = file; certificate = certificate; read = read; written = writes }
+  out_of_task end.CannotWrite old new writes tells = record { file = file; certificate = certificate; read = read; written = writes }
+  out_of_task end.OutOfMemory old new writes tells = kept line file certificate old new writes
+  out_of_task end.CannotRead old new writes tells = absurd tells
+  out_of_task end.WrongUsage old new writes tells = absurd tells
+
+  pub err_of_task : (e : CommandEnd) → TellsBy e (task_of line file certificate) told before after → ErrBy e line input told before after
+  err_of_task end.Done tells = tells
+  err_of_task end.Refused tells = record { file = file; certificate = certificate; read = read; tells = tells }
+  err_of_task end.CannotWrite tells = tells
+  err_of_task end.OutOfMemory tells = tells
+  err_of_task end.CannotRead tells = absurd tells
+  err_of_task end.WrongUsage tells = absurd tells
+
+-- where an input was not read, a line leaves what is told of that
+pub out_unread : (line : CommandLine) (input : Option (List ℕ)) (f : InputFault) (e : CommandEnd) (old new : Option (List ℕ)) → e ≡ end_of f → Keeps old new → OutBy e line input old new
+out_unread line input fault.CannotRead e old new is keeps = rw is keeps
+out_unread line input fault.OutOfMemory e old new is keeps = rw is keeps
+
+pub err_unread : (line : CommandLine) (input : Option (List ℕ)) (f : InputFault) (e : CommandEnd) (told : Told) (old new : Option (List ℕ)) → e ≡ end_of f → Reports told old new (fault_text f) → ErrBy e line input told old new
+err_unread line input fault.CannotRead e told old new is reports = rw is reports
+err_unread line input fault.OutOfMemory e told old new is reports = rw is reports
+
+module _ (words : List Text) (line : CommandLine) (input : Option (List ℕ)) (sides : HasSides line) (asked : IsAskedByWords words line) where
+  pub out_of_line : (e : CommandEnd) (old new : Option (List ℕ)) → OutBy e line input old new → OutOfWords e words input old new
+  out_of_line end.Done old new fact = record { line = line; sides = sides; asked = asked; fact = fact }
+  out_of_line end.Refused old new fact = record { line = line; sides = sides; asked = asked; fact = fact }
+  out_of_line end.CannotWrite old new fact = record { line = line; sides = sides; asked = asked; fact = fact }
+  out_of_line end.CannotRead old new fact = record { line = line; sides = sides; asked = asked; fact = fact }
+  out_of_line end.OutOfMemory old new fact = fact
+  out_of_line end.WrongUsage old new fact = tt
+
+  pub err_of_line : (e : CommandEnd) (told : Told) (old new : Option (List ℕ)) → ErrBy e line input told old new → ErrOfWords e words input told old new
+  err_of_line end.Done told old new fact = record { line = line; sides = sides; asked = asked; fact = fact }
+  err_of_line end.Refused told old new fact = record { line = line; sides = sides; asked = asked; fact = fact }
+  err_of_line end.CannotWrite told old new fact = record { line = line; sides = sides; asked = asked; fact = fact }
+  err_of_line end.CannotRead told old new fact = record { line = line; sides = sides; asked = asked; fact = fact }
+  err_of_line end.OutOfMemory told old new fact = fact
+  err_of_line end.WrongUsage told old new fact = tt
+
+  pub no_usage : (old new : Option (List ℕ)) → OutBy end.WrongUsage line input old new → ⊥
+  no_usage old new fact = fact
+
+-- and what words leave is what some line leaves
+pub out_of_asked : (words : List Text) (input : Option (List ℕ)) (e : CommandEnd) (old new : Option (List ℕ)) → OutOfWords e words input old new → OutOfSome e input old new
+out_of_asked words input end.Done old new asked = record { line = asked.line; sides = asked.sides; fact = asked.fact }
+out_of_asked words input end.Refused old new asked = record { line = asked.line; sides = asked.sides; fact = asked.fact }
+out_of_asked words input end.CannotWrite old new asked = record { line = asked.line; sides = asked.sides; fact = asked.fact }
+out_of_asked words input end.CannotRead old new asked = record { line = asked.line; sides = asked.sides; fact = asked.fact }
+out_of_asked words input end.OutOfMemory old new asked = asked
+out_of_asked words input end.WrongUsage old new asked = asked
+
+pub err_of_asked : (words : List Text) (input : Option (List ℕ)) (e : CommandEnd) (told : Told) (old new : Option (List ℕ)) → ErrOfWords e words input told old new → ErrOfSome e input told old new
+err_of_asked words input end.Done told old new asked = record { line = asked.line; sides = asked.sides; fact = asked.fact }
+err_of_asked words input end.Refused told old new asked = record { line = asked.line; sides = asked.sides; fact = asked.fact }
+err_of_asked words input end.CannotWrite told old new asked = record { line = asked.line; sides = asked.sides; fact = asked.fact }
+err_of_asked words input end.CannotRead told old new asked = record { line = asked.line; sides = asked.sides; fact = asked.fact }
+err_of_asked words input end.OutOfMemory told old new asked = asked
+err_of_asked words input end.WrongUsage told old new asked = asked

@@ -1,0 +1,157 @@
+-- A report has no numbers but whole ones, and as many drawings as there are entries.
+use Rattle.std.proofs.Common.{◌≡◌, ◌∙◌, ◌⊎◌, inl, inr, ap, subst, sym, Result, Ok, Bool, true, false, ◌||◌, cond, ℕ, List, [], ◌∷◌, length, Option, Some, None, Ordering, Less, Equal, Greater, nat_cmp, codes, refl}
+use Rattle.std.specs.Prelude.{◌==◌}
+use Rattle.std.specs.Cmp.Lexicographic.{slice_cmp}
+use Rattle.std.specs.Ordering.{match_ordering}
+use Rattle.std.proofs.lemmas.Bool.{or_parts}
+use Rattle.serde_json.specs.Data.{Data, Members, boolean, member, no_members, put, string}
+use Rattle.serde_json.specs.Written.{has_float, members_have_float}
+use Rattle.draw_ops.specs.NoteCounts.{note_count}
+use Rattle.draw_ops.specs.NoteTable.{note_row_of}
+use Rattle.draw_ops.specs.declared.fault.Fault.{Fault}
+use Rattle.draw_ops.specs.declared.note.Note.{Note}
+use Rattle.draw_ops.specs.declared.fault.Fault.TheVariants.{OutOfMemory}
+use Rattle.dc_stack.specs.State.{start_of}
+use Rattle.meta_headers.specs.File.{IsOpenedFrom}
+use Rattle.meta_headers.specs.Headers.{OpenedValue}
+use Rattle.meta_headers.specs.OpenedOf.{opened_of}
+use Rattle.meta_headers.specs.Opening.{HasContentOf, opened, record_bytes}
+use Rattle.preflight_cert.specs.After.{file_notes}
+use Rattle.preflight_cert.specs.Answer.{AnswerLaws, AnswersOpened, AnswersRead, CountsRecords, Fits, IsAnswer, RecordsAnswer, accepted, refuses}
+use Rattle.preflight_cert.specs.CertificateOf.{certificate_of}
+use Rattle.preflight_cert.specs.CertificateReading.{CertificateValue, read_certificate}
+use Rattle.preflight_cert.specs.Checks.{IsWantOfMemory}
+use Rattle.preflight_cert.specs.EntriesOf.{entries_of}
+use Rattle.preflight_cert.specs.Drawings.{NumberedDrawing, drawings_of}
+use Rattle.preflight_cert.specs.Entries.{AreCovered}
+use Rattle.preflight_cert.specs.declared.entry.Entry.{Entry}
+use Rattle.draw_ops.specs.Content.{Content}
+use Rattle.draw_ops.specs.Fault.{record_kind_of}
+use Rattle.draw_ops.specs.FaultTable.{fault_row}
+use Rattle.preflight_cert.specs.declared.cleared.Cleared.{Cleared}
+use Rattle.preflight_cert.specs.declared.refusal.Refusal.{Refusal}
+use Rattle.commands.specs.CheckReport.{ReportsAccepted, ReportsRefused, accepted_report, all_kinds, format_name, needs_data, noted_kinds, notes_data, refused_report, report_text, sides, whole, whole_if, with_kind}
+use Rattle.commands.specs.ClearedFiles.{report_of}
+
+both_false : (a b : Bool) → a ≡ false → b ≡ false → (a || b) ≡ false
+both_false a b e f = rw e f
+
+put_whole : (k : List ℕ) (d : Data) (ms : Members) → has_float d ≡ false → members_have_float ms ≡ false → members_have_float (put k d ms) ≡ false
+put_whole k d no_members one others = both_false _ _ one refl
+put_whole k d (member l e ms) one others =
+    let parts = or_parts (has_float e) (members_have_float ms) others in
+    go (slice_cmp nat_cmp k l) parts.0 parts.1 (put_whole k d ms one parts.1)
+  where
+    go : (o : Ordering) → has_float e ≡ false → members_have_float ms ≡ false → members_have_float (put k d ms) ≡ false
+        → members_have_float (match_ordering o (member k d (member l e ms)) (member l d ms) (member l e (put k d ms))) ≡ false
+    go Less first rest later = both_false _ _ one (both_false _ _ first rest)
+    go Equal first rest later = both_false _ _ one rest
+    go Greater first rest later = both_false _ _ first later
+
+kind_whole : (none : Bool) (k : List ℕ) (n : ℕ) (ms : Members) → members_have_float ms ≡ false → members_have_float (cond none ms (put k (whole n) ms)) ≡ false
+kind_whole true k n ms others = others
+kind_whole false k n ms others = put_whole k (whole n) ms refl others
+
+kinds_whole : (kinds : List Note) (counts : List ℕ) → members_have_float (noted_kinds kinds counts) ≡ false
+kinds_whole [] counts = refl
+kinds_whole (kind ∷ kinds) counts =
+    kind_whole (note_count counts kind == 0) (note_row_of kind).name (note_count counts kind) (noted_kinds kinds counts) (kinds_whole kinds counts)
+
+accepted_whole : (o : OpenedValue) (c : CertificateValue) (records drawings : ℕ) (notes : List ℕ) → has_float (accepted_report o c records drawings notes) ≡ false
+accepted_whole o c records drawings notes =
+    let m0 = put (codes "writes") (whole c.writes) no_members in
+    let e0 : members_have_float m0 ≡ false = put_whole (codes "writes") (whole c.writes) no_members refl refl in
+    let m1 = put (codes "records") (whole records) m0 in
+    let e1 : members_have_float m1 ≡ false = put_whole (codes "records") (whole records) m0 refl e0 in
+    let m2 = put (codes "notes") (notes_data notes) m1 in
+    let e2 : members_have_float m2 ≡ false = put_whole (codes "notes") (notes_data notes) m1 (kinds_whole all_kinds notes) e1 in
+    let m3 = put (codes "needs") (needs_data c.needs) m2 in
+    let e3 : members_have_float m3 ≡ false = put_whole (codes "needs") (needs_data c.needs) m2 refl e2 in
+    let m4 = put (codes "max") (sides c.max_width c.max_height) m3 in
+    let e4 : members_have_float m4 ≡ false = put_whole (codes "max") (sides c.max_width c.max_height) m3 refl e3 in
+    let m5 = put (codes "frame") (sides o.frame_width o.frame_height) m4 in
+    let e5 : members_have_float m5 ≡ false = put_whole (codes "frame") (sides o.frame_width o.frame_height) m4 refl e4 in
+    let m6 = put (codes "format") (string (format_name o.format)) m5 in
+    let e6 : members_have_float m6 ≡ false = put_whole (codes "format") (string (format_name o.format)) m5 refl e5 in
+    let m7 = put (codes "drawings") (whole drawings) m6 in
+    let e7 : members_have_float m7 ≡ false = put_whole (codes "drawings") (whole drawings) m6 refl e6 in
+    let m8 = put (codes "accepted") (boolean true) m7 in
+    let e8 : members_have_float m8 ≡ false = put_whole (codes "accepted") (boolean true) m7 refl e7 in
+    e8
+
+pub report_whole : (cleared : Cleared) → has_float (report_of cleared) ≡ false
+report_whole cleared =
+    accepted_whole (opened_of cleared.opened) (certificate_of cleared.certificate) cleared.records (length (entries_of cleared.certificate.entries)) cleared.notes.counts
+
+if_whole : (n : Option ℕ) → has_float (whole_if n) ≡ false
+if_whole None = refl
+if_whole (Some n) = refl
+
+pub refused_whole : (number : Option ℕ) (fault : Fault) → has_float (refused_report number fault) ≡ false
+refused_whole number fault =
+    let m0 = put (codes "record") (whole_if number) no_members in
+    let e0 : members_have_float m0 ≡ false = put_whole (codes "record") (whole_if number) no_members (if_whole number) refl in
+    let m1 = put (codes "number") (whole_if (record_kind_of fault)) m0 in
+    let e1 : members_have_float m1 ≡ false = put_whole (codes "number") (whole_if (record_kind_of fault)) m0 (if_whole (record_kind_of fault)) e0 in
+    let m2 = put (codes "fault") (string (fault_row fault).name) m1 in
+    let e2 : members_have_float m2 ≡ false = put_whole (codes "fault") (string (fault_row fault).name) m1 refl e1 in
+    let m3 = put (codes "code") (whole (fault_row fault).code) m2 in
+    let e3 : members_have_float m3 ≡ false = put_whole (codes "code") (whole (fault_row fault).code) m2 refl e2 in
+    let m4 = put (codes "accepted") (boolean false) m3 in
+    let e4 : members_have_float m4 ≡ false = put_whole (codes "accepted") (boolean false) m3 refl e3 in
+    e4
+
+-- there is an entry for each drawing
+pub as_many : (drawings : List NumberedDrawing) (entries : List Entry) → AreCovered drawings entries → length entries ≡ length drawings
+as_many [] [] covered = refl
+as_many [] (entry ∷ entries) covered = absurd covered
+as_many (one ∷ later) [] covered = absurd covered
+as_many (one ∷ later) (entry ∷ entries) covered = let e = as_many later entries covered.1 in rw e refl
+
+-- the answer to what was checked is one of its records
+answered : (file bytes : List ℕ) (cleared : Cleared) → IsAnswer file bytes accepted → IsOpenedFrom file cleared.opened
+    → read_certificate bytes ≡ Ok (certificate_of cleared.certificate)
+    → RecordsAnswer (opened_of cleared.opened) (record_bytes cleared.opened.format file) (certificate_of cleared.certificate) accepted
+answered file bytes cleared accepts from read =
+    let opens : AnswersRead (read_certificate bytes) (opened_of cleared.opened) (record_bytes cleared.opened.format file) accepted =
+    subst (λ (r : Result OpenedValue Fault). AnswersOpened r file bytes accepted) from.opens accepts in
+    subst (λ (r : Result CertificateValue Fault). AnswersRead r (opened_of cleared.opened) (record_bytes cleared.opened.format file) accepted) read opens
+
+same_report : (cleared : Cleared) (content : Content) → HasContentOf cleared.opened.format cleared.opened.records.now content
+    → CountsRecords (opened_of cleared.opened) cleared.opened.records.now cleared.records cleared.notes.counts
+    → Fits (certificate_of cleared.certificate) (opened_of cleared.opened) content
+    → report_of cleared
+    ≡ accepted_report (opened_of cleared.opened) (certificate_of cleared.certificate) (length content.steps)
+    (length (drawings_of content.steps (start_of (opened_of cleared.opened)))) (file_notes content (opened_of cleared.opened))
+same_report cleared content has counts fits =
+    let records = counts.all content has in
+    let drawings = as_many _ _ fits.covered in
+    let notes = counts.notes content has in
+    rw (records, drawings, notes) refl
+
+-- what was checked, and the report of it, in the words of the file and the certificate
+pub reports : (file bytes : List ℕ) (cleared : Cleared) (text : List ℕ) → AnswerLaws → IsAnswer file bytes accepted → IsOpenedFrom file cleared.opened
+    → read_certificate bytes ≡ Ok (certificate_of cleared.certificate)
+    → CountsRecords (opened_of cleared.opened) cleared.opened.records.now cleared.records cleared.notes.counts
+    → text ≡ report_text (report_of cleared) → ReportsAccepted file bytes text
+reports file bytes cleared text laws accepts from read counts is =
+    let answer = answered file bytes cleared accepts from read in
+    let has : HasContentOf cleared.opened.format cleared.opened.records.now answer.content =
+    subst (λ (records : List ℕ). HasContentOf cleared.opened.format records answer.content) (sym from.records) answer.of_records in
+    let fits : Fits (certificate_of cleared.certificate) (opened_of cleared.opened) answer.content =
+    (laws.fits answer.content (opened_of cleared.opened) (certificate_of cleared.certificate)).0 answer.answers in
+    record {
+      accepted = accepts;
+      headers = opened_of cleared.opened;
+      content = answer.content;
+      of_file = record { opens = from.opens; records = answer.of_records };
+      value = certificate_of cleared.certificate;
+      read = read;
+      is_text = is ∙ ap report_text (same_report cleared answer.content has counts fits);
+    }
+
+-- a refusal that isn't for memory
+pub refusal_reports : (file bytes : List ℕ) (r : Refusal) (text : List ℕ) → (IsAnswer file bytes (refuses r.number r.fault) ⊎ IsWantOfMemory r)
+    → (r.fault ≡ OutOfMemory → ⊥) → text ≡ report_text (refused_report r.number r.fault) → ReportsRefused file bytes text
+refusal_reports file bytes r text (inl refused) other is = record { in_record = r.number; fault = r.fault; refused = refused; is_text = is }
+refusal_reports file bytes r text (inr want) other is = absurd (other want.fault)

@@ -1,0 +1,8 @@
+-- What was checked is reported in the words of the file and the certificate.
+use Rattle.std.proofs.Common.{rules}
+use Rattle.commands.proofs.ReportLemmas.{refusal_reports, reports}
+use Rattle.commands.proofs.check.report_check.Goals as goal
+
+pub returns-in-Ok-accepted_report : goal.returns-in-Ok-accepted_report
+returns-in-Ok-accepted_report c =
+    reports _ _ c.in-Ok.cleared _ c.answer_law.ensures c.in-Ok.ensures.accepted c.in-Ok.ensures.opened c.in-Ok.ensures.read c.in-Ok.ensures.counts c.in-Ok-accepted_report.ensures

@@ -1,0 +1,111 @@
+-- The report of a check, as JSON.
+use Rattle.std.specs.Prelude.{◌≡◌, ℕ, ◌==◌, if◌then◌else◌, List, [], ◌∷◌, ◌++◌, length, Option, Some, None, Ok, codes, true, false}
+use Rattle.serde_json.specs.Data.{Data, Items, Members, array, boolean, item, member, no_items, no_members, null, number, object, put, string, unsigned}
+use Rattle.serde_json.specs.Written.{compact_text}
+use Rattle.draw_ops.specs.Content.{Content}
+use Rattle.draw_ops.specs.Fault.{record_kind_of}
+use Rattle.draw_ops.specs.FaultTable.{fault_row}
+use Rattle.draw_ops.specs.NoteCounts.{note_count}
+use Rattle.draw_ops.specs.NoteTable.{note_row_of}
+use Rattle.draw_ops.specs.declared.fault.Fault.{Fault}
+use Rattle.draw_ops.specs.declared.note.Note.{Note}
+use Rattle.draw_ops.specs.declared.note.Note.TheVariants.{AfterEnd, DashedPen, EmfPlus, Isotropic, PlaceableChecksum, PlaceableFields, SizeField, Skipped, WidePen}
+use Rattle.dc_stack.specs.State.{start_of}
+use Rattle.dc_stack.specs.declared.needs.Needs.{Needs}
+use Rattle.meta_headers.specs.File.{IsFile}
+use Rattle.meta_headers.specs.Headers.{OpenedValue}
+use Rattle.meta_headers.specs.declared.opened.FileFormat.{FileFormat}
+use Rattle.meta_headers.specs.declared.opened.FileFormat.TheVariants.{Emf, Placeable, Plain}
+use Rattle.preflight_cert.specs.After.{file_notes}
+use Rattle.preflight_cert.specs.Answer.{IsAnswer, accepted, refuses}
+use Rattle.preflight_cert.specs.CertificateReading.{CertificateValue, read_certificate}
+use Rattle.preflight_cert.specs.Drawings.{drawings_of}
+
+-- a number
+abbrev pub whole : ℕ → Data
+whole n = number (unsigned n)
+
+-- a number, or null where there is none
+abbrev pub whole_if : Option ℕ → Data
+whole_if None = null
+whole_if (Some n) = whole n
+
+-- a width and a height
+abbrev pub sides : ℕ → ℕ → Data
+sides width height = array (item (whole width) (item (whole height) no_items))
+
+-- the name of a format
+abbrev pub format_name : FileFormat → List ℕ
+format_name Placeable = codes "placeable"
+format_name Plain = codes "wmf"
+format_name Emf = codes "emf"
+
+-- what is needed, by name
+abbrev pub needs_data : Needs → Data
+needs_data needs =
+    object (member (codes "depth") (whole needs.depth) (member (codes "edges") (whole needs.edges)
+    (member (codes "pieces") (whole needs.pieces) (member (codes "slots") (whole needs.slots) no_members))))
+
+-- the count of a kind put with its name among others, where it was noted
+abbrev pub with_kind : Note → List ℕ → Members → Members
+with_kind kind counts others =
+    if note_count counts kind == 0 then others else put (note_row_of kind).name (whole (note_count counts kind)) others
+
+-- the counts of some kinds that were noted, by their names
+abbrev pub noted_kinds : List Note → List ℕ → Members
+noted_kinds [] counts = no_members
+noted_kinds (kind ∷ kinds) counts = with_kind kind counts (noted_kinds kinds counts)
+
+-- all kinds of notes
+abbrev pub all_kinds : List Note
+all_kinds =
+    PlaceableChecksum ∷ PlaceableFields ∷ SizeField ∷ AfterEnd ∷ DashedPen ∷ WidePen ∷ Isotropic ∷ EmfPlus ∷ Skipped ∷ []
+
+-- the kinds that were noted, each with its count
+abbrev pub notes_data : List ℕ → Data
+notes_data counts = object (noted_kinds all_kinds counts)
+
+-- The report of a certificate that is accepted for a file, of whose records and drawings there are so many: its members by their names.
+abbrev pub accepted_report : OpenedValue → CertificateValue → ℕ → ℕ → List ℕ → Data
+accepted_report o c records drawings notes =
+    object (put (codes "accepted") (boolean true)
+    (put (codes "drawings") (whole drawings)
+    (put (codes "format") (string (format_name o.format))
+    (put (codes "frame") (sides o.frame_width o.frame_height)
+    (put (codes "max") (sides c.max_width c.max_height)
+    (put (codes "needs") (needs_data c.needs)
+    (put (codes "notes") (notes_data notes)
+    (put (codes "records") (whole records)
+    (put (codes "writes") (whole c.writes) no_members)))))))))
+
+-- The report of a refusal: the fault's code and name, the kind of record that it speaks of, and the number of the record that it lies in.
+abbrev pub refused_report : Option ℕ → Fault → Data
+refused_report record_number fault =
+    object (put (codes "accepted") (boolean false)
+    (put (codes "code") (whole (fault_row fault).code)
+    (put (codes "fault") (string (fault_row fault).name)
+    (put (codes "number") (whole_if (record_kind_of fault))
+    (put (codes "record") (whole_if record_number) no_members)))))
+
+-- the text of a report: compact JSON, and a line feed
+abbrev pub report_text : Data → List ℕ
+report_text report = compact_text report ++ codes "\n"
+
+-- the certificate is accepted for the file, and the text is the report of that
+pub record ReportsAccepted (file certificate text : List ℕ) : Type 0 where
+  pub accepted : IsAnswer file certificate accepted
+  pub headers : OpenedValue
+  pub content : Content
+  pub of_file : IsFile file headers content
+  pub value : CertificateValue
+  pub read : read_certificate certificate ≡ Ok value
+  pub is_text :
+      text
+      ≡ report_text (accepted_report headers value (length content.steps) (length (drawings_of content.steps (start_of headers))) (file_notes content headers))
+
+-- the file and the certificate are refused, and the text is the report of that
+pub record ReportsRefused (file certificate text : List ℕ) : Type 0 where
+  pub in_record : Option ℕ
+  pub fault : Fault
+  pub refused : IsAnswer file certificate (refuses in_record fault)
+  pub is_text : text ≡ report_text (refused_report in_record fault)

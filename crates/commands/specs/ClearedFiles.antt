@@ -1,0 +1,38 @@
+-- What a file and a certificate that were checked tell, and what is played of them.
+use Rattle.std.specs.Prelude.{◌≡◌, ◌≤◌, ◌<◌, ◌⊎◌, ℕ, List, length}
+use Rattle.serde_json.specs.Data.{Data}
+use Rattle.draw_ops.specs.declared.fault.Fault.{Fault}
+use Rattle.draw_ops.specs.declared.fault.Fault.TheVariants.{OutOfMemory, SurfaceTooLarge}
+use Rattle.mapping.specs.Image.{Image}
+use Rattle.meta_headers.specs.File.{IsOpenedFrom}
+use Rattle.meta_headers.specs.OpenedOf.{opened_of}
+use Rattle.preflight_cert.specs.CertificateOf.{certificate_of}
+use Rattle.preflight_cert.specs.EntriesOf.{entries_of}
+use Rattle.preflight_cert.specs.Run.{Run, shown}
+use Rattle.preflight_cert.specs.declared.certificate.Certificate.{Certificate}
+use Rattle.preflight_cert.specs.declared.cleared.Cleared.{Cleared}
+use Rattle.commands.specs.CheckReport.{accepted_report}
+
+-- the report of what was checked
+abbrev pub report_of : Cleared → Data
+report_of cleared =
+    accepted_report (opened_of cleared.opened) (certificate_of cleared.certificate) cleared.records
+    (length (entries_of cleared.certificate.entries)) cleared.notes.counts
+
+-- no side is above the certificate's bound
+pub record IsWithinBound (c : Certificate) (width height : ℕ) : Type 0 where
+  pub wide : width ≤ c.max_width
+  pub high : height ≤ c.max_height
+
+-- at these sides, the run of the file that was opened leaves one image of another
+abbrev pub Leaves : Cleared → ℕ → ℕ → Image → Image → Type 0
+Leaves cleared width height start image = (file : List ℕ) → IsOpenedFrom file cleared.opened → Run file width height start (shown image)
+
+-- a side is above the certificate's bound, and that is the fault
+pub record IsAboveBound (c : Certificate) (width height : ℕ) (fault : Fault) : Type 0 where
+  pub larger : c.max_width < width ⊎ c.max_height < height
+  pub is : fault ≡ SurfaceTooLarge
+
+-- the fault for which a surface isn't played on
+abbrev pub RefusesSurface : Certificate → ℕ → ℕ → Fault → Type 0
+RefusesSurface c width height fault = IsAboveBound c width height fault ⊎ fault ≡ OutOfMemory

@@ -1,0 +1,52 @@
+-- The images that commands write, and the surfaces that they refuse.
+use Rattle.std.specs.Prelude.{◌≡◌, ◌≤◌, ◌<◌, ◌⊎◌, ℕ, List, Option, None, Ok}
+use Rattle.draw_ops.specs.declared.fault.Fault.{Fault}
+use Rattle.draw_ops.specs.declared.fault.Fault.TheVariants.{SurfaceTooLarge}
+use Rattle.mapping.specs.Image.{Image}
+use Rattle.canvas.specs.Ppm.{ppm_text}
+use Rattle.preflight_cert.specs.Answer.{IsAnswer, accepted, refuses}
+use Rattle.preflight_cert.specs.CertificateReading.{CertificateValue, read_certificate}
+use Rattle.preflight_cert.specs.Run.{Run, shown, white}
+
+-- the text is the P6 text of the image with which the run of the file over another image ends
+pub record IsRunText (file : List ℕ) (width height : ℕ) (start : Image) (text : List ℕ) : Type 0 where
+  pub image : Image
+  pub run : Run file width height start (shown image)
+  pub is_text : text ≡ ppm_text image
+
+-- the bytes are a certificate for surfaces of these sides
+pub record Allows (certificate : List ℕ) (width height : ℕ) : Type 0 where
+  pub value : CertificateValue
+  pub read : read_certificate certificate ≡ Ok value
+  pub wide : width ≤ value.max_width
+  pub high : height ≤ value.max_height
+
+-- the bytes are a certificate for smaller surfaces
+pub record Excludes (certificate : List ℕ) (width height : ℕ) : Type 0 where
+  pub value : CertificateValue
+  pub read : read_certificate certificate ≡ Ok value
+  pub larger : value.max_width < width ⊎ value.max_height < height
+
+-- The certificate is accepted for the file and allows the surface, and the file's run leaves this image of another.
+pub record IsPlayed (file certificate : List ℕ) (width height : ℕ) (start image : Image) : Type 0 where
+  pub accepted : IsAnswer file certificate accepted
+  pub allowed : Allows certificate width height
+  pub run : Run file width height start (shown image)
+
+-- the text is the P6 text of that image
+pub record IsPlayedText (file certificate : List ℕ) (width height : ℕ) (start : Image) (text : List ℕ) : Type 0 where
+  pub image : Image
+  pub played : IsPlayed file certificate width height start image
+  pub is_text : text ≡ ppm_text image
+
+-- the certificate is accepted for the file, and the surface is above its bound
+pub record IsTooLarge (file certificate : List ℕ) (width height : ℕ) (number : Option ℕ) (fault : Fault) : Type 0 where
+  pub accepted : IsAnswer file certificate accepted
+  pub excluded : Excludes certificate width height
+  pub in_none : number ≡ None
+  pub is_fault : fault ≡ SurfaceTooLarge
+
+-- The check refuses, or else the surface is above the certificate's bound.
+abbrev pub RefusesPlay : List ℕ → List ℕ → ℕ → ℕ → Option ℕ → Fault → Type 0
+RefusesPlay file certificate width height number fault =
+    IsAnswer file certificate (refuses number fault) ⊎ IsTooLarge file certificate width height number fault

@@ -1,0 +1,125 @@
+-- What a command line's command leaves on its streams.
+use Rattle.std.specs.Prelude.{◌≡◌, ℕ, List, Option, None, IfSome, codes, String, map, string_bytes, ⊤}
+use Rattle.std.specs.Io.KnownBytes.{Keeps}
+use Rattle.clap.specs.Words.{Text}
+use Rattle.std.specs.declared.alloc.Global.{Global}
+use Rattle.commands.specs.CommandLine.{HoldsOfAsked}
+use Rattle.commands.specs.Ends.{TellsBy, WritesBy}
+use Rattle.commands.specs.Report.{Reports, Told}
+use Rattle.commands.specs.Sides.{HoldsOfSome, file_of}
+use Rattle.commands.specs.Tasks.{Task, check, play, prepare, show}
+use Rattle.commands.specs.declared.answer.Answer.{Answer}
+use Rattle.commands.specs.declared.answer.CommandEnd.{CommandEnd}
+use Rattle.commands.specs.declared.answer.CommandEnd.TheVariants as end
+use Rattle.commands.specs.declared.asked.CommandLine.{CommandLine}
+use Rattle.commands.specs.declared.asked.CommandLine.TheVariants.{Check, Play, Prepare, Show}
+use Rattle.commands.specs.declared.inputs.Inputs.{Inputs}
+
+-- the word that names standard input in a file's place
+abbrev pub standard_input : List ℕ
+standard_input = codes "stdin"
+
+-- the bytes are all of standard input, where its word is the name and they are known; those of a named file may be any
+abbrev pub IsInput : List ℕ → Option (List ℕ) → List ℕ → Type 0
+IsInput name input bytes = name ≡ standard_input → IfSome input (λ all. bytes ≡ all)
+
+-- the task that a line asks for, where its file and its certificate, if it names one, have these bytes
+abbrev pub task_of : CommandLine → List ℕ → List ℕ → Task
+task_of (Show name width height) file certificate = show file width height
+task_of (Prepare name width height output) file certificate = prepare file width height
+task_of (Check name other) file certificate = check file certificate
+task_of (Play name other width height) file certificate = play file certificate width height
+
+-- what a line's task leaves on standard output: what it has written, but of a certificate that is prepared nothing, since a file gets it
+abbrev pub LineWrites : CommandLine → Task → CommandEnd → Option (List ℕ) → Option (List ℕ) → Type 0
+LineWrites (Prepare name width height output) task end old new = Keeps old new
+LineWrites line task end old new = WritesBy end task old new
+
+-- the task of a line has written this to standard output, of whatever bytes it read
+pub record LeavesOut (line : CommandLine) (input : Option (List ℕ)) (end : CommandEnd) (old new : Option (List ℕ)) : Type 0 where
+  pub file : List ℕ
+  pub certificate : List ℕ
+  pub read : IsInput (file_of line) input file
+  pub written : LineWrites line (task_of line file certificate) end old new
+
+-- and told this on standard error
+pub record LeavesErr (line : CommandLine) (input : Option (List ℕ)) (end : CommandEnd) (told : Told) (old new : Option (List ℕ)) : Type 0 where
+  pub file : List ℕ
+  pub certificate : List ℕ
+  pub read : IsInput (file_of line) input file
+  pub tells : TellsBy end (task_of line file certificate) told old new
+
+-- What a line has written to standard output, by how it ends: nothing where an input could not be read, or memory was refused.
+abbrev pub OutBy : CommandEnd → CommandLine → Option (List ℕ) → Option (List ℕ) → Option (List ℕ) → Type 0
+OutBy end.Done line input old new = LeavesOut line input end.Done old new
+OutBy end.Refused line input old new = LeavesOut line input end.Refused old new
+OutBy end.CannotWrite line input old new = LeavesOut line input end.CannotWrite old new
+OutBy end.CannotRead line input old new = Keeps old new
+OutBy end.OutOfMemory line input old new = Keeps old new
+OutBy end.WrongUsage line input old new = ⊥
+
+-- What it has told on standard error.
+abbrev pub ErrBy : CommandEnd → CommandLine → Option (List ℕ) → Told → Option (List ℕ) → Option (List ℕ) → Type 0
+ErrBy end.Done line input told old new = Keeps old new
+ErrBy end.Refused line input told old new = LeavesErr line input end.Refused told old new
+ErrBy end.CannotWrite line input told old new = Reports told old new (codes "cannot write")
+ErrBy end.CannotRead line input told old new = Reports told old new (codes "cannot read")
+ErrBy end.OutOfMemory line input told old new = Reports told old new (codes "OutOfMemory")
+ErrBy end.WrongUsage line input told old new = ⊥
+
+-- What the program has written to standard output for its words: where they are wrong usage anything, and else by a line that they ask for.
+abbrev pub OutOfWords : CommandEnd → List Text → Option (List ℕ) → Option (List ℕ) → Option (List ℕ) → Type 0
+OutOfWords end.WrongUsage words input old new = ⊤
+OutOfWords end.OutOfMemory words input old new = Keeps old new
+OutOfWords end words input old new = HoldsOfAsked words (λ line. OutBy end line input old new)
+
+-- What it has told on standard error for its words.
+abbrev pub ErrOfWords : CommandEnd → List Text → Option (List ℕ) → Told → Option (List ℕ) → Option (List ℕ) → Type 0
+ErrOfWords end.WrongUsage words input told old new = ⊤
+ErrOfWords end.OutOfMemory words input told old new = Reports told old new (codes "OutOfMemory")
+ErrOfWords end words input told old new = HoldsOfAsked words (λ line. ErrBy end line input told old new)
+
+-- the same, by some line
+abbrev pub OutOfSome : CommandEnd → Option (List ℕ) → Option (List ℕ) → Option (List ℕ) → Type 0
+OutOfSome end.WrongUsage input old new = ⊤
+OutOfSome end.OutOfMemory input old new = Keeps old new
+OutOfSome end input old new = HoldsOfSome (λ line. OutBy end line input old new)
+
+abbrev pub ErrOfSome : CommandEnd → Option (List ℕ) → Told → Option (List ℕ) → Option (List ℕ) → Type 0
+ErrOfSome end.WrongUsage input told old new = ⊤
+ErrOfSome end.OutOfMemory input told old new = Reports told old new (codes "OutOfMemory")
+ErrOfSome end input told old new = HoldsOfSome (λ line. ErrBy end line input told old new)
+
+module _ {W : Type 0} where
+  -- what a task, a line, words or some words have written to a writer that holds these bytes
+  abbrev pub TaskWrites : CommandLine → Inputs → Answer → (W → Option (List ℕ)) → W → W → Type 0
+  TaskWrites line inputs answer contents old new =
+      LineWrites line (task_of line inputs.file.items inputs.certificate.items) answer.end (contents old) (contents new)
+
+  abbrev pub WritesLine : CommandLine → Option (List ℕ) → Answer → (W → Option (List ℕ)) → W → W → Type 0
+  WritesLine line input answer contents old new = OutBy answer.end line input (contents old) (contents new)
+
+  abbrev pub WritesAsked : List (String Global) → Option (List ℕ) → Answer → (W → Option (List ℕ)) → W → W → Type 0
+  WritesAsked words input answer contents old new = OutOfWords answer.end (map string_bytes words) input (contents old) (contents new)
+
+  abbrev pub WritesSome : Option (List ℕ) → Answer → (W → Option (List ℕ)) → W → W → Type 0
+  WritesSome input answer contents old new = OutOfSome answer.end input (contents old) (contents new)
+
+  -- and what they have told on one
+  abbrev pub TaskTells : CommandLine → Inputs → Answer → (W → Option (List ℕ)) → W → W → Type 0
+  TaskTells line inputs answer contents old new =
+      TellsBy answer.end (task_of line inputs.file.items inputs.certificate.items) answer.told (contents old) (contents new)
+
+  abbrev pub TellsLine : CommandLine → Option (List ℕ) → Answer → (W → Option (List ℕ)) → W → W → Type 0
+  TellsLine line input answer contents old new = ErrBy answer.end line input answer.told (contents old) (contents new)
+
+  abbrev pub TellsAsked : List (String Global) → Option (List ℕ) → Answer → (W → Option (List ℕ)) → W → W → Type 0
+  TellsAsked words input answer contents old new =
+      ErrOfWords answer.end (map string_bytes words) input answer.told (contents old) (contents new)
+
+  abbrev pub TellsSome : Option (List ℕ) → Answer → (W → Option (List ℕ)) → W → W → Type 0
+  TellsSome input answer contents old new = ErrOfSome answer.end input answer.told (contents old) (contents new)
+
+  -- that memory was refused
+  abbrev pub TellsMemory : Answer → (W → Option (List ℕ)) → W → W → Type 0
+  TellsMemory answer contents old new = Reports answer.told (contents old) (contents new) (codes "OutOfMemory")

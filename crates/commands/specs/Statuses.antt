@@ -1,0 +1,13 @@
+-- The statuses of the program.
+use Rattle.std.specs.Prelude.{ℕ}
+use Rattle.commands.specs.declared.answer.CommandEnd.{CommandEnd}
+use Rattle.commands.specs.declared.answer.CommandEnd.TheVariants.{CannotRead, CannotWrite, Done, OutOfMemory, Refused, WrongUsage}
+
+-- the status of each end
+abbrev pub status_of : CommandEnd → ℕ
+status_of Done = 0
+status_of Refused = 1
+status_of WrongUsage = 2
+status_of CannotRead = 3
+status_of CannotWrite = 3
+status_of OutOfMemory = 4

@@ -1,0 +1,86 @@
+//! The command `check`.
+
+ghost use Rattle.std.specs.Prelude.{IfOk};
+ghost use Rattle.commands.specs.Reported.{IsReportOf};
+ghost use Rattle.commands.specs.Ends.{Tells, Writes};
+ghost use Rattle.commands.specs.Tasks.{check};
+
+use crate::answer::{Answer, CommandEnd};
+use crate::check_report::{accepted_report, refused_report};
+use crate::reporting::report;
+use crate::writing::write_text;
+use draw_ops::Fault;
+use preflight_cert::{answer_law, check};
+use std::alloc::{AllocError, Global};
+use std::io::Write;
+
+/// Checks a certificate against a file, and writes the report to `out` as one line of JSON, whether it is accepted or refused. Of a
+/// refusal nothing goes to `err`; a fault of `err` changes no status.
+pub fn check_command<O: Write, E: Write>(
+    alloc: Global,
+    file: &[u8],
+    certificate: &[u8],
+    out: &mut O,
+    err: &mut E,
+) -> Answer
+    ensures written { Writes (check file.now certificate.now) result O.contents out.old out.new }
+    ensures told { Tells (check file.now certificate.now) result E.contents err.old err.new }
+{
+    match report_check(alloc, file, certificate) {
+        Ok(Report::Accepted(text)) => match write_text(text.as_slice(), out) {
+            Ok(()) => Answer {
+                end: CommandEnd::Done,
+                told: Ok(()),
+            },
+            Err(_) => Answer {
+                end: CommandEnd::CannotWrite,
+                told: report(err, "cannot write"),
+            },
+        },
+        Ok(Report::Refused(text)) => match write_text(text.as_slice(), out) {
+            Ok(()) => Answer {
+                end: CommandEnd::Refused,
+                told: Ok(()),
+            },
+            Err(_) => Answer {
+                end: CommandEnd::CannotWrite,
+                told: report(err, "cannot write"),
+            },
+        },
+        Err(AllocError) => Answer {
+            end: CommandEnd::OutOfMemory,
+            told: report(err, "OutOfMemory"),
+        },
+    }
+}
+
+/// The text of a report.
+#[derive(Drop)]
+enum Report {
+    /// Of a certificate that was accepted.
+    Accepted(Vec<u8>),
+    /// Of a refusal.
+    Refused(Vec<u8>),
+}
+
+/// Checks a certificate against a file, and makes the report of that.
+fn report_check(alloc: Global, file: &[u8], certificate: &[u8]) -> Result<Report, AllocError>
+    ensures { IfOk result (IsReportOf file.now certificate.now) }
+{
+    answer_law();
+    match check(alloc, file, certificate) {
+        Ok(cleared) => match accepted_report(alloc, &cleared) {
+            Ok(text) => Ok(Report::Accepted(text)),
+            Err(refused) => Err(refused),
+        },
+        Err(refusal) => {
+            if refusal.fault == Fault::OutOfMemory {
+                return Err(AllocError);
+            }
+            match refused_report(alloc, refusal) {
+                Ok(text) => Ok(Report::Refused(text)),
+                Err(refused) => Err(refused),
+            }
+        }
+    }
+}

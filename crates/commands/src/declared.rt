@@ -1,0 +1,134 @@
+//! The command line that is declared to `clap`.
+
+ghost use Rattle.std.specs.Prelude.{◌≡◌, IfOk, false};
+ghost use Rattle.clap.specs.Words.{app_of, rule_of};
+ghost use Rattle.commands.specs.CommandLine.{check_app, file_app, metaplay_app, name_rule, play_app, prepare_app, show_app, side_rule};
+ghost use Rattle.commands.specs.Apps.{AddsSides, IsLocalApp};
+
+use clap::{Arg, ArgAction, Command, value_parser};
+use mapping::MAX_SURFACE_SIDE;
+use std::alloc::{AllocError, Global};
+
+/// What stands above the commands in the help.
+const ABOUT: &str = "Checks Windows metafiles (WMF, EMF) and plays them on a pixel surface.
+
+Whoever hands a metafile on prepares a certificate for it, once. Whoever gets both checks them: where they are accepted, playing the file \
+on any surface up to the certificate's bound misuses no object, overflows nowhere and writes at most the certified number of pixels.";
+
+/// What stands behind the options in the help.
+const GUIDE: &str = "Examples:
+  metaplay show drawing.wmf 400 300 > drawing.ppm
+  metaplay prepare drawing.wmf 4096 4096 drawing.cert
+  metaplay check drawing.wmf drawing.cert
+  metaplay play drawing.wmf drawing.cert 400 300 > drawing.ppm
+
+FILE may be the word stdin, for standard input. Images are P6 (ppm(5)); reports are a line of JSON.
+
+Exit status:
+  0  done
+  1  refused, for the reason that standard error names, or for check the report
+  2  wrong usage, or help was asked for
+  3  an input or an output failed
+  4  memory was refused
+
+docs/FAULTS.md explains each name of a refusal, and what to do about it.";
+
+/// The program's command line.
+pub(crate) fn metaplay<'a>(alloc: Global) -> Result<Command<'a>, AllocError>
+    ensures { IfOk result (λ command. app_of command ≡ metaplay_app) }
+{
+    let show = show(alloc)?;
+    let prepare = prepare(alloc)?;
+    let check = check(alloc)?;
+    let play = play(alloc)?;
+    Command::new(alloc, "metaplay")
+        .bin_name("metaplay")?
+        .about(ABOUT)
+        .after_help(GUIDE)
+        .subcommand_required(true)
+        .subcommand(show)?
+        .subcommand(prepare)?
+        .subcommand(check)?
+        .subcommand(play)
+}
+
+/// The command `show`.
+fn show<'a>(alloc: Global) -> Result<Command<'a>, AllocError>
+    ensures { IfOk result (IsLocalApp show_app) }
+{
+    let about = "Plays a metafile on white, and writes the image to standard output";
+    let command = of_file(alloc, "show", about)?;
+    with_sides(alloc, command)
+}
+
+/// The command `prepare`.
+fn prepare<'a>(alloc: Global) -> Result<Command<'a>, AllocError>
+    ensures { IfOk result (IsLocalApp prepare_app) }
+{
+    let about = "Prepares the certificate of a metafile, for surfaces up to W by H";
+    let command = of_file(alloc, "prepare", about)?;
+    let command = with_sides(alloc, command)?;
+    command.arg(name(alloc, "OUT", "The file that gets the certificate"))
+}
+
+/// The command `check`.
+fn check<'a>(alloc: Global) -> Result<Command<'a>, AllocError>
+    ensures { IfOk result (IsLocalApp check_app) }
+{
+    let about = "Checks a certificate against a metafile, and writes a report to standard output";
+    let command = of_file(alloc, "check", about)?;
+    command.arg(name(alloc, "CERT", "The certificate"))
+}
+
+/// The command `play`.
+fn play<'a>(alloc: Global) -> Result<Command<'a>, AllocError>
+    ensures { IfOk result (IsLocalApp play_app) }
+{
+    let about =
+        "Plays a metafile by its certificate on white, and writes the image to standard output";
+    let command = of_file(alloc, "play", about)?;
+    let command = command.arg(name(alloc, "CERT", "The certificate"))?;
+    with_sides(alloc, command)
+}
+
+/// A command with a metafile.
+fn of_file<'a>(alloc: Global, command: &'a str, about: &'a str) -> Result<Command<'a>, AllocError>
+    ensures { IfOk result (IsLocalApp (file_app command.entry.now)) }
+{
+    let help = "The metafile, or the word stdin for standard input";
+    Command::new(alloc, command)
+        .about(about)
+        .arg(name(alloc, "FILE", help))
+}
+
+/// A command with a surface's sides behind.
+fn with_sides<'a>(alloc: Global, command: Command<'a>) -> Result<Command<'a>, AllocError>
+    ensures { IfOk result (AddsSides command.entry) }
+{
+    command
+        .arg(side(alloc, "W", "The surface's width in pixels"))?
+        .arg(side(alloc, "H", "The surface's height in pixels"))
+}
+
+/// A file's name.
+fn name<'a>(alloc: Global, id: &'a str, help: &'a str) -> Arg<'a>
+    ensures rule { rule_of result ≡ name_rule id.entry.now }
+    ensures local { result.global ≡ false }
+{
+    Arg::new(alloc, id)
+        .required(true)
+        .action(ArgAction::Set)
+        .help(help)
+}
+
+/// A side of the surface.
+fn side<'a>(alloc: Global, id: &'a str, help: &'a str) -> Arg<'a>
+    ensures rule { rule_of result ≡ side_rule id.entry.now }
+    ensures local { result.global ≡ false }
+{
+    Arg::new(alloc, id)
+        .required(true)
+        .action(ArgAction::Set)
+        .value_parser(value_parser!(u32).range(1..=i64::from(MAX_SURFACE_SIDE)))
+        .help(help)
+}

@@ -1,0 +1,93 @@
+//! The inputs of a command, read in the order of the command line.
+
+ghost use Rattle.std.specs.Prelude.{◌≡◌, ◌≢◌, ◌≤◌, IfOk, vec_len};
+ghost use Rattle.std.specs.Io.KnownBytes.{Keeps};
+ghost use Rattle.commands.specs.Lines.{IsInput, standard_input};
+ghost use Rattle.commands.specs.Reading.{input_limit};
+ghost use Rattle.commands.specs.Sides.{file_of};
+
+use crate::asked::CommandLine;
+use crate::input::{InputFault, read_input};
+use std::alloc::Global;
+use std::fs;
+use std::io::Read;
+use std::rt::Files;
+
+/// The word that names standard input in a file's place.
+const STANDARD_INPUT: &str = "stdin";
+
+/// The bytes of a command's inputs.
+#[derive(Drop)]
+pub(crate) struct Inputs {
+    pub(crate) file: Vec<u8>,
+    /// Empty where the command takes no certificate.
+    pub(crate) certificate: Vec<u8>,
+}
+
+/// Reads the inputs that a line names, in their order.
+pub(crate) fn read_inputs<R: Files + AllocGlobal, I: Read>(
+    rt: &R,
+    line: CommandLine<'_>,
+    input: &mut I,
+) -> Result<Inputs, InputFault>
+    ensures read { IfOk result (λ inputs. IsInput (file_of line.entry) (I.remaining input.old) inputs.file.items) }
+    ensures unread { file_of line.entry ≢ standard_input → Keeps (I.remaining input.old) (I.remaining input.new) }
+{
+    let file = match read_file(rt, file_of(line), input) {
+        Ok(file) => file,
+        Err(fault) => return Err(fault),
+    };
+    let certificate = match certificate_of(line) {
+        Some(name) => match read_named(rt, name) {
+            Ok(certificate) => certificate,
+            Err(fault) => return Err(fault),
+        },
+        None => Vec::new(rt.alloc()),
+    };
+    Ok(Inputs { file, certificate })
+}
+
+/// The name of the file that a line asks for.
+fn file_of<'a>(line: CommandLine<'a>) -> &'a str
+    ensures { result.now ≡ file_of line.entry }
+{
+    match line {
+        CommandLine::Show { file, .. } => file,
+        CommandLine::Prepare { file, .. } => file,
+        CommandLine::Check { file, .. } => file,
+        CommandLine::Play { file, .. } => file,
+    }
+}
+
+/// The name of the certificate that a line asks for, if it does.
+fn certificate_of<'a>(line: CommandLine<'a>) -> Option<&'a str> {
+    match line {
+        CommandLine::Check { certificate, .. } => Some(certificate),
+        CommandLine::Play { certificate, .. } => Some(certificate),
+        CommandLine::Show { .. } | CommandLine::Prepare { .. } => None,
+    }
+}
+
+/// The bytes of a file, or of standard input.
+pub fn read_file<R: Files + AllocGlobal, I: Read>(
+    rt: &R,
+    file: &str,
+    input: &mut I,
+) -> Result<Vec<u8>, InputFault>
+    ensures read { IfOk result (λ bytes. IsInput file.entry.now (I.remaining input.old) bytes.items) }
+    ensures within { IfOk result (λ bytes. vec_len bytes ≤ input_limit) }
+    ensures unread { file.entry.now ≢ standard_input → Keeps (I.remaining input.old) (I.remaining input.new) }
+{
+    if file == STANDARD_INPUT {
+        return read_input(rt.alloc(), input);
+    }
+    read_named(rt, file)
+}
+
+/// The bytes of a file of this name.
+fn read_named<R: Files + AllocGlobal>(rt: &R, name: &str) -> Result<Vec<u8>, InputFault>
+    ensures { IfOk result (λ bytes. vec_len bytes ≤ input_limit) }
+{
+    let mut opened = fs::open(rt, name).map_err(InputFault::of)?;
+    read_input(rt.alloc(), &mut opened)
+}

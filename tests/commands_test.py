@@ -1,0 +1,275 @@
+"""The commands for certificates in the built program: what they write and tell, and what becomes of a file that is to be written."""
+
+import json
+import os
+import shutil
+import struct
+import subprocess
+import tempfile
+import unittest
+
+from answers import refused
+from built import DOT, DOT_IMAGE, SAMPLES, Answer, answer, for_each_program
+from program_test import CANNOT_READ, CANNOT_WRITE, as_nobody
+
+DOT_FILE = SAMPLES / "dot.wmf"
+
+# The certificate of the dot for surfaces up to 4 by 4: one write, no need, and one entry, of record 0 and the point (2,1).
+DOT_CERT = b"MPC1" + struct.pack("<IIQ5I", 4, 4, 1, 0, 0, 0, 0, 1) + struct.pack("<I4i", 0, 2, 1, 2, 1)
+
+# Its report, key by key.
+DOT_REPORT = (
+    b'{"accepted":true,"drawings":1,"format":"placeable","frame":[4,4],"max":[4,4],'
+    b'"needs":{"depth":0,"edges":0,"pieces":0,"slots":0},"notes":{},"records":2,"writes":1}\n'
+)
+
+DONE = Answer(0, b"", b"")
+
+# The formats of the samples, by the ends of their names and their first bytes.
+FORMATS = {b"\xd7\xcd\xc6\x9a": "placeable", b"\x01\0\0\0": "emf", b"\x01\0\x09\0": "wmf"}
+
+
+class CommandTest(unittest.TestCase):
+    """Tests with a folder of their own, in which the dot's certificate lies."""
+
+    def setUp(self):
+        self.folder = tempfile.mkdtemp()
+        self.addCleanup(shutil.rmtree, self.folder)
+        self.certificate = self.file("dot.cert", DOT_CERT)
+
+    def file(self, name, given):
+        """A file of these bytes in the folder."""
+        path = os.path.join(self.folder, name)
+        with open(path, "wb") as file:
+            file.write(given)
+        return path
+
+    def kept(self, path):
+        """The bytes of a file."""
+        with open(path, "rb") as file:
+            return file.read()
+
+
+class Samples(CommandTest):
+    """Each sample."""
+
+    @for_each_program
+    def test_each_sample_is_prepared_checked_and_played(self, program):
+        for sample in sorted(SAMPLES.glob("*.?mf")):
+            with self.subTest(sample=sample.name):
+                certificate = os.path.join(self.folder, sample.name)
+                if sample.name == "held.wmf":
+                    told = refused("HeldObject", 5)
+                    self.assertEqual(answer(program, ["prepare", sample, "64", "48", certificate]), told)
+                    self.assertFalse(os.path.exists(certificate))
+                    continue
+                self.assertEqual(answer(program, ["prepare", sample, "64", "48", certificate]), DONE)
+                checked = answer(program, ["check", sample, certificate])
+                report = json.loads(checked.out)
+                self.assertEqual((checked.status, checked.err), (0, b""))
+                self.assertEqual((report["accepted"], report["max"]), (True, [64, 48]))
+                self.assertEqual(report["format"], FORMATS[sample.read_bytes()[:4]])
+                for width, height in [("64", "48"), ("17", "48"), ("1", "1")]:
+                    shown = answer(program, ["show", sample, width, height])
+                    played = answer(program, ["play", sample, certificate, width, height])
+                    self.assertEqual((shown.status, played), (0, shown))
+
+    @for_each_program
+    def test_a_refused_sample_is_reported(self, program):
+        checked = answer(program, ["check", SAMPLES / "held.wmf", self.certificate])
+        report = b'{"accepted":false,"code":27,"fault":"HeldObject","number":null,"record":5}\n'
+        self.assertEqual(checked, Answer(1, report, b""))
+
+
+class Prepare(CommandTest):
+    """`prepare FILE W H OUT`."""
+
+    @for_each_program
+    def test_the_certificate_is_written_to_its_file(self, program):
+        output = os.path.join(self.folder, "new")
+        self.assertEqual(answer(program, ["prepare", DOT_FILE, "4", "4", output]), DONE)
+        self.assertEqual(self.kept(output), DOT_CERT)
+        output = self.file("old", bytes(1000))
+        self.assertEqual(answer(program, ["prepare", "stdin", "4", "4", output], DOT), DONE)
+        self.assertEqual(self.kept(output), DOT_CERT)
+
+    @for_each_program
+    def test_of_a_refused_file_nothing_is_written(self, program):
+        new, old = os.path.join(self.folder, "new"), self.file("old", b"as it was")
+        for output in [new, old]:
+            told = answer(program, ["prepare", "stdin", "4", "4", output], DOT[:54])
+            self.assertEqual(told, refused("NoEnd", 1))
+            told = answer(program, ["prepare", "/no/such/file", "4", "4", output])
+            self.assertEqual(told, CANNOT_READ)
+            self.assertEqual(answer(program, ["prepare", "stdin", "0", "4", output], DOT).status, 2)
+        self.assertFalse(os.path.exists(new))
+        self.assertEqual(self.kept(old), b"as it was")
+
+    @for_each_program
+    def test_a_file_that_cannot_be_made_cannot_be_written(self, program):
+        for output in ["/no/such/folder/out", self.folder, "", "/dev/full"]:
+            told = answer(program, ["prepare", DOT_FILE, "4", "4", output])
+            self.assertEqual(told, CANNOT_WRITE, output)
+        # The file's own refusal comes first.
+        told = answer(program, ["prepare", "stdin", "4", "4", "/no/such/folder/out"], DOT[:54])
+        self.assertEqual(told, refused("NoEnd", 1))
+
+    @for_each_program
+    def test_a_file_that_may_not_be_written_is_as_it_was(self, program):
+        os.chmod(self.folder, 0o755)
+        copy = shutil.copy(program, f"{self.folder}/metaplay")
+        os.chmod(copy, 0o755)
+        output = self.file("old", b"as it was")
+        os.chmod(output, 0o444)
+        told = answer(copy, ["prepare", "stdin", "4", "4", output], DOT, preexec_fn=as_nobody)
+        self.assertEqual(told, CANNOT_WRITE)
+        self.assertEqual(self.kept(output), b"as it was")
+
+    @for_each_program
+    def test_the_file_itself_may_get_the_certificate(self, program):
+        both = self.file("both", DOT)
+        self.assertEqual(answer(program, ["prepare", both, "4", "4", both]), DONE)
+        self.assertEqual(self.kept(both), DOT_CERT)
+
+
+class Check(CommandTest):
+    """`check FILE CERT`."""
+
+    @for_each_program
+    def test_the_report_goes_to_standard_output(self, program):
+        self.assertEqual(answer(program, ["check", DOT_FILE, self.certificate]), Answer(0, DOT_REPORT, b""))
+        self.assertEqual(answer(program, ["check", "stdin", self.certificate], DOT), Answer(0, DOT_REPORT, b""))
+        report = b'{"accepted":false,"code":10,"fault":"NoEnd","number":null,"record":1}\n'
+        self.assertEqual(answer(program, ["check", "stdin", self.certificate], DOT[:54]), Answer(1, report, b""))
+
+    @for_each_program
+    def test_the_words_in_another_order(self, program):
+        report = b'{"accepted":false,"code":2,"fault":"NotMetafile","number":null,"record":null}\n'
+        self.assertEqual(answer(program, ["check", self.certificate, DOT_FILE]), Answer(1, report, b""))
+        report = b'{"accepted":false,"code":6,"fault":"NotCertificate","number":null,"record":null}\n'
+        self.assertEqual(answer(program, ["check", DOT_FILE, DOT_FILE]), Answer(1, report, b""))
+
+    @for_each_program
+    def test_standard_input_is_the_file_alone(self, program):
+        # A certificate of that name is a file like any other.
+        self.file("stdin", DOT_CERT)
+        checked = answer(program, ["check", "stdin", "stdin"], DOT, cwd=self.folder)
+        self.assertEqual(checked, Answer(0, DOT_REPORT, b""))
+        other = tempfile.mkdtemp(dir=self.folder)
+        self.assertEqual(answer(program, ["check", "stdin", "stdin"], DOT, cwd=other), CANNOT_READ)
+
+    @for_each_program
+    def test_a_report_that_cannot_be_written(self, program):
+        for file in [DOT_FILE, SAMPLES / "held.wmf"]:
+            with open("/dev/full", "wb") as full:
+                words = [program, "check", file, self.certificate]
+                ran = subprocess.run(words, stdout=full, stderr=subprocess.PIPE, check=False)
+            self.assertEqual(Answer(ran.returncode, b"", ran.stderr), CANNOT_WRITE)
+
+
+class Play(CommandTest):
+    """`play FILE CERT W H`."""
+
+    @for_each_program
+    def test_the_image_goes_to_standard_output(self, program):
+        shown = Answer(0, DOT_IMAGE, b"")
+        self.assertEqual(answer(program, ["play", DOT_FILE, self.certificate, "4", "4"]), shown)
+        self.assertEqual(answer(program, ["play", "stdin", self.certificate, "4", "4"], DOT), shown)
+
+    @for_each_program
+    def test_a_surface_above_the_bound_is_refused(self, program):
+        for width, height in [("5", "4"), ("4", "5"), ("8192", "8192")]:
+            told = answer(program, ["play", DOT_FILE, self.certificate, width, height])
+            self.assertEqual(told, refused("SurfaceTooLarge"))
+
+    @for_each_program
+    def test_the_check_s_refusal_comes_first(self, program):
+        other = self.file("other.cert", DOT_CERT[:12] + bytes(8) + DOT_CERT[20:])
+        for width, height in [("4", "4"), ("5", "5")]:
+            told = answer(program, ["play", DOT_FILE, other, width, height])
+            self.assertEqual(told, refused("BudgetTooSmall"))
+            told = answer(program, ["play", "stdin", other, width, height], DOT[:54])
+            self.assertEqual(told, refused("NoEnd", 1))
+
+
+class Inputs(CommandTest):
+    """What is read, in the order of the words."""
+
+    # Commands, with the words for their file, their certificate and what follows.
+    COMMANDS = [("check", []), ("play", ["4", "4"])]
+
+    @for_each_program
+    def test_inputs_that_cannot_be_read(self, program):
+        long = self.file("long", b"")
+        os.truncate(long, (1 << 28) + 1)
+        for missing in ["/no/such/file", self.folder, "", long]:
+            for command, sides in self.COMMANDS:
+                told = answer(program, [command, DOT_FILE, missing, *sides])
+                self.assertEqual(told, CANNOT_READ, missing)
+                told = answer(program, [command, missing, self.certificate, *sides])
+                self.assertEqual(told, CANNOT_READ, missing)
+
+    @for_each_program
+    def test_a_long_certificate_is_refused_and_not_cut(self, program):
+        longer = self.file("longer", DOT_CERT)
+        os.truncate(longer, 1 << 28)
+        told = answer(program, ["play", DOT_FILE, longer, "4", "4"])
+        self.assertEqual(told, refused("TrailingBytes"))
+
+    @for_each_program
+    def test_standard_input_is_read_before_the_certificate(self, program):
+        reader, writer = os.pipe()
+        os.write(writer, DOT)
+        os.close(writer)
+        words = [program, "check", "stdin", "/no/such/file"]
+        ran = subprocess.run(words, stdin=reader, capture_output=True, check=False)
+        self.assertEqual(Answer(ran.returncode, ran.stdout, ran.stderr), CANNOT_READ)
+        self.assertEqual(os.read(reader, 1), b"")
+        os.close(reader)
+
+    @for_each_program
+    def test_want_of_sides_or_files_is_wrong_usage(self, program):
+        for line in ["prepare", "prepare stdin 4 4", "prepare stdin out 4 4", "prepare stdin 4 4 out more", "check stdin",
+                     "check stdin cert 4", "play stdin cert", "play stdin cert 4", "play stdin 4 4", "play stdin cert 0 4",
+                     "play stdin cert 4 8193", "play stdin cert 4 4 4", "prepare stdin 8193 4 out"]:
+            wrong = answer(program, line.split(), DOT, cwd=self.folder)
+            self.assertEqual((wrong.status, wrong.out), (2, b""), line)
+            self.assertEqual(wrong.err.count(b"error:"), 1, line)
+            self.assertFalse(os.path.exists(os.path.join(self.folder, "out")), line)
+
+
+class Help(unittest.TestCase):
+    """What `metaplay --help` teaches."""
+
+    @for_each_program
+    def test_each_command_has_an_example(self, program):
+        helped = answer(program, ["--help"])
+        self.assertEqual((helped.status, helped.err), (2, b""))
+        for command in ["show", "prepare", "check", "play"]:
+            self.assertIn(f"\n  metaplay {command} ".encode(), helped.out)
+            self.assertIn(b"Usage: metaplay " + command.encode(), answer(program, [command, "--help"]).out)
+        self.assertIn(b"docs/FAULTS.md", helped.out)
+        for status in range(5):
+            self.assertIn(f"\n  {status}  ".encode(), helped.out)
+
+
+class LargeCertificates(CommandTest):
+    """Certificates of many entries."""
+
+    @for_each_program
+    def test_a_thousand_drawings_have_as_many_entries(self, program):
+        file = self.file("many", many_pixels())
+        output = os.path.join(self.folder, "many.cert")
+        self.assertEqual(answer(program, ["prepare", file, "4", "4", output]), DONE)
+        self.assertEqual(len(self.kept(output)), 40 + 20 * 1000)
+        report = json.loads(answer(program, ["check", file, output]).out)
+        self.assertEqual((report["drawings"], report["records"], report["writes"]), (1000, 1001, 1000))
+
+
+def many_pixels():
+    """The dot's file, with its pixel a thousand times."""
+    return DOT[:40] + 1000 * DOT[40:54] + DOT[54:]
+
+
+if __name__ == "__main__":
+    unittest.main()
