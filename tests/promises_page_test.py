@@ -13,7 +13,7 @@ PAGE = (ROOT / "docs" / "PROMISES.md").read_text(encoding="utf-8")
 WITHOUT_LIST = {"meta_main"}
 
 # Laws that the page has and a list lacks: to be written there.
-UNLISTED = {"preflight_cert": {"preparation_law"}}
+UNLISTED = {}
 
 
 def sections():
