@@ -35,7 +35,7 @@ IMPORT = re.compile(r"(?m)^ *(?:ghost |pub )?use Rattle\.(\w+)\.specs\.([\w.]+)\
 def definitions(text):
     """The names that a file of definitions declares, each with the definition that it belongs to: itself, or that of which it is a case or field."""
     found = {}
-    for block in re.split(r"\n\s*\n", re.sub(r"(?m)^--.*\n", "", text)):
+    for block in re.split(r"\n\s*\n", re.sub(r"(?m)^(?: *--| *module _).*\n", "", text)):
         head = HEAD.match(block.strip())
         if head and not block.strip().startswith(("use ", "pub use ", "pub mod ")):
             for name in [*CASE.findall(block), head[1]]:
