@@ -8,7 +8,7 @@ from built import ROOT
 PAGE = (ROOT / "docs" / "FAULTS.md").read_text(encoding="utf-8")
 
 # A row of the table of faults: the name twice, its code, and whether it lies in a record.
-DEFINED = re.compile(r'(?m)^fault_row (?:\((\w+) kind\)|(\w+)) = row (\d+) \(codes "(\w+)"\) (true|false)$')
+DEFINED = re.compile(r'(?m)^fault_row (\(Record )?\(?(\w+)(?: kind\))?\)? = row (\d+) \(codes "(\w+)"\)$')
 
 ROW = re.compile(r"(?m)^\| (\d+) \| `(\w+)` \|")
 
@@ -30,7 +30,7 @@ WHOSE = {
 def defined():
     """The rows of the table of faults: the code of each name, and whether it lies in a record."""
     text = (ROOT / "crates" / "draw_ops" / "specs" / "FaultTable.antt").read_text(encoding="utf-8")
-    return {name: (int(code), lies == "true") for _, _, code, name, lies in DEFINED.findall(text)}
+    return {name: (int(code), lies != "") for lies, _, code, name in DEFINED.findall(text)}
 
 
 def sections():

@@ -15,12 +15,18 @@ fn main(rt: HostRuntime) -> io::Result<()> {
     let Ok(cleared) = check(rt.alloc(), &file, &certificate) else {
         return println!(rt; "refused");
     };
-    let grey = Colour { r: 128, g: 128, b: 128 };
+    let grey = Colour {
+        r: 128,
+        g: 128,
+        b: 128,
+    };
     let Ok(mut canvas) = Canvas::new(rt.alloc(), 16, 8, grey) else {
         return println!(rt; "no memory");
     };
     match play(rt.alloc(), &cleared, &mut canvas) {
-        Ok(_) => canvas.write_ppm(&mut rt.stdout()).map_err(|_| io::ErrorKind::WriteZero.into()),
+        Ok(_) => canvas
+            .write_ppm(&mut rt.stdout())
+            .map_err(|_| io::ErrorKind::WriteZero.into()),
         Err(fault) => println!(rt; "{fault}"),
     }
 }
