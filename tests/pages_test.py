@@ -17,7 +17,6 @@ PAGES = ["README.md", DEFINITIONS, "docs/PROMISES.md", "docs/LAYERS.md", "docs/D
 # Words that are neither names of this repository nor files of it.
 OTHERS = {
     "#": "a sign of pictures",
-    "13f": "a version of the toolchain",
     "Display": "a trait of the toolchain's",
     "assert_eq!": "a macro of the toolchain's",
     "Err": "a variant of the toolchain's",
@@ -31,13 +30,12 @@ OTHERS = {
     "malloc": "a call of the C library's",
     "python3": "a program",
     "realloc": "a call of the C library's",
-    "rattle-kit-13b logic dac8208d650f15bf": "a version of the toolchain",
+    "rattle-kit-13f logic dac8208d650f15bf": "a version of the toolchain",
     "rt": "a program",
-    "rt ci": "a program",
     "rt plant": "a program",
     "rt version": "a program",
     "search rules": "an answer of a proof",
-    "serde_json": "a library that is to come",
+    "serde_json": "a library",
     "specs/": "a folder of each crate",
     "try": "a word of the launcher",
     "valgrind": "a program",
