@@ -1,6 +1,6 @@
 //! Certificates that are checked, and the reports of that.
 
-use crate::comparing::same;
+use crate::comparing::{same, same_want_of_memory};
 use crate::files::{DOT, NIL, NIL_CERT, NOTED, NOTED_CERT, TRI, TRI_CERT, changed};
 use crate::limited;
 use commands::check_command;
@@ -219,7 +219,7 @@ fn checking_under_refused_growth(rt: HostRuntime) -> Result<(), Fail> {
     } else {
         same(&rt, answer.status(), 4);
         same(&rt, out[0], 0);
-        same(&rt, &err[..22], b"metaplay: OutOfMemory\n".as_slice());
+        same_want_of_memory(&rt, &err);
     }
     Ok(())
 }

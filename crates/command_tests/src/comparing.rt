@@ -7,3 +7,11 @@ use std::process::Abort;
 pub(crate) fn same<T: PartialEq + Debug + Drop>(rt: &impl Abort, left: T, right: T) {
     assert_eq!(rt; left, right);
 }
+
+/// Compares what standard error has with the line that tells a want of memory, byte by byte.
+pub(crate) fn same_want_of_memory(rt: &HostRuntime, err: &[u8; 64]) {
+    let told = b"metaplay: OutOfMemory\n";
+    for at in 0..22 {
+        same(rt, err[at], told[at]);
+    }
+}

@@ -1,6 +1,6 @@
 //! Files that are played by certificates.
 
-use crate::comparing::same;
+use crate::comparing::{same, same_want_of_memory};
 use crate::files::{NIL, NIL_CERT, TRI, TRI_CERT, changed};
 use crate::limited;
 use commands::play_command;
@@ -112,7 +112,7 @@ fn playing_under_refused_growth(rt: HostRuntime) -> Result<(), Fail> {
     } else {
         same(&rt, answer.status(), 4);
         same(&rt, out[0], 0);
-        same(&rt, &err[..22], b"metaplay: OutOfMemory\n".as_slice());
+        same_want_of_memory(&rt, &err);
     }
     Ok(())
 }

@@ -1,6 +1,6 @@
 //! Files that are shown, and files that are refused.
 
-use crate::comparing::same;
+use crate::comparing::{same, same_want_of_memory};
 use crate::files::DOT;
 use crate::limited;
 use commands::show_command;
@@ -170,10 +170,7 @@ fn showing_under_refused_growth(rt: HostRuntime) -> Result<(), Fail> {
     } else {
         same(&rt, status, 4);
         same(&rt, out[0], 0);
-        let told = b"metaplay: OutOfMemory\n";
-        for at in 0..22 {
-            same(&rt, err[at], told[at]);
-        }
+        same_want_of_memory(&rt, &err);
     }
     Ok(())
 }
