@@ -9,7 +9,7 @@ pub(crate) fn same<T: PartialEq + Debug + Drop>(rt: &impl Abort, left: T, right:
 }
 
 /// Compares what standard error has with the line that tells a want of memory, byte by byte.
-pub(crate) fn same_want_of_memory(rt: &HostRuntime, err: &[u8; 64]) {
+pub(crate) fn same_want_of_memory(rt: &impl Abort, err: &[u8; 64]) {
     let told = b"metaplay: OutOfMemory\n";
     for at in 0..22 {
         same(rt, err[at], told[at]);
