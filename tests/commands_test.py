@@ -76,7 +76,11 @@ class Samples(CommandTest):
 
     @for_each_program
     def test_a_refused_sample_is_reported(self, program):
-        checked = answer(program, ["check", SAMPLES / "held.wmf", self.certificate])
+        # Its line is record 3, from (0,0) to (4,4), and has its entry: so the first refusal is that of record 5.
+        certificate = os.path.join(self.folder, "held")
+        with open(certificate, "wb") as file:
+            file.write(b"MPC1" + struct.pack("<IIQ5I", 4, 4, 100, 0, 2, 2, 0, 1) + struct.pack("<I4i", 3, 0, 0, 4, 4))
+        checked = answer(program, ["check", SAMPLES / "held.wmf", certificate])
         report = b'{"accepted":false,"code":27,"fault":"HeldObject","number":null,"record":5}\n'
         self.assertEqual(checked, Answer(1, report, b""))
 
