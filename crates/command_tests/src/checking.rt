@@ -210,11 +210,10 @@ fn checking_under_refused_growth(rt: HostRuntime) -> Result<(), Fail> {
         &mut err.as_mut_slice(),
     );
     if answer.status() == 1 {
-        same(
-            &rt,
-            &out[..50],
-            b"{\"accepted\":false,\"code\":6,\"fault\":\"NotCertificate".as_slice(),
-        );
+        let want = b"{\"accepted\":false,\"code\":6,\"fault\":\"NotCertificate";
+        for at in 0..50 {
+            same(&rt, out[at], want[at]);
+        }
         same(&rt, err[0], 0);
     } else {
         same(&rt, answer.status(), 4);

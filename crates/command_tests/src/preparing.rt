@@ -8,7 +8,7 @@ use std::alloc::Global;
 use std::test::Fail;
 
 /// The certificate of `DOT` for surfaces up to 4 by 4: one write, in record 0, at (2,1).
-const DOT_CERT: &[u8] = b"MPC1\x04\0\0\0\x04\0\0\0\x01\0\0\0\0\0\0\0\
+const DOT_CERT: &[u8; 60] = b"MPC1\x04\0\0\0\x04\0\0\0\x01\0\0\0\0\0\0\0\
     \0\0\0\0\0\0\0\0\0\0\0\0\0\0\0\0\x01\0\0\0\
     \0\0\0\0\x02\0\0\0\x01\0\0\0\x02\0\0\0\x01\0\0\0";
 
@@ -16,7 +16,7 @@ const DOT_CERT: &[u8] = b"MPC1\x04\0\0\0\x04\0\0\0\x01\0\0\0\0\0\0\0\
 fn a_certificate_is_written_whole(rt: HostRuntime) -> Result<(), Fail> {
     let cases = [
         (TRI, 4, 4, TRI_CERT),
-        (DOT, 4, 4, DOT_CERT),
+        (DOT, 4, 4, DOT_CERT.as_slice()),
         (NIL, 2, 3, NIL_CERT),
     ];
     for (file, width, height, want) in cases {
@@ -74,7 +74,9 @@ fn preparing_under_refused_growth(rt: HostRuntime) -> Result<(), Fail> {
         &mut err.as_mut_slice(),
     );
     if answer.status() == 0 {
-        same(&rt, &out[..60], DOT_CERT);
+        for at in 0..60 {
+            same(&rt, out[at], DOT_CERT[at]);
+        }
         same(&rt, err[0], 0);
     } else {
         same(&rt, answer.status(), 4);
