@@ -188,6 +188,8 @@ class RefusedGrowth(unittest.TestCase):
             lines = [["prepare", file, "64", "64", str(output)], ["check", file, certificate], ["check", certificate, file]]
             lines += [["play", file, certificate, "64", "64"], ["play", file, certificate, "65", "64"]]
             for words in lines:
+                # (the last run of the line before, of which nothing was refused, may have left its output)
+                output.unlink(missing_ok=True)
                 ample = answer(program, words)
                 written = output.read_bytes() if output.exists() else None
                 output.unlink(missing_ok=True)
