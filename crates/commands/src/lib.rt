@@ -15,7 +15,7 @@
 //! - It is refused only where that refusal is right: the file's first fault (`show`, `prepare`), or the
 //!   check's answer, and for `play` behind it that the surface is above the certificate's bound. Then
 //!   nothing was written, and of `check` the refusal's report. Where memory was refused nothing was
-//!   written, and of all but `check` the file opens.
+//!   written, and of `show` and `prepare` the file opens.
 //! - Where an output failed, it got a front of such a text.
 //! - The whole program's ends mean the same of some bytes, at the sides and for the files that the words
 //!   ask for (`run_words`, `run`); no status is above 4 (`CommandEnd::status`).
