@@ -34,15 +34,15 @@ class Definition(NamedTuple):
 def blocks(text):
     """The blocks of a file, each without its comments."""
     for block in re.split(r"\n\s*\n", text):
-        lines = [line for line in block.splitlines() if line.strip() and not line.lstrip().startswith("--")]
+        lines = [line for line in block.splitlines() if line.strip() and not line.lstrip().startswith(("--", "module _"))]
         if lines and not lines[0].startswith(("use ", "pub mod ")):
             yield lines
 
 
 def made_in(lines):
     """The names that a block makes: its own, and those of the cases of its type."""
-    name = HEAD.match(lines[0])[1]
-    return [name, *(line.split(":")[0].strip() for line in lines[1:] if " : " in line)] if DATA.match(lines[0]) else [name]
+    name = HEAD.match(lines[0].strip())[1]
+    return [name, *(line.split(":")[0].strip() for line in lines[1:] if " : " in line)] if DATA.match(lines[0].strip()) else [name]
 
 
 def read(crate, path):

@@ -73,6 +73,9 @@ class Samples(CommandTest):
                     shown = answer(program, ["show", sample, width, height])
                     played = answer(program, ["play", sample, certificate, width, height])
                     self.assertEqual((shown.status, played), (0, shown))
+                    white = b"\xff" * (3 * int(width) * int(height))
+                    paper = self.file("paper.ppm", f"P6 {width} {height} 255 ".encode() + white)
+                    self.assertEqual(answer(program, ["over", sample, certificate, paper]), shown)
 
     @for_each_program
     def test_a_refused_sample_is_reported(self, program):
@@ -196,11 +199,63 @@ class Play(CommandTest):
             self.assertEqual(told, refused("NoEnd", 1))
 
 
+# An image of 4 by 4 pixels, and the same with the dot's red pixel at (2,1).
+PAGE = b"P6 # page\n4 4\t255\n" + bytes(range(100, 148)) + b"more"
+PRINTED = b"P6\n4 4\n255\n" + bytes(range(100, 118)) + b"\xff\0\0" + bytes(range(121, 148))
+
+
+class Over(CommandTest):
+    """`over FILE CERT IMAGE`."""
+
+    def over(self, program, image, certificate=DOT_CERT, file=DOT):
+        """What the program answers that is to play a file over an image."""
+        words = ["over", self.file("file", file), self.file("certificate", certificate), self.file("image", image)]
+        return answer(program, words)
+
+    @for_each_program
+    def test_the_image_with_the_drawing_goes_to_standard_output(self, program):
+        self.assertEqual(self.over(program, PAGE), Answer(0, PRINTED, b""))
+        image = self.file("image", PAGE)
+        self.assertEqual(answer(program, ["over", "stdin", self.certificate, image], DOT), Answer(0, PRINTED, b""))
+
+    @for_each_program
+    def test_what_is_written_is_an_image_to_play_over(self, program):
+        self.assertEqual(self.over(program, PRINTED), Answer(0, PRINTED, b""))
+
+    @for_each_program
+    def test_a_text_that_is_no_image_is_refused(self, program):
+        whole = b"P6\n4 4\n255\n" + bytes(48)
+        texts = [b"", b"P6", DOT, whole[:-1], b"P5" + whole[2:], b"P64" + whole[3:], whole.replace(b"255", b"254"), whole.replace(b"255", b"65535"),
+                 b"P6\n0 4\n255\n", b"P6\n8193 1\n255\n" + bytes(3 * 8193)]
+        for text in texts:
+            self.assertEqual(self.over(program, text), refused("BadImage"), text[:20])
+
+    @for_each_program
+    def test_an_image_above_the_bound_is_refused(self, program):
+        for width, height in [(5, 4), (4, 5), (8192, 1), (1, 8192)]:
+            image = b"P6 %d %d 255 " % (width, height) + bytes(3 * width * height)
+            self.assertEqual(self.over(program, image), refused("SurfaceTooLarge"))
+
+    @for_each_program
+    def test_the_check_s_refusal_comes_first(self, program):
+        poor = DOT_CERT[:12] + bytes(8) + DOT_CERT[20:]
+        for image in [PAGE, b"", b"P6 5 5 255 " + bytes(75)]:
+            self.assertEqual(self.over(program, image, poor), refused("BudgetTooSmall"))
+            self.assertEqual(self.over(program, image, poor, DOT[:54]), refused("NoEnd", 1))
+
+    @for_each_program
+    def test_an_image_that_cannot_be_read(self, program):
+        for missing in ["/no/such/file", self.folder, ""]:
+            # Each input is read before any is judged.
+            for certificate in [self.certificate, DOT_FILE]:
+                self.assertEqual(answer(program, ["over", DOT_FILE, certificate, missing]), CANNOT_READ, missing)
+
+
 class Inputs(CommandTest):
     """What is read, in the order of the words."""
 
     # Commands, with the words for their file, their certificate and what follows.
-    COMMANDS = [("check", []), ("play", ["4", "4"])]
+    COMMANDS = [("check", []), ("play", ["4", "4"]), ("over", [DOT_FILE])]
 
     @for_each_program
     def test_inputs_that_cannot_be_read(self, program):
@@ -235,7 +290,8 @@ class Inputs(CommandTest):
     def test_want_of_sides_or_files_is_wrong_usage(self, program):
         for line in ["prepare", "prepare stdin 4 4", "prepare stdin out 4 4", "prepare stdin 4 4 out more", "check stdin",
                      "check stdin cert 4", "play stdin cert", "play stdin cert 4", "play stdin 4 4", "play stdin cert 0 4",
-                     "play stdin cert 4 8193", "play stdin cert 4 4 4", "prepare stdin 8193 4 out"]:
+                     "play stdin cert 4 8193", "play stdin cert 4 4 4", "prepare stdin 8193 4 out", "over stdin", "over stdin cert",
+                     "over stdin cert image 4", "list", "list stdin 4"]:
             wrong = answer(program, line.split(), DOT, cwd=self.folder)
             self.assertEqual((wrong.status, wrong.out), (2, b""), line)
             self.assertEqual(wrong.err.count(b"error:"), 1, line)
@@ -249,7 +305,7 @@ class Help(unittest.TestCase):
     def test_each_command_has_an_example(self, program):
         helped = answer(program, ["--help"])
         self.assertEqual((helped.status, helped.err), (2, b""))
-        for command in ["show", "prepare", "check", "play"]:
+        for command in ["show", "prepare", "check", "play", "over", "list"]:
             self.assertIn(f"\n  metaplay {command} ".encode(), helped.out)
             self.assertIn(b"Usage: metaplay " + command.encode(), answer(program, [command, "--help"]).out)
         self.assertIn(b"docs/FAULTS.md", helped.out)

@@ -1,7 +1,9 @@
 """How much memory the built program takes: what draws is drawn under a limit of its addresses, and a lower limit is told."""
 
 import functools
+import pathlib
 import resource
+import struct
 import subprocess
 import tempfile
 import unittest
@@ -13,8 +15,17 @@ from metafile.scripts import EMF, FORMS, SIDE, WMF
 
 MIB = 1 << 20
 
-# What a run may take beside the program itself, the file, and three bytes for each pixel of the surface.
-ROOM = 16 * MIB
+# What a run may take beside the program itself and the file, whatever the surface: a band takes 3 MiB of it.
+ROOM = 8 * MIB
+
+# What a play by a certificate may take beside that, where it needs neither lines nor pieces of a path.
+LITTLE = MIB
+
+# How many bytes a line of a drawing takes in all lists of a buffer of rows, and a piece of a path in its own.
+LINE, PIECE = 376, 96
+
+# How many lines make these lists long.
+LONG = 1 << 17
 
 OUT_OF_MEMORY = Answer(4, b"", b"metaplay: OutOfMemory\n")
 
@@ -26,10 +37,10 @@ def within(limit):
     return lambda: resource.setrlimit(resource.RLIMIT_AS, (limit, limit))
 
 
-def answer_within(limit, program, words, given=b""):
+def answer_within(limit, program, words, given=b"", **more):
     """The program's answer under a limit of addresses, or None where the system can't start it there."""
     try:
-        return answer(program, words, given, preexec_fn=within(limit))
+        return answer(program, words, given, preexec_fn=within(limit), **more)
     except (OSError, subprocess.SubprocessError):
         return None
 
@@ -84,14 +95,14 @@ PATHS = [
 
 
 class Memory(unittest.TestCase):
-    """Runs under a limit of the program itself, its file, its surface, and a room that is the same for all."""
+    """Runs under a limit of the program itself, its file, and a room that is the same for all, and for all surfaces."""
 
     def check(self, program, form, script, handles=4):
         """A file of these records is shown under the limit as it is without one."""
         given = form.file(form.records(script), SIDE, handles)
         ample = answer(program, SHOW, given)
         self.assertEqual((ample.status, ample.err), (0, b""), script[:80])
-        limit = bare(program) + len(given) + 3 * SIDE * SIDE + ROOM
+        limit = bare(program) + len(given) + ROOM
         self.assertEqual(answer_within(limit, program, SHOW, given), ample, (form.name, script[:80]))
 
     @for_each_program
@@ -113,7 +124,7 @@ class Memory(unittest.TestCase):
         for width, height in [(4096, 4096), (8192, 4096), (4096, 8192), (8192, 8192)]:
             with tempfile.TemporaryFile() as image:
                 words = [program, "show", "stdin", str(width), str(height)]
-                limit = within(bare(program) + len(DOT) + 3 * width * height + ROOM)
+                limit = within(bare(program) + len(DOT) + ROOM)
                 ran = subprocess.run(words, input=DOT, stdout=image, stderr=subprocess.PIPE, check=False, preexec_fn=limit)
                 self.assertEqual((ran.returncode, ran.stderr), (0, b""), (width, height))
                 header = f"P6\n{width} {height}\n255\n".encode()
@@ -132,6 +143,52 @@ class Memory(unittest.TestCase):
             answered = answer_within(limit, program, ["show", file.name, "4", "4"])
         self.assertEqual(answered, Answer(0, DOT_IMAGE, b""))
 
+    @for_each_program
+    def test_a_listing_takes_no_more_where_a_file_draws_more(self, program):
+        # The file is held as above. To draw such a polygon takes more than the room.
+        for script in (f"polygon {points(400000)}", "100000x pixel 1 1"):
+            given = EMF.file(EMF.records(script), SIDE, 4)
+            ample = answer(program, ["list", "stdin"], given)
+            self.assertEqual((ample.status, ample.err), (0, b""), script[:80])
+            limit = bare(program) + 3 * len(given) + 48 + ROOM
+            self.assertEqual(answer_within(limit, program, ["list", "stdin"], given), ample, script[:80])
+            if script.startswith("polygon"):
+                self.assertEqual(answer_within(limit, program, SHOW, given), OUT_OF_MEMORY)
+
+
+class CertifiedMemory(unittest.TestCase):
+    """Plays by a certificate under a limit of the program itself, its inputs, its surface, and what the certificate needs."""
+
+    def check(self, program, form, script):
+        """A file of these records plays by its certificate under the limit as it does without one."""
+        given = form.file(form.records(script), SIDE, 4)
+        with tempfile.TemporaryDirectory() as folder:
+            file, certificate = pathlib.Path(folder, "file"), pathlib.Path(folder, "certificate")
+            file.write_bytes(given)
+            words = ["play", file, certificate, str(SIDE), str(SIDE)]
+            self.assertEqual(answer(program, ["prepare", *words[1:2], *words[3:], certificate]), Answer(0, b"", b""), script[:80])
+            ample = answer(program, words)
+            self.assertEqual((ample.status, ample.err), (0, b""), script[:80])
+            kept = certificate.read_bytes()
+            edges, pieces = struct.unpack_from("<II", kept, 28)
+            # (a list of bytes that is full moves into one at most twice as long, and both are there while it is read alone)
+            limit = bare(program) + 2 * (len(given) + len(kept)) + 3 * SIDE * SIDE + LINE * edges + PIECE * pieces + LITTLE
+            self.assertEqual(answer_within(limit, program, words), ample, (form.name, script[:80]))
+
+    @for_each_program
+    def test_what_needs_little_takes_little(self, program):
+        # Room for any drawing would be 376 MiB, and for any path 6 MiB.
+        for form in FORMS:
+            for script in DRAWINGS:
+                self.check(program, form, script)
+        for script in PATHS:
+            self.check(program, EMF, script)
+
+    @for_each_program
+    def test_a_long_drawing_takes_so_many_bytes_for_each_line(self, program):
+        for script in [f"polygon {points(LONG)}", f"polyline {points(LONG)}"]:
+            self.check(program, EMF, script)
+
 
 class LittleMemory(unittest.TestCase):
     """Runs under limits that are too low."""
@@ -140,7 +197,7 @@ class LittleMemory(unittest.TestCase):
     def test_a_limit_far_too_low_is_told(self, program):
         for width, height in [(8192, 8192), (8192, 4096), (4096, 8192), (4096, 4096), (2048, 8192)]:
             words = ["show", "stdin", str(width), str(height)]
-            told = answer_within(bare(program) + 3 * width * height // 2, program, words, DOT)
+            told = answer_within(bare(program) + 3 * MIB // 2, program, words, DOT)
             self.assertEqual(told, OUT_OF_MEMORY, (width, height))
 
     @for_each_program

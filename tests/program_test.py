@@ -4,6 +4,7 @@ little memory."""
 import os
 import resource
 import shutil
+import struct
 import subprocess
 import tempfile
 import unittest
@@ -11,6 +12,8 @@ import unittest
 from built import DOT, DOT_IMAGE, ROOT, SAMPLES, Answer, answer, for_each_program
 
 DOT_FILE = SAMPLES / "dot.wmf"
+
+NIL_FILE = SAMPLES / "nil.emf"
 
 CANNOT_READ = Answer(3, b"", b"metaplay: cannot read\n")
 
@@ -30,7 +33,7 @@ def as_nobody():
 
 
 def with_little_memory():
-    """Leaves a process 64 MiB of addresses, while an image of 8,192 by 8,192 needs 192."""
+    """Leaves a process 64 MiB of addresses."""
     resource.setrlimit(resource.RLIMIT_AS, (1 << 26, 1 << 26))
 
 
@@ -192,8 +195,13 @@ class Program(unittest.TestCase):
 
     @for_each_program
     def test_little_memory_is_told(self, program):
-        large = ["show", DOT_FILE, "8192", "8192"]
-        answered = answer(program, large, preexec_fn=with_little_memory)
+        # A certificate of an empty file that asks for room for 1,048,576 lines.
+        with tempfile.NamedTemporaryFile() as certificate:
+            certificate.write(b"MPC1" + struct.pack("<9I", 1, 1, 0, 0, 0, 0, 1 << 20, 0, 0))
+            certificate.flush()
+            large = ["play", NIL_FILE, certificate.name, "1", "1"]
+            self.assertEqual(answer(program, large), Answer(0, b"P6\n1 1\n255\n\xff\xff\xff", b""))
+            answered = answer(program, large, preexec_fn=with_little_memory)
         self.assertEqual(answered, Answer(4, b"", b"metaplay: OutOfMemory\n"))
         small = answer(program, ["show", DOT_FILE, "4", "4"], preexec_fn=with_little_memory)
         self.assertEqual(small, Answer(0, DOT_IMAGE, b""))

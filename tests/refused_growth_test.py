@@ -83,6 +83,8 @@ LINES = [
     (["show", SMALL_EMF, "4", "4"], b""),
     (["show", "/no/such/file", "4", "4"], b""),
     (["show", b"\xff", "4", "4"], b""),
+    (["list", "stdin"], DOT),
+    (["list", "stdin"], DOT[:54]),
     (["show", "stdin", "0", "4"], b""),
     (["play"], b""),
     (["--bands"], b""),
@@ -180,27 +182,51 @@ class RefusedGrowth(unittest.TestCase):
         words = ["play", *self.prepared(program, given, "300"), *sides]
         return sum(1 for _ in self.under_refusals(program, words))
 
+    def check_command(self, program, words, output):
+        """A command under refusals ends in want of memory, or as ever. An output that it began is whole or not there: none of its bytes is written
+        before all of it is known."""
+        # (the last run of the line before, of which nothing was refused, may have left its output)
+        output.unlink(missing_ok=True)
+        ample = answer(program, words)
+        written = output.read_bytes() if output.exists() else None
+        output.unlink(missing_ok=True)
+        refusals = 0
+        for number, answered in self.under_refusals(program, words):
+            with self.subTest(program=program.name, words=words, number=number):
+                self.assertIn(answered, [OUT_OF_MEMORY, ample])
+                self.assertEqual(output.read_bytes() if output.exists() else None, written if answered.status == 0 else None)
+            output.unlink(missing_ok=True)
+            refusals += answered == OUT_OF_MEMORY
+        self.assertGreater(refusals, 0, words)
+
+    def image(self, side):
+        """The name of a black image with this side."""
+        image = self.mark.with_name("image")
+        image.write_bytes(b"P6\n%d %d\n255\n" % (side, side) + bytes(3 * side * side))
+        return str(image)
+
     def test_the_commands_for_certificates_answer_a_refusal_or_as_ever(self):
-        # An output that was begun is whole or not there: none of its bytes is written before all of it is known.
         for program, given in itertools.product(PROGRAMS, [DOT, WHEEL.read_bytes(), SMALL_EMF.read_bytes()]):
             file, certificate = self.prepared(program, given, "64")
-            output = self.mark.with_name("output")
+            output, image = self.mark.with_name("output"), self.image(64)
             lines = [["prepare", file, "64", "64", str(output)], ["check", file, certificate], ["check", certificate, file]]
             lines += [["play", file, certificate, "64", "64"], ["play", file, certificate, "65", "64"]]
+            lines += [["over", file, certificate, image], ["over", file, certificate, file]]
             for words in lines:
-                # (the last run of the line before, of which nothing was refused, may have left its output)
-                output.unlink(missing_ok=True)
-                ample = answer(program, words)
-                written = output.read_bytes() if output.exists() else None
-                output.unlink(missing_ok=True)
-                refusals = 0
-                for number, answered in self.under_refusals(program, words):
-                    with self.subTest(program=program.name, words=words, number=number):
-                        self.assertIn(answered, [OUT_OF_MEMORY, ample])
-                        self.assertEqual(output.read_bytes() if output.exists() else None, written if answered.status == 0 else None)
-                    output.unlink(missing_ok=True)
-                    refusals += answered == OUT_OF_MEMORY
-                self.assertGreater(refusals, 0, words)
+                self.check_command(program, words, output)
+
+    def test_the_commands_for_certificates_on_states_paths_and_tiles(self):
+        # The program of the other compiler is of the same code: it has the files above.
+        for program, (form, script, wanted) in itertools.product(PROGRAMS[:1], STATE_SCRIPTS):
+            output, side = self.mark.with_name("output"), str(SIDE)
+            if wanted.status == 0:
+                file, certificate = self.prepared(program, state_file(form, script), side)
+                lines = [["check", file, certificate], ["play", file, certificate, side, side], ["over", file, certificate, self.image(SIDE)]]
+            else:
+                file, lines = self.mark.with_name("file"), []
+                file.write_bytes(state_file(form, script))
+            for words in [["prepare", str(file), side, side, str(output)], *lines]:
+                self.check_command(program, words, output)
 
     def test_records_and_pixels_take_no_memory(self):
         # Files of one length, with a thousand records before the end or behind it, and surfaces of

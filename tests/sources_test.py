@@ -29,6 +29,7 @@ BETWEEN = [
     "commands::input::read_input",
     "commands::inputs::certificate_of",
     "commands::inputs::file_of",
+    "commands::inputs::image_of",
     "commands::inputs::read_file",
     "commands::inputs::read_inputs",
     "commands::inputs::read_named",

@@ -32,7 +32,7 @@ fn a_command_line_asks_for_a_file_and_sides(rt: HostRuntime) -> Result<(), Fail>
 
 #[test]
 fn each_command_is_asked_for_by_its_words(rt: HostRuntime) -> Result<(), Fail> {
-    let lines: [(&[&str], CommandLine<'_>); 4] = [
+    let lines: [(&[&str], CommandLine<'_>); 8] = [
         (
             &["metaplay", "prepare", "a.wmf", "4", "5", "b.cert"],
             CommandLine::Prepare {
@@ -56,7 +56,42 @@ fn each_command_is_asked_for_by_its_words(rt: HostRuntime) -> Result<(), Fail> {
                 certificate: "b.cert",
                 width: 4,
                 height: 5,
+                bands: None,
             },
+        ),
+        (
+            &[
+                "metaplay", "play", "a.wmf", "b.cert", "4", "5", "--bands", "8192",
+            ],
+            CommandLine::Play {
+                file: "a.wmf",
+                certificate: "b.cert",
+                width: 4,
+                height: 5,
+                bands: Some(8192),
+            },
+        ),
+        (
+            &["metaplay", "play", "--bands=1", "a.wmf", "b.cert", "4", "5"],
+            CommandLine::Play {
+                file: "a.wmf",
+                certificate: "b.cert",
+                width: 4,
+                height: 5,
+                bands: Some(1),
+            },
+        ),
+        (
+            &["metaplay", "over", "a.wmf", "b.cert", "c.ppm"],
+            CommandLine::Over {
+                file: "a.wmf",
+                certificate: "b.cert",
+                image: "c.ppm",
+            },
+        ),
+        (
+            &["metaplay", "list", "a.wmf"],
+            CommandLine::List { file: "a.wmf" },
         ),
         (
             &["metaplay", "check", "--", "stdin", "--help"],
@@ -110,7 +145,7 @@ fn shown(width: u32, height: u32) -> CommandLine<'static> {
 
 #[test]
 fn each_wrong_command_line_has_status_2(rt: HostRuntime) -> Result<(), Fail> {
-    let lines: [(&[&str], &str); 12] = [
+    let lines: [(&[&str], &str); 18] = [
         (&["metaplay"], "requires a subcommand"),
         (
             &["metaplay", "draw", "a.wmf", "4", "4"],
@@ -143,7 +178,50 @@ fn each_wrong_command_line_has_status_2(rt: HostRuntime) -> Result<(), Fail> {
             "4294967296 is not in 1..=8192",
         ),
         (&["metaplay", "show", "a.wmf", "4", ""], "for '<H>'"),
+        (
+            &["metaplay", "over", "a.wmf", "b.cert"],
+            "were not provided",
+        ),
+        (
+            &["metaplay", "over", "a.wmf", "b.cert", "c.ppm", "4"],
+            "unexpected argument",
+        ),
         (&["metaplay", "--bands"], "unexpected argument"),
+        (
+            &[
+                "metaplay", "play", "a.wmf", "b.cert", "4", "4", "--bands", "0",
+            ],
+            "0 is not in 1..=8192",
+        ),
+        (
+            &[
+                "metaplay",
+                "play",
+                "a.wmf",
+                "b.cert",
+                "4",
+                "4",
+                "--bands=8193",
+            ],
+            "8193 is not in 1..=8192",
+        ),
+        (
+            &[
+                "metaplay",
+                "play",
+                "a.wmf",
+                "b.cert",
+                "4",
+                "4",
+                "--bands=1",
+                "--bands=1",
+            ],
+            "cannot be used multiple times",
+        ),
+        (
+            &["metaplay", "show", "a.wmf", "4", "4", "--bands", "1"],
+            "unexpected argument",
+        ),
     ];
     for (list, text) in lines {
         let asked = words(rt.alloc(), list)?;
@@ -166,12 +244,13 @@ fn each_wrong_command_line_has_status_2(rt: HostRuntime) -> Result<(), Fail> {
 
 #[test]
 fn help_that_was_asked_for_goes_to_standard_output(rt: HostRuntime) -> Result<(), Fail> {
-    let lines: [&[&str]; 6] = [
+    let lines: [&[&str]; 7] = [
         &["metaplay", "--help"],
         &["metaplay", "show", "--help"],
         &["metaplay", "prepare", "--help"],
         &["metaplay", "check", "--help"],
         &["metaplay", "play", "--help"],
+        &["metaplay", "over", "--help"],
         &["metaplay", "help", "show"],
     ];
     for list in lines {

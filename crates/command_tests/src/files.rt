@@ -7,6 +7,11 @@ pub(crate) const DOT: &[u8] = b"\xd7\xcd\xc6\x9a\0\0\0\0\0\0\x04\0\x04\0\x60\0\0
     \x01\0\x09\0\0\x03\x13\0\0\0\0\0\x07\0\0\0\0\0\
     \x07\0\0\0\x1f\x04\xff\0\0\0\x01\0\x02\0\x03\0\0\0\0\0";
 
+/// Its certificate for surfaces up to 4 by 4: a write, and the point (2,1).
+pub(crate) const DOT_CERT: &[u8] = b"MPC1\x04\0\0\0\x04\0\0\0\x01\0\0\0\0\0\0\0\
+    \0\0\0\0\0\0\0\0\0\0\0\0\0\0\0\0\x01\0\0\0\
+    \0\0\0\0\x02\0\0\0\x01\0\0\0\x02\0\0\0\x01\0\0\0";
+
 /// A placeable file with the box (0,0,4,4), the polygon (0,0), (4,0), (0,4), and an end.
 pub(crate) const TRI: &[u8] = b"\xd7\xcd\xc6\x9a\0\0\0\0\0\0\x04\0\x04\0\x60\0\0\0\0\0\x71\x57\
     \x01\0\x09\0\0\x03\x16\0\0\0\0\0\x0a\0\0\0\0\0\

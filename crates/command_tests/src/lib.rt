@@ -15,6 +15,10 @@ mod files;
 #[cfg(test)]
 mod inputs;
 #[cfg(test)]
+mod listings;
+#[cfg(test)]
+mod over_images;
+#[cfg(test)]
 mod playing;
 #[cfg(test)]
 mod preparing;

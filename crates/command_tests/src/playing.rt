@@ -32,20 +32,23 @@ fn a_file_is_played_at_the_bound_and_below(rt: HostRuntime) -> Result<(), Fail> 
     ];
     for (file, certificate, width, height, header, rows) in cases {
         let want = text_of(rt.alloc(), header, rows)?;
-        let mut out = limited(rt.alloc(), 1000, true);
-        let mut err = Vec::new(rt.alloc());
-        let answer = play_command(
-            rt.alloc(),
-            file,
-            certificate,
-            width,
-            height,
-            &mut out,
-            &mut err,
-        );
-        same(&rt, answer.status(), 0);
-        same(&rt, out.taken.as_slice(), want.as_slice());
-        assert!(rt; err.is_empty() && answer.told.is_ok());
+        for bands in [None, Some(1), Some(2), Some(3), Some(8192)] {
+            let mut out = limited(rt.alloc(), 1000, true);
+            let mut err = Vec::new(rt.alloc());
+            let answer = play_command(
+                rt.alloc(),
+                file,
+                certificate,
+                width,
+                height,
+                bands,
+                &mut out,
+                &mut err,
+            );
+            same(&rt, answer.status(), 0);
+            same(&rt, out.taken.as_slice(), want.as_slice());
+            assert!(rt; err.is_empty() && answer.told.is_ok());
+        }
     }
     Ok(())
 }
@@ -70,6 +73,7 @@ fn a_surface_above_the_bound_is_refused_behind_the_check(rt: HostRuntime) -> Res
             certificate,
             width,
             height,
+            None,
             &mut out,
             &mut err,
         );
@@ -85,7 +89,7 @@ fn an_image_that_cannot_be_written_has_status_3(rt: HostRuntime) -> Result<(), F
     for (most, can_flush) in [(0, true), (22, true), (23, false)] {
         let mut out = limited(rt.alloc(), most, can_flush);
         let mut err = Vec::new(rt.alloc());
-        let answer = play_command(rt.alloc(), TRI, TRI_CERT, 2, 2, &mut out, &mut err);
+        let answer = play_command(rt.alloc(), TRI, TRI_CERT, 2, 2, Some(1), &mut out, &mut err);
         same(&rt, (most, answer.status()), (most, 3));
         same(&rt, out.taken.len(), most);
         same(&rt, err.as_slice(), b"metaplay: cannot write\n".as_slice());
@@ -103,6 +107,7 @@ fn playing_under_refused_growth(rt: HostRuntime) -> Result<(), Fail> {
         TRI_CERT,
         1,
         1,
+        None,
         &mut out.as_mut_slice(),
         &mut err.as_mut_slice(),
     );

@@ -1,6 +1,8 @@
 pub mod AppLemmas
 pub mod AskedLemmas
+pub mod FailureLemmas
 pub mod LineLemmas
+pub mod ListLemmas
 pub mod PlayLemmas
 pub mod PreparedLemmas
 pub mod ReportLemmas

@@ -13,27 +13,29 @@ use Rattle.commands.specs.declared.answer.CommandEnd.TheVariants as end
 use Rattle.commands.specs.declared.asked.CommandLine.{CommandLine}
 use Rattle.commands.specs.declared.input.InputFault.{InputFault}
 use Rattle.commands.specs.declared.input.InputFault.TheVariants as fault
-use Rattle.commands.specs.declared.asked.CommandLine.TheVariants.{Check, Play, Prepare, Show}
+use Rattle.commands.specs.declared.asked.CommandLine.TheVariants.{Check, List as ListLine, Over, Play, Prepare, Show}
 
 -- where memory was refused, a task has written nothing
-kept : (line : CommandLine) (file certificate : List ℕ) (old new : Option (List ℕ)) → LineWrites line (task_of line file certificate) end.OutOfMemory old new → Keeps old new
-kept (Show name width height) file certificate old new keeps = keeps
-kept (Prepare name width height output) file certificate old new keeps = keeps
-kept (Check name other) file certificate old new keeps = keeps
-kept (Play name other width height) file certificate old new keeps = keeps
+kept : (line : CommandLine) (file certificate image : List ℕ) (old new : Option (List ℕ)) → LineWrites line (task_of line file certificate image) end.OutOfMemory old new → Keeps old new
+kept (Show name width height) file certificate image old new keeps = keeps
+kept (Prepare name width height output) file certificate image old new keeps = keeps
+kept (Check name other) file certificate image old new keeps = keeps
+kept (Play name other width height bands) file certificate image old new keeps = keeps
+kept (Over name other third) file certificate image old new keeps = keeps
+kept (ListLine name) file certificate image old new keeps = keeps
 
-module _ (line : CommandLine) (input : Option (List ℕ)) (file certificate : List ℕ) (read : IsInput (file_of line) input file) (told : Told) (before after : Option (List ℕ)) where
-  pub out_of_task : (e : CommandEnd) (old new : Option (List ℕ)) → LineWrites line (task_of line file certificate) e old new → TellsBy e (task_of line file certificate) told before after → OutBy e line input old new
-  out_of_task end.Done old new writes tells = record { file = file; certificate = certificate; read = read; written = writes }
-  out_of_task end.Refused old new writes tells = record { file = file; certificate = certificate; read = read; written = writes }
-  out_of_task end.CannotWrite old new writes tells = record { file = file; certificate = certificate; read = read; written = writes }
-  out_of_task end.OutOfMemory old new writes tells = kept line file certificate old new writes
+module _ (line : CommandLine) (input : Option (List ℕ)) (file certificate image : List ℕ) (read : IsInput (file_of line) input file) (told : Told) (before after : Option (List ℕ)) where
+  pub out_of_task : (e : CommandEnd) (old new : Option (List ℕ)) → LineWrites line (task_of line file certificate image) e old new → TellsBy e (task_of line file certificate image) told before after → OutBy e line input old new
+  out_of_task end.Done old new writes tells = record { file = file; certificate = certificate; image = image; read = read; written = writes }
+  out_of_task end.Refused old new writes tells = record { file = file; certificate = certificate; image = image; read = read; written = writes }
+  out_of_task end.CannotWrite old new writes tells = record { file = file; certificate = certificate; image = image; read = read; written = writes }
+  out_of_task end.OutOfMemory old new writes tells = kept line file certificate image old new writes
   out_of_task end.CannotRead old new writes tells = absurd tells
   out_of_task end.WrongUsage old new writes tells = absurd tells
 
-  pub err_of_task : (e : CommandEnd) → TellsBy e (task_of line file certificate) told before after → ErrBy e line input told before after
+  pub err_of_task : (e : CommandEnd) → TellsBy e (task_of line file certificate image) told before after → ErrBy e line input told before after
   err_of_task end.Done tells = tells
-  err_of_task end.Refused tells = record { file = file; certificate = certificate; read = read; tells = tells }
+  err_of_task end.Refused tells = record { file = file; certificate = certificate; image = image; read = read; tells = tells }
   err_of_task end.CannotWrite tells = tells
   err_of_task end.OutOfMemory tells = tells
   err_of_task end.CannotRead tells = absurd tells

@@ -1,17 +1,29 @@
 -- What is played of a file that was checked, and why it isn't.
-use Rattle.std.proofs.Common.{◌≡◌, ◌<◌, ◌⊎◌, inl, inr, ℕ, List, Option, None, Ok, refl}
+use Rattle.std.proofs.Common.{◌≡◌, ◌<◌, ◌⊎◌, ◌↔◌, ◌∙◌, inl, inr, ℕ, List, Option, Some, None, Result, Ok, Err, ap, arith, refl}
+use Rattle.mapping.specs.Colours.{white_colour}
 use Rattle.mapping.specs.Image.{Image}
+use Rattle.canvas.specs.PpmReading.{read_ppm}
 use Rattle.draw_ops.specs.declared.fault.Fault.{Fault}
-use Rattle.draw_ops.specs.declared.fault.Fault.TheVariants.{OutOfMemory}
+use Rattle.draw_ops.specs.declared.fault.Fault.TheVariants.{BadImage, OutOfMemory, SurfaceTooLarge, WriteFault}
 use Rattle.meta_headers.specs.File.{IsOpenedFrom}
 use Rattle.preflight_cert.specs.Answer.{IsAnswer, accepted, refuses}
 use Rattle.preflight_cert.specs.CertificateOf.{certificate_of}
 use Rattle.preflight_cert.specs.CertificateReading.{read_certificate}
-use Rattle.preflight_cert.specs.Checks.{IsWantOfMemory}
+use Rattle.preflight_cert.specs.Refusal.{IsWantOfMemory}
+use Rattle.preflight_cert.specs.Run.{white}
+use Rattle.preflight_cert.specs.declared.certificate.Certificate.{Certificate}
 use Rattle.preflight_cert.specs.declared.cleared.Cleared.{Cleared}
 use Rattle.preflight_cert.specs.declared.refusal.Refusal.{Refusal}
-use Rattle.commands.specs.ClearedFiles.{IsWithinBound, Leaves, RefusesSurface}
-use Rattle.commands.specs.Images.{IsPlayed, RefusesPlay}
+use Rattle.player.specs.Bands.{IsRunText, WritesRun}
+use Rattle.player.specs.Bands as TheBound
+use Rattle.commands.specs.ClearedFiles.{FailsToPlay, FailsWithin, IsWithinBound, Leaves, RefusesSurface, WritesPlayed}
+use Rattle.commands.specs.Ends.{IsDoneBy, WritesText}
+use Rattle.commands.specs.Failures.{Fails, IsFailureOf}
+use Rattle.commands.specs.Images.{IsPlayed, IsPlayedOver, IsPlayedText, RefusesOver}
+use Rattle.commands.specs.Tasks.{play, show}
+use Rattle.commands.specs.declared.failure.Failure.{Failure}
+use Rattle.commands.specs.declared.failure.Failure.TheVariants as why
+use Rattle.commands.proofs.FailureLemmas.{kept, refusal_fails}
 
 pub played : (file bytes : List ℕ) (cleared : Cleared) (width height : ℕ) (start image : Image) → IsAnswer file bytes accepted → IsOpenedFrom file cleared.opened
     → read_certificate bytes ≡ Ok (certificate_of cleared.certificate) → IsWithinBound cleared.certificate width height
@@ -22,19 +34,107 @@ played file bytes cleared width height start image accepts from read within leav
   run = leaves file from;
 }
 
-pub check_refuses : (file bytes : List ℕ) (width height : ℕ) (r : Refusal) → (IsAnswer file bytes (refuses r.number r.fault) ⊎ IsWantOfMemory r)
-    → (RefusesPlay file bytes width height r.number r.fault ⊎ IsWantOfMemory r)
-check_refuses file bytes width height r (inl denies) = inl (inl denies)
-check_refuses file bytes width height r (inr want) = inr want
+-- what the check refuses isn't played
+pub check_fails :
+    (file bytes : List ℕ) (width height : ℕ) (r : Refusal) (failure : Failure) (held : Option (List ℕ))
+    → (IsAnswer file bytes (refuses r.number r.fault) ⊎ IsWantOfMemory r) → IsFailureOf r failure → Fails (play file bytes width height) failure held held
+check_fails file bytes width height r failure held (inl denies) by =
+    refusal_fails (play file bytes width height) r failure held (inl (inl denies)) (kept held) by
+check_fails file bytes width height r failure held (inr want) by = refusal_fails (play file bytes width height) r failure held (inr want) (kept held) by
 
-pub surface_refuses : (file bytes : List ℕ) (cleared : Cleared) (width height : ℕ) (fault : Fault) (r : Refusal) → IsAnswer file bytes accepted
-    → read_certificate bytes ≡ Ok (certificate_of cleared.certificate) → RefusesSurface cleared.certificate width height fault
-    → r.number ≡ None → r.fault ≡ fault → (RefusesPlay file bytes width height r.number r.fault ⊎ IsWantOfMemory r)
-surface_refuses file bytes cleared width height fault r accepts read (inl above) none is =
-    inl (inr (record {
+module _ (file bytes : List ℕ) (cleared : Cleared) (width height : ℕ) (accepts : IsAnswer file bytes accepted) (from : IsOpenedFrom file cleared.opened)
+    (read : read_certificate bytes ≡ Ok (certificate_of cleared.certificate)) where
+  -- the text of what a cleared file leaves of white is that of the play
+  of_play : IsWithinBound cleared.certificate width height → (text : List ℕ) → IsRunText file width height (white width height) text
+      → IsPlayedText file bytes width height (white width height) text
+  of_play within text run = record {
+    image = run.image;
+    played = record {
       accepted = accepts;
-      excluded = record { value = certificate_of cleared.certificate; read = read; larger = above.larger };
-      in_none = none;
-      is_fault = rw is above.is;
+      allowed = record { value = certificate_of cleared.certificate; read = read; wide = within.wide; high = within.high };
+      run = run.run;
+    };
+    is_text = run.is_text;
+  }
+
+  pub play_done : (old new : Option (List ℕ)) → WritesPlayed cleared width height old new → WritesText (IsDoneBy (play file bytes width height)) old new
+  play_done old new p = record { text = p.written.text; fact = of_play p.within p.written.text (p.written.of_run file from); written = p.written.appended }
+
+  pub play_fails :
+      {W : Type 0} → (contents : W → Option (List ℕ)) (old new : W) (failure : Failure) → FailsToPlay cleared width height contents old new failure
+      → Fails (play file bytes width height) failure (contents old) (contents new)
+  play_fails contents old new (why.Refused r) p = (
+    inr (record {
+      accepted = accepts;
+      excluded = record { value = certificate_of cleared.certificate; read = read; larger = p.above.larger };
+      in_none = p.number;
+      is_fault = p.above.is;
+    }),
+    p.kept,
+  )
+  play_fails contents old new why.CannotWrite p =
+      record { text = p.written.text; fact = of_play p.within p.written.text (p.written.of_run file from); written = p.written.appended }
+  play_fails contents old new why.OutOfMemory p = p
+
+-- the same of a file that was prepared at the surface's size
+pub show_done :
+    (file : List ℕ) (cleared : Cleared) (width height : ℕ) (old new : Option (List ℕ)) → IsOpenedFrom file cleared.opened
+    → WritesRun cleared width height white_colour old new → WritesText (IsDoneBy (show file width height)) old new
+show_done file cleared width height old new from p = record { text = p.text; fact = p.of_run file from; written = p.appended }
+
+pub show_fails :
+    {W : Type 0} → (file : List ℕ) (cleared : Cleared) (width height : ℕ) (contents : W → Option (List ℕ)) (old new : W) (failure : Failure)
+    → IsOpenedFrom file cleared.opened → FailsWithin cleared width height contents old new failure
+    → Fails (show file width height) failure (contents old) (contents new)
+show_fails file cleared width height contents old new (why.Refused r) from p = absurd p
+show_fails file cleared width height contents old new why.CannotWrite from p = record { text = p.text; fact = p.of_run file from; written = p.appended }
+show_fails file cleared width height contents old new why.OutOfMemory from p = p
+
+-- a surface within the bound is refused for want of memory alone, or since the writer failed
+pub never_refused_within :
+    (c : Certificate) (width height : ℕ) (result : Result ℕ Fault) (fault : Fault) → IsWithinBound c width height → result ≡ Err fault
+    → ((result ≡ Err SurfaceTooLarge) ↔ TheBound.IsAboveBound width height c) → (fault ≡ SurfaceTooLarge ⊎ (fault ≡ OutOfMemory ⊎ fault ≡ WriteFault))
+    → (fault ≡ OutOfMemory → ⊥) → (fault ≡ WriteFault → ⊥) → ⊥
+never_refused_within c width height result fault within is bound (inl large) memory writing = above (bound.0 (is ∙ ap (λ (f : Fault). Err f) large))
+  where
+    above : (c.max_width < width ⊎ c.max_height < height) → ⊥
+    above (inl less) = let h = within.wide in absurd (omega (arith, less, h))
+    above (inr less) = let h = within.high in absurd (omega (arith, less, h))
+never_refused_within c width height result fault within is bound (inr (inl want)) memory writing = memory want
+never_refused_within c width height result fault within is bound (inr (inr failed)) memory writing = writing failed
+
+pub over_check_refuses : (file bytes image : List ℕ) (r : Refusal) → (IsAnswer file bytes (refuses r.number r.fault) ⊎ IsWantOfMemory r)
+    → (RefusesOver file bytes image r.number r.fault ⊎ IsWantOfMemory r)
+over_check_refuses file bytes image r (inl denies) = inl (inl (inl denies))
+over_check_refuses file bytes image r (inr want) = inr want
+
+pub no_image_refuses : (file bytes image : List ℕ) (r : Refusal) → IsAnswer file bytes accepted → read_ppm image ≡ None
+    → r.number ≡ None → r.fault ≡ BadImage → (RefusesOver file bytes image r.number r.fault ⊎ IsWantOfMemory r)
+no_image_refuses file bytes image r accepts unread none is = inl (inl (inr (record { accepted = accepts; unread = unread; in_none = none; is_fault = is })))
+
+pub over_surface_refuses : (file bytes image : List ℕ) (start : Image) (cleared : Cleared) (fault : Fault) (r : Refusal) → IsAnswer file bytes accepted
+    → read_certificate bytes ≡ Ok (certificate_of cleared.certificate) → read_ppm image ≡ Some start
+    → RefusesSurface cleared.certificate start.width start.height fault
+    → r.number ≡ None → r.fault ≡ fault → (RefusesOver file bytes image r.number r.fault ⊎ IsWantOfMemory r)
+over_surface_refuses file bytes image start cleared fault r accepts read shows (inl above) none is =
+    inl (inr (record {
+      start = start;
+      read = shows;
+      larger = record {
+        accepted = accepts;
+        excluded = record { value = certificate_of cleared.certificate; read = read; larger = above.larger };
+        in_none = none;
+        is_fault = rw is above.is;
+      };
     }))
-surface_refuses file bytes cleared width height fault r accepts read (inr want) none is = inr (record { number = none; fault = rw is want })
+over_surface_refuses file bytes image start cleared fault r accepts read shows (inr want) none is = inr (record { number = none; fault = rw is want })
+
+pub played_over : (file bytes image : List ℕ) (start after : Image) (cleared : Cleared) → IsAnswer file bytes accepted → IsOpenedFrom file cleared.opened
+    → read_certificate bytes ≡ Ok (certificate_of cleared.certificate) → read_ppm image ≡ Some start
+    → IsWithinBound cleared.certificate start.width start.height → Leaves cleared start.width start.height start after
+    → IsPlayedOver file bytes image after
+played_over file bytes image start after cleared accepts from read shows within leaves = record {
+  start = start;
+  read = shows;
+  played = played file bytes cleared start.width start.height start after accepts from read within leaves;
+}

@@ -13,7 +13,7 @@ use Rattle.preflight_cert.specs.Answer.{Answer, AnswersOpened, IsAnswer, accepte
 use Rattle.preflight_cert.specs.CertificateReading.{CertificateValue, is_bounded, mark, read_certificate, read_whole, value_in, whole_size}
 use Rattle.preflight_cert.specs.CertificateText.{certificate_text}
 use Rattle.preflight_cert.specs.CertificateOf.{certificate_of}
-use Rattle.preflight_cert.specs.Checks.{IsWantOfMemory}
+use Rattle.preflight_cert.specs.Refusal.{IsWantOfMemory}
 use Rattle.preflight_cert.specs.Preparation.{Prepares, PreparesIfOpened, PreparesWithin, RefusesWithin, StopsPreparing, is_bound}
 use Rattle.preflight_cert.specs.Run.{Refused}
 use Rattle.preflight_cert.specs.declared.certificate.Certificate.{Certificate}
@@ -138,7 +138,7 @@ side_test side is = and_from (nat_le 1 side) (nat_le side 8192) (le-leb _ _ is.n
 
 -- of sides that a surface may have, the refusal is the run's
 pub run_refused : (file : List ℕ) (width height : ℕ) → IsSurfaceSide width → IsSurfaceSide height → (r : Refusal)
-    → (StopsPreparing file width height r.number r.fault ⊎ IsWantOfMemory r) → (Refused file width height r.number r.fault ⊎ IsWantOfMemory r)
+    → (StopsPreparing file width height r ⊎ IsWantOfMemory r) → (Refused file width height r.number r.fault ⊎ IsWantOfMemory r)
 run_refused file width height wide high r (inr want) = inr want
 run_refused file width height wide high r (inl stops) =
     let bound : is_bound width height ≡ true = and_from (is_surface_side width) (is_surface_side height) (side_test width wide) (side_test height high) in

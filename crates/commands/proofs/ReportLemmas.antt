@@ -20,7 +20,7 @@ use Rattle.preflight_cert.specs.After.{file_notes}
 use Rattle.preflight_cert.specs.Answer.{AnswerLaws, AnswersOpened, AnswersRead, CountsRecords, Fits, IsAnswer, RecordsAnswer, accepted, refuses}
 use Rattle.preflight_cert.specs.CertificateOf.{certificate_of}
 use Rattle.preflight_cert.specs.CertificateReading.{CertificateValue, read_certificate}
-use Rattle.preflight_cert.specs.Checks.{IsWantOfMemory}
+use Rattle.preflight_cert.specs.Refusal.{IsWantOfMemory}
 use Rattle.preflight_cert.specs.EntriesOf.{entries_of}
 use Rattle.preflight_cert.specs.Drawings.{NumberedDrawing, drawings_of}
 use Rattle.preflight_cert.specs.Entries.{AreCovered}

@@ -7,7 +7,7 @@ use Rattle.clap.specs.Walk.{Held, Row, Rule, Step, Text, Walk, after_step, finis
 use Rattle.clap.specs.Words.{first_of, subcommand_of}
 use Rattle.clap.proofs.OnLiterals.{clap_on_literals}
 use Rattle.commands.specs.declared.asked.CommandLine.{CommandLine}
-use Rattle.commands.specs.declared.asked.CommandLine.TheVariants.{Check, Play, Prepare, Show}
+use Rattle.commands.specs.declared.asked.CommandLine.TheVariants.{Check, List as ListLine, Over, Play, Prepare, Show}
 use Rattle.commands.specs.CommandLine.{AreOfWords, GivesName, GivesNumber, GivesSides, HasPlainWords, HasWords, IsAskedByWords, IsPlainWord, metaplay_app, number_of}
 
 pub no_flags : (byte : ℕ) (rest : Text) → (byte ≡ 45 → ⊥) → short_of (byte ∷ rest) ≡ None
@@ -116,9 +116,15 @@ given_words (Prepare name width height output) program file wide high plain_file
 given_words (Check name certificate) program file wide high plain_file plain_wide plain_high asked =
     let rows = shown_rows program file wide high plain_file plain_wide plain_high in
     let bad : is_byte 115 99 = one_name _ _ _ _ _ rows asked.command in absurd (omega (arith, bad))
-given_words (Play name certificate width height) program file wide high plain_file plain_wide plain_high asked =
+given_words (Play name certificate width height bands) program file wide high plain_file plain_wide plain_high asked =
     let rows = shown_rows program file wide high plain_file plain_wide plain_high in
     let bad : is_byte 115 112 = one_name _ _ _ _ _ rows asked.command in absurd (omega (arith, bad))
+given_words (Over name certificate image) program file wide high plain_file plain_wide plain_high asked =
+    let rows = shown_rows program file wide high plain_file plain_wide plain_high in
+    let bad : is_byte 115 111 = one_name _ _ _ _ _ rows asked.command in absurd (omega (arith, bad))
+given_words (ListLine name) program file wide high plain_file plain_wide plain_high asked =
+    let rows = shown_rows program file wide high plain_file plain_wide plain_high in
+    let bad : is_byte 115 108 = one_name _ _ _ _ _ rows asked.command in absurd (omega (arith, bad))
 
 -- what five such words ask for
 pub plain_words : (words : List Text) (line : CommandLine) → IsAskedByWords words line → HasPlainWords words line

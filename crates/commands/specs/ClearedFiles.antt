@@ -1,8 +1,10 @@
 -- What a file and a certificate that were checked tell, and what is played of them.
-use Rattle.std.specs.Prelude.{◌≡◌, ◌≤◌, ◌<◌, ◌⊎◌, ℕ, List, length}
+use Rattle.std.specs.Prelude.{◌≡◌, ◌≤◌, ◌<◌, ◌⊎◌, ℕ, List, length, Option, None}
+use Rattle.std.specs.Io.KnownBytes.{Keeps}
 use Rattle.serde_json.specs.Data.{Data}
 use Rattle.draw_ops.specs.declared.fault.Fault.{Fault}
 use Rattle.draw_ops.specs.declared.fault.Fault.TheVariants.{OutOfMemory, SurfaceTooLarge}
+use Rattle.mapping.specs.Colours.{white_colour}
 use Rattle.mapping.specs.Image.{Image}
 use Rattle.meta_headers.specs.File.{IsOpenedFrom}
 use Rattle.meta_headers.specs.OpenedOf.{opened_of}
@@ -11,7 +13,11 @@ use Rattle.preflight_cert.specs.EntriesOf.{entries_of}
 use Rattle.preflight_cert.specs.Run.{Run, shown}
 use Rattle.preflight_cert.specs.declared.certificate.Certificate.{Certificate}
 use Rattle.preflight_cert.specs.declared.cleared.Cleared.{Cleared}
+use Rattle.preflight_cert.specs.declared.refusal.Refusal.{Refusal}
+use Rattle.player.specs.Bands.{WritesRun, WritesRunFront}
 use Rattle.commands.specs.CheckReport.{accepted_report}
+use Rattle.commands.specs.declared.failure.Failure.{Failure}
+use Rattle.commands.specs.declared.failure.Failure.TheVariants as why
 
 -- the report of what was checked
 abbrev pub report_of : Cleared → Data
@@ -32,6 +38,35 @@ Leaves cleared width height start image = (file : List ℕ) → IsOpenedFrom fil
 pub record IsAboveBound (c : Certificate) (width height : ℕ) (fault : Fault) : Type 0 where
   pub larger : c.max_width < width ⊎ c.max_height < height
   pub is : fault ≡ SurfaceTooLarge
+
+-- the surface is within the bound, and the text of the image that the run leaves of white was written
+pub record WritesPlayed (cleared : Cleared) (width height : ℕ) (old new : Option (List ℕ)) : Type 0 where
+  pub within : IsWithinBound cleared.certificate width height
+  pub written : WritesRun cleared width height white_colour old new
+
+-- or a front of it
+pub record WritesPlayedFront (cleared : Cleared) (width height : ℕ) (old new : Option (List ℕ)) : Type 0 where
+  pub within : IsWithinBound cleared.certificate width height
+  pub written : WritesRunFront cleared width height white_colour old new
+
+-- the surface is above the bound, and nothing was written
+pub record RefusesToPlay (cleared : Cleared) (width height : ℕ) (r : Refusal) (old new : Option (List ℕ)) : Type 0 where
+  pub number : r.number ≡ None
+  pub above : IsAboveBound cleared.certificate width height r.fault
+  pub kept : Keeps old new
+
+module _ {W : Type 0} where
+  -- why a cleared file wasn't played, and what was written then
+  abbrev pub FailsToPlay : Cleared → ℕ → ℕ → (W → Option (List ℕ)) → W → W → Failure → Type 0
+  FailsToPlay cleared width height contents old new (why.Refused r) = RefusesToPlay cleared width height r (contents old) (contents new)
+  FailsToPlay cleared width height contents old new why.CannotWrite = WritesPlayedFront cleared width height (contents old) (contents new)
+  FailsToPlay cleared width height contents old new why.OutOfMemory = Keeps (contents old) (contents new)
+
+  -- the same where the surface is within the bound
+  abbrev pub FailsWithin : Cleared → ℕ → ℕ → (W → Option (List ℕ)) → W → W → Failure → Type 0
+  FailsWithin cleared width height contents old new (why.Refused r) = ⊥
+  FailsWithin cleared width height contents old new why.CannotWrite = WritesRunFront cleared width height white_colour (contents old) (contents new)
+  FailsWithin cleared width height contents old new why.OutOfMemory = Keeps (contents old) (contents new)
 
 -- the fault for which a surface isn't played on
 abbrev pub RefusesSurface : Certificate → ℕ → ℕ → Fault → Type 0

@@ -1,5 +1,5 @@
 -- The program's command line, as clap reads it.
-use Rattle.std.specs.Prelude.{◌≡◌, ◌≤◌, ℕ, List, [], ◌∷◌, Option, Some, IsSome, codes, pos, true}
+use Rattle.std.specs.Prelude.{◌≡◌, ◌≤◌, ℕ, List, [], ◌∷◌, Option, Some, None, IsSome, codes, pos, true}
 use Rattle.mapping.specs.Limits.{surface_side_limit}
 use Rattle.std.specs.Str.Parse.{IsNumeral, digits_value, without_leading_plus}
 use Rattle.clap.specs.Words.{App, Row, Rule, Text, first_of, new_app, new_rule, one_of, subcommand_of, with_rule, with_subcommand}
@@ -7,7 +7,7 @@ use Rattle.clap.specs.declared.builder.ArgAction.TheVariants.{Set}
 use Rattle.clap.specs.declared.builder.value_parser.ValueParser.TheVariants.{Signed}
 use Rattle.commands.specs.Sides.{HasSides}
 use Rattle.commands.specs.declared.asked.CommandLine.{CommandLine}
-use Rattle.commands.specs.declared.asked.CommandLine.TheVariants.{Check, Play, Prepare, Show}
+use Rattle.commands.specs.declared.asked.CommandLine.TheVariants.{Check, List as ListLine, Over, Play, Prepare, Show}
 
 -- a file's name, which has to be given
 abbrev pub name_rule : Text → Rule
@@ -37,9 +37,21 @@ prepare_app = with_rule (with_sides (file_app (codes "prepare"))) (name_rule (co
 abbrev pub check_app : App
 check_app = with_rule (file_app (codes "check")) (name_rule (codes "CERT"))
 
--- play FILE CERT W H
+-- --bands ROWS, which may be given, from 1 to 8,192
+abbrev pub bands_rule : Rule
+bands_rule = record (new_rule (codes "ROWS")) { long = Some (codes "bands"); action = Some Set; parser = Some (Signed (pos 1) (pos surface_side_limit)) }
+
+-- play FILE CERT W H [--bands ROWS]
 abbrev pub play_app : App
-play_app = with_sides (with_rule (file_app (codes "play")) (name_rule (codes "CERT")))
+play_app = with_rule (with_sides (with_rule (file_app (codes "play")) (name_rule (codes "CERT")))) bands_rule
+
+-- over FILE CERT IMAGE
+abbrev pub over_app : App
+over_app = with_rule (with_rule (file_app (codes "over")) (name_rule (codes "CERT"))) (name_rule (codes "IMAGE"))
+
+-- list FILE
+abbrev pub list_app : App
+list_app = file_app (codes "list")
 
 -- metaplay alone, which has to have a command
 abbrev pub bare_app : App
@@ -48,7 +60,10 @@ bare_app = record (new_app (codes "metaplay")) { top = record (new_app (codes "m
 -- metaplay with its commands
 abbrev pub metaplay_app : App
 metaplay_app =
-    with_subcommand (with_subcommand (with_subcommand (with_subcommand bare_app show_app.top) prepare_app.top) check_app.top) play_app.top
+    with_subcommand
+    (with_subcommand (with_subcommand (with_subcommand (with_subcommand (with_subcommand bare_app show_app.top) prepare_app.top) check_app.top) play_app.top)
+    over_app.top)
+    list_app.top
 
 -- what a text reads as: its decimal digits, behind a plus, if it has one
 abbrev pub number_of : Text → ℕ
@@ -65,6 +80,11 @@ pub record GivesSides (given : List Row) (width height : ℕ) : Type 0 where
   pub wide : GivesNumber given (codes "W") width
   pub high : GivesNumber given (codes "H") height
 
+-- the text that was given for ROWS reads as this number, or none was given
+abbrev pub GivesBands : List Row → Option ℕ → Type 0
+GivesBands given None = IsSome (first_of (codes "ROWS") given) → ⊥
+GivesBands given (Some rows) = GivesNumber given (codes "ROWS") rows
+
 -- this text was given for an id
 abbrev pub GivesName : List Row → Text → Text → Type 0
 GivesName given id name = first_of id given ≡ Some name
@@ -74,7 +94,9 @@ abbrev pub command_name : CommandLine → Text
 command_name (Show file width height) = codes "show"
 command_name (Prepare file width height output) = codes "prepare"
 command_name (Check file certificate) = codes "check"
-command_name (Play file certificate width height) = codes "play"
+command_name (Play file certificate width height bands) = codes "play"
+command_name (Over file certificate image) = codes "over"
+command_name (ListLine file) = codes "list"
 
 -- a line has the names and the numbers that were given
 abbrev pub Gives : List Row → CommandLine → Type 0
@@ -82,8 +104,11 @@ Gives given (Show file width height) = GivesName given (codes "FILE") file.now �
 Gives given (Prepare file width height output) =
     GivesName given (codes "FILE") file.now × GivesSides given width height × GivesName given (codes "OUT") output.now
 Gives given (Check file certificate) = GivesName given (codes "FILE") file.now × GivesName given (codes "CERT") certificate.now
-Gives given (Play file certificate width height) =
-    GivesName given (codes "FILE") file.now × GivesName given (codes "CERT") certificate.now × GivesSides given width height
+Gives given (Play file certificate width height bands) =
+    GivesName given (codes "FILE") file.now × GivesName given (codes "CERT") certificate.now × GivesSides given width height × GivesBands given bands
+Gives given (Over file certificate image) =
+    GivesName given (codes "FILE") file.now × GivesName given (codes "CERT") certificate.now × GivesName given (codes "IMAGE") image.now
+Gives given (ListLine file) = GivesName given (codes "FILE") file.now
 
 -- the command that was met is the line's, and was given what the line has
 pub record IsAskedBy (met : Option (Text × List Row)) (line : CommandLine) : Type 0 where

@@ -9,10 +9,13 @@ use Rattle.preflight_cert.specs.Preparation.{Prepares}
 use Rattle.preflight_cert.specs.Refusal.{refusal_text}
 use Rattle.preflight_cert.specs.Run.{Refused, white}
 use Rattle.preflight_cert.specs.declared.refusal.Refusal.{Refusal}
+use Rattle.player.specs.Bands.{IsRunText}
 use Rattle.commands.specs.CheckReport.{ReportsAccepted, ReportsRefused}
-use Rattle.commands.specs.Images.{IsPlayedText, IsRunText, RefusesPlay}
+use Rattle.commands.specs.Images.{IsPlayedOverText, IsPlayedText, RefusesOver, RefusesPlay}
+use Rattle.commands.specs.Listings.{IsListing, Lists}
 use Rattle.commands.specs.Report.{Reports, Told}
-use Rattle.commands.specs.Tasks.{Task, check, play, prepare, show}
+use Rattle.commands.specs.Tasks.{Task, check, list, over, play, prepare, show}
+use Rattle.listing.specs.declared.listed.Listed.TheVariants.{Broken, Ended}
 use Rattle.commands.specs.declared.answer.Answer.{Answer}
 use Rattle.commands.specs.declared.answer.CommandEnd.{CommandEnd}
 use Rattle.commands.specs.declared.answer.CommandEnd.TheVariants as end
@@ -22,23 +25,28 @@ abbrev pub Opens : List ℕ → Type 0
 Opens file = IsOk (opened file)
 
 -- The text that a task writes where it is done: of the image that the file's run leaves of white, of the certificate that is prepared,
--- or of the report of an accepted one.
+-- of the report of an accepted one, or of the listing of records that end with an end record.
 abbrev pub IsDoneBy : Task → List ℕ → Type 0
 IsDoneBy (show file width height) text = IsRunText file width height (white width height) text
 IsDoneBy (prepare file width height) text = Prepares file width height text
 IsDoneBy (check file certificate) text = ReportsAccepted file certificate text
 IsDoneBy (play file certificate width height) text = IsPlayedText file certificate width height (white width height) text
+IsDoneBy (over file certificate image) text = IsPlayedOverText file certificate image text
+IsDoneBy (list file) text = Lists file Ended text
 
--- The fault by which a task is refused, in a record or in none.
+-- The fault by which a task is refused, in a record or in none. A listing tells faults itself, and is refused by none.
 abbrev pub IsRefusedBy : Task → Option ℕ → Fault → Type 0
 IsRefusedBy (show file width height) number fault = Refused file width height number fault
 IsRefusedBy (prepare file width height) number fault = Refused file width height number fault
 IsRefusedBy (check file certificate) number fault = IsAnswer file certificate (refuses number fault)
 IsRefusedBy (play file certificate width height) number fault = RefusesPlay file certificate width height number fault
+IsRefusedBy (over file certificate image) number fault = RefusesOver file certificate image number fault
+IsRefusedBy (list file) number fault = ⊥
 
--- a text that a task writes where its output takes it: where it is done, and of a check where it is refused, too
+-- a text that a task writes where its output takes it: where it is done, and of a check or a listing where it is refused, too
 abbrev pub IsTextOf : Task → List ℕ → Type 0
 IsTextOf (check file certificate) text = ReportsAccepted file certificate text ⊎ ReportsRefused file certificate text
+IsTextOf (list file) text = IsListing file text
 IsTextOf task text = IsDoneBy task text
 
 -- a text of which something holds was written
@@ -53,9 +61,10 @@ pub record WritesFront (holds : List ℕ → Type 0) (old new : Option (List ℕ
   pub fact : holds text
   pub written : AppendsFront old new text
 
--- where a task is refused, a check has written its report, and each other task nothing
+-- where a task is refused, a check has written its report, a listing the lines of records that break, and each other task nothing
 abbrev pub WritesRefused : Task → Option (List ℕ) → Option (List ℕ) → Type 0
 WritesRefused (check file certificate) old new = WritesText (ReportsRefused file certificate) old new
+WritesRefused (list file) old new = WritesText (Lists file Broken) old new
 WritesRefused task old new = Keeps old new
 
 -- What a task has written to its output: its text, and nothing else; a front of it, where the output failed; and where memory was refused,
@@ -74,9 +83,10 @@ pub record TellsRefusal (task : Task) (told : Told) (old new : Option (List ℕ)
   pub refused : IsRefusedBy task refusal.number refusal.fault
   pub reported : Reports told old new (refusal_text refusal)
 
--- where a task is refused, a check tells nothing, and each other task the refusal
+-- where a task is refused, a check and a listing tell nothing, and each other task the refusal
 abbrev pub TellsRefused : Task → Told → Option (List ℕ) → Option (List ℕ) → Type 0
 TellsRefused (check file certificate) told old new = Keeps old new
+TellsRefused (list file) told old new = Keeps old new
 TellsRefused task told old new = TellsRefusal task told old new
 
 -- What a task has told on standard error: nothing where it is done, and else one line.

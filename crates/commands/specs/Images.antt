@@ -1,18 +1,13 @@
 -- The images that commands write, and the surfaces that they refuse.
-use Rattle.std.specs.Prelude.{◌≡◌, ◌≤◌, ◌<◌, ◌⊎◌, ℕ, List, Option, None, Ok}
+use Rattle.std.specs.Prelude.{◌≡◌, ◌≤◌, ◌<◌, ◌⊎◌, ℕ, List, Option, Some, None, Ok}
 use Rattle.draw_ops.specs.declared.fault.Fault.{Fault}
-use Rattle.draw_ops.specs.declared.fault.Fault.TheVariants.{SurfaceTooLarge}
+use Rattle.draw_ops.specs.declared.fault.Fault.TheVariants.{BadImage, SurfaceTooLarge}
 use Rattle.mapping.specs.Image.{Image}
 use Rattle.canvas.specs.Ppm.{ppm_text}
+use Rattle.canvas.specs.PpmReading.{read_ppm}
 use Rattle.preflight_cert.specs.Answer.{IsAnswer, accepted, refuses}
 use Rattle.preflight_cert.specs.CertificateReading.{CertificateValue, read_certificate}
 use Rattle.preflight_cert.specs.Run.{Run, shown, white}
-
--- the text is the P6 text of the image with which the run of the file over another image ends
-pub record IsRunText (file : List ℕ) (width height : ℕ) (start : Image) (text : List ℕ) : Type 0 where
-  pub image : Image
-  pub run : Run file width height start (shown image)
-  pub is_text : text ≡ ppm_text image
 
 -- the bytes are a certificate for surfaces of these sides
 pub record Allows (certificate : List ℕ) (width height : ℕ) : Type 0 where
@@ -50,3 +45,34 @@ pub record IsTooLarge (file certificate : List ℕ) (width height : ℕ) (number
 abbrev pub RefusesPlay : List ℕ → List ℕ → ℕ → ℕ → Option ℕ → Fault → Type 0
 RefusesPlay file certificate width height number fault =
     IsAnswer file certificate (refuses number fault) ⊎ IsTooLarge file certificate width height number fault
+
+-- The bytes of an image are one, and the file is played over it, at its size.
+pub record IsPlayedOver (file certificate bytes : List ℕ) (image : Image) : Type 0 where
+  pub start : Image
+  pub read : read_ppm bytes ≡ Some start
+  pub played : IsPlayed file certificate start.width start.height start image
+
+-- the text is the P6 text of what that leaves
+pub record IsPlayedOverText (file certificate bytes text : List ℕ) : Type 0 where
+  pub image : Image
+  pub played : IsPlayedOver file certificate bytes image
+  pub is_text : text ≡ ppm_text image
+
+-- the certificate is accepted for the file, and the bytes are no image
+pub record IsNoImage (file certificate bytes : List ℕ) (number : Option ℕ) (fault : Fault) : Type 0 where
+  pub accepted : IsAnswer file certificate accepted
+  pub unread : read_ppm bytes ≡ None
+  pub in_none : number ≡ None
+  pub is_fault : fault ≡ BadImage
+
+-- the bytes are an image that is above the certificate's bound
+pub record IsTooLargeImage (file certificate bytes : List ℕ) (number : Option ℕ) (fault : Fault) : Type 0 where
+  pub start : Image
+  pub read : read_ppm bytes ≡ Some start
+  pub larger : IsTooLarge file certificate start.width start.height number fault
+
+-- The check refuses, or else the bytes are no image, or else that is above the certificate's bound.
+abbrev pub RefusesOver : List ℕ → List ℕ → List ℕ → Option ℕ → Fault → Type 0
+RefusesOver file certificate bytes number fault =
+    (IsAnswer file certificate (refuses number fault) ⊎ IsNoImage file certificate bytes number fault)
+    ⊎ IsTooLargeImage file certificate bytes number fault

@@ -3,9 +3,11 @@ pub mod ClearedFiles
 pub mod CommandLine
 pub mod Apps
 pub mod Ends
+pub mod Failures
 pub mod Faults
 pub mod Images
 pub mod Lines
+pub mod Listings
 pub mod Reading
 pub mod Report
 pub mod Reported

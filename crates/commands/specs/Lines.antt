@@ -7,12 +7,12 @@ use Rattle.commands.specs.CommandLine.{HoldsOfAsked}
 use Rattle.commands.specs.Ends.{TellsBy, WritesBy}
 use Rattle.commands.specs.Report.{Reports, Told}
 use Rattle.commands.specs.Sides.{HoldsOfSome, file_of}
-use Rattle.commands.specs.Tasks.{Task, check, play, prepare, show}
+use Rattle.commands.specs.Tasks.{Task, check, list, over, play, prepare, show}
 use Rattle.commands.specs.declared.answer.Answer.{Answer}
 use Rattle.commands.specs.declared.answer.CommandEnd.{CommandEnd}
 use Rattle.commands.specs.declared.answer.CommandEnd.TheVariants as end
 use Rattle.commands.specs.declared.asked.CommandLine.{CommandLine}
-use Rattle.commands.specs.declared.asked.CommandLine.TheVariants.{Check, Play, Prepare, Show}
+use Rattle.commands.specs.declared.asked.CommandLine.TheVariants.{Check, List as ListLine, Over, Play, Prepare, Show}
 use Rattle.commands.specs.declared.inputs.Inputs.{Inputs}
 
 -- the word that names standard input in a file's place
@@ -23,12 +23,14 @@ standard_input = codes "stdin"
 abbrev pub IsInput : List ℕ → Option (List ℕ) → List ℕ → Type 0
 IsInput name input bytes = name ≡ standard_input → IfSome input (λ all. bytes ≡ all)
 
--- the task that a line asks for, where its file and its certificate, if it names one, have these bytes
-abbrev pub task_of : CommandLine → List ℕ → List ℕ → Task
-task_of (Show name width height) file certificate = show file width height
-task_of (Prepare name width height output) file certificate = prepare file width height
-task_of (Check name other) file certificate = check file certificate
-task_of (Play name other width height) file certificate = play file certificate width height
+-- the task that a line asks for, where its file, and its certificate and its image, if it names them, have these bytes
+abbrev pub task_of : CommandLine → List ℕ → List ℕ → List ℕ → Task
+task_of (Show name width height) file certificate image = show file width height
+task_of (Prepare name width height output) file certificate image = prepare file width height
+task_of (Check name other) file certificate image = check file certificate
+task_of (Play name other width height bands) file certificate image = play file certificate width height
+task_of (Over name other third) file certificate image = over file certificate image
+task_of (ListLine name) file certificate image = list file
 
 -- what a line's task leaves on standard output: what it has written, but of a certificate that is prepared nothing, since a file gets it
 abbrev pub LineWrites : CommandLine → Task → CommandEnd → Option (List ℕ) → Option (List ℕ) → Type 0
@@ -39,15 +41,17 @@ LineWrites line task end old new = WritesBy end task old new
 pub record LeavesOut (line : CommandLine) (input : Option (List ℕ)) (end : CommandEnd) (old new : Option (List ℕ)) : Type 0 where
   pub file : List ℕ
   pub certificate : List ℕ
+  pub image : List ℕ
   pub read : IsInput (file_of line) input file
-  pub written : LineWrites line (task_of line file certificate) end old new
+  pub written : LineWrites line (task_of line file certificate image) end old new
 
 -- and told this on standard error
 pub record LeavesErr (line : CommandLine) (input : Option (List ℕ)) (end : CommandEnd) (told : Told) (old new : Option (List ℕ)) : Type 0 where
   pub file : List ℕ
   pub certificate : List ℕ
+  pub image : List ℕ
   pub read : IsInput (file_of line) input file
-  pub tells : TellsBy end (task_of line file certificate) told old new
+  pub tells : TellsBy end (task_of line file certificate image) told old new
 
 -- What a line has written to standard output, by how it ends: nothing where an input could not be read, or memory was refused.
 abbrev pub OutBy : CommandEnd → CommandLine → Option (List ℕ) → Option (List ℕ) → Option (List ℕ) → Type 0
@@ -94,7 +98,7 @@ module _ {W : Type 0} where
   -- what a task, a line, words or some words have written to a writer that holds these bytes
   abbrev pub TaskWrites : CommandLine → Inputs → Answer → (W → Option (List ℕ)) → W → W → Type 0
   TaskWrites line inputs answer contents old new =
-      LineWrites line (task_of line inputs.file.items inputs.certificate.items) answer.end (contents old) (contents new)
+      LineWrites line (task_of line inputs.file.items inputs.certificate.items inputs.image.items) answer.end (contents old) (contents new)
 
   abbrev pub WritesLine : CommandLine → Option (List ℕ) → Answer → (W → Option (List ℕ)) → W → W → Type 0
   WritesLine line input answer contents old new = OutBy answer.end line input (contents old) (contents new)
@@ -108,7 +112,7 @@ module _ {W : Type 0} where
   -- and what they have told on one
   abbrev pub TaskTells : CommandLine → Inputs → Answer → (W → Option (List ℕ)) → W → W → Type 0
   TaskTells line inputs answer contents old new =
-      TellsBy answer.end (task_of line inputs.file.items inputs.certificate.items) answer.told (contents old) (contents new)
+      TellsBy answer.end (task_of line inputs.file.items inputs.certificate.items inputs.image.items) answer.told (contents old) (contents new)
 
   abbrev pub TellsLine : CommandLine → Option (List ℕ) → Answer → (W → Option (List ℕ)) → W → W → Type 0
   TellsLine line input answer contents old new = ErrBy answer.end line input answer.told (contents old) (contents new)

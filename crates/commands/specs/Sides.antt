@@ -1,27 +1,31 @@
 -- What a command line asks for.
-use Rattle.std.specs.Prelude.{ℕ, List}
+use Rattle.std.specs.Prelude.{ℕ, List, IfSome}
 use Rattle.mapping.specs.Limits.{IsSurfaceSide}
 use Rattle.commands.specs.declared.asked.CommandLine.{CommandLine}
-use Rattle.commands.specs.declared.asked.CommandLine.TheVariants.{Check, Play, Prepare, Show}
+use Rattle.commands.specs.declared.asked.CommandLine.TheVariants.{Check, List as ListLine, Over, Play, Prepare, Show}
 
 -- the name of the file that a line asks for
 abbrev pub file_of : CommandLine → List ℕ
 file_of (Show file width height) = file.now
 file_of (Prepare file width height output) = file.now
 file_of (Check file certificate) = file.now
-file_of (Play file certificate width height) = file.now
+file_of (Play file certificate width height bands) = file.now
+file_of (Over file certificate image) = file.now
+file_of (ListLine file) = file.now
 
 -- a width and a height that a surface may have
 pub record AreSides (width height : ℕ) : Type 0 where
   pub wide : IsSurfaceSide width
   pub high : IsSurfaceSide height
 
--- the sides that a line asks for are sides of a surface
+-- the sides that a line asks for are sides of a surface, and so many rows may a band have
 abbrev pub HasSides : CommandLine → Type 0
 HasSides (Show file width height) = AreSides width height
 HasSides (Prepare file width height output) = AreSides width height
 HasSides (Check file certificate) = Unit
-HasSides (Play file certificate width height) = AreSides width height
+HasSides (Play file certificate width height bands) = AreSides width height × IfSome bands IsSurfaceSide
+HasSides (Over file certificate image) = Unit
+HasSides (ListLine file) = Unit
 
 -- it holds of a line whose sides are sides of a surface
 pub record HoldsOfSome (holds : CommandLine → Type 0) : Type 0 where

@@ -7,6 +7,8 @@ pub data Task : Type 0 where
   prepare : List ℕ → ℕ → ℕ → Task
   check : List ℕ → List ℕ → Task
   play : List ℕ → List ℕ → ℕ → ℕ → Task
+  over : List ℕ → List ℕ → List ℕ → Task
+  list : List ℕ → Task
 
 -- the file that it is about
 abbrev pub file_in : Task → List ℕ
@@ -14,3 +16,5 @@ file_in (show file width height) = file
 file_in (prepare file width height) = file
 file_in (check file certificate) = file
 file_in (play file certificate width height) = file
+file_in (over file certificate image) = file
+file_in (list file) = file

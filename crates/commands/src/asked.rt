@@ -21,11 +21,22 @@ pub enum CommandLine<'a> {
         file: &'a str,
         certificate: &'a str,
     },
-    /// Play a file by its certificate on a surface of these sides, in pixels.
+    /// Play a file by its certificate on a surface of these sides, in pixels, so many rows at a time if that is asked for.
     Play {
         file: &'a str,
         certificate: &'a str,
         width: u32,
         height: u32,
+        bands: Option<u32>,
+    },
+    /// Play a file by its certificate over an image, at its size.
+    Over {
+        file: &'a str,
+        certificate: &'a str,
+        image: &'a str,
+    },
+    /// List a file's records.
+    List {
+        file: &'a str,
     },
 }

@@ -3,7 +3,7 @@
 ghost use Rattle.std.specs.Prelude.{◌≡◌, IfErr, IfOk, IfSome, IsSome, codes, map, string_bytes};
 ghost use Rattle.clap.specs.Words.{first_of, found_of, kind_of, rows_of, subcommand_rows_of};
 ghost use Rattle.mapping.specs.Limits.{IsSurfaceSide};
-ghost use Rattle.commands.specs.CommandLine.{AllowsShow, AreRightWords, Gives, GivesName, GivesNumber, GivesSide, GivesSides};
+ghost use Rattle.commands.specs.CommandLine.{AllowsShow, AreRightWords, Gives, GivesBands, GivesName, GivesNumber, GivesSide, GivesSides};
 ghost use Rattle.commands.specs.CommandLine.{HasPlainWords, IsAskedBy, IsAskedByWords, IsRightShow, command_name};
 ghost use Rattle.commands.specs.Sides.{AreSides, HasSides};
 
@@ -20,7 +20,8 @@ pub fn line<'a>(alloc: Global, words: &'a [String]) -> Result<CommandLine<'a>, E
     ensures sides { IfOk result HasSides }
     ensures asked { IfOk result (IsAskedByWords (map string_bytes words.entry.now)) }
     ensures plain { IfOk result (HasPlainWords (map string_bytes words.entry.now)) }
-    ensures taken { IfErr result (λ e. AreRightWords (map string_bytes words.entry.now) → kind_of e ≡ ErrorKind.OutOfMemory) }
+    ensures taken { IfErr result
+        (λ e. AreRightWords (map string_bytes words.entry.now) → kind_of e ≡ ErrorKind.OutOfMemory) }
 {
     let mut command = metaplay(alloc)?;
     let matches = command.try_get_matches_from_mut(words)?;
@@ -47,6 +48,12 @@ fn asked<'a>(matches: &ArgMatches<'a>) -> Option<CommandLine<'a>>
     }
     if let Some(given) = matches.subcommand_matches("play") {
         return asked_play(given);
+    }
+    if let Some(given) = matches.subcommand_matches("over") {
+        return asked_over(given);
+    }
+    if let Some(given) = matches.subcommand_matches("list") {
+        return asked_list(given);
     }
     None
 }
@@ -124,15 +131,53 @@ fn asked_play<'a>(given: &ArgMatches<'a>) -> Option<CommandLine<'a>>
     let Some((width, height)) = sides_of(given) else {
         return None;
     };
+    let Some(bands) = bands_of(given) else {
+        return None;
+    };
     Some(CommandLine::Play {
         file,
         certificate,
         width,
         height,
+        bands,
     })
 }
 
-/// A file's name.
+/// What `over` was given.
+fn asked_over<'a>(given: &ArgMatches<'a>) -> Option<CommandLine<'a>>
+    ensures sides { IfSome result HasSides }
+    ensures name { IfSome result (λ line. command_name line ≡ codes "over") }
+    ensures gives { IfSome result (Gives (rows_of (found_of given.now))) }
+{
+    let Some(file) = name_of(given, "FILE") else {
+        return None;
+    };
+    let Some(certificate) = name_of(given, "CERT") else {
+        return None;
+    };
+    let Some(image) = name_of(given, "IMAGE") else {
+        return None;
+    };
+    Some(CommandLine::Over {
+        file,
+        certificate,
+        image,
+    })
+}
+
+/// What `list` was given.
+fn asked_list<'a>(given: &ArgMatches<'a>) -> Option<CommandLine<'a>>
+    ensures sides { IfSome result HasSides }
+    ensures name { IfSome result (λ line. command_name line ≡ codes "list") }
+    ensures gives { IfSome result (Gives (rows_of (found_of given.now))) }
+{
+    let Some(file) = name_of(given, "FILE") else {
+        return None;
+    };
+    Some(CommandLine::List { file })
+}
+
+/// The text that was given for an argument, as a file's name.
 fn name_of<'a>(given: &ArgMatches<'a>, id: &str) -> Option<&'a str>
     ensures given { IfSome result (λ name. GivesName (rows_of (found_of given.now)) id.now name.now) }
     ensures taken { IsSome (first_of id.now (rows_of (found_of given.now))) → IsSome result }
@@ -153,6 +198,20 @@ fn sides_of(given: &ArgMatches<'_>) -> Option<(u32, u32)>
         return None;
     };
     Some((width, height))
+}
+
+/// How many rows a band has, if that is asked for and within its range, as the parser sees to.
+fn bands_of(given: &ArgMatches<'_>) -> Option<Option<u32>>
+    ensures range { IfSome result (λ bands. IfSome bands IsSurfaceSide) }
+    ensures given { IfSome result (GivesBands (rows_of (found_of given.now))) }
+{
+    let Some(_) = name_of(given, "ROWS") else {
+        return Some(None);
+    };
+    let Some(rows) = side_of(given, "ROWS") else {
+        return None;
+    };
+    Some(Some(rows))
 }
 
 /// A side, if it is within its range, as the parser sees to.

@@ -2,12 +2,16 @@
 
 ghost use Rattle.std.specs.Prelude.{◌≡◌, IfOk, false};
 ghost use Rattle.clap.specs.Words.{app_of, rule_of};
-ghost use Rattle.commands.specs.CommandLine.{check_app, file_app, metaplay_app, name_rule, play_app, prepare_app, show_app, side_rule};
+ghost use Rattle.commands.specs.CommandLine.{check_app, file_app, list_app, metaplay_app, name_rule, over_app};
+ghost use Rattle.commands.specs.CommandLine.{bands_rule, play_app, prepare_app, show_app, side_rule};
 ghost use Rattle.commands.specs.Apps.{AddsSides, IsLocalApp};
 
 use clap::{Arg, ArgAction, Command, value_parser};
 use mapping::MAX_SURFACE_SIDE;
 use std::alloc::{AllocError, Global};
+
+/// How many rows a band may be asked to have: those of the largest surface.
+const MOST_ROWS: u32 = MAX_SURFACE_SIDE;
 
 /// What stands above the commands in the help.
 const ABOUT: &str = "Checks Windows metafiles (WMF, EMF) and plays them on a pixel surface.
@@ -21,12 +25,14 @@ const GUIDE: &str = "Examples:
   metaplay prepare drawing.wmf 4096 4096 drawing.cert
   metaplay check drawing.wmf drawing.cert
   metaplay play drawing.wmf drawing.cert 400 300 > drawing.ppm
+  metaplay over drawing.wmf drawing.cert page.ppm > printed.ppm
+  metaplay list drawing.wmf
 
 FILE may be the word stdin, for standard input. Images are P6 (ppm(5)); reports are a line of JSON.
 
 Exit status:
   0  done
-  1  refused, for the reason that standard error names, or for check the report
+  1  refused, for the reason that standard error names, or for check the report, or for list the last line
   2  wrong usage, or help was asked for
   3  an input or an output failed
   4  memory was refused
@@ -41,6 +47,8 @@ pub(crate) fn metaplay<'a>(alloc: Global) -> Result<Command<'a>, AllocError>
     let prepare = prepare(alloc)?;
     let check = check(alloc)?;
     let play = play(alloc)?;
+    let over = over(alloc)?;
+    let list = list(alloc)?;
     Command::new(alloc, "metaplay")
         .bin_name("metaplay")?
         .about(ABOUT)
@@ -49,7 +57,9 @@ pub(crate) fn metaplay<'a>(alloc: Global) -> Result<Command<'a>, AllocError>
         .subcommand(show)?
         .subcommand(prepare)?
         .subcommand(check)?
-        .subcommand(play)
+        .subcommand(play)?
+        .subcommand(over)?
+        .subcommand(list)
 }
 
 /// The command `show`.
@@ -88,7 +98,31 @@ fn play<'a>(alloc: Global) -> Result<Command<'a>, AllocError>
         "Plays a metafile by its certificate on white, and writes the image to standard output";
     let command = of_file(alloc, "play", about)?;
     let command = command.arg(name(alloc, "CERT", "The certificate"))?;
-    with_sides(alloc, command)
+    let command = with_sides(alloc, command)?;
+    command.arg(bands(alloc))
+}
+
+/// The command `over`.
+fn over<'a>(alloc: Global) -> Result<Command<'a>, AllocError>
+    ensures { IfOk result (IsLocalApp over_app) }
+{
+    let about =
+        "Plays a metafile by its certificate over an image, and writes that to standard output";
+    let command = of_file(alloc, "over", about)?;
+    let command = command.arg(name(alloc, "CERT", "The certificate"))?;
+    command.arg(name(
+        alloc,
+        "IMAGE",
+        "The image, P6 (ppm(5)), whose size is the surface's",
+    ))
+}
+
+/// The command `list`.
+fn list<'a>(alloc: Global) -> Result<Command<'a>, AllocError>
+    ensures { IfOk result (IsLocalApp list_app) }
+{
+    let about = "Lists the records of a metafile, a line each, to standard output";
+    of_file(alloc, "list", about)
 }
 
 /// A command with a metafile.
@@ -119,6 +153,18 @@ fn name<'a>(alloc: Global, id: &'a str, help: &'a str) -> Arg<'a>
         .required(true)
         .action(ArgAction::Set)
         .help(help)
+}
+
+/// How many rows a band has.
+fn bands<'a>(alloc: Global) -> Arg<'a>
+    ensures rule { rule_of result ≡ bands_rule }
+    ensures local { result.global ≡ false }
+{
+    Arg::new(alloc, "ROWS")
+        .long("bands")
+        .action(ArgAction::Set)
+        .value_parser(value_parser!(u32).range(1..=i64::from(MOST_ROWS)))
+        .help("How many rows are played at a time: the image is the same")
 }
 
 /// A side of the surface.

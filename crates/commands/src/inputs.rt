@@ -22,6 +22,8 @@ pub(crate) struct Inputs {
     pub(crate) file: Vec<u8>,
     /// Empty where the command takes no certificate.
     pub(crate) certificate: Vec<u8>,
+    /// Empty where it takes no image.
+    pub(crate) image: Vec<u8>,
 }
 
 /// Reads the inputs that a line names, in their order.
@@ -44,7 +46,18 @@ pub(crate) fn read_inputs<R: Files + AllocGlobal, I: Read>(
         },
         None => Vec::new(rt.alloc()),
     };
-    Ok(Inputs { file, certificate })
+    let image = match image_of(line) {
+        Some(name) => match read_named(rt, name) {
+            Ok(image) => image,
+            Err(fault) => return Err(fault),
+        },
+        None => Vec::new(rt.alloc()),
+    };
+    Ok(Inputs {
+        file,
+        certificate,
+        image,
+    })
 }
 
 /// The name of the file that a line asks for.
@@ -56,6 +69,8 @@ fn file_of<'a>(line: CommandLine<'a>) -> &'a str
         CommandLine::Prepare { file, .. } => file,
         CommandLine::Check { file, .. } => file,
         CommandLine::Play { file, .. } => file,
+        CommandLine::Over { file, .. } => file,
+        CommandLine::List { file } => file,
     }
 }
 
@@ -64,7 +79,17 @@ fn certificate_of<'a>(line: CommandLine<'a>) -> Option<&'a str> {
     match line {
         CommandLine::Check { certificate, .. } => Some(certificate),
         CommandLine::Play { certificate, .. } => Some(certificate),
-        CommandLine::Show { .. } | CommandLine::Prepare { .. } => None,
+        CommandLine::Over { certificate, .. } => Some(certificate),
+        CommandLine::Show { .. } | CommandLine::Prepare { .. } | CommandLine::List { .. } => None,
+    }
+}
+
+/// The name of the image that a line asks for, if it does.
+fn image_of<'a>(line: CommandLine<'a>) -> Option<&'a str> {
+    match line {
+        CommandLine::Over { image, .. } => Some(image),
+        CommandLine::Show { .. } | CommandLine::Prepare { .. } | CommandLine::List { .. } => None,
+        CommandLine::Check { .. } | CommandLine::Play { .. } => None,
     }
 }
 

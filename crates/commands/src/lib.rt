@@ -8,14 +8,16 @@
 //!   usage where they are of the right form (`line`, `run_words`).
 //! - What is read of an input is all of it, or it is refused (`read_input`).
 //! - How a command ends says what its output got and what standard error was told, by one definition
-//!   for all of them (`show_command`, `prepare_command`, `check_command`, `play_command`, by `Writes`
-//!   and `Tells`). Where it is done, its output got one text and nothing else: the P6 text of the image
-//!   that the file's records define, over white (`show`, `play`), the certificate that is prepared
-//!   (`prepare`), or the report of an accepted one (`check`).
+//!   for all of them (`show_command`, `prepare_command`, `check_command`, `play_command`, `over_command`,
+//!   `list_command`, by `Writes` and `Tells`). Where it is done, its output got one text and nothing else:
+//!   the P6 text of the image that the file's records define, over white (`show`, `play`) or over the
+//!   image that a P6 text says (`over`), the certificate that is prepared (`prepare`), the report of an
+//!   accepted one (`check`), or the listing of records that end with an end record (`list`).
 //! - It is refused only where that refusal is right: the file's first fault (`show`, `prepare`), or the
-//!   check's answer, and for `play` behind it that the surface is above the certificate's bound. Then
-//!   nothing was written, and of `check` the refusal's report. Where memory was refused nothing was
-//!   written, and of `show` and `prepare` the file opens.
+//!   check's answer, and for `play` behind it that the surface is above the certificate's bound; for
+//!   `over` between them that the text is no image. Then nothing was written, and of `check` the refusal's
+//!   report; of `list` the listing of records that break. Where memory was refused nothing was written,
+//!   and of `show`, `prepare` and `list` the file opens.
 //! - Where an output failed, it got a front of such a text.
 //! - The whole program's ends mean the same of some bytes, at the sides and for the files that the words
 //!   ask for (`run_words`, `run`); no status is above 4 (`CommandEnd::status`).
@@ -29,9 +31,12 @@ mod check;
 mod check_report;
 mod command_line;
 mod declared;
+mod failure;
 mod input;
 mod inputs;
+mod list;
 mod output;
+mod over;
 mod play;
 mod playing;
 mod prepare;
@@ -47,6 +52,8 @@ pub use check::check_command;
 pub use command_line::line;
 pub use input::{InputFault, read_input};
 pub use inputs::read_file;
+pub use list::list_command;
+pub use over::over_command;
 pub use play::play_command;
 pub use prepare::prepare_command;
 pub use program::{no_input, run, run_words, usage};

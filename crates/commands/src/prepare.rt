@@ -1,15 +1,15 @@
 //! The command `prepare`.
 
-ghost use Rattle.std.specs.Prelude.{◌≡◌};
+ghost use Rattle.std.specs.Prelude.{◌≡◌, IfErr, OnOk};
 ghost use Rattle.mapping.specs.Limits.{IsSurfaceSide};
-ghost use Rattle.commands.specs.Ends.{Opens, Tells, Writes};
+ghost use Rattle.commands.specs.Ends.{IsDoneBy, Opens, Tells, Writes, WritesText};
+ghost use Rattle.commands.specs.Failures.{FailsWith};
 ghost use Rattle.commands.specs.Tasks.{prepare};
 
 use crate::answer::{Answer, CommandEnd};
+use crate::failure::{Failure, ending, failure_of};
 use crate::preparing::prepare_file;
-use crate::reporting::report;
 use crate::writing::write_text;
-use draw_ops::Fault;
 use std::alloc::Global;
 use std::io::Write;
 
@@ -29,28 +29,30 @@ pub fn prepare_command<O: Write, E: Write>(
     ensures told { Tells (prepare file.now width height) result E.contents err.old err.new }
     ensures memory { result.end ≡ CommandEnd.OutOfMemory → Opens file.now }
 {
-    match prepare_file(alloc, file, width, height) {
-        Ok(text) => match write_text(text.as_slice(), out) {
-            Ok(()) => Answer {
-                end: CommandEnd::Done,
-                told: Ok(()),
-            },
-            Err(_) => Answer {
-                end: CommandEnd::CannotWrite,
-                told: report(err, "cannot write"),
-            },
-        },
-        Err(refusal) => {
-            if refusal.fault == Fault::OutOfMemory {
-                return Answer {
-                    end: CommandEnd::OutOfMemory,
-                    told: report(err, "OutOfMemory"),
-                };
-            }
-            Answer {
-                end: CommandEnd::Refused,
-                told: report(err, refusal),
-            }
-        }
+    let done = write_prepared(alloc, file, width, height, out);
+    ending(done, err)
+}
+
+/// Prepares a file's certificate for surfaces up to these sides, and writes it.
+fn write_prepared<O: Write>(
+    alloc: Global,
+    file: &[u8],
+    width: u32,
+    height: u32,
+    out: &mut O,
+) -> Result<(), Failure>
+    requires wide { IsSurfaceSide width }
+    requires high { IsSurfaceSide height }
+    ensures done { OnOk result (WritesText (IsDoneBy (prepare file.now width height)) (O.contents out.old) (O.contents out.new)) }
+    ensures failed { IfErr result (FailsWith (prepare file.now width height) O.contents out.old out.new) }
+    ensures memory { IfErr result (λ failure. failure ≡ Failure.OutOfMemory → Opens file.now) }
+{
+    let text = match prepare_file(alloc, file, width, height) {
+        Ok(text) => text,
+        Err(refusal) => return Err(failure_of(refusal)),
+    };
+    match write_text(text.as_slice(), out) {
+        Ok(()) => Ok(()),
+        Err(_) => Err(Failure::CannotWrite),
     }
 }

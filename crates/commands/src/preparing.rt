@@ -3,7 +3,7 @@
 ghost use Rattle.std.specs.Prelude.{◌≡◌, ◌⊎◌, IfErr, IfOk};
 ghost use Rattle.mapping.specs.Limits.{IsSurfaceSide};
 ghost use Rattle.preflight_cert.specs.Answer.{IsAnswer, accepted};
-ghost use Rattle.preflight_cert.specs.Checks.{IsWantOfMemory};
+ghost use Rattle.preflight_cert.specs.Refusal.{IsWantOfMemory};
 ghost use Rattle.preflight_cert.specs.Preparation.{Prepares};
 ghost use Rattle.preflight_cert.specs.Run.{Refused};
 ghost use Rattle.commands.specs.Ends.{Opens};

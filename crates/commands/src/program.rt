@@ -16,7 +16,9 @@ use crate::check::check_command;
 use crate::command_line::line;
 use crate::input::InputFault;
 use crate::inputs::{Inputs, read_inputs};
+use crate::list::list_command;
 use crate::output::NamedOutput;
+use crate::over::over_command;
 use crate::play::play_command;
 use crate::prepare::prepare_command;
 use crate::reporting::report;
@@ -127,9 +129,20 @@ fn run_task<R: Files + AllocGlobal, O: Write, E: Write>(
             prepare_command(rt.alloc(), file, width, height, &mut output, err)
         }
         CommandLine::Check { .. } => check_command(rt.alloc(), file, certificate, out, err),
-        CommandLine::Play { width, height, .. } => {
-            play_command(rt.alloc(), file, certificate, width, height, out, err)
+        CommandLine::Play {
+            width,
+            height,
+            bands,
+            ..
+        } => {
+            let alloc = rt.alloc();
+            play_command(alloc, file, certificate, width, height, bands, out, err)
         }
+        CommandLine::Over { .. } => {
+            let image = inputs.image.as_slice();
+            over_command(rt.alloc(), file, certificate, image, out, err)
+        }
+        CommandLine::List { .. } => list_command(rt.alloc(), file, out, err),
     }
 }
 

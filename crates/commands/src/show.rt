@@ -1,32 +1,28 @@
 //! The command `show`.
 
-ghost use Rattle.std.specs.Prelude.{◌≡◌, ◌⊎◌, IfErr, IfOk, Ok};
+ghost use Rattle.std.specs.Prelude.{◌≡◌, IfErr, IfOk, OnErr, OnOk, Ok};
 ghost use Rattle.mapping.specs.Limits.{IsSurfaceSide};
-ghost use Rattle.canvas.specs.CanvasState.{image_of};
 ghost use Rattle.meta_headers.specs.File.{IsOpenedFrom};
 ghost use Rattle.preflight_cert.specs.Answer.{IsAnswer, accepted};
 ghost use Rattle.preflight_cert.specs.CertificateOf.{certificate_of};
 ghost use Rattle.preflight_cert.specs.CertificateReading.{read_certificate};
-ghost use Rattle.preflight_cert.specs.Checks.{IsWantOfMemory};
 ghost use Rattle.preflight_cert.specs.Preparation.{Prepares};
-ghost use Rattle.preflight_cert.specs.Run.{Refused, Run, shown, white};
-ghost use Rattle.commands.specs.ClearedFiles.{IsWithinBound, Leaves};
-ghost use Rattle.commands.specs.Ends.{Opens, Tells, Writes};
+ghost use Rattle.commands.specs.Ends.{IsDoneBy, Opens, Tells, Writes, WritesText};
+ghost use Rattle.commands.specs.Failures.{FailsWith};
 ghost use Rattle.commands.specs.Tasks.{show};
 
 use crate::answer::{Answer, CommandEnd};
-use crate::playing::play_on_white;
+use crate::failure::{Failure, ending, failure_of};
+use crate::playing::write_within;
 use crate::preparing::prepare_file;
-use crate::reporting::report;
-use crate::writing::write_image;
-use canvas::{Canvas, OutOfMemory};
+use canvas::OutOfMemory;
 use draw_ops::Fault;
-use preflight_cert::{Cleared, Refusal, answer_law, check};
+use preflight_cert::{Cleared, answer_law, check};
 use std::alloc::Global;
 use std::io::Write;
 
-/// Prepares a file at the size of a surface, plays it on white, and writes the image to `out` as P6 text once the whole file has
-/// been played. A refusal goes to `err` as one line; a fault of `err` changes no status.
+/// Prepares a file at the size of a surface, plays it on white, and writes the image to `out` as P6 text. A refusal comes before any
+/// byte and goes to `err` as one line; a fault of `err` changes no status.
 pub fn show_command<O: Write, E: Write>(
     alloc: Global,
     file: &[u8],
@@ -41,73 +37,53 @@ pub fn show_command<O: Write, E: Write>(
     ensures told { Tells (show file.now width height) result E.contents err.old err.new }
     ensures memory { result.end ≡ CommandEnd.OutOfMemory → Opens file.now }
 {
-    match show_file(alloc, file, width, height) {
-        Ok(canvas) => match write_image(&canvas, out) {
-            Ok(()) => Answer {
-                end: CommandEnd::Done,
-                told: Ok(()),
-            },
-            Err(_) => Answer {
-                end: CommandEnd::CannotWrite,
-                told: report(err, "cannot write"),
-            },
-        },
-        Err(refusal) => {
-            if refusal.fault == Fault::OutOfMemory {
-                return Answer {
-                    end: CommandEnd::OutOfMemory,
-                    told: report(err, "OutOfMemory"),
-                };
-            }
-            Answer {
-                end: CommandEnd::Refused,
-                told: report(err, refusal),
-            }
-        }
-    }
+    let done = show_file(alloc, file, width, height, out);
+    ending(done, err)
 }
 
 /// Prepares a file at the size of a surface, and plays it on white. A file that doesn't open is refused before any memory is asked for.
-fn show_file(alloc: Global, file: &[u8], width: u32, height: u32) -> Result<Canvas, Refusal>
+fn show_file<O: Write>(
+    alloc: Global,
+    file: &[u8],
+    width: u32,
+    height: u32,
+    out: &mut O,
+) -> Result<(), Failure>
     requires wide { IsSurfaceSide width }
     requires high { IsSurfaceSide height }
-    ensures image { IfOk result (λ canvas. Run file.now width height (white width height) (shown (image_of canvas))) }
-    ensures refusal { IfErr result (λ r. Refused file.now width height r.number r.fault ⊎ IsWantOfMemory r) }
-    ensures memory { IfErr result (λ r. r.fault ≡ Fault.OutOfMemory → Opens file.now) }
+    ensures done { OnOk result (WritesText (IsDoneBy (show file.now width height)) (O.contents out.old) (O.contents out.new)) }
+    ensures failed { IfErr result (FailsWith (show file.now width height) O.contents out.old out.new) }
+    ensures memory { IfErr result (λ failure. failure ≡ Failure.OutOfMemory → Opens file.now) }
 {
     let certificate = match prepare_file(alloc, file, width, height) {
         Ok(certificate) => certificate,
-        Err(refusal) => return Err(refusal),
+        Err(refusal) => return Err(failure_of(refusal)),
     };
-    match play_prepared(alloc, file, certificate.as_slice(), width, height) {
-        Ok(canvas) => Ok(canvas),
-        Err(OutOfMemory) => Err(Refusal::of_file(Fault::OutOfMemory)),
-    }
+    show_prepared(alloc, file, certificate.as_slice(), width, height, out)
 }
 
-/// Plays a file on white by the certificate that was prepared for it at the surface's size: for memory alone it is refused.
-fn play_prepared(
+/// Plays a file on white by the certificate that was prepared for it at the surface's size: it is never refused.
+fn show_prepared<O: Write>(
     alloc: Global,
     file: &[u8],
     certificate: &[u8],
     width: u32,
     height: u32,
-) -> Result<Canvas, OutOfMemory>
+    out: &mut O,
+) -> Result<(), Failure>
     requires wide { IsSurfaceSide width }
     requires high { IsSurfaceSide height }
     requires prepared { Prepares file.now width height certificate.now }
     requires accepted { IsAnswer file.now certificate.now accepted }
-    ensures image { IfOk result (λ canvas. Run file.now width height (white width height) (shown (image_of canvas))) }
+    ensures done { OnOk result (WritesText (IsDoneBy (show file.now width height)) (O.contents out.old) (O.contents out.new)) }
+    ensures failed { IfErr result (FailsWith (show file.now width height) O.contents out.old out.new) }
     ensures opens { Opens file.now }
 {
     let cleared = match check_prepared(alloc, file, certificate) {
         Ok(cleared) => cleared,
-        Err(OutOfMemory) => return Err(OutOfMemory),
+        Err(OutOfMemory) => return Err(Failure::OutOfMemory),
     };
-    match play_within(alloc, &cleared, width, height) {
-        Ok(canvas) => Ok(canvas),
-        Err(OutOfMemory) => Err(OutOfMemory),
-    }
+    write_within(alloc, &cleared, width, height, None, out)
 }
 
 /// Checks a certificate that is accepted: for memory alone it is refused.
@@ -125,29 +101,6 @@ fn check_prepared<'a>(
         Ok(cleared) => Ok(cleared),
         Err(refusal) => {
             if refusal.fault == Fault::OutOfMemory {
-                return Err(OutOfMemory);
-            }
-            unreachable!()
-        }
-    }
-}
-
-/// Plays a cleared file on a white surface that isn't above the certificate's bound: for memory alone it is refused.
-fn play_within(
-    alloc: Global,
-    cleared: &Cleared<'_>,
-    width: u32,
-    height: u32,
-) -> Result<Canvas, OutOfMemory>
-    requires wide { IsSurfaceSide width }
-    requires high { IsSurfaceSide height }
-    requires within { IsWithinBound cleared.now.certificate width height }
-    ensures { IfOk result (λ canvas. Leaves cleared.now width height (white width height) (image_of canvas)) }
-{
-    match play_on_white(alloc, cleared, width, height) {
-        Ok(canvas) => Ok(canvas),
-        Err(fault) => {
-            if fault == Fault::OutOfMemory {
                 return Err(OutOfMemory);
             }
             unreachable!()

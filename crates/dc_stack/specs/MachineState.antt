@@ -1,5 +1,5 @@
 -- What a machine is to its callers.
-use Rattle.std.specs.Prelude.{◌≡◌, ◌⊎◌, ℕ, ◌^◌, ◌<◌, ◌≤◌, Bool, true, false, List, [], length, Option, Some, None, IfSome, Result, Ok, Err}
+use Rattle.std.specs.Prelude.{◌≡◌, ◌⊎◌, ⊤, ℕ, ◌^◌, ◌<◌, ◌≤◌, Bool, true, false, List, [], length, Option, Some, None, IfSome, Result, Ok, Err}
 use Rattle.std.specs.Option.{option_map}
 use Rattle.mapping.specs.Surface.{Surface}
 use Rattle.draw_ops.specs.Objects.{ObjectValue}
@@ -127,6 +127,11 @@ pub record HasRefused (operation : Operation) (old new : MachineState) (fault : 
 abbrev pub Plays : Operation → MachineState → Result (Option Draw) Fault → MachineState → Type 0
 Plays operation old (Ok draw) new = HasPlayed operation old new draw
 Plays operation old (Err fault) new = HasRefused operation old new fault
+
+-- what a step tells whose drawing is put into a place
+abbrev pub told : Result ⊤ Fault → Option Draw → Result (Option Draw) Fault
+told (Ok done) draw = Ok draw
+told (Err fault) draw = Err fault
 
 -- the operation of a painting
 abbrev pub painting_operation : Painting → Operation

@@ -3,9 +3,10 @@
 ghost use Rattle.std.specs.Prelude.{◌≡◌, ◌≤◌, ◌<◌, ◌⊎◌, [], IfErr, IfOk, IfSome, OnErr, OnOk, length};
 ghost use Rattle.mapping.specs.PageMap.{map_numbers};
 ghost use Rattle.mapping.specs.PlaceOf.{surface_of};
+ghost use Rattle.draw_ops.specs.Operation.{Operation};
 ghost use Rattle.draw_ops.specs.OperationOf.{operation_of};
 ghost use Rattle.draw_ops.specs.declared.fault.Fault.TheVariants.{OutOfMemory};
-ghost use Rattle.dc_stack.specs.MachineState.{GoesOn, HasStepped, IsDrawingOf, IsUnchanged, LacksRoom, LendsPainted, Plays, RefusesStep};
+ghost use Rattle.dc_stack.specs.MachineState.{GoesOn, HasStepped, IsDrawingOf, IsUnchanged, LacksRoom, LendsPainted, MachineState, Plays, RefusesStep, told};
 ghost use Rattle.dc_stack.specs.Draws.{IsPlacedDraw};
 ghost use Rattle.dc_stack.specs.Needs.{no_needs};
 ghost use Rattle.dc_stack.specs.State.{start_state};
@@ -140,70 +141,77 @@ impl<'a, T: Table<'a>> Machine<'a, T> {
         ensures kept { OnErr result (IsUnchanged self.old self.new) }
         ensures goes_on { GoesOn self.old self.new }
     {
-        self.step_by(&op)
+        let mut drawn: Option<Draw<'a>> = None;
+        match self.step_into(&op, &mut drawn) {
+            Ok(()) => Ok(drawn),
+            Err(fault) => Err(fault),
+        }
     }
 
-    /// The same for an operation that stays where it is: a loop over records moves none.
-    pub fn step_by(&mut self, op: &Op<'a>) -> Result<Option<Draw<'a>>, Fault>
+    /// The same for an operation that stays where it is, whose drawing is put into a place: a loop over records moves neither.
+    #[inline(never)]
+    pub fn step_into(&mut self, op: &Op<'a>, drawn: &mut Option<Draw<'a>>) -> Result<(), Fault>
         ensures stepped { OnOk result (HasStepped (operation_of op.now) self.old self.new) }
-        ensures drawn { IfOk result (IsDrawingOf (operation_of op.now) self.old self.new) }
-        ensures placed { IfOk result (λ draw. IfSome draw (IsPlacedDraw self.old.surface self.new.painted)) }
-        ensures lent { IfOk result (λ draw. LendsPainted self.old draw self.new) }
+        ensures drawn { OnOk result (IsDrawingOf (operation_of op.now) self.old self.new drawn.new) }
+        ensures placed { OnOk result (IfSome drawn.new (IsPlacedDraw self.old.surface self.new.painted)) }
+        ensures lent { OnOk result (LendsPainted self.old drawn.new self.new) }
         ensures refused { IfErr result (RefusesStep (operation_of op.now) self.old) }
         ensures kept { OnErr result (IsUnchanged self.old self.new) }
         ensures goes_on { GoesOn self.old self.new }
     {
-        let told = self.play(op);
-        if let Ok(drawn) = &told {
-            if !paints_path(drawn) {
-                self.path.forget();
+        match self.play(op, drawn) {
+            Ok(()) => {
+                if !paints_path(drawn) {
+                    self.path.forget();
+                }
+                Ok(())
             }
+            Err(fault) => Err(fault),
         }
-        told
     }
 
     /// Plays one operation. The pieces of a path that the step before painted may still be lent.
-    fn play(&mut self, op: &Op<'a>) -> Result<Option<Draw<'a>>, Fault>
-        ensures plays { Plays (operation_of op.now) self.old result self.new }
+    fn play(&mut self, op: &Op<'a>, drawn: &mut Option<Draw<'a>>) -> Result<(), Fault>
+        ensures plays { Plays (operation_of op.now) self.old (told result drawn.new) self.new }
         ensures goes_on { GoesOn self.old self.new }
     {
         match *op {
-            Op::NoEffect => Ok(None),
-            Op::Save => self.save(),
-            Op::Restore(which) => self.restore(which),
-            Op::SetBackgroundMode(mode) => self.set_background_mode(mode),
-            Op::SetMapMode(mode) => self.set_map_mode(mode),
-            Op::SetRasterOp(raster_op) => self.set_raster_op(raster_op),
-            Op::SetFillMode(mode) => self.set_fill_mode(mode),
-            Op::SetBackgroundColour(colour) => self.set_background_colour(colour),
-            Op::SetWindowOrigin(origin) => self.set_window_origin(origin),
-            Op::SetWindowExtent(extent) => self.set_window_extent(extent),
-            Op::SetViewportOrigin(origin) => self.set_viewport_origin(origin),
-            Op::SetViewportExtent(extent) => self.set_viewport_extent(extent),
-            Op::OffsetWindowOrigin(offset) => self.offset_window_origin(offset),
-            Op::OffsetViewportOrigin(offset) => self.offset_viewport_origin(offset),
-            Op::ExcludeClip(corners) => self.exclude_clip(corners),
-            Op::IntersectClip(corners) => self.intersect_clip(corners),
-            Op::RemoveClip => self.remove_clip(),
-            Op::MoveTo(point) => self.move_to(point),
-            Op::LineTo(point) => self.line_to(point),
-            Op::Pixel { point, colour } => self.pixel(point, colour),
-            Op::Rectangle { corners, edges } => self.rectangle(corners, edges),
-            Op::Polyline(lists) => self.polyline(lists),
-            Op::Polygon(lists) => self.polygon(lists),
-            Op::PolylineTo(points) => self.polyline_to(points),
-            Op::Blit(asked) => self.blit(asked),
-            Op::Create { at, object } => self.create(at, object),
-            Op::Select(handle) => self.select(handle),
-            Op::SelectPalette(handle) => self.select_palette(handle),
-            Op::Delete(handle) => self.delete(handle),
-            Op::BeginPath => self.begin_path(),
-            Op::EndPath => self.end_path(),
-            Op::CloseFigure => self.close_figure(),
-            Op::AbortPath => self.abort_path(),
-            Op::FillPath => self.paint_path(Painting::Fill),
-            Op::StrokePath => self.paint_path(Painting::Stroke),
-            Op::StrokeAndFillPath => self.paint_path(Painting::StrokeAndFill),
+            Op::NoEffect => tell(Ok(None), drawn),
+            Op::Save => tell(self.save(), drawn),
+            Op::Restore(which) => tell(self.restore(which), drawn),
+            Op::SetBackgroundMode(mode) => tell(self.set_background_mode(mode), drawn),
+            Op::SetMapMode(mode) => tell(self.set_map_mode(mode), drawn),
+            Op::SetRasterOp(raster_op) => tell(self.set_raster_op(raster_op), drawn),
+            Op::SetFillMode(mode) => tell(self.set_fill_mode(mode), drawn),
+            Op::SetBackgroundColour(colour) => tell(self.set_background_colour(colour), drawn),
+            Op::SetWindowOrigin(origin) => tell(self.set_window_origin(origin), drawn),
+            Op::SetWindowExtent(extent) => tell(self.set_window_extent(extent), drawn),
+            Op::SetViewportOrigin(origin) => tell(self.set_viewport_origin(origin), drawn),
+            Op::SetViewportExtent(extent) => tell(self.set_viewport_extent(extent), drawn),
+            Op::OffsetWindowOrigin(offset) => tell(self.offset_window_origin(offset), drawn),
+            Op::OffsetViewportOrigin(offset) => tell(self.offset_viewport_origin(offset), drawn),
+            Op::ExcludeClip(corners) => tell(self.exclude_clip(corners), drawn),
+            Op::IntersectClip(corners) => tell(self.intersect_clip(corners), drawn),
+            Op::RemoveClip => tell(self.remove_clip(), drawn),
+            Op::MoveTo(point) => tell(self.move_to(point), drawn),
+            Op::LineTo(point) => self.line_to(point, drawn),
+            Op::Pixel { point, colour } => self.pixel(point, colour, drawn),
+            Op::Rectangle { corners, edges } => self.rectangle(corners, edges, drawn),
+            Op::Polyline(lists) => self.polyline(lists, drawn),
+            Op::Polygon(lists) => self.polygon(lists, drawn),
+            Op::PolylineTo(points) => self.polyline_to(points, drawn),
+            Op::Blit(ref asked) => self.blit(asked, drawn),
+            Op::Create { at, object } => tell(self.create(at, object), drawn),
+            Op::Select(handle) => tell(self.select(handle), drawn),
+            Op::SelectPalette(handle) => tell(self.select_palette(handle), drawn),
+            Op::Delete(handle) => tell(self.delete(handle), drawn),
+            Op::BeginPath => tell(self.begin_path(), drawn),
+            Op::EndPath => tell(self.end_path(), drawn),
+            Op::CloseFigure => tell(self.close_figure(), drawn),
+            Op::AbortPath => tell(self.abort_path(), drawn),
+            Op::FillPath => self.paint_path(Painting::Fill, drawn),
+            Op::StrokePath => self.paint_path(Painting::Stroke, drawn),
+            Op::StrokeAndFillPath => self.paint_path(Painting::StrokeAndFill, drawn),
         }
     }
 
@@ -234,5 +242,21 @@ impl<'a, T: Table<'a>> Machine<'a, T> {
         ensures { result ≡ self.now.needs }
     {
         self.needs
+    }
+}
+
+/// Puts what a step draws into a place, or tells its fault.
+fn tell<'a>(
+    answer: Result<Option<Draw<'a>>, Fault>,
+    drawn: &mut Option<Draw<'a>>,
+) -> Result<(), Fault>
+    ensures { (operation : Operation) (old new : MachineState) → Plays operation old answer.entry new → Plays operation old (told result drawn.new) new }
+{
+    match answer {
+        Ok(value) => {
+            *drawn = value;
+            Ok(())
+        }
+        Err(fault) => Err(fault),
     }
 }

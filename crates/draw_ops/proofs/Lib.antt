@@ -2,4 +2,5 @@ pub mod NoteLemmas
 pub mod NoteSetLemmas
 pub mod FramedLemmas
 pub mod ContentLemmas
+pub mod PrefixLemmas
 pub mod TableLemmas

@@ -1,5 +1,5 @@
 -- What a call of a source gives.
-use Rattle.std.specs.Prelude.{◌≡◌, Option, Some, None, Result, Ok, Err}
+use Rattle.std.specs.Prelude.{◌≡◌, Bool, true, false, Option, Some, None, Result, Ok, Err}
 use Rattle.draw_ops.specs.Content.{Content, nothing_left, broken_by, with_step}
 use Rattle.draw_ops.specs.StepOf.{step_value_of}
 use Rattle.draw_ops.specs.declared.record_fault.RecordFault.{RecordFault}
@@ -15,3 +15,9 @@ abbrev pub Gives : Content → Result (Option Step) RecordFault → Content → 
 Gives old (Ok (Some step)) new = old ≡ with_step (step_value_of step) new
 Gives old (Ok None) new = Stays nothing_left old new
 Gives old (Err fault) new = Stays (broken_by fault) old new
+
+-- a call that puts a step into a place, and tells whether it did, gives that step, or none, or the fault
+abbrev pub put : Result Bool RecordFault → Step → Result (Option Step) RecordFault
+put (Ok true) step = Ok (Some step)
+put (Ok false) step = Ok None
+put (Err fault) step = Err fault

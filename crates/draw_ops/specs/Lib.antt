@@ -32,3 +32,4 @@ pub mod PenRecords
 pub mod BrushRecords
 pub mod BitmapRecords
 pub mod TableLaws
+pub mod PrefixLaws

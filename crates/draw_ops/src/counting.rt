@@ -5,6 +5,7 @@ ghost use Rattle.draw_ops.specs.Counted.{counted, behind_steps};
 
 use crate::record_fault::RecordFault;
 use crate::source::OpSource;
+use crate::step::Step;
 
 /// How many steps a source has left, or the fault at which they break. Only that fault, or the end,
 /// is left of the source.
@@ -14,10 +15,11 @@ pub fn count_steps<'a, S: OpSource<'a>>(source: &mut S) -> Result<u64, RecordFau
     ensures left { S.content source.new ≡ behind_steps (S.content source.old) }
 {
     let mut count: u64 = 0;
+    let mut step: Step<'a> = Step::without_effect();
     loop {
-        match source.next_op() {
-            Ok(Some(_)) => count += 1,
-            Ok(None) => return Ok(count),
+        match source.next_into(&mut step) {
+            Ok(true) => count += 1,
+            Ok(false) => return Ok(count),
             Err(fault) => return Err(fault),
         }
     }

@@ -13,9 +13,9 @@
 //!   none else to make, and each is made from its own code (`from_code`, by `raster_op_of` and its
 //!   like), and tells it (`code`).
 //! - A record has each kind of note at most once (`NoteSet`), and a note is counted under its kind alone
-//!   (`Notes::count`, `Notes::with`, `Notes::plus`, `Notes::of`).
+//!   (`Notes::count`, `Notes::with`, `Notes::with_all`, `Notes::plus`, `Notes::of`).
 //! - A source gives its steps in order, each once, and then none or one fault of a record,
-//!   and the same again at each call after that (`OpSource::next_op`, by `Gives`). `Listed` is such a
+//!   and the same again at each call after that (`OpSource::next_op`, `OpSource::next_into`, by `Gives`). `Listed` is such a
 //!   source.
 //! - What both formats share of records is read here: points, boxes, colours and lists (`rgb_at`, `xy_at`,
 //!   `points_at` and their like), what sets a mode (`map_mode_meant` and its like), what makes a pen or
@@ -23,7 +23,8 @@
 //!   blits (`blit_meant`).
 //! - A source over a file's records has what those records mean, whatever their format
 //!   (`RecordOps::new`, by `IsContent`).
-//! - Bytes are records in one way, and have one content (`records_law`, `content_law`).
+//! - Bytes are records in one way, and have one content (`records_law`, `content_law`); and none where they are cut short, if the head of
+//!   a record holds its size and its kind (`prefix_law`).
 //! - What a program does with any source can be proved from the contract alone: `count_steps` counts
 //!   the steps of each source, or gives its fault.
 #![tactic(auto)]
@@ -67,7 +68,7 @@ pub use fields::{box_at, rgb_at, turned_box_at, xy_at, yx_at};
 pub use format::{Format, Meant, RawRecord};
 pub use framing::first_record;
 pub use hatch::Hatch;
-pub use laws::{content_law, records_law, table_law};
+pub use laws::{content_law, prefix_law, records_law, table_law};
 pub use listed::Listed;
 pub use modes::{background_mode_meant, fill_mode_meant, map_mode_meant, raster_op_meant};
 pub use note::Note;

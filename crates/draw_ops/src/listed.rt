@@ -41,14 +41,23 @@ impl<'a> HasContent for Listed<'a> {
 
 impl<'a> OpSource<'a> for Listed<'a> {
     fn next_op(&mut self) -> Result<Option<Step<'a>>, RecordFault> {
+        let mut step: Step<'a> = Step::without_effect();
+        match self.next_into(&mut step) {
+            Ok(true) => Ok(Some(step)),
+            Ok(false) => Ok(None),
+            Err(fault) => Err(fault),
+        }
+    }
+
+    fn next_into(&mut self, step: &mut Step<'a>) -> Result<bool, RecordFault> {
         if self.steps.is_empty() {
             return match self.fault {
                 Some(fault) => Err(fault),
-                None => Ok(None),
+                None => Ok(false),
             };
         }
-        let first = self.steps[0];
+        *step = self.steps[0];
         self.steps = &self.steps[1..];
-        Ok(Some(first))
+        Ok(true)
     }
 }

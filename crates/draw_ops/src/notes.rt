@@ -70,4 +70,15 @@ impl Notes {
         }
         Notes { counts }
     }
+
+    /// The same and one more note of each kind in a set, which mostly has none.
+    pub fn with_all(self, set: NoteSet) -> Notes
+        ensures { result.counts ≡ added_notes self.counts (notes_in set) }
+    {
+        if set.bits == 0 {
+            self.plus(Notes::none())
+        } else {
+            self.plus(Notes::of(set))
+        }
+    }
 }

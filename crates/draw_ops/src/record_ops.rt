@@ -76,54 +76,70 @@ impl<'a, F: Format> HasContent for RecordOps<'a, F> {
 impl<'a, F: Format> OpSource<'a> for RecordOps<'a, F> {
     /// The next record's step, none behind the end record, or the fault at which the records break.
     fn next_op(&mut self) -> Result<Option<Step<'a>>, RecordFault> {
+        let mut step: Step<'a> = Step::without_effect();
+        match self.next_into(&mut step) {
+            Ok(true) => Ok(Some(step)),
+            Ok(false) => Ok(None),
+            Err(fault) => Err(fault),
+        }
+    }
+
+    /// The same, put into a place.
+    fn next_into(&mut self, step: &mut Step<'a>) -> Result<bool, RecordFault> {
         match self.reading {
-            Reading::Ended => Ok(None),
+            Reading::Ended => Ok(false),
             Reading::Failed(fault) => Err(fault),
-            Reading::Records => match &step::<F>(self.number, self.rest) {
+            Reading::Records => match put_step::<F>(self.number, self.rest, step) {
                 Err(fault) => {
-                    self.reading = Reading::Failed(*fault);
-                    Err(*fault)
+                    self.reading = Reading::Failed(fault);
+                    Err(fault)
                 }
-                Ok(step) => {
+                Ok(()) => {
                     if F::kind(self.rest) == F::end_kind() {
                         self.reading = Reading::Ended;
-                        return Ok(Some(*step));
+                        return Ok(true);
                     }
                     self.rest = &self.rest[F::size(self.rest)..];
                     self.number += 1;
-                    Ok(Some(*step))
+                    Ok(true)
                 }
             },
         }
     }
 }
 
-/// The step of the record in front of the bytes, which has this number in the file, or its first fault.
-fn step<F: Format>(number: u32, bytes: &[u8]) -> Result<Step<'_>, RecordFault>
-    ensures value { front_step F.framing F.meaning number bytes.entry.now ≡ result_map step_value_of result }
+/// Puts the step of the record in front of the bytes, which has this number in the file, into a place, or tells its first fault.
+fn put_step<'a, F: Format>(
+    number: u32,
+    bytes: &'a [u8],
+    step: &mut Step<'a>,
+) -> Result<(), RecordFault>
+    ensures value { front_step F.framing F.meaning number bytes.entry.now ≡ result_map (λ _. step_value_of step.new) result }
     ensures head { OnOk result (F.framing.head_length ≤ length bytes.entry.now) }
     ensures within { OnOk result (size_of F.framing bytes.entry.now ≤ length bytes.entry.now) }
     ensures below_limit { OnOk result (number < record_limit) }
 {
     let front = first_record::<F>(number, bytes)?;
-    meant_step::<F>(number, front, &bytes[front.bytes.len()..])
+    put_meant::<F>(number, front, &bytes[front.bytes.len()..], step)
 }
 
-/// The step of a record with this number in the file, behind which these bytes lie, or the first fault of what it means. What is
-/// asked for is moved once, from where it was read.
-fn meant_step<'a, F: Format>(
+/// Puts the step of a record with this number, behind which these bytes lie, into a place, or tells the first fault of what it means. What
+/// is asked for is moved once, from where it was read.
+fn put_meant<'a, F: Format>(
     number: u32,
     front: RawRecord<'a>,
     behind: &[u8],
-) -> Result<Step<'a>, RecordFault>
-    ensures value { step_of F.framing F.meaning behind.now number (record_of front.entry) ≡ result_map step_value_of result }
+    step: &mut Step<'a>,
+) -> Result<(), RecordFault>
+    ensures value { step_of F.framing F.meaning behind.now number (record_of front.entry) ≡ result_map (λ _. step_value_of step.new) result }
 {
     match &F::read(number, front) {
-        Ok(meant) => Ok(Step {
-            number,
-            op: meant.op,
-            notes: with_end(meant.notes, front.kind == F::end_kind(), behind),
-        }),
+        Ok(meant) => {
+            step.number = number;
+            step.op = meant.op;
+            step.notes = with_end(meant.notes, front.kind == F::end_kind(), behind);
+            Ok(())
+        }
         Err(fault) => Err(*fault),
     }
 }

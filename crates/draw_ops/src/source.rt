@@ -1,7 +1,7 @@
 //! Where steps come from: the records of a file, or a list.
 
 ghost use Rattle.draw_ops.specs.Content.{Content};
-ghost use Rattle.draw_ops.specs.Gives.{Gives};
+ghost use Rattle.draw_ops.specs.Gives.{Gives, put};
 
 use crate::record_fault::RecordFault;
 use crate::step::Step;
@@ -18,4 +18,9 @@ pub trait OpSource<'a>: HasContent {
     /// step each call gives none, and after a fault each call gives that fault.
     fn next_op(&mut self) -> Result<Option<Step<'a>>, RecordFault>
         ensures gives { Gives (Self.content self.old) result (Self.content self.new) };
+
+    /// The same for a step that is put into a place, where it can be read: a loop over records moves none. It is false where there
+    /// was none to put.
+    fn next_into(&mut self, step: &mut Step<'a>) -> Result<bool, RecordFault>
+        ensures gives { Gives (Self.content self.old) (put result step.new) (Self.content self.new) };
 }

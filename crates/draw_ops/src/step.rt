@@ -1,5 +1,10 @@
 //! One record of a file, as what it asks for.
 
+ghost use Rattle.std.specs.Prelude.{◌≡◌};
+ghost use Rattle.draw_ops.specs.NoteCounts.{no_notes};
+ghost use Rattle.draw_ops.specs.Operation.{no_effect};
+ghost use Rattle.draw_ops.specs.StepOf.{step_value_of};
+
 use crate::note_set::NoteSet;
 use crate::operation::Op;
 
@@ -11,4 +16,17 @@ pub struct Step<'a> {
     pub op: Op<'a>,
     /// What is to be noted of the record.
     pub notes: NoteSet,
+}
+
+impl<'a> Step<'a> {
+    /// Record 0 that asks for nothing: a place for steps to be put into.
+    pub fn without_effect() -> Step<'a>
+        ensures { step_value_of result ≡ record { number = 0; operation = no_effect; notes = no_notes } }
+    {
+        Step {
+            number: 0,
+            op: Op::NoEffect,
+            notes: NoteSet::none(),
+        }
+    }
 }

@@ -1,6 +1,7 @@
 //! The records of EMF: how they are framed, and what each means.
 
 ghost use Rattle.std.specs.Prelude.{◌≡◌};
+ghost use Rattle.draw_ops.specs.PrefixLaws.{HoldsItsFields};
 ghost use Rattle.draw_ops.specs.RecordOf.{meant_of};
 ghost use Rattle.draw_ops.specs.Results.{result_map};
 ghost use Rattle.emf_records.specs.Emf.{emf_meaning, emf_record, header_record};
@@ -60,6 +61,7 @@ impl Format for Emf {
         EMR_EOF
     }
 
+    #[inline(never)]
     fn read(number: u32, front: RawRecord<'_>) -> Result<Meant<'_>, RecordFault> {
         match entry_of(front.kind) {
             Some(entry) => record(entry, number, front.kind, front.bytes),
@@ -147,3 +149,8 @@ fn record(
         EmfEntry::Refused => Err(RecordFault::Unsupported(record_type)),
     }
 }
+
+/// The head of a record holds its size and its type: so bytes that spell records spell none where they are cut short (`prefix_law`).
+pub fn framing_law()
+    ensures { HoldsItsFields emf_framing }
+{}

@@ -5,6 +5,7 @@
 //! - Over any bytes a source gives what their records mean, in order, and then none or their first fault
 //!   (`EmfOps::new` and `next_op`, by `IsContent` of `emf_framing` and `emf_meaning`).
 //! - Each record means one operation with its notes, or its first fault (`Emf`, by `emf_record`).
+//! - The head of a record holds its size and its type (`framing_law`).
 //! - What is done with a type is said once, and the types that the standard lacks are those that no row
 //!   has (`kinds_law`).
 //! - A bitmap is two parts of its record, neither of which goes past the record's end, whatever offsets and
@@ -22,5 +23,5 @@ mod state_records;
 mod transform_records;
 mod types;
 
-pub use emf::{Emf, EmfOps};
+pub use emf::{Emf, EmfOps, framing_law};
 pub use entry::kinds_law;

@@ -20,6 +20,13 @@ impl<'a> HasContent for Source<'a> {
 }
 
 impl<'a> OpSource<'a> for Source<'a> {
+    fn next_into(&mut self, step: &mut Step<'a>) -> Result<bool, RecordFault> {
+        match self {
+            Source::Wmf(ops) => ops.next_into(step),
+            Source::Emf(ops) => ops.next_into(step),
+        }
+    }
+
     /// The next record's step, none behind the end record, or the fault at which the records break.
     fn next_op(&mut self) -> Result<Option<Step<'a>>, RecordFault> {
         match self {

@@ -2,6 +2,8 @@
 #![tactic(auto)]
 
 #[cfg(test)]
+mod banded;
+#[cfg(test)]
 mod certificates;
 #[cfg(test)]
 mod cleared;

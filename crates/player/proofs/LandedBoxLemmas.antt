@@ -84,7 +84,7 @@ module _ (laws : BoxLaws) (place : Place) (bounds : Rect) where
       contradicts false b e f h = cc
 
 -- the least box of points has them
-has_all : (bounds : Rect) (points : List Point) → IsLeastBox bounds points → All (HasPoint bounds) points
+pub has_all : (bounds : Rect) (points : List Point) → IsLeastBox bounds points → All (HasPoint bounds) points
 has_all bounds [] least = All-nil (HasPoint bounds)
 has_all bounds (p ∷ ps) least = least.all
 

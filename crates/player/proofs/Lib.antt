@@ -10,6 +10,7 @@ pub mod AfterLemmas
 pub mod RowLemmas
 pub mod LandingLemmas
 pub mod LandedBoxLemmas
+pub mod MissedLemmas
 pub mod CountLemmas
 pub mod OutlineLemmas
 pub mod DrawingLemmas
@@ -26,3 +27,6 @@ pub mod WorkedPaths
 pub mod WorkedFigures
 pub mod ClearedLemmas
 pub mod WholeSurfaceLemmas
+pub mod BandLemmas
+pub mod BandTextLemmas
+pub mod ClearedBandLemmas

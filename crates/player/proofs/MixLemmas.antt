@@ -36,6 +36,23 @@ span_parts y from to x row t =
     let b = and_parts (eqb row y) (leb from x) a.0 in
     (eqb-true row y b.0, leb-true from x b.1, ltb-true x to a.1)
 
+-- A part of a row of colours is written into the columns that it stands for.
+pub part_put :
+    WritingLaws → (colours : List Colour) (y from to : ℕ) (old new : CanvasState) → IsWhole old → to ≤ length colours → from ≤ to
+    → Repaints (in_span y from (from + length (take (to - from) (drop from colours)))) (λ column row c. get_or (take (to - from) (drop from colours)) (column - from) c) old new
+    → Repaints (in_span y from to) (λ column row c. get_or colours column c) old new
+part_put laws colours y from to old new whole end order r =
+    let long = part_long colours from to end order in
+    let last : from + length (take (to - from) (drop from colours)) ≡ to = omega (arith, long, order) in
+    laws.same _ (in_span y from to) _ (λ column row c. get_or colours column c) old new whole
+    (λ x row held. ap (λ n. in_span y from n x row) last)
+    (λ x row c held t.
+    let at = span_parts y from _ x row t in
+    let low = at.1 in
+    let high = at.2 in
+    item_within colours c from (to - from) x low (omega (arith, high, last, order)))
+    r
+
 -- A part of a row of mixes is mixed into the columns that it stands for.
 pub part_mixed :
     WritingLaws → (keeps flips : List Colour) (y from to : ℕ) (old new : CanvasState) → IsWhole old → to ≤ length keeps → from ≤ to

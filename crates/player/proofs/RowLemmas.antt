@@ -16,7 +16,7 @@ use Rattle.span_fill.specs.declared.span.Span.{Span}
 use Rattle.player.specs.Painted.{colour_of, made, paints}
 use Rattle.player.specs.RowInks.{inked, is_inked}
 use Rattle.player.specs.RowsPainted.{paints_above, paints_row}
-use Rattle.player.specs.Strips.{is_column, is_painted, is_uncut}
+use Rattle.player.specs.Strips.{is_painted, is_uncut}
 use Rattle.player.specs.declared.brushing.Brushing.{Brushing}
 use Rattle.player.specs.declared.row_ink.RowInk.{RowInk}
 use Rattle.player.proofs.TestLemmas.{column_from, column_true, from_to_from, nat_lt-from, nat_lt-true, same_test}

@@ -51,7 +51,7 @@ pub stops_where_broken : (before : ℕ) (left new : Content) (state : State) (s 
 stops_where_broken before left new state s result fault r gives e number by =
     let given : Stays (broken_by fault) left new = rw e at gives in
     record {
-      stop = stop_at before fault;
+      at = stop_at before fault;
       stops = rw given.is refl;
       number = number;
       fault = by;
@@ -69,7 +69,7 @@ that_of (Some here) fault h = record { here = here; there = refl; same = cc }
 
 stops_there : (before : ℕ) (left rest : Content) (step : StepValue) (state : State) (s : Surface) (here : RecordFault) (r : Refusal) → left ≡ with_step step rest → fault_of step.operation state s ≡ Some here → r.number ≡ Some step.number → r.fault ≡ Record here → StopsAfter before left state s r
 stops_there before left rest step state s here r is there number by = record {
-  stop = stop_at step.number here;
+  at = stop_at step.number here;
   stops = rw (is, there) refl;
   number = number;
   fault = by;
@@ -84,7 +84,7 @@ stops_at_first before left rest step state s fault r is h number by =
 -- where what is left stops, the whole does
 pub stops_by : (whole left : Content) (before : ℕ) (start state : State) (s : Surface) (r : Refusal) → stop_of whole start s ≡ stopped left.steps left.fault before state s → StopsAfter before left state s r → StopsBy whole start s r
 stops_by whole left before start state s r same after = record {
-  stop = after.stop;
+  at = after.at;
   stops = same ∙ after.stops;
   number = after.number;
   fault = after.fault;

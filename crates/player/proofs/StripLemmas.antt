@@ -1,5 +1,5 @@
 -- Parts of a row, painted one after another.
-use Rattle.std.proofs.Common.{◌≡◌, ℕ, zero, suc, ◌+◌, ◌-◌, ◌%◌, ◌<◌, ◌≤◌, ◌^◌, ℤ, pos, ◌<ℤ◌, ◌≤ℤ◌, ◌↔◌, Bool, true, false, not, cond, eqb, leb, ltb, int_le, int_lt, ◌&&◌, ◌||◌, List, [], ◌∷◌, drop, get_or, length, inl, inr, refl, sym, ap, ◌∙◌, arith, w8}
+use Rattle.std.proofs.Common.{◌≡◌, ℕ, zero, suc, ◌+◌, ◌-◌, ◌*◌, ◌%◌, ◌<◌, ◌≤◌, ◌^◌, ℤ, pos, ◌<ℤ◌, ◌≤ℤ◌, ◌↔◌, Bool, true, false, not, cond, eqb, leb, ltb, int_le, int_lt, ◌&&◌, ◌||◌, List, [], ◌∷◌, drop, get_or, length, inl, inr, refl, sym, ap, ◌∙◌, arith, w8}
 use Rattle.std.proofs.Math.Seq.{drop-cons}
 use Rattle.std.proofs.lemmas.Bool.{and_parts, and_from, and_left, and_right, or_from, eqb-true, leb-true, ltb-true, le-leb, lt-leb, lt-ltb, le-ltb, false_from_ne_true, true≢false, cases_lt, cond-true, cond-false, not-true}
 use Rattle.std.proofs.lemmas.Int.{ints, by_lt_z}
@@ -20,7 +20,8 @@ use Rattle.span_fill.specs.Spans.{AreApart, in_spans}
 use Rattle.player.specs.RowInks.{inked, is_inked}
 use Rattle.player.specs.declared.row_ink.RowInk.{RowInk}
 use Rattle.player.specs.declared.row_ink.RowInk.TheVariants.{Full, Nothing}
-use Rattle.player.specs.Strips.{is_column, is_painted, is_uncut}
+use Rattle.player.specs.Strips.{MayPaint, is_painted, is_uncut}
+use Rattle.player.proofs.TestLemmas.{is_column}
 
 -- tests that are true together are the same
 same_test : (a b : Bool) → (a ≡ true → b ≡ true) → (b ≡ true → a ≡ true) → a ≡ b
@@ -211,6 +212,45 @@ pub record HasPainted (ink : RowInk) (cuts : List Rect) (y : ℕ) (all left : Li
   pub goes_on :
       (new : CanvasState) → Repaints (is_painted ink cuts y (in_spans left)) (by_ink ink) now new
       → Repaints (is_painted ink cuts y (in_spans all)) (by_ink ink) start new
+
+-- some columns up to before one of them may be painted
+pub may_paint_before : (canvas : CanvasState) (y a : ℕ) (columns : Span) → MayPaint canvas y columns → columns.from ≤ a → a ≤ columns.to → MayPaint canvas y (record { from = columns.from; to = a })
+may_paint_before canvas y a columns may low high =
+    let width = may.width in
+    let countable = may.countable in
+    record { whole = may.whole; order = low; width = omega (arith, high, width); row = may.row; countable = omega (arith, low, high, countable) }
+
+-- and then those from another on
+pub may_paint_behind :
+    WritingLaws → (test : ℕ → ℕ → Bool) (f : ℕ → ℕ → Colour → Colour) (old new : CanvasState) (y a b : ℕ) (columns : Span) → MayPaint old y columns → columns.from ≤ a → a ≤ b
+    → b ≤ columns.to → Repaints test f old new → new.writes ≤ old.writes + (a - columns.from) → MayPaint new y (record { from = b; to = columns.to })
+may_paint_behind laws test f old new y a b columns may low order high r counted =
+    let width = may.width in
+    let countable = may.countable in
+    let low_row = may.row.from_first in
+    let high_row = may.row.to_last in
+    let same_width = r.width in
+    let same_first = r.first in
+    let same_rows = r.rows in
+    record {
+      whole = laws.stays_whole _ _ old new r may.whole;
+      order = high;
+      width = omega (arith, width, same_width);
+      row = record { from_first = omega (arith, low_row, same_first); to_last = omega (arith, high_row, same_first, same_rows) };
+      countable = omega (arith, low, order, high, countable, counted);
+    }
+
+-- the next of a row's spans may be painted
+pub may_paint_next :
+    (ink : RowInk) (cuts : List Rect) (y : ℕ) (all spans : List Span) (span : Span) (start now : CanvasState) → HasPainted ink cuts y all (span ∷ spans) start now
+    → start.writes + 2 * start.width < 2 ^ 64 → MayPaint now y span
+may_paint_next ink cuts y all spans span start now h room =
+    let low = h.apart.0 in
+    let order = h.apart.1 in
+    let high = h.apart.2 in
+    let counted = h.count in
+    let width = h.width in
+    record { whole = h.whole; order = omega (arith, order); width = omega (arith, high, width); row = h.row; countable = omega (arith, low, order, high, counted, room) }
 
 -- before the first
 pub none_painted_yet :

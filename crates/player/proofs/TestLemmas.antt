@@ -3,7 +3,10 @@ use Rattle.std.proofs.Common.{◌≡◌, ℕ, ◌≤◌, ◌<◌, ℤ, pos, ◌�
 use Rattle.std.proofs.lemmas.Bool.{and_from, and_parts}
 use Rattle.std.proofs.lemmas.Int.{ints}
 use Rattle.dc_stack.specs.Clip.{is_from_to}
-use Rattle.player.specs.Strips.{is_column}
+
+-- a column from one on, up to before another
+abbrev pub is_column : ℕ → ℕ → ℕ → Bool
+is_column from to x = nat_le from x && nat_lt x to
 
 -- tests that pass together are the same
 pub same_test : (a b : Bool) → (a ≡ true → b ≡ true) → (b ≡ true → a ≡ true) → a ≡ b

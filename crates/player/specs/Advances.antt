@@ -2,12 +2,12 @@
 use Rattle.std.specs.Prelude.{◌≡◌, ℕ, Option, Some, None, IfSome, Result, Ok, Err}
 use Rattle.mapping.specs.Surface.{Surface}
 use Rattle.draw_ops.specs.Content.{Content, StepValue, nothing_left, with_step}
-use Rattle.draw_ops.specs.declared.fault.Fault.TheVariants.{Record}
 use Rattle.dc_stack.specs.Draws.{IsPlacedDraw}
 use Rattle.dc_stack.specs.MachineState.{HasStepped, IsDrawingOf, MachineState}
 use Rattle.dc_stack.specs.State.{State}
 use Rattle.dc_stack.specs.declared.draw.Draw.{Draw}
-use Rattle.preflight_cert.specs.Stop.{Stop, stopped}
+use Rattle.preflight_cert.specs.Refusal.{TellsStop}
+use Rattle.preflight_cert.specs.Stop.{stopped}
 use Rattle.preflight_cert.specs.declared.refusal.Refusal.{Refusal}
 
 -- the first step of what was left was played, and what it draws is told by where it lands
@@ -25,11 +25,8 @@ pub record HasEnded (old : Content) (start end : MachineState) : Type 0 where
   pub needs : end.needs ≡ start.needs
 
 -- what is left stops at the refusal's record, by its fault, with so many records before
-pub record StopsAfter (before : ℕ) (left : Content) (state : State) (s : Surface) (r : Refusal) : Type 0 where
-  pub stop : Stop
-  pub stops : stopped left.steps left.fault before state s ≡ Some stop
-  pub number : r.number ≡ Some stop.number
-  pub fault : r.fault ≡ Record stop.fault
+abbrev pub StopsAfter : ℕ → Content → State → Surface → Refusal → Type 0
+StopsAfter before left state s r = TellsStop (stopped left.steps left.fault before state s) r
 
 -- a step was played, or nothing was left, or what is left stops in its first record
 abbrev pub Advances : ℕ → Content → MachineState → Result (Option (Option Draw)) Refusal → Content → MachineState → Type 0

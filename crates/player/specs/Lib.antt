@@ -4,6 +4,7 @@ pub mod Moves
 pub mod PieceParts
 pub mod MovesToCome
 pub mod FiguresToCome
+pub mod Counts
 pub mod After
 pub mod Leaving
 pub mod Advances
@@ -25,3 +26,4 @@ pub mod Dots
 pub mod RectangleBoxes
 pub mod Regions
 pub mod ClearedPlay
+pub mod Bands

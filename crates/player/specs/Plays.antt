@@ -1,11 +1,11 @@
 -- What playing does to a canvas.
-use Rattle.std.specs.Prelude.{◌≡◌, ◌≤◌, ℕ, ◌+◌, List, Option, Some, None, IsOk}
+use Rattle.std.specs.Prelude.{◌≡◌, ◌≤◌, ℕ, ◌+◌, List, Option, None, IsOk}
 use Rattle.mapping.specs.Surface.{Surface}
 use Rattle.draw_ops.specs.Content.{Content}
-use Rattle.draw_ops.specs.declared.fault.Fault.TheVariants.{OutOfMemory, Record}
 use Rattle.canvas.specs.CanvasState.{CanvasState, image_of}
 use Rattle.preflight_cert.specs.After.{needs_after, state_after}
 use Rattle.preflight_cert.specs.Apply.{apply_all, image_after, rows_after}
+use Rattle.meta_headers.specs.File.{IsFile}
 use Rattle.meta_headers.specs.Opening.{HasContentOf, opened, surface_for}
 use Rattle.meta_headers.specs.declared.opened.FileFormat.{FileFormat}
 use Rattle.meta_headers.specs.declared.opened.Opened.{Opened}
@@ -15,14 +15,11 @@ use Rattle.preflight_cert.specs.Drawings.{drawings_of}
 use Rattle.preflight_cert.specs.Layer.{Layer, layers_if_drawn}
 use Rattle.meta_headers.specs.Headers.{OpenedValue}
 use Rattle.dc_stack.specs.State.{State, start_of}
-use Rattle.preflight_cert.specs.Stop.{Stop, stop_of}
+use Rattle.preflight_cert.specs.Refusal.{IsWantOfMemory, TellsStop}
+use Rattle.preflight_cert.specs.Stop.{stop_of}
+use Rattle.preflight_cert.specs.StoppedRecords.{StopsOpened, StopsRecords}
 use Rattle.preflight_cert.specs.Writes.{writes_after, writes_of_drawings, writes_of_layers}
 use Rattle.preflight_cert.specs.declared.refusal.Refusal.{Refusal}
-
--- memory was refused: no record is told
-pub record IsWantOfMemory (r : Refusal) : Type 0 where
-  pub number : r.number ≡ None
-  pub fault : r.fault ≡ OutOfMemory
 
 -- the file opens, and memory was refused
 pub record WantsMemory (file : List ℕ) (r : Refusal) : Type 0 where
@@ -63,11 +60,8 @@ pub record PlaysContent (content : Content) (start end : MachineState) (old new 
   pub writes : new.writes ≡ old.writes + writes_of_drawings (drawings_of content.steps start.state) start.surface old.first old.rows
 
 -- the content stops at the refusal's record, by its fault
-pub record StopsBy (content : Content) (state : State) (s : Surface) (r : Refusal) : Type 0 where
-  pub stop : Stop
-  pub stops : stop_of content state s ≡ Some stop
-  pub number : r.number ≡ Some stop.number
-  pub fault : r.fault ≡ Record stop.fault
+abbrev pub StopsBy : Content → State → Surface → Refusal → Type 0
+StopsBy content state s r = TellsStop (stop_of content state s) r
 
 -- all records of a file in some format were played and drawn
 pub record PlaysRecords (format : FileFormat) (records : List ℕ) (start end : MachineState) (old new : CanvasState) : Type 0 where
@@ -75,11 +69,18 @@ pub record PlaysRecords (format : FileFormat) (records : List ℕ) (start end : 
   pub of_records : HasContentOf format records content
   pub plays : PlaysContent content start end old new
 
--- the records of a file in some format have a content that stops so
-pub record StopsRecordsBy (format : FileFormat) (records : List ℕ) (state : State) (s : Surface) (r : Refusal) : Type 0 where
+-- the records of a file in some format have a content that doesn't stop
+pub record RunsRecords (format : FileFormat) (records : List ℕ) (state : State) (s : Surface) : Type 0 where
   pub content : Content
   pub of_records : HasContentOf format records content
-  pub stops : StopsBy content state s r
+  pub unstopped : stop_of content state s ≡ None
+
+-- a file opens, and its records don't stop on a surface of these sides
+pub record RunsFile (file : List ℕ) (width height : ℕ) : Type 0 where
+  pub headers : OpenedValue
+  pub content : Content
+  pub of_file : IsFile file headers content
+  pub unstopped : stop_of content (start_of headers) (surface_for headers width height) ≡ None
 
 -- all records of an opened file of the code were played and drawn
 abbrev pub PlaysFile : Opened → MachineState → MachineState → CanvasState → CanvasState → Type 0
@@ -87,7 +88,7 @@ PlaysFile o start end old new = PlaysRecords o.format o.records.now start end ol
 
 -- they stop so
 abbrev pub StopsFileBy : Opened → State → Surface → Refusal → Type 0
-StopsFileBy o state s r = StopsRecordsBy o.format o.records.now state s r
+StopsFileBy o state s r = StopsRecords o.format o.records.now state s r
 
 -- all records of an opened file were drawn from their start on, and none has a fault
 pub record PlaysOpened (o : OpenedValue) (records : List ℕ) (old new : CanvasState) : Type 0 where
@@ -99,4 +100,4 @@ pub record PlaysOpened (o : OpenedValue) (records : List ℕ) (old new : CanvasS
 
 -- the records of an opened file stop so, played from their start on
 abbrev pub StopsOpenedBy : OpenedValue → List ℕ → CanvasState → Refusal → Type 0
-StopsOpenedBy o records canvas r = StopsRecordsBy o.format records (start_of o) (surface_for o canvas.width canvas.rows) r
+StopsOpenedBy o records canvas r = StopsOpened o records canvas.width canvas.rows r

@@ -8,7 +8,7 @@ ghost use Rattle.player.specs.Leaving.{IsLeftBy};
 ghost use Rattle.preflight_cert.specs.Refusal.{TellsNumber};
 
 use dc_stack::{Draw, Machine};
-use draw_ops::OpSource;
+use draw_ops::{OpSource, Step};
 use object_tables::Table;
 use preflight_cert::{Refusal, need_law};
 
@@ -29,16 +29,17 @@ pub(crate) fn advance<'a, S: OpSource<'a>, T: Table<'a>>(
     ensures left { OnErr result (IsLeftBy (S.content source.old) machine.old machine.new) }
 {
     need_law();
-    let told = source.next_op();
-    let next = match &told {
-        Ok(next) => next,
-        Err(fault) => return Err(Refusal::at(before, *fault)),
+    let mut step: Step<'a> = Step::without_effect();
+    let is_put = match source.next_into(&mut step) {
+        Ok(is_put) => is_put,
+        Err(fault) => return Err(Refusal::at(before, fault)),
     };
-    let Some(step) = next else {
+    if !is_put {
         return Ok(None);
-    };
-    match machine.step_by(&step.op) {
-        Ok(drawn) => Ok(Some(drawn)),
+    }
+    let mut drawn: Option<Draw<'a>> = None;
+    match machine.step_into(&step.op, &mut drawn) {
+        Ok(()) => Ok(Some(drawn)),
         Err(fault) => Err(Refusal::of_step(step.number, fault)),
     }
 }

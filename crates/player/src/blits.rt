@@ -1,7 +1,7 @@
 //! Blits: boxes of which each pixel becomes what a ternary raster operation makes of the brush, of what is
 //! read, and of the colour that is there.
 
-ghost use Rattle.std.specs.Prelude.{◌≡◌, ◌+◌, ◌<◌, ◌≤◌, ◌^◌, ℕ, true, IfSome};
+ghost use Rattle.std.specs.Prelude.{◌≡◌, ℕ, true, IfSome};
 ghost use Rattle.mapping.specs.Boxes.{box_between};
 ghost use Rattle.mapping.specs.PlaceOf.{surface_of};
 ghost use Rattle.mapping.specs.Surface.{FitsPlace, placed_point};
@@ -11,6 +11,7 @@ ghost use Rattle.draw_ops.specs.Blits.{source_of};
 ghost use Rattle.raster_ops.specs.Sources.{is_readable, source_colour};
 ghost use Rattle.raster_ops.specs.TernaryOps.{ternary_colour, uses_source};
 ghost use Rattle.player.specs.Blits.{blit_made, blit_paints};
+ghost use Rattle.player.specs.Counts.{CountsLayer, HasRoomForLayer};
 ghost use Rattle.player.specs.Painted.{colour_seen};
 ghost use Rattle.player.specs.SourceRows.{ReadsBox};
 
@@ -33,12 +34,12 @@ pub(crate) fn blit(
     room: &mut InkRoom,
     canvas: &mut Canvas,
 )
-    requires countable { canvas.old.writes + 2 ^ 27 < 2 ^ 64 }
+    requires countable { HasRoomForLayer canvas.old }
     requires near { FitsPlace (placed_point asked.now.first (surface_of place)) }
     requires far { FitsPlace (placed_point asked.now.second (surface_of place)) }
     requires readable { uses_source asked.now.operation.table ≡ true → is_readable (source_of asked.now.source) ≡ true }
     ensures pixels { Repaints (blit_paints asked.now (surface_of place) dc.now) (blit_made asked.now (surface_of place) dc.now) canvas.old canvas.new }
-    ensures few { canvas.new.writes ≤ canvas.old.writes + 2 ^ 26 }
+    ensures few { CountsLayer canvas.old canvas.new }
 {
     writing_law();
     whole_law(canvas);

@@ -1,13 +1,18 @@
 //! Playing a file whose certificate was accepted.
 
-ghost use Rattle.std.specs.Prelude.{◌≡◌, ◌+◌, ◌≤◌, ◌⊎◌, ◌^◌, ◌↔◌, Err, IfErr, IfOk, OnErr, OnOk};
+ghost use Rattle.std.specs.Prelude.{◌≡◌, ◌+◌, ◌≤◌, ◌⊎◌, ◌↔◌, Err, IfErr, IfOk, OnErr, OnOk};
+ghost use Rattle.mapping.specs.PlacingLaws.{IsNoLarger};
 ghost use Rattle.draw_ops.specs.declared.fault.Fault.TheVariants.{OutOfMemory, SurfaceTooLarge};
 ghost use Rattle.meta_headers.specs.OpenedOf.{opened_of};
 ghost use Rattle.meta_headers.specs.Opening.{surface_for};
 ghost use Rattle.dc_stack.specs.Drawing.{edge_limit};
+ghost use Rattle.dc_stack.specs.MachineState.{GoesOn};
 ghost use Rattle.dc_stack.specs.Needs.{no_needs};
 ghost use Rattle.dc_stack.specs.State.{start_of};
+ghost use Rattle.preflight_cert.specs.Answer.{bound_of};
+ghost use Rattle.preflight_cert.specs.CertificateOf.{certificate_of};
 ghost use Rattle.player.specs.ClearedPlay.{AreRunWrites, IsTooLarge, IsWithinBound, LeavesRun};
+ghost use Rattle.player.specs.Counts.{CountsFile, HasRoomForFile};
 ghost use Rattle.player.specs.Plays.{HoldsRows, PlaysFile, PlaysOpened, SameRows};
 ghost use Rattle.preflight_cert.specs.NeedLaws.{HasRoomFor};
 
@@ -27,7 +32,7 @@ use std::alloc::Global;
 /// for what the certificate needs was refused, and then the canvas is what it was.
 pub fn play(alloc: Global, cleared: &Cleared<'_>, canvas: &mut Canvas) -> Result<u64, Fault>
     requires whole { canvas.old.first ≡ 0 }
-    requires countable { canvas.old.writes ≤ 2 ^ 63 }
+    requires countable { HasRoomForFile canvas.old }
     ensures image { OnOk result (LeavesRun cleared.now canvas.old canvas.new) }
     ensures writes { IfOk result (AreRunWrites cleared.now canvas.old) }
     ensures count { IfOk result (λ writes. canvas.new.writes ≡ canvas.old.writes + writes) }
@@ -48,7 +53,7 @@ pub fn play(alloc: Global, cleared: &Cleared<'_>, canvas: &mut Canvas) -> Result
 #[tactic(auto, using(crate::proofs::WholeSurfaceLemmas::whole))]
 fn play_within(alloc: Global, cleared: &Cleared<'_>, canvas: &mut Canvas) -> Result<u64, Fault>
     requires whole { canvas.old.first ≡ 0 }
-    requires countable { canvas.old.writes ≤ 2 ^ 63 }
+    requires countable { HasRoomForFile canvas.old }
     requires within { IsWithinBound canvas.old cleared.now.certificate }
     ensures played { OnOk result
         (PlaysOpened (opened_of cleared.now.opened) cleared.now.opened.records.now canvas.old canvas.new) }
@@ -85,7 +90,7 @@ fn play_reserved<'a, T: Table<'a>>(
 ) -> u64
     requires whole { canvas.old.first ≡ 0 }
     requires held { HoldsRows canvas.old machine.old.surface }
-    requires countable { canvas.old.writes ≤ 2 ^ 63 }
+    requires countable { HasRoomForFile canvas.old }
     requires within { IsWithinBound canvas.old cleared.now.certificate }
     requires room { HasRoomFor cleared.now.certificate.needs machine.old }
     requires lines { (edge_limit ≤ rows.old.room) ⊎ (cleared.now.certificate.needs.edges ≤ rows.old.room) }
@@ -96,6 +101,33 @@ fn play_reserved<'a, T: Table<'a>>(
     ensures count { canvas.new.writes ≡ canvas.old.writes + result }
     ensures few { result ≤ cleared.now.certificate.writes }
     ensures rows { SameRows canvas.old canvas.new }
+{
+    answer_law();
+    size_law();
+    play_rows(cleared, machine, rows, canvas)
+}
+
+/// Plays a cleared file from its start on, on a canvas that holds rows of a surface within the certificate's bound, on a machine and
+/// with rows that have room for what the certificate needs: nothing is refused.
+pub(crate) fn play_rows<'a, T: Table<'a>>(
+    cleared: &Cleared<'a>,
+    machine: &mut Machine<'a, T>,
+    rows: &mut RowBuf,
+    canvas: &mut Canvas,
+) -> u64
+    requires held { HoldsRows canvas.old machine.old.surface }
+    requires countable { HasRoomForFile canvas.old }
+    requires within { IsNoLarger machine.old.surface (bound_of (opened_of cleared.now.opened) (certificate_of cleared.now.certificate)) }
+    requires room { HasRoomFor cleared.now.certificate.needs machine.old }
+    requires lines { (edge_limit ≤ rows.old.room) ⊎ (cleared.now.certificate.needs.edges ≤ rows.old.room) }
+    requires state { machine.old.state ≡ start_of (opened_of cleared.now.opened) }
+    requires needs { machine.old.needs ≡ no_needs }
+    ensures played { PlaysFile cleared.now.opened machine.old machine.new canvas.old canvas.new }
+    ensures count { canvas.new.writes ≡ canvas.old.writes + result }
+    ensures bounded { CountsFile canvas.old canvas.new }
+    ensures rows { SameRows canvas.old canvas.new }
+    ensures goes_on { GoesOn machine.old machine.new }
+    ensures lines { rows.new.room ≡ rows.old.room }
 {
     answer_law();
     size_law();

@@ -1,12 +1,13 @@
 //! Drawing what a step draws, on a canvas: what is filled, and then what is stroked.
 
-ghost use Rattle.std.specs.Prelude.{◌≡◌, ◌+◌, ◌<◌, ◌≤◌, ◌^◌, IfSome};
+ghost use Rattle.std.specs.Prelude.{◌≡◌, ◌≤◌, IfSome};
 ghost use Rattle.std.specs.Option.{option_map};
 ghost use Rattle.dc_stack.specs.Draws.{IsPlacedDraw, mark_of};
 ghost use Rattle.dc_stack.specs.Drawing.{drawing_edges, mark_edges, tools_of};
 ghost use Rattle.dc_stack.specs.MachineState.{drawing_with};
 ghost use Rattle.draw_ops.specs.declared.objects.Pen.TheVariants.{Solid};
 ghost use Rattle.preflight_cert.specs.Layer.{fills_of, outlines_of, strokes_of};
+ghost use Rattle.player.specs.Counts.{CountsDrawing, CountsLayer, HasRoomForDrawing, HasRoomForLayer};
 ghost use Rattle.player.specs.Plays.{DrawsDrawing, DrawsLayers, HoldsRows, SameRows};
 
 use crate::blits::blit;
@@ -18,20 +19,20 @@ use crate::ink_room::InkRoom;
 use crate::list_lines::Ends;
 use crate::parts::{Part, paint_part, rule_of};
 use crate::rectangles::rectangle_box;
-use crate::regions::{landed_box, whole_law};
+use crate::regions::{landed_box, misses_rows, whole_law};
 use crate::stroking::{stroke_box, stroke_line};
 use canvas::{Canvas, writing_law};
 use dc_stack::{Draw, Machine, Mark, Painting};
 use draw_ops::{Brush, Pen};
 use mapping::Colour;
 use object_tables::Table;
-use preflight_cert::drawing_box_law;
+use preflight_cert::{drawing_box_law, missed_rows_law};
 use raster_ops::binary_law;
 use span_fill::{Line, RowBuf};
 
-/// Draws what a step of the machine draws, if it draws, with the tools of its moment. The count of
-/// writes has room for two layers of a surface of 2^26 pixels, and the rows have room for the drawing's lines: no memory
-/// is wanted.
+/// Draws what a step of the machine draws, if it draws, with the tools of its moment. A drawing whose box misses the rows held is
+/// not painted: it has no pixel there. The count of writes has room for two layers of a surface of 2^26 pixels, and the
+/// rows have room for the drawing's lines: no memory is wanted.
 pub(crate) fn draw<'a, T: Table<'a>>(
     step: Option<Draw<'a>>,
     machine: &Machine<'a, T>,
@@ -40,18 +41,24 @@ pub(crate) fn draw<'a, T: Table<'a>>(
     canvas: &mut Canvas,
 )
     requires held { HoldsRows canvas.old machine.now.surface }
-    requires countable { canvas.old.writes + 2 ^ 28 < 2 ^ 64 }
+    requires countable { HasRoomForDrawing canvas.old }
     requires placed { IfSome step (IsPlacedDraw machine.now.surface machine.now.painted) }
     requires lines { drawing_edges (option_map (drawing_with machine.now) step) ≤ rows.old.room }
     ensures drawn { DrawsDrawing (option_map (drawing_with machine.now) step.entry) machine.now.surface canvas.old canvas.new }
     ensures rows { SameRows canvas.old canvas.new }
-    ensures few { canvas.new.writes ≤ canvas.old.writes + 2 ^ 27 }
+    ensures few { CountsDrawing canvas.old canvas.new }
     ensures room { rows.new.room ≡ rows.old.room }
 {
-    if let Some(drawn) = step {
-        fill(drawn, machine, rows, room, canvas);
-        stroke(drawn, machine, rows, room, canvas);
+    missed_rows_law();
+    whole_law(canvas);
+    let Some(drawn) = step else {
+        return;
+    };
+    if misses_rows(canvas, machine.place(), drawn.bounds) {
+        return;
     }
+    fill(drawn, machine, rows, room, canvas);
+    stroke(drawn, machine, rows, room, canvas);
 }
 
 /// Fills the inside of what a step draws, if it has one and the brush paints.
@@ -63,12 +70,12 @@ fn fill<'a, T: Table<'a>>(
     canvas: &mut Canvas,
 )
     requires held { HoldsRows canvas.old machine.now.surface }
-    requires countable { canvas.old.writes + 2 ^ 27 < 2 ^ 64 }
+    requires countable { HasRoomForLayer canvas.old }
     requires placed { IsPlacedDraw machine.now.surface machine.now.painted drawn }
     requires lines { mark_edges (mark_of machine.now.painted drawn) ≤ rows.old.room }
     ensures drawn { DrawsLayers (fills_of (mark_of machine.now.painted drawn.entry) (tools_of machine.now.state.dc)) machine.now.surface canvas.old canvas.new }
     ensures rows { SameRows canvas.old canvas.new }
-    ensures few { canvas.new.writes ≤ canvas.old.writes + 2 ^ 26 }
+    ensures few { CountsLayer canvas.old canvas.new }
     ensures room { rows.new.room ≡ rows.old.room }
 {
     writing_law();
@@ -112,12 +119,12 @@ fn stroke<'a, T: Table<'a>>(
     canvas: &mut Canvas,
 )
     requires held { HoldsRows canvas.old machine.now.surface }
-    requires countable { canvas.old.writes + 2 ^ 27 < 2 ^ 64 }
+    requires countable { HasRoomForLayer canvas.old }
     requires placed { IsPlacedDraw machine.now.surface machine.now.painted drawn }
     requires lines { mark_edges (mark_of machine.now.painted drawn) ≤ rows.old.room }
     ensures drawn { DrawsLayers (strokes_of (mark_of machine.now.painted drawn.entry) (tools_of machine.now.state.dc)) machine.now.surface canvas.old canvas.new }
     ensures rows { SameRows canvas.old canvas.new }
-    ensures few { canvas.new.writes ≤ canvas.old.writes + 2 ^ 26 }
+    ensures few { CountsLayer canvas.old canvas.new }
     ensures room { rows.new.room ≡ rows.old.room }
 {
     writing_law();
@@ -148,13 +155,13 @@ fn stroke_outline<'a, T: Table<'a>>(
     canvas: &mut Canvas,
 )
     requires held { HoldsRows canvas.old machine.now.surface }
-    requires countable { canvas.old.writes + 2 ^ 27 < 2 ^ 64 }
+    requires countable { HasRoomForLayer canvas.old }
     requires placed { IsPlacedDraw machine.now.surface machine.now.painted drawn }
     requires lines { mark_edges (mark_of machine.now.painted drawn) ≤ rows.old.room }
     requires pen { machine.now.state.dc.selected.pen.object ≡ Solid colour }
     ensures drawn { DrawsLayers (outlines_of (mark_of machine.now.painted drawn.entry) (tools_of machine.now.state.dc)) machine.now.surface canvas.old canvas.new }
     ensures rows { SameRows canvas.old canvas.new }
-    ensures few { canvas.new.writes ≤ canvas.old.writes + 2 ^ 26 }
+    ensures few { CountsLayer canvas.old canvas.new }
     ensures room { rows.new.room ≡ rows.old.room }
 {
     writing_law();

@@ -1,8 +1,9 @@
 //! Boxes, painted row by row.
 
-ghost use Rattle.std.specs.Prelude.{◌≡◌, IfSome, ◌+◌, ◌<◌, ◌≤◌, ◌^◌};
+ghost use Rattle.std.specs.Prelude.{◌≡◌, IfSome};
 ghost use Rattle.canvas.specs.Writing.{Repaints};
 ghost use Rattle.dc_stack.specs.Clip.{in_box};
+ghost use Rattle.player.specs.Counts.{CountsLayer, HasRoomForLayer};
 ghost use Rattle.player.specs.Painted.{made, paints};
 ghost use Rattle.player.specs.SourceRows.{ReadsBox};
 
@@ -22,10 +23,10 @@ pub(crate) fn fill_box(
     paint: &Brushing<'_, '_>,
     room: &mut InkRoom,
 )
-    requires countable { canvas.old.writes + 2 ^ 27 < 2 ^ 64 }
+    requires countable { HasRoomForLayer canvas.old }
     requires reads { IfSome paint.now.source (λ reader. ReadsBox reader inside) }
     ensures pixels { Repaints (paints paint.now (in_box inside)) (made paint.now) canvas.old canvas.new }
-    ensures few { canvas.new.writes ≤ canvas.old.writes + 2 ^ 26 }
+    ensures few { CountsLayer canvas.old canvas.new }
 {
     writing_law();
     let region = visible(canvas, paint.clip);
@@ -39,13 +40,6 @@ pub(crate) fn fill_box(
     for y in drawn.rows.from..drawn.rows.to {
         kept = read_row(&paint.source, columns, y, kept, &mut room.sources);
         let ink = paint.row(same, y, columns, &room.sources, &mut room.mixes);
-        put_uncut(
-            canvas,
-            &ink,
-            y,
-            columns.from,
-            columns.to,
-            paint.clip.cut_boxes(),
-        );
+        put_uncut(canvas, &ink, y, columns, paint.clip.cut_boxes());
     }
 }

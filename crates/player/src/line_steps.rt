@@ -1,6 +1,6 @@
 //! A lone line, pixel by pixel.
 
-ghost use Rattle.std.specs.Prelude.{◌≡◌, ◌+◌, ◌<◌, ◌≤◌, ◌^◌, ◌&&◌, pos, IfSome};
+ghost use Rattle.std.specs.Prelude.{◌≡◌, ◌+◌, ◌<◌, ◌^◌, ◌&&◌, pos, IfSome};
 ghost use Rattle.mapping.specs.declared.geometry.Colour.{Colour};
 ghost use Rattle.canvas.specs.CanvasState.{HasPixel};
 ghost use Rattle.canvas.specs.Writing.{Repaints, is_at};
@@ -10,6 +10,7 @@ ghost use Rattle.dc_stack.specs.Values.{placed_value};
 ghost use Rattle.mapping.specs.Mixes.{mixed_by};
 ghost use Rattle.span_fill.specs.Lines.{HasNearEnds};
 ghost use Rattle.span_fill.specs.Strokes.{on_line};
+ghost use Rattle.player.specs.Counts.{CountsLayer, HasRoomForLayer};
 ghost use Rattle.player.specs.LineSteps.{MayTake, is_within};
 
 use crate::regions::visible;
@@ -22,8 +23,8 @@ use span_fill::{Line, Pixel, Steps, line_law};
 #[inline(never)]
 pub(crate) fn mix_line(canvas: &mut Canvas, line: Line, mix: Mix, clip: &Clip)
     requires near { HasNearEnds line }
-    requires countable { canvas.old.writes + 2 ^ 27 < 2 ^ 64 }
-    ensures few { canvas.new.writes ≤ canvas.old.writes + 2 ^ 26 }
+    requires countable { HasRoomForLayer canvas.old }
+    ensures few { CountsLayer canvas.old canvas.new }
     ensures pixels { Repaints (λ x y. in_boxes (placed_value clip.now) x y && on_line line (pos x) (pos y)) (λ x y old. mixed_by mix old) canvas.old canvas.new }
 {
     writing_law();

@@ -1,11 +1,12 @@
 //! Parts of outlines, painted row by row: what is inside, or the lines.
 
-ghost use Rattle.std.specs.Prelude.{◌≡◌, ℕ, None, true, ◌+◌, ◌<◌, ◌≤◌, ◌^◌, length};
+ghost use Rattle.std.specs.Prelude.{◌≡◌, ℕ, None, true, ◌+◌, ◌<◌, ◌≤◌, length};
 ghost use Rattle.canvas.specs.Writing.{Repaints};
 ghost use Rattle.dc_stack.specs.Clip.{in_box};
 ghost use Rattle.preflight_cert.specs.Shape.{fill_rule_of};
 ghost use Rattle.span_fill.specs.RowState.{SameWork};
 ghost use Rattle.span_fill.specs.Spans.{AreRow};
+ghost use Rattle.player.specs.Counts.{CountsLayer, HasRoomForLayer};
 ghost use Rattle.player.specs.Painted.{made, paints};
 ghost use Rattle.player.specs.Parts.{part_has, work_of};
 
@@ -67,12 +68,12 @@ pub(crate) fn paint_part<O: Outline + Copy>(
     paint: &Brushing<'_, '_>,
     room: &mut InkRoom,
 )
-    requires countable { canvas.old.writes + 2 ^ 27 < 2 ^ 64 }
+    requires countable { HasRoomForLayer canvas.old }
     requires alone { paint.now.source ≡ None }
     requires room { length (O.lines outline) ≤ rows.old.room }
     requires within { (x y : ℕ) → part_has part (O.lines outline) x y ≡ true → in_box bounds x y ≡ true }
     ensures pixels { Repaints (paints paint.now (part_has part (O.lines outline))) (made paint.now) canvas.old canvas.new }
-    ensures few { canvas.new.writes ≤ canvas.old.writes + 2 ^ 26 }
+    ensures few { CountsLayer canvas.old canvas.new }
     ensures room { rows.new.room ≡ rows.old.room }
 {
     writing_law();

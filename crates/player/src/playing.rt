@@ -1,12 +1,13 @@
 //! Playing a file: its records' steps in order, on a machine and a canvas.
 
-ghost use Rattle.std.specs.Prelude.{◌≡◌, ◌+◌, ◌≤◌, ◌⊎◌, ◌^◌, IfOk, IfErr, OnErr, OnOk, length};
+ghost use Rattle.std.specs.Prelude.{◌≡◌, ◌+◌, ◌≤◌, ◌⊎◌, IfOk, IfErr, OnErr, OnOk, length};
 ghost use Rattle.mapping.specs.Limits.{IsSurfaceSide};
 ghost use Rattle.canvas.specs.CanvasState.{image_of};
 ghost use Rattle.draw_ops.specs.Records.{record_limit};
 ghost use Rattle.meta_headers.specs.OpenedOf.{opened_of};
 ghost use Rattle.dc_stack.specs.MachineState.{GoesOn, HasFullRoom};
 ghost use Rattle.player.specs.After.{HasLines, HasLinesForRecords, HasRoomForRecords, HasRoomForSteps};
+ghost use Rattle.player.specs.Counts.{CountsFile, HasFullLines, HasRoomForFile};
 ghost use Rattle.player.specs.Leaving.{IsLeftBy, IsLeftByRecords};
 ghost use Rattle.player.specs.Plays.{HoldsRows, PlaysContent, PlaysFile, PlaysOpened, SameRows, StopsBy, StopsFileBy, StopsOpenedBy, WantsMemory};
 ghost use Rattle.preflight_cert.specs.Refusal.{TellsNumber};
@@ -65,7 +66,7 @@ fn play_opened(
     canvas: &mut Canvas,
 ) -> Result<Result<(), Refusal>, OutOfMemory>
     requires whole { canvas.old.first ≡ 0 }
-    requires countable { canvas.old.writes ≤ 2 ^ 63 }
+    requires countable { HasRoomForFile canvas.old }
     ensures played { IfOk result
         (λ played. OnOk played (PlaysOpened (opened_of opened.now) opened.now.records.now canvas.old canvas.new)) }
     ensures refusal { IfOk result
@@ -102,8 +103,8 @@ pub fn play_on<'a, T: Table<'a>>(
 ) -> Result<u64, Refusal>
     requires held { HoldsRows canvas.old machine.old.surface }
     requires room { HasFullRoom machine.old }
-    requires lines { 2 ^ 20 ≤ rows.old.room }
-    requires countable { canvas.old.writes ≤ 2 ^ 63 }
+    requires lines { HasFullLines rows.old }
+    requires countable { HasRoomForFile canvas.old }
     ensures played { OnOk result
         (PlaysFile opened.now machine.old machine.new canvas.old canvas.new) }
     ensures count { IfOk result (λ writes. canvas.new.writes ≡ canvas.old.writes + writes) }
@@ -129,7 +130,7 @@ pub(crate) fn play_records<'a, T: Table<'a>>(
     requires held { HoldsRows canvas.old machine.old.surface }
     requires room { HasRoomForRecords opened.now.format opened.now.records.now machine.old }
     requires lines { HasLinesForRecords rows.old.room opened.now.format opened.now.records.now machine.old }
-    requires countable { canvas.old.writes ≤ 2 ^ 63 }
+    requires countable { HasRoomForFile canvas.old }
     ensures played { OnOk result
         (PlaysFile opened.now machine.old machine.new canvas.old canvas.new) }
     ensures count { IfOk result (λ writes. canvas.new.writes ≡ canvas.old.writes + writes) }
@@ -138,6 +139,7 @@ pub(crate) fn play_records<'a, T: Table<'a>>(
     ensures left { OnErr result
         (IsLeftByRecords opened.now.format opened.now.records.now machine.old machine.new) }
     ensures number_told { IfErr result TellsNumber }
+    ensures bounded { CountsFile canvas.old canvas.new }
     ensures rows { SameRows canvas.old canvas.new }
     ensures goes_on { GoesOn machine.old machine.new }
     ensures lines { rows.new.room ≡ rows.old.room }
@@ -160,11 +162,12 @@ fn play_steps<'a, S: OpSource<'a>, T: Table<'a>>(
     requires held { HoldsRows canvas.old machine.old.surface }
     requires room { HasRoomForSteps (S.content source.old) machine.old }
     requires lines { HasLines rows.old.room (S.content source.old) machine.old }
-    requires countable { canvas.old.writes ≤ 2 ^ 63 }
+    requires countable { HasRoomForFile canvas.old }
     ensures played { OnOk result (PlaysContent (S.content source.old) machine.old machine.new canvas.old canvas.new) }
     ensures refusal { IfErr result (StopsBy (S.content source.old) machine.old.state machine.old.surface) }
     ensures left { OnErr result (IsLeftBy (S.content source.old) machine.old machine.new) }
     ensures number_told { IfErr result TellsNumber }
+    ensures bounded { CountsFile canvas.old canvas.new }
     ensures rows { SameRows canvas.old canvas.new }
     ensures goes_on { GoesOn machine.old machine.new }
     ensures lines { rows.new.room ≡ rows.old.room }

@@ -1,11 +1,13 @@
 //! The part of a surface that a drawing may write.
 
-ghost use Rattle.std.specs.Prelude.{◌≡◌, ◌≤◌, ◌<◌, ◌+◌, ◌*◌, ◌^◌, ◌&&◌, ◌↔◌, ◌+ℤ◌, ◌<ℤ◌, pos, ℕ};
+ghost use Rattle.std.specs.Prelude.{◌≡◌, ◌≤◌, ◌<◌, ◌+◌, ◌*◌, ◌^◌, ◌&&◌, ◌↔◌, ◌+ℤ◌, ◌*ℤ◌, ◌<ℤ◌, IsTrue, int_lt, pos, ℕ};
 ghost use Rattle.canvas.specs.CanvasState.{HasPixel};
 ghost use Rattle.canvas.specs.WritingLaws.{IsWhole};
-ghost use Rattle.dc_stack.specs.Clip.{in_kept, is_from_to};
+ghost use Rattle.dc_stack.specs.Clip.{in_kept, is_from_to, placed_box};
 ghost use Rattle.dc_stack.specs.Values.{placed_value};
 ghost use Rattle.mapping.specs.PlaceOf.{surface_of};
+ghost use Rattle.mapping.specs.Surface.{placed};
+ghost use Rattle.preflight_cert.specs.MissedRowsLaws.{LiesBeside};
 ghost use Rattle.player.specs.Regions.{HasLanded, IsOfSide};
 ghost use Rattle.span_fill.specs.Spans.{in_region, in_span};
 
@@ -13,7 +15,7 @@ use crate::rectangles::rectangle_box;
 use canvas::Canvas;
 use dc_stack::Clip;
 use draw_ops::RectangleEdges;
-use mapping::{Place, Point, Rect, box_law};
+use mapping::{Place, Point, Rect, box_law, floor_division_law};
 use span_fill::{Region, Span};
 
 /// The longest side of a surface.
@@ -103,6 +105,32 @@ pub(crate) fn landed_box(place: Place, bounds: Rect) -> Rect
         // (there is no point)
         _ => Rect::NONE,
     }
+}
+
+/// Whether a drawing whose least box on the plane this is lies beside the rows that a canvas holds: it ends above them, or begins
+/// below them. So it need not be painted there.
+pub(crate) fn misses_rows(canvas: &Canvas, place: Place, bounds: Rect) -> bool
+    ensures { IsTrue result ↔ LiesBeside (placed_box (surface_of place) bounds) canvas.now.first canvas.now.rows }
+{
+    let held = rows_held(canvas);
+    lands_above(place, bounds.b, held.from) || !lands_above(place, bounds.t, held.to)
+}
+
+/// Whether a row of the plane lands above a row of the surface. Nothing is divided: it does where it lies above that row of the
+/// surface, both times the two heights.
+fn lands_above(place: Place, plane_row: i32, row: u32) -> bool
+    requires { row ≤ 2 ^ 30 }
+    ensures { result ≡ int_lt (placed plane_row place.height place.frame.height) (pos row) }
+{
+    floor_division_law();
+    product(plane_row, place.height) < product(row as i32, place.frame.height)
+}
+
+/// A row times a height.
+fn product(row: i32, height: u32) -> i64
+    ensures { result ≡ row *ℤ pos height }
+{
+    i64::from(row) * i64::from(height)
 }
 
 /// What a span has of the numbers from one on, up to before another.

@@ -112,7 +112,7 @@ fn tile_ink<'r>(
     if copies_pattern(operation.op) {
         return RowInk::Row(&room.patterns);
     }
-    mix_patterns(operation, columns.from, columns.to, room);
+    mix_patterns(operation, columns, room);
     RowInk::MixRow {
         keeps: &room.keeps,
         flips: &room.flips,
@@ -195,13 +195,13 @@ fn copies_pattern(operation: TernaryOp) -> bool
     operation.table == PATCOPY
 }
 
-/// Mixes that join the patterns of the columns from one on up to before another, each at its column.
-fn mix_patterns(operation: TernaryMixer, from: u32, to: u32, room: &mut MixRoom)
-    requires order { from ≤ to }
-    requires end { to ≤ 8192 }
-    ensures { (x : ℕ) (d old : Colour) → from ≤ x → x < to → mixed_by (mix_at room.new.keeps room.new.flips x) old ≡ ternary_colour operation.op.table (slice_index_or room.old.patterns x d) black_colour old }
+/// Mixes that join the patterns of some columns, each at its column.
+fn mix_patterns(operation: TernaryMixer, columns: Span, room: &mut MixRoom)
+    requires order { columns.from ≤ columns.to }
+    requires end { columns.to ≤ 8192 }
+    ensures { (x : ℕ) (d old : Colour) → columns.from ≤ x → x < columns.to → mixed_by (mix_at room.new.keeps room.new.flips x) old ≡ ternary_colour operation.op.table (slice_index_or room.old.patterns x d) black_colour old }
 {
-    for x in from as usize..to as usize {
+    for x in columns.from as usize..columns.to as usize {
         let mix = operation.mix(room.patterns[x], BLACK);
         room.keeps[x] = mix.keep;
         room.flips[x] = mix.flip;

@@ -1,9 +1,10 @@
 //! A pen's work that isn't told by an outline: the outer pixels of a box, and a lone line by its steps.
 
-ghost use Rattle.std.specs.Prelude.{◌≡◌, ◌+◌, ◌<◌, ◌≤◌, ◌^◌, pos, None};
+ghost use Rattle.std.specs.Prelude.{◌≡◌, ◌≤◌, pos, None};
 ghost use Rattle.canvas.specs.Writing.{Repaints};
 ghost use Rattle.span_fill.specs.Lines.{HasNearEnds};
 ghost use Rattle.span_fill.specs.Strokes.{in_stroke, on_line};
+ghost use Rattle.player.specs.Counts.{CountsLayer, HasRoomForLayer};
 ghost use Rattle.player.specs.Painted.{made, paints};
 ghost use Rattle.player.specs.Pens.{IsPen};
 ghost use Rattle.preflight_cert.specs.Rectangles.{rectangle_lines};
@@ -27,12 +28,12 @@ pub(crate) fn stroke_box(
     paint: &Brushing<'_, '_>,
     room: &mut InkRoom,
 )
-    requires countable { canvas.old.writes + 2 ^ 27 < 2 ^ 64 }
+    requires countable { HasRoomForLayer canvas.old }
     requires alone { paint.now.source ≡ None }
     requires room { 4 ≤ rows.old.room }
     requires near { IsNearBox inside }
     ensures pixels { Repaints (paints paint.now (in_stroke (rectangle_lines inside))) (made paint.now) canvas.old canvas.new }
-    ensures few { canvas.new.writes ≤ canvas.old.writes + 2 ^ 26 }
+    ensures few { CountsLayer canvas.old canvas.new }
     ensures room { rows.new.room ≡ rows.old.room }
 {
     writing_law();
@@ -48,11 +49,11 @@ pub(crate) fn stroke_box(
 
 /// Paints the pixels of a lone line in the colour of a paint of one colour.
 pub(crate) fn stroke_line(canvas: &mut Canvas, line: Line, paint: &Brushing<'_, '_>, colour: Colour)
-    requires countable { canvas.old.writes + 2 ^ 27 < 2 ^ 64 }
+    requires countable { HasRoomForLayer canvas.old }
     requires near { HasNearEnds line }
     requires pen { IsPen paint.now colour }
     ensures pixels { Repaints (paints paint.now (λ x y. on_line line (pos x) (pos y))) (made paint.now) canvas.old canvas.new }
-    ensures few { canvas.new.writes ≤ canvas.old.writes + 2 ^ 26 }
+    ensures few { CountsLayer canvas.old canvas.new }
 {
     writing_law();
     whole_law(canvas);

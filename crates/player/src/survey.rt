@@ -44,7 +44,7 @@ pub(crate) fn count_lines<'a, T: Table<'a>>(
 }
 
 /// Plays the steps that are left of a source and draws nothing, or tells the first fault with its record.
-fn survey<'a, S: OpSource<'a>, T: Table<'a>>(
+pub(crate) fn survey<'a, S: OpSource<'a>, T: Table<'a>>(
     source: &mut S,
     machine: &mut Machine<'a, T>,
 ) -> Result<(), Refusal>

@@ -1,5 +1,6 @@
 pub mod ItemLemmas
 pub mod NumberLemmas
+pub mod FrontLemmas
 pub mod PointLemmas
 pub mod CountLemmas
 pub mod SplitLemmas

@@ -1,4 +1,5 @@
 pub mod Numbers
+pub mod NumberLaws
 pub mod Points
 pub mod Counts
 pub mod Split

@@ -4,6 +4,7 @@
 //!
 //! - No read here is outside the bytes, and no sum or product wraps, whatever the bytes are and
 //!   whatever number of points a file claims (each function is proved safe for all its inputs).
+//! - A number that lies in a front of some bytes is read there as in the whole (`number_law`).
 //! - A view is a list: `Points::get` gives the i-th pair of numbers in the bytes, `part` a part of
 //!   the list, and `len` its length.
 //! - `Points::bounds` is the least box around the points.
@@ -20,6 +21,7 @@
 
 mod bounds;
 mod counts;
+mod laws;
 mod lists;
 mod numbers;
 mod parted_points;
@@ -27,6 +29,7 @@ mod points;
 mod polys;
 
 pub use counts::Counts;
+pub use laws::number_law;
 pub use lists::Lists;
 pub use numbers::{NumberWidth, i8_at, i16_at, i32_at, u8_at, u16_at, u32_at};
 pub use parted_points::PartedPoints;

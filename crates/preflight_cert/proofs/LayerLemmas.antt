@@ -34,12 +34,12 @@ use Rattle.preflight_cert.proofs.ShapeLemmas.{shape_reaches}
 use Rattle.preflight_cert.proofs.TestLemmas.{int_le-from}
 
 -- a box has the points of a shape that isn't the inside of open figures
-record IsShapeIn (box : Rect) (shape : Shape) : Type 0 where
-  closed : IsClosedShape shape
-  points : All (HasPoint box) (shape_points shape)
+pub record IsShapeIn (box : Rect) (shape : Shape) : Type 0 where
+  pub closed : IsClosedShape shape
+  pub points : All (HasPoint box) (shape_points shape)
 
 -- the same of a layer
-abbrev IsLayerIn : Rect → Layer → Type 0
+abbrev pub IsLayerIn : Rect → Layer → Type 0
 IsLayerIn box layer = IsShapeIn box layer.shape
 
 -- a box that has the points of a mark has those of each of its layers
@@ -87,7 +87,7 @@ module _ (box : Rect) (tools : Tools) where
   plain_in (blit_between p q table source) all = All-cons (IsLayerIn box) _ [] (record { closed = tt; points = all }) (All-nil (IsLayerIn box))
 
 -- the box has the points of all layers of the drawing
-layers_in : (box : Rect) (drawing : Drawing) → All (HasPoint box) (drawing_points drawing) → All (IsLayerIn box) (layers_of drawing)
+pub layers_in : (box : Rect) (drawing : Drawing) → All (HasPoint box) (drawing_points drawing) → All (IsLayerIn box) (layers_of drawing)
 layers_in box drawing all =
     All-append (IsLayerIn box) (fills_of drawing.mark drawing.tools) (strokes_of drawing.mark drawing.tools) (fills_in box drawing.tools drawing.mark all)
     (All-append (IsLayerIn box) (plain_layers_of drawing.mark drawing.tools) (outlines_of drawing.mark drawing.tools)
@@ -106,7 +106,7 @@ none_written cell_laws test w h never =
 
 -- layers write no more pixels of a surface than the box meets there
 module _ (cell_laws : CellLaws) (boxes : LineBoxLaws) (placing : PlacingLaws) (box : Rect) (s : Surface) (shows : ShowsFrame s) where
-  written_reaches : (layer : Layer) (x y : ℕ) → IsLayerIn box layer → writes_pixel layer s x y ≡ true → Reaches box s x y
+  pub written_reaches : (layer : Layer) (x y : ℕ) → IsLayerIn box layer → writes_pixel layer s x y ≡ true → Reaches box s x y
   written_reaches layer x y h t =
       let parts = and_parts (in_clip layer.clip s x y && in_shape layer.shape s x y) (is_some (paint_at layer.paint s x y)) t in
       let within = and_parts (in_clip layer.clip s x y) (in_shape layer.shape s x y) parts.0 in

@@ -22,7 +22,7 @@ use Rattle.preflight_cert.specs.Gathered.{Gathers, StopsGathering, least_budget,
 use Rattle.preflight_cert.specs.NeedLaws.{NeedLaws}
 use Rattle.preflight_cert.specs.Preparation.{AreLeast, IsPrepared, PreparesRecords}
 use Rattle.preflight_cert.specs.PreparationLaws.{PreparationLaws}
-use Rattle.preflight_cert.specs.PreparedRecords.{StopsRecords}
+use Rattle.preflight_cert.specs.StoppedRecords.{StopsOpened}
 use Rattle.preflight_cert.specs.Stop.{stop_of}
 use Rattle.preflight_cert.specs.TextLaws.{IsCertificate, IsEntry, TextLaws}
 use Rattle.preflight_cert.specs.TextParts.{full_text}
@@ -70,7 +70,7 @@ module _ (content : Content) (o : OpenedValue) (records : List ℕ) (width heigh
   same_stop : stop_of content m.state m.surface ≡ stop_of content (start_of o) (surface_for o width height)
   same_stop = ap (λ (state : State). stop_of content state m.surface) at.state ∙ ap (λ (s : Surface). stop_of content (start_of o) s) at.surface
 
-  pub records_stop : (r : Refusal) → StopsGathering content m r → StopsRecords o records width height r
+  pub records_stop : (r : Refusal) → StopsGathering content m r → StopsOpened o records width height r
   records_stop r h = record { content = content; of_records = of_records; stops = record { at = h.at; stops = sym same_stop ∙ h.stops; number = h.number; fault = h.fault } }
 
   module _ (budget : ℕ) (new : MachineState) (after text : List ℕ) (h : Gathers content m [] budget new after) (written : text ≡ full_text width height budget new.needs after) where

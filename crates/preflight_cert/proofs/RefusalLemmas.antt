@@ -10,8 +10,7 @@ use Rattle.dc_stack.specs.MachineState.{MachineState, RefusesStep}
 use Rattle.dc_stack.specs.OperationFault.{fault_of}
 use Rattle.dc_stack.specs.State.{State}
 use Rattle.preflight_cert.specs.Checked.{checked}
-use Rattle.preflight_cert.specs.Checks.{IsWantOfMemory, TellsStop}
-use Rattle.preflight_cert.specs.Refusal.{number_told}
+use Rattle.preflight_cert.specs.Refusal.{IsWantOfMemory, TellsStop, number_told}
 use Rattle.preflight_cert.specs.Stop.{Stop, stop_at, stopped}
 use Rattle.preflight_cert.specs.declared.entry.Entry.{Entry}
 use Rattle.preflight_cert.specs.declared.refusal.Refusal.{Refusal}

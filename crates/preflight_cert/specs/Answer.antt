@@ -19,6 +19,7 @@ use Rattle.preflight_cert.specs.Entries.{AreCovered, budget_of}
 use Rattle.preflight_cert.specs.NeedLaws.{AreWithin}
 use Rattle.preflight_cert.specs.Run.{Run, Writes, refused, shown}
 use Rattle.preflight_cert.specs.Stop.{Stop, stop_of}
+use Rattle.preflight_cert.specs.declared.refusal.Refusal.{Refusal}
 
 -- the surface of a certificate's bound, with a file's frame
 abbrev pub bound_of : OpenedValue → CertificateValue → Surface
@@ -82,6 +83,10 @@ AnswersOpened (Ok o) file certificate answer = AnswersRead (read_certificate cer
 -- The answer to a file and a certificate.
 abbrev pub IsAnswer : List ℕ → List ℕ → Answer → Type 0
 IsAnswer file certificate answer = AnswersOpened (opened file) file certificate answer
+
+-- It is this refusal.
+abbrev pub IsRefusedWith : List ℕ → List ℕ → Refusal → Type 0
+IsRefusedWith file certificate r = IsAnswer file certificate (refuses r.number r.fault)
 
 -- the certificate is accepted for whatever content records of an opened file have
 abbrev pub IsCleared : OpenedValue → List ℕ → CertificateValue → Type 0

@@ -1,28 +1,15 @@
 -- What checking steps against entries tells.
-use Rattle.std.specs.Prelude.{◌≡◌, ℕ, List, length, Option, Some, None, Result, Ok, Err}
+use Rattle.std.specs.Prelude.{◌≡◌, ℕ, List, length, None, Result, Ok, Err}
 use Rattle.draw_ops.specs.Content.{Content}
-use Rattle.draw_ops.specs.declared.fault.Fault.TheVariants.{OutOfMemory, Record}
 use Rattle.dc_stack.specs.MachineState.{MachineState}
 use Rattle.preflight_cert.specs.After.{needs_after, notes_after}
 use Rattle.preflight_cert.specs.Checked.{checked, checked_end}
 use Rattle.preflight_cert.specs.Drawings.{drawings_of}
 use Rattle.preflight_cert.specs.Entries.{budget_of}
-use Rattle.preflight_cert.specs.Stop.{Stop}
+use Rattle.preflight_cert.specs.Refusal.{TellsStop}
 use Rattle.preflight_cert.specs.declared.entry.Entry.{Entry}
 use Rattle.preflight_cert.specs.declared.refusal.Refusal.{Refusal}
 use Rattle.preflight_cert.specs.declared.walk.Totals.{Totals}
-
--- memory was refused: no record is told
-pub record IsWantOfMemory (r : Refusal) : Type 0 where
-  pub number : r.number ≡ None
-  pub fault : r.fault ≡ OutOfMemory
-
--- a stop is told
-pub record TellsStop (stop : Option Stop) (r : Refusal) : Type 0 where
-  pub at : Stop
-  pub stops : stop ≡ Some at
-  pub number : r.number ≡ Some at.number
-  pub fault : r.fault ≡ Record at.fault
 
 -- the entries fit all steps of a content, and the needs and the totals are theirs, beside notes from before
 pub record Checks (content : Content) (old : MachineState) (entries : List Entry) (noted : List ℕ) (totals : Totals) (new : MachineState) : Type 0 where

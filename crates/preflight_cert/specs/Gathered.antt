@@ -12,10 +12,10 @@ use Rattle.dc_stack.specs.MachineState.{MachineState}
 use Rattle.preflight_cert.specs.After.{needs_after}
 use Rattle.preflight_cert.specs.Budget.{layers_budget}
 use Rattle.preflight_cert.specs.CertificateText.{entry_text}
-use Rattle.preflight_cert.specs.Checks.{TellsStop}
 use Rattle.preflight_cert.specs.Drawings.{NumberedDrawing, drawings_of}
 use Rattle.preflight_cert.specs.Entries.{budget_of}
 use Rattle.preflight_cert.specs.Layer.{layers_of}
+use Rattle.preflight_cert.specs.Refusal.{TellsStop}
 use Rattle.preflight_cert.specs.Stop.{stop_of}
 use Rattle.preflight_cert.specs.TextLaws.{IsEntry}
 use Rattle.preflight_cert.specs.declared.entry.Entry.{Entry}

@@ -19,6 +19,7 @@ pub mod Checks
 pub mod DrawingBoxLaws
 pub mod SizeLaws
 pub mod RowsLaws
+pub mod MissedRowsLaws
 pub mod NeedLaws
 pub mod CertificateReading
 pub mod EntriesOf
@@ -31,5 +32,6 @@ pub mod Answer
 pub mod Preparation
 pub mod PreparationLaws
 pub mod Gathered
-pub mod PreparedRecords
+pub mod StoppedRecords
+pub mod ClearedFacts
 pub mod ObjectOrder

@@ -17,6 +17,7 @@ use Rattle.preflight_cert.specs.Drawings.{NumberedDrawing, drawings_of}
 use Rattle.preflight_cert.specs.Run.{Refused}
 use Rattle.preflight_cert.specs.Stop.{stop_of}
 use Rattle.preflight_cert.specs.declared.entry.Entry.{Entry}
+use Rattle.preflight_cert.specs.declared.refusal.Refusal.{Refusal}
 
 -- an entry has the number of a drawing's record, and the least box around the drawing's points
 pub record IsLeastEntry (entry : Entry) (one : NumberedDrawing) : Type 0 where
@@ -77,5 +78,5 @@ RefusesWithin false file width height number fault = IsBoundFault number fault
 RefusesWithin true file width height number fault = Refused file width height number fault
 
 -- No certificate is prepared for a file at a bound: the bound isn't one, or the file's run there is refused by this fault.
-abbrev pub StopsPreparing : List ℕ → ℕ → ℕ → Option ℕ → Fault → Type 0
-StopsPreparing file width height number fault = RefusesWithin (is_bound width height) file width height number fault
+abbrev pub StopsPreparing : List ℕ → ℕ → ℕ → Refusal → Type 0
+StopsPreparing file width height r = RefusesWithin (is_bound width height) file width height r.number r.fault

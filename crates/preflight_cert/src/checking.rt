@@ -4,11 +4,11 @@ ghost use Rattle.std.specs.Prelude.{◌≡◌, ◌⊎◌, Ok, IfErr, IfOk, IfSom
 ghost use Rattle.draw_ops.specs.Fault.{IsInRecord};
 ghost use Rattle.meta_headers.specs.File.{IsOpenedFrom};
 ghost use Rattle.meta_headers.specs.OpenedOf.{opened_of};
-ghost use Rattle.preflight_cert.specs.Answer.{CountsRecords, IsAnswer, RecordsAnswer, Sound, accepted, are_within, refuses, total_fault};
+ghost use Rattle.preflight_cert.specs.Answer.{CountsRecords, IsAnswer, IsRefusedWith, RecordsAnswer, accepted, are_within, refuses, total_fault};
 ghost use Rattle.preflight_cert.specs.CertificateOf.{certificate_of};
+ghost use Rattle.preflight_cert.specs.ClearedFacts.{CountsItsRecords, IsSoundFor};
 ghost use Rattle.preflight_cert.specs.CertificateReading.{read_certificate};
-ghost use Rattle.preflight_cert.specs.Checks.{IsWantOfMemory};
-ghost use Rattle.preflight_cert.specs.Refusal.{TellsNumber};
+ghost use Rattle.preflight_cert.specs.Refusal.{IsWantOfMemory, TellsNumber};
 
 use crate::certificate::Certificate;
 use crate::cleared::Cleared;
@@ -34,9 +34,9 @@ pub fn check<'a>(
     ensures accepted { OnOk result (IsAnswer file.now certificate.now accepted) }
     ensures opened { IfOk result (λ c. IsOpenedFrom file.now c.opened) }
     ensures read { IfOk result (λ c. read_certificate certificate.now ≡ Ok (certificate_of c.certificate)) }
-    ensures counts { IfOk result (λ c. CountsRecords (opened_of c.opened) c.opened.records.now c.records c.notes.counts) }
-    ensures sound { IfOk result (λ c. Sound file.now c.certificate.max_width c.certificate.max_height c.certificate.writes) }
-    ensures refusal { IfErr result (λ r. IsAnswer file.now certificate.now (refuses r.number r.fault) ⊎ IsWantOfMemory r) }
+    ensures counts { IfOk result CountsItsRecords }
+    ensures sound { IfOk result (IsSoundFor file.now) }
+    ensures refusal { IfErr result (λ r. IsRefusedWith file.now certificate.now r ⊎ IsWantOfMemory r) }
     ensures number_told { IfErr result TellsNumber }
 {
     answer_law();

@@ -6,9 +6,8 @@ ghost use Rattle.mapping.specs.PlaceOf.{surface_of};
 ghost use Rattle.draw_ops.specs.Records.{record_limit};
 ghost use Rattle.dc_stack.specs.Draws.{IsPlacedDraw};
 ghost use Rattle.dc_stack.specs.MachineState.{drawing_with};
-ghost use Rattle.preflight_cert.specs.Checks.{IsWantOfMemory};
 ghost use Rattle.preflight_cert.specs.Gathered.{FitsEntry, Gathers, StopsGathering, drawing_text, least_drawing_budget};
-ghost use Rattle.preflight_cert.specs.Refusal.{TellsNumber};
+ghost use Rattle.preflight_cert.specs.Refusal.{IsWantOfMemory, TellsNumber};
 
 use crate::budget::box_cells;
 use crate::covering::pixel_budget;
@@ -17,7 +16,7 @@ use crate::layer_count::layer_count;
 use crate::refusal::Refusal;
 use crate::writing::put_entry;
 use dc_stack::{Draw, Machine};
-use draw_ops::{Fault, OpSource};
+use draw_ops::{Fault, OpSource, Step};
 use mapping::{Place, box_law};
 use object_tables::Table;
 use span_fill::OutOfMemory;
@@ -40,21 +39,21 @@ pub(crate) fn gather<'a, S: OpSource<'a>, T: Table<'a>>(
 {
     let mut before: u32 = 0;
     let mut writes: u64 = 0;
+    let mut step: Step<'a> = Step::without_effect();
+    let mut drawn: Option<Draw<'a>> = None;
     loop {
-        let told = source.next_op();
-        let next = match &told {
-            Ok(next) => next,
-            Err(fault) => return Err(Refusal::at(before, *fault)),
+        let is_put = match source.next_into(&mut step) {
+            Ok(is_put) => is_put,
+            Err(fault) => return Err(Refusal::at(before, fault)),
         };
-        let Some(step) = next else {
+        if !is_put {
             return Ok(writes);
-        };
-        let played = machine.step_by(&step.op);
-        let drawn = match &played {
-            Ok(drawn) => drawn,
-            Err(fault) => return Err(Refusal::of_step(step.number, *fault)),
-        };
-        match add_entry(step.number, drawn, machine, place, entries) {
+        }
+        match machine.step_into(&step.op, &mut drawn) {
+            Ok(()) => {}
+            Err(fault) => return Err(Refusal::of_step(step.number, fault)),
+        }
+        match add_entry(step.number, &drawn, machine, place, entries) {
             Ok(more) => writes += more,
             Err(OutOfMemory) => return Err(Refusal::of_file(Fault::OutOfMemory)),
         }

@@ -2,6 +2,7 @@
 
 ghost use Rattle.preflight_cert.specs.Answer.{AnswerLaws};
 ghost use Rattle.preflight_cert.specs.DrawingBoxLaws.{DrawingBoxLaws};
+ghost use Rattle.preflight_cert.specs.MissedRowsLaws.{MissedRowsLaws};
 ghost use Rattle.preflight_cert.specs.NeedLaws.{NeedLaws};
 ghost use Rattle.preflight_cert.specs.ObjectOrder.{ObjectsAreInOrder};
 ghost use Rattle.preflight_cert.specs.PreparationLaws.{PreparationLaws};
@@ -46,6 +47,16 @@ pub fn drawing_box_law()
 pub fn rows_law()
     ensures { RowsLaws }
 {}
+
+/// The law of missed rows: a drawing leaves rows beside which a box lands that has its points as they are, and writes no pixel of
+/// them.
+pub fn missed_rows_law()
+    ensures { MissedRowsLaws }
+{
+    cell_law();
+    line_box_law();
+    placing_law();
+}
 
 /// The law of sizes: records without a fault on a surface have none on one that is no larger, and
 /// drawings that entries cover write no more pixels there than the entries' budget on the larger one.

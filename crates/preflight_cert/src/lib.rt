@@ -9,7 +9,7 @@
 //! - Records without a fault at one size have none at a smaller one, and their drawings write there no
 //!   more pixels than the budget of entries that cover them (`size_law`).
 //! - Rows that are laid together, after drawings, are the upper ones and the lower ones after those laid together, and counts of writes
-//!   add up (`rows_law`).
+//!   add up (`rows_law`); rows that a drawing's box misses stay as they are, and nothing is counted there (`missed_rows_law`).
 //! - Room for an operation's needs is enough for it, and full room for any (`need_law`).
 //! - A certificate's bytes are read whole or refused by their first fault (`Certificate::read`), and its entries are
 //!   those of the bytes, by their index and from the front (`Certificate::entry`, `Entries`).
@@ -40,7 +40,8 @@ pub use checking::check;
 pub use cleared::Cleared;
 pub use entry::{Entries, Entry};
 pub use laws::{
-    answer_law, drawing_box_law, need_law, preparation_law, rows_law, run_law, size_law, text_law,
+    answer_law, drawing_box_law, missed_rows_law, need_law, preparation_law, rows_law, run_law,
+    size_law, text_law,
 };
 pub use preparing::prepare;
 pub use refusal::Refusal;

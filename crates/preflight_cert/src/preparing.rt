@@ -6,10 +6,9 @@ ghost use Rattle.mapping.specs.Limits.{IsSurfaceSide};
 ghost use Rattle.meta_headers.specs.OpenedOf.{opened_of};
 ghost use Rattle.preflight_cert.specs.Answer.{AnswersRead, IsAnswer, accepted};
 ghost use Rattle.preflight_cert.specs.CertificateReading.{read_certificate};
-ghost use Rattle.preflight_cert.specs.Checks.{IsWantOfMemory};
 ghost use Rattle.preflight_cert.specs.Preparation.{Prepares, PreparesRecords, StopsPreparing, is_bound};
-ghost use Rattle.preflight_cert.specs.PreparedRecords.{StopsRecords};
-ghost use Rattle.preflight_cert.specs.Refusal.{TellsNumber};
+ghost use Rattle.preflight_cert.specs.Refusal.{IsWantOfMemory, TellsNumber};
+ghost use Rattle.preflight_cert.specs.StoppedRecords.{StopsOpened};
 
 use crate::certificate_reading::is_side;
 use crate::gathering::gather;
@@ -35,7 +34,7 @@ pub fn prepare(
 ) -> Result<Vec<u8>, Refusal>
     ensures text { IfOk result (λ text. Prepares file.now max_width max_height text.items) }
     ensures accepted { IfOk result (λ text. IsAnswer file.now text.items accepted) }
-    ensures refusal { IfErr result (λ r. StopsPreparing file.now max_width max_height r.number r.fault ⊎ IsWantOfMemory r) }
+    ensures refusal { IfErr result (λ r. StopsPreparing file.now max_width max_height r ⊎ IsWantOfMemory r) }
     ensures bound { IfErr result (λ r. is_bound max_width max_height ≡ false → r.fault ≡ BadBound) }
     ensures number_told { IfErr result TellsNumber }
 {
@@ -61,9 +60,12 @@ fn prepare_opened(
 ) -> Result<Vec<u8>, Refusal>
     requires wide { IsSurfaceSide max_width }
     requires high { IsSurfaceSide max_height }
-    ensures text { IfOk result (λ text. PreparesRecords (opened_of opened.entry) opened.entry.records.now max_width max_height text.items) }
-    ensures accepted { IfOk result (λ text. AnswersRead (read_certificate text.items) (opened_of opened.entry) opened.entry.records.now accepted) }
-    ensures refusal { IfErr result (λ r. StopsRecords (opened_of opened.entry) opened.entry.records.now max_width max_height r ⊎ IsWantOfMemory r) }
+    ensures text { IfOk result
+        (λ text. PreparesRecords (opened_of opened.entry) opened.entry.records.now max_width max_height text.items) }
+    ensures accepted { IfOk result
+        (λ text. AnswersRead (read_certificate text.items) (opened_of opened.entry) opened.entry.records.now accepted) }
+    ensures refusal { IfErr result
+        (λ r. StopsOpened (opened_of opened.entry) opened.entry.records.now max_width max_height r ⊎ IsWantOfMemory r) }
     ensures number_told { IfErr result TellsNumber }
 {
     answer_law();

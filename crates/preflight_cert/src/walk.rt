@@ -3,15 +3,15 @@
 ghost use Rattle.std.specs.Prelude.{◌≡◌, ◌≤◌, ◌⊎◌, IfErr, IfOk, length};
 ghost use Rattle.mapping.specs.PlaceOf.{surface_of};
 ghost use Rattle.draw_ops.specs.Records.{record_limit};
-ghost use Rattle.preflight_cert.specs.Checks.{Checks, EndsCheck, IsWantOfMemory, StopsCheck};
+ghost use Rattle.preflight_cert.specs.Checks.{Checks, EndsCheck, StopsCheck};
 ghost use Rattle.preflight_cert.specs.EntriesOf.{entries_of};
-ghost use Rattle.preflight_cert.specs.Refusal.{TellsNumber};
+ghost use Rattle.preflight_cert.specs.Refusal.{IsWantOfMemory, TellsNumber};
 
 use crate::covering::take_entry;
 use crate::entry::Entries;
 use crate::refusal::Refusal;
-use dc_stack::Machine;
-use draw_ops::{Notes, OpSource, RecordFault};
+use dc_stack::{Draw, Machine};
+use draw_ops::{Notes, OpSource, RecordFault, Step};
 use mapping::Place;
 use object_tables::Table;
 
@@ -49,25 +49,25 @@ pub(crate) fn check_steps<'a, S: OpSource<'a>, T: Table<'a>>(
         records: 0,
         notes: noted,
     };
+    let mut step: Step<'a> = Step::without_effect();
+    let mut drawn: Option<Draw<'a>> = None;
     loop {
-        let told = source.next_op();
-        let next = match &told {
-            Ok(next) => next,
-            Err(fault) => return Err(Refusal::at(totals.records, *fault)),
+        let is_put = match source.next_into(&mut step) {
+            Ok(is_put) => is_put,
+            Err(fault) => return Err(Refusal::at(totals.records, fault)),
         };
-        let Some(step) = next else {
+        if !is_put {
             return checked_end(entries, totals);
-        };
-        let played = machine.step_by(&step.op);
-        let drawn = match &played {
-            Ok(drawn) => drawn,
-            Err(fault) => return Err(Refusal::of_step(step.number, *fault)),
-        };
-        match take_entry(step.number, drawn, machine, place, &mut entries) {
+        }
+        match machine.step_into(&step.op, &mut drawn) {
+            Ok(()) => {}
+            Err(fault) => return Err(Refusal::of_step(step.number, fault)),
+        }
+        match take_entry(step.number, &drawn, machine, place, &mut entries) {
             Ok(more) => totals.writes += more,
             Err(fault) => return Err(Refusal::at(step.number, fault)),
         }
-        totals.notes = totals.notes.plus(Notes::of(step.notes));
+        totals.notes = totals.notes.with_all(step.notes);
         totals.records += 1;
     }
 }

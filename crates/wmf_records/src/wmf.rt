@@ -1,6 +1,7 @@
 //! The records of WMF: how they are framed, and what each means.
 
 ghost use Rattle.std.specs.Prelude.{◌≡◌};
+ghost use Rattle.draw_ops.specs.PrefixLaws.{HoldsItsFields};
 ghost use Rattle.draw_ops.specs.RecordOf.{meant_of};
 ghost use Rattle.draw_ops.specs.Results.{result_map};
 ghost use Rattle.wmf_records.specs.Framing.{wmf_framing};
@@ -59,6 +60,7 @@ impl Format for Wmf {
         META_EOF
     }
 
+    #[inline(never)]
     fn read(_number: u32, front: RawRecord<'_>) -> Result<Meant<'_>, RecordFault> {
         match entry_of(front.kind) {
             Some(entry) => record(entry, front.kind, front.bytes),
@@ -113,3 +115,8 @@ fn record(entry: WmfEntry, function: u32, bytes: &[u8]) -> Result<Meant<'_>, Rec
         WmfEntry::Refused => Err(RecordFault::Unsupported(function)),
     }
 }
+
+/// The head of a record holds its size and its function: so bytes that spell records spell none where they are cut short (`prefix_law`).
+pub fn framing_law()
+    ensures { HoldsItsFields wmf_framing }
+{}

@@ -1,7 +1,7 @@
 //! Steps that begin, end and paint paths.
 
 ghost use Rattle.draw_ops.specs.Operation.{abort_path, begin_path, close_figure, end_path, move_to};
-ghost use Rattle.dc_stack.specs.MachineState.{GoesOn, Plays, painting_operation};
+ghost use Rattle.dc_stack.specs.MachineState.{GoesOn, Plays, painting_operation, told};
 
 use crate::draw::{Draw, FigurePoints, Mark, Painting};
 use crate::machine::Machine;
@@ -67,8 +67,12 @@ impl<'a, T: Table<'a>> Machine<'a, T> {
     }
 
     /// Paints the path that waits for it, which is no path any more.
-    pub(super) fn paint_path(&mut self, painting: Painting) -> Result<Option<Draw<'a>>, Fault>
-        ensures plays { Plays (painting_operation painting) self.old result self.new }
+    pub(super) fn paint_path(
+        &mut self,
+        painting: Painting,
+        drawn: &mut Option<Draw<'a>>,
+    ) -> Result<(), Fault>
+        ensures plays { Plays (painting_operation painting) self.old (told result drawn.new) self.new }
         ensures goes_on { GoesOn self.old self.new }
     {
         if !self.path.is_finished() {
@@ -81,13 +85,14 @@ impl<'a, T: Table<'a>> Machine<'a, T> {
         let bounds = least(self.path.bounds);
         self.needs.raise_edges(edges);
         self.path.lend();
-        Ok(Some(Draw {
+        *drawn = Some(Draw {
             mark: Mark::Figures {
                 painting,
                 points: FigurePoints::Path,
             },
             bounds,
             edges,
-        }))
+        });
+        Ok(())
     }
 }

@@ -30,5 +30,19 @@ returns-in-Some-subcommand_matches-3-clause-asked c =
 pub returns-in-Some-subcommand_matches-3-clause-taken : goal.returns-in-Some-subcommand_matches-3-clause-taken
 returns-in-Some-subcommand_matches-3-clause-taken c = λ right. let bad : false ≡ true = c.in_default.ensures.found.1 (shown_name _ right) in cc
 
+pub returns-in-Some-subcommand_matches-4-clause-asked : goal.returns-in-Some-subcommand_matches-4-clause-asked
+returns-in-Some-subcommand_matches-4-clause-asked c =
+    asked_by _ (codes "over") _ c.asked_over.result (c.in-Some-subcommand_matches-4.ensures.found.0 refl) c.in-Some-subcommand_matches-4.ensures.rows c.asked_over.ensures.name c.asked_over.ensures.gives
+
+pub returns-in-Some-subcommand_matches-4-clause-taken : goal.returns-in-Some-subcommand_matches-4-clause-taken
+returns-in-Some-subcommand_matches-4-clause-taken c = λ right. let bad : false ≡ true = c.in_default.ensures.found.1 (shown_name _ right) in cc
+
+pub returns-in-Some-subcommand_matches-5-clause-asked : goal.returns-in-Some-subcommand_matches-5-clause-asked
+returns-in-Some-subcommand_matches-5-clause-asked c =
+    asked_by _ (codes "list") _ c.asked_list.result (c.in-Some-subcommand_matches-5.ensures.found.0 refl) c.in-Some-subcommand_matches-5.ensures.rows c.asked_list.ensures.name c.asked_list.ensures.gives
+
+pub returns-in-Some-subcommand_matches-5-clause-taken : goal.returns-in-Some-subcommand_matches-5-clause-taken
+returns-in-Some-subcommand_matches-5-clause-taken c = λ right. let bad : false ≡ true = c.in_default.ensures.found.1 (shown_name _ right) in cc
+
 pub returns-clause-taken : goal.returns-clause-taken
 returns-clause-taken c = λ right. let bad : false ≡ true = c.in_default.ensures.found.1 (shown_name _ right) in cc

@@ -1,16 +1,27 @@
 -- What is asked for by five plain words follows of what the words ask for.
-use Rattle.std.proofs.Common.{◌≡◌, ◌∙◌, Result, Ok, Err, IfErr, IsErrAnd, ap, false, rules, map, string_bytes, subst, sym, true}
-use Rattle.commands.specs.CommandLine.{AreRightWords, IsAskedByWords, IsRightShow, metaplay_app}
-use Rattle.clap.specs.Words.{App, app_of, is_simple, kind_of, subcommand_of, subcommand_rows_of, takes}
+use Rattle.std.proofs.Common.{◌≡◌, ◌∙◌, List, Option, Result, Ok, Err, IfErr, IsErrAnd, ap, false, map, string_bytes, subst, sym, true}
+use Rattle.commands.specs.CommandLine.{AreRightWords, IsAskedBy, IsAskedByWords, IsRightShow, metaplay_app}
+use Rattle.clap.specs.Words.{App, Row, Text, app_of, is_simple, kind_of, subcommand_of, subcommand_rows_of, takes}
 use Rattle.clap.specs.declared.error.Error.{Error}
 use Rattle.clap.specs.declared.error.kind.ErrorKind.TheVariants.{OutOfMemory}
 use Rattle.commands.proofs.TakenLemmas.{right_show, right_taken}
 use Rattle.commands.proofs.WordLemmas.{plain_words}
 use Rattle.commands.proofs.command_line.line.Goals as goal
 
+pub returns-in-Some-clause-asked : goal.returns-in-Some-clause-asked
+returns-in-Some-clause-asked c =
+    let app : app_of c.in_ok-command.command ≡ metaplay_app = c.in_ok-command.ensures in
+    let met : subcommand_rows_of c.in_ok-matches.matches ≡ subcommand_of metaplay_app (map string_bytes c.args.words.now) =
+    (c.in_ok-matches.ensures.ok.2 (ap is_simple app)).1 ∙ ap (λ (a : App). subcommand_of a (map string_bytes c.args.words.now)) app in
+    subst (λ (rows : Option (Text × List Row)). IsAskedBy rows c.in-Some.line) met c.in-Some.ensures.asked
+
 pub returns-in-Some-clause-plain : goal.returns-in-Some-clause-plain
 returns-in-Some-clause-plain c =
-    let asked : IsAskedByWords (map string_bytes c.args.words.now) c.in-Some.line = search rules in
+    let app : app_of c.in_ok-command.command ≡ metaplay_app = c.in_ok-command.ensures in
+    let met : subcommand_rows_of c.in_ok-matches.matches ≡ subcommand_of metaplay_app (map string_bytes c.args.words.now) =
+    (c.in_ok-matches.ensures.ok.2 (ap is_simple app)).1 ∙ ap (λ (a : App). subcommand_of a (map string_bytes c.args.words.now)) app in
+    let asked : IsAskedByWords (map string_bytes c.args.words.now) c.in-Some.line =
+    subst (λ (rows : Option (Text × List Row)). IsAskedBy rows c.in-Some.line) met c.in-Some.ensures.asked in
     plain_words (map string_bytes c.args.words.now) c.in-Some.line asked
 
 -- `?` passes an error up as it is

@@ -1,4 +1,4 @@
--- The certificate stands behind the file, and the sides behind it.
+-- The certificate stands behind the file, the sides behind it, and the rows of a band behind them.
 use Rattle.std.proofs.Common.{◌≡◌, ◌∙◌, ap, ap₂}
 use Rattle.std.proofs.lemmas.Result.{IfOk-weaker}
 use Rattle.clap.specs.Words.{with_rule}
@@ -11,5 +11,9 @@ returns c =
     let given = c.in_ok-command-2.ensures in
     let shape = given.shape c.name.ensures.local ∙ ap₂ with_rule c.in_ok-command.ensures.is c.name.ensures.rule in
     let local = both_local _ _ _ given.globals c.in_ok-command.ensures.local c.name.ensures.local in
-    IfOk-weaker c.with_sides.result _ _
-    (λ r added. record { is = added.is ∙ ap with_sides shape; local = added.local local }) c.with_sides.ensures
+    let sides = c.in_ok-command-3.ensures in
+    IfOk-weaker c.arg-2.result _ _
+    (λ r added. record {
+      is = added.shape c.bands.ensures.local ∙ ap₂ with_rule (sides.is ∙ ap with_sides shape) c.bands.ensures.rule;
+      local = both_local _ _ _ added.globals (sides.local local) c.bands.ensures.local;
+    }) c.arg-2.ensures

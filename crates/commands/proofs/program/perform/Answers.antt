@@ -5,11 +5,11 @@ use Rattle.commands.proofs.program.perform.Goals as goal
 
 pub returns-in-Ok-clause-written : goal.returns-in-Ok-clause-written
 returns-in-Ok-clause-written g c =
-    out_of_task c.args.line _ _ _ c.in-Ok.ensures.read _ _ _ c.run_task.result.end _ _ c.run_task.ensures.written c.run_task.ensures.told
+    out_of_task c.args.line _ _ _ _ c.in-Ok.ensures.read _ _ _ c.run_task.result.end _ _ c.run_task.ensures.written c.run_task.ensures.told
 
 pub returns-in-Ok-clause-told : goal.returns-in-Ok-clause-told
 returns-in-Ok-clause-told g c =
-    err_of_task c.args.line _ _ _ c.in-Ok.ensures.read _ _ _ c.run_task.result.end c.run_task.ensures.told
+    err_of_task c.args.line _ _ _ _ c.in-Ok.ensures.read _ _ _ c.run_task.result.end c.run_task.ensures.told
 
 pub returns-in-Err-clause-written : goal.returns-in-Err-clause-written
 returns-in-Err-clause-written g c = out_unread c.args.line _ c.in-Err.fault _ _ _ c.no_input.ensures.end (search rules)

@@ -28,16 +28,6 @@ read_row-kept-requires-clause-reads c =
     let drawn = c.common-drawn in
     columns_read c.args.paint.now.source c.args.inside c.visible-region.result drawn.result drawn.ensures.has_columns drawn.ensures.has_rows c.requires.reads c.if-columns.false c.loop-y.y c.loop-y.auto.y c.loop-y-test.true
 
-pub put_uncut-requires-clause-countable : goal.put_uncut-requires-clause-countable
-put_uncut-requires-clause-countable c =
-    let painted = c.loop-y.invariant.painted.painted in
-    let few = few_written c.writing_law.ensures _ _ c.args.canvas.now c.loop-y.canvas painted c.visible-region.ensures.pixels in
-    let right = c.common-drawn.ensures.right in
-    let width = c.visible-region.ensures.right in
-    let side = c.visible-region.ensures.side in
-    let countable = c.requires.countable in
-    omega (arith, few, right, width, side, countable)
-
 pub loop-y-preserved : goal.loop-y-preserved
 loop-y-preserved c =
     let shown = c.visible-region in
@@ -67,14 +57,27 @@ returns-clause-pixels c =
     let drawn = c.common-drawn in
     rows_done c.args.paint.now (in_box c.args.inside) c.args.inside (λ x y h. h) c.args.canvas.now c.writing_law.ensures shown.ensures.whole shown.result drawn.result shown.ensures.kept drawn.ensures.has_columns drawn.ensures.has_rows c.loop-y.canvas c.loop-y.y c.loop-y-test.false c.loop-y.invariant.painted
 
-pub put_uncut-requires-clause-row : goal.put_uncut-requires-clause-row
-put_uncut-requires-clause-row c =
+pub put_uncut-requires : goal.put_uncut-requires
+put_uncut-requires c =
+    let painted = c.loop-y.invariant.painted.painted in
+    let few = few_written c.writing_law.ensures _ _ c.args.canvas.now c.loop-y.canvas painted c.visible-region.ensures.pixels in
     let low = c.loop-y.auto.y in
     let high = c.loop-y-test.true in
     let top = c.visible-region.ensures.top in
     let above = c.common-drawn.ensures.top in
     let last = c.common-drawn.ensures.bottom in
     let bottom = c.visible-region.ensures.bottom in
-    let first = c.loop-y.invariant.painted.painted.first in
-    let rows = c.loop-y.invariant.painted.painted.rows in
-    record { from_first = omega (arith, low, above, top, first); to_last = omega (arith, high, last, bottom, first, rows) }
+    let right = c.common-drawn.ensures.right in
+    let shown = c.visible-region.ensures.right in
+    let side = c.visible-region.ensures.side in
+    let countable = c.requires.countable in
+    let width = painted.width in
+    let first = painted.first in
+    let rows = painted.rows in
+    record {
+      whole = c.loop-y.invariant.painted.whole;
+      order = omega arith;
+      width = omega (arith, right, shown, width);
+      row = record { from_first = omega (arith, low, above, top, first); to_last = omega (arith, high, last, bottom, first, rows) };
+      countable = omega (arith, few, right, shown, side, countable);
+    }

@@ -1,4 +1,4 @@
-use Rattle.std.proofs.Common.{rules}
+use Rattle.std.proofs.Common.{arith, rules}
 use Rattle.draw_ops.specs.Records.{record_limit}
 use Rattle.player.specs.Advances.{PlaysFirst}
 use Rattle.player.proofs.AfterLemmas.{room_for_first}
@@ -15,3 +15,16 @@ draw-requires g c =
 pub overflow_add-before : goal.overflow_add-before
 unfolding record_limit
 overflow_add-before g c = search rules
+
+-- a step writes at most 2^27 pixels
+pub returns-in-Ok-None-clause-bounded : goal.returns-in-Ok-None-clause-bounded
+unfolding record_limit
+returns-in-Ok-None-clause-bounded g c =
+    let few = c.loop-drawn.invariant.few in
+    let short = c.loop-drawn.invariant.short in omega (arith, few, short)
+
+pub returns-in-Err-clause-bounded : goal.returns-in-Err-clause-bounded
+unfolding record_limit
+returns-in-Err-clause-bounded g c =
+    let few = c.loop-drawn.invariant.few in
+    let short = c.loop-drawn.invariant.short in omega (arith, few, short)

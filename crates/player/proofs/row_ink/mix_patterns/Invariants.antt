@@ -12,5 +12,5 @@ invariant-loop-x l = record {
   patterns : l.room.patterns ≡ l.fn.room.patterns;
   keeps : length l.room.keeps ≡ 8192;
   flips : length l.room.flips ≡ 8192;
-  done : (x : ℕ) (d old : Colour) → l.fn.from ≤ x → x < l.x → mixed_by (mix_at l.room.keeps l.room.flips x) old ≡ ternary_colour l.operation.op.table (slice_index_or l.fn.room.patterns x d) black_colour old;
+  done : (x : ℕ) (d old : Colour) → l.fn.columns.from ≤ x → x < l.x → mixed_by (mix_at l.room.keeps l.room.flips x) old ≡ ternary_colour l.operation.op.table (slice_index_or l.fn.room.patterns x d) black_colour old;
 }

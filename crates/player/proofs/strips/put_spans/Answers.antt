@@ -1,6 +1,6 @@
 use Rattle.std.proofs.Common.{◌+◌, drop, get_or, map}
 use Rattle.std.proofs.lemmas.List.{drop_all}
-use Rattle.player.proofs.StripLemmas.{all_painted, next_span, one_painted_more}
+use Rattle.player.proofs.StripLemmas.{all_painted, may_paint_next, next_span, one_painted_more}
 use Rattle.player.proofs.strips.put_spans.Goals as goal
 
 pub loop-span-preserved : goal.loop-span-preserved
@@ -15,3 +15,10 @@ returns-clause-pixels c =
     let spans = c.args.spans.now in
     let none_left = drop_all c.loop-span.span-index spans c.loop-span-test.false in
     all_painted c.writing_law.ensures c.args.ink.now (map (λ b. b.placed) c.args.cuts.now) c.args.y spans c.args.canvas.now c.loop-span.canvas (rw none_left at c.loop-span.invariant)
+
+pub put_uncut-requires : goal.put_uncut-requires
+put_uncut-requires c =
+    let spans = c.args.spans.now in
+    let place = c.loop-span.span-index in
+    let span = get_or spans place record { from = 0; to = 0 } in
+    may_paint_next c.args.ink.now (map (λ b. b.placed) c.args.cuts.now) c.args.y spans (drop (place + 1) spans) span c.args.canvas.now c.loop-span.canvas (rw (next_span spans place c.loop-span-test.true) at c.loop-span.invariant) c.requires.countable

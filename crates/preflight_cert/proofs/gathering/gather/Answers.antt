@@ -1,6 +1,8 @@
 -- A count of records fits, and so do the numbers of their entries.
-use Rattle.std.proofs.Common.{◌≡◌, Ok, Some, ap, ◌∙◌, arith, rules}
+use Rattle.std.proofs.Common.{◌≡◌, Bool, Result, Ok, Some, ap, ◌∙◌, arith, rules}
 use Rattle.std.specs.Option.{option_map}
+use Rattle.draw_ops.specs.Gives.{put}
+use Rattle.draw_ops.specs.declared.record_fault.RecordFault.{RecordFault}
 use Rattle.draw_ops.specs.Content.{with_step}
 use Rattle.draw_ops.specs.OperationOf.{operation_of}
 use Rattle.draw_ops.specs.Records.{record_limit}
@@ -14,22 +16,22 @@ pub overflow_add-before : goal.overflow_add-before
 unfolding record_limit
 overflow_add-before g c = search rules
 
-pub returns-in_default-clause-few : goal.returns-in_default-clause-few
+pub returns-then-not-is_put-clause-few : goal.returns-then-not-is_put-clause-few
 unfolding record_limit
-returns-in_default-clause-few g c =
-    let lengths = c.loop-next.invariant.lengths in
-    let short = c.loop-next.invariant.short in omega (arith, lengths, short)
+returns-then-not-is_put-clause-few g c =
+    let lengths = c.loop-is_put.invariant.lengths in
+    let short = c.loop-is_put.invariant.short in omega (arith, lengths, short)
 
-pub loop-next-preserved : goal.loop-next-preserved
-loop-next-preserved g c =
+pub loop-is_put-preserved : goal.loop-is_put-preserved
+loop-is_put-preserved g c =
     let content = g.S.HasContent.content in
-    let old = c.loop-next.machine in
-    let new = c.step_by-played.new.self in
-    let step = c.in-Some.step in
-    let is = c.in-Ok.is ∙ ap Ok c.in-Some.is in
-    let begins : content c.loop-next.source ≡ with_step (step_value_of step) (content c.next_op-told.new.self) = rw is at c.next_op-told.ensures.gives in
-    let stepped : HasStepped (operation_of step.op) old new = rw c.in-Ok-played.is at c.step_by-played.ensures.stepped in
-    let drawn : IsDrawingOf (operation_of step.op) old new c.in-Ok-played.drawn = rw c.in-Ok-played.is at c.step_by-played.ensures.drawn in
+    let old = c.loop-is_put.machine in
+    let new = c.step_into.new.self in
+    let step = c.next_into.new.step in
+    let is : put c.next_into.result step ≡ Ok (Some step) = ap (λ (r : Result Bool RecordFault). put r step) (c.in-Ok.is ∙ ap Ok c.if-not-is_put.false) in
+    let begins : content c.loop-is_put.source ≡ with_step (step_value_of step) (content c.next_into.new.self) = rw is at c.next_into.ensures.gives in
+    let stepped : HasStepped (operation_of step.op) old new = c.in-Ok-step_into.ensures.stepped in
+    let drawn : IsDrawingOf (operation_of step.op) old new c.step_into.new.drawn = c.in-Ok-step_into.ensures.drawn in
     record {
       short = search (begins, rules);
       few = search rules;
@@ -37,24 +39,24 @@ loop-next-preserved g c =
       same_surface = search rules;
       place = search rules;
       stops = search (begins, stepped, rules);
-      texts = c.loop-next.invariant.texts ∙
-          step_texts (content c.loop-next.source) (content c.next_op-told.new.self) c.next_op-told.result step old.state new.state
-          (option_map (drawing_with new) c.in-Ok-played.drawn) c.loop-next.entries.items c.add_entry.new.entries.items
-          c.next_op-told.ensures.gives is stepped.state drawn c.in-Ok-add_entry.ensures.text;
-      are_entries = λ all. c.loop-next.invariant.are_entries
-          (step_entries (content c.loop-next.source) (content c.next_op-told.new.self) c.next_op-told.result step old.state new.state
-          (option_map (drawing_with new) c.in-Ok-played.drawn) c.next_op-told.ensures.gives is stepped.state drawn c.in-Ok-add_entry.ensures.fits all);
+      texts = c.loop-is_put.invariant.texts ∙
+          step_texts (content c.loop-is_put.source) (content c.next_into.new.self) (put c.next_into.result step) step old.state new.state
+          (option_map (drawing_with new) c.step_into.new.drawn) c.loop-is_put.entries.items c.add_entry.new.entries.items
+          c.next_into.ensures.gives is stepped.state drawn c.in-Ok-add_entry.ensures.text;
+      are_entries = λ all. c.loop-is_put.invariant.are_entries
+          (step_entries (content c.loop-is_put.source) (content c.next_into.new.self) (put c.next_into.result step) step old.state new.state
+          (option_map (drawing_with new) c.step_into.new.drawn) c.next_into.ensures.gives is stepped.state drawn c.in-Ok-add_entry.ensures.fits all);
       budget = search (begins, stepped, drawn, rules, budget_then);
       needs = search (begins, stepped, rules);
     }
 
-pub returns-in-Err-played-clause-refusal : goal.returns-in-Err-played-clause-refusal
-returns-in-Err-played-clause-refusal g c =
+pub returns-in-Err-step_into-clause-refusal : goal.returns-in-Err-step_into-clause-refusal
+returns-in-Err-step_into-clause-refusal g c =
     let content = g.S.HasContent.content in
-    let m = c.loop-next.machine in
-    let step = c.in-Some.step in
-    let is = c.in-Ok.is ∙ ap Ok c.in-Some.is in
-    let begins : content c.loop-next.source ≡ with_step (step_value_of step) (content c.next_op-told.new.self) = rw is at c.next_op-told.ensures.gives in
-    let refused : RefusesStep (operation_of step.op) m c.in-Err-played.fault = rw c.in-Err-played.is at c.step_by-played.ensures.refused in
-    gathering_refused _ (content c.loop-next.source) (content c.next_op-told.new.self) (step_value_of step) c.loop-next.before m c.in-Err-played.fault c.of_step.result
-    (rw c.loop-next.invariant.same_surface c.loop-next.invariant.stops) begins refused c.of_step.ensures.number c.of_step.ensures.fault
+    let m = c.loop-is_put.machine in
+    let step = c.next_into.new.step in
+    let is : put c.next_into.result step ≡ Ok (Some step) = ap (λ (r : Result Bool RecordFault). put r step) (c.in-Ok.is ∙ ap Ok c.if-not-is_put.false) in
+    let begins : content c.loop-is_put.source ≡ with_step (step_value_of step) (content c.next_into.new.self) = rw is at c.next_into.ensures.gives in
+    let refused : RefusesStep (operation_of step.op) m c.in-Err-step_into.fault = c.in-Err-step_into.ensures.refused in
+    gathering_refused _ (content c.loop-is_put.source) (content c.next_into.new.self) (step_value_of step) c.loop-is_put.before m c.in-Err-step_into.fault c.of_step.result
+    (rw c.loop-is_put.invariant.same_surface c.loop-is_put.invariant.stops) begins refused c.of_step.ensures.number c.of_step.ensures.fault

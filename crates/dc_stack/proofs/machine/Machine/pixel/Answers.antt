@@ -6,32 +6,29 @@ use Rattle.dc_stack.specs.Placing.{plane_list}
 use Rattle.dc_stack.proofs.LandingLemmas.{all_land}
 use Rattle.dc_stack.proofs.ListLemmas.{never_too_many}
 use Rattle.dc_stack.proofs.machine.Machine.pixel.Goals as goal
-use Rattle.dc_stack.proofs.machine.Machine.pixel.Goals.{in-Ok, in-Err}
 
 pub returns-clause-plays : goal.returns-clause-plays
 returns-clause-plays g c =
     let s = surface_of c.self.inside.place in
     let points = plane_list c.self.inside.dc.map (c.args.point ∷ []) in
-    elim c.match-land.branch [
-      | in-Ok w ↦
-          let at = w.in-Ok.at in
-          let lands = w.in-Ok.ensures.fault in
-          let plane = w.in-Ok.ensures.plane in
-          rw (w.result-is, ← c.self.view_is) (record {
-            stepped = record { no_fault = sym lands; state = refl; needs = search rules };
-            drawn = rw plane refl;
-            placed = record {
-              ready = tt;
-              counted = refl;
-              least = rw w.around.ensures (c.box_law.ensures.single at);
-              within = rw plane (all_land s points lands);
-              few = never_too_many 0 (omega arith);
-            };
-            figures = λ e. cc;
-          })
-      | in-Err w ↦
-          rw (w.result-is, ← c.self.view_is) (record {
-            refused = inl (ap (option_map Record) (sym w.in-Err.ensures.fault));
-            kept = record { state = refl; painted = refl; needs = refl };
-          })
-    ]
+    let lands = c.in-Ok.ensures.fault in
+    let plane = c.in-Ok.ensures.plane in
+    rw (← c.self.view_is) (record {
+      stepped = record { no_fault = sym lands; state = refl; needs = search rules };
+      drawn = rw plane refl;
+      placed = record {
+        ready = tt;
+        counted = refl;
+        least = rw c.around.ensures (c.box_law.ensures.single c.in-Ok.at);
+        within = rw plane (all_land s points lands);
+        few = never_too_many 0 (omega arith);
+      };
+      figures = λ e. cc;
+    })
+
+pub returns-in-Err-clause-plays : goal.returns-in-Err-clause-plays
+returns-in-Err-clause-plays g c =
+    rw (← c.self.view_is) (record {
+      refused = inl (ap (option_map Record) (sym c.in-Err.ensures.fault));
+      kept = record { state = refl; painted = refl; needs = refl };
+    })

@@ -8,4 +8,4 @@ pub returns-then-is_open-clause-plays : goal.returns-then-is_open-clause-plays
 returns-then-is_open-clause-plays g c =
     let old = c.args.self.now in
     let begun : is_open old.state.path ≡ true = search rules in
-    plays_polygons old c.add_lists.new.self begun c.of.result (lists_of c.args.lists) (c.of.ensures.plane old.state.dc.map) c.of.ensures.page c.add_lists.result c.add_lists.ensures.adds
+    c.tell.ensures _ _ _ (plays_polygons old c.add_lists.new.self begun c.of.result (lists_of c.args.lists) (c.of.ensures.plane old.state.dc.map) c.of.ensures.page c.add_lists.result c.add_lists.ensures.adds)

@@ -1,0 +1,92 @@
+//! Listings, and what is told where they can't be written.
+
+use crate::comparing::{same, same_want_of_memory};
+use crate::files::{DOT, NIL};
+use crate::limited;
+use commands::list_command;
+use std::alloc::Global;
+use std::process::Abort;
+use std::test::Fail;
+
+/// The listing of `DOT`.
+const DOT_LINES: &str = "0\t40\t14\t0x041f\tMETA_SETPIXEL\tplayed\tpixel 2,1 #ff0000\n\
+    1\t54\t6\t0x0000\tMETA_EOF\tplayed\tnothing\n";
+
+/// And where its last byte is missing.
+const BROKEN_LINES: &str = "0\t40\t14\t0x041f\tMETA_SETPIXEL\tplayed\tpixel 2,1 #ff0000\n\
+    1\t54\t-\t-\t-\trefused\tNoEnd\n";
+
+/// Ends the test unless listing a file ends with this status and these lines.
+fn lists(rt: &impl Abort, alloc: Global, file: &[u8], status: u8, want: &str) {
+    let mut out = Vec::new(alloc);
+    let mut err = Vec::new(alloc);
+    let answer = list_command(alloc, file, &mut out, &mut err);
+    same(rt, (want, answer.status()), (want, status));
+    same(rt, out.as_slice(), want.as_bytes());
+    same(rt, (err.len(), answer.told), (0, Ok(())));
+}
+
+#[test]
+fn each_record_has_its_line(rt: HostRuntime) -> Result<(), Fail> {
+    lists(&rt, rt.alloc(), DOT, 0, DOT_LINES);
+    lists(
+        &rt,
+        rt.alloc(),
+        NIL,
+        0,
+        "0\t0\t88\t1\tEMR_HEADER\tplayed\tnothing\n\
+        1\t88\t20\t14\tEMR_EOF\tplayed\tnothing\n",
+    );
+    Ok(())
+}
+
+#[test]
+fn records_that_break_have_status_1_and_a_line_for_that(rt: HostRuntime) -> Result<(), Fail> {
+    lists(&rt, rt.alloc(), &DOT[..59], 1, BROKEN_LINES);
+    lists(
+        &rt,
+        rt.alloc(),
+        b"GIF89a",
+        1,
+        "-\t-\t-\t-\t-\trefused\tNotMetafile\n",
+    );
+    Ok(())
+}
+
+#[test]
+fn a_listing_that_cannot_be_written_has_status_3(rt: HostRuntime) -> Result<(), Fail> {
+    for (most, can_flush) in [(0, true), (20, true), (DOT_LINES.len(), false)] {
+        let mut out = limited(rt.alloc(), most, can_flush);
+        let mut err = Vec::new(rt.alloc());
+        let status = list_command(rt.alloc(), DOT, &mut out, &mut err).status();
+        same(&rt, (most, status), (most, 3));
+        same(&rt, err.as_slice(), b"metaplay: cannot write\n".as_slice());
+        same(&rt, out.taken.len(), most);
+    }
+    Ok(())
+}
+
+#[test]
+fn listing_under_refused_growth(rt: HostRuntime) -> Result<(), Fail> {
+    let mut out = [0u8; 128];
+    let mut err = [0u8; 64];
+    let answer = list_command(
+        rt.alloc(),
+        DOT,
+        &mut out.as_mut_slice(),
+        &mut err.as_mut_slice(),
+    );
+    if answer.status() == 0 {
+        let want = b"0\t40\t14\t0x041f\tMETA_SETPIXEL\tplayed\tpixel 2,1 #ff0000\n\
+            1\t54\t6\t0x0000\tMETA_EOF\tplayed\tnothing\n";
+        for at in 0..92 {
+            same(&rt, out[at], want[at]);
+        }
+        same(&rt, err[0], 0);
+    } else {
+        same(&rt, answer.status(), 4);
+        same(&rt, out[0], 0);
+        same_want_of_memory(&rt, &err);
+    }
+    Ok(())
+}

@@ -1,0 +1,61 @@
+-- How a task ends, and what it leaves, from whether it is done and why not.
+use Rattle.std.proofs.Common.{◌≡◌, ◌⊎◌, inl, inr, ℕ, List, Option, Some, None, Result, Ok, Err, refl}
+use Rattle.std.specs.Prelude.{IfErr, OnOk, ⊤}
+use Rattle.std.specs.Io.KnownBytes.{Keeps}
+use Rattle.draw_ops.specs.declared.fault.Fault.TheVariants as fault
+use Rattle.preflight_cert.specs.Refusal.{IsWantOfMemory}
+use Rattle.preflight_cert.specs.declared.refusal.Refusal.{Refusal}
+use Rattle.commands.specs.Ends.{IsDoneBy, IsRefusedBy, TellsBy, TellsRefusal, TellsRefused, WritesBy, WritesRefused, WritesText}
+use Rattle.commands.specs.Failures.{Fails, IsFailureOf, TellsEnding, ending_of}
+use Rattle.commands.specs.Tasks.{Task}
+use Rattle.commands.specs.declared.answer.Answer.{Answer}
+use Rattle.commands.specs.declared.answer.CommandEnd.TheVariants as end
+use Rattle.commands.specs.declared.failure.Failure.{Failure}
+use Rattle.commands.specs.declared.failure.Failure.TheVariants.{CannotWrite, OutOfMemory, Refused}
+
+pub kept : (held : Option (List ℕ)) → Keeps held held
+kept None = tt
+kept (Some xs) = refl
+
+-- what is written is what the reason says
+pub written_by :
+    (task : Task) (done : Result ⊤ Failure) (a : Answer) (old new : Option (List ℕ)) → a.end ≡ ending_of done → OnOk done (WritesText (IsDoneBy task) old new)
+    → IfErr done (λ failure. Fails task failure old new) → WritesBy a.end task old new
+written_by task (Ok u) a old new e done failed = rw e done
+written_by task (Err (Refused r)) a old new e done failed = rw e failed.1
+written_by task (Err CannotWrite) a old new e done failed = rw e failed
+written_by task (Err OutOfMemory) a old new e done failed = rw e failed
+
+-- and so is what is told
+pub told_by :
+    (task : Task) (done : Result ⊤ Failure) (a : Answer) (old new held now : Option (List ℕ)) → a.end ≡ ending_of done
+    → IfErr done (λ failure. Fails task failure old new) → TellsEnding done a.told held now
+    → (TellsRefusal task a.told held now → TellsRefused task a.told held now) → TellsBy a.end task a.told held now
+told_by task (Ok u) a old new held now e failed tells refused = rw e tells
+told_by task (Err (Refused r)) a old new held now e failed tells refused = rw e (refused (record { refusal = r; refused = failed.0; reported = tells }))
+told_by task (Err CannotWrite) a old new held now e failed tells refused = rw e tells
+told_by task (Err OutOfMemory) a old new held now e failed tells refused = rw e tells
+
+-- what holds where memory was refused
+pub holds_by :
+    (done : Result ⊤ Failure) (a : Answer) (P : Type 0) → a.end ≡ ending_of done → IfErr done (λ failure. failure ≡ OutOfMemory → P)
+    → a.end ≡ end.OutOfMemory → P
+holds_by (Ok u) a P e h memory = cc
+holds_by (Err (Refused r)) a P e h memory = cc
+holds_by (Err CannotWrite) a P e h memory = cc
+holds_by (Err OutOfMemory) a P e h memory = h refl
+
+-- a refusal by which nothing was written
+pub refusal_fails :
+    (task : Task) (r : Refusal) (failure : Failure) (held : Option (List ℕ)) → (IsRefusedBy task r.number r.fault ⊎ IsWantOfMemory r)
+    → WritesRefused task held held → IsFailureOf r failure → Fails task failure held held
+refusal_fails task r (Refused other) held (inl refused) writes by = (rw by.0 refused, writes)
+refusal_fails task r (Refused other) held (inr want) writes by = absurd (by.1 want.fault)
+refusal_fails task r CannotWrite held h writes by = absurd by
+refusal_fails task r OutOfMemory held h writes by = kept held
+
+-- memory was refused where that is the reason
+pub is_want : (r : Refusal) (failure : Failure) → IsFailureOf r failure → failure ≡ OutOfMemory → r.fault ≡ fault.OutOfMemory
+is_want r (Refused other) by e = cc
+is_want r CannotWrite by e = absurd by
+is_want r OutOfMemory by e = by

@@ -1,0 +1,17 @@
+-- What was checked is played, or refused behind the check.
+use Rattle.std.proofs.lemmas.Result.{IfErr-weaker, on_ok_weaker}
+use Rattle.commands.proofs.PlayLemmas.{check_fails, play_done, play_fails}
+use Rattle.commands.proofs.play.play_checked.Goals as goal
+
+pub returns-in-Err-clause-failed : goal.returns-in-Err-clause-failed
+returns-in-Err-clause-failed g c = check_fails c.args.file.now c.args.certificate.now c.args.width c.args.height c.in-Err.refusal c.failure_of.result (g.O.Write.contents c.args.out.now) c.in-Err.ensures.refusal c.failure_of.ensures
+
+pub returns-clause-done : goal.returns-clause-done
+returns-clause-done g c =
+    on_ok_weaker c.write_played.result (play_done _ _ c.in-Ok.cleared _ _ c.in-Ok.ensures.accepted c.in-Ok.ensures.opened c.in-Ok.ensures.read _ _) c.write_played.ensures.done
+
+pub returns-clause-failed : goal.returns-clause-failed
+returns-clause-failed g c =
+    IfErr-weaker c.write_played.result _ _
+    (λ failure fails. play_fails _ _ c.in-Ok.cleared _ _ c.in-Ok.ensures.accepted c.in-Ok.ensures.opened c.in-Ok.ensures.read g.O.Write.contents c.args.out.now c.write_played.new.out failure fails)
+    c.write_played.ensures.failed

@@ -1,0 +1,9 @@
+-- The end says what was written and told.
+use Rattle.commands.proofs.FailureLemmas.{told_by, written_by}
+use Rattle.commands.proofs.play.play_command.Goals as goal
+
+pub returns-clause-written : goal.returns-clause-written
+returns-clause-written g c = written_by _ c.play_checked-done.result c.ending.result _ _ c.ending.ensures.end c.play_checked-done.ensures.done c.play_checked-done.ensures.failed
+
+pub returns-clause-told : goal.returns-clause-told
+returns-clause-told g c = told_by _ c.play_checked-done.result c.ending.result _ _ _ _ c.ending.ensures.end c.play_checked-done.ensures.failed c.ending.ensures.told (λ t. t)

@@ -1,0 +1,56 @@
+//! Why a command isn't done, and how it ends then.
+
+ghost use Rattle.std.specs.Prelude.{◌≡◌};
+ghost use Rattle.commands.specs.Failures.{IsFailureOf, TellsEnding, ending_of};
+
+use crate::answer::{Answer, CommandEnd};
+use crate::reporting::report;
+use draw_ops::Fault;
+use preflight_cert::Refusal;
+use std::io::Write;
+
+/// Why a command isn't done.
+#[derive(Clone, Copy, Debug)]
+pub(crate) enum Failure {
+    /// The file was refused, or the certificate, the image or the surface.
+    Refused(Refusal),
+    /// The output failed.
+    CannotWrite,
+    /// Memory was refused.
+    OutOfMemory,
+}
+
+/// Why a command isn't done that is refused: want of memory is a reason of its own.
+pub(crate) fn failure_of(refusal: Refusal) -> Failure
+    ensures { IsFailureOf refusal result }
+{
+    if refusal.fault == Fault::OutOfMemory {
+        return Failure::OutOfMemory;
+    }
+    Failure::Refused(refusal)
+}
+
+/// How a command ends, which goes to `err` as one line where it isn't done. A fault of `err` changes no status.
+pub(crate) fn ending<E: Write>(done: Result<(), Failure>, err: &mut E) -> Answer
+    ensures end { result.end ≡ ending_of done }
+    ensures told { TellsEnding done result.told (E.contents err.old) (E.contents err.new) }
+{
+    match done {
+        Ok(()) => Answer {
+            end: CommandEnd::Done,
+            told: Ok(()),
+        },
+        Err(Failure::Refused(refusal)) => Answer {
+            end: CommandEnd::Refused,
+            told: report(err, refusal),
+        },
+        Err(Failure::CannotWrite) => Answer {
+            end: CommandEnd::CannotWrite,
+            told: report(err, "cannot write"),
+        },
+        Err(Failure::OutOfMemory) => Answer {
+            end: CommandEnd::OutOfMemory,
+            told: report(err, "OutOfMemory"),
+        },
+    }
+}

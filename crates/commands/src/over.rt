@@ -1,0 +1,106 @@
+//! The command `over`.
+
+ghost use Rattle.std.specs.Prelude.{◌≡◌, ◌≤◌, ◌⊎◌, ◌^◌, IfErr, IfOk, OnOk};
+ghost use Rattle.canvas.specs.CanvasState.{image_of};
+ghost use Rattle.preflight_cert.specs.Refusal.{IsWantOfMemory};
+ghost use Rattle.commands.specs.ClearedFiles.{IsWithinBound, Leaves, RefusesSurface};
+ghost use Rattle.commands.specs.Ends.{IsDoneBy, Tells, Writes, WritesText};
+ghost use Rattle.commands.specs.Failures.{FailsWith};
+ghost use Rattle.commands.specs.Images.{IsPlayedOver, RefusesOver};
+ghost use Rattle.commands.specs.Tasks.{over};
+
+use crate::answer::Answer;
+use crate::failure::{Failure, ending, failure_of};
+use crate::writing::write_image;
+use canvas::{Canvas, ImageError};
+use draw_ops::Fault;
+use player::play;
+use preflight_cert::{Cleared, Refusal, check};
+use std::alloc::Global;
+use std::io::Write;
+
+/// Checks a certificate against a file, plays the file over an image at its size, and writes what that leaves to `out` as P6 text once the
+/// whole file has been played. A refusal, the check's, or else `BadImage`, or else `SurfaceTooLarge`, goes to `err` as one line; a fault
+/// of `err` changes no status.
+pub fn over_command<O: Write, E: Write>(
+    alloc: Global,
+    file: &[u8],
+    certificate: &[u8],
+    image: &[u8],
+    out: &mut O,
+    err: &mut E,
+) -> Answer
+    ensures written { Writes (over file.now certificate.now image.now) result O.contents out.old out.new }
+    ensures told { Tells (over file.now certificate.now image.now) result E.contents err.old err.new }
+{
+    let done = write_over(alloc, file, certificate, image, out);
+    ending(done, err)
+}
+
+/// Checks a certificate against a file, plays the file over an image, and writes what that leaves.
+fn write_over<O: Write>(
+    alloc: Global,
+    file: &[u8],
+    certificate: &[u8],
+    image: &[u8],
+    out: &mut O,
+) -> Result<(), Failure>
+    ensures done { OnOk result
+        (WritesText (IsDoneBy (over file.now certificate.now image.now)) (O.contents out.old) (O.contents out.new)) }
+    ensures failed { IfErr result (FailsWith (over file.now certificate.now image.now) O.contents out.old out.new) }
+{
+    let canvas = match over_file(alloc, file, certificate, image) {
+        Ok(canvas) => canvas,
+        Err(refusal) => return Err(failure_of(refusal)),
+    };
+    match write_image(&canvas, out) {
+        Ok(()) => Ok(()),
+        Err(_) => Err(Failure::CannotWrite),
+    }
+}
+
+/// Checks a certificate against a file, and plays the file over an image.
+fn over_file(
+    alloc: Global,
+    file: &[u8],
+    certificate: &[u8],
+    image: &[u8],
+) -> Result<Canvas, Refusal>
+    ensures image { IfOk result (λ canvas. IsPlayedOver file.now certificate.now image.now (image_of canvas)) }
+    ensures refusal { IfErr result
+        (λ r. RefusesOver file.now certificate.now image.now r.number r.fault ⊎ IsWantOfMemory r) }
+{
+    let cleared = match check(alloc, file, certificate) {
+        Ok(cleared) => cleared,
+        Err(refusal) => return Err(refusal),
+    };
+    let canvas = match Canvas::from_ppm(alloc, image) {
+        Ok(canvas) => canvas,
+        Err(ImageError::BadImage) => return Err(Refusal::of_file(Fault::BadImage)),
+        Err(ImageError::OutOfMemory) => return Err(Refusal::of_file(Fault::OutOfMemory)),
+    };
+    match play_over(alloc, &cleared, canvas) {
+        Ok(canvas) => Ok(canvas),
+        Err(fault) => Err(Refusal::of_file(fault)),
+    }
+}
+
+/// Plays a cleared file over what a canvas shows, which holds a whole surface, and gives it back. It is refused by `SurfaceTooLarge`
+/// exactly where a side is above the certificate's bound, or by `OutOfMemory`.
+fn play_over(alloc: Global, cleared: &Cleared<'_>, mut canvas: Canvas) -> Result<Canvas, Fault>
+    requires whole { canvas.first ≡ 0 }
+    requires countable { canvas.writes ≤ 2 ^ 63 }
+    ensures image { IfOk result
+        (λ after. Leaves cleared.now canvas.width canvas.rows (image_of canvas) (image_of after)) }
+    ensures within { IfOk result (λ _. IsWithinBound cleared.now.certificate canvas.width canvas.rows) }
+    ensures refusal { IfErr result (RefusesSurface cleared.now.certificate canvas.width canvas.rows) }
+{
+    let certificate = &cleared.certificate;
+    if certificate.max_width < canvas.width() || certificate.max_height < canvas.rows() {
+        return Err(Fault::SurfaceTooLarge);
+    }
+    match play(alloc, cleared, &mut canvas) {
+        Ok(_) => Ok(canvas),
+        Err(fault) => Err(fault),
+    }
+}

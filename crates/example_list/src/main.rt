@@ -1,0 +1,21 @@
+//! Opens a file, and lists its records: a line for each, to be read by people and cut by other programs.
+#![tactic(auto)]
+
+use listing::write_listing;
+use meta_headers::open_file;
+use std::{fs, io};
+
+fn main(rt: HostRuntime) -> io::Result<()> {
+    let file = fs::read(&rt, "held.wmf")?;
+    match open_file(&file) {
+        Ok(opened) => {
+            let (width, height) = (opened.frame.width, opened.frame.height);
+            println!(rt; "held.wmf opens, with a frame of {width} by {height}")?;
+        }
+        Err(fault) => println!(rt; "held.wmf doesn't open: {fault}")?,
+    }
+    match write_listing(&file, None, &mut rt.stdout()) {
+        Ok(_) => Ok(()),
+        Err(_) => Err(io::ErrorKind::WriteZero.into()),
+    }
+}

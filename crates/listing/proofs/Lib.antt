@@ -1,0 +1,5 @@
+pub mod NameLemmas
+pub mod SendingLemmas
+pub mod LineLemmas
+pub mod WalkLemmas
+pub mod TextLemmas

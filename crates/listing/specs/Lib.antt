@@ -1,0 +1,13 @@
+pub mod Parts
+pub mod ObjectTexts
+pub mod Asked
+pub mod NoteTexts
+pub mod Line
+pub mod Listing
+pub mod Sending
+pub mod Putting
+pub mod WmfNames
+pub mod EmfNames
+pub mod Formats
+pub mod Walk
+pub mod WalkState

@@ -1,0 +1,81 @@
+-- The line that tells a record.
+use Rattle.std.specs.Prelude.{ℕ, Bool, true, false, ◌||◌, ◌==◌, if◌then◌else◌, List, ◌++◌, length, codes, decimal, Option, Some, None, Result, Ok, Err}
+use Rattle.draw_ops.specs.Content.{StepValue}
+use Rattle.draw_ops.specs.FaultTable.{fault_row}
+use Rattle.draw_ops.specs.Meaning.{step_of}
+use Rattle.draw_ops.specs.NoteKinds.{is_noted}
+use Rattle.draw_ops.specs.Records.{Record}
+use Rattle.draw_ops.specs.declared.fault.Fault.{Fault}
+use Rattle.draw_ops.specs.declared.fault.Fault.TheVariants.{Record as InRecord}
+use Rattle.draw_ops.specs.declared.record_fault.RecordFault.{RecordFault}
+use Rattle.draw_ops.specs.declared.note.Note.TheVariants.{EmfPlus, Skipped}
+use Rattle.listing.specs.EmfNames.{emf_name_of}
+use Rattle.meta_headers.specs.Opening.{framing_of, meaning_of}
+use Rattle.meta_headers.specs.declared.opened.FileFormat.{FileFormat}
+use Rattle.meta_headers.specs.declared.opened.FileFormat.TheVariants.{Placeable, Plain, Emf}
+use Rattle.listing.specs.WmfNames.{wmf_name_of}
+use Rattle.listing.specs.Asked.{asked_text}
+use Rattle.listing.specs.NoteTexts.{notes_text}
+use Rattle.listing.specs.Parts.{four_digits}
+
+-- a kind in its file's base: a function of WMF in four hexadecimal digits, a type of EMF in decimal ones
+abbrev pub kind_text : FileFormat → ℕ → List ℕ
+kind_text Placeable kind = codes "0x" ++ four_digits kind
+kind_text Plain kind = codes "0x" ++ four_digits kind
+kind_text Emf kind = decimal kind
+
+-- a name, or a hyphen
+abbrev pub text_or_hyphen : Option (List ℕ) → List ℕ
+text_or_hyphen None = codes "-"
+text_or_hyphen (Some name) = name
+
+-- the standard's name of a kind, or a hyphen where it has none
+abbrev pub kind_name : FileFormat → ℕ → List ℕ
+kind_name Placeable kind = text_or_hyphen (wmf_name_of kind)
+kind_name Plain kind = text_or_hyphen (wmf_name_of kind)
+kind_name Emf kind = text_or_hyphen (emf_name_of kind)
+
+-- what the player does with a record that has no fault: it notes one that is skipped, and plays each other
+abbrev pub deed_text : List ℕ → List ℕ
+deed_text notes = if is_noted notes Skipped || is_noted notes EmfPlus then codes "noted" else codes "played"
+
+-- a fault that a run has in a record with a number, if this is its number
+abbrev pub fault_where : Bool → RecordFault → Option RecordFault
+fault_where true fault = Some fault
+fault_where false fault = None
+
+-- the fault that a run has in the record with this number, if it has one in it
+abbrev pub fault_at : ℕ → Option (ℕ × RecordFault) → Option RecordFault
+fault_at number None = None
+fault_at number (Some stop) = fault_where (stop.0 == number) stop.1
+
+-- the last two fields of a line: that the record is refused, and the name of its fault
+abbrev pub refused_text : Fault → List ℕ
+refused_text fault = codes "refused\t" ++ (fault_row fault).name
+
+-- the last two fields of a line: the fault that the run has in the record, or else what is done, what is asked for, and what is noted
+abbrev pub step_text : Option RecordFault → StepValue → List ℕ
+step_text (Some fault) step = refused_text (InRecord fault)
+step_text None step = deed_text step.notes ++ codes "\t" ++ asked_text step.operation ++ notes_text step.notes
+
+-- the last two fields of a line: of a record that has a meaning, or the fault of its meaning
+abbrev pub meant_text : Option RecordFault → Result StepValue RecordFault → List ℕ
+meant_text stop (Err fault) = refused_text (InRecord fault)
+meant_text stop (Ok step) = step_text stop step
+
+-- What is told of a record that isn't read, a tab behind each field: its number, its place in the file, its size in bytes, its kind, and the
+-- standard's name.
+abbrev pub head_of : FileFormat → ℕ → ℕ → Record → List ℕ
+head_of format number place r =
+    decimal number ++ codes "\t" ++ decimal place ++ codes "\t" ++ decimal (length r.bytes) ++ codes "\t" ++ kind_text format r.kind ++ codes "\t"
+    ++ kind_name format r.kind ++ codes "\t"
+
+-- the line of a record: that, what is done with it, and what it asks for, or the name of its fault
+abbrev pub line_of : FileFormat → Option (ℕ × RecordFault) → List ℕ → ℕ → ℕ → Record → List ℕ
+line_of format stop behind number place r =
+    head_of format number place r
+    ++ meant_text (fault_at number stop) (step_of (framing_of format) (meaning_of format) behind number r) ++ codes "\n"
+
+-- the line that tells where the records break, and by which fault
+abbrev pub fault_line : ℕ → ℕ → RecordFault → List ℕ
+fault_line number place fault = decimal number ++ codes "\t" ++ decimal place ++ codes "\t-\t-\t-\t" ++ refused_text (InRecord fault) ++ codes "\n"

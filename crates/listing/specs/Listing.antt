@@ -1,0 +1,62 @@
+-- The listing of a file's records.
+use Rattle.std.specs.Prelude.{ℕ, suc, ◌+◌, List, [], ◌∷◌, ◌++◌, length, codes, Option, Some, None}
+use Rattle.draw_ops.specs.Framed.{framed_of}
+use Rattle.draw_ops.specs.Records.{Framed, Record}
+use Rattle.draw_ops.specs.declared.fault.Fault.TheVariants.{NotMetafile}
+use Rattle.draw_ops.specs.declared.record_fault.RecordFault.{RecordFault}
+use Rattle.listing.specs.Formats.{first_place, format_of}
+use Rattle.meta_headers.specs.Opening.{framing_of, record_bytes}
+use Rattle.meta_headers.specs.declared.opened.FileFormat.{FileFormat}
+use Rattle.listing.specs.Line.{fault_line, line_of, refused_text}
+use Rattle.listing.specs.declared.listed.Listed.{Listed}
+use Rattle.listing.specs.declared.listed.Listed.TheVariants.{Ended, Broken}
+
+-- the last line, where the records break
+abbrev pub last_line : ℕ → ℕ → Option RecordFault → List ℕ
+last_line number place None = []
+last_line number place (Some fault) = fault_line number place fault
+
+-- the lines of these records, the first of which has this number and stands at this place, and the last line behind them
+abbrev pub lines_of : FileFormat → Option (ℕ × RecordFault) → ℕ → ℕ → List ℕ → List Record → Option RecordFault → List ℕ
+lines_of format stop number place behind [] fault = last_line number place fault
+lines_of format stop number place behind (r ∷ rs) fault =
+    line_of format stop behind number place r ++ lines_of format stop (suc number) (place + length r.bytes) behind rs fault
+
+-- the lines of framed records
+abbrev pub lines_of_framed : FileFormat → Option (ℕ × RecordFault) → ℕ → ℕ → Framed → List ℕ
+lines_of_framed format stop number place framed = lines_of format stop number place framed.behind framed.records framed.fault
+
+-- how the records of a file of some format are framed
+abbrev pub framed_records : FileFormat → List ℕ → Framed
+framed_records format file = framed_of (framing_of format) (record_bytes format file)
+
+-- the lines of a file of some format, where a run of it has this fault in this record, if it has one: one for each of its records
+abbrev pub listing_in : FileFormat → Option (ℕ × RecordFault) → List ℕ → List ℕ
+listing_in format stop file = lines_of_framed format stop 0 (first_place format) (framed_records format file)
+
+-- the lines of a file of this format, or the one that tells that it has none
+abbrev pub listing_if : Option FileFormat → Option (ℕ × RecordFault) → List ℕ → List ℕ
+listing_if None stop file = codes "-\t-\t-\t-\t-\t" ++ refused_text NotMetafile ++ codes "\n"
+listing_if (Some format) stop file = listing_in format stop file
+
+-- The listing of a file, where a run of it has this fault in this record, if it has one.
+abbrev pub listing_of : Option (ℕ × RecordFault) → List ℕ → List ℕ
+listing_of stop file = listing_if (format_of file) stop file
+
+-- the records end with an end record, or with a fault of framing
+abbrev pub listed_as : Option RecordFault → Listed
+listed_as None = Ended
+listed_as (Some fault) = Broken
+
+-- how framed records end
+abbrev pub listed_by : Framed → Listed
+listed_by framed = listed_as framed.fault
+
+-- how the records of a file of this format end; one that has no format has no end record
+abbrev pub listed_if : Option FileFormat → List ℕ → Listed
+listed_if None file = Broken
+listed_if (Some format) file = listed_by (framed_records format file)
+
+-- how the records of a file end
+abbrev pub listed_of : List ℕ → Listed
+listed_of file = listed_if (format_of file) file

@@ -1,0 +1,37 @@
+//! The listing of a metafile's records, a line each, to be read by people and cut by programs.
+//!
+//! # What is promised
+//!
+//! - A listing is a line for each record of the file, in order, and where the records break a line that tells the
+//!   fault of framing (`write_listing`, by `listing_of`). Of a writer that fails a front of it has been taken.
+//! - A line tells the record's number, its place in the file, its size, its function or type in the format's own base,
+//!   the standard's name, what the player does with it, and what it asks for, or its fault (`line_of`).
+//! - A fault of a record's meaning ends no listing, one of framing does, and how the records end is told.
+//! - A walk gives the records of some bytes in order, each with its number and its place, and then none or the fault
+//!   at which they break (`RecordWalk::new`, `RecordWalk::next_record`, by `GivesNext`); what one asks for is told by
+//!   itself (`PlacedRecord::step`).
+//! - A file's format is told by how it begins, and where its records begin by the format (`format_of`, `records_in`).
+//! - Each function of WMF and each type of EMF that the table of kinds has is named, and no other (`function_name`,
+//!   `wmf_names_law`, `type_name`, `emf_names_law`).
+//! - No call is handed an allocator.
+#![tactic(auto)]
+
+mod asked;
+mod emf_names;
+mod formats;
+mod line;
+mod listed;
+mod noting;
+mod object_texts;
+mod page;
+mod parts;
+mod walk;
+mod wmf_names;
+mod writing;
+
+pub use emf_names::{emf_names_law, type_name};
+pub use formats::{first_place, format_of, records_in};
+pub use listed::Listed;
+pub use walk::{PlacedRecord, RecordWalk};
+pub use wmf_names::{function_name, wmf_names_law};
+pub use writing::write_listing;

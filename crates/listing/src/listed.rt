@@ -1,0 +1,10 @@
+//! How a listing ends.
+
+/// How the records of a file end.
+#[derive(Clone, Copy, Debug, PartialEq, Eq)]
+pub enum Listed {
+    /// With an end record.
+    Ended,
+    /// With a fault of framing.
+    Broken,
+}

@@ -1,0 +1,138 @@
+//! The records of a file one after another, each told where it stands, in any format.
+
+ghost use Rattle.std.specs.Prelude.{◌≡◌, ◌+◌, ◌<◌, ◌^◌, length};
+ghost use Rattle.draw_ops.specs.Framed.{framed_of};
+ghost use Rattle.draw_ops.specs.Meaning.{end_notes};
+ghost use Rattle.draw_ops.specs.NoteSet.{notes_in};
+ghost use Rattle.listing.specs.Walk.{GivesNext};
+
+use draw_ops::{Format, Note, NoteSet, RawRecord, RecordFault, Step, first_record};
+use std::marker::{Model, PhantomData};
+
+/// A record where it stands.
+#[derive(Clone, Copy, Debug, PartialEq, Eq)]
+pub struct PlacedRecord<'a> {
+    /// Its number in the file, from 0.
+    pub number: u32,
+    /// How many bytes of the file lie before it.
+    pub place: usize,
+    pub record: RawRecord<'a>,
+    /// The bytes of the file behind it.
+    pub behind: &'a [u8],
+}
+
+impl<'a> PlacedRecord<'a> {
+    ghost use Rattle.std.specs.Prelude.{◌≡◌};
+    ghost use Rattle.draw_ops.specs.Meaning.{step_of};
+    ghost use Rattle.draw_ops.specs.RecordOf.{record_of};
+    ghost use Rattle.draw_ops.specs.Results.{result_map};
+    ghost use Rattle.draw_ops.specs.StepOf.{step_value_of};
+
+    /// The record's step, or the first fault of what it means.
+    pub fn step<F: Format>(self) -> Result<Step<'a>, RecordFault>
+        ensures { step_of F.framing F.meaning self.entry.behind.now self.entry.number (record_of self.entry.record)
+            ≡ result_map step_value_of result }
+    {
+        match &F::read(self.number, self.record) {
+            Ok(meant) => Ok(Step {
+                number: self.number,
+                op: meant.op,
+                notes: with_end(meant.notes, self.record.kind == F::end_kind(), self.behind),
+            }),
+            Err(fault) => Err(*fault),
+        }
+    }
+}
+
+/// A walk over the bytes of a file's records: each is told where it stands, and none is read.
+#[derive(Debug, Drop)]
+pub struct RecordWalk<'a, F: Format> {
+    rest: &'a [u8],
+    /// The number in the file of the record in front of the rest.
+    number: u32,
+    /// How many bytes of the file lie before the rest.
+    place: usize,
+    /// Whether the end record was given.
+    has_ended: bool,
+    format: PhantomData<F>,
+}
+
+impl<'a, F: Format> Model for RecordWalk<'a, F> {
+    ghost use Rattle.listing.specs.WalkState.{IsWalking, Walk, framed_left};
+
+    ghost Value = { Walk };
+
+    ghost view = { λ a. record { number = a.number; place = a.place; framed = framed_left F.framing a.has_ended a.number a.rest.now } };
+
+    ghost invariant = { λ a. IsWalking a.number a.place a.rest.now };
+}
+
+impl<'a, F: Format> RecordWalk<'a, F> {
+    /// The walk over the bytes from record 0 on, before which so many bytes of the file lie.
+    pub fn new(bytes: &'a [u8], place: usize) -> RecordWalk<'a, F>
+        requires { place + length bytes.now < 2 ^ 64 }
+        ensures number { result.number ≡ 0 }
+        ensures place { result.place ≡ place }
+        ensures framed { result.framed ≡ framed_of F.framing bytes.entry.now }
+    {
+        RecordWalk {
+            rest: bytes,
+            number: 0,
+            place,
+            has_ended: false,
+            format: PhantomData,
+        }
+    }
+
+    /// The number in the file of the next record.
+    pub fn number(&self) -> u32
+        ensures { result ≡ self.now.number }
+    {
+        self.number
+    }
+
+    /// How many bytes of the file lie before the next record.
+    pub fn place(&self) -> usize
+        ensures { result ≡ self.now.place }
+    {
+        self.place
+    }
+
+    /// The next record, none behind the end record, or the fault at which the records break: `TooManyRecords`,
+    /// `NoEnd`, `ShortRecord` or `PastEnd`. Each call after that gives the same again.
+    pub fn next_record(&mut self) -> Result<Option<PlacedRecord<'a>>, RecordFault>
+        ensures { GivesNext F.framing self.old result self.new }
+    {
+        if self.has_ended {
+            return Ok(None);
+        }
+        match first_record::<F>(self.number, self.rest) {
+            Err(fault) => Err(fault),
+            Ok(record) => {
+                let (_, behind) = self.rest.split_at(record.bytes.len());
+                let given = PlacedRecord {
+                    number: self.number,
+                    place: self.place,
+                    record,
+                    behind,
+                };
+                self.rest = behind;
+                self.number += 1;
+                self.place += record.bytes.len();
+                self.has_ended = record.kind == F::end_kind();
+                Ok(Some(given))
+            }
+        }
+    }
+}
+
+/// The notes of a record, and with the end record also that bytes lie behind it.
+fn with_end(notes: NoteSet, is_last: bool, behind: &[u8]) -> NoteSet
+    ensures { notes_in result ≡ end_notes is_last behind.now (notes_in notes) }
+{
+    if is_last && !behind.is_empty() {
+        notes.with(Note::AfterEnd)
+    } else {
+        notes
+    }
+}

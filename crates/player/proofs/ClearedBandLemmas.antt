@@ -1,0 +1,90 @@
+-- The text and the writes of a cleared file's run.
+use Rattle.std.proofs.Common.{◌≡◌, ℕ, ◌+◌, ◌≤◌, List, Option, refl, sym, subst, arith}
+use Rattle.std.specs.Io.KnownBytes.{Appends}
+use Rattle.mapping.specs.PlacingLaws.{IsNoLarger, ShowsFrame}
+use Rattle.mapping.specs.Surface.{Surface}
+use Rattle.mapping.specs.declared.geometry.Colour.{Colour}
+use Rattle.draw_ops.specs.Content.{Content}
+use Rattle.draw_ops.specs.ExactlyOne.{ExactlyOne}
+use Rattle.draw_ops.specs.RecordContent.{ContentIsOne}
+use Rattle.canvas.specs.Ppm.{ppm_text}
+use Rattle.meta_headers.specs.File.{IsFile, IsOpenedFrom}
+use Rattle.meta_headers.specs.Headers.{OpenedValue}
+use Rattle.meta_headers.specs.OpenedOf.{opened_of}
+use Rattle.meta_headers.specs.Opening.{HasContentOf, framing_of, meaning_of, surface_for}
+use Rattle.dc_stack.specs.State.{start_of}
+use Rattle.preflight_cert.specs.Answer.{AnswerLaws, bound_of}
+use Rattle.preflight_cert.specs.CertificateOf.{certificate_of}
+use Rattle.preflight_cert.specs.CertificateReading.{CertificateValue}
+use Rattle.preflight_cert.specs.Drawings.{drawings_of}
+use Rattle.preflight_cert.specs.RowsLaws.{RowsLaws}
+use Rattle.preflight_cert.specs.SizeLaws.{SizeLaws}
+use Rattle.preflight_cert.specs.declared.cleared.Cleared.{Cleared}
+use Rattle.player.specs.Bands.{AreClearedWrites, HasCountedRows, HasWrittenFront, HasWrittenRows, IsClearedText, WritesRun, WritesRunFront, rows_played}
+use Rattle.player.proofs.BandTextLemmas.{whole_text}
+use Rattle.player.proofs.ClearedLemmas.{few_written, fits}
+
+module _ (answers : AnswerLaws) (sizes : SizeLaws) (contents : ContentIsOne) (cleared : Cleared) (width height : ℕ) (start : Colour)
+    (smaller : IsNoLarger (surface_for (opened_of cleared.opened) width height) (bound_of (opened_of cleared.opened) (certificate_of cleared.certificate))) where
+  abbrev o : OpenedValue
+  o = opened_of cleared.opened
+
+  abbrev records : List ℕ
+  records = cleared.opened.records.now
+
+  abbrev c : CertificateValue
+  c = certificate_of cleared.certificate
+
+  abbrev s : Surface
+  s = surface_for o width height
+
+  frame : ShowsFrame (bound_of o c)
+  frame = record { wide = cleared.opened.frame.wide; high = cleared.opened.frame.high }
+
+  -- the records have one content, and it has no fault here
+  one : ExactlyOne (HasContentOf o.format records)
+  one = contents (framing_of o.format) (meaning_of o.format) records
+
+  abbrev content : Content
+  content = one.value
+
+  of_file : (file : List ℕ) → IsOpenedFrom file cleared.opened → IsFile file o content
+  of_file file from = record { opens = from.opens; records = subst (λ (bytes : List ℕ). HasContentOf o.format bytes content) from.records one.holds }
+
+  of_run : IsClearedText cleared width height start (ppm_text (rows_played o content s start 0 height))
+  of_run file from = record {
+    image = rows_played o content s start 0 height;
+    run = record {
+      headers = o;
+      content = content;
+      of_file = of_file file from;
+      unstopped = sizes.unstopped content (start_of o) s (bound_of o c) frame smaller (fits answers o records c cleared.checked content one.holds).unstopped;
+      shows = refl;
+    };
+    is_text = refl;
+  }
+
+  pub run_written : RowsLaws → (wide : 1 ≤ width) (old new : Option (List ℕ)) → HasWrittenRows o records s start height old new → WritesRun cleared width height start old new
+  run_written laws wide old new sent = record {
+    text = ppm_text (rows_played o content s start 0 height);
+    of_run = of_run;
+    appended = subst (Appends old new) (sym (whole_text laws o records s start wide content)) (sent content one.holds);
+  }
+
+  pub run_front : (old new : Option (List ℕ)) → HasWrittenFront o records s start old new → WritesRunFront cleared width height start old new
+  run_front old new front = record { text = ppm_text (rows_played o content s start 0 height); of_run = of_run; appended = front content one.holds }
+
+  pub run_counted : (writes : ℕ) → HasCountedRows o records s height writes → AreClearedWrites cleared width height writes
+  run_counted writes counted file from = record {
+    headers = o;
+    content = content;
+    of_file = of_file file from;
+    unstopped = sizes.unstopped content (start_of o) s (bound_of o c) frame smaller (fits answers o records c cleared.checked content one.holds).unstopped;
+    count = counted content one.holds;
+  }
+
+  pub run_few : (writes : ℕ) → HasCountedRows o records s height writes → writes ≤ cleared.certificate.writes
+  run_few writes counted =
+      let none : writes ≡ 0 + writes = omega arith in
+      let count = counted content one.holds in
+      few_written answers o records c cleared.checked sizes s frame smaller content one.holds 0 writes writes none (omega (arith, count))

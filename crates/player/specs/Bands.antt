@@ -1,0 +1,112 @@
+-- Playing in bands: rows of a surface, one after another, from one colour, and the text of all of them.
+use Rattle.std.specs.Prelude.{◌≡◌, ◌≤◌, ◌<◌, ◌⊎◌, ℕ, ◌+◌, ◌++◌, List, Option}
+use Rattle.std.specs.Io.KnownBytes.{Appends}
+use Rattle.mapping.specs.Image.{Image, blank}
+use Rattle.mapping.specs.Surface.{Surface}
+use Rattle.mapping.specs.declared.geometry.Colour.{Colour}
+use Rattle.draw_ops.specs.Content.{Content}
+use Rattle.canvas.specs.CanvasState.{CanvasState, image_of}
+use Rattle.canvas.specs.Ppm.{AppendsFront, header, ppm_text, raster}
+use Rattle.mapping.specs.PlacingLaws.{IsNoLarger}
+use Rattle.meta_headers.specs.File.{IsOpenedFrom}
+use Rattle.meta_headers.specs.Headers.{OpenedValue}
+use Rattle.meta_headers.specs.OpenedOf.{opened_of}
+use Rattle.meta_headers.specs.Opening.{HasContentOf}
+use Rattle.dc_stack.specs.Drawing.{edge_limit}
+use Rattle.dc_stack.specs.MachineState.{MachineState}
+use Rattle.dc_stack.specs.State.{start_of}
+use Rattle.preflight_cert.specs.Answer.{bound_of}
+use Rattle.preflight_cert.specs.Apply.{rows_after}
+use Rattle.preflight_cert.specs.CertificateOf.{certificate_of}
+use Rattle.preflight_cert.specs.Drawings.{drawings_of}
+use Rattle.preflight_cert.specs.NeedLaws.{HasRoomFor}
+use Rattle.preflight_cert.specs.Run.{Run, Writes, shown}
+use Rattle.preflight_cert.specs.Writes.{writes_of_drawings}
+use Rattle.preflight_cert.specs.declared.certificate.Certificate.{Certificate}
+use Rattle.preflight_cert.specs.declared.cleared.Cleared.{Cleared}
+
+-- the text is the P6 text of the image which the run of a file leaves of another
+pub record IsRunText (file : List ℕ) (width height : ℕ) (start : Image) (text : List ℕ) : Type 0 where
+  pub image : Image
+  pub run : Run file width height start (shown image)
+  pub is_text : text ≡ ppm_text image
+
+-- it is so for the file that was cleared, from one colour everywhere
+abbrev pub IsClearedText : Cleared → ℕ → ℕ → Colour → List ℕ → Type 0
+IsClearedText cleared width height start text =
+    (file : List ℕ) → IsOpenedFrom file cleared.opened → IsRunText file width height (blank width height start) text
+
+-- that text was written
+pub record WritesRun (cleared : Cleared) (width height : ℕ) (start : Colour) (old new : Option (List ℕ)) : Type 0 where
+  pub text : List ℕ
+  pub of_run : IsClearedText cleared width height start text
+  pub appended : Appends old new text
+
+-- a front of it was
+pub record WritesRunFront (cleared : Cleared) (width height : ℕ) (start : Colour) (old new : Option (List ℕ)) : Type 0 where
+  pub text : List ℕ
+  pub of_run : IsClearedText cleared width height start text
+  pub appended : AppendsFront old new text
+
+-- so many pixels does the run of that file write at this size
+abbrev pub AreClearedWrites : Cleared → ℕ → ℕ → ℕ → Type 0
+AreClearedWrites cleared width height writes = (file : List ℕ) → IsOpenedFrom file cleared.opened → Writes file width height writes
+
+-- a side is above the certificate's bound
+abbrev pub IsAboveBound : ℕ → ℕ → Certificate → Type 0
+IsAboveBound width height c = c.max_width < width ⊎ c.max_height < height
+
+-- what the drawings of records make of so many rows of one colour
+abbrev pub rows_played : OpenedValue → Content → Surface → Colour → ℕ → ℕ → Image
+rows_played o content s start first rows = rows_after (drawings_of content.steps (start_of o)) s first (blank s.width rows start)
+
+-- how many pixels of those rows they write
+abbrev pub row_writes : OpenedValue → Content → Surface → ℕ → ℕ → ℕ
+row_writes o content s first rows = writes_of_drawings (drawings_of content.steps (start_of o)) s first rows
+
+-- A band of rows from one colour was played: it shows what the records leave of it, and the writes there are counted.
+pub record PlaysBand (o : OpenedValue) (records : List ℕ) (s : Surface) (start : Colour) (first rows : ℕ) (old new : CanvasState) : Type 0 where
+  pub image : (content : Content) → HasContentOf o.format records content → image_of new ≡ rows_played o content s start first rows
+  pub writes : (content : Content) → HasContentOf o.format records content → new.writes ≡ old.writes + row_writes o content s first rows
+
+-- the rows before one, from one colour, were written, header and all
+abbrev pub HasWrittenRows : OpenedValue → List ℕ → Surface → Colour → ℕ → Option (List ℕ) → Option (List ℕ) → Type 0
+HasWrittenRows o records s start rows old new =
+    (content : Content) → HasContentOf o.format records content
+    → Appends old new (header s.width s.height ++ raster (rows_played o content s start 0 rows).colours)
+
+-- a front of the text of all rows was
+abbrev pub HasWrittenFront : OpenedValue → List ℕ → Surface → Colour → Option (List ℕ) → Option (List ℕ) → Type 0
+HasWrittenFront o records s start old new =
+    (content : Content) → HasContentOf o.format records content
+    → AppendsFront old new (ppm_text (rows_played o content s start 0 s.height))
+
+-- the pixels written on those rows were counted
+abbrev pub HasCountedRows : OpenedValue → List ℕ → Surface → ℕ → ℕ → Type 0
+HasCountedRows o records s rows writes = (content : Content) → HasContentOf o.format records content → writes ≡ row_writes o content s 0 rows
+
+-- the same of a cleared file
+abbrev pub PlaysClearedBand : Cleared → Surface → Colour → ℕ → ℕ → CanvasState → CanvasState → Type 0
+PlaysClearedBand cleared s start first rows old new =
+    PlaysBand (opened_of cleared.opened) cleared.opened.records.now s start first rows old new
+
+abbrev pub CountsRows : Cleared → Surface → ℕ → ℕ → Type 0
+CountsRows cleared s rows writes = HasCountedRows (opened_of cleared.opened) cleared.opened.records.now s rows writes
+
+-- and of a writer that holds these bytes
+module _ {W : Type 0} where
+  abbrev pub WritesRows : Cleared → Surface → Colour → ℕ → (W → Option (List ℕ)) → W → W → Type 0
+  WritesRows cleared s start rows contents old new =
+      HasWrittenRows (opened_of cleared.opened) cleared.opened.records.now s start rows (contents old) (contents new)
+
+  abbrev pub WritesRowsFront : Cleared → Surface → Colour → (W → Option (List ℕ)) → W → W → Type 0
+  WritesRowsFront cleared s start contents old new =
+      HasWrittenFront (opened_of cleared.opened) cleared.opened.records.now s start (contents old) (contents new)
+
+-- A machine plays a cleared file on a surface within the certificate's bound, and with rows of so many lines it has room for what the
+-- certificate needs.
+pub record IsReadyToPlay (cleared : Cleared) (count : ℕ) (m : MachineState) : Type 0 where
+  pub kind : m.state.table_kind ≡ (start_of (opened_of cleared.opened)).table_kind
+  pub within : IsNoLarger m.surface (bound_of (opened_of cleared.opened) (certificate_of cleared.certificate))
+  pub room : HasRoomFor cleared.certificate.needs m
+  pub lines : edge_limit ≤ count ⊎ cleared.certificate.needs.edges ≤ count

@@ -1,0 +1,55 @@
+"""Reads certificates from their bytes, and checks what they say against what the records of a file draw."""
+
+from reading.fields import Record, fault
+from reference.certificates import Certificate
+
+# How many bytes stand in front of the entries, and how many one takes.
+HEAD, ENTRY = 40, 20
+
+LONGEST_SIDE = 8192
+
+# The most of saved states, slots, points and pieces, and of entries.
+MOST = (256, 65535, 1 << 20, 1 << 16, 1 << 20)
+
+
+def read_certificate(data):
+    """What the bytes of a certificate say, or their first fault."""
+    head = Record(data)
+    if data[:4] != b"MPC1":
+        raise fault("NotCertificate")
+    if len(data) < HEAD:
+        raise fault("ShortCertificate")
+    sides, told = (head.u32(4), head.u32(8)), [head.u32(at) for at in range(20, HEAD, 4)]
+    if not all(1 <= side <= LONGEST_SIDE for side in sides) or any(number > most for number, most in zip(told, MOST, strict=True)):
+        raise fault("BadBound")
+    whole = HEAD + ENTRY * told[-1]
+    if len(data) != whole:
+        raise fault("ShortCertificate" if len(data) < whole else "TrailingBytes")
+    entries = tuple((head.u32(at), *head.signed(at + 4, 4, 4)) for at in range(HEAD, whole, ENTRY))
+    return Certificate(*sides, head.number(12, 8), *told[:-1], entries)
+
+
+def entry_refusal(drawings, entries):
+    """The fault of the first drawing that its entry doesn't cover."""
+    for nth, drawing in enumerate(drawings):
+        number, left, top, right, bottom = entries[nth] if nth < len(entries) else (None, 0, 0, -1, -1)
+        if number != drawing.number:
+            return "WrongEntry", drawing.number
+        if not all(left <= x <= right and top <= y <= bottom for x, y in drawing.points):
+            return "BoxTooSmall", drawing.number
+    return None
+
+
+def refusal_of(certificate, certifier, stop, records):
+    """The first fault of a certificate, whose bound is the certifier's, for a file of so many records that stops there, or doesn't."""
+    drawings, entries = certifier.drawings, certificate.entries
+    refusal = entry_refusal(drawings, entries) or stop
+    if refusal is None and len(entries) > len(drawings):
+        refusal = "WrongEntry", records - 1
+    if refusal is not None:
+        return refusal
+    edges = max((drawing.edges for drawing in drawings), default=0)
+    needs = certifier.depth, certifier.slots, edges, certifier.pieces
+    if any(told < needed for told, needed in zip(certificate[3:7], needs, strict=True)):
+        return "NeedTooSmall", None
+    return ("BudgetTooSmall", None) if certificate.writes < certifier.budget(entries) else None

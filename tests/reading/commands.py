@@ -1,0 +1,136 @@
+"""What the commands answer to a file and a certificate, by the reference player."""
+
+import importlib.util
+import json
+import re
+from functools import cache
+
+from answers import refused, shown
+from built import ROOT, Answer
+from reading.certificates import read_certificate, refusal_of
+from reading.fields import text_of
+from reading.images import read_image
+from reading.playing import Steps
+from reference.pixels import Refused
+
+# How listings read, where this repository has them.
+listing = importlib.import_module("reference.listing") if importlib.util.find_spec("reference.listing") else None
+
+
+@cache
+def codes():
+    """The codes of faults by their names, as the page of faults has them."""
+    rows = re.findall(r"^\| (\d+) \| `(\w+)` \|", (ROOT / "docs/FAULTS.md").read_text(), re.MULTILINE)
+    return {name: int(code) for code, name in rows}
+
+
+def report(status, members):
+    """A report on standard output, and a status."""
+    return Answer(status, json.dumps(members, sort_keys=True, separators=(",", ":")).encode() + b"\n", b"")
+
+
+def refused_report(text, record):
+    """The report of a refusal."""
+    name, _, number = text.partition(" ")
+    told = {"code": codes()[name], "fault": name, "number": int(number) if number else None, "record": record}
+    return report(1, {"accepted": False, **told})
+
+
+class Asked:
+    """A file, of which each command is answered: what is found out is kept for the next."""
+
+    def __init__(self, file):
+        self.file = file
+        self.certified_at = {}
+        self.images = {}
+        self.steps, self.refusal = None, None
+        try:
+            self.steps = Steps(file)
+        except Refused as refusal:
+            self.refusal = text_of(refusal), None
+
+    def certified(self, sides):
+        """The certifier at a bound, and the refusal there, if there is one."""
+        if self.refusal:
+            return None, self.refusal
+        if sides not in self.certified_at:
+            self.certified_at[sides] = self.steps.certified(sides)
+        return self.certified_at[sides]
+
+    def prepared(self, sides):
+        """The certificate for surfaces of at most these sides, or none."""
+        certifier, refusal = self.certified(sides)
+        return None if refusal else certifier.certificate()
+
+    def prepare(self, sides):
+        """The answer of `prepare` to standard output."""
+        refusal = self.certified(sides)[1]
+        return refused(*refusal) if refusal else Answer(0, self.prepared(sides).text(), b"")
+
+    def image(self, sides):
+        """The image on a surface, and how many pixels were written."""
+        if sides not in self.images:
+            image = self.steps.image(sides)
+            self.images[sides] = shown(image, *sides), image.writes
+        return self.images[sides]
+
+    def show(self, sides):
+        """The answer of `show`."""
+        refusal = self.certified(sides)[1]
+        return refused(*refusal) if refusal else self.image(sides)[0]
+
+    def list(self):
+        """The answer of `list`, which tells the run on a surface of one pixel: of headers no fault is told."""
+        refusal = self.certified((1, 1))[1]
+        stop = refusal[::-1] if refusal and refusal[1] is not None else None
+        text, has_ended = listing.listing(self.file, stop)
+        return Answer(0 if has_ended else 1, text, b"")
+
+    def checked(self, data):
+        """What a certificate says, or none, and the first refusal, if there is one."""
+        if self.refusal:
+            return None, self.refusal
+        try:
+            certificate = read_certificate(data)
+        except Refused as refusal:
+            return None, (text_of(refusal), None)
+        certifier, stop = self.certified(certificate[:2])
+        return certificate, refusal_of(certificate, certifier, stop, len(self.steps.read))
+
+    def check(self, data):
+        """The answer of `check`."""
+        certificate, refusal = self.checked(data)
+        if refusal:
+            return refused_report(*refusal)
+        names = ["depth", "slots", "edges", "pieces"]
+        members = {"needs": dict(zip(names, certificate[3:7], strict=True)), "writes": certificate.writes, "accepted": True}
+        members |= {"max": certificate[:2], "drawings": len(certificate.entries), "records": len(self.steps.read)}
+        noted = self.steps.notes
+        members |= {"format": self.steps.opened.format, "frame": self.steps.opened.frame, "notes": {note: noted.count(note) for note in noted}}
+        return report(0, members)
+
+    def over(self, data, text):
+        """The answer of `over`."""
+        certificate, refusal = self.checked(data)
+        if refusal:
+            return refused(*refusal)
+        found = read_image(text)
+        if found is None:
+            return refused("BadImage")
+        sides, before = found
+        if any(side > most for side, most in zip(sides, certificate[:2], strict=True)):
+            return refused("SurfaceTooLarge")
+        image = self.steps.image(sides, before)
+        assert image.writes <= certificate.writes
+        return shown(image, *sides)
+
+    def play(self, data, sides):
+        """The answer of `play`."""
+        certificate, refusal = self.checked(data)
+        if refusal:
+            return refused(*refusal)
+        if any(side > most for side, most in zip(sides, certificate[:2], strict=True)):
+            return refused("SurfaceTooLarge")
+        answered, writes = self.image(sides)
+        assert writes <= certificate.writes
+        return answered
