@@ -5,7 +5,7 @@ use Rattle.std.proofs.lemmas.List.{drop-drop, length-append, length-drop, get_or
 use Rattle.mapping.specs.declared.geometry.Colour.{Colour}
 use Rattle.mapping.specs.Pixels.{count_indexes, is_cell}
 use Rattle.canvas.specs.CanvasState.{CanvasState, HasPixel}
-use Rattle.canvas.specs.Writing.{Repaints, in_cells, in_span, is_at}
+use Rattle.canvas.specs.Writing.{Repaints, in_cells, in_row_span, is_at}
 use Rattle.canvas.proofs.IndexLemmas.{count_all, count_same}
 use Rattle.canvas.proofs.SpanLemmas.{IsPart, fits, span_from, wrote_part}
 use borrow.Rule.Slice.PartMut.{post_of}
@@ -59,7 +59,7 @@ module _ (y from to place k : ℕ) (f : ℕ → ℕ → Colour → Colour) (was 
 
     pub wrote :
         (t : ℕ → ℕ → Bool)
-        → ((x row : ℕ) → t x row ≡ true → in_span y from to x row ≡ true)
+        → ((x row : ℕ) → t x row ≡ true → in_row_span y from to x row ≡ true)
         → ((j : ℕ) (d : Colour) → j < to - from → get_or made j d ≡ cond (t (from + j) y) (f (from + j) y (get_or lent (place + j) d)) (get_or lent (place + j) d))
         → (length (take place lent ++ (made ++ post_of place k lent)) ≡ length lent → new.colours ≡ take place lent ++ (made ++ post_of place k lent))
         → new.writes ≡ was.writes + count_indexes (λ j. t (from + j) y) 0 (to - from)
@@ -73,7 +73,7 @@ module _ (y from to place k : ℕ) (f : ℕ → ℕ → Colour → Colour) (was 
         writes w fi r m)
 
     -- every pixel of the span is written
-    spanned : (j : ℕ) → j < to - from → in_span y from to (from + j) y ≡ true
+    spanned : (j : ℕ) → j < to - from → in_row_span y from to (from + j) y ≡ true
     spanned j h = span_from y from to (from + j) y refl (omega arith) (omega arith)
 
     pub wrote_span :
@@ -81,12 +81,12 @@ module _ (y from to place k : ℕ) (f : ℕ → ℕ → Colour → Colour) (was 
         → (length (take place lent ++ (made ++ post_of place k lent)) ≡ length lent → new.colours ≡ take place lent ++ (made ++ post_of place k lent))
         → new.writes ≡ was.writes + (to - from)
         → new.width ≡ was.width → new.first ≡ was.first → new.rows ≡ was.rows → new.most ≡ was.most
-        → Repaints (in_span y from to) f old new
+        → Repaints (in_row_span y from to) f old new
     wrote_span each colours writes w fi r m =
-        wrote (in_span y from to) (λ x row h. h)
+        wrote (in_row_span y from to) (λ x row h. h)
         (λ j d h. each j d h ∙ sym (cond-true _ (f (from + j) y (get_or lent (place + j) d)) (get_or lent (place + j) d) (spanned j h)))
         colours
-        (writes ∙ ap (λ (n : ℕ). was.writes + n) (sym (count_all (λ j. in_span y from to (from + j) y) 0 (to - from) (λ j a b. spanned j (omega arith)))))
+        (writes ∙ ap (λ (n : ℕ). was.writes + n) (sym (count_all (λ j. in_row_span y from to (from + j) y) 0 (to - from) (λ j a b. spanned j (omega arith)))))
         w fi r m
 
 -- a helper was lent the part, and each of its colours is what f makes of it
@@ -99,7 +99,7 @@ pub helped_span :
     → (length (take place lent ++ (made ++ post_of place k lent)) ≡ length lent → new.colours ≡ take place lent ++ (made ++ post_of place k lent))
     → new.writes ≡ was.writes + (to - from)
     → new.width ≡ was.width → new.first ≡ was.first → new.rows ≡ was.rows → new.most ≡ was.most
-    → Repaints (in_span y from to) f old new
+    → Repaints (in_row_span y from to) f old new
 helped_span y from to place k f was old new lent made same part borrowed whole at count kept each =
     let within = part_fits y from to was old same part whole in
     let room : place + k ≤ length lent = omega (arith, at, count, ap length borrowed, within) in
@@ -123,10 +123,10 @@ helped_cells y from to place k cells count g was old new lent made same part bor
     let within = part_fits y from to was old same part whole in
     let room : place + k ≤ length lent = omega (arith, at, counted, ap length borrowed, within) in
     let long = length_part place k lent room in
-    let spanned : (j : ℕ) → j < to - from → in_span y from to (from + j) y ≡ true = λ j h. span_from y from to (from + j) y refl (omega arith) (omega arith) in
+    let spanned : (j : ℕ) → j < to - from → in_row_span y from to (from + j) y ≡ true = λ j h. span_from y from to (from + j) y refl (omega arith) (omega arith) in
     wrote y from to place k (λ column row x. g x) was old new lent made same part borrowed whole at counted (kept ∙ long ∙ counted)
     (in_cells y from to cells)
-    (λ x row h. (and_parts (in_span y from to x row) (is_cell cells x) h).0)
+    (λ x row h. (and_parts (in_row_span y from to x row) (is_cell cells x) h).0)
     (λ j d h. rw (spanned j h, ← part_at place k lent j d (omega arith)) (each j d (omega (arith, long, counted))))
     colours
     (writes ∙ ap (λ (n : ℕ). was.writes + n) (number ∙ ap (λ (n : ℕ). count_indexes (λ j. is_cell cells (from + j)) 0 n) (long ∙ counted) ∙ count_same (λ j. is_cell cells (from + j)) (λ j. in_cells y from to cells (from + j) y) 0 (to - from) (λ j a b. rw (spanned j (omega arith)) refl)))
@@ -140,7 +140,7 @@ module _ (x y : ℕ) (f : ℕ → ℕ → Colour → Colour) (was old new : Canv
   one_column : PartOf was y x (x + 1)
   one_column = column_part was x y held_was
 
-  at_parts : (column row : ℕ) → is_at x y column row ≡ true → in_span y x (x + 1) column row ≡ true
+  at_parts : (column row : ℕ) → is_at x y column row ≡ true → in_row_span y x (x + 1) column row ≡ true
   at_parts column row h =
       let parts = and_parts (eqb column x) (eqb row y) h in
       let c = eqb-true column x parts.0 in

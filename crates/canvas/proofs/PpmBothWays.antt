@@ -11,7 +11,7 @@ use Rattle.mapping.specs.declared.geometry.Colour.{Colour}
 use Rattle.mapping.specs.Image.{Image}
 use Rattle.mapping.specs.Limits.{IsSurfaceSide, is_surface_side}
 use Rattle.canvas.specs.Ppm.{raster, ppm_text}
-use Rattle.canvas.specs.PpmReading.{AreItems, IsGap, Writes, IsPpm, is_white, ends_line, is_in_gap, behind_gap, behind_digits, number_at, number_of, colours_at, ends_head, has_head, has_image, begins_ppm, pixels_of, read_ppm, width_text, height_text, most_text, space_text}
+use Rattle.canvas.specs.PpmReading.{AreItems, IsGap, WritesNumber, IsPpm, is_white, ends_line, is_in_gap, behind_gap, behind_digits, front_number, number_of_digits, colours_at, ends_head, has_head, has_image, begins_ppm, pixels_of, read_ppm, width_text, height_text, most_text, space_text}
 use Rattle.canvas.specs.PpmReading.AreItems.{no_item, white_item, comment_item}
 use Rattle.canvas.specs.PpmLaws.{IsSurfaceImage, PpmLaws}
 use Rattle.canvas.proofs.PpmLawLemmas.{OneLine, white_in_gap, white_no_comment, white_no_digit, gap_no_digit, comment_goes_on, comment_ends, reads_number, gap_begins, length-raster, colours_back, length-colours_at, samples_back}
@@ -25,11 +25,11 @@ digits_of_text (b ∷ text) = go (digits_of_text text) (is_ascii_digit b) refl
     go others true e = rw (take_while-cons is_ascii_digit b text, e) (e, others)
     go others false e = rw (take_while-cons is_ascii_digit b text, e) tt
 
-no_digits_zero : (text : List ℕ) → 1 ≤ number_at text → 1 ≤ length (take_while is_ascii_digit text)
+no_digits_zero : (text : List ℕ) → 1 ≤ front_number text → 1 ≤ length (take_while is_ascii_digit text)
 no_digits_zero text h = go (take_while is_ascii_digit text) refl
   where
     go : (ds : List ℕ) → take_while is_ascii_digit text ≡ ds → 1 ≤ length ds
-    go [] e = absurd (omega (arith, h, ap number_of e))
+    go [] e = absurd (omega (arith, h, ap number_of_digits e))
     go (d ∷ ds) e = omega arith
 
 drop_one : (n b : ℕ) (text : List ℕ) → drop (1 + n) (b ∷ text) ≡ drop n text
@@ -110,9 +110,9 @@ record Said (text : List ℕ) : Type 0 where
   digits : List ℕ
   is : text ≡ gap ++ (digits ++ behind_digits (behind_gap false text))
   gapped : IsGap gap
-  writes : Writes digits (number_at (behind_gap false text))
+  writes : WritesNumber digits (front_number (behind_gap false text))
 
-said : (text : List ℕ) → is_ascii_digit (get_or text 0 0) ≡ false → 1 ≤ number_at (behind_gap false text) → Said text
+said : (text : List ℕ) → is_ascii_digit (get_or text 0 0) ≡ false → 1 ≤ front_number (behind_gap false text) → Said text
 said text first number =
     let at = behind_gap false text in
     let digits = take_while is_ascii_digit at in
@@ -155,18 +155,18 @@ to_read text image p =
     let h = reads_number p.second_gap p.height t3 image.height p.gap_second p.high (gap_no_digit (get_or t3 0 0) (gap_begins p.third_gap (p.most ++ t4) p.gap_third)) in
     let m = reads_number p.third_gap p.most t4 255 p.gap_third p.greatest (white_no_digit p.space p.white) in
     let first : drop 2 text ≡ p.first_gap ++ (p.width ++ t2) = ap (λ (t : List ℕ). drop 2 t) p.is in
-    let wn : number_at (width_text text) ≡ image.width = ap (λ (t : List ℕ). number_at (behind_gap false t)) first ∙ w.value in
+    let wn : front_number (width_text text) ≡ image.width = ap (λ (t : List ℕ). front_number (behind_gap false t)) first ∙ w.value in
     let second : behind_digits (width_text text) ≡ t2 = ap (λ (t : List ℕ). behind_digits (behind_gap false t)) first ∙ w.behind in
-    let hn : number_at (height_text text) ≡ image.height = ap (λ (t : List ℕ). number_at (behind_gap false t)) second ∙ h.value in
+    let hn : front_number (height_text text) ≡ image.height = ap (λ (t : List ℕ). front_number (behind_gap false t)) second ∙ h.value in
     let third : behind_digits (height_text text) ≡ t3 = ap (λ (t : List ℕ). behind_digits (behind_gap false t)) second ∙ h.behind in
-    let mn : number_at (most_text text) ≡ 255 = ap (λ (t : List ℕ). number_at (behind_gap false t)) third ∙ m.value in
+    let mn : front_number (most_text text) ≡ 255 = ap (λ (t : List ℕ). front_number (behind_gap false t)) third ∙ m.value in
     let fourth : space_text text ≡ t4 = ap (λ (t : List ℕ). behind_digits (behind_gap false t)) third ∙ m.behind in
     let samples : drop 1 (space_text text) ≡ raster image.colours ++ p.behind = ap (λ (t : List ℕ). drop 1 t) fourth in
-    let count : pixels_of text ≡ length image.colours = ap (λ n. n * number_at (width_text text)) hn ∙ ap (λ n. image.height * n) wn ∙ sym p.whole in
+    let count : pixels_of text ≡ length image.colours = ap (λ n. n * front_number (width_text text)) hn ∙ ap (λ n. image.height * n) wn ∙ sym p.whole in
     let begins : begins_ppm text ≡ true = ap begins_ppm p.is ∙ gap_begins p.first_gap (p.width ++ t2) p.gap_first in
-    let wide : is_surface_side (number_at (width_text text)) ≡ true = ap is_surface_side wn ∙ side_passes image.width p.wide_side in
-    let high : is_surface_side (number_at (height_text text)) ≡ true = ap is_surface_side hn ∙ side_passes image.height p.high_side in
-    let most : (number_at (most_text text) == 255) ≡ true = ap (λ n. n == 255) mn in
+    let wide : is_surface_side (front_number (width_text text)) ≡ true = ap is_surface_side wn ∙ side_passes image.width p.wide_side in
+    let high : is_surface_side (front_number (height_text text)) ≡ true = ap is_surface_side hn ∙ side_passes image.height p.high_side in
+    let most : (front_number (most_text text) == 255) ≡ true = ap (λ n. n == 255) mn in
     let white : is_white (get_or (space_text text) 0 0) ≡ true = ap (λ (t : List ℕ). is_white (get_or t 0 0)) fourth ∙ p.white in
     let long : 3 * pixels_of text ≤ length (drop 1 (space_text text)) =
     omega (arith, count, ap length samples, length-append (raster image.colours) p.behind, length-raster image.colours) in
@@ -187,20 +187,20 @@ first_white (a ∷ text) e = refl
 
 -- the image that is read
 abbrev image_in : List ℕ → Image
-image_in text = record { width = number_at (width_text text); height = number_at (height_text text); colours = colours_at (pixels_of text) (drop 1 (space_text text)) }
+image_in text = record { width = front_number (width_text text); height = front_number (height_text text); colours = colours_at (pixels_of text) (drop 1 (space_text text)) }
 
 said_image : (text : List ℕ) → has_image text ≡ true → IsPpm text (image_in text)
 said_image text e =
     let all = and_parts (has_head text) (leb (3 * pixels_of text) (length (drop 1 (space_text text)))) e in
-    let head = and_parts (begins_ppm text) (ends_head (number_at (width_text text)) (number_at (height_text text)) (number_at (most_text text)) (space_text text)) all.0 in
-    let white = and_parts (is_surface_side (number_at (width_text text)) && is_surface_side (number_at (height_text text)) && (number_at (most_text text) == 255)) (is_white (get_or (space_text text) 0 0)) head.1 in
-    let most = and_parts (is_surface_side (number_at (width_text text)) && is_surface_side (number_at (height_text text))) (number_at (most_text text) == 255) white.0 in
-    let sides = and_parts (is_surface_side (number_at (width_text text))) (is_surface_side (number_at (height_text text))) most.0 in
+    let head = and_parts (begins_ppm text) (ends_head (front_number (width_text text)) (front_number (height_text text)) (front_number (most_text text)) (space_text text)) all.0 in
+    let white = and_parts (is_surface_side (front_number (width_text text)) && is_surface_side (front_number (height_text text)) && (front_number (most_text text) == 255)) (is_white (get_or (space_text text) 0 0)) head.1 in
+    let most = and_parts (is_surface_side (front_number (width_text text)) && is_surface_side (front_number (height_text text))) (front_number (most_text text) == 255) white.0 in
+    let sides = and_parts (is_surface_side (front_number (width_text text))) (is_surface_side (front_number (height_text text))) most.0 in
     let gap = and_parts ((get_or text 0 0 == 80) && (get_or text 1 0 == 54)) (is_in_gap false (get_or text 2 0)) head.0 in
     let magic = and_parts (get_or text 0 0 == 80) (get_or text 1 0 == 54) gap.0 in
-    let wide_side = side_is (number_at (width_text text)) sides.0 in
-    let high_side = side_is (number_at (height_text text)) sides.1 in
-    let greatest : number_at (most_text text) ≡ 255 = eqb-true (number_at (most_text text)) 255 most.1 in
+    let wide_side = side_is (front_number (width_text text)) sides.0 in
+    let high_side = side_is (front_number (height_text text)) sides.1 in
+    let greatest : front_number (most_text text) ≡ 255 = eqb-true (front_number (most_text text)) 255 most.1 in
     let first : is_ascii_digit (get_or (drop 2 text) 0 0) ≡ false = ap is_ascii_digit (get_or-drop 2 text 0 0) ∙ gap_no_digit (get_or text 2 0) gap.1 in
     let s1 = said (drop 2 text) first wide_side.not_empty in
     let s2 = said (behind_digits (width_text text)) (no_digit_behind (width_text text)) high_side.not_empty in
@@ -226,7 +226,7 @@ said_image text e =
       gap_third = s3.gapped;
       wide = s1.writes;
       high = s2.writes;
-      greatest = subst (λ (n : ℕ). Writes s3.digits n) greatest s3.writes;
+      greatest = subst (λ (n : ℕ). WritesNumber s3.digits n) greatest s3.writes;
       white = white.1;
       wide_side = wide_side;
       high_side = high_side;
@@ -246,10 +246,10 @@ from_read text image e = go (has_image text) refl
     go false h = absurd (true≢false (ap is_some (sym e) ∙ ap is_some (cond-false (has_image text) (Some (image_in text)) None h)))
 
 -- decimal digits write their number
-own : IsNumeralModel (λ ds. AllByRecursion (λ byte. is_ascii_digit byte ≡ true) ds) number_of
+own : IsNumeralModel (λ ds. AllByRecursion (λ byte. is_ascii_digit byte ≡ true) ds) number_of_digits
 own = numerals_by_fold _ (search rules) (λ n ds. fold (λ number digit. number * 10 + (digit - 48)) n ds) (search rules)
 
-decimal_writes : (n : ℕ) → n < 2 ^ 64 → Writes (decimal n) n
+decimal_writes : (n : ℕ) → n < 2 ^ 64 → WritesNumber (decimal n) n
 decimal_writes n h = record { each = digits_decimal own n h; some = decimal_nonempty n h; value = sym (digits_value-decimal own n h) }
 
 one_byte : (byte : ℕ) → is_white byte ≡ true → IsGap (byte ∷ [])

@@ -5,7 +5,7 @@ use Rattle.std.specs.Char.{is_ascii_digit}
 use Rattle.std.proofs.lemmas.List.{append_assoc, drop-drop}
 use Rattle.mapping.specs.declared.geometry.Colour.{Colour}
 use Rattle.canvas.specs.Ppm.{raster}
-use Rattle.canvas.specs.PpmReading.{AreItems, IsGap, Writes, is_white, ends_line, is_in_gap, is_in_comment, behind_gap, behind_digits, number_at, number_of, colours_at}
+use Rattle.canvas.specs.PpmReading.{AreItems, IsGap, WritesNumber, is_white, ends_line, is_in_gap, is_in_comment, behind_gap, behind_digits, front_number, number_of_digits, colours_at}
 use Rattle.canvas.specs.PpmReading.AreItems.{no_item, white_item, comment_item}
 
 abbrev pub Digits : List ℕ → Type 0
@@ -69,15 +69,15 @@ take_front (b ∷ front) rest = ap (λ r. b ∷ r) (take_front front rest)
 
 -- a gap and a number are read
 pub record Read (text rest : List ℕ) (number : ℕ) : Type 0 where
-  pub value : number_at (behind_gap false text) ≡ number
+  pub value : front_number (behind_gap false text) ≡ number
   pub behind : behind_digits (behind_gap false text) ≡ rest
 
-pub reads_number : (gap digits rest : List ℕ) (number : ℕ) → IsGap gap → Writes digits number → is_ascii_digit (get_or rest 0 0) ≡ false → Read (gap ++ (digits ++ rest)) rest number
+pub reads_number : (gap digits rest : List ℕ) (number : ℕ) → IsGap gap → WritesNumber digits number → is_ascii_digit (get_or rest 0 0) ≡ false → Read (gap ++ (digits ++ rest)) rest number
 reads_number gap digits rest number g w e =
     let at : behind_gap false (gap ++ (digits ++ rest)) ≡ digits ++ rest = skips gap (digits ++ rest) g.items ∙ stops digits rest w.each w.some in
     let long = digits_long digits rest w.each e in
     record {
-      value = ap number_at at ∙ ap (λ n. number_of (take n (digits ++ rest))) long ∙ ap number_of (take_front digits rest) ∙ sym w.value;
+      value = ap front_number at ∙ ap (λ n. number_of_digits (take n (digits ++ rest))) long ∙ ap number_of_digits (take_front digits rest) ∙ sym w.value;
       behind = ap behind_digits at ∙ ap (λ n. drop n (digits ++ rest)) long ∙ drop_front digits rest;
     }
 

@@ -5,7 +5,7 @@ use Rattle.std.proofs.lemmas.List.{get_or-drop, drop-drop}
 use Rattle.mapping.specs.declared.geometry.Colour.{Colour}
 use Rattle.mapping.specs.Limits.{is_surface_side}
 use Rattle.canvas.specs.PpmHead.{IsHeadOf, IsNumberAt}
-use Rattle.canvas.specs.PpmReading.{begins_ppm, behind_gap, colours_at, ends_head, has_head, height_text, is_white, most_text, number_at, space_text, width_text}
+use Rattle.canvas.specs.PpmReading.{begins_ppm, behind_gap, colours_at, ends_head, has_head, height_text, is_white, most_text, front_number, space_text, width_text}
 use Rattle.canvas.specs.declared.reading.NumberRead.{NumberRead}
 use Rattle.canvas.specs.declared.reading.PpmHead.{PpmHead}
 
@@ -87,12 +87,12 @@ module _ (text : List ℕ) (w h m : NumberRead)
 
   pub head_tests : begins_ppm text ≡ true → has_head text ≡ ends_head w.value h.value m.value (drop m.end text)
   head_tests begins =
-      let a : is_surface_side (number_at (width_text text)) ≡ is_surface_side w.value = sym (ap is_surface_side first.value ∙ capped_side (number_at (width_text text))) in
-      let b : is_surface_side (number_at (height_text text)) ≡ is_surface_side h.value = sym (ap is_surface_side high.value ∙ capped_side (number_at (height_text text))) in
-      let c : (number_at (most_text text) == 255) ≡ (m.value == 255) = sym (ap (λ n. n == 255) most.value ∙ capped_most (number_at (most_text text))) in
-      ap (λ t. t && ends_head (number_at (width_text text)) (number_at (height_text text)) (number_at (most_text text)) (space_text text)) begins
-      ∙ ap (λ t. t && is_surface_side (number_at (height_text text)) && number_at (most_text text) == 255 && is_white (get_or (space_text text) 0 0)) a
-      ∙ ap (λ t. is_surface_side w.value && t && number_at (most_text text) == 255 && is_white (get_or (space_text text) 0 0)) b
+      let a : is_surface_side (front_number (width_text text)) ≡ is_surface_side w.value = sym (ap is_surface_side first.value ∙ capped_side (front_number (width_text text))) in
+      let b : is_surface_side (front_number (height_text text)) ≡ is_surface_side h.value = sym (ap is_surface_side high.value ∙ capped_side (front_number (height_text text))) in
+      let c : (front_number (most_text text) == 255) ≡ (m.value == 255) = sym (ap (λ n. n == 255) most.value ∙ capped_most (front_number (most_text text))) in
+      ap (λ t. t && ends_head (front_number (width_text text)) (front_number (height_text text)) (front_number (most_text text)) (space_text text)) begins
+      ∙ ap (λ t. t && is_surface_side (front_number (height_text text)) && front_number (most_text text) == 255 && is_white (get_or (space_text text) 0 0)) a
+      ∙ ap (λ t. is_surface_side w.value && t && front_number (most_text text) == 255 && is_white (get_or (space_text text) 0 0)) b
       ∙ ap (λ t. is_surface_side w.value && is_surface_side h.value && t && is_white (get_or (space_text text) 0 0)) c
       ∙ ap (λ (t : List ℕ). ends_head w.value h.value m.value t) (sym most.behind)
 

@@ -6,17 +6,17 @@ use Rattle.std.proofs.lemmas.Nat.{div-add-mod', div-mul-add, mod-mul-add, row_fi
 use Rattle.mapping.specs.declared.geometry.Colour.{Colour}
 use Rattle.mapping.specs.Pixels.{count_indexes, count_pixels, repainted}
 use Rattle.canvas.specs.CanvasState.{CanvasState}
-use Rattle.canvas.specs.Writing.{Repaints, in_span}
+use Rattle.canvas.specs.Writing.{Repaints, in_row_span}
 use Rattle.canvas.proofs.IndexLemmas.{count-append, count_none, count_same, count_shift, get_or-map_indexed, length-map_indexed}
 
 -- what it is to be in a span
-pub span_parts : (y from to column row : ℕ) → in_span y from to column row ≡ true → (row ≡ y) × (from ≤ column) × (column < to)
+pub span_parts : (y from to column row : ℕ) → in_row_span y from to column row ≡ true → (row ≡ y) × (from ≤ column) × (column < to)
 span_parts y from to column row h =
     let outer = and_parts (eqb row y && leb from column) (ltb column to) h in
     let inner = and_parts (eqb row y) (leb from column) outer.0 in
     (eqb-true row y inner.0, leb-true from column inner.1, ltb-true column to outer.1)
 
-pub span_from : (y from to column row : ℕ) → row ≡ y → from ≤ column → column < to → in_span y from to column row ≡ true
+pub span_from : (y from to column row : ℕ) → row ≡ y → from ≤ column → column < to → in_row_span y from to column row ≡ true
 span_from y from to column row e a b = and_from _ _ (and_from _ _ (eq-eqb row y e) (le-leb from column a)) (lt-ltb column to b)
 
 -- a part of row y of the rows from `first` on: from column `from` on, with so many columns
@@ -39,7 +39,7 @@ module _ (width first rows y from to : ℕ) (part : IsPart width first rows y fr
       omega (arith, row_fits (y - first) width rows width r (omega arith))
 
   -- an index before the part, or behind it, is that of a pixel outside the span
-  outside : (i : ℕ) → (start ≤ i → i < start + (to - from) → ⊥) → in_span y from to (i % width) (first + i / width) ≡ false
+  outside : (i : ℕ) → (start ≤ i → i < start + (to - from) → ⊥) → in_row_span y from to (i % width) (first + i / width) ≡ false
   outside i not_within =
       false_from_ne_true _ (λ h.
       let parts = span_parts y from to (i % width) (first + i / width) h in
@@ -63,7 +63,7 @@ module _ (width first rows y from to : ℕ) (part : IsPart width first rows y fr
       let q : (start + k) / width ≡ y - first = rw e (div-mul-add (y - first) width (from + k) (omega arith)) in
       omega (arith, q)
 
-  module _ (t : ℕ → ℕ → Bool) (inside : (x row : ℕ) → t x row ≡ true → in_span y from to x row ≡ true) where
+  module _ (t : ℕ → ℕ → Bool) (inside : (x row : ℕ) → t x row ≡ true → in_row_span y from to x row ≡ true) where
     -- the test at an index of the list of colours, and what becomes of the colour there
     abbrev at : ℕ → Bool
     at i = t (i % width) (first + i / width)
@@ -156,7 +156,7 @@ module _ (width first rows y from to : ℕ) (part : IsPart width first rows y fr
 pub wrote_part :
     (y from to : ℕ) (t : ℕ → ℕ → Bool) (f : ℕ → ℕ → Colour → Colour) (old new : CanvasState) (made : List Colour)
     → (part : IsPart old.width old.first old.rows y from to)
-    → ((x row : ℕ) → t x row ≡ true → in_span y from to x row ≡ true)
+    → ((x row : ℕ) → t x row ≡ true → in_row_span y from to x row ≡ true)
     → length old.colours ≡ old.rows * old.width
     → length made ≡ to - from
     → ((k : ℕ) (d : Colour) → k < to - from → get_or made k d ≡ cond (t (from + k) y) (f (from + k) y (get_or old.colours (start old.width old.first old.rows y from to part + k) d)) (get_or old.colours (start old.width old.first old.rows y from to part + k) d))

@@ -4,7 +4,7 @@ use Rattle.std.proofs.lemmas.Bool.{true≢false}
 use Rattle.std.proofs.lemmas.Nat.{mod_below, div_below}
 use Rattle.mapping.specs.declared.geometry.Colour.{Colour}
 use Rattle.canvas.specs.CanvasState.{CanvasState, HasPixel, HasRow}
-use Rattle.canvas.specs.Writing.{Repaints, in_span}
+use Rattle.canvas.specs.Writing.{Repaints, in_row_span}
 use Rattle.canvas.specs.WritingLaws.{IsWhole, PassesNone, SameTest, SameWhere, WritingLaws}
 use Rattle.canvas.proofs.IndexLemmas.{length-map_indexed, map_indexed_same, map_indexed_none, map_indexed_both, count_same, count_none, count_all, count_most, count_either}
 use Rattle.canvas.proofs.SpanLemmas.{IsPart, count_part, span_from}
@@ -72,11 +72,11 @@ both t u f old between new whole apart r s =
       most = s.most ∙ r.most;
     }
 
-span : (y from to : ℕ) (f : ℕ → ℕ → Colour → Colour) (old new : CanvasState) → IsWhole old → HasRow old y → from ≤ to → to ≤ old.width → Repaints (in_span y from to) f old new → new.writes ≡ old.writes + (to - from)
+span : (y from to : ℕ) (f : ℕ → ℕ → Colour → Colour) (old new : CanvasState) → IsWhole old → HasRow old y → from ≤ to → to ≤ old.width → Repaints (in_row_span y from to) f old new → new.writes ≡ old.writes + (to - from)
 span y from to f old new whole row order within r =
     let part : IsPart old.width old.first old.rows y from to = record { order = order; within = within; from_first = row.from_first; to_last = row.to_last } in
-    let counted = count_part old.width old.first old.rows y from to part (in_span y from to) (λ x row h. h) in
-    let all = count_all (λ k. in_span y from to (from + k) y) 0 (to - from) (λ k a b. span_from y from to (from + k) y refl (omega arith) (omega arith)) in
+    let counted = count_part old.width old.first old.rows y from to part (in_row_span y from to) (λ x row h. h) in
+    let all = count_all (λ k. in_row_span y from to (from + k) y) 0 (to - from) (λ k a b. span_from y from to (from + k) y refl (omega arith) (omega arith)) in
     r.writes ∙ ap (λ (n : ℕ). old.writes + n) (counted ∙ all)
 
 bounded : (t : ℕ → ℕ → Bool) (f : ℕ → ℕ → Colour → Colour) (old new : CanvasState) → Repaints t f old new → new.writes ≤ old.writes + old.rows * old.width

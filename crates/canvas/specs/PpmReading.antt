@@ -33,14 +33,14 @@ pub record IsGap (gap : List ℕ) : Type 0 where
   pub some : 1 ≤ length gap
 
 -- the number that digits write, the first of them the highest
-abbrev pub number_of : List ℕ → ℕ
-number_of digits = fold (λ number digit. number * 10 + (digit - 48)) 0 digits
+abbrev pub number_of_digits : List ℕ → ℕ
+number_of_digits digits = fold (λ number digit. number * 10 + (digit - 48)) 0 digits
 
 -- one decimal digit or more, which write a number: leading zeros may be among them
-pub record Writes (digits : List ℕ) (number : ℕ) : Type 0 where
+pub record WritesNumber (digits : List ℕ) (number : ℕ) : Type 0 where
   pub each : AllByRecursion (λ byte. is_ascii_digit byte ≡ true) digits
   pub some : 1 ≤ length digits
-  pub value : number ≡ number_of digits
+  pub value : number ≡ number_of_digits digits
 
 -- the text is this image's: the magic number, the two sides and the greatest value of a sample, which is 255, with gaps
 -- between them, one white space byte, the raster, and then anything
@@ -58,9 +58,9 @@ pub record IsPpm (text : List ℕ) (image : Image) : Type 0 where
   pub gap_first : IsGap first_gap
   pub gap_second : IsGap second_gap
   pub gap_third : IsGap third_gap
-  pub wide : Writes width image.width
-  pub high : Writes height image.height
-  pub greatest : Writes most 255
+  pub wide : WritesNumber width image.width
+  pub high : WritesNumber height image.height
+  pub greatest : WritesNumber most 255
   pub white : is_white space ≡ true
   pub wide_side : IsSurfaceSide image.width
   pub high_side : IsSurfaceSide image.height
@@ -84,8 +84,8 @@ abbrev pub behind_digits : List ℕ → List ℕ
 behind_digits text = drop (prefix_len is_ascii_digit text) text
 
 -- the number that the digits at the front write: 0 where there are none
-abbrev pub number_at : List ℕ → ℕ
-number_at text = number_of (take_while is_ascii_digit text)
+abbrev pub front_number : List ℕ → ℕ
+front_number text = number_of_digits (take_while is_ascii_digit text)
 
 -- the text from the width on, from the height on, from the greatest value on, and behind it
 abbrev pub width_text : List ℕ → List ℕ
@@ -112,11 +112,11 @@ ends_head width height most behind = is_surface_side width && is_surface_side he
 -- the text begins with the header of an image
 abbrev pub has_head : List ℕ → Bool
 has_head text =
-    begins_ppm text && ends_head (number_at (width_text text)) (number_at (height_text text)) (number_at (most_text text)) (space_text text)
+    begins_ppm text && ends_head (front_number (width_text text)) (front_number (height_text text)) (front_number (most_text text)) (space_text text)
 
 -- how many pixels the sides say
 abbrev pub pixels_of : List ℕ → ℕ
-pixels_of text = number_at (height_text text) * number_at (width_text text)
+pixels_of text = front_number (height_text text) * front_number (width_text text)
 
 -- there is a header, and behind it three samples for each pixel
 abbrev pub has_image : List ℕ → Bool
@@ -131,7 +131,7 @@ colours_at (suc count) text = record { r = slice_index text 0; g = slice_index t
 abbrev pub read_ppm : List ℕ → Option Image
 read_ppm text =
     if has_image text then Some record {
-      width = number_at (width_text text);
-      height = number_at (height_text text);
+      width = front_number (width_text text);
+      height = front_number (height_text text);
       colours = colours_at (pixels_of text) (drop 1 (space_text text));
     } else None

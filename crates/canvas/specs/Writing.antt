@@ -21,16 +21,16 @@ abbrev pub is_at : ℕ → ℕ → ℕ → ℕ → Bool
 is_at x y column row = column == x && row == y
 
 -- the pixels of row y in the columns from `from` on, up to and without `to`
-abbrev pub in_span : ℕ → ℕ → ℕ → ℕ → ℕ → Bool
-in_span y from to column row = row == y && nat_le from column && nat_lt column to
+abbrev pub in_row_span : ℕ → ℕ → ℕ → ℕ → ℕ → Bool
+in_row_span y from to column row = row == y && nat_le from column && nat_lt column to
 
 -- the pixels of the span whose column x has bit x % 8 of `cells` set
 abbrev pub in_cells : ℕ → ℕ → ℕ → ℕ → ℕ → ℕ → Bool
-in_cells y from to cells column row = in_span y from to column row && is_cell cells column
+in_cells y from to cells column row = in_row_span y from to column row && is_cell cells column
 
 -- the pixels of row y from a column on, as many as there are colours
 abbrev pub in_row : ℕ → ℕ → List Colour → ℕ → ℕ → Bool
-in_row y from colours column row = in_span y from (from + length colours) column row
+in_row y from colours column row = in_row_span y from (from + length colours) column row
 
 -- the colour that stands for a pixel's column in eight that repeat
 abbrev pub put_by_pattern : List Colour → ℕ → ℕ → Colour → Colour

@@ -2,7 +2,7 @@
 use Rattle.std.specs.Prelude.{◌≡◌, ℕ, ◌+◌, ◌-◌, ◌*◌, ◌≤◌, Bool, true, false, ◌&&◌, ◌||◌, length}
 use Rattle.mapping.specs.declared.geometry.Colour.{Colour}
 use Rattle.canvas.specs.CanvasState.{CanvasState, HasPixel, HasRow}
-use Rattle.canvas.specs.Writing.{Repaints, in_span}
+use Rattle.canvas.specs.Writing.{Repaints, in_row_span}
 
 -- a canvas has columns, and a colour for each pixel held
 pub record IsWhole (canvas : CanvasState) : Type 0 where
@@ -37,7 +37,7 @@ pub record WritingLaws : Type 0 where
       → Repaints (λ x y. t x y || u x y) f old new
   pub span :
       (y from to : ℕ) (f : ℕ → ℕ → Colour → Colour) (old new : CanvasState) → IsWhole old
-      → HasRow old y → from ≤ to → to ≤ old.width → Repaints (in_span y from to) f old new
+      → HasRow old y → from ≤ to → to ≤ old.width → Repaints (in_row_span y from to) f old new
       → new.writes ≡ old.writes + (to - from)
   pub bounded :
       (t : ℕ → ℕ → Bool) (f : ℕ → ℕ → Colour → Colour) (old new : CanvasState) → Repaints t f old new

@@ -4,7 +4,7 @@ ghost use Rattle.std.specs.Prelude.{◌≡◌, ◌+◌, ◌*◌, ◌<◌, ◌≤
 ghost use Rattle.std.specs.List.{prefix_len};
 ghost use Rattle.mapping.specs.Limits.{is_surface_side};
 ghost use Rattle.std.specs.Char.{is_ascii_digit};
-ghost use Rattle.canvas.specs.PpmReading.{is_white, is_in_gap, is_in_comment, behind_gap, number_of, begins_ppm, ends_head, has_head, colours_at};
+ghost use Rattle.canvas.specs.PpmReading.{is_white, is_in_gap, is_in_comment, behind_gap, number_of_digits, begins_ppm, ends_head, has_head, colours_at};
 ghost use Rattle.canvas.specs.PpmHead.{IsNumberAt, IsHeadOf};
 
 use mapping::Colour;
@@ -141,7 +141,7 @@ fn digits_end(bytes: &[u8], from: usize) -> usize
 
 /// The number that the digits write, or `TOO_HIGH` if it is higher.
 fn value_of(digits: &[u8]) -> u32
-    ensures { result ≡ min (number_of digits.now) 9999 }
+    ensures { result ≡ min (number_of_digits digits.now) 9999 }
 {
     let mut value = 0;
     for digit in digits {

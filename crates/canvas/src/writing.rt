@@ -3,7 +3,7 @@
 ghost use Rattle.std.specs.Prelude.{◌≡◌, ◌+◌, ◌-◌, ◌<◌, ◌≤◌, ◌^◌, length};
 ghost use Rattle.mapping.specs.Mixes.{mixed_by};
 ghost use Rattle.canvas.specs.CanvasState.{HasPixel, HasRow};
-ghost use Rattle.canvas.specs.Writing.{Repaints, in_cells, in_row, in_span, is_at, mixed_by_row, put_by_pattern, put_by_row};
+ghost use Rattle.canvas.specs.Writing.{Repaints, in_cells, in_row, in_row_span, is_at, mixed_by_row, put_by_pattern, put_by_row};
 
 use crate::parts::{fill_with, fill_with_pattern, mix_all, mix_cells_of, mix_each};
 use crate::surface::{Canvas, place};
@@ -16,7 +16,7 @@ impl Canvas {
         requires width { x_to ≤ self.old.width }
         requires row { HasRow self.old y }
         requires countable { self.old.writes + (x_to - x_from) < 2 ^ 64 }
-        ensures pixels { Repaints (in_span y x_from x_to) (λ column row old. colour) self.old self.new }
+        ensures pixels { Repaints (in_row_span y x_from x_to) (λ column row old. colour) self.old self.new }
         ensures count { self.new.writes ≡ self.old.writes + (x_to - x_from) }
     {
         let start = place(self.width, y - self.first, x_from);
@@ -32,7 +32,7 @@ impl Canvas {
         requires width { x_to ≤ self.old.width }
         requires row { HasRow self.old y }
         requires countable { self.old.writes + (x_to - x_from) < 2 ^ 64 }
-        ensures pixels { Repaints (in_span y x_from x_to) (put_by_pattern pattern.now) self.old self.new }
+        ensures pixels { Repaints (in_row_span y x_from x_to) (put_by_pattern pattern.now) self.old self.new }
         ensures count { self.new.writes ≡ self.old.writes + (x_to - x_from) }
     {
         let start = place(self.width, y - self.first, x_from);
@@ -61,7 +61,7 @@ impl Canvas {
         requires width { x_to ≤ self.old.width }
         requires row { HasRow self.old y }
         requires countable { self.old.writes + (x_to - x_from) < 2 ^ 64 }
-        ensures pixels { Repaints (in_span y x_from x_to) (λ column row old. mixed_by mix old) self.old self.new }
+        ensures pixels { Repaints (in_row_span y x_from x_to) (λ column row old. mixed_by mix old) self.old self.new }
         ensures count { self.new.writes ≡ self.old.writes + (x_to - x_from) }
     {
         let start = place(self.width, y - self.first, x_from);

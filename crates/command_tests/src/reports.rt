@@ -2,7 +2,7 @@
 
 use crate::comparing::same;
 use canvas::WriteFault;
-use commands::{Answer, CommandEnd, InputFault, no_input, report};
+use commands::{CommandEnd, Completion, InputFault, no_input, report};
 use draw_ops::{Fault, RecordFault};
 use preflight_cert::Refusal;
 use std::alloc::{AllocError, Global};
@@ -26,7 +26,11 @@ fn an_input_that_fails_is_reported_in_one_line(rt: HostRuntime) -> Result<(), Fa
     ];
     for (fault, end, status, text) in cases {
         let mut err = Vec::new(rt.alloc());
-        same(&rt, no_input(fault, &mut err), Answer { end, told: Ok(()) });
+        same(
+            &rt,
+            no_input(fault, &mut err),
+            Completion { end, told: Ok(()) },
+        );
         same(&rt, end.status(), status);
         same(&rt, err.as_slice(), text);
     }

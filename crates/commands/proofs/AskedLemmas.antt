@@ -5,7 +5,7 @@ use Rattle.clap.specs.Words.{Row, Text}
 use Rattle.clap.specs.Simple.{subcommand_rows}
 use Rattle.clap.specs.declared.parser.matches.SubCommand.{SubCommand}
 use Rattle.clap.specs.declared.parser.matches.ArgMatches.TheViews.{out-SubCommand}
-use Rattle.commands.specs.CommandLine.{AllowsShow, Gives, IsAskedBy, IsRightShow, command_name}
+use Rattle.commands.specs.CommandLine.{AllowsShow, HoldsWords, IsAskedBy, IsRightShow, command_name}
 use Rattle.commands.specs.declared.asked.CommandLine.{CommandLine}
 
 module _ {Z : Type 0} where
@@ -23,7 +23,7 @@ module _ {Z : Type 0} where
 
   -- a line of that name and of these rows is asked for
   pub asked_by : (met : Option (Box SubCommand Z)) (name : Text) (given : List Row) (r : Option CommandLine) → name_met met ≡ Some name → rows_met met ≡ Some given
-      → IfSome r (λ line. command_name line ≡ name) → IfSome r (Gives given) → IfSome r (IsAskedBy (subcommand_rows met))
+      → IfSome r (λ line. command_name line ≡ name) → IfSome r (HoldsWords given) → IfSome r (IsAskedBy (subcommand_rows met))
   asked_by met name given None named rows same gives = tt
   asked_by met name given (Some line) named rows same gives = record {
     given = given;

@@ -8,8 +8,8 @@ use Rattle.preflight_cert.specs.declared.refusal.Refusal.{Refusal}
 use Rattle.commands.specs.Ends.{IsDoneBy, IsRefusedBy, TellsBy, TellsRefusal, TellsRefused, WritesBy, WritesRefused, WritesText}
 use Rattle.commands.specs.Failures.{Fails, IsFailureOf, TellsEnding, ending_of}
 use Rattle.commands.specs.Tasks.{Task}
-use Rattle.commands.specs.declared.answer.Answer.{Answer}
-use Rattle.commands.specs.declared.answer.CommandEnd.TheVariants as end
+use Rattle.commands.specs.declared.command_end.Completion.{Completion}
+use Rattle.commands.specs.declared.command_end.CommandEnd.TheVariants as end
 use Rattle.commands.specs.declared.failure.Failure.{Failure}
 use Rattle.commands.specs.declared.failure.Failure.TheVariants.{CannotWrite, OutOfMemory, Refused}
 
@@ -19,7 +19,7 @@ kept (Some xs) = refl
 
 -- what is written is what the reason says
 pub written_by :
-    (task : Task) (done : Result ⊤ Failure) (a : Answer) (old new : Option (List ℕ)) → a.end ≡ ending_of done → OnOk done (WritesText (IsDoneBy task) old new)
+    (task : Task) (done : Result ⊤ Failure) (a : Completion) (old new : Option (List ℕ)) → a.end ≡ ending_of done → OnOk done (WritesText (IsDoneBy task) old new)
     → IfErr done (λ failure. Fails task failure old new) → WritesBy a.end task old new
 written_by task (Ok u) a old new e done failed = rw e done
 written_by task (Err (Refused r)) a old new e done failed = rw e failed.1
@@ -28,7 +28,7 @@ written_by task (Err OutOfMemory) a old new e done failed = rw e failed
 
 -- and so is what is told
 pub told_by :
-    (task : Task) (done : Result ⊤ Failure) (a : Answer) (old new held now : Option (List ℕ)) → a.end ≡ ending_of done
+    (task : Task) (done : Result ⊤ Failure) (a : Completion) (old new held now : Option (List ℕ)) → a.end ≡ ending_of done
     → IfErr done (λ failure. Fails task failure old new) → TellsEnding done a.told held now
     → (TellsRefusal task a.told held now → TellsRefused task a.told held now) → TellsBy a.end task a.told held now
 told_by task (Ok u) a old new held now e failed tells refused = rw e tells
@@ -38,7 +38,7 @@ told_by task (Err OutOfMemory) a old new held now e failed tells refused = rw e 
 
 -- what holds where memory was refused
 pub holds_by :
-    (done : Result ⊤ Failure) (a : Answer) (P : Type 0) → a.end ≡ ending_of done → IfErr done (λ failure. failure ≡ OutOfMemory → P)
+    (done : Result ⊤ Failure) (a : Completion) (P : Type 0) → a.end ≡ ending_of done → IfErr done (λ failure. failure ≡ OutOfMemory → P)
     → a.end ≡ end.OutOfMemory → P
 holds_by (Ok u) a P e h memory = cc
 holds_by (Err (Refused r)) a P e h memory = cc

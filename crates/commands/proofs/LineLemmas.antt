@@ -5,11 +5,11 @@ use Rattle.clap.specs.Words.{Text}
 use Rattle.commands.specs.CommandLine.{IsAskedByWords}
 use Rattle.commands.specs.Ends.{TellsBy, WritesBy}
 use Rattle.commands.specs.Lines.{ErrBy, ErrOfSome, ErrOfWords, IsInput, LineWrites, OutBy, OutOfSome, OutOfWords, task_of}
-use Rattle.commands.specs.Faults.{end_of, fault_text}
+use Rattle.commands.specs.Faults.{input_end, fault_text}
 use Rattle.commands.specs.Report.{Reports, Told}
 use Rattle.commands.specs.Sides.{HasSides, file_of}
-use Rattle.commands.specs.declared.answer.CommandEnd.{CommandEnd}
-use Rattle.commands.specs.declared.answer.CommandEnd.TheVariants as end
+use Rattle.commands.specs.declared.command_end.CommandEnd.{CommandEnd}
+use Rattle.commands.specs.declared.command_end.CommandEnd.TheVariants as end
 use Rattle.commands.specs.declared.asked.CommandLine.{CommandLine}
 use Rattle.commands.specs.declared.input.InputFault.{InputFault}
 use Rattle.commands.specs.declared.input.InputFault.TheVariants as fault
@@ -42,11 +42,11 @@ module _ (line : CommandLine) (input : Option (List ℕ)) (file certificate imag
   err_of_task end.WrongUsage tells = absurd tells
 
 -- where an input was not read, a line leaves what is told of that
-pub out_unread : (line : CommandLine) (input : Option (List ℕ)) (f : InputFault) (e : CommandEnd) (old new : Option (List ℕ)) → e ≡ end_of f → Keeps old new → OutBy e line input old new
+pub out_unread : (line : CommandLine) (input : Option (List ℕ)) (f : InputFault) (e : CommandEnd) (old new : Option (List ℕ)) → e ≡ input_end f → Keeps old new → OutBy e line input old new
 out_unread line input fault.CannotRead e old new is keeps = rw is keeps
 out_unread line input fault.OutOfMemory e old new is keeps = rw is keeps
 
-pub err_unread : (line : CommandLine) (input : Option (List ℕ)) (f : InputFault) (e : CommandEnd) (told : Told) (old new : Option (List ℕ)) → e ≡ end_of f → Reports told old new (fault_text f) → ErrBy e line input told old new
+pub err_unread : (line : CommandLine) (input : Option (List ℕ)) (f : InputFault) (e : CommandEnd) (told : Told) (old new : Option (List ℕ)) → e ≡ input_end f → Reports told old new (fault_text f) → ErrBy e line input told old new
 err_unread line input fault.CannotRead e told old new is reports = rw is reports
 err_unread line input fault.OutOfMemory e told old new is reports = rw is reports
 

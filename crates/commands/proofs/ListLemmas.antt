@@ -4,8 +4,8 @@ use Rattle.dc_stack.specs.State.{start_of}
 use Rattle.draw_ops.specs.declared.fault.Fault.TheVariants.{OutOfMemory}
 use Rattle.draw_ops.specs.declared.record_fault.RecordFault.{RecordFault}
 use Rattle.listing.specs.Listing.{listed_of, listing_of}
-use Rattle.listing.specs.declared.listed.Listed.{Listed}
-use Rattle.listing.specs.declared.listed.Listed.TheVariants.{Broken, Ended}
+use Rattle.listing.specs.declared.listing_end.ListingEnd.{ListingEnd}
+use Rattle.listing.specs.declared.listing_end.ListingEnd.TheVariants.{Broken, Ended}
 use Rattle.meta_headers.specs.Opening.{surface_for}
 use Rattle.player.specs.Plays.{RunsFile, WantsMemory}
 use Rattle.preflight_cert.specs.Apply.{image_after}
@@ -16,7 +16,7 @@ use Rattle.commands.specs.Listings.{IsListing, Lists, StopsAtOnePixel, stop_in}
 
 module _ (file : List ℕ) (stop : Option (ℕ × RecordFault)) (stops : StopsAtOnePixel file stop) where
   -- by how the records end
-  by_end : (listed : Listed) → listed ≡ listed_of file → IsListing file (listing_of stop file)
+  by_end : (listed : ListingEnd) → listed ≡ listed_of file → IsListing file (listing_of stop file)
   by_end Ended end = inl (record { stop = stop; stops = stops; end = end; told = refl })
   by_end Broken end = inr (record { stop = stop; stops = stops; end = end; told = refl })
 
@@ -25,7 +25,7 @@ module _ (file : List ℕ) (stop : Option (ℕ × RecordFault)) (stops : StopsAt
   is_listing = by_end (listed_of file) refl
 
   -- and in this one
-  pub lists : (listed : Listed) → listed ≡ listed_of file → Lists file listed (listing_of stop file)
+  pub lists : (listed : ListingEnd) → listed ≡ listed_of file → Lists file listed (listing_of stop file)
   lists listed end = record { stop = stop; stops = stops; end = end; told = refl }
 
 -- a run that doesn't stop shows an image, and stops in no record

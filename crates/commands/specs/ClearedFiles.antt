@@ -35,7 +35,7 @@ abbrev pub Leaves : Cleared → ℕ → ℕ → Image → Image → Type 0
 Leaves cleared width height start image = (file : List ℕ) → IsOpenedFrom file cleared.opened → Run file width height start (shown image)
 
 -- a side is above the certificate's bound, and that is the fault
-pub record IsAboveBound (c : Certificate) (width height : ℕ) (fault : Fault) : Type 0 where
+pub record IsFaultAboveBound (c : Certificate) (width height : ℕ) (fault : Fault) : Type 0 where
   pub larger : c.max_width < width ⊎ c.max_height < height
   pub is : fault ≡ SurfaceTooLarge
 
@@ -52,7 +52,7 @@ pub record WritesPlayedFront (cleared : Cleared) (width height : ℕ) (old new :
 -- the surface is above the bound, and nothing was written
 pub record RefusesToPlay (cleared : Cleared) (width height : ℕ) (r : Refusal) (old new : Option (List ℕ)) : Type 0 where
   pub number : r.number ≡ None
-  pub above : IsAboveBound cleared.certificate width height r.fault
+  pub above : IsFaultAboveBound cleared.certificate width height r.fault
   pub kept : Keeps old new
 
 module _ {W : Type 0} where
@@ -70,4 +70,4 @@ module _ {W : Type 0} where
 
 -- the fault for which a surface isn't played on
 abbrev pub RefusesSurface : Certificate → ℕ → ℕ → Fault → Type 0
-RefusesSurface c width height fault = IsAboveBound c width height fault ⊎ fault ≡ OutOfMemory
+RefusesSurface c width height fault = IsFaultAboveBound c width height fault ⊎ fault ≡ OutOfMemory

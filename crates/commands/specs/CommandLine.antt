@@ -99,22 +99,22 @@ command_name (Over file certificate image) = codes "over"
 command_name (ListLine file) = codes "list"
 
 -- a line has the names and the numbers that were given
-abbrev pub Gives : List Row → CommandLine → Type 0
-Gives given (Show file width height) = GivesName given (codes "FILE") file.now × GivesSides given width height
-Gives given (Prepare file width height output) =
+abbrev pub HoldsWords : List Row → CommandLine → Type 0
+HoldsWords given (Show file width height) = GivesName given (codes "FILE") file.now × GivesSides given width height
+HoldsWords given (Prepare file width height output) =
     GivesName given (codes "FILE") file.now × GivesSides given width height × GivesName given (codes "OUT") output.now
-Gives given (Check file certificate) = GivesName given (codes "FILE") file.now × GivesName given (codes "CERT") certificate.now
-Gives given (Play file certificate width height bands) =
+HoldsWords given (Check file certificate) = GivesName given (codes "FILE") file.now × GivesName given (codes "CERT") certificate.now
+HoldsWords given (Play file certificate width height bands) =
     GivesName given (codes "FILE") file.now × GivesName given (codes "CERT") certificate.now × GivesSides given width height × GivesBands given bands
-Gives given (Over file certificate image) =
+HoldsWords given (Over file certificate image) =
     GivesName given (codes "FILE") file.now × GivesName given (codes "CERT") certificate.now × GivesName given (codes "IMAGE") image.now
-Gives given (ListLine file) = GivesName given (codes "FILE") file.now
+HoldsWords given (ListLine file) = GivesName given (codes "FILE") file.now
 
 -- the command that was met is the line's, and was given what the line has
 pub record IsAskedBy (met : Option (Text × List Row)) (line : CommandLine) : Type 0 where
   pub given : List Row
   pub command : met ≡ Some (command_name line, given)
-  pub gives : Gives given line
+  pub gives : HoldsWords given line
 
 -- the line has what the words, the program's name first, give its command
 abbrev pub IsAskedByWords : List Text → CommandLine → Type 0

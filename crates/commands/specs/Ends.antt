@@ -15,10 +15,10 @@ use Rattle.commands.specs.Images.{IsPlayedOverText, IsPlayedText, RefusesOver, R
 use Rattle.commands.specs.Listings.{IsListing, Lists}
 use Rattle.commands.specs.Report.{Reports, Told}
 use Rattle.commands.specs.Tasks.{Task, check, list, over, play, prepare, show}
-use Rattle.listing.specs.declared.listed.Listed.TheVariants.{Broken, Ended}
-use Rattle.commands.specs.declared.answer.Answer.{Answer}
-use Rattle.commands.specs.declared.answer.CommandEnd.{CommandEnd}
-use Rattle.commands.specs.declared.answer.CommandEnd.TheVariants as end
+use Rattle.listing.specs.declared.listing_end.ListingEnd.TheVariants.{Broken, Ended}
+use Rattle.commands.specs.declared.command_end.Completion.{Completion}
+use Rattle.commands.specs.declared.command_end.CommandEnd.{CommandEnd}
+use Rattle.commands.specs.declared.command_end.CommandEnd.TheVariants as end
 
 -- the file opens: its headers have no fault
 abbrev pub Opens : List ℕ → Type 0
@@ -100,8 +100,8 @@ TellsBy end.CannotRead task told old new = ⊥
 
 module _ {W : Type 0} where
   -- the same, of a writer that holds these bytes
-  abbrev pub Writes : Task → Answer → (W → Option (List ℕ)) → W → W → Type 0
+  abbrev pub Writes : Task → Completion → (W → Option (List ℕ)) → W → W → Type 0
   Writes task answer contents old new = WritesBy answer.end task (contents old) (contents new)
 
-  abbrev pub Tells : Task → Answer → (W → Option (List ℕ)) → W → W → Type 0
+  abbrev pub Tells : Task → Completion → (W → Option (List ℕ)) → W → W → Type 0
   Tells task answer contents old new = TellsBy answer.end task answer.told (contents old) (contents new)

@@ -7,8 +7,8 @@ use Rattle.preflight_cert.specs.declared.refusal.Refusal.{Refusal}
 use Rattle.commands.specs.Ends.{IsRefusedBy, IsTextOf, WritesFront, WritesRefused}
 use Rattle.commands.specs.Report.{Reports, Told}
 use Rattle.commands.specs.Tasks.{Task}
-use Rattle.commands.specs.declared.answer.CommandEnd.{CommandEnd}
-use Rattle.commands.specs.declared.answer.CommandEnd.TheVariants as end
+use Rattle.commands.specs.declared.command_end.CommandEnd.{CommandEnd}
+use Rattle.commands.specs.declared.command_end.CommandEnd.TheVariants as end
 use Rattle.commands.specs.declared.failure.Failure.{Failure}
 use Rattle.commands.specs.declared.failure.Failure.TheVariants.{CannotWrite, OutOfMemory, Refused}
 

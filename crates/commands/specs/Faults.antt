@@ -1,7 +1,7 @@
 -- What is told of an input that was not read, and how a command ends then.
 use Rattle.std.specs.Prelude.{ℕ, List, codes}
-use Rattle.commands.specs.declared.answer.CommandEnd.{CommandEnd}
-use Rattle.commands.specs.declared.answer.CommandEnd.TheVariants as end
+use Rattle.commands.specs.declared.command_end.CommandEnd.{CommandEnd}
+use Rattle.commands.specs.declared.command_end.CommandEnd.TheVariants as end
 use Rattle.commands.specs.declared.input.InputFault.{InputFault}
 use Rattle.commands.specs.declared.input.InputFault.TheVariants.{CannotRead, OutOfMemory}
 
@@ -11,6 +11,6 @@ fault_text CannotRead = codes "cannot read"
 fault_text OutOfMemory = codes "OutOfMemory"
 
 -- how a command ends that lacks an input
-abbrev pub end_of : InputFault → CommandEnd
-end_of CannotRead = end.CannotRead
-end_of OutOfMemory = end.OutOfMemory
+abbrev pub input_end : InputFault → CommandEnd
+input_end CannotRead = end.CannotRead
+input_end OutOfMemory = end.OutOfMemory

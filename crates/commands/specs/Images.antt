@@ -35,7 +35,7 @@ pub record IsPlayedText (file certificate : List ℕ) (width height : ℕ) (star
   pub is_text : text ≡ ppm_text image
 
 -- the certificate is accepted for the file, and the surface is above its bound
-pub record IsTooLarge (file certificate : List ℕ) (width height : ℕ) (number : Option ℕ) (fault : Fault) : Type 0 where
+pub record IsRefusedAsTooLarge (file certificate : List ℕ) (width height : ℕ) (number : Option ℕ) (fault : Fault) : Type 0 where
   pub accepted : IsAnswer file certificate accepted
   pub excluded : Excludes certificate width height
   pub in_none : number ≡ None
@@ -44,7 +44,7 @@ pub record IsTooLarge (file certificate : List ℕ) (width height : ℕ) (number
 -- The check refuses, or else the surface is above the certificate's bound.
 abbrev pub RefusesPlay : List ℕ → List ℕ → ℕ → ℕ → Option ℕ → Fault → Type 0
 RefusesPlay file certificate width height number fault =
-    IsAnswer file certificate (refuses number fault) ⊎ IsTooLarge file certificate width height number fault
+    IsAnswer file certificate (refuses number fault) ⊎ IsRefusedAsTooLarge file certificate width height number fault
 
 -- The bytes of an image are one, and the file is played over it, at its size.
 pub record IsPlayedOver (file certificate bytes : List ℕ) (image : Image) : Type 0 where
@@ -69,7 +69,7 @@ pub record IsNoImage (file certificate bytes : List ℕ) (number : Option ℕ) (
 pub record IsTooLargeImage (file certificate bytes : List ℕ) (number : Option ℕ) (fault : Fault) : Type 0 where
   pub start : Image
   pub read : read_ppm bytes ≡ Some start
-  pub larger : IsTooLarge file certificate start.width start.height number fault
+  pub larger : IsRefusedAsTooLarge file certificate start.width start.height number fault
 
 -- The check refuses, or else the bytes are no image, or else that is above the certificate's bound.
 abbrev pub RefusesOver : List ℕ → List ℕ → List ℕ → Option ℕ → Fault → Type 0

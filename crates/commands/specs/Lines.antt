@@ -8,9 +8,9 @@ use Rattle.commands.specs.Ends.{TellsBy, WritesBy}
 use Rattle.commands.specs.Report.{Reports, Told}
 use Rattle.commands.specs.Sides.{HoldsOfSome, file_of}
 use Rattle.commands.specs.Tasks.{Task, check, list, over, play, prepare, show}
-use Rattle.commands.specs.declared.answer.Answer.{Answer}
-use Rattle.commands.specs.declared.answer.CommandEnd.{CommandEnd}
-use Rattle.commands.specs.declared.answer.CommandEnd.TheVariants as end
+use Rattle.commands.specs.declared.command_end.Completion.{Completion}
+use Rattle.commands.specs.declared.command_end.CommandEnd.{CommandEnd}
+use Rattle.commands.specs.declared.command_end.CommandEnd.TheVariants as end
 use Rattle.commands.specs.declared.asked.CommandLine.{CommandLine}
 use Rattle.commands.specs.declared.asked.CommandLine.TheVariants.{Check, List as ListLine, Over, Play, Prepare, Show}
 use Rattle.commands.specs.declared.inputs.Inputs.{Inputs}
@@ -96,34 +96,34 @@ ErrOfSome end input told old new = HoldsOfSome (λ line. ErrBy end line input to
 
 module _ {W : Type 0} where
   -- what a task, a line, words or some words have written to a writer that holds these bytes
-  abbrev pub TaskWrites : CommandLine → Inputs → Answer → (W → Option (List ℕ)) → W → W → Type 0
+  abbrev pub TaskWrites : CommandLine → Inputs → Completion → (W → Option (List ℕ)) → W → W → Type 0
   TaskWrites line inputs answer contents old new =
       LineWrites line (task_of line inputs.file.items inputs.certificate.items inputs.image.items) answer.end (contents old) (contents new)
 
-  abbrev pub WritesLine : CommandLine → Option (List ℕ) → Answer → (W → Option (List ℕ)) → W → W → Type 0
+  abbrev pub WritesLine : CommandLine → Option (List ℕ) → Completion → (W → Option (List ℕ)) → W → W → Type 0
   WritesLine line input answer contents old new = OutBy answer.end line input (contents old) (contents new)
 
-  abbrev pub WritesAsked : List (String Global) → Option (List ℕ) → Answer → (W → Option (List ℕ)) → W → W → Type 0
+  abbrev pub WritesAsked : List (String Global) → Option (List ℕ) → Completion → (W → Option (List ℕ)) → W → W → Type 0
   WritesAsked words input answer contents old new = OutOfWords answer.end (map string_bytes words) input (contents old) (contents new)
 
-  abbrev pub WritesSome : Option (List ℕ) → Answer → (W → Option (List ℕ)) → W → W → Type 0
+  abbrev pub WritesSome : Option (List ℕ) → Completion → (W → Option (List ℕ)) → W → W → Type 0
   WritesSome input answer contents old new = OutOfSome answer.end input (contents old) (contents new)
 
   -- and what they have told on one
-  abbrev pub TaskTells : CommandLine → Inputs → Answer → (W → Option (List ℕ)) → W → W → Type 0
+  abbrev pub TaskTells : CommandLine → Inputs → Completion → (W → Option (List ℕ)) → W → W → Type 0
   TaskTells line inputs answer contents old new =
       TellsBy answer.end (task_of line inputs.file.items inputs.certificate.items inputs.image.items) answer.told (contents old) (contents new)
 
-  abbrev pub TellsLine : CommandLine → Option (List ℕ) → Answer → (W → Option (List ℕ)) → W → W → Type 0
+  abbrev pub TellsLine : CommandLine → Option (List ℕ) → Completion → (W → Option (List ℕ)) → W → W → Type 0
   TellsLine line input answer contents old new = ErrBy answer.end line input answer.told (contents old) (contents new)
 
-  abbrev pub TellsAsked : List (String Global) → Option (List ℕ) → Answer → (W → Option (List ℕ)) → W → W → Type 0
+  abbrev pub TellsAsked : List (String Global) → Option (List ℕ) → Completion → (W → Option (List ℕ)) → W → W → Type 0
   TellsAsked words input answer contents old new =
       ErrOfWords answer.end (map string_bytes words) input answer.told (contents old) (contents new)
 
-  abbrev pub TellsSome : Option (List ℕ) → Answer → (W → Option (List ℕ)) → W → W → Type 0
+  abbrev pub TellsSome : Option (List ℕ) → Completion → (W → Option (List ℕ)) → W → W → Type 0
   TellsSome input answer contents old new = ErrOfSome answer.end input answer.told (contents old) (contents new)
 
   -- that memory was refused
-  abbrev pub TellsMemory : Answer → (W → Option (List ℕ)) → W → W → Type 0
+  abbrev pub TellsMemory : Completion → (W → Option (List ℕ)) → W → W → Type 0
   TellsMemory answer contents old new = Reports answer.told (contents old) (contents new) (codes "OutOfMemory")

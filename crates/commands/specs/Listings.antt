@@ -3,8 +3,8 @@ use Rattle.std.specs.Prelude.{◌≡◌, ◌⊎◌, ℕ, List, Option, Some, Non
 use Rattle.draw_ops.specs.declared.fault.Fault.TheVariants.{Record}
 use Rattle.draw_ops.specs.declared.record_fault.RecordFault.{RecordFault}
 use Rattle.listing.specs.Listing.{listed_of, listing_of}
-use Rattle.listing.specs.declared.listed.Listed.{Listed}
-use Rattle.listing.specs.declared.listed.Listed.TheVariants.{Broken, Ended}
+use Rattle.listing.specs.declared.listing_end.ListingEnd.{ListingEnd}
+use Rattle.listing.specs.declared.listing_end.ListingEnd.TheVariants.{Broken, Ended}
 use Rattle.preflight_cert.specs.Run.{Outcome, Run, refused, shown, white}
 
 -- the fault of a run that lies in a record, with the record's number
@@ -19,7 +19,7 @@ pub record StopsAtOnePixel (file : List ℕ) (stop : Option (ℕ × RecordFault)
   pub is : stop ≡ stop_in outcome
 
 -- a text is the listing of a file whose records end so, with what stops the file's run
-pub record Lists (file : List ℕ) (listed : Listed) (text : List ℕ) : Type 0 where
+pub record Lists (file : List ℕ) (listed : ListingEnd) (text : List ℕ) : Type 0 where
   pub stop : Option (ℕ × RecordFault)
   pub stops : StopsAtOnePixel file stop
   pub end : listed ≡ listed_of file

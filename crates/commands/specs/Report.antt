@@ -5,8 +5,8 @@ use Rattle.canvas.specs.Ppm.{AppendsFront}
 use Rattle.canvas.specs.declared.canvas_error.WriteFault.{WriteFault}
 
 -- the line that tells a text: the program's name, the text and a line feed
-abbrev pub line_of : List ℕ → List ℕ
-line_of text = codes "metaplay: " ++ text ++ codes "\n"
+abbrev pub program_line : List ℕ → List ℕ
+program_line text = codes "metaplay: " ++ text ++ codes "\n"
 
 -- whether what was told went out whole, or the writer failed
 abbrev pub Told : Type 0
@@ -14,5 +14,5 @@ Told = Result ⊤ WriteFault
 
 -- known bytes grow by the line that tells a text, or where the writer failed by a front of it
 abbrev pub Reports : Told → Option (List ℕ) → Option (List ℕ) → List ℕ → Type 0
-Reports (Ok _) old new text = Appends old new (line_of text)
-Reports (Err _) old new text = AppendsFront old new (line_of text)
+Reports (Ok _) old new text = Appends old new (program_line text)
+Reports (Err _) old new text = AppendsFront old new (program_line text)

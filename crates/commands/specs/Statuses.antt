@@ -1,7 +1,7 @@
 -- The statuses of the program.
 use Rattle.std.specs.Prelude.{ℕ}
-use Rattle.commands.specs.declared.answer.CommandEnd.{CommandEnd}
-use Rattle.commands.specs.declared.answer.CommandEnd.TheVariants.{CannotRead, CannotWrite, Done, OutOfMemory, Refused, WrongUsage}
+use Rattle.commands.specs.declared.command_end.CommandEnd.{CommandEnd}
+use Rattle.commands.specs.declared.command_end.CommandEnd.TheVariants.{CannotRead, CannotWrite, Done, OutOfMemory, Refused, WrongUsage}
 
 -- the status of each end
 abbrev pub status_of : CommandEnd → ℕ

@@ -5,8 +5,8 @@ ghost use Rattle.commands.specs.Reported.{IsReportOf};
 ghost use Rattle.commands.specs.Ends.{Tells, Writes};
 ghost use Rattle.commands.specs.Tasks.{check};
 
-use crate::answer::{Answer, CommandEnd};
 use crate::check_report::{accepted_report, refused_report};
+use crate::command_end::{CommandEnd, Completion};
 use crate::reporting::report;
 use crate::writing::write_text;
 use draw_ops::Fault;
@@ -22,32 +22,32 @@ pub fn check_command<O: Write, E: Write>(
     certificate: &[u8],
     out: &mut O,
     err: &mut E,
-) -> Answer
+) -> Completion
     ensures written { Writes (check file.now certificate.now) result O.contents out.old out.new }
     ensures told { Tells (check file.now certificate.now) result E.contents err.old err.new }
 {
     match report_check(alloc, file, certificate) {
         Ok(Report::Accepted(text)) => match write_text(text.as_slice(), out) {
-            Ok(()) => Answer {
+            Ok(()) => Completion {
                 end: CommandEnd::Done,
                 told: Ok(()),
             },
-            Err(_) => Answer {
+            Err(_) => Completion {
                 end: CommandEnd::CannotWrite,
                 told: report(err, "cannot write"),
             },
         },
         Ok(Report::Refused(text)) => match write_text(text.as_slice(), out) {
-            Ok(()) => Answer {
+            Ok(()) => Completion {
                 end: CommandEnd::Refused,
                 told: Ok(()),
             },
-            Err(_) => Answer {
+            Err(_) => Completion {
                 end: CommandEnd::CannotWrite,
                 told: report(err, "cannot write"),
             },
         },
-        Err(AllocError) => Answer {
+        Err(AllocError) => Completion {
             end: CommandEnd::OutOfMemory,
             told: report(err, "OutOfMemory"),
         },

@@ -3,7 +3,7 @@
 ghost use Rattle.std.specs.Prelude.{◌≡◌, IfErr, IfOk, IfSome, IsSome, codes, map, string_bytes};
 ghost use Rattle.clap.specs.Words.{first_of, found_of, kind_of, rows_of, subcommand_rows_of};
 ghost use Rattle.mapping.specs.Limits.{IsSurfaceSide};
-ghost use Rattle.commands.specs.CommandLine.{AllowsShow, AreRightWords, Gives, GivesBands, GivesName, GivesNumber, GivesSide, GivesSides};
+ghost use Rattle.commands.specs.CommandLine.{AllowsShow, AreRightWords, HoldsWords, GivesBands, GivesName, GivesNumber, GivesSide, GivesSides};
 ghost use Rattle.commands.specs.CommandLine.{HasPlainWords, IsAskedBy, IsAskedByWords, IsRightShow, command_name};
 ghost use Rattle.commands.specs.Sides.{AreSides, HasSides};
 
@@ -62,7 +62,7 @@ fn asked<'a>(matches: &ArgMatches<'a>) -> Option<CommandLine<'a>>
 fn asked_show<'a>(given: &ArgMatches<'a>) -> Option<CommandLine<'a>>
     ensures sides { IfSome result HasSides }
     ensures name { IfSome result (λ line. command_name line ≡ codes "show") }
-    ensures gives { IfSome result (Gives (rows_of (found_of given.now))) }
+    ensures gives { IfSome result (HoldsWords (rows_of (found_of given.now))) }
     ensures taken { AllowsShow (rows_of (found_of given.now)) → IsSome result }
 {
     let Some(file) = name_of(given, "FILE") else {
@@ -82,7 +82,7 @@ fn asked_show<'a>(given: &ArgMatches<'a>) -> Option<CommandLine<'a>>
 fn asked_prepare<'a>(given: &ArgMatches<'a>) -> Option<CommandLine<'a>>
     ensures sides { IfSome result HasSides }
     ensures name { IfSome result (λ line. command_name line ≡ codes "prepare") }
-    ensures gives { IfSome result (Gives (rows_of (found_of given.now))) }
+    ensures gives { IfSome result (HoldsWords (rows_of (found_of given.now))) }
 {
     let Some(file) = name_of(given, "FILE") else {
         return None;
@@ -105,7 +105,7 @@ fn asked_prepare<'a>(given: &ArgMatches<'a>) -> Option<CommandLine<'a>>
 fn asked_check<'a>(given: &ArgMatches<'a>) -> Option<CommandLine<'a>>
     ensures sides { IfSome result HasSides }
     ensures name { IfSome result (λ line. command_name line ≡ codes "check") }
-    ensures gives { IfSome result (Gives (rows_of (found_of given.now))) }
+    ensures gives { IfSome result (HoldsWords (rows_of (found_of given.now))) }
 {
     let Some(file) = name_of(given, "FILE") else {
         return None;
@@ -120,7 +120,7 @@ fn asked_check<'a>(given: &ArgMatches<'a>) -> Option<CommandLine<'a>>
 fn asked_play<'a>(given: &ArgMatches<'a>) -> Option<CommandLine<'a>>
     ensures sides { IfSome result HasSides }
     ensures name { IfSome result (λ line. command_name line ≡ codes "play") }
-    ensures gives { IfSome result (Gives (rows_of (found_of given.now))) }
+    ensures gives { IfSome result (HoldsWords (rows_of (found_of given.now))) }
 {
     let Some(file) = name_of(given, "FILE") else {
         return None;
@@ -147,7 +147,7 @@ fn asked_play<'a>(given: &ArgMatches<'a>) -> Option<CommandLine<'a>>
 fn asked_over<'a>(given: &ArgMatches<'a>) -> Option<CommandLine<'a>>
     ensures sides { IfSome result HasSides }
     ensures name { IfSome result (λ line. command_name line ≡ codes "over") }
-    ensures gives { IfSome result (Gives (rows_of (found_of given.now))) }
+    ensures gives { IfSome result (HoldsWords (rows_of (found_of given.now))) }
 {
     let Some(file) = name_of(given, "FILE") else {
         return None;
@@ -169,7 +169,7 @@ fn asked_over<'a>(given: &ArgMatches<'a>) -> Option<CommandLine<'a>>
 fn asked_list<'a>(given: &ArgMatches<'a>) -> Option<CommandLine<'a>>
     ensures sides { IfSome result HasSides }
     ensures name { IfSome result (λ line. command_name line ≡ codes "list") }
-    ensures gives { IfSome result (Gives (rows_of (found_of given.now))) }
+    ensures gives { IfSome result (HoldsWords (rows_of (found_of given.now))) }
 {
     let Some(file) = name_of(given, "FILE") else {
         return None;

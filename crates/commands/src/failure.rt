@@ -3,7 +3,7 @@
 ghost use Rattle.std.specs.Prelude.{◌≡◌};
 ghost use Rattle.commands.specs.Failures.{IsFailureOf, TellsEnding, ending_of};
 
-use crate::answer::{Answer, CommandEnd};
+use crate::command_end::{CommandEnd, Completion};
 use crate::reporting::report;
 use draw_ops::Fault;
 use preflight_cert::Refusal;
@@ -31,24 +31,24 @@ pub(crate) fn failure_of(refusal: Refusal) -> Failure
 }
 
 /// How a command ends, which goes to `err` as one line where it isn't done. A fault of `err` changes no status.
-pub(crate) fn ending<E: Write>(done: Result<(), Failure>, err: &mut E) -> Answer
+pub(crate) fn ending<E: Write>(done: Result<(), Failure>, err: &mut E) -> Completion
     ensures end { result.end ≡ ending_of done }
     ensures told { TellsEnding done result.told (E.contents err.old) (E.contents err.new) }
 {
     match done {
-        Ok(()) => Answer {
+        Ok(()) => Completion {
             end: CommandEnd::Done,
             told: Ok(()),
         },
-        Err(Failure::Refused(refusal)) => Answer {
+        Err(Failure::Refused(refusal)) => Completion {
             end: CommandEnd::Refused,
             told: report(err, refusal),
         },
-        Err(Failure::CannotWrite) => Answer {
+        Err(Failure::CannotWrite) => Completion {
             end: CommandEnd::CannotWrite,
             told: report(err, "cannot write"),
         },
-        Err(Failure::OutOfMemory) => Answer {
+        Err(Failure::OutOfMemory) => Completion {
             end: CommandEnd::OutOfMemory,
             told: report(err, "OutOfMemory"),
         },

@@ -25,10 +25,10 @@
 //!   or a front where the writer failed, which the answer tells (`report`, `run`).
 #![tactic(auto)]
 
-mod answer;
 mod asked;
 mod check;
 mod check_report;
+mod command_end;
 mod command_line;
 mod declared;
 mod failure;
@@ -46,9 +46,9 @@ mod reporting;
 mod show;
 mod writing;
 
-pub use answer::{Answer, CommandEnd};
 pub use asked::CommandLine;
 pub use check::check_command;
+pub use command_end::{CommandEnd, Completion};
 pub use command_line::line;
 pub use input::{InputFault, read_input};
 pub use inputs::read_file;

@@ -6,11 +6,11 @@ ghost use Rattle.commands.specs.Listings.{IsListing, Lists, StopsAtOnePixel, sto
 ghost use Rattle.commands.specs.Tasks.{list};
 ghost use Rattle.preflight_cert.specs.Run.{refused};
 
-use crate::answer::{Answer, CommandEnd};
+use crate::command_end::{CommandEnd, Completion};
 use crate::reporting::report;
 use canvas::{OutOfMemory, WriteFault};
 use draw_ops::{Fault, RecordFault};
-use listing::{Listed, write_listing};
+use listing::{ListingEnd, write_listing};
 use player::look_through;
 use preflight_cert::Refusal;
 use std::alloc::Global;
@@ -23,27 +23,27 @@ pub fn list_command<O: Write, E: Write>(
     file: &[u8],
     out: &mut O,
     err: &mut E,
-) -> Answer
+) -> Completion
     ensures written { Writes (list file.now) result O.contents out.old out.new }
     ensures told { Tells (list file.now) result E.contents err.old err.new }
     ensures memory { result.end ≡ CommandEnd.OutOfMemory → Opens file.now }
 {
     match stop_at_one_pixel(alloc, file) {
         Ok(stop) => match send_listing(file, stop, out) {
-            Ok(Listed::Ended) => Answer {
+            Ok(ListingEnd::Ended) => Completion {
                 end: CommandEnd::Done,
                 told: Ok(()),
             },
-            Ok(Listed::Broken) => Answer {
+            Ok(ListingEnd::Broken) => Completion {
                 end: CommandEnd::Refused,
                 told: Ok(()),
             },
-            Err(_) => Answer {
+            Err(_) => Completion {
                 end: CommandEnd::CannotWrite,
                 told: report(err, "cannot write"),
             },
         },
-        Err(_) => Answer {
+        Err(_) => Completion {
             end: CommandEnd::OutOfMemory,
             told: report(err, "OutOfMemory"),
         },
@@ -84,7 +84,7 @@ fn send_listing<O: Write>(
     file: &[u8],
     stop: Option<(u32, RecordFault)>,
     out: &mut O,
-) -> Result<Listed, WriteFault>
+) -> Result<ListingEnd, WriteFault>
     requires { StopsAtOnePixel file.now stop }
     ensures ok { IfOk result (λ listed. WritesText (Lists file.now listed) (O.contents out.old) (O.contents out.new)) }
     ensures err { OnErr result (WritesFront (IsListing file.now) (O.contents out.old) (O.contents out.new)) }

@@ -9,7 +9,7 @@ ghost use Rattle.commands.specs.Failures.{FailsWith};
 ghost use Rattle.commands.specs.Images.{IsPlayedOver, RefusesOver};
 ghost use Rattle.commands.specs.Tasks.{over};
 
-use crate::answer::Answer;
+use crate::command_end::Completion;
 use crate::failure::{Failure, ending, failure_of};
 use crate::writing::write_image;
 use canvas::{Canvas, ImageError};
@@ -29,7 +29,7 @@ pub fn over_command<O: Write, E: Write>(
     image: &[u8],
     out: &mut O,
     err: &mut E,
-) -> Answer
+) -> Completion
     ensures written { Writes (over file.now certificate.now image.now) result O.contents out.old out.new }
     ensures told { Tells (over file.now certificate.now image.now) result E.contents err.old err.new }
 {

@@ -6,7 +6,7 @@ ghost use Rattle.commands.specs.Ends.{IsDoneBy, Tells, Writes, WritesText};
 ghost use Rattle.commands.specs.Failures.{FailsWith};
 ghost use Rattle.commands.specs.Tasks.{play};
 
-use crate::answer::Answer;
+use crate::command_end::Completion;
 use crate::failure::{Failure, ending, failure_of};
 use crate::playing::write_played;
 use preflight_cert::check;
@@ -25,7 +25,7 @@ pub fn play_command<O: Write, E: Write>(
     bands: Option<u32>,
     out: &mut O,
     err: &mut E,
-) -> Answer
+) -> Completion
     requires wide { IsSurfaceSide width }
     requires high { IsSurfaceSide height }
     requires bands { IfSome bands (λ rows. 1 ≤ rows) }

@@ -6,7 +6,7 @@ ghost use Rattle.commands.specs.Ends.{IsDoneBy, Opens, Tells, Writes, WritesText
 ghost use Rattle.commands.specs.Failures.{FailsWith};
 ghost use Rattle.commands.specs.Tasks.{prepare};
 
-use crate::answer::{Answer, CommandEnd};
+use crate::command_end::{CommandEnd, Completion};
 use crate::failure::{Failure, ending, failure_of};
 use crate::preparing::prepare_file;
 use crate::writing::write_text;
@@ -22,7 +22,7 @@ pub fn prepare_command<O: Write, E: Write>(
     height: u32,
     out: &mut O,
     err: &mut E,
-) -> Answer
+) -> Completion
     requires wide { IsSurfaceSide width }
     requires high { IsSurfaceSide height }
     ensures written { Writes (prepare file.now width height) result O.contents out.old out.new }

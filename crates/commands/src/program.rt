@@ -4,15 +4,15 @@ ghost use Rattle.std.specs.Prelude.{◌≡◌, ◌≢◌, ◌⊎◌, ◌↔◌, 
 ghost use Rattle.std.specs.Io.KnownBytes.{Keeps};
 ghost use Rattle.clap.specs.Words.{kind_of};
 ghost use Rattle.commands.specs.CommandLine.{AreRightWords};
-ghost use Rattle.commands.specs.Faults.{end_of, fault_text};
+ghost use Rattle.commands.specs.Faults.{input_end, fault_text};
 ghost use Rattle.commands.specs.Lines.{TaskTells, TaskWrites, TellsAsked, TellsLine, TellsMemory, TellsSome};
 ghost use Rattle.commands.specs.Lines.{WritesAsked, WritesLine, WritesSome, standard_input};
 ghost use Rattle.commands.specs.Report.{Reports};
 ghost use Rattle.commands.specs.Sides.{HasSides, file_of};
 
-use crate::answer::{Answer, CommandEnd};
 use crate::asked::CommandLine;
 use crate::check::check_command;
+use crate::command_end::{CommandEnd, Completion};
 use crate::command_line::line;
 use crate::input::InputFault;
 use crate::inputs::{Inputs, read_inputs};
@@ -31,7 +31,7 @@ use std::io::{Read, Write};
 use std::rt::{Env, Files};
 
 /// Runs the program.
-pub fn run<R, I, O, E>(rt: &R, input: &mut I, out: &mut O, err: &mut E) -> Answer
+pub fn run<R, I, O, E>(rt: &R, input: &mut I, out: &mut O, err: &mut E) -> Completion
 where
     R: Env + Files + AllocGlobal,
     I: Read,
@@ -43,11 +43,11 @@ where
 {
     match words(rt) {
         Ok(words) => run_words(words.as_slice(), rt, input, out, err),
-        Err(InputFault::OutOfMemory) => Answer {
+        Err(InputFault::OutOfMemory) => Completion {
             end: CommandEnd::OutOfMemory,
             told: report(err, "OutOfMemory"),
         },
-        Err(InputFault::CannotRead) => Answer {
+        Err(InputFault::CannotRead) => Completion {
             end: CommandEnd::WrongUsage,
             told: report(err, "the command line is not UTF-8 text"),
         },
@@ -61,7 +61,7 @@ pub fn run_words<R, I, O, E>(
     input: &mut I,
     out: &mut O,
     err: &mut E,
-) -> Answer
+) -> Completion
 where
     R: Files + AllocGlobal,
     I: Read,
@@ -85,7 +85,7 @@ fn perform<R, I, O, E>(
     input: &mut I,
     out: &mut O,
     err: &mut E,
-) -> Answer
+) -> Completion
 where
     R: Files + AllocGlobal,
     I: Read,
@@ -109,7 +109,7 @@ fn run_task<R: Files + AllocGlobal, O: Write, E: Write>(
     inputs: &Inputs,
     out: &mut O,
     err: &mut E,
-) -> Answer
+) -> Completion
     requires sides { HasSides line }
     ensures written { TaskWrites line.entry inputs.now result O.contents out.old out.new }
     ensures told { TaskTells line.entry inputs.now result E.contents err.old err.new }
@@ -155,8 +155,8 @@ fn words<R: Env + AllocGlobal>(rt: &R) -> Result<Vec<String>, InputFault> {
 }
 
 /// Reports that an input was not read.
-pub fn no_input<E: Write>(fault: InputFault, err: &mut E) -> Answer
-    ensures end { result.end ≡ end_of fault }
+pub fn no_input<E: Write>(fault: InputFault, err: &mut E) -> Completion
+    ensures end { result.end ≡ input_end fault }
     ensures line { Reports result.told (E.contents err.old) (E.contents err.new) (fault_text fault) }
 {
     let told = report(err, fault.text());
@@ -164,11 +164,11 @@ pub fn no_input<E: Write>(fault: InputFault, err: &mut E) -> Answer
         InputFault::CannotRead => CommandEnd::CannotRead,
         InputFault::OutOfMemory => CommandEnd::OutOfMemory,
     };
-    Answer { end, told }
+    Completion { end, told }
 }
 
 /// Shows the usage, or the help that was asked for, where `clap` says.
-pub fn usage<O: Write, E: Write>(error: &clap::Error, out: &mut O, err: &mut E) -> Answer
+pub fn usage<O: Write, E: Write>(error: &clap::Error, out: &mut O, err: &mut E) -> Completion
     ensures memory { result.end ≡ CommandEnd.OutOfMemory ↔ kind_of error.now ≡ ErrorKind.OutOfMemory }
     ensures ends { (result.end ≡ CommandEnd.WrongUsage) ⊎ (result.end ≡ CommandEnd.OutOfMemory) }
     ensures unwritten { result.end ≡ CommandEnd.OutOfMemory → Keeps (O.contents out.old) (O.contents out.new) }
@@ -182,7 +182,7 @@ pub fn usage<O: Write, E: Write>(error: &clap::Error, out: &mut O, err: &mut E) 
     } else {
         write!(out, "{error}")
     };
-    Answer {
+    Completion {
         end: CommandEnd::WrongUsage,
         told: shown.map_err(|_| WriteFault),
     }

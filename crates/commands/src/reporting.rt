@@ -2,7 +2,7 @@
 
 ghost use Rattle.std.specs.Prelude.{◌≡◌, IfSome};
 ghost use Rattle.std.specs.Fmt.InlineText.{inline_text};
-ghost use Rattle.commands.specs.Report.{Reports, line_of};
+ghost use Rattle.commands.specs.Report.{Reports, program_line};
 
 use canvas::{WriteFault, send};
 use std::fmt;
@@ -26,7 +26,7 @@ pub fn report<E: Write, D: Display + Drop>(err: &mut E, text: D) -> Result<(), W
 /// The line that tells a text, if there is room for it. No memory is taken, so that want of memory
 /// can be told.
 fn line<D: Display>(text: &D) -> Option<InlineText<LINE_ROOM>>
-    ensures { IfSome (D.output text.now) (λ shown. IfSome result (λ line. inline_text line ≡ line_of shown)) }
+    ensures { IfSome (D.output text.now) (λ shown. IfSome result (λ line. inline_text line ≡ program_line shown)) }
 {
     let mut line = InlineText::new();
     match fmt::Write::writeln(&mut line, format_args!("metaplay: {text}")) {

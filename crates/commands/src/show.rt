@@ -11,7 +11,7 @@ ghost use Rattle.commands.specs.Ends.{IsDoneBy, Opens, Tells, Writes, WritesText
 ghost use Rattle.commands.specs.Failures.{FailsWith};
 ghost use Rattle.commands.specs.Tasks.{show};
 
-use crate::answer::{Answer, CommandEnd};
+use crate::command_end::{CommandEnd, Completion};
 use crate::failure::{Failure, ending, failure_of};
 use crate::playing::write_within;
 use crate::preparing::prepare_file;
@@ -30,7 +30,7 @@ pub fn show_command<O: Write, E: Write>(
     height: u32,
     out: &mut O,
     err: &mut E,
-) -> Answer
+) -> Completion
     requires wide { IsSurfaceSide width }
     requires high { IsSurfaceSide height }
     ensures written { Writes (show file.now width height) result O.contents out.old out.new }

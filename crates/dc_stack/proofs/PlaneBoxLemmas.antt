@@ -3,7 +3,7 @@ use Rattle.std.proofs.Common.{◌≡◌, Bool, true, false, ◌&&◌, ℤ, ◌�
 use Rattle.std.proofs.lemmas.Int.{ints}
 use Rattle.std.proofs.lemmas.List.Elements.{All-cons, All-nil}
 use Rattle.std.specs.Int.{int_max, int_min}
-use Rattle.mapping.specs.Boxes.{HasPoint, IsBoxOver, IsTight, KeepsBetween, box_at, box_between, far_corner, mapped_by, near_corner}
+use Rattle.mapping.specs.Boxes.{HasPoint, IsBoxOver, IsTight, KeepsBetween, point_box, box_between, far_corner, mapped_by, near_corner}
 use Rattle.mapping.specs.BoxLaws.{BoxLaws}
 use Rattle.mapping.specs.PageMap.{axis_numbers, map_numbers}
 use Rattle.mapping.specs.Plane.{plane_coordinate}
@@ -47,8 +47,8 @@ module _ (laws : BoxLaws) (map : PageMap) (box : Rect) (points : List Point) (ti
 -- the box of two points is their least
 pub pair_tight : BoxLaws → (p q : Point) → IsTight (box_between p q) (p ∷ q ∷ [])
 pair_tight laws p q =
-    let over : IsBoxOver (box_at p) (box_at q) (box_between p q) = record { left = refl; top = refl; right = refl; bottom = refl } in
-    laws.joins (box_at p) (box_at q) (box_between p q) (p ∷ []) (q ∷ []) (laws.single p) (laws.single q) over
+    let over : IsBoxOver (point_box p) (point_box q) (box_between p q) = record { left = refl; top = refl; right = refl; bottom = refl } in
+    laws.joins (point_box p) (point_box q) (box_between p q) (p ∷ []) (q ∷ []) (laws.single p) (laws.single q) over
 
 has_point : (box : Rect) (p : Point) → box.l ≤ℤ p.x → box.t ≤ℤ p.y → p.x ≤ℤ box.r → p.y ≤ℤ box.b → HasPoint box p
 has_point box p left top right bottom = record { left = left; top = top; right = right; bottom = bottom }

@@ -11,7 +11,7 @@ use Rattle.draw_ops.specs.Objects.{BrushValue}
 use Rattle.draw_ops.specs.Operation.{Operation, no_effect, save, restore, set_background_mode, set_map_mode, set_raster_op, set_fill_mode, set_background_colour, set_window_origin, set_window_extent, set_viewport_origin, set_viewport_extent, offset_window_origin, offset_viewport_origin, exclude_clip, intersect_clip, remove_clip, move_to, line_to, pixel, rectangle, polyline, polygon, polyline_to, blit, create, select, select_palette, delete, begin_path, end_path, close_figure, abort_path, fill_path, stroke_path, stroke_and_fill_path}
 use Rattle.dc_stack.specs.Clip.{ClipValue}
 use Rattle.dc_stack.specs.Figures.{Figure, figures_of_lists, points_of_figures}
-use Rattle.dc_stack.specs.Mapped.{far_corner, left_top, mapped_lists, mapped_point, right_bottom}
+use Rattle.dc_stack.specs.Mapped.{opposite_corner, left_top, mapped_lists, mapped_point, right_bottom}
 use Rattle.dc_stack.specs.Path.{figures_to_paint, unless_open}
 use Rattle.dc_stack.specs.State.{DcValue, State}
 use Rattle.dc_stack.specs.declared.draw.Painting.{Painting}
@@ -99,7 +99,7 @@ drawing_of (polygon lists) state = drawing_unless_open (lists_painted StrokeAndF
 drawing_of (polyline_to points) state =
     drawing_unless_open (lists_painted Stroke (mapped_lists state.dc.map (going_on state.dc.position points))) state
 drawing_of (blit asked) state =
-    drawing_now (blit_between (mapped_point state.dc.map asked.corner) (mapped_point state.dc.map (far_corner asked)) asked.table asked.source) state
+    drawing_now (blit_between (mapped_point state.dc.map asked.corner) (mapped_point state.dc.map (opposite_corner asked)) asked.table asked.source) state
 drawing_of (create at object) state = None
 drawing_of (select index) state = None
 drawing_of (select_palette index) state = None

@@ -43,9 +43,9 @@ abbrev pub mapped_corners : MapNumbers → Rect → List Point
 mapped_corners m box = left_top m box ∷ right_bottom m box ∷ []
 
 -- the corner of a blit's box of the page that lies opposite to the one from which it extends
-abbrev pub far_corner : BlitValue → Point
-far_corner asked = record { x = asked.corner.x +ℤ asked.extent.x; y = asked.corner.y +ℤ asked.extent.y }
+abbrev pub opposite_corner : BlitValue → Point
+opposite_corner asked = record { x = asked.corner.x +ℤ asked.extent.x; y = asked.corner.y +ℤ asked.extent.y }
 
 -- the corners of a blit's box, on the plane
 abbrev pub blit_corners : MapNumbers → BlitValue → List Point
-blit_corners m asked = mapped_point m asked.corner ∷ mapped_point m (far_corner asked) ∷ []
+blit_corners m asked = mapped_point m asked.corner ∷ mapped_point m (opposite_corner asked) ∷ []

@@ -11,7 +11,7 @@ use Rattle.draw_ops.specs.declared.record_fault.RecordFault.{RecordFault}
 use Rattle.draw_ops.specs.declared.record_fault.RecordFault.TheVariants.{OffPlane, SourceMissing, SourceOutside, TooManyCuts, TooManyEdges, ZeroExtent}
 use Rattle.draw_ops.specs.Operation.{Operation, no_effect, save, restore, set_background_mode, set_map_mode, set_raster_op, set_fill_mode, set_background_colour, set_window_origin, set_window_extent, set_viewport_origin, set_viewport_extent, offset_window_origin, offset_viewport_origin, exclude_clip, intersect_clip, remove_clip, move_to, line_to, pixel, rectangle, polyline, polygon, polyline_to, blit, create, select, select_palette, delete, begin_path, end_path, close_figure, abort_path, fill_path, stroke_path, stroke_and_fill_path}
 use Rattle.object_tables.specs.Table.{create_fault}
-use Rattle.raster_ops.specs.Sources.{is_inside}
+use Rattle.raster_ops.specs.Sources.{is_source_inside}
 use Rattle.raster_ops.specs.TernaryOps.{uses_source}
 use Rattle.dc_stack.specs.Clip.{ClipValue, cut_limit}
 use Rattle.dc_stack.specs.Drawing.{Drawing, drawing_edges, drawing_of, drawing_points, edge_limit, points_of_lists}
@@ -48,13 +48,13 @@ abbrev painting_fault : Operation → State → Option RecordFault
 painting_fault operation state = option_or (finished_fault state.path) (edges_fault (drawing_of operation state))
 
 -- there is no bitmap, or the rectangle of it that is read has no pixel or doesn't lie inside
-abbrev pub given_fault : Option SourceValue → Option RecordFault
-given_fault None = Some SourceMissing
-given_fault (Some source) = if is_inside source then None else Some SourceOutside
+abbrev pub reading_fault : Option SourceValue → Option RecordFault
+reading_fault None = Some SourceMissing
+reading_fault (Some source) = if is_source_inside source then None else Some SourceOutside
 
 -- the same, where a ternary raster operation depends on the source; others don't look at it
 abbrev pub source_fault : ℕ → Option SourceValue → Option RecordFault
-source_fault table source = if uses_source table then given_fault source else None
+source_fault table source = if uses_source table then reading_fault source else None
 
 -- the fault that doesn't depend on the surface
 abbrev pub plain_fault : Operation → State → Option RecordFault

@@ -10,7 +10,7 @@ ghost use Rattle.point_views.specs.Polys.{lists_of};
 ghost use Rattle.draw_ops.specs.Blits.{blit_value_of};
 ghost use Rattle.dc_stack.specs.Clip.{placed_box};
 ghost use Rattle.dc_stack.specs.Drawing.{edge_limit};
-ghost use Rattle.dc_stack.specs.Mapped.{blit_corners, far_corner, left_top_of, mapped_box, mapped_corners, mapped_point, right_bottom_of};
+ghost use Rattle.dc_stack.specs.Mapped.{blit_corners, opposite_corner, left_top_of, mapped_box, mapped_corners, mapped_point, right_bottom_of};
 ghost use Rattle.dc_stack.specs.OperationFault.{off_plane_fault, points_fault};
 ghost use Rattle.mapping.specs.Boxes.{IsLeastBox};
 ghost use Rattle.dc_stack.specs.Placing.{joined_plane_list, plane_list};
@@ -93,7 +93,7 @@ pub(crate) fn land_blit(
 ) -> Result<(Point, Point), RecordFault>
     ensures fault { result_err result ≡ off_plane_fault (blit_corners (map_numbers map.now) (blit_value_of asked.now)) (surface_of place) }
     ensures first { IfOk result (λ r. r.0 ≡ mapped_point (map_numbers map.now) asked.now.corner) }
-    ensures second { IfOk result (λ r. r.1 ≡ mapped_point (map_numbers map.now) (far_corner (blit_value_of asked.now))) }
+    ensures second { IfOk result (λ r. r.1 ≡ mapped_point (map_numbers map.now) (opposite_corner (blit_value_of asked.now))) }
 {
     let first = match land(map, place, asked.corner) {
         Ok(first) => first,
@@ -108,8 +108,8 @@ pub(crate) fn land_blit(
 
 /// The corner of a blit's box that lies opposite to the one from which it extends.
 fn far_corner(asked: &Blit<'_>) -> WidePoint
-    ensures x { result.x ≡ (far_corner (blit_value_of asked.now)).x }
-    ensures y { result.y ≡ (far_corner (blit_value_of asked.now)).y }
+    ensures x { result.x ≡ (opposite_corner (blit_value_of asked.now)).x }
+    ensures y { result.y ≡ (opposite_corner (blit_value_of asked.now)).y }
 {
     WidePoint {
         x: i64::from(asked.corner.x) + i64::from(asked.extent.x),

@@ -12,13 +12,13 @@ record_kind_of (Record (Unsupported kind)) = Some kind
 record_kind_of _ = None
 
 -- a blank and the kind, where there is one
-abbrev kind_text : Option ℕ → List ℕ
-kind_text None = []
-kind_text (Some kind) = codes " " ++ decimal kind
+abbrev record_kind_text : Option ℕ → List ℕ
+record_kind_text None = []
+record_kind_text (Some kind) = codes " " ++ decimal kind
 
 -- a fault's text: its name, and behind it the record's kind
 abbrev pub text_of : Fault → List ℕ
-text_of fault = (fault_row fault).name ++ kind_text (record_kind_of fault)
+text_of fault = (fault_row fault).name ++ record_kind_text (record_kind_of fault)
 
 -- the fault lies in a record, so a refusal says in which
 abbrev pub IsInRecord : Fault → Type 0

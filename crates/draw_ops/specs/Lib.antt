@@ -33,3 +33,4 @@ pub mod BrushRecords
 pub mod BitmapRecords
 pub mod TableLaws
 pub mod PrefixLaws
+pub mod NumberLaws

@@ -1,6 +1,7 @@
 //! Laws of how bytes are records, and of the tables of faults and notes.
 
 ghost use Rattle.draw_ops.specs.Framed.{FramedByFunction};
+ghost use Rattle.draw_ops.specs.NumberLaws.{StepsAreNumbered};
 ghost use Rattle.draw_ops.specs.PrefixLaws.{FrontsAreCutShort};
 ghost use Rattle.draw_ops.specs.RecordContent.{ContentIsOne};
 ghost use Rattle.draw_ops.specs.Records.{FramedInOneWay};
@@ -18,6 +19,11 @@ pub fn records_law()
 /// Bytes have one content, whatever the framing and the meaning of their records.
 pub fn content_law()
     ensures { ContentIsOne }
+{}
+
+/// The step of record i has number i, whatever the framing and the meaning: the first record is record 0, as in the file.
+pub fn numbers_law()
+    ensures { StepsAreNumbered }
 {}
 
 /// Bytes that spell records spell none where they are cut short: a front that ends before the last record does breaks behind some of

@@ -23,7 +23,8 @@
 //!   blits (`blit_meant`).
 //! - A source over a file's records has what those records mean, whatever their format
 //!   (`RecordOps::new`, by `IsContent`).
-//! - Bytes are records in one way, and have one content (`records_law`, `content_law`); and none where they are cut short, if the head of
+//! - Bytes are records in one way, and have one content, in which the step of record i has number i (`records_law`, `content_law`,
+//!   `numbers_law`); and none where they are cut short, if the head of
 //!   a record holds its size and its kind (`prefix_law`).
 //! - What a program does with any source can be proved from the contract alone: `count_steps` counts
 //!   the steps of each source, or gives its fault.
@@ -68,7 +69,7 @@ pub use fields::{box_at, rgb_at, turned_box_at, xy_at, yx_at};
 pub use format::{Format, Meant, RawRecord};
 pub use framing::first_record;
 pub use hatch::Hatch;
-pub use laws::{content_law, prefix_law, records_law, table_law};
+pub use laws::{content_law, numbers_law, prefix_law, records_law, table_law};
 pub use listed::Listed;
 pub use modes::{background_mode_meant, fill_mode_meant, map_mode_meant, raster_op_meant};
 pub use note::Note;

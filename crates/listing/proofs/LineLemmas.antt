@@ -16,9 +16,9 @@ use Rattle.meta_headers.specs.Opening.{framing_of, meaning_of}
 use Rattle.meta_headers.specs.declared.opened.FileFormat.{FileFormat}
 use Rattle.listing.specs.Line.{fault_line, line_of, meant_text}
 use Rattle.listing.specs.Listing.{lines_of, lines_of_framed}
-use Rattle.listing.specs.Putting.{PutsLine, PutsRest, lines_left}
+use Rattle.listing.specs.Putting.{PutsLine, PutsRest, listing_left}
 use Rattle.listing.specs.Sending.{Sending}
-use Rattle.listing.specs.declared.listed.Listed.TheVariants.{Broken, Ended}
+use Rattle.listing.specs.declared.listing_end.ListingEnd.TheVariants.{Broken, Ended}
 use Rattle.listing.proofs.SendingLemmas.{sending_none}
 use Rattle.listing.proofs.TextLemmas.{joined}
 
@@ -44,12 +44,12 @@ told_line old head stop other_stop meant other_meant {headed} p q r same_stop sa
     joined old (head ++ meant_text other_stop other_meant) (codes "\n") (joined old head (meant_text other_stop other_meant) p (q ∙ both)) r
 
 -- a walk at its start: nothing was sent, and all lines are left
-pub begins : (known : Option (List ℕ)) (format : FileFormat) (stop : Option (ℕ × RecordFault)) (framed : Framed) (place : ℕ) (page : List ℕ) (walk : Walk) → page ≡ [] → walk.number ≡ 0 → walk.place ≡ place → walk.framed ≡ framed → Sending known known (lines_of_framed format stop 0 place framed) (page ++ lines_left format stop walk)
+pub begins : (known : Option (List ℕ)) (format : FileFormat) (stop : Option (ℕ × RecordFault)) (framed : Framed) (place : ℕ) (page : List ℕ) (walk : Walk) → page ≡ [] → walk.number ≡ 0 → walk.place ≡ place → walk.framed ≡ framed → Sending known known (lines_of_framed format stop 0 place framed) (page ++ listing_left format stop walk)
 begins known format stop framed place page walk p n at f = rw (p, n, at, f) (sending_none known (lines_of_framed format stop 0 place framed))
 
 module _ (format : FileFormat) (stop : Option (ℕ × RecordFault)) (f : Framing) (is_of : framing_of format ≡ f) (old new : List ℕ) (before after : Walk) where
   -- the line of the record in front stands in front of the lines of the others
-  in_front_of : (r : Record) (line : List ℕ) → before.framed ≡ in_front r after.framed → after.number ≡ suc before.number → after.place ≡ before.place + length r.bytes → line ≡ line_of format stop after.framed.behind before.number before.place r → new ≡ old ++ line → old ++ lines_left format stop before ≡ new ++ lines_left format stop after
+  in_front_of : (r : Record) (line : List ℕ) → before.framed ≡ in_front r after.framed → after.number ≡ suc before.number → after.place ≡ before.place + length r.bytes → line ≡ line_of format stop after.framed.behind before.number before.place r → new ≡ old ++ line → old ++ listing_left format stop before ≡ new ++ listing_left format stop after
   in_front_of r line front number place is put =
       rw (front, number, place, put, is)
       (sym (append_assoc old (line_of format stop after.framed.behind before.number before.place r) (lines_of format stop (suc before.number) (before.place + length r.bytes) after.framed.behind after.framed.records after.framed.fault)))

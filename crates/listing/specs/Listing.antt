@@ -8,8 +8,8 @@ use Rattle.listing.specs.Formats.{first_place, format_of}
 use Rattle.meta_headers.specs.Opening.{framing_of, record_bytes}
 use Rattle.meta_headers.specs.declared.opened.FileFormat.{FileFormat}
 use Rattle.listing.specs.Line.{fault_line, line_of, refused_text}
-use Rattle.listing.specs.declared.listed.Listed.{Listed}
-use Rattle.listing.specs.declared.listed.Listed.TheVariants.{Ended, Broken}
+use Rattle.listing.specs.declared.listing_end.ListingEnd.{ListingEnd}
+use Rattle.listing.specs.declared.listing_end.ListingEnd.TheVariants.{Ended, Broken}
 
 -- the last line, where the records break
 abbrev pub last_line : ℕ → ℕ → Option RecordFault → List ℕ
@@ -44,19 +44,19 @@ abbrev pub listing_of : Option (ℕ × RecordFault) → List ℕ → List ℕ
 listing_of stop file = listing_if (format_of file) stop file
 
 -- the records end with an end record, or with a fault of framing
-abbrev pub listed_as : Option RecordFault → Listed
+abbrev pub listed_as : Option RecordFault → ListingEnd
 listed_as None = Ended
 listed_as (Some fault) = Broken
 
 -- how framed records end
-abbrev pub listed_by : Framed → Listed
+abbrev pub listed_by : Framed → ListingEnd
 listed_by framed = listed_as framed.fault
 
 -- how the records of a file of this format end; one that has no format has no end record
-abbrev pub listed_if : Option FileFormat → List ℕ → Listed
+abbrev pub listed_if : Option FileFormat → List ℕ → ListingEnd
 listed_if None file = Broken
 listed_if (Some format) file = listed_by (framed_records format file)
 
 -- how the records of a file end
-abbrev pub listed_of : List ℕ → Listed
+abbrev pub listed_of : List ℕ → ListingEnd
 listed_of file = listed_if (format_of file) file

@@ -33,16 +33,16 @@ index_text None = []
 index_text (Some index) = decimal index ++ codes " "
 
 -- a corner, and the extent from there
-unfoldable pub box_text : Point → Point → List ℕ
-box_text corner extent = point_text corner ++ codes " extent " ++ point_text extent
+unfoldable pub extent_text : Point → Point → List ℕ
+extent_text corner extent = point_text corner ++ codes " extent " ++ point_text extent
 
 -- the sides of the bitmap that a blit reads, and the rectangle in it, if there is a bitmap
 abbrev pub source_text : Option SourceValue → List ℕ
 source_text None = []
 source_text (Some source) =
-    codes " of " ++ sides_text source.picture.width source.picture.height ++ codes " from " ++ box_text source.corner source.extent
+    codes " of " ++ sides_text source.picture.width source.picture.height ++ codes " from " ++ extent_text source.corner source.extent
 
 -- a blit's rectangle, the table of its operation, and what it reads
 abbrev pub blit_text : BlitValue → List ℕ
 blit_text blit =
-    codes "blit " ++ box_text blit.corner blit.extent ++ codes " table " ++ decimal blit.table ++ source_text blit.source
+    codes "blit " ++ extent_text blit.corner blit.extent ++ codes " table " ++ decimal blit.table ++ source_text blit.source

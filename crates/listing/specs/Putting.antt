@@ -4,24 +4,24 @@ use Rattle.listing.specs.WalkState.{Walk}
 use Rattle.draw_ops.specs.declared.record_fault.RecordFault.{RecordFault}
 use Rattle.meta_headers.specs.declared.opened.FileFormat.{FileFormat}
 use Rattle.listing.specs.Listing.{lines_of_framed, listed_by}
-use Rattle.listing.specs.declared.listed.Listed.{Listed}
+use Rattle.listing.specs.declared.listing_end.ListingEnd.{ListingEnd}
 
 -- the lines of the records that are left to a walk
-abbrev pub lines_left : FileFormat → Option (ℕ × RecordFault) → Walk → List ℕ
-lines_left format stop walk = lines_of_framed format stop walk.number walk.place walk.framed
+abbrev pub listing_left : FileFormat → Option (ℕ × RecordFault) → Walk → List ℕ
+listing_left format stop walk = lines_of_framed format stop walk.number walk.place walk.framed
 
 -- a line was put, the others are left, and the records end as before
 pub record PutsLine (format : FileFormat) (stop : Option (ℕ × RecordFault)) (old : List ℕ) (before : Walk) (new : List ℕ) (after : Walk) : Type 0 where
-  pub put : old ++ lines_left format stop before ≡ new ++ lines_left format stop after
+  pub put : old ++ listing_left format stop before ≡ new ++ listing_left format stop after
   pub fewer : length after.framed.records < length before.framed.records
   pub end : listed_by after.framed ≡ listed_by before.framed
 
 -- all that was left was put, and the records end so
-pub record PutsRest (format : FileFormat) (stop : Option (ℕ × RecordFault)) (old : List ℕ) (before : Walk) (listed : Listed) (new : List ℕ) : Type 0 where
-  pub put : new ≡ old ++ lines_left format stop before
+pub record PutsRest (format : FileFormat) (stop : Option (ℕ × RecordFault)) (old : List ℕ) (before : Walk) (listed : ListingEnd) (new : List ℕ) : Type 0 where
+  pub put : new ≡ old ++ listing_left format stop before
   pub end : listed ≡ listed_by before.framed
 
 -- a line was put, or all that was left
-abbrev pub PutsNext : FileFormat → Option (ℕ × RecordFault) → List ℕ → Walk → Option Listed → List ℕ → Walk → Type 0
+abbrev pub PutsNext : FileFormat → Option (ℕ × RecordFault) → List ℕ → Walk → Option ListingEnd → List ℕ → Walk → Type 0
 PutsNext format stop old before None new after = PutsLine format stop old before new after
 PutsNext format stop old before (Some listed) new after = PutsRest format stop old before listed new

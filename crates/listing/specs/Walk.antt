@@ -1,11 +1,17 @@
 -- A walk over the records of a file, each told where it stands.
 use Rattle.std.specs.Prelude.{◌≡◌, suc, ◌+◌, [], length, Option, Some, None, Result, Ok, Err}
+use Rattle.draw_ops.specs.Content.{StepValue}
 use Rattle.draw_ops.specs.Framed.{broken, in_front}
+use Rattle.draw_ops.specs.Meaning.{Meaning, step_of}
 use Rattle.draw_ops.specs.RecordOf.{record_of}
 use Rattle.draw_ops.specs.Records.{Framing}
 use Rattle.listing.specs.WalkState.{Walk}
 use Rattle.draw_ops.specs.declared.record_fault.RecordFault.{RecordFault}
 use Rattle.listing.specs.declared.walk.PlacedRecord.{PlacedRecord}
+
+-- the step of a record where it stands, or the fault of what it means
+abbrev pub placed_step : Framing → Meaning → PlacedRecord → Result StepValue RecordFault
+placed_step f meaning placed = step_of f meaning placed.behind.now placed.number (record_of placed.record)
 
 -- the record in front is given with its number and its place, and the walk goes on behind it
 pub record GivesRecord (f : Framing) (old : Walk) (given : PlacedRecord) (new : Walk) : Type 0 where

@@ -20,7 +20,7 @@ mod asked;
 mod emf_names;
 mod formats;
 mod line;
-mod listed;
+mod listing_end;
 mod noting;
 mod object_texts;
 mod page;
@@ -31,7 +31,7 @@ mod writing;
 
 pub use emf_names::{emf_names_law, type_name};
 pub use formats::{first_place, format_of, records_in};
-pub use listed::Listed;
+pub use listing_end::ListingEnd;
 pub use walk::{PlacedRecord, RecordWalk};
 pub use wmf_names::{function_name, wmf_names_law};
 pub use writing::write_listing;

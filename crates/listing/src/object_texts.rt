@@ -3,7 +3,7 @@
 ghost use Rattle.std.specs.Prelude.{◌≡◌, ◌+◌, ◌≤◌, ◌++◌, length};
 ghost use Rattle.draw_ops.specs.Blits.{blit_value_of, source_of};
 ghost use Rattle.draw_ops.specs.Objects.{brush_value_of, index_of, object_value_of};
-ghost use Rattle.listing.specs.ObjectTexts.{blit_text, box_text, brush_text, index_text, object_text, pen_text, source_text};
+ghost use Rattle.listing.specs.ObjectTexts.{blit_text, extent_text, brush_text, index_text, object_text, pen_text, source_text};
 
 use crate::page::Page;
 use crate::parts::{put_code, put_colour, put_number, put_point, put_sides};
@@ -77,10 +77,10 @@ pub(crate) fn put_index(page: &mut Page, at: Option<Handle>)
 }
 
 /// Puts a corner, and the extent from there.
-#[tactic(auto, unfolding(crate::specs::ObjectTexts::box_text))]
+#[tactic(auto, unfolding(crate::specs::ObjectTexts::extent_text))]
 fn put_box(page: &mut Page, corner: Point, extent: Point)
     requires { length page.old + 54 ≤ 8192 }
-    ensures text { page.new ≡ page.old ++ box_text corner extent }
+    ensures text { page.new ≡ page.old ++ extent_text corner extent }
     ensures short { length page.new ≤ length page.old + 54 }
 {
     put_point(page, corner);

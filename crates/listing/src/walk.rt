@@ -23,15 +23,13 @@ pub struct PlacedRecord<'a> {
 
 impl<'a> PlacedRecord<'a> {
     ghost use Rattle.std.specs.Prelude.{◌≡◌};
-    ghost use Rattle.draw_ops.specs.Meaning.{step_of};
-    ghost use Rattle.draw_ops.specs.RecordOf.{record_of};
     ghost use Rattle.draw_ops.specs.Results.{result_map};
     ghost use Rattle.draw_ops.specs.StepOf.{step_value_of};
+    ghost use Rattle.listing.specs.Walk.{placed_step};
 
     /// The record's step, or the first fault of what it means.
     pub fn step<F: Format>(self) -> Result<Step<'a>, RecordFault>
-        ensures { step_of F.framing F.meaning self.entry.behind.now self.entry.number (record_of self.entry.record)
-            ≡ result_map step_value_of result }
+        ensures { placed_step F.framing F.meaning self.entry ≡ result_map step_value_of result }
     {
         match &F::read(self.number, self.record) {
             Ok(meant) => Ok(Step {

@@ -10,7 +10,7 @@ ghost use Rattle.listing.specs.Sending.{Sending};
 
 use crate::formats::{first_place, format_of, records_in};
 use crate::line::{put_fault_line, put_line, put_no_metafile};
-use crate::listed::Listed;
+use crate::listing_end::ListingEnd;
 use crate::page::{PAGE_ROOM, Page};
 use crate::walk::RecordWalk;
 use canvas::{WriteFault, send};
@@ -30,7 +30,7 @@ pub fn write_listing<W: Write>(
     file: &[u8],
     stop: Option<(u32, RecordFault)>,
     out: &mut W,
-) -> Result<Listed, WriteFault>
+) -> Result<ListingEnd, WriteFault>
     ensures listed { IfOk result (λ listed. listed ≡ listed_of file.now) }
     ensures ok { OnOk result (Appends (W.contents out.old) (W.contents out.new) (listing_of stop file.now)) }
     ensures err { OnErr result (AppendsFront (W.contents out.old) (W.contents out.new) (listing_of stop file.now)) }
@@ -42,15 +42,15 @@ pub fn write_listing<W: Write>(
 }
 
 /// Writes the line that tells that a file begins as no metafile does.
-fn write_none<W: Write>(out: &mut W) -> Result<Listed, WriteFault>
-    ensures listed { IfOk result (λ listed. listed ≡ Listed.Broken) }
+fn write_none<W: Write>(out: &mut W) -> Result<ListingEnd, WriteFault>
+    ensures listed { IfOk result (λ listed. listed ≡ ListingEnd.Broken) }
     ensures ok { OnOk result (Appends (W.contents out.old) (W.contents out.new) (listing_if None None [])) }
     ensures err { OnErr result (AppendsFront (W.contents out.old) (W.contents out.new) (listing_if None None [])) }
 {
     let mut page = Page::new();
     put_no_metafile(&mut page);
     send(out, page.text())?;
-    Ok(Listed::Broken)
+    Ok(ListingEnd::Broken)
 }
 
 /// Writes a line for each record of a file of some format.
@@ -59,7 +59,7 @@ fn write_in<W: Write>(
     file: &[u8],
     stop: Option<(u32, RecordFault)>,
     out: &mut W,
-) -> Result<Listed, WriteFault>
+) -> Result<ListingEnd, WriteFault>
     ensures listed { IfOk result (λ listed. listed ≡ listed_by (framed_records format file.now)) }
     ensures ok { OnOk result (Appends (W.contents out.old) (W.contents out.new) (listing_in format stop file.now)) }
     ensures err { OnErr result (AppendsFront (W.contents out.old) (W.contents out.new) (listing_in format stop file.now)) }
@@ -77,7 +77,7 @@ fn write_lines<F: Format, W: Write>(
     file: &[u8],
     stop: Option<(u32, RecordFault)>,
     out: &mut W,
-) -> Result<Listed, WriteFault>
+) -> Result<ListingEnd, WriteFault>
     requires { framing_of format ≡ F.framing }
     ensures listed { IfOk result (λ listed. listed ≡ listed_by (framed_records format file.now)) }
     ensures ok { OnOk result (Appends (W.contents out.old) (W.contents out.new) (listing_in format stop file.now)) }
@@ -115,7 +115,7 @@ fn put_next<F: Format>(
     walk: &mut RecordWalk<'_, F>,
     format: FileFormat,
     stop: Option<(u32, RecordFault)>,
-) -> Option<Listed>
+) -> Option<ListingEnd>
     requires room { length page.old + 512 ≤ 8192 }
     requires framing { framing_of format ≡ F.framing }
     ensures { PutsNext format stop page.old walk.old result page.new walk.new }
@@ -125,10 +125,10 @@ fn put_next<F: Format>(
             put_line(page, format, stop, &given);
             None
         }
-        Ok(None) => Some(Listed::Ended),
+        Ok(None) => Some(ListingEnd::Ended),
         Err(fault) => {
             put_fault_line(page, walk.number(), walk.place(), fault);
-            Some(Listed::Broken)
+            Some(ListingEnd::Broken)
         }
     }
 }

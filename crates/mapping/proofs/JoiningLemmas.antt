@@ -6,7 +6,7 @@ use Rattle.std.proofs.lemmas.Int.{ints}
 use Rattle.std.proofs.lemmas.List.Elements.{All-append, All-cons, All-nil}
 use Rattle.std.proofs.lemmas.List.{get_or-append-add, get_or_append_left, length-append}
 use Rattle.std.proofs.lemmas.List.Quantifiers.{Any-push}
-use Rattle.mapping.specs.Boxes.{HasPoint, IsBoxOver, IsTight, box_at}
+use Rattle.mapping.specs.Boxes.{HasPoint, IsBoxOver, IsTight, point_box}
 use Rattle.mapping.specs.declared.geometry.Point.{Point}
 use Rattle.mapping.specs.declared.geometry.Rect.{Rect}
 
@@ -74,11 +74,11 @@ module _ (first second both : Rect) (is : IsBoxOver first second both) where
   }
 
 -- the box of one point is its least
-pub single_tight : (point : Point) → IsTight (box_at point) (point ∷ [])
+pub single_tight : (point : Point) → IsTight (point_box point) (point ∷ [])
 single_tight point =
     let here = λ (P : Point → Type 0) (holds : P point). Any-push P [] point holds in
     record {
-      all = All-cons (HasPoint (box_at point)) point [] (record { left = omega (arith, ints); top = omega (arith, ints); right = omega (arith, ints); bottom = omega (arith, ints) }) (All-nil (HasPoint (box_at point)));
+      all = All-cons (HasPoint (point_box point)) point [] (record { left = omega (arith, ints); top = omega (arith, ints); right = omega (arith, ints); bottom = omega (arith, ints) }) (All-nil (HasPoint (point_box point)));
       left = here (λ p. p.x ≡ point.x) refl;
       top = here (λ p. p.y ≡ point.y) refl;
       right = here (λ p. p.x ≡ point.x) refl;

@@ -1,7 +1,7 @@
 -- What page maps and places do to boxes around points.
 use Rattle.std.specs.Prelude.{◌≡◌, ◌≢◌, ◌&&◌, ◌++◌, ℕ, ℤ, pos, List, [], ◌∷◌, map}
 use Rattle.std.specs.List.{list_all}
-use Rattle.mapping.specs.Boxes.{IsBoxOver, IsTight, KeepsBetween, box_at, far_corner, mapped_box_by, mapped_by, near_corner}
+use Rattle.mapping.specs.Boxes.{IsBoxOver, IsTight, KeepsBetween, point_box, far_corner, mapped_box_by, mapped_by, near_corner}
 use Rattle.mapping.specs.Limits.{IsFrameSide}
 use Rattle.mapping.specs.Plane.{AxisNumbers, plane_coordinate}
 use Rattle.mapping.specs.PlacingLaws.{ShowsFrame}
@@ -12,7 +12,7 @@ use Rattle.mapping.specs.declared.geometry.Rect.{Rect}
 -- The box around the least boxes of two lists of points is the least of both, also where one is a single point. A page map and a place keep what lies between two coordinates, on each axis. Where each axis is mapped so, the least box around points is
 -- mapped to the least box around their images; and the images all land within the limits exactly where those of two of its corners do.
 pub record BoxLaws : Type 0 where
-  pub single : (point : Point) → IsTight (box_at point) (point ∷ [])
+  pub single : (point : Point) → IsTight (point_box point) (point ∷ [])
   pub joins :
       (first second both : Rect) (points others : List Point) → IsTight first points → IsTight second others → IsBoxOver first second both
       → IsTight both (points ++ others)

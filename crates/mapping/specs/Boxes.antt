@@ -62,8 +62,8 @@ abbrev pub mapped_box_by : (ℤ → ℤ) → (ℤ → ℤ) → Rect → Rect
 mapped_box_by f g box = box_between (mapped_by f g (near_corner box)) (mapped_by f g (far_corner box))
 
 -- the box of one point
-abbrev pub box_at : Point → Rect
-box_at point = record { l = point.x; t = point.y; r = point.x; b = point.y }
+abbrev pub point_box : Point → Rect
+point_box point = record { l = point.x; t = point.y; r = point.x; b = point.y }
 
 -- a box is the one around two others
 pub record IsBoxOver (first second both : Rect) : Type 0 where

@@ -4,5 +4,5 @@ use Rattle.mapping.specs.Boxes.{HasPoint}
 use Rattle.mapping.specs.declared.geometry.Rect.{Rect}
 
 -- a box of a surface has the pixel in this column and row
-abbrev pub HasPixel : Rect → ℕ → ℕ → Type 0
-HasPixel box x y = HasPoint box (record { x = pos x; y = pos y })
+abbrev pub BoxHasPixel : Rect → ℕ → ℕ → Type 0
+BoxHasPixel box x y = HasPoint box (record { x = pos x; y = pos y })

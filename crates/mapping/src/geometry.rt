@@ -25,7 +25,7 @@ pub struct Rect {
 }
 
 impl Rect {
-    ghost use Rattle.mapping.specs.Boxes.{IsBoxOver, box_at, box_between};
+    ghost use Rattle.mapping.specs.Boxes.{IsBoxOver, point_box, box_between};
 
     /// The box around no point.
     pub const NONE: Rect = Rect {
@@ -37,7 +37,7 @@ impl Rect {
 
     /// The box around a point, which is its right and bottom too.
     pub fn around(point: Point) -> Rect
-        ensures { result ≡ box_at point }
+        ensures { result ≡ point_box point }
     {
         Rect {
             l: point.x,
@@ -49,7 +49,7 @@ impl Rect {
 
     /// The box around this box and a point, the right and the bottom included.
     pub fn with(self, point: Point) -> Rect
-        ensures { IsBoxOver self (box_at point) result }
+        ensures { IsBoxOver self (point_box point) result }
     {
         self.joined(Rect::around(point))
     }

@@ -6,7 +6,7 @@ use Rattle.draw_ops.specs.NoteKinds.{noted}
 use Rattle.draw_ops.specs.declared.fault.Fault.TheVariants.{NoFrame, NotMetafile, ShortHeader}
 use Rattle.draw_ops.specs.declared.note.Note.TheVariants.{PlaceableChecksum, SizeField}
 use Rattle.meta_headers.specs.EmfHeader.{bounds_side, emf_file, has_other_bytes}
-use Rattle.meta_headers.specs.Headers.{file_limit, has_other_size}
+use Rattle.meta_headers.specs.Headers.{file_limit, tells_other_size}
 use Rattle.meta_headers.specs.Opening.{opened}
 use Rattle.meta_headers.specs.PlaceableHeader.{has_other_fields, placeable_file}
 use Rattle.meta_headers.specs.PlainHeader.{plain_with}
@@ -102,10 +102,10 @@ key_alone = refl
 abbrev plain_header : ℕ → List ℕ
 plain_header words = 1 ∷ 0 ∷ 9 ∷ 0 ∷ 0 ∷ 3 ∷ words ∷ 0 ∷ 0 ∷ 0 ∷ 0 ∷ 0 ∷ 0 ∷ 0 ∷ 0 ∷ 0 ∷ 0 ∷ 0 ∷ 3 ∷ 0 ∷ 0 ∷ 0 ∷ 0 ∷ 0 ∷ []
 
-same_size : has_other_size (plain_header 12) 0 ≡ false
+same_size : tells_other_size (plain_header 12) 0 ≡ false
 same_size = refl
 
-other_size : has_other_size (plain_header 24) 0 ≡ true
+other_size : tells_other_size (plain_header 24) 0 ≡ true
 other_size = refl
 
 -- the smallest EMF file has its size, and not with a byte more

@@ -49,14 +49,14 @@ opened_emf file = record {
 }
 
 -- a header may have this size
-abbrev pub is_header_size : ℕ → Bool
-is_header_size size = nat_le 88 size && size % 4 == 0
+abbrev pub is_emf_header_size : ℕ → Bool
+is_emf_header_size size = nat_le 88 size && size % 4 == 0
 
 -- the fields whole, a good size, the header whole, and a frame that isn't too large
 abbrev pub emf_file : List ℕ → Result OpenedValue Fault
 emf_file file =
     if nat_lt (length file) 88 then Err ShortHeader
-    else (if not (is_header_size (number_at file 4 4)) then Err BadHeader
+    else (if not (is_emf_header_size (number_at file 4 4)) then Err BadHeader
     else (if nat_lt (length file) (number_at file 4 4) then Err ShortHeader
     else (if not (is_frame_side (bounds_width file) && is_frame_side (bounds_height file)) then Err NoFrame
     else Ok (opened_emf file))))

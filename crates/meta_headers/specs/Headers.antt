@@ -37,8 +37,8 @@ abbrev pub is_header : List ℕ → ℕ → Bool
 is_header file place = begins_header file place && has_version file place
 
 -- its size, in words, isn't that of the bytes from it on
-abbrev pub has_other_size : List ℕ → ℕ → Bool
-has_other_size file place = not (2 * number_at file (place + 6) 4 == length (drop place file))
+abbrev pub tells_other_size : List ℕ → ℕ → Bool
+tells_other_size file place = not (2 * number_at file (place + 6) 4 == length (drop place file))
 
 -- a kind of note where something holds
 abbrev pub noted_where : Bool → List ℕ → Note → List ℕ

@@ -7,7 +7,7 @@ use Rattle.draw_ops.specs.NoteCounts.{no_notes}
 use Rattle.draw_ops.specs.declared.fault.Fault.{Fault}
 use Rattle.draw_ops.specs.declared.fault.Fault.TheVariants.{ShortHeader, BadHeader, NoFrame}
 use Rattle.draw_ops.specs.declared.note.Note.TheVariants.{PlaceableChecksum, PlaceableFields, SizeField}
-use Rattle.meta_headers.specs.Headers.{OpenedValue, is_header, has_other_size, noted_where}
+use Rattle.meta_headers.specs.Headers.{OpenedValue, is_header, tells_other_size, noted_where}
 use Rattle.meta_headers.specs.declared.opened.FileFormat.TheVariants.{Placeable}
 
 -- the file begins with META_PLACEABLE's key
@@ -38,7 +38,7 @@ has_other_fields file = not (number_at file 4 2 == 0) || not (number_at file 16 
 -- what is noted of both headers
 abbrev pub placeable_notes : List ℕ → List ℕ
 placeable_notes file =
-    noted_where (has_other_size file 22)
+    noted_where (tells_other_size file 22)
     (noted_where (has_other_fields file) (noted_where (has_other_checksum file) no_notes PlaceableChecksum) PlaceableFields) SizeField
 
 -- the frame is as large as the box, and the box is the window at the start

@@ -6,7 +6,7 @@ use Rattle.draw_ops.specs.declared.fault.Fault.{Fault}
 use Rattle.draw_ops.specs.declared.fault.Fault.TheVariants.{ShortHeader, BadHeader, NoFrame}
 use Rattle.draw_ops.specs.declared.note.Note.TheVariants.{SizeField}
 use Rattle.wmf_records.specs.FirstExtent.{first_extent}
-use Rattle.meta_headers.specs.Headers.{OpenedValue, begins_header, has_version, has_other_size, noted_where}
+use Rattle.meta_headers.specs.Headers.{OpenedValue, begins_header, has_version, tells_other_size, noted_where}
 use Rattle.meta_headers.specs.declared.opened.FileFormat.TheVariants.{Plain}
 
 -- the file begins with META_HEADER's type and size
@@ -21,7 +21,7 @@ opened_plain file extent = record {
   frame_height = unsigned_abs extent.1;
   map = plain_map (record { x = extent.0; y = extent.1 });
   handles = None;
-  notes = noted_where (has_other_size file 0) no_notes SizeField;
+  notes = noted_where (tells_other_size file 0) no_notes SizeField;
 }
 
 -- without a usable extent the file's size isn't known

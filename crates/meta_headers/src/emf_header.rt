@@ -5,7 +5,7 @@ ghost use Rattle.std.specs.Prelude.{◌≡◌, ◌≤◌, ◌^◌, ◌&&◌, is_
 ghost use Rattle.draw_ops.specs.Fault.{IsInRecord};
 ghost use Rattle.draw_ops.specs.Results.{result_map};
 ghost use Rattle.mapping.specs.Limits.{is_frame_side};
-ghost use Rattle.meta_headers.specs.EmfHeader.{bounds_height, bounds_side, bounds_width, emf_file, has_other_bytes, is_emf, is_header_size};
+ghost use Rattle.meta_headers.specs.EmfHeader.{bounds_height, bounds_side, bounds_width, emf_file, has_other_bytes, is_emf, is_emf_header_size};
 ghost use Rattle.meta_headers.specs.OpenedOf.{opened_of};
 
 use crate::notes_where::noted_where;
@@ -63,7 +63,7 @@ pub(crate) fn open_emf(file: &[u8]) -> Result<Opened<'_>, Fault>
 
 /// Whether a header may have this size.
 fn is_header_size(size: usize) -> bool
-    ensures { result ≡ is_header_size size }
+    ensures { result ≡ is_emf_header_size size }
 {
     LEAST_HEADER <= size && size % 4 == 0
 }

@@ -1,7 +1,7 @@
 //! META_HEADER ([MS-WMF] 2.3.2.2): Type, HeaderSize, Version, Size, and three fields that aren't read.
 
 ghost use Rattle.std.specs.Prelude.{◌≡◌, ◌+◌, ◌≤◌, ◌^◌, ◌<◌, length};
-ghost use Rattle.meta_headers.specs.Headers.{begins_header, has_other_size, has_version, is_header};
+ghost use Rattle.meta_headers.specs.Headers.{begins_header, tells_other_size, has_version, is_header};
 
 use point_views::{u16_at, u32_at};
 
@@ -40,7 +40,7 @@ pub(crate) fn is_header(file: &[u8], place: usize) -> bool
 /// Whether the header at a place gives another size, in words, than that of the bytes from it on.
 pub(crate) fn has_other_size(file: &[u8], place: usize) -> bool
     requires { place + 10 ≤ length file.now }
-    ensures { result ≡ has_other_size file.now place }
+    ensures { result ≡ tells_other_size file.now place }
 {
     let bytes = 2 * u32_at(file, place + 6) as usize;
     bytes != file.len() - place

@@ -4,7 +4,7 @@ use Rattle.std.proofs.lemmas.Bool.{and_parts, ltb-true, eq-eqb, ne_eqb, cases_eq
 use Rattle.draw_ops.specs.declared.record_fault.RecordFault.{RecordFault}
 use Rattle.draw_ops.specs.declared.record_fault.RecordFault.TheVariants.{HandleTaken, NoSuchHandle, TableFull}
 use Rattle.object_tables.specs.Slots.{IsInOrderFrom, Slots, is_taken, left_out_from, object_at}
-use Rattle.object_tables.specs.Table.{CreatedIndexIsBelowBound, LowestFreeIsLeast, by_given_index, by_lowest_free, may_be_given, slot_limit}
+use Rattle.object_tables.specs.Table.{CreatedIndexIsBelowBound, LowestFreeIsLeast, by_given_index, by_lowest_free, may_be_given, lowest_free_limit}
 
 -- an index below all of them has no object
 pub none_before : (k i : ℕ) (slots : Slots) → IsInOrderFrom k slots → i < k → object_at i slots ≡ None
@@ -82,7 +82,7 @@ few_enough false h = cc
 
 pub created_index_is_below_bound : CreatedIndexIsBelowBound
 created_index_is_below_bound by_lowest_free at slots h =
-    let few = ltb-true (length slots) slot_limit (few_enough (nat_lt (length slots) slot_limit) h) in
+    let few = ltb-true (length slots) lowest_free_limit (few_enough (nat_lt (length slots) lowest_free_limit) h) in
     let within = left_out_within 0 slots in
     omega (arith, few, within)
 created_index_is_below_bound (by_given_index limit) None slots h = cc

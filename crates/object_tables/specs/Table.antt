@@ -26,8 +26,8 @@ pub record TableState : Type 0 where
   pub room : ℕ
 
 -- how many objects a table by the lowest free index has at most
-abbrev pub slot_limit : ℕ
-slot_limit = 1024
+abbrev pub lowest_free_limit : ℕ
+lowest_free_limit = 1024
 
 -- an index that EMF records may give: 0 is that of the file itself ([MS-EMF] 3.1.1.1)
 abbrev pub may_be_given : ℕ → ℕ → Bool
@@ -41,7 +41,7 @@ given_fault limit (Some index) slots =
 
 -- the fault of making an object
 abbrev pub create_fault : TableKind → Option ℕ → Slots → Option RecordFault
-create_fault by_lowest_free at slots = if nat_lt (length slots) slot_limit then None else Some TableFull
+create_fault by_lowest_free at slots = if nat_lt (length slots) lowest_free_limit then None else Some TableFull
 create_fault (by_given_index limit) at slots = given_fault limit at slots
 
 -- the index of a new object
@@ -51,7 +51,7 @@ created_index (by_given_index limit) at slots = unwrap_or at 0
 
 -- the indexes of a table are below this one
 abbrev pub index_bound : TableKind → ℕ
-index_bound by_lowest_free = slot_limit
+index_bound by_lowest_free = lowest_free_limit
 index_bound (by_given_index limit) = limit
 
 -- an object was made: nothing speaks against it, and it is at its index

@@ -21,13 +21,13 @@ pub struct LowestFree<'a> {
 
 impl<'a> Model for LowestFree<'a> {
     ghost use Rattle.std.specs.Prelude.{◌≤◌};
-    ghost use Rattle.object_tables.specs.Table.{TableState, by_lowest_free, slot_limit};
+    ghost use Rattle.object_tables.specs.Table.{TableState, by_lowest_free, lowest_free_limit};
 
     ghost Value = { TableState };
 
     ghost view = { λ table. record { slots = table.store.slots; kind = by_lowest_free; room = table.store.room } };
 
-    ghost invariant = { λ table. table.store.places ≤ slot_limit };
+    ghost invariant = { λ table. table.store.places ≤ lowest_free_limit };
 }
 
 impl<'a> LowestFree<'a> {

@@ -18,7 +18,7 @@ use Rattle.span_fill.specs.Strokes.{OnePixelForEachStep, on_line, step_at}
 use Rattle.span_fill.specs.declared.line.Line.{Line}
 use Rattle.span_fill.specs.declared.pixel.Pixel.{Pixel}
 use Rattle.span_fill.specs.declared.span.Region.{Region}
-use Rattle.player.specs.LineSteps.{MayTake, is_taken, is_within}
+use Rattle.player.specs.LineSteps.{MayTake, is_stepped, is_visible}
 use Rattle.player.proofs.TestLemmas.{nat_le-true, nat_lt-from, nat_lt-true, same_test}
 
 -- the number of a column or a row, of a coordinate
@@ -61,20 +61,20 @@ module _ (law : OnePixelForEachStep) (clip : ClipValue) (line : Line) (region : 
     pub before : step_at line (pos x) (pos y) < n
 
   -- what is taken before the next step is what was taken before this one, and this one's pixel, where the clip has it
-  taken_parts : (n x y : ℕ) → is_taken clip line region n x y ≡ true → IsTaken n x y
+  taken_parts : (n x y : ℕ) → is_stepped clip line region n x y ≡ true → IsTaken n x y
   taken_parts n x y h =
       let a = and_parts (in_boxes clip x y) _ h in
       let b = and_parts (on_line line (pos x) (pos y)) _ a.1 in
       let c = and_parts (in_region region x y) (nat_lt (step_at line (pos x) (pos y)) n) b.1 in
       record { has = a.0; on = b.0; inside = c.0; before = nat_lt-true _ n c.1 }
 
-  taken_from : (n x y : ℕ) → in_boxes clip x y ≡ true → on_line line (pos x) (pos y) ≡ true → in_region region x y ≡ true → step_at line (pos x) (pos y) < n → is_taken clip line region n x y ≡ true
+  taken_from : (n x y : ℕ) → in_boxes clip x y ≡ true → on_line line (pos x) (pos y) ≡ true → in_region region x y ≡ true → step_at line (pos x) (pos y) < n → is_stepped clip line region n x y ≡ true
   taken_from n x y a b c d =
       and_from (in_boxes clip x y) _ a (and_from (on_line line (pos x) (pos y)) _ b (and_from (in_region region x y) _ c (nat_lt-from _ n d)))
 
-  pub more_is_taken : in_boxes clip pixel.x pixel.y ≡ true → (x y : ℕ) → (is_taken clip line region k x y || is_at pixel.x pixel.y x y) ≡ is_taken clip line region (suc k) x y
+  pub more_is_taken : in_boxes clip pixel.x pixel.y ≡ true → (x y : ℕ) → (is_stepped clip line region k x y || is_at pixel.x pixel.y x y) ≡ is_stepped clip line region (suc k) x y
   more_is_taken has x y = same_test _ _
-      (λ h. elim (or_cases (is_taken clip line region k x y) (is_at pixel.x pixel.y x y) h) [
+      (λ h. elim (or_cases (is_stepped clip line region k x y) (is_at pixel.x pixel.y x y) h) [
         | inl before ↦ let p = taken_parts k x y before in let below = p.before in taken_from (suc k) x y p.has p.on p.inside (omega (arith, below))
         | inr here ↦
             let at = is_at_true pixel.x pixel.y x y here in
@@ -93,7 +93,7 @@ module _ (law : OnePixelForEachStep) (clip : ClipValue) (line : Line) (region : 
       cases_lt : (n m : ℕ) → n < suc m → (n < m) ⊎ (n ≡ m)
       cases_lt n m h = grind (arith)
 
-  pub none_is_taken : in_boxes clip pixel.x pixel.y ≡ false → (x y : ℕ) → is_taken clip line region k x y ≡ is_taken clip line region (suc k) x y
+  pub none_is_taken : in_boxes clip pixel.x pixel.y ≡ false → (x y : ℕ) → is_stepped clip line region k x y ≡ is_stepped clip line region (suc k) x y
   none_is_taken hidden x y = same_test _ _
       (λ h. let p = taken_parts k x y h in let below = p.before in taken_from (suc k) x y p.has p.on p.inside (omega (arith, below)))
       (λ h.
@@ -114,10 +114,10 @@ module _ (law : OnePixelForEachStep) (clip : ClipValue) (line : Line) (region : 
       differs false h e = cc
 
   -- the pixel of a step isn't taken before
-  pub not_before : (x y : ℕ) → (is_taken clip line region k x y && is_at pixel.x pixel.y x y) ≡ false
+  pub not_before : (x y : ℕ) → (is_stepped clip line region k x y && is_at pixel.x pixel.y x y) ≡ false
   not_before x y = same_test _ _
       (λ h.
-      let parts = and_parts (is_taken clip line region k x y) (is_at pixel.x pixel.y x y) h in
+      let parts = and_parts (is_stepped clip line region k x y) (is_at pixel.x pixel.y x y) h in
       let p = taken_parts k x y parts.0 in
       let at = is_at_true pixel.x pixel.y x y parts.1 in
       let below : step_at line (pos pixel.x) (pos pixel.y) < k = rw (← at.0, ← at.1) p.before in
@@ -127,15 +127,15 @@ module _ (law : OnePixelForEachStep) (clip : ClipValue) (line : Line) (region : 
       over : k < k → ⊥
       over h = omega (arith, h)
 
-  module _ (laws : WritingLaws) (f : ℕ → ℕ → Colour → Colour) (old now new : CanvasState) (whole : IsWhole old) (so_far : Repaints (is_taken clip line region k) f old now) where
-    step_drawn : in_boxes clip pixel.x pixel.y ≡ true → Repaints (is_at pixel.x pixel.y) f now new → Repaints (is_taken clip line region (suc k)) f old new
+  module _ (laws : WritingLaws) (f : ℕ → ℕ → Colour → Colour) (old now new : CanvasState) (whole : IsWhole old) (so_far : Repaints (is_stepped clip line region k) f old now) where
+    step_drawn : in_boxes clip pixel.x pixel.y ≡ true → Repaints (is_at pixel.x pixel.y) f now new → Repaints (is_stepped clip line region (suc k)) f old new
     step_drawn has drawn =
-        laws.same (λ x y. is_taken clip line region k x y || is_at pixel.x pixel.y x y) (is_taken clip line region (suc k)) f f old new whole (λ x y held. more_is_taken has x y) (λ x y c held t. refl)
-        (laws.both (is_taken clip line region k) (is_at pixel.x pixel.y) f old now new whole (λ x y held. not_before x y) so_far drawn)
+        laws.same (λ x y. is_stepped clip line region k x y || is_at pixel.x pixel.y x y) (is_stepped clip line region (suc k)) f f old new whole (λ x y held. more_is_taken has x y) (λ x y c held t. refl)
+        (laws.both (is_stepped clip line region k) (is_at pixel.x pixel.y) f old now new whole (λ x y held. not_before x y) so_far drawn)
 
-    step_hidden : in_boxes clip pixel.x pixel.y ≡ false → Repaints (is_taken clip line region (suc k)) f old now
+    step_hidden : in_boxes clip pixel.x pixel.y ≡ false → Repaints (is_stepped clip line region (suc k)) f old now
     step_hidden hidden =
-        laws.same (is_taken clip line region k) (is_taken clip line region (suc k)) f f old now whole (λ x y held. none_is_taken hidden x y) (λ x y c held t. refl) so_far
+        laws.same (is_stepped clip line region k) (is_stepped clip line region (suc k)) f f old now whole (λ x y held. none_is_taken hidden x y) (λ x y c held t. refl) so_far
 
 -- columns and rows of a region
 inside_width : (region : Region) (x y : ℕ) → IsTrue (in_region region x y) → x < region.columns.to
@@ -149,7 +149,7 @@ inside_height region x y h =
     let b = and_parts (nat_le region.rows.from y) (nat_lt y region.rows.to) a.1 in (nat_le-true region.rows.from y b.0, nat_lt-true y region.rows.to b.1)
 
 -- before the first step nothing is taken
-none_taken : (clip : ClipValue) (steps : StepsState) (line : Line) → line ≡ steps.line → HasAllSteps steps → (canvas : CanvasState) → PassesNone canvas (is_taken clip line steps.region steps.next)
+none_taken : (clip : ClipValue) (steps : StepsState) (line : Line) → line ≡ steps.line → HasAllSteps steps → (canvas : CanvasState) → PassesNone canvas (is_stepped clip line steps.region steps.next)
 none_taken clip steps line same all canvas x y held = same_test _ _
     (λ h.
     let a = and_parts (in_boxes clip x y) _ h in
@@ -164,7 +164,7 @@ none_taken clip steps line same all canvas x y held = same_test _ _
     over a b h k = omega (arith, h, k)
 
 -- behind the last, all of it is that the clip has
-all_taken : (clip : ClipValue) (line : Line) (region : Region) (n : ℕ) (x y : ℕ) → (IsTrue (on_line line (pos x) (pos y)) → IsTrue (in_region region x y) → step_at line (pos x) (pos y) < n) → is_taken clip line region n x y ≡ is_within clip line region x y
+all_taken : (clip : ClipValue) (line : Line) (region : Region) (n : ℕ) (x y : ℕ) → (IsTrue (on_line line (pos x) (pos y)) → IsTrue (in_region region x y) → step_at line (pos x) (pos y) < n) → is_stepped clip line region n x y ≡ is_visible clip line region x y
 all_taken clip line region n x y all = same_test _ _
     (λ h.
     let a = and_parts (in_boxes clip x y) _ h in
@@ -180,7 +180,7 @@ all_taken clip line region n x y all = same_test _ _
 pub record HasDrawn (clip : ClipValue) (f : ℕ → ℕ → Colour → Colour) (all left : StepsState) (start now : CanvasState) : Type 0 where
   pub same : IsSameWay all left
   pub whole : IsWhole now
-  pub drawn : Repaints (is_taken clip all.line all.region left.next) f start now
+  pub drawn : Repaints (is_stepped clip all.line all.region left.next) f start now
 
 module _ (laws : WritingLaws) (clip : ClipValue) (f : ℕ → ℕ → Colour → Colour) (all : StepsState) (start : CanvasState) (may : MayTake all start) where
   -- none is, before the first step
@@ -188,7 +188,7 @@ module _ (laws : WritingLaws) (clip : ClipValue) (f : ℕ → ℕ → Colour →
   none_drawn = record {
     same = record { line = refl; region = refl; end = refl };
     whole = may.whole;
-    drawn = laws.none (is_taken clip all.line all.region all.next) f start may.whole (none_taken clip all all.line refl may.all start);
+    drawn = laws.none (is_stepped clip all.line all.region all.next) f start may.whole (none_taken clip all all.line refl may.all start);
   }
 
   module _ (left next : StepsState) (pixel : Pixel) (now : CanvasState) (so_far : HasDrawn clip f all left start now) (step : TakesStep left next pixel) where
@@ -246,10 +246,10 @@ module _ (laws : WritingLaws) (clip : ClipValue) (f : ℕ → ℕ → Colour →
       }
 
   -- all are, behind the last
-  pub all_drawn : (left : StepsState) (now : CanvasState) → HasDrawn clip f all left start now → left.end ≤ left.next → Repaints (is_within clip all.line all.region) f start now
+  pub all_drawn : (left : StepsState) (now : CanvasState) → HasDrawn clip f all left start now → left.end ≤ left.next → Repaints (is_visible clip all.line all.region) f start now
   all_drawn left now so_far ended =
       let same = so_far.same.end in
-      laws.same (is_taken clip all.line all.region left.next) (is_within clip all.line all.region) f f start now may.whole
+      laws.same (is_stepped clip all.line all.region left.next) (is_visible clip all.line all.region) f f start now may.whole
       (λ x y held. all_taken clip all.line all.region left.next x y (λ on inside. let early = may.all.to x y on inside in omega (arith, early, ended, same)))
       (λ x y old held t. refl)
       so_far.drawn
@@ -283,7 +283,7 @@ uncut x y (cut ∷ cuts) e = cc
 
 -- a region that has of the canvas what the clip keeps
 module _ (laws : WritingLaws) (clip : ClipValue) (line : Line) (region : Region) (start : CanvasState) (whole : IsWhole start) (kept : (x y : ℕ) → HasPixel start x y → in_region region x y ≡ in_kept clip.kept x y) where
-  of_clip : (x y : ℕ) → HasPixel start x y → is_within clip line region x y ≡ (in_boxes clip x y && on_line line (pos x) (pos y))
+  of_clip : (x y : ℕ) → HasPixel start x y → is_visible clip line region x y ≡ (in_boxes clip x y && on_line line (pos x) (pos y))
   of_clip x y held = same_test _ _
       (λ h.
       let a = and_parts (in_boxes clip x y) _ h in
@@ -293,7 +293,7 @@ module _ (laws : WritingLaws) (clip : ClipValue) (line : Line) (region : Region)
       let keeps = and_parts (in_kept clip.kept x y) _ a.0 in
       and_from (in_boxes clip x y) _ a.0 (and_from (on_line line (pos x) (pos y)) (in_region region x y) a.1 (kept x y held ∙ keeps.0)))
 
-  of_kept : clip.cuts ≡ [] → (x y : ℕ) → HasPixel start x y → is_within unclipped line region x y ≡ (in_boxes clip x y && on_line line (pos x) (pos y))
+  of_kept : clip.cuts ≡ [] → (x y : ℕ) → HasPixel start x y → is_visible unclipped line region x y ≡ (in_boxes clip x y && on_line line (pos x) (pos y))
   of_kept none x y held = same_test _ _
       (λ h.
       let b = and_parts (on_line line (pos x) (pos y)) (in_region region x y) h in
@@ -304,11 +304,11 @@ module _ (laws : WritingLaws) (clip : ClipValue) (line : Line) (region : Region)
       let keeps = and_parts (in_kept clip.kept x y) _ a.0 in and_from (on_line line (pos x) (pos y)) (in_region region x y) a.1 (kept x y held ∙ keeps.0))
 
   -- what is drawn within the clip and the region is what the clip has of the line
-  pub clip_drawn : (f : ℕ → ℕ → Colour → Colour) (now : CanvasState) → Repaints (is_within clip line region) f start now → Repaints (λ x y. in_boxes clip x y && on_line line (pos x) (pos y)) f start now
+  pub clip_drawn : (f : ℕ → ℕ → Colour → Colour) (now : CanvasState) → Repaints (is_visible clip line region) f start now → Repaints (λ x y. in_boxes clip x y && on_line line (pos x) (pos y)) f start now
   clip_drawn f now r =
-      laws.same (is_within clip line region) (λ x y. in_boxes clip x y && on_line line (pos x) (pos y)) f f start now whole of_clip (λ x y old held t. refl) r
+      laws.same (is_visible clip line region) (λ x y. in_boxes clip x y && on_line line (pos x) (pos y)) f f start now whole of_clip (λ x y old held t. refl) r
 
   -- so is what is drawn within the region, where nothing is cut out
-  pub kept_drawn : (f g : ℕ → ℕ → Colour → Colour) (now : CanvasState) → clip.cuts ≡ [] → ((x y : ℕ) (old : Colour) → f x y old ≡ g x y old) → Repaints (is_within unclipped line region) f start now → Repaints (λ x y. in_boxes clip x y && on_line line (pos x) (pos y)) g start now
+  pub kept_drawn : (f g : ℕ → ℕ → Colour → Colour) (now : CanvasState) → clip.cuts ≡ [] → ((x y : ℕ) (old : Colour) → f x y old ≡ g x y old) → Repaints (is_visible unclipped line region) f start now → Repaints (λ x y. in_boxes clip x y && on_line line (pos x) (pos y)) g start now
   kept_drawn f g now none alike r =
-      laws.same (is_within unclipped line region) (λ x y. in_boxes clip x y && on_line line (pos x) (pos y)) f g start now whole (of_kept none) (λ x y old held t. alike x y old) r
+      laws.same (is_visible unclipped line region) (λ x y. in_boxes clip x y && on_line line (pos x) (pos y)) f g start now whole (of_kept none) (λ x y old held t. alike x y old) r

@@ -11,7 +11,7 @@ use Rattle.mapping.specs.Mixes.{mixed_by}
 use Rattle.mapping.specs.Pixels.{is_cell}
 use Rattle.canvas.specs.CanvasState.{CanvasState, HasRow}
 use Rattle.canvas.specs.MixRows.{mix_at}
-use Rattle.canvas.specs.Writing.{Repaints, in_cells, in_span}
+use Rattle.canvas.specs.Writing.{Repaints, in_cells, in_row_span}
 use Rattle.canvas.specs.WritingLaws.{IsWhole, WritingLaws}
 
 -- a part of a row has as many items as it has columns
@@ -30,7 +30,7 @@ mix_within : (keeps flips : List Colour) (from k x : ℕ) → from ≤ x → x <
 mix_within keeps flips from k x low high = rw (item_within keeps white_colour from k x low high, item_within flips black_colour from k x low high) refl
 
 -- what is to be a pixel in a span
-pub span_parts : (y from to x row : ℕ) → in_span y from to x row ≡ true → (row ≡ y) × (from ≤ x) × (x < to)
+pub span_parts : (y from to x row : ℕ) → in_row_span y from to x row ≡ true → (row ≡ y) × (from ≤ x) × (x < to)
 span_parts y from to x row t =
     let a = and_parts (eqb row y && leb from x) (ltb x to) t in
     let b = and_parts (eqb row y) (leb from x) a.0 in
@@ -39,13 +39,13 @@ span_parts y from to x row t =
 -- A part of a row of colours is written into the columns that it stands for.
 pub part_put :
     WritingLaws → (colours : List Colour) (y from to : ℕ) (old new : CanvasState) → IsWhole old → to ≤ length colours → from ≤ to
-    → Repaints (in_span y from (from + length (take (to - from) (drop from colours)))) (λ column row c. get_or (take (to - from) (drop from colours)) (column - from) c) old new
-    → Repaints (in_span y from to) (λ column row c. get_or colours column c) old new
+    → Repaints (in_row_span y from (from + length (take (to - from) (drop from colours)))) (λ column row c. get_or (take (to - from) (drop from colours)) (column - from) c) old new
+    → Repaints (in_row_span y from to) (λ column row c. get_or colours column c) old new
 part_put laws colours y from to old new whole end order r =
     let long = part_long colours from to end order in
     let last : from + length (take (to - from) (drop from colours)) ≡ to = omega (arith, long, order) in
-    laws.same _ (in_span y from to) _ (λ column row c. get_or colours column c) old new whole
-    (λ x row held. ap (λ n. in_span y from n x row) last)
+    laws.same _ (in_row_span y from to) _ (λ column row c. get_or colours column c) old new whole
+    (λ x row held. ap (λ n. in_row_span y from n x row) last)
     (λ x row c held t.
     let at = span_parts y from _ x row t in
     let low = at.1 in
@@ -56,13 +56,13 @@ part_put laws colours y from to old new whole end order r =
 -- A part of a row of mixes is mixed into the columns that it stands for.
 pub part_mixed :
     WritingLaws → (keeps flips : List Colour) (y from to : ℕ) (old new : CanvasState) → IsWhole old → to ≤ length keeps → from ≤ to
-    → Repaints (in_span y from (from + length (take (to - from) (drop from keeps)))) (λ column row c. mixed_by (mix_at (take (to - from) (drop from keeps)) (take (to - from) (drop from flips)) (column - from)) c) old new
-    → Repaints (in_span y from to) (λ column row c. mixed_by (mix_at keeps flips column) c) old new
+    → Repaints (in_row_span y from (from + length (take (to - from) (drop from keeps)))) (λ column row c. mixed_by (mix_at (take (to - from) (drop from keeps)) (take (to - from) (drop from flips)) (column - from)) c) old new
+    → Repaints (in_row_span y from to) (λ column row c. mixed_by (mix_at keeps flips column) c) old new
 part_mixed laws keeps flips y from to old new whole end order r =
     let long = part_long keeps from to end order in
     let last : from + length (take (to - from) (drop from keeps)) ≡ to = omega (arith, long, order) in
-    laws.same _ (in_span y from to) _ (λ column row c. mixed_by (mix_at keeps flips column) c) old new whole
-    (λ x row held. ap (λ n. in_span y from n x row) last)
+    laws.same _ (in_row_span y from to) _ (λ column row c. mixed_by (mix_at keeps flips column) c) old new whole
+    (λ x row held. ap (λ n. in_row_span y from n x row) last)
     (λ x row c held t.
     let at = span_parts y from _ x row t in
     let low = at.1 in
@@ -88,7 +88,7 @@ no_cells_yet laws keeps flips cells y from start whole row = record {
   order = omega arith;
   count = omega arith;
   painted = laws.none _ _ start whole
-      (λ x r held. false_from_ne_true _ (λ t. let at = span_parts y from from x r (and_parts (in_span y from from x r) (is_cell cells x) t).0 in let low = at.1 in let high = at.2 in omega (arith, low, high)));
+      (λ x r held. false_from_ne_true _ (λ t. let at = span_parts y from from x r (and_parts (in_row_span y from from x r) (is_cell cells x) t).0 in let low = at.1 in let high = at.2 in omega (arith, low, high)));
 }
 
 -- one column more
@@ -105,7 +105,7 @@ one_cell_more laws keeps flips cells y from x mix start now new whole same h r c
     let here : Repaints (in_cells y x (x + 1) cells) f now new =
     laws.same _ _ _ f now new h.whole (λ column row held. refl)
     (λ column row c held t.
-    let at = span_parts y x (x + 1) column row (and_parts (in_span y x (x + 1) column row) (is_cell cells column) t).0 in
+    let at = span_parts y x (x + 1) column row (and_parts (in_row_span y x (x + 1) column row) (is_cell cells column) t).0 in
     let low = at.1 in
     let high = at.2 in
     let is : x ≡ column = omega (arith, low, high) in
@@ -114,8 +114,8 @@ one_cell_more laws keeps flips cells y from x mix start now new whole same h r c
     let apart : (column row : ℕ) → (in_cells y from x cells column row && in_cells y x (x + 1) cells column row) ≡ false =
     λ column row. false_from_ne_true _ (λ t.
     let both = and_parts (in_cells y from x cells column row) (in_cells y x (x + 1) cells column row) t in
-    let before = span_parts y from x column row (and_parts (in_span y from x column row) (is_cell cells column) both.0).0 in
-    let behind = span_parts y x (x + 1) column row (and_parts (in_span y x (x + 1) column row) (is_cell cells column) both.1).0 in
+    let before = span_parts y from x column row (and_parts (in_row_span y from x column row) (is_cell cells column) both.0).0 in
+    let behind = span_parts y x (x + 1) column row (and_parts (in_row_span y x (x + 1) column row) (is_cell cells column) both.1).0 in
     let high = before.2 in
     let low = behind.1 in
     omega (arith, high, low)) in

@@ -12,7 +12,7 @@ use Rattle.mapping.specs.declared.mix.Mix.{Mix}
 use Rattle.mapping.specs.Mixes.{mixed_by}
 use Rattle.mapping.specs.Pixels.{is_cell}
 use Rattle.canvas.specs.CanvasState.{CanvasState, HasRow}
-use Rattle.canvas.specs.Writing.{Repaints, in_cells, in_span}
+use Rattle.canvas.specs.Writing.{Repaints, in_cells, in_row_span}
 use Rattle.canvas.specs.WritingLaws.{IsWhole, WritingLaws}
 use Rattle.dc_stack.specs.Clip.{in_box, is_from_to}
 use Rattle.span_fill.specs.declared.span.Span.{Span}
@@ -59,18 +59,18 @@ pub both_mixed :
     WritingLaws → (cells y from to : ℕ) (mix gaps : Mix) (old between new : CanvasState) → cells < 2 ^ 8 → IsWhole old
     → Repaints (in_cells y from to cells) (λ column row c. mixed_by mix c) old between
     → Repaints (in_cells y from to (bit_not w8 cells)) (λ column row c. mixed_by gaps c) between new
-    → Repaints (in_span y from to) (by_cells cells mix gaps) old new
+    → Repaints (in_row_span y from to) (by_cells cells mix gaps) old new
 both_mixed laws cells y from to mix gaps old between new fits whole r s =
     let f = by_cells cells mix gaps in
-    let rest : ℕ → ℕ → Bool = λ x row. in_span y from to x row && not (is_cell cells x) in
+    let rest : ℕ → ℕ → Bool = λ x row. in_row_span y from to x row && not (is_cell cells x) in
     let first : Repaints (in_cells y from to cells) f old between =
-    laws.same _ _ _ f old between whole (λ x row at. refl) (λ x row c at t. sym (cond-true (is_cell cells x) _ _ (and_parts (in_span y from to x row) (is_cell cells x) t).1)) r in
+    laws.same _ _ _ f old between whole (λ x row at. refl) (λ x row c at t. sym (cond-true (is_cell cells x) _ _ (and_parts (in_row_span y from to x row) (is_cell cells x) t).1)) r in
     let held = laws.stays_whole _ _ old between first whole in
-    let other : (x row : ℕ) → in_cells y from to (bit_not w8 cells) x row ≡ rest x row = λ x row. ap (λ (b : Bool). in_span y from to x row && b) (other_cells cells x fits) in
+    let other : (x row : ℕ) → in_cells y from to (bit_not w8 cells) x row ≡ rest x row = λ x row. ap (λ (b : Bool). in_row_span y from to x row && b) (other_cells cells x fits) in
     let second : Repaints rest f between new =
-    laws.same _ rest _ f between new held (λ x row at. other x row) (λ x row c at t. sym (cond-false (is_cell cells x) _ _ (not-true _ (and_parts (in_span y from to x row) (not (is_cell cells x)) (sym (other x row) ∙ t)).1))) s in
-    let joined = laws.both _ _ f old between new whole (λ x row at. halves_apart (in_span y from to x row) (is_cell cells x)) first second in
-    laws.same _ _ f f old new whole (λ x row at. halves_whole (in_span y from to x row) (is_cell cells x)) (λ x row c at t. refl) joined
+    laws.same _ rest _ f between new held (λ x row at. other x row) (λ x row c at t. sym (cond-false (is_cell cells x) _ _ (not-true _ (and_parts (in_row_span y from to x row) (not (is_cell cells x)) (sym (other x row) ∙ t)).1))) s in
+    let joined = laws.both _ _ f old between new whole (λ x row at. halves_apart (in_row_span y from to x row) (is_cell cells x)) first second in
+    laws.same _ _ f f old new whole (λ x row at. halves_whole (in_row_span y from to x row) (is_cell cells x)) (λ x row c at t. refl) joined
 
 -- what an ink makes of a pixel
 abbrev pub by_ink : RowInk → ℕ → ℕ → Colour → Colour
@@ -315,10 +315,10 @@ next_span spans place there =
 -- a span of one colour, where nothing is cut out
 pub full_span :
     WritingLaws → (colour : Colour) (y from to : ℕ) (now new : CanvasState) → IsWhole now
-    → Repaints (in_span y from to) (λ column row old. colour) now new
+    → Repaints (in_row_span y from to) (λ column row old. colour) now new
     → Repaints (is_painted (Full colour) [] y (is_column from to)) (by_ink (Full colour)) now new
 full_span laws colour y from to now new whole r =
-    laws.same (in_span y from to) (is_painted (Full colour) [] y (is_column from to)) (λ x row old. colour) (by_ink (Full colour)) now new whole
+    laws.same (in_row_span y from to) (is_painted (Full colour) [] y (is_column from to)) (λ x row old. colour) (by_ink (Full colour)) now new whole
     (λ x row at. alike (eqb row y) (leb from x) (ltb x to))
     (λ x row c at t. refl)
     r

@@ -20,7 +20,7 @@ use Rattle.preflight_cert.specs.Apply.{rows_after}
 use Rattle.preflight_cert.specs.CertificateOf.{certificate_of}
 use Rattle.preflight_cert.specs.Drawings.{drawings_of}
 use Rattle.preflight_cert.specs.NeedLaws.{HasRoomFor}
-use Rattle.preflight_cert.specs.Run.{Run, Writes, shown}
+use Rattle.preflight_cert.specs.Run.{Run, RunWrites, shown}
 use Rattle.preflight_cert.specs.Writes.{writes_of_drawings}
 use Rattle.preflight_cert.specs.declared.certificate.Certificate.{Certificate}
 use Rattle.preflight_cert.specs.declared.cleared.Cleared.{Cleared}
@@ -50,7 +50,7 @@ pub record WritesRunFront (cleared : Cleared) (width height : ℕ) (start : Colo
 
 -- so many pixels does the run of that file write at this size
 abbrev pub AreClearedWrites : Cleared → ℕ → ℕ → ℕ → Type 0
-AreClearedWrites cleared width height writes = (file : List ℕ) → IsOpenedFrom file cleared.opened → Writes file width height writes
+AreClearedWrites cleared width height writes = (file : List ℕ) → IsOpenedFrom file cleared.opened → RunWrites file width height writes
 
 -- a side is above the certificate's bound
 abbrev pub IsAboveBound : ℕ → ℕ → Certificate → Type 0

@@ -2,7 +2,7 @@
 use Rattle.std.specs.Prelude.{◌<◌, ◌≤◌, ◌⊎◌, ℕ, List}
 use Rattle.canvas.specs.CanvasState.{CanvasState, image_of}
 use Rattle.meta_headers.specs.File.{IsOpenedFrom}
-use Rattle.preflight_cert.specs.Run.{Run, Writes, shown}
+use Rattle.preflight_cert.specs.Run.{Run, RunWrites, shown}
 use Rattle.preflight_cert.specs.declared.certificate.Certificate.{Certificate}
 use Rattle.preflight_cert.specs.declared.cleared.Cleared.{Cleared}
 
@@ -12,13 +12,13 @@ LeavesRun cleared old new = (file : List ℕ) → IsOpenedFrom file cleared.open
 
 -- So many pixels does the run of that file write on the canvas's surface.
 abbrev pub AreRunWrites : Cleared → CanvasState → ℕ → Type 0
-AreRunWrites cleared canvas writes = (file : List ℕ) → IsOpenedFrom file cleared.opened → Writes file canvas.width canvas.rows writes
+AreRunWrites cleared canvas writes = (file : List ℕ) → IsOpenedFrom file cleared.opened → RunWrites file canvas.width canvas.rows writes
 
 -- a side of the canvas's surface is above the certificate's bound
 abbrev pub IsTooLarge : CanvasState → Certificate → Type 0
 IsTooLarge canvas c = c.max_width < canvas.width ⊎ c.max_height < canvas.rows
 
 -- no side is
-pub record IsWithinBound (canvas : CanvasState) (c : Certificate) : Type 0 where
+pub record IsCanvasWithin (canvas : CanvasState) (c : Certificate) : Type 0 where
   pub wide : canvas.width ≤ c.max_width
   pub high : canvas.rows ≤ c.max_height

@@ -10,12 +10,12 @@ use Rattle.span_fill.specs.declared.line.Line.{Line}
 use Rattle.span_fill.specs.declared.span.Region.{Region}
 
 -- the clip has the pixel, and the line has it in the region
-abbrev pub is_within : ClipValue → Line → Region → ℕ → ℕ → Bool
-is_within clip line region x y = in_boxes clip x y && (on_line line (pos x) (pos y) && in_region region x y)
+abbrev pub is_visible : ClipValue → Line → Region → ℕ → ℕ → Bool
+is_visible clip line region x y = in_boxes clip x y && (on_line line (pos x) (pos y) && in_region region x y)
 
 -- the clip has the pixel, and the line has it in the region, before this step
-abbrev pub is_taken : ClipValue → Line → Region → ℕ → ℕ → ℕ → Bool
-is_taken clip line region step x y =
+abbrev pub is_stepped : ClipValue → Line → Region → ℕ → ℕ → ℕ → Bool
+is_stepped clip line region step x y =
     in_boxes clip x y && (on_line line (pos x) (pos y) && (in_region region x y && nat_lt (step_at line (pos x) (pos y)) step))
 
 -- the steps are all that the line has in the region, the canvas has the region, and each of its pixels may be counted once

@@ -2,7 +2,7 @@
 use Rattle.std.specs.Prelude.{ℕ, ◌+◌, ◌-◌, ◌*◌, ◌<◌, ◌≤◌, ◌^◌, Bool, ◌&&◌, ◌==◌, not, List}
 use Rattle.std.specs.List.{list_any}
 use Rattle.canvas.specs.CanvasState.{CanvasState, HasRow}
-use Rattle.canvas.specs.Writing.{in_span}
+use Rattle.canvas.specs.Writing.{in_row_span}
 use Rattle.canvas.specs.WritingLaws.{IsWhole}
 use Rattle.mapping.specs.declared.geometry.Rect.{Rect}
 use Rattle.dc_stack.specs.Clip.{in_box}
@@ -24,7 +24,7 @@ CountsOnce columns old new = new.writes ≤ old.writes + (columns.to - columns.f
 
 -- the pixels of row y in these columns
 abbrev pub in_columns : ℕ → Span → ℕ → ℕ → Bool
-in_columns y columns column row = in_span y columns.from columns.to column row
+in_columns y columns column row = in_row_span y columns.from columns.to column row
 
 -- no box that is cut out has the pixel
 abbrev pub is_uncut : List Rect → ℕ → ℕ → Bool

@@ -11,7 +11,7 @@ ghost use Rattle.dc_stack.specs.Needs.{no_needs};
 ghost use Rattle.dc_stack.specs.State.{start_of};
 ghost use Rattle.preflight_cert.specs.Answer.{bound_of};
 ghost use Rattle.preflight_cert.specs.CertificateOf.{certificate_of};
-ghost use Rattle.player.specs.ClearedPlay.{AreRunWrites, IsTooLarge, IsWithinBound, LeavesRun};
+ghost use Rattle.player.specs.ClearedPlay.{AreRunWrites, IsTooLarge, IsCanvasWithin, LeavesRun};
 ghost use Rattle.player.specs.Counts.{CountsFile, HasRoomForFile};
 ghost use Rattle.player.specs.Plays.{HoldsRows, PlaysFile, PlaysOpened, SameRows};
 ghost use Rattle.preflight_cert.specs.NeedLaws.{HasRoomFor};
@@ -54,7 +54,7 @@ pub fn play(alloc: Global, cleared: &Cleared<'_>, canvas: &mut Canvas) -> Result
 fn play_within(alloc: Global, cleared: &Cleared<'_>, canvas: &mut Canvas) -> Result<u64, Fault>
     requires whole { canvas.old.first ≡ 0 }
     requires countable { HasRoomForFile canvas.old }
-    requires within { IsWithinBound canvas.old cleared.now.certificate }
+    requires within { IsCanvasWithin canvas.old cleared.now.certificate }
     ensures played { OnOk result
         (PlaysOpened (opened_of cleared.now.opened) cleared.now.opened.records.now canvas.old canvas.new) }
     ensures count { IfOk result (λ writes. canvas.new.writes ≡ canvas.old.writes + writes) }
@@ -91,7 +91,7 @@ fn play_reserved<'a, T: Table<'a>>(
     requires whole { canvas.old.first ≡ 0 }
     requires held { HoldsRows canvas.old machine.old.surface }
     requires countable { HasRoomForFile canvas.old }
-    requires within { IsWithinBound canvas.old cleared.now.certificate }
+    requires within { IsCanvasWithin canvas.old cleared.now.certificate }
     requires room { HasRoomFor cleared.now.certificate.needs machine.old }
     requires lines { (edge_limit ≤ rows.old.room) ⊎ (cleared.now.certificate.needs.edges ≤ rows.old.room) }
     requires state { machine.old.state ≡ start_of (opened_of cleared.now.opened) }

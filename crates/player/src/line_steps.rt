@@ -11,13 +11,13 @@ ghost use Rattle.mapping.specs.Mixes.{mixed_by};
 ghost use Rattle.span_fill.specs.Lines.{HasNearEnds};
 ghost use Rattle.span_fill.specs.Strokes.{on_line};
 ghost use Rattle.player.specs.Counts.{CountsLayer, HasRoomForLayer};
-ghost use Rattle.player.specs.LineSteps.{MayTake, is_within};
+ghost use Rattle.player.specs.LineSteps.{MayTake, is_visible};
 
 use crate::regions::visible;
 use canvas::{Canvas, writing_law};
 use dc_stack::Clip;
 use mapping::{Colour, Mix};
-use span_fill::{Line, Pixel, Steps, line_law};
+use span_fill::{Line, LineSteps, Pixel, line_law};
 
 /// Mixes those pixels of a line that a clip has. It isn't inlined, which leaves its loops enough registers.
 #[inline(never)]
@@ -29,7 +29,7 @@ pub(crate) fn mix_line(canvas: &mut Canvas, line: Line, mix: Mix, clip: &Clip)
 {
     writing_law();
     let constant = mix.constant();
-    let steps = Steps::new(line, visible(canvas, clip));
+    let steps = LineSteps::new(line, visible(canvas, clip));
     if !clip.cut_boxes().is_empty() {
         mix_uncut(canvas, steps, mix, constant, clip);
     } else if let Some(colour) = constant {
@@ -40,9 +40,9 @@ pub(crate) fn mix_line(canvas: &mut Canvas, line: Line, mix: Mix, clip: &Clip)
 }
 
 /// Gives the pixels of the steps one colour.
-fn put_steps(canvas: &mut Canvas, steps: Steps, colour: Colour)
+fn put_steps(canvas: &mut Canvas, steps: LineSteps, colour: Colour)
     requires { MayTake steps canvas.old }
-    ensures { Repaints (is_within unclipped steps.line steps.region) (λ x y old. colour) canvas.old canvas.new }
+    ensures { Repaints (is_visible unclipped steps.line steps.region) (λ x y old. colour) canvas.old canvas.new }
 {
     writing_law();
     line_law();
@@ -53,9 +53,9 @@ fn put_steps(canvas: &mut Canvas, steps: Steps, colour: Colour)
 }
 
 /// Mixes the pixels of the steps.
-fn mix_steps(canvas: &mut Canvas, steps: Steps, mix: Mix)
+fn mix_steps(canvas: &mut Canvas, steps: LineSteps, mix: Mix)
     requires { MayTake steps canvas.old }
-    ensures { Repaints (is_within unclipped steps.line steps.region) (λ x y old. mixed_by mix old) canvas.old canvas.new }
+    ensures { Repaints (is_visible unclipped steps.line steps.region) (λ x y old. mixed_by mix old) canvas.old canvas.new }
 {
     writing_law();
     line_law();
@@ -66,10 +66,10 @@ fn mix_steps(canvas: &mut Canvas, steps: Steps, mix: Mix)
 }
 
 /// Mixes those pixels of the steps that the clip has. The mix makes this colour of every colour, if it makes one.
-fn mix_uncut(canvas: &mut Canvas, steps: Steps, mix: Mix, constant: Option<Colour>, clip: &Clip)
+fn mix_uncut(canvas: &mut Canvas, steps: LineSteps, mix: Mix, constant: Option<Colour>, clip: &Clip)
     requires steps { MayTake steps canvas.old }
     requires constant { IfSome constant (λ colour. (old : Colour) → mixed_by mix old ≡ colour) }
-    ensures { Repaints (is_within (placed_value clip.now) steps.line steps.region) (λ x y old. mixed_by mix old) canvas.old canvas.new }
+    ensures { Repaints (is_visible (placed_value clip.now) steps.line steps.region) (λ x y old. mixed_by mix old) canvas.old canvas.new }
 {
     writing_law();
     line_law();

@@ -11,7 +11,7 @@ ghost use Rattle.player.specs.Counts.{CountsFile, HasFullLines, HasRoomForFile};
 ghost use Rattle.player.specs.Leaving.{IsLeftBy, IsLeftByRecords};
 ghost use Rattle.player.specs.Plays.{HoldsRows, PlaysContent, PlaysFile, PlaysOpened, SameRows, StopsBy, StopsFileBy, StopsOpenedBy, WantsMemory};
 ghost use Rattle.preflight_cert.specs.Refusal.{TellsNumber};
-ghost use Rattle.preflight_cert.specs.Run.{Refused, Run, Writes, shown, white};
+ghost use Rattle.preflight_cert.specs.Run.{Refused, Run, RunWrites, shown, white};
 
 use crate::advance::advance;
 use crate::drawing::draw;
@@ -37,7 +37,7 @@ pub fn play_file(alloc: Global, file: &[u8], width: u32, height: u32) -> Result<
     requires wide { IsSurfaceSide width }
     requires high { IsSurfaceSide height }
     ensures image { IfOk result (λ canvas. Run file.now width height (white width height) (shown (image_of canvas))) }
-    ensures writes { IfOk result (λ canvas. Writes file.now width height canvas.writes) }
+    ensures writes { IfOk result (λ canvas. RunWrites file.now width height canvas.writes) }
     ensures whole_surface { IfOk result (λ canvas. canvas.first ≡ 0) }
     ensures refusal { IfErr result (λ r. WantsMemory file.now r ⊎ Refused file.now width height r.number r.fault) }
     ensures memory { IfErr result (λ r. r.fault ≡ Fault.OutOfMemory → WantsMemory file.now r) }

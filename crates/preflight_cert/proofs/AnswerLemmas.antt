@@ -28,7 +28,7 @@ use Rattle.preflight_cert.specs.Checked.{checked, checked_end}
 use Rattle.preflight_cert.specs.Drawings.{NumberedDrawing, drawing_then, drawings_of}
 use Rattle.preflight_cert.specs.Entries.{AreCovered, Covers, covers, entries_behind, entry_fault}
 use Rattle.preflight_cert.specs.NeedLaws.{AreWithin}
-use Rattle.preflight_cert.specs.Run.{Refused, ShowsImage, StopsInRecord, Writes}
+use Rattle.preflight_cert.specs.Run.{Refused, ShowsImage, StopsInRecord, RunWrites}
 use Rattle.preflight_cert.specs.SizeLaws.{SizeLaws}
 use Rattle.preflight_cert.specs.Stop.{Stop, stop_at, stop_of, stopped}
 use Rattle.preflight_cert.specs.Writes.{writes_after}
@@ -201,7 +201,7 @@ module _ (one : FileIsOne) (laws : SizeLaws) (file : List ℕ) (o : OpenedValue)
   never_refused width height None fault w h k = opens_or_not (opened file) o fault opens k
   never_refused width height (Some number) fault w h k = never_stops width height number fault w h k
 
-  few_written : (width height writes : ℕ) → width ≤ c.max_width → height ≤ c.max_height → Writes file width height writes → writes ≤ c.writes
+  few_written : (width height writes : ℕ) → width ≤ c.max_width → height ≤ c.max_height → RunWrites file width height writes → writes ≤ c.writes
   few_written width height writes w h k =
       let e = ap (λ (it : OpenedValue × Content). writes_after (drawings_of it.1.steps (start_of it.0)) (surface_for it.0 width height)) (same k.headers k.content k.of_file) in
       let few = laws.few (drawings_of answer.content.steps (start_of o)) c.entries (surface_for o width height) (bound_of o c) frame (no_larger o c width height w h) fits.covered in

@@ -4,7 +4,7 @@ use Rattle.std.specs.List.{All}
 use Rattle.std.proofs.lemmas.Int.{ints}
 use Rattle.std.proofs.lemmas.List.Elements.{All-nil}
 use Rattle.mapping.specs.BoxLaws.{BoxLaws}
-use Rattle.mapping.specs.Boxes.{HasPoint, IsLeastBox, IsTight, box_at, no_box}
+use Rattle.mapping.specs.Boxes.{HasPoint, IsLeastBox, IsTight, point_box, no_box}
 use Rattle.mapping.specs.declared.geometry.Point.{Point}
 use Rattle.mapping.specs.declared.geometry.Rect.{Rect}
 use Rattle.preflight_cert.specs.Gathered.{box_around, box_over, least_box}
@@ -18,12 +18,12 @@ no_more (p ∷ ps) = ap (λ (qs : List Point). p ∷ qs) (no_more ps)
 around_tight : BoxLaws → (box : Rect) (front points : List Point) → IsTight box front → IsTight (box_around box points) (front ++ points)
 around_tight laws box front [] tight = subst (λ (ps : List Point). IsTight box ps) (sym (no_more front)) tight
 around_tight laws box front (point ∷ points) tight =
-    let both = laws.joins box (box_at point) (box_over box (box_at point)) front (point ∷ []) tight (laws.single point) (record { left = refl; top = refl; right = refl; bottom = refl }) in
-    subst (λ (ps : List Point). IsTight (box_around (box_over box (box_at point)) points) ps) (append_assoc front (point ∷ []) points)
-    (around_tight laws (box_over box (box_at point)) (front ++ point ∷ []) points both)
+    let both = laws.joins box (point_box point) (box_over box (point_box point)) front (point ∷ []) tight (laws.single point) (record { left = refl; top = refl; right = refl; bottom = refl }) in
+    subst (λ (ps : List Point). IsTight (box_around (box_over box (point_box point)) points) ps) (append_assoc front (point ∷ []) points)
+    (around_tight laws (box_over box (point_box point)) (front ++ point ∷ []) points both)
 
 least_tight : BoxLaws → (point : Point) (points : List Point) → IsTight (least_box (point ∷ points)) (point ∷ points)
-least_tight laws point points = around_tight laws (box_at point) (point ∷ []) points (laws.single point)
+least_tight laws point points = around_tight laws (point_box point) (point ∷ []) points (laws.single point)
 
 order_both : (u v : ℤ) → u ≤ℤ v → v ≤ℤ u → u ≡ v
 order_both u v a b = omega (arith, ints, a, b)

@@ -22,7 +22,7 @@ use Rattle.preflight_cert.specs.DrawingBoxLaws.{IsClosedShape, Reaches, shape_po
 use Rattle.preflight_cert.specs.FigureLines.{lines_along, placed_figures}
 use Rattle.span_fill.specs.LineBoxes.{HasLine, IsBalanced, LineBoxLaws}
 use Rattle.preflight_cert.specs.Outlines.{closed_lines}
-use Rattle.mapping.specs.PixelBoxes.{HasPixel}
+use Rattle.mapping.specs.PixelBoxes.{BoxHasPixel}
 use Rattle.preflight_cert.specs.Rectangles.{corner_pixels, has_inside, raised, rectangle_on}
 use Rattle.preflight_cert.specs.Shape.{Shape, along_figures, fill_rule_of, in_shape, inside_figures, inside_rectangle, pixel_under, round_rectangle}
 use Rattle.preflight_cert.proofs.OutlineLemmas.{BothEnds, ends_along, ends_closed, figures_balanced}
@@ -153,7 +153,7 @@ nothing_inside NonZero x y = refl
 -- pixels of lines, and inside of them
 module _ (boxes : LineBoxLaws) (box : Rect) (s : Surface) where
   -- a pixel of lines whose ends are so
-  reached : (line : Line) (lines : List Line) (x y : ℕ) → All (AreIn box s) (line ∷ lines) → HasPixel (placed_box s box) x y → Reaches box s x y
+  reached : (line : Line) (lines : List Line) (x y : ℕ) → All (AreIn box s) (line ∷ lines) → BoxHasPixel (placed_box s box) x y → Reaches box s x y
   reached line lines x y all pixel =
       let h = All-head (AreIn box s) line lines all in record { wide = h.from.wide; high = h.from.high; pixel = pixel }
 

@@ -17,7 +17,7 @@ use Rattle.preflight_cert.specs.Checked.{checked}
 use Rattle.preflight_cert.specs.Drawings.{drawings_of}
 use Rattle.preflight_cert.specs.Entries.{AreCovered, budget_of}
 use Rattle.preflight_cert.specs.NeedLaws.{AreWithin}
-use Rattle.preflight_cert.specs.Run.{Run, Writes, refused, shown}
+use Rattle.preflight_cert.specs.Run.{Run, RunWrites, refused, shown}
 use Rattle.preflight_cert.specs.Stop.{Stop, stop_of}
 use Rattle.preflight_cert.specs.declared.refusal.Refusal.{Refusal}
 
@@ -108,7 +108,7 @@ pub record Sound (file : List ℕ) (max_width max_height most : ℕ) : Type 0 wh
   pub faultless :
       (width height : ℕ) (image : Image) (number : Option ℕ) (fault : Fault) → width ≤ max_width → height ≤ max_height
       → Run file width height image (refused number fault) → ⊥
-  pub few : (width height writes : ℕ) → width ≤ max_width → height ≤ max_height → Writes file width height writes → writes ≤ most
+  pub few : (width height writes : ℕ) → width ≤ max_width → height ≤ max_height → RunWrites file width height writes → writes ≤ most
 
 -- There is one answer. Records are accepted exactly where the certificate fits them, and then the file is sound within its bound and writes.
 pub record AnswerLaws : Type 0 where

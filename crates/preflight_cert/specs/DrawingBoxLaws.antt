@@ -11,7 +11,7 @@ use Rattle.dc_stack.specs.Drawing.{Drawing, drawing_points}
 use Rattle.dc_stack.specs.Figures.{Figure, points_of_figures}
 use Rattle.preflight_cert.specs.Budget.{layers_budget}
 use Rattle.preflight_cert.specs.Layer.{layers_of}
-use Rattle.mapping.specs.PixelBoxes.{HasPixel}
+use Rattle.mapping.specs.PixelBoxes.{BoxHasPixel}
 use Rattle.preflight_cert.specs.Shape.{Shape, along_figures, in_shape, inside_figures, inside_rectangle, pixel_under, round_rectangle}
 use Rattle.preflight_cert.specs.Writes.{writes_of_layers}
 
@@ -39,7 +39,7 @@ IsClosedShape (round_rectangle p q edges) = Unit
 pub record Reaches (box : Rect) (s : Surface) (x y : ℕ) : Type 0 where
   pub wide : box.l ≤ℤ box.r
   pub high : box.t ≤ℤ box.b
-  pub pixel : HasPixel (placed_box s box) x y
+  pub pixel : BoxHasPixel (placed_box s box) x y
 
 -- A shape that isn't the inside of open figures has pixels only where a box that has its points lands. So a drawing writes at most its layers'
 -- budget by such a box, on this surface and on each that is no larger.

@@ -2,7 +2,7 @@
 use Rattle.std.specs.Prelude.{◌≡◌, ℕ, List, [], ◌∷◌, ◌++◌, map, Option, Some, None}
 use Rattle.std.specs.Int.{int_max, int_min}
 use Rattle.std.specs.List.{All, flat_map}
-use Rattle.mapping.specs.Boxes.{box_at, no_box}
+use Rattle.mapping.specs.Boxes.{point_box, no_box}
 use Rattle.mapping.specs.Surface.{Surface}
 use Rattle.mapping.specs.declared.geometry.Point.{Point}
 use Rattle.mapping.specs.declared.geometry.Rect.{Rect}
@@ -33,12 +33,12 @@ box_over first second = record {
 -- the box around a box and points
 abbrev pub box_around : Rect → List Point → Rect
 box_around box [] = box
-box_around box (point ∷ points) = box_around (box_over box (box_at point)) points
+box_around box (point ∷ points) = box_around (box_over box (point_box point)) points
 
 -- the least box around points
 abbrev pub least_box : List Point → Rect
 least_box [] = no_box
-least_box (point ∷ points) = box_around (box_at point) points
+least_box (point ∷ points) = box_around (point_box point) points
 
 -- the entry of a drawing, with the least box around its points
 abbrev pub least_entry : NumberedDrawing → Entry

@@ -54,7 +54,7 @@ abbrev pub white : ℕ → ℕ → Image
 white width height = blank width height white_colour
 
 -- How many pixels the run of a file at a size writes: it opens, its records don't stop, and their steps write so many.
-pub record Writes (file : List ℕ) (width height writes : ℕ) : Type 0 where
+pub record RunWrites (file : List ℕ) (width height writes : ℕ) : Type 0 where
   pub headers : OpenedValue
   pub content : Content
   pub of_file : IsFile file headers content
@@ -74,4 +74,4 @@ RefusedOverAnyImage =
 -- a run without a fault writes one number of pixels
 abbrev pub WritesAreOne : Type 0
 WritesAreOne =
-    (file : List ℕ) (width height : ℕ) (image after : Image) → Run file width height image (shown after) → ExactlyOne (Writes file width height)
+    (file : List ℕ) (width height : ℕ) (image after : Image) → Run file width height image (shown after) → ExactlyOne (RunWrites file width height)

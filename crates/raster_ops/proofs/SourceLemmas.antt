@@ -12,7 +12,7 @@ use Rattle.dib_views.specs.Pictures.{picture_colour}
 use Rattle.dib_views.specs.declared.view.DibView.{DibView}
 use Rattle.draw_ops.specs.Blits.{SourceValue}
 use Rattle.raster_ops.specs.Readers.{column_read, reading_of, row_read}
-use Rattle.raster_ops.specs.Sources.{Reading, axis_read, colour_read, columns_read, distance, first_row, index_read, is_axis_inside, is_inside, least_end, rows_read}
+use Rattle.raster_ops.specs.Sources.{Reading, axis_read, colour_read, columns_read, distance, first_row, index_read, is_axis_inside, is_source_inside, least_end, rows_read}
 use Rattle.raster_ops.specs.declared.sources.AxisReading.{AxisReading}
 use Rattle.raster_ops.specs.declared.sources.SourceReader.{SourceReader}
 
@@ -55,7 +55,7 @@ same_reading a b e f g h i =
     ∙ ap (λ (n : Bool). reading b.first b.count b.near b.side n) i
 
 -- a rectangle is inside where both axes of it are
-pub inside_by : (source : SourceValue) (row : ℤ) → row ≡ first_row source → (is_axis_inside (least_end source.corner.x source.extent.x) source.extent.x source.picture.width && is_axis_inside row source.extent.y source.picture.height) ≡ is_inside source
+pub inside_by : (source : SourceValue) (row : ℤ) → row ≡ first_row source → (is_axis_inside (least_end source.corner.x source.extent.x) source.extent.x source.picture.width && is_axis_inside row source.extent.y source.picture.height) ≡ is_source_inside source
 inside_by source row e =
     ap (λ r. is_axis_inside (least_end source.corner.x source.extent.x) source.extent.x source.picture.width && is_axis_inside r source.extent.y source.picture.height) e
 

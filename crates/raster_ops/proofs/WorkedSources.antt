@@ -6,7 +6,7 @@ use Rattle.mapping.specs.declared.geometry.Colour.{Colour}
 use Rattle.mapping.specs.declared.geometry.Point.{Point}
 use Rattle.dib_views.specs.Pictures.{Picture}
 use Rattle.draw_ops.specs.Blits.{CountedFrom, SourceValue, bottom, top}
-use Rattle.raster_ops.specs.Sources.{colour_read, columns_read, first_row, index_read, is_inside, is_mirrored, is_readable, scaled_place, source_colour}
+use Rattle.raster_ops.specs.Sources.{colour_read, columns_read, first_row, index_read, is_source_inside, is_mirrored, is_readable, scaled_place, source_colour}
 
 -- columns 0 on of a side, each as the column that it reads
 abbrev scaled : ℕ → ℕ → List ℕ → List ℕ
@@ -115,37 +115,37 @@ all_rows_straight : colour_read (source bottom (point (pos 0) (pos 0)) (point (p
 all_rows_straight = refl
 
 -- rectangles that touch each side, and ones that go one past it
-whole_is_inside : is_inside whole ≡ true
+whole_is_inside : is_source_inside whole ≡ true
 whole_is_inside = refl
 
-touches_right_and_bottom : is_inside (source top (point (pos 2) (pos 1)) (point (pos 1) (pos 1))) ≡ true
+touches_right_and_bottom : is_source_inside (source top (point (pos 2) (pos 1)) (point (pos 1) (pos 1))) ≡ true
 touches_right_and_bottom = refl
 
-touches_left_and_top : is_inside (source top (point (pos 1) (pos 1)) (point (negsuc 0) (negsuc 0))) ≡ true
+touches_left_and_top : is_source_inside (source top (point (pos 1) (pos 1)) (point (negsuc 0) (negsuc 0))) ≡ true
 touches_left_and_top = refl
 
-past_the_right : is_inside (source top (point (pos 1) (pos 0)) (point (pos 3) (pos 2))) ≡ false
+past_the_right : is_source_inside (source top (point (pos 1) (pos 0)) (point (pos 3) (pos 2))) ≡ false
 past_the_right = refl
 
-past_the_bottom : is_inside (source top (point (pos 0) (pos 1)) (point (pos 3) (pos 2))) ≡ false
+past_the_bottom : is_source_inside (source top (point (pos 0) (pos 1)) (point (pos 3) (pos 2))) ≡ false
 past_the_bottom = refl
 
-past_the_left : is_inside (source top (point (negsuc 0) (pos 0)) (point (pos 3) (pos 2))) ≡ false
+past_the_left : is_source_inside (source top (point (negsuc 0) (pos 0)) (point (pos 3) (pos 2))) ≡ false
 past_the_left = refl
 
-past_the_top : is_inside (source top (point (pos 0) (pos 1)) (point (pos 3) (negsuc 1))) ≡ false
+past_the_top : is_source_inside (source top (point (pos 0) (pos 1)) (point (pos 3) (negsuc 1))) ≡ false
 past_the_top = refl
 
-past_the_bottom_from_there : is_inside (source bottom (point (pos 0) (negsuc 0)) (point (pos 3) (pos 2))) ≡ false
+past_the_bottom_from_there : is_source_inside (source bottom (point (pos 0) (negsuc 0)) (point (pos 3) (pos 2))) ≡ false
 past_the_bottom_from_there = refl
 
-past_the_top_from_there : is_inside (source bottom (point (pos 0) (pos 1)) (point (pos 3) (pos 2))) ≡ false
+past_the_top_from_there : is_source_inside (source bottom (point (pos 0) (pos 1)) (point (pos 3) (pos 2))) ≡ false
 past_the_top_from_there = refl
 
-no_width : is_inside (source top (point (pos 1) (pos 0)) (point (pos 0) (pos 2))) ≡ false
+no_width : is_source_inside (source top (point (pos 1) (pos 0)) (point (pos 0) (pos 2))) ≡ false
 no_width = refl
 
-no_height : is_inside (source top (point (pos 0) (pos 1)) (point (pos 3) (pos 0))) ≡ false
+no_height : is_source_inside (source top (point (pos 0) (pos 1)) (point (pos 3) (pos 0))) ≡ false
 no_height = refl
 
 nothing_to_read : is_readable None ≡ false

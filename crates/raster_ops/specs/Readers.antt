@@ -40,6 +40,10 @@ column_read reader x = unsigned_abs (index_read (reading_of reader.columns) x)
 abbrev pub row_read : SourceReader → ℕ → ℕ
 row_read reader y = unsigned_abs (index_read (reading_of reader.rows) y)
 
+-- the colour that the surface's column x reads in a row of a reader's picture
+abbrev pub column_colour : SourceReader → ℕ → ℕ → Colour
+column_colour reader row x = picture_colour (picture_of reader.picture) (column_read reader x) row
+
 -- what a blit's box between two corners reads of a source is at each pixel what the reader's picture has where the reader reads
 abbrev pub ReadsSource : SourceReader → Option SourceValue → Point → Point → Type 0
 ReadsSource reader source p q =

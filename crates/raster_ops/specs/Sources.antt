@@ -94,12 +94,12 @@ abbrev pub is_axis_inside : ℤ → ℤ → ℕ → Bool
 is_axis_inside first extent side = nat_lt 0 (unsigned_abs extent) && lies_within first (unsigned_abs extent) side
 
 -- a source rectangle has pixels, and lies inside of its picture
-abbrev pub is_inside : SourceValue → Bool
-is_inside source =
+abbrev pub is_source_inside : SourceValue → Bool
+is_source_inside source =
     is_axis_inside (least_end source.corner.x source.extent.x) source.extent.x source.picture.width
     && is_axis_inside (first_row source) source.extent.y source.picture.height
 
 -- there is a bitmap, and the rectangle of it that is read has pixels and lies inside
 abbrev pub is_readable : Option SourceValue → Bool
 is_readable None = false
-is_readable (Some source) = is_inside source
+is_readable (Some source) = is_source_inside source

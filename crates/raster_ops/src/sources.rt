@@ -2,7 +2,6 @@
 
 ghost use Rattle.std.specs.Prelude.{◌≡◌, ◌<◌, ◌≤◌, ◌+◌, ◌^◌, pos, ◌+ℤ◌, ◌≤ℤ◌, ◌<ℤ◌, IsTrue, IfSome, is_some, length};
 ghost use Rattle.std.specs.Int.{int_min};
-ghost use Rattle.dib_views.specs.Pictures.{picture_colour};
 ghost use Rattle.dib_views.specs.PictureOf.{picture_of};
 ghost use Rattle.draw_ops.specs.Blits.{source_of};
 ghost use Rattle.mapping.specs.Surface.{FitsPlace};
@@ -54,7 +53,7 @@ pub struct SourceReader<'a> {
 }
 
 impl<'a> SourceReader<'a> {
-    ghost use Rattle.raster_ops.specs.Readers.{ReadsSource, column_read, columns_of, is_inside_from, reading_of, row_read};
+    ghost use Rattle.raster_ops.specs.Readers.{ReadsSource, column_colour, column_read, columns_of, is_inside_from, reading_of, row_read};
 
     /// How a box between two placed corners reads: none exactly where there is no bitmap, or its rectangle has
     /// no pixel or isn't inside, whatever the box is.
@@ -139,7 +138,7 @@ impl<'a> SourceReader<'a> {
         requires room { to ≤ length out.old }
         requires from { self.now.columns.near ≤ℤ pos from }
         requires to { pos to ≤ℤ (self.now.columns.near +ℤ pos self.now.columns.side) }
-        ensures colours { AreAt (λ x. picture_colour (picture_of self.now.picture) (column_read self.now x) row) from to out.new }
+        ensures colours { AreAt (λ x. column_colour self.now row x) from to out.new }
         ensures parts { HaveBytes from to out.new }
         ensures others { AreKeptBeside from to out.old out.new }
     {

@@ -8,7 +8,7 @@ use Rattle.mapping.specs.declared.geometry.Point.{Point}
 use Rattle.std.proofs.Math.Nat.{mul-le-mul}
 use Rattle.mapping.specs.Floor.{floor_div}
 use Rattle.mapping.specs.Limits.{IsWithin, place_limit}
-use Rattle.span_fill.specs.Edges.{EdgeCanMove, IsEdge, active_at, active_with, near_column, moved, moved_rest, rest_of}
+use Rattle.span_fill.specs.Edges.{EdgeCanMove, IsEdge, active_at, active_with, near_column, moved, moved_rest, remainder_of}
 use Rattle.span_fill.specs.Fill.{across, crossing_dividend, crossing_divisor, down}
 use Rattle.span_fill.specs.Lines.{IsNear}
 use Rattle.span_fill.specs.declared.edge.Edge.{Edge}
@@ -86,7 +86,7 @@ floor_within n a e h k =
     record { low = omega (arith, ints, is, least); high = omega (arith, ints, is, most) }
 
 -- what is left is from 0 up to before the divisor
-pub rest_bounds : (a e : ℤ) → pos 1 ≤ℤ e → (pos 0 ≤ℤ rest_of a e) × (rest_of a e <ℤ e)
+pub rest_bounds : (a e : ℤ) → pos 1 ≤ℤ e → (pos 0 ≤ℤ remainder_of a e) × (remainder_of a e <ℤ e)
 rest_bounds a e h =
     let is = ap (λ q. q *ℤ e) (floor_positive a e h) in
     let turned = mul_comm_ℤ (int_div_euclid a e) e in
@@ -95,7 +95,7 @@ rest_bounds a e h =
     (omega (arith, ints, is, turned, low), omega (arith, ints, is, turned, high))
 
 -- the floor and the rest are the only such numbers
-pub floor_and_rest : (a e q r : ℤ) → pos 1 ≤ℤ e → a ≡ q *ℤ e +ℤ r → pos 0 ≤ℤ r → r <ℤ e → (floor_div a e ≡ q) × (rest_of a e ≡ r)
+pub floor_and_rest : (a e q r : ℤ) → pos 1 ≤ℤ e → a ≡ q *ℤ e +ℤ r → pos 0 ≤ℤ r → r <ℤ e → (floor_div a e ≡ q) × (remainder_of a e ≡ r)
 floor_and_rest a e q r h is low high =
     let turned = mul_comm_ℤ q e in
     let floor : floor_div a e ≡ q = floor_positive a e h ∙ floor_one a e q h (omega (arith, ints, is, turned, low)) (omega (arith, ints, is, turned, high)) in
@@ -114,7 +114,7 @@ divisor_low : (edge : Edge) → IsEdge edge → pos 1 ≤ℤ crossing_divisor ed
 divisor_low edge h = let order = h.order in omega (arith, ints, order)
 
 -- a sum of fractions by one divisor, with a carry or without
-carried : (a b e q r s m : ℤ) → pos 1 ≤ℤ e → a ≡ q *ℤ e +ℤ r → b ≡ s *ℤ e +ℤ m → pos 0 ≤ℤ r → r <ℤ e → pos 0 ≤ℤ m → m <ℤ e → (floor_div (a +ℤ b) e ≡ q +ℤ s +ℤ (if int_le e (r +ℤ m) then pos 1 else pos 0)) × (rest_of (a +ℤ b) e ≡ r +ℤ m -ℤ (if int_le e (r +ℤ m) then e else pos 0))
+carried : (a b e q r s m : ℤ) → pos 1 ≤ℤ e → a ≡ q *ℤ e +ℤ r → b ≡ s *ℤ e +ℤ m → pos 0 ≤ℤ r → r <ℤ e → pos 0 ≤ℤ m → m <ℤ e → (floor_div (a +ℤ b) e ≡ q +ℤ s +ℤ (if int_le e (r +ℤ m) then pos 1 else pos 0)) × (remainder_of (a +ℤ b) e ≡ r +ℤ m -ℤ (if int_le e (r +ℤ m) then e else pos 0))
 carried a b e q r s m h a_is b_is r_low r_high m_low m_high =
     let sum = add_mul q s e in
     elim (cases_Bool (int_le e (r +ℤ m))) [
@@ -129,7 +129,7 @@ carried a b e q r s m h a_is b_is r_low r_high m_low m_high =
     ]
 
 -- a fraction's parts make it
-parts_of : (a e : ℤ) → a ≡ floor_div a e *ℤ e +ℤ rest_of a e
+parts_of : (a e : ℤ) → a ≡ floor_div a e *ℤ e +ℤ remainder_of a e
 parts_of a e = omega (arith, ints)
 
 -- by additions the edge is where it crosses the next row
@@ -144,7 +144,7 @@ moved_is_next edge y h =
     let next = carried a b e _ _ _ _ positive (parts_of a e) (parts_of b e) r.0 r.1 m.0 m.1 in
     let sum = dividend_moves edge.upper edge.lower y in
     let quotient = ap (λ n. floor_div n e) sum ∙ next.0 in
-    let rest = ap (λ n. rest_of n e) sum ∙ next.1 in
+    let rest = ap (λ n. remainder_of n e) sum ∙ next.1 in
     ap (λ q. active_with edge q (moved_rest (active_at y edge))) (sym quotient) ∙ ap (λ r. active_with edge (floor_div (crossing_dividend edge.upper edge.lower (suc y)) e) r) (sym rest)
 
 -- how large the numbers are

@@ -12,7 +12,7 @@ use Rattle.std.proofs.lemmas.List.Recursion.{is_sum_by}
 use Rattle.std.proofs.lemmas.List.Sorted.{All-permutation, IsPermutation-append, IsPermutation-map, IsPermutation-sym, IsPermutation-trans, sum_by-IsPermutation}
 use Rattle.mapping.specs.declared.geometry.Point.{Point}
 use Rattle.span_fill.specs.Crossings.{crossings_from, crossings_of, crossings_of_line}
-use Rattle.span_fill.specs.Edges.{EdgeCanMove, IsEdge, active_at, active_edges, begins_behind, begins_by, crosses_row, crossing_of, edges_from, edges_of_line, ends_behind, first_row, goes_to, moved, near_row}
+use Rattle.span_fill.specs.Edges.{EdgeCanMove, IsEdge, active_at, active_edges, begins_behind, begins_by, crosses_row, crossing_of, edges_from, edges_of_line, ends_behind, edge_first_row, goes_to, moved, near_row}
 use Rattle.span_fill.specs.Fill.{crossed_downwards, crossed_upwards, has_row, in_fill, is_crossed, is_inside}
 use Rattle.span_fill.specs.Lines.{HasNearEnds}
 use Rattle.span_fill.specs.Sweep.{CrossFrom, AreSorted, downwards_at, upwards_at}
@@ -48,7 +48,7 @@ crosses_twice y edge = let e = crosses_is y edge in grind (arith, nat_tests)
 
 waits_twice : (y : ℕ) (edge : Edge) → IsEdge edge → begins_behind y edge ≡ (ends_behind y edge && begins_behind y edge)
 waits_twice y edge h =
-    elim (cases_lt y (first_row edge)) [
+    elim (cases_lt y (edge_first_row edge)) [
       | inl k ↦ let order = row_order edge.upper.y edge.lower.y h.order (omega (arith, k)) in grind (arith, nat_tests)
       | inr k ↦ grind (arith, nat_tests)
     ]
@@ -62,7 +62,7 @@ splits_next : (y z : ℕ) (edge : Edge) → z ≡ y + 1 → IsEdge edge → Spli
 splits_next y z edge e h =
     let now_ = crosses_is y edge in
     let next = crosses_is z edge in
-    elim (cases_lt y (first_row edge)) [
+    elim (cases_lt y (edge_first_row edge)) [
       | inl k ↦ let order = row_order edge.upper.y edge.lower.y h.order (omega (arith, k)) in
           by_second (next ∙ grind (arith, nat_tests)) (ap (λ t. t && ends_behind z edge) now_ ∙ grind (arith, nat_tests))
       | inr k ↦ by_first (next ∙ sym (ap (λ t. t && ends_behind z edge) now_ ∙ grind (arith, nat_tests))) (grind (arith, nat_tests))

@@ -19,7 +19,7 @@ use Rattle.span_fill.proofs.LineLaw.{by_axis, on_flat, on_steep}
 use Rattle.span_fill.proofs.Products.{add_mul, mul_add, mul_comm_ℤ, mul_one, mul_order, mul_sub, mul_twice, sub_mul, twice_mul}
 use Rattle.span_fill.proofs.StepLemmas.{along_parts, by_towards}
 use Rattle.mapping.specs.Boxes.{HasPoint}
-use Rattle.mapping.specs.PixelBoxes.{HasPixel}
+use Rattle.mapping.specs.PixelBoxes.{BoxHasPixel}
 use Rattle.span_fill.specs.LineBoxes.{HasLine, IsBalanced, LineBoxLaws, met_downwards, met_upwards}
 
 -- a test is met or it isn't
@@ -61,7 +61,7 @@ in_rows : (box : Rect) (point : Point) → HasPoint box point → LiesFromTo box
 in_rows box point h = record { least = h.top; most = h.bottom }
 
 -- a pixel of a line
-on_line_lies : (box : Rect) (line : Line) (x y : ℕ) → HasLine box line → on_line line (pos x) (pos y) ≡ true → HasPixel box x y
+on_line_lies : (box : Rect) (line : Line) (x y : ℕ) → HasLine box line → on_line line (pos x) (pos y) ≡ true → BoxHasPixel box x y
 on_line_lies box line x y h t =
     by_axis line
     (λ (e : is_steep line ≡ true).
@@ -82,7 +82,7 @@ either : {P : Type 0} (a b : Bool) → (a || b) ≡ true → (a ≡ true → P) 
 either true b t f g = f refl
 either false b t f g = g t
 
-stroke_lies : (box : Rect) (lines : List Line) (x y : ℕ) → All (HasLine box) lines → in_stroke lines x y ≡ true → HasPixel box x y
+stroke_lies : (box : Rect) (lines : List Line) (x y : ℕ) → All (HasLine box) lines → in_stroke lines x y ≡ true → BoxHasPixel box x y
 stroke_lies box [] x y all t = absurd (true≢false (sym t))
 stroke_lies box (line ∷ lines) x y all t =
     either (on_line line (pos x) (pos y)) (in_stroke lines x y) t
@@ -229,7 +229,7 @@ row_low rule box lines x y all t =
           (λ (g : pos y ≤ℤ box.b). g),
     )
 
-fill_lies : (rule : FillRule) (box : Rect) (lines : List Line) (x y : ℕ) → IsBalanced lines → All (HasLine box) lines → in_fill rule lines x y ≡ true → HasPixel box x y
+fill_lies : (rule : FillRule) (box : Rect) (lines : List Line) (x y : ℕ) → IsBalanced lines → All (HasLine box) lines → in_fill rule lines x y ≡ true → BoxHasPixel box x y
 fill_lies rule box lines x y balanced all t =
     let rows = row_low rule box lines x y all t in
     record {

@@ -4,7 +4,7 @@ use Rattle.std.specs.List.{All, filter}
 use Rattle.std.specs.List.Sorted.{IsNonDecreasingBy, IsPermutation}
 use Rattle.std.proofs.lemmas.List.Elements.{All-filter}
 use Rattle.std.proofs.lemmas.List.Sorted.{All-permutation, IsPermutation-trans}
-use Rattle.span_fill.specs.Edges.{IsEdge, active_at, begins_behind, begins_by, crossing_of, edges_from, ends_behind, first_row, goes_to, moved}
+use Rattle.span_fill.specs.Edges.{IsEdge, active_at, begins_behind, begins_by, crossing_of, edges_from, ends_behind, edge_first_row, goes_to, moved}
 use Rattle.span_fill.specs.Fill.{is_inside}
 use Rattle.span_fill.specs.Lines.{HasNearEnds}
 use Rattle.span_fill.specs.RowFields.{IsFilling, row_work}
@@ -30,7 +30,7 @@ listed_edges y lines collected edges near is so =
     (subst (λ (es : List Edge). All IsEdge es) (sym is) (All-filter (ends_behind y) IsEdge (edges_from 0 lines) (edges_near 0 lines near)))
 
 -- a begin
-pub filling_begins : (y room : ℕ) (lines : List Line) (collected edges : List Edge) (begun : ℕ) (admitted active : List ActiveEdge) (crossings : List Crossing) → All HasNearEnds lines → y ≤ 8192 → collected ≡ filter (ends_behind y) (edges_from 0 lines) → IsPermutation collected edges → IsNonDecreasingBy first_row edges → admitted ≡ map (active_at y) (filter (begins_by y) edges) → drop begun edges ≡ filter (begins_behind y) edges → begun ≤ length edges → IsPermutation admitted active → IsNonDecreasingBy (λ edge. edge.column) active → length active + (length edges - begun) ≤ room → crossings ≡ map crossing_of active → IsFilling lines y room edges begun active crossings
+pub filling_begins : (y room : ℕ) (lines : List Line) (collected edges : List Edge) (begun : ℕ) (admitted active : List ActiveEdge) (crossings : List Crossing) → All HasNearEnds lines → y ≤ 8192 → collected ≡ filter (ends_behind y) (edges_from 0 lines) → IsPermutation collected edges → IsNonDecreasingBy edge_first_row edges → admitted ≡ map (active_at y) (filter (begins_by y) edges) → drop begun edges ≡ filter (begins_behind y) edges → begun ≤ length edges → IsPermutation admitted active → IsNonDecreasingBy (λ edge. edge.column) active → length active + (length edges - begun) ≤ room → crossings ≡ map crossing_of active → IsFilling lines y room edges begun active crossings
 filling_begins y room lines collected edges begun admitted active crossings near row is so ordered admitted_is left within order sorted count told =
     let listed = IsPermutation-trans _ _ _ (IsPermutation-same _ _ (sym is)) so in
     record {

@@ -3,8 +3,8 @@ use Rattle.std.proofs.Common.{◌≡◌, ℕ, suc, ◌+◌, ◌^◌, ◌<◌, �
 use Rattle.std.specs.Prelude.{IsTrue, nat_le, nat_lt, ◌↔◌}
 use Rattle.std.proofs.lemmas.Bool.{and_parts, and_from, le-leb, leb-true, lt-ltb, ltb-true}
 use Rattle.std.proofs.lemmas.Int.{ints}
-use Rattle.span_fill.specs.Clips.{IsBetween}
-use Rattle.span_fill.specs.Courses.{IsOn, IsPixelOf, across_span, along_span, pixel_column, course_of, length_of, pixel_row, step_of}
+use Rattle.span_fill.specs.Clips.{SpanHas}
+use Rattle.span_fill.specs.Courses.{IsOn, IsPixelOf, across_span, along_span, pixel_column, course_of, length_of, pixel_row, course_step}
 use Rattle.span_fill.specs.Spans.{in_region, in_span}
 use Rattle.span_fill.specs.Steps.{HasAllSteps, IsStepPixel}
 use Rattle.span_fill.specs.StepsInside.{IsUnderway}
@@ -21,9 +21,9 @@ use Rattle.span_fill.proofs.WalkLemmas.{moved_at, walk_along, walk_step}
 -- where a walk that is underway stands
 pub record IsHere (line : Line) (region : Region) (steep : Bool) (next : ℕ) (walk : Walk) : Type 0 where
   pub on : IsPixelOf (course_of steep line) walk.u walk.v
-  pub at : step_of (course_of steep line) walk.u ≡ next
-  pub along : IsBetween (along_span steep region) walk.u
-  pub across : IsBetween (across_span steep region) walk.v
+  pub at : course_step (course_of steep line) walk.u ≡ next
+  pub along : SpanHas (along_span steep region) walk.u
+  pub across : SpanHas (across_span steep region) walk.v
 
 pub here : (line : Line) (region : Region) (steep : Bool) (next end : ℕ) (walk : Walk) → IsUnderway line region steep next end walk → next < end → IsHere line region steep next walk
 here line region steep next end walk way more =
@@ -108,38 +108,38 @@ pub pixel_line : (line : Line) (steep : Bool) (u v x y : ℤ) → steep ≡ is_s
 pixel_line line true u v x y axis e f on = sym (ap (λ n. is_along line.from.y line.from.x line.to.y line.to.x n x) f ∙ ap (λ n. is_along line.from.y line.from.x line.to.y line.to.x u n) e) ∙ sym (on_steep line x y (sym axis)) ∙ on
 pixel_line line false u v x y axis e f on = sym (ap (λ n. is_along line.from.x line.from.y line.to.x line.to.y n y) e ∙ ap (λ n. is_along line.from.x line.from.y line.to.x line.to.y u n) f) ∙ sym (on_flat line x y (sym axis)) ∙ on
 
-pub line_step : (line : Line) (steep : Bool) (u v x y : ℤ) → steep ≡ is_steep line → x ≡ pixel_column steep u v → y ≡ pixel_row steep u v → step_at line x y ≡ step_of (course_of steep line) u
+pub line_step : (line : Line) (steep : Bool) (u v x y : ℤ) → steep ≡ is_steep line → x ≡ pixel_column steep u v → y ≡ pixel_row steep u v → step_at line x y ≡ course_step (course_of steep line) u
 line_step line true u v x y axis e f = at_steep line x y (sym axis) ∙ ap (λ n. far line.from.y n) f
 line_step line false u v x y axis e f = at_flat line x y (sym axis) ∙ ap (λ n. far line.from.x n) e
 
 -- the same of a region
-span_test : (span : Span) (n : ℕ) → IsBetween span (pos n) → in_span span n ≡ true
+span_test : (span : Span) (n : ℕ) → SpanHas span (pos n) → in_span span n ≡ true
 span_test span n h = and_from (nat_le span.from n) (nat_lt n span.to) (le-leb span.from n (omega (arith, ints, h.0))) (lt-ltb n span.to (omega (arith, ints, h.1)))
 
-test_span : (span : Span) (n : ℕ) → in_span span n ≡ true → IsBetween span (pos n)
+test_span : (span : Span) (n : ℕ) → in_span span n ≡ true → SpanHas span (pos n)
 test_span span n t =
     let parts = and_parts (nat_le span.from n) (nat_lt n span.to) t in
     let low = leb-true span.from n parts.0 in
     let high = ltb-true n span.to parts.1 in
     (omega (arith, ints, low), omega (arith, ints, high))
 
-pub region_pixel : (region : Region) (steep : Bool) (u v : ℤ) (x y : ℕ) → pos x ≡ pixel_column steep u v → pos y ≡ pixel_row steep u v → IsBetween (along_span steep region) u → IsBetween (across_span steep region) v → IsTrue (in_region region x y)
+pub region_pixel : (region : Region) (steep : Bool) (u v : ℤ) (x y : ℕ) → pos x ≡ pixel_column steep u v → pos y ≡ pixel_row steep u v → SpanHas (along_span steep region) u → SpanHas (across_span steep region) v → IsTrue (in_region region x y)
 region_pixel region true u v x y e f along across =
     and_from (in_span region.columns x) (in_span region.rows y)
-    (span_test region.columns x (subst (λ (n : ℤ). IsBetween region.columns n) (sym e) across))
-    (span_test region.rows y (subst (λ (n : ℤ). IsBetween region.rows n) (sym f) along))
+    (span_test region.columns x (subst (λ (n : ℤ). SpanHas region.columns n) (sym e) across))
+    (span_test region.rows y (subst (λ (n : ℤ). SpanHas region.rows n) (sym f) along))
 region_pixel region false u v x y e f along across =
     and_from (in_span region.columns x) (in_span region.rows y)
-    (span_test region.columns x (subst (λ (n : ℤ). IsBetween region.columns n) (sym e) along))
-    (span_test region.rows y (subst (λ (n : ℤ). IsBetween region.rows n) (sym f) across))
+    (span_test region.columns x (subst (λ (n : ℤ). SpanHas region.columns n) (sym e) along))
+    (span_test region.rows y (subst (λ (n : ℤ). SpanHas region.rows n) (sym f) across))
 
-pub pixel_region : (region : Region) (steep : Bool) (u v : ℤ) (x y : ℕ) → pos x ≡ pixel_column steep u v → pos y ≡ pixel_row steep u v → IsTrue (in_region region x y) → IsBetween (along_span steep region) u × IsBetween (across_span steep region) v
+pub pixel_region : (region : Region) (steep : Bool) (u v : ℤ) (x y : ℕ) → pos x ≡ pixel_column steep u v → pos y ≡ pixel_row steep u v → IsTrue (in_region region x y) → SpanHas (along_span steep region) u × SpanHas (across_span steep region) v
 pixel_region region true u v x y e f t =
     let parts = and_parts (in_span region.columns x) (in_span region.rows y) t in
-    (subst (λ (n : ℤ). IsBetween region.rows n) f (test_span region.rows y parts.1), subst (λ (n : ℤ). IsBetween region.columns n) e (test_span region.columns x parts.0))
+    (subst (λ (n : ℤ). SpanHas region.rows n) f (test_span region.rows y parts.1), subst (λ (n : ℤ). SpanHas region.columns n) e (test_span region.columns x parts.0))
 pixel_region region false u v x y e f t =
     let parts = and_parts (in_span region.columns x) (in_span region.rows y) t in
-    (subst (λ (n : ℤ). IsBetween region.columns n) e (test_span region.columns x parts.0), subst (λ (n : ℤ). IsBetween region.rows n) f (test_span region.rows y parts.1))
+    (subst (λ (n : ℤ). SpanHas region.columns n) e (test_span region.columns x parts.0), subst (λ (n : ℤ). SpanHas region.rows n) f (test_span region.rows y parts.1))
 
 -- the pixel here is the line's at the next step, and the region has it
 pub here_pixel : (line : Line) (region : Region) (steep : Bool) (next end : ℕ) (walk : Walk) (pixel : Pixel) → IsUnderway line region steep next end walk → next < end → pos pixel.x ≡ pixel_column steep walk.u walk.v → pos pixel.y ≡ pixel_row steep walk.u walk.v → IsStepPixel line region next pixel
@@ -154,7 +154,7 @@ here_pixel line region steep next end walk pixel way more e f =
 -- the steps that were clipped are all
 abbrev IsClip : Line → Region → Bool → ℕ → ℕ → Type 0
 IsClip line region steep next end =
-    (a b : ℤ) → IsPixelOf (course_of steep line) a b → ((next ≤ step_of (course_of steep line) a) × (step_of (course_of steep line) a < end)) ↔ (IsBetween (along_span steep region) a × IsBetween (across_span steep region) b)
+    (a b : ℤ) → IsPixelOf (course_of steep line) a b → ((next ≤ course_step (course_of steep line) a) × (course_step (course_of steep line) a < end)) ↔ (SpanHas (along_span steep region) a × SpanHas (across_span steep region) b)
 
 pub all_steps : (line : Line) (region : Region) (steep : Bool) (next end : ℕ) → steep ≡ is_steep line → IsClip line region steep next end → HasAllSteps (record { line = line; region = region; next = next; end = end })
 all_steps line region true next end axis clip = record {

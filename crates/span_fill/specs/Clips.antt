@@ -7,5 +7,5 @@ abbrev pub IsIn : Span → ℕ → Type 0
 IsIn span k = (span.from ≤ k) × (k < span.to)
 
 -- the span has the coordinate
-abbrev pub IsBetween : Span → ℤ → Type 0
-IsBetween span z = (pos span.from ≤ℤ z) × (z <ℤ pos span.to)
+abbrev pub SpanHas : Span → ℤ → Type 0
+SpanHas span z = (pos span.from ≤ℤ z) × (z <ℤ pos span.to)

@@ -34,8 +34,8 @@ abbrev pub IsPixelOf : Course → ℤ → ℤ → Type 0
 IsPixelOf course u v = IsTrue (is_along course.from_u course.from_v course.to_u course.to_v u v)
 
 -- at which step that is
-abbrev pub step_of : Course → ℤ → ℕ
-step_of course u = far course.from_u u
+abbrev pub course_step : Course → ℤ → ℕ
+course_step course u = far course.from_u u
 
 -- the line by its longer axis, which is that of rows for a steep line
 abbrev pub course_of : Bool → Line → Course

@@ -37,16 +37,16 @@ near_row (pos n) = n
 near_row (negsuc n) = 0
 
 -- the first row that is not above the edge
-abbrev pub first_row : Edge → ℕ
-first_row edge = near_row edge.upper.y
+abbrev pub edge_first_row : Edge → ℕ
+edge_first_row edge = near_row edge.upper.y
 
 -- the edge begins behind row y
 abbrev pub begins_behind : ℕ → Edge → Bool
-begins_behind y edge = nat_lt y (first_row edge)
+begins_behind y edge = nat_lt y (edge_first_row edge)
 
 -- it doesn't
 abbrev pub begins_by : ℕ → Edge → Bool
-begins_by y edge = nat_le (first_row edge) y
+begins_by y edge = nat_le (edge_first_row edge) y
 
 -- it ends behind row y
 abbrev pub ends_behind : ℕ → Edge → Bool
@@ -62,8 +62,8 @@ abbrev pub first_column : ℤ → ℤ → ℤ → ℕ
 first_column quotient rest divisor = near_column (quotient +ℤ (if int_lt divisor (pos 2 *ℤ rest) then pos 1 else pos 0))
 
 -- the floor of a fraction, and what is left
-abbrev pub rest_of : ℤ → ℤ → ℤ
-rest_of dividend divisor = dividend -ℤ floor_div dividend divisor *ℤ divisor
+abbrev pub remainder_of : ℤ → ℤ → ℤ
+remainder_of dividend divisor = dividend -ℤ floor_div dividend divisor *ℤ divisor
 
 -- the edge where its crossing is this one
 abbrev pub active_with : Edge → ℤ → ℤ → ActiveEdge
@@ -76,13 +76,13 @@ active_with edge quotient rest = record {
   rest = rest;
   divisor = crossing_divisor edge.upper edge.lower;
   step = floor_div (pos 2 *ℤ across edge.upper edge.lower) (crossing_divisor edge.upper edge.lower);
-  more = rest_of (pos 2 *ℤ across edge.upper edge.lower) (crossing_divisor edge.upper edge.lower);
+  more = remainder_of (pos 2 *ℤ across edge.upper edge.lower) (crossing_divisor edge.upper edge.lower);
 }
 
 -- the edge where it crosses row y
 abbrev pub active_at : ℕ → Edge → ActiveEdge
 active_at y edge =
-    active_with edge (quotient edge.upper edge.lower y) (rest_of (crossing_dividend edge.upper edge.lower y) (crossing_divisor edge.upper edge.lower))
+    active_with edge (quotient edge.upper edge.lower y) (remainder_of (crossing_dividend edge.upper edge.lower y) (crossing_divisor edge.upper edge.lower))
 
 -- those of the edges that cross row y, where they do
 abbrev pub active_edges : ℕ → List Edge → List ActiveEdge

@@ -2,7 +2,7 @@
 use Rattle.std.specs.Prelude.{◌≡◌, ℕ, ◌+◌, true, if◌then◌else◌, List, [], ◌∷◌}
 use Rattle.std.specs.List.{All}
 use Rattle.mapping.specs.Boxes.{HasPoint}
-use Rattle.mapping.specs.PixelBoxes.{HasPixel}
+use Rattle.mapping.specs.PixelBoxes.{BoxHasPixel}
 use Rattle.mapping.specs.declared.geometry.Rect.{Rect}
 use Rattle.span_fill.specs.Fill.{has_row, in_fill}
 use Rattle.span_fill.specs.Strokes.{in_stroke}
@@ -29,7 +29,7 @@ IsBalanced lines = (y : ℕ) → met_downwards lines y ≡ met_upwards lines y
 
 -- The pixels of lines that lie in a box, and those inside of polygons that do, lie in it, too.
 pub record LineBoxLaws : Type 0 where
-  pub stroke : (box : Rect) (lines : List Line) (x y : ℕ) → All (HasLine box) lines → in_stroke lines x y ≡ true → HasPixel box x y
+  pub stroke : (box : Rect) (lines : List Line) (x y : ℕ) → All (HasLine box) lines → in_stroke lines x y ≡ true → BoxHasPixel box x y
   pub fill :
       (rule : FillRule) (box : Rect) (lines : List Line) (x y : ℕ) → IsBalanced lines → All (HasLine box) lines
-      → in_fill rule lines x y ≡ true → HasPixel box x y
+      → in_fill rule lines x y ≡ true → BoxHasPixel box x y

@@ -2,7 +2,7 @@
 use Rattle.std.specs.Prelude.{◌≡◌, ℕ, ◌+◌, ◌-◌, ◌^◌, ◌<◌, ◌≤◌, ℤ, List, drop, length, map, filter, vec_capacity}
 use Rattle.std.specs.List.{All}
 use Rattle.std.specs.List.Sorted.{IsNonDecreasingBy, IsPermutation}
-use Rattle.span_fill.specs.Edges.{IsEdge, active_edges, begins_behind, crossing_of, edges_from, first_row}
+use Rattle.span_fill.specs.Edges.{IsEdge, active_edges, begins_behind, crossing_of, edges_from, edge_first_row}
 use Rattle.span_fill.specs.Lines.{HasNearEnds}
 use Rattle.span_fill.specs.RowState.{IsFillingWork, IsStrokingWork, RowState, RowWork, filling, idle, stroking}
 use Rattle.span_fill.specs.StrokeRows.{lines_have}
@@ -41,7 +41,7 @@ pub record HasRoom (a : Inside) : Type 0 where
 pub record IsFilling (lines : List Line) (y room : ℕ) (edges : List Edge) (begun : ℕ) (active : List ActiveEdge) (crossings : List Crossing) : Type 0 where
   pub row : y ≤ 8192
   pub are_edges : All IsEdge edges
-  pub ordered : IsNonDecreasingBy first_row edges
+  pub ordered : IsNonDecreasingBy edge_first_row edges
   pub within : begun ≤ length edges
   pub waits : IsPermutation (filter (begins_behind y) (edges_from 0 lines)) (drop begun edges)
   pub crosses : IsPermutation (active_edges y (edges_from 0 lines)) active

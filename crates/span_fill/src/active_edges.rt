@@ -4,7 +4,7 @@ ghost use Rattle.std.specs.Prelude.{◌≡◌, ◌+◌, ◌-◌, ◌≤◌, ◌<
 ghost use Rattle.std.specs.List.{All};
 ghost use Rattle.std.specs.List.Sorted.{IsNonDecreasingBy, IsPermutation};
 ghost use Rattle.span_fill.specs.Admitting.{BeginsEdge, NoneBegins};
-ghost use Rattle.span_fill.specs.Edges.{EdgeCanMove, IsEdge, active_at, begins_behind, begins_by, crossing_of, first_row, goes_to, moved};
+ghost use Rattle.span_fill.specs.Edges.{EdgeCanMove, IsEdge, active_at, begins_behind, begins_by, crossing_of, edge_first_row, goes_to, moved};
 
 use crate::crossing::Crossing;
 use crate::edge::{ActiveEdge, Edge};
@@ -12,7 +12,7 @@ use crate::edge::{ActiveEdge, Edge};
 /// The edges in the order of the rows where they begin.
 pub(crate) fn sort_edges(edges: &mut Vec<Edge>)
     ensures permutation { IsPermutation edges.old.items edges.new.items }
-    ensures sorted { IsNonDecreasingBy first_row edges.new.items }
+    ensures sorted { IsNonDecreasingBy edge_first_row edges.new.items }
     ensures length { vec_len edges.new ≡ vec_len edges.old }
     ensures room { vec_capacity edges.new ≡ vec_capacity edges.old }
 {
@@ -41,7 +41,7 @@ pub(crate) fn advance(active: &mut Vec<ActiveEdge>, row: u32)
 /// there. The edges from `begun` on are still to begin; the result is which of them are so then.
 pub(crate) fn admit(active: &mut Vec<ActiveEdge>, edges: &[Edge], begun: usize, row: u32) -> usize
     requires edges { All IsEdge edges.now }
-    requires sorted { IsNonDecreasingBy first_row edges.now }
+    requires sorted { IsNonDecreasingBy edge_first_row edges.now }
     requires begun { begun ≤ length edges.now }
     requires row { row ≤ 8192 }
     requires room { vec_len active.old + (length edges.now - begun) ≤ vec_capacity active.old }
@@ -63,7 +63,7 @@ pub(crate) fn admit(active: &mut Vec<ActiveEdge>, edges: &[Edge], begun: usize, 
 /// The next edge, if it begins at the row or above it.
 fn beginning(edges: &[Edge], next: usize, row: u32) -> Option<Edge>
     requires edges { All IsEdge edges.now }
-    requires sorted { IsNonDecreasingBy first_row edges.now }
+    requires sorted { IsNonDecreasingBy edge_first_row edges.now }
     ensures { MatchOption result (NoneBegins row (drop next edges.now)) (λ edge. BeginsEdge row edges.now next edge) }
 {
     if next >= edges.len() {

@@ -1,8 +1,8 @@
 //! Lines and regions by a line's longer axis.
 
 ghost use Rattle.std.specs.Prelude.{◌≡◌, ℤ, ◌≤◌, ◌<◌, ◌↔◌};
-ghost use Rattle.span_fill.specs.Clips.{IsBetween, IsIn};
-ghost use Rattle.span_fill.specs.Courses.{IsCourse, IsOn, IsPixelOf, across_span, along_span, course_of, length_of, step_of};
+ghost use Rattle.span_fill.specs.Clips.{SpanHas, IsIn};
+ghost use Rattle.span_fill.specs.Courses.{IsCourse, IsOn, IsPixelOf, across_span, along_span, course_of, length_of, course_step};
 ghost use Rattle.span_fill.specs.Lines.{HasNearEnds};
 ghost use Rattle.span_fill.specs.Strokes.{is_steep};
 
@@ -48,7 +48,7 @@ pub(crate) fn steps_within(course: Course, region: Region, steep: bool) -> Span
     requires course { IsCourse course }
     requires columns { region.columns.to ≤ 8192 }
     requires rows { region.rows.to ≤ 8192 }
-    ensures exact { (a b : ℤ) → IsPixelOf course a b → (IsIn result (step_of course a) ↔ (IsBetween (along_span steep region) a × IsBetween (across_span steep region) b)) }
+    ensures exact { (a b : ℤ) → IsPixelOf course a b → (IsIn result (course_step course a) ↔ (SpanHas (along_span steep region) a × SpanHas (across_span steep region) b)) }
     ensures bound { result.to ≤ length_of course }
 {
     if steep {

@@ -1,8 +1,8 @@
 //! Which steps of a line lie within a region.
 
 ghost use Rattle.std.specs.Prelude.{◌≡◌, ℕ, ◌+◌, ◌*◌, ◌^◌, ◌<◌, ◌≤◌, ◌↔◌, ℤ, pos, negsuc, neg_ℤ, ◌+ℤ◌, ◌-ℤ◌, ◌*ℤ◌, ◌≤ℤ◌, ◌<ℤ◌};
-ghost use Rattle.span_fill.specs.Clips.{IsBetween, IsIn};
-ghost use Rattle.span_fill.specs.Courses.{IsCourse, IsPixelOf, length_of, rise_of, step_of};
+ghost use Rattle.span_fill.specs.Clips.{SpanHas, IsIn};
+ghost use Rattle.span_fill.specs.Courses.{IsCourse, IsPixelOf, length_of, rise_of, course_step};
 
 use crate::course::Course;
 use crate::division::divide;
@@ -15,7 +15,7 @@ pub(crate) fn clipped(course: Course, u: Span, v: Span) -> Span
     requires course { IsCourse course }
     requires u { u.to ≤ 8192 }
     requires v { v.to ≤ 8192 }
-    ensures exact { (a b : ℤ) → IsPixelOf course a b → (IsIn result (step_of course a) ↔ (IsBetween u a × IsBetween v b)) }
+    ensures exact { (a b : ℤ) → IsPixelOf course a b → (IsIn result (course_step course a) ↔ (SpanHas u a × SpanHas v b)) }
     ensures bound { result.to ≤ length_of course }
 {
     common(
@@ -26,7 +26,7 @@ pub(crate) fn clipped(course: Course, u: Span, v: Span) -> Span
 
 /// A span that has the same, with its ends in order.
 fn ordered(span: Span) -> Span
-    ensures same { (z : ℤ) → (IsBetween result z ↔ IsBetween span z) }
+    ensures same { (z : ℤ) → (SpanHas result z ↔ SpanHas span z) }
     ensures to { result.to ≡ span.to }
     ensures order { result.from ≤ result.to }
 {
@@ -53,7 +53,7 @@ fn steps_along(course: Course, within: Span) -> Span
     requires course { IsCourse course }
     requires to { within.to ≤ 8192 }
     requires order { within.from ≤ within.to }
-    ensures exact { (u v : ℤ) → IsPixelOf course u v → (IsIn result (step_of course u) ↔ IsBetween within u) }
+    ensures exact { (u v : ℤ) → IsPixelOf course u v → (IsIn result (course_step course u) ↔ SpanHas within u) }
     ensures bound { result.to ≤ length_of course }
 {
     if course.is_forwards() {
@@ -74,7 +74,7 @@ fn steps_across(course: Course, within: Span) -> Span
     requires course { IsCourse course }
     requires to { within.to ≤ 8192 }
     requires order { within.from ≤ within.to }
-    ensures exact { (u v : ℤ) → IsPixelOf course u v → (IsIn result (step_of course u) ↔ IsBetween within v) }
+    ensures exact { (u v : ℤ) → IsPixelOf course u v → (IsIn result (course_step course u) ↔ SpanHas within v) }
     ensures bound { result.to ≤ length_of course }
 {
     if course.rise() < 0 {
@@ -116,7 +116,7 @@ fn run_up(course: Course, bound: u32) -> u32
     requires course { IsCourse course }
     requires bound { bound ≤ 8192 }
     requires forwards { course.from_u <ℤ course.to_u }
-    ensures exact { (u v : ℤ) → IsPixelOf course u v → (result ≤ step_of course u ↔ (pos bound ≤ℤ u)) }
+    ensures exact { (u v : ℤ) → IsPixelOf course u v → (result ≤ course_step course u ↔ (pos bound ≤ℤ u)) }
     ensures within { result ≤ length_of course }
 {
     first_from(distance(course.from_u, bound), course.length())
@@ -128,7 +128,7 @@ fn run_down(course: Course, bound: u32) -> u32
     requires course { IsCourse course }
     requires bound { bound ≤ 8192 }
     requires backwards { course.to_u ≤ℤ course.from_u }
-    ensures exact { (u v : ℤ) → IsPixelOf course u v → (result ≤ step_of course u ↔ (u <ℤ pos bound)) }
+    ensures exact { (u v : ℤ) → IsPixelOf course u v → (result ≤ course_step course u ↔ (u <ℤ pos bound)) }
     ensures within { result ≤ length_of course }
 {
     first_from(distance_below(course.from_u, bound), course.length())
@@ -152,7 +152,7 @@ fn rise(course: Course, bound: u32) -> u32
     requires course { IsCourse course }
     requires bound { bound ≤ 8192 }
     requires rises { pos 0 ≤ℤ rise_of course }
-    ensures exact { (u v : ℤ) → IsPixelOf course u v → (result ≤ step_of course u ↔ (pos bound ≤ℤ v)) }
+    ensures exact { (u v : ℤ) → IsPixelOf course u v → (result ≤ course_step course u ↔ (pos bound ≤ℤ v)) }
     ensures within { result ≤ length_of course }
 {
     first_reach(amount(course, bound), each(course), course.length())
@@ -163,7 +163,7 @@ fn fall(course: Course, bound: u32) -> u32
     requires course { IsCourse course }
     requires bound { bound ≤ 8192 }
     requires falls { rise_of course ≤ℤ pos 0 }
-    ensures exact { (u v : ℤ) → IsPixelOf course u v → (result ≤ step_of course u ↔ (v <ℤ pos bound)) }
+    ensures exact { (u v : ℤ) → IsPixelOf course u v → (result ≤ course_step course u ↔ (v <ℤ pos bound)) }
     ensures within { result ≤ length_of course }
 {
     first_reach(amount_below(course, bound), each(course), course.length())

@@ -3,7 +3,7 @@
 ghost use Rattle.std.specs.Prelude.{◌≡◌, ◌+◌, ◌≤◌, ◌^◌, pos, ◌+ℤ◌, ◌-ℤ◌, ◌*ℤ◌, ◌≤ℤ◌, ◌<ℤ◌, IsTrue, if◌then◌else◌};
 ghost use Rattle.mapping.specs.Floor.{floor_div};
 ghost use Rattle.mapping.specs.Limits.{IsWithin};
-ghost use Rattle.span_fill.specs.Edges.{EdgeCanMove, near_column, crossing_of, first_column, goes_to, is_over, moved, moved_quotient, moved_rest, rest_of};
+ghost use Rattle.span_fill.specs.Edges.{EdgeCanMove, near_column, crossing_of, first_column, goes_to, is_over, moved, moved_quotient, moved_rest, remainder_of};
 
 use crate::crossing::Crossing;
 use crate::edge::ActiveEdge;

@@ -3,7 +3,7 @@
 ghost use Rattle.std.specs.Prelude.{◌≡◌, ◌+◌, ◌*◌, ◌≤◌, ◌^◌, pos, ◌+ℤ◌, ◌-ℤ◌, ◌*ℤ◌, ◌≤ℤ◌, ◌<ℤ◌, IsTrue};
 ghost use Rattle.mapping.specs.Floor.{floor_div};
 ghost use Rattle.mapping.specs.Limits.{IsWithin};
-ghost use Rattle.span_fill.specs.Edges.{IsEdge, active_at, first_row, rest_of, near_row};
+ghost use Rattle.span_fill.specs.Edges.{IsEdge, active_at, edge_first_row, remainder_of, near_row};
 ghost use Rattle.span_fill.specs.Fill.{across, crossing_dividend, crossing_divisor, down};
 
 use crate::crossing_moves::first_column;
@@ -41,7 +41,7 @@ impl Edge {
 
     /// The first row that isn't above the edge.
     pub(crate) fn first_row(self) -> u32
-        ensures { result ≡ first_row self }
+        ensures { result ≡ edge_first_row self }
     {
         row_of(self.upper.y)
     }
@@ -137,7 +137,7 @@ fn divided(dividend: i64, divisor: i64) -> Fraction
     requires low { pos 1 ≤ℤ divisor }
     requires high { divisor ≤ℤ pos (2 ^ 31) }
     ensures floor { result.floor ≡ floor_div dividend divisor }
-    ensures rest { result.rest ≡ rest_of dividend divisor }
+    ensures rest { result.rest ≡ remainder_of dividend divisor }
     ensures near { IsWithin (2 ^ 62) result.floor }
     ensures rest_low { pos 0 ≤ℤ result.rest }
     ensures rest_high { result.rest <ℤ divisor }

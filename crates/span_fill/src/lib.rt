@@ -9,7 +9,7 @@
 //! - Where lines cross the next row is told as the quotient and the rest of the definition's own numbers
 //!   (`RowBuf::crossings`, by `crossings_of`).
 //! - Within its room a row buffer wants no memory, and after a refusal it is what it was (`RowBuf::reserve`).
-//! - A line's pixels within a region are given in order, each once, and no other (`Steps::new`, `Steps::next`).
+//! - A line's pixels within a region are given in order, each once, and no other (`LineSteps::new`, `LineSteps::next`).
 //! - A line has one pixel for each step along its longer axis (`line_law`).
 //! - Above and below the rows in which lines lie there is nothing of them (`row_law`), and all their pixels lie in each box that
 //!   has the lines (`line_box_law`).
@@ -57,4 +57,4 @@ pub use pixel::Pixel;
 pub use row_buf::RowBuf;
 pub use row_error::OutOfMemory;
 pub use span::{Region, Span};
-pub use steps::Steps;
+pub use steps::LineSteps;

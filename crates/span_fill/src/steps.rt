@@ -18,7 +18,7 @@ use std::marker::Model;
 ///
 /// - The pixel of each step to come is within the region.
 #[derive(Debug, Drop)]
-pub struct Steps {
+pub struct LineSteps {
     line: Line,
     region: Region,
     /// Where the pixel of step `next` is, if there is one to come.
@@ -28,7 +28,7 @@ pub struct Steps {
     end: u32,
 }
 
-impl Model for Steps {
+impl Model for LineSteps {
     ghost use Rattle.span_fill.specs.Steps.{StepsState};
 
     ghost Value = { StepsState };
@@ -40,10 +40,10 @@ impl Model for Steps {
     ghost invariant = { AreSteps };
 }
 
-impl Steps {
+impl LineSteps {
     /// The pixels of a line that a region has. Where both ends of the line are in the region nothing is divided,
     /// else up to three times.
-    pub fn new(line: Line, region: Region) -> Steps
+    pub fn new(line: Line, region: Region) -> LineSteps
         requires near { HasNearEnds line }
         requires columns { region.columns.to ≤ 8192 }
         requires rows { region.rows.to ≤ 8192 }
@@ -54,7 +54,7 @@ impl Steps {
         let steep = runs_steeply(line);
         let course = course_along(line, steep);
         let clip = steps_within(course, region, steep);
-        Steps {
+        LineSteps {
             line,
             region,
             walk: walk_within(course, clip),

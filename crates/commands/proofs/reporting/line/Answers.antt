@@ -5,7 +5,7 @@ use Rattle.std.specs.List.{concat, FoldsTo}
 use Rattle.std.specs.Fmt.{WritesText, with_newline, ◌++?◌}
 use Rattle.std.specs.Fmt.InlineText.{inline_text, AppendsIfIntact, IsIntact}
 use Rattle.std.specs.declared.fmt.InlineText.{InlineText}
-use Rattle.commands.specs.Report.{line_of}
+use Rattle.commands.specs.Report.{program_line}
 use Rattle.commands.proofs.reporting.line.Goals as goal
 
 module _ {n : ℕ} where
@@ -16,7 +16,7 @@ module _ {n : ℕ} where
       let rest = appended calls.0 parts t calls.2 first.0 in
       (rest.0, rest.1 ∙ ap (λ l. l ++ concat parts) first.1 ∙ append_assoc (inline_text s) x (concat parts))
 
-  told : (text : Option (List ℕ)) (s t : InlineText n) → IsIntact s → inline_text s ≡ [] → WritesText AppendsIfIntact s (with_newline (Some (codes "metaplay: ") ++? text)) t → IfSome text (λ shown. inline_text t ≡ line_of shown)
+  told : (text : Option (List ℕ)) (s t : InlineText n) → IsIntact s → inline_text s ≡ [] → WritesText AppendsIfIntact s (with_newline (Some (codes "metaplay: ") ++? text)) t → IfSome text (λ shown. inline_text t ≡ program_line shown)
   told None s t intact empty calls = tt
   told (Some shown) s t intact empty calls =
       (appended s calls.parts t calls.calls intact).1 ∙ ap (λ l. l ++ concat calls.parts) empty ∙ calls.whole

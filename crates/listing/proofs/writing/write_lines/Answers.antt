@@ -3,7 +3,7 @@ use Rattle.std.proofs.Common.{◌≡◌, ap, refl, sym, ◌∙◌}
 use Rattle.std.proofs.lemmas.Result.{err_from_is_err_and}
 use Rattle.listing.specs.Formats.{first_place}
 use Rattle.listing.specs.Listing.{framed_records, listed_by}
-use Rattle.listing.specs.Putting.{PutsLine, PutsRest, lines_left}
+use Rattle.listing.specs.Putting.{PutsLine, PutsRest, listing_left}
 use Rattle.listing.proofs.LineLemmas.{begins}
 use Rattle.listing.proofs.SendingLemmas.{sending_front_more, sending_part, sending_rest_front, sending_same}
 use Rattle.listing.proofs.writing.write_lines.Goals as goal
@@ -20,12 +20,12 @@ loop-page-init g c =
 pub returns-in_err-make_room-clause-err : goal.returns-in_err-make_room-clause-err
 returns-in_err-make_room-clause-err g c =
     let p = err_from_is_err_and c.from_residual.result c.from_residual.ensures.1 in
-    let left = lines_left c.args.format c.args.stop c.loop-page.walk in
+    let left = listing_left c.args.format c.args.stop c.loop-page.walk in
     rw p.1 (sending_front_more c.loop-page.page left c.loop-page.invariant.sending refl c.in_err-make_room.ensures.err)
 
 pub loop-page-preserved : goal.loop-page-preserved
 loop-page-preserved g c =
-    let left = lines_left c.args.format c.args.stop c.loop-page.walk in
+    let left = listing_left c.args.format c.args.stop c.loop-page.walk in
     let puts : PutsLine c.args.format c.args.stop c.make_room.new.page c.loop-page.walk c.put_next.new.page c.put_next.new.walk = c.in_default.ensures in
     record {
       sending = sending_same (sending_part left c.loop-page.invariant.sending c.in_ok-make_room.ensures.sent) puts.put;
@@ -35,6 +35,6 @@ loop-page-preserved g c =
 pub returns-in_err-send-clause-err : goal.returns-in_err-send-clause-err
 returns-in_err-send-clause-err g c =
     let p = err_from_is_err_and c.from_residual-in_err-send.result c.from_residual-in_err-send.ensures.1 in
-    let left = lines_left c.args.format c.args.stop c.loop-page.walk in
+    let left = listing_left c.args.format c.args.stop c.loop-page.walk in
     let puts : PutsRest c.args.format c.args.stop c.make_room.new.page c.loop-page.walk c.in-Some.listed c.put_next.new.page = c.in-Some.ensures in
     rw p.1 (sending_rest_front (sending_same (sending_part left c.loop-page.invariant.sending c.in_ok-make_room.ensures.sent) (sym puts.put)) (rw c.text.ensures at c.in_err-send.ensures.err))

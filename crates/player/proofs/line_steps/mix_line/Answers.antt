@@ -3,7 +3,7 @@ use Rattle.mapping.specs.Mixes.{mixed_by}
 use Rattle.mapping.specs.declared.geometry.Colour.{Colour}
 use Rattle.dc_stack.specs.Clip.{unclipped}
 use Rattle.dc_stack.specs.Values.{placed_value}
-use Rattle.player.specs.LineSteps.{is_within}
+use Rattle.player.specs.LineSteps.{is_visible}
 use Rattle.player.proofs.LineStepLemmas.{clip_drawn, kept_drawn, may_take, no_cuts}
 use Rattle.player.proofs.RowLemmas.{few_written}
 use Rattle.player.proofs.line_steps.mix_line.Goals as goal
@@ -22,15 +22,15 @@ mix_steps-requires c =
 
 pub returns-then-not-is_empty-clause-few : goal.returns-then-not-is_empty-clause-few
 returns-then-not-is_empty-clause-few c =
-    few_written c.writing_law.ensures (is_within (placed_value c.args.clip.now) c.new-steps.result.line c.new-steps.result.region) (λ (x y : ℕ) (old : Colour). mixed_by c.args.mix old) c.args.canvas.now c.mix_uncut.new.canvas c.mix_uncut.ensures c.visible.ensures.pixels
+    few_written c.writing_law.ensures (is_visible (placed_value c.args.clip.now) c.new-steps.result.line c.new-steps.result.region) (λ (x y : ℕ) (old : Colour). mixed_by c.args.mix old) c.args.canvas.now c.mix_uncut.new.canvas c.mix_uncut.ensures c.visible.ensures.pixels
 
 pub returns-in-Some-clause-few : goal.returns-in-Some-clause-few
 returns-in-Some-clause-few c =
-    few_written c.writing_law.ensures (is_within unclipped c.new-steps.result.line c.new-steps.result.region) (λ (x y : ℕ) (old : Colour). c.in-Some.colour) c.args.canvas.now c.put_steps.new.canvas c.put_steps.ensures c.visible.ensures.pixels
+    few_written c.writing_law.ensures (is_visible unclipped c.new-steps.result.line c.new-steps.result.region) (λ (x y : ℕ) (old : Colour). c.in-Some.colour) c.args.canvas.now c.put_steps.new.canvas c.put_steps.ensures c.visible.ensures.pixels
 
 pub returns-in_default-clause-few : goal.returns-in_default-clause-few
 returns-in_default-clause-few c =
-    few_written c.writing_law.ensures (is_within unclipped c.new-steps.result.line c.new-steps.result.region) (λ (x y : ℕ) (old : Colour). mixed_by c.args.mix old) c.args.canvas.now c.mix_steps.new.canvas c.mix_steps.ensures c.visible.ensures.pixels
+    few_written c.writing_law.ensures (is_visible unclipped c.new-steps.result.line c.new-steps.result.region) (λ (x y : ℕ) (old : Colour). mixed_by c.args.mix old) c.args.canvas.now c.mix_steps.new.canvas c.mix_steps.ensures c.visible.ensures.pixels
 
 pub returns-then-not-is_empty-clause-pixels : goal.returns-then-not-is_empty-clause-pixels
 returns-then-not-is_empty-clause-pixels c =

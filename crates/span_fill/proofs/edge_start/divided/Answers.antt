@@ -3,7 +3,7 @@ use Rattle.std.proofs.Common.{◌+◌, rules, ◌∙◌, FitsSigned, w64, ◌≡
 use Rattle.std.proofs.lemmas.Int.{ints, to_z-of_z}
 use Rattle.mapping.specs.Floor.{floor_div}
 use Rattle.mapping.specs.Limits.{IsWithin}
-use Rattle.span_fill.specs.Edges.{rest_of}
+use Rattle.span_fill.specs.Edges.{remainder_of}
 use Rattle.span_fill.proofs.EdgeLemmas.{floor_positive, rest_bounds, within_fits}
 use Rattle.span_fill.proofs.edge_start.divided.Goals as goal
 
@@ -16,7 +16,7 @@ floor_is c =
     is ∙ sym (floor_positive c.args.dividend c.args.divisor c.requires.low)
 
 -- what is left, as it is computed
-rest_is : (c : goal.After-div_euclid-floor) → c.args.dividend -ℤ c.div_euclid-floor.result *ℤ c.args.divisor ≡ rest_of c.args.dividend c.args.divisor
+rest_is : (c : goal.After-div_euclid-floor) → c.args.dividend -ℤ c.div_euclid-floor.result *ℤ c.args.divisor ≡ remainder_of c.args.dividend c.args.divisor
 rest_is c = ap (λ q. c.args.dividend -ℤ q *ℤ c.args.divisor) (floor_is c)
 
 product_fits : (c : goal.After-div_euclid-floor) → FitsSigned w64 (c.div_euclid-floor.result *ℤ c.args.divisor)

@@ -1,6 +1,6 @@
 use Rattle.std.proofs.Common.{add-one, arith, [], ◌∷◌}
 use Rattle.std.proofs.lemmas.List.{take_all}
-use Rattle.mapping.specs.Boxes.{box_at}
+use Rattle.mapping.specs.Boxes.{point_box}
 use Rattle.point_views.specs.Points.{points_of}
 use Rattle.point_views.proofs.TakenLemmas.{taken_next}
 use Rattle.point_views.proofs.points.Points.bounds.Goals as goal
@@ -16,7 +16,7 @@ loop-index-preserved c =
     let i = c.loop-index.index in
     let point = c.get-in-loop-index.result in
     let alone = c.box_law.ensures.single point in
-    let grown = c.box_law.ensures.joins c.loop-index.bounds (box_at point) c.with-bounds.result _ (point ∷ []) c.loop-index.invariant alone c.with-bounds.ensures in
+    let grown = c.box_law.ensures.joins c.loop-index.bounds (point_box point) c.with-bounds.result _ (point ∷ []) c.loop-index.invariant alone c.with-bounds.ensures in
     rw (add-one, taken_next points i c.get-in-loop-index.result c.get-in-loop-index.ensures) grown
 
 pub returns-clause-tight : goal.returns-clause-tight

@@ -1,7 +1,7 @@
 -- The edges that cross the next row.
 use Rattle.std.proofs.Common.{◌+◌, ◌<◌, List, length, map, ap, subst, sym, ◌∙◌, arith, refl}
 use Rattle.span_fill.specs.RowState.{IsFillingWork, RowState}
-use Rattle.span_fill.specs.Edges.{crossing_of, first_row}
+use Rattle.span_fill.specs.Edges.{crossing_of, edge_first_row}
 use Rattle.std.specs.List.Sorted.{IsNonDecreasingBy}
 use Rattle.span_fill.specs.declared.edge.Edge.{Edge}
 use Rattle.span_fill.proofs.FillLemmas.{all_can_move, edges_near}
@@ -50,4 +50,4 @@ pub admit-self-inside-requires-clause-sorted : goal.admit-self-inside-requires-c
 admit-self-inside-requires-clause-sorted c =
     let work = subst (λ (s : RowState). IsFillingWork s.work) (sym c.self.view_is) c.requires.filling in
     let filling = c.self.invariant.filling work in
-    subst (λ (es : List Edge). IsNonDecreasingBy first_row es) (sym c.as_slice.ensures.value) filling.ordered
+    subst (λ (es : List Edge). IsNonDecreasingBy edge_first_row es) (sym c.as_slice.ensures.value) filling.ordered

@@ -1,7 +1,7 @@
 -- The step here, and the one behind it.
 use Rattle.std.proofs.Common.{arith, refl}
 use Rattle.span_fill.proofs.StepsLemmas.{here_pixel, here_small, here_within, next_way}
-use Rattle.span_fill.proofs.steps.Steps.take.Goals as goal
+use Rattle.span_fill.proofs.steps.LineSteps.take.Goals as goal
 
 pub pixel-pixel-requires-clause-u : goal.pixel-pixel-requires-clause-u
 pixel-pixel-requires-clause-u c =

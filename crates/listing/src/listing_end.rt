@@ -2,7 +2,7 @@
 
 /// How the records of a file end.
 #[derive(Clone, Copy, Debug, PartialEq, Eq)]
-pub enum Listed {
+pub enum ListingEnd {
     /// With an end record.
     Ended,
     /// With a fault of framing.

@@ -39,13 +39,13 @@ impl CommandEnd {
 
 /// How a command ended, and whether what was told on standard error went out whole.
 #[derive(Clone, Copy, Debug, PartialEq, Eq)]
-pub struct Answer {
+pub struct Completion {
     pub end: CommandEnd,
     /// An error where the writer failed before the last byte of what it was to be told.
     pub told: Result<(), WriteFault>,
 }
 
-impl Answer {
+impl Completion {
     ghost use Rattle.std.specs.Prelude.{◌≡◌};
     ghost use Rattle.commands.specs.Statuses.{status_of};
 

@@ -1,6 +1,6 @@
 -- The steps that are within the region are all.
 use Rattle.span_fill.proofs.StepsLemmas.{all_steps}
-use Rattle.span_fill.proofs.steps.Steps.new.Goals as goal
+use Rattle.span_fill.proofs.steps.LineSteps.new.Goals as goal
 
 pub returns-clause-all : goal.returns-clause-all
 returns-clause-all c =
