@@ -7,9 +7,9 @@ use Rattle.draw_ops.specs.ExactlyOne.{ExactlyOne}
 use Rattle.draw_ops.specs.declared.fault.Fault.{Fault}
 use Rattle.draw_ops.specs.declared.fault.Fault.TheVariants.{BadBound, NotCertificate, OutOfMemory, ShortCertificate, TrailingBytes}
 use Rattle.meta_headers.specs.Headers.{OpenedValue}
-use Rattle.meta_headers.specs.Opening.{opened}
+use Rattle.meta_headers.specs.Opening.{opened, record_bytes}
 use Rattle.point_views.specs.Numbers.{number_at}
-use Rattle.preflight_cert.specs.Answer.{Answer, AnswersOpened, IsAnswer, accepted, refuses}
+use Rattle.preflight_cert.specs.Answer.{Answer, AnswersOpened, AnswersRead, IsAnswer, accepted, refuses}
 use Rattle.preflight_cert.specs.CertificateReading.{CertificateValue, is_bounded, mark, read_certificate, read_whole, value_in, whole_size}
 use Rattle.preflight_cert.specs.CertificateText.{certificate_text}
 use Rattle.preflight_cert.specs.CertificateOf.{certificate_of}
@@ -19,7 +19,7 @@ use Rattle.preflight_cert.specs.Run.{Refused}
 use Rattle.preflight_cert.specs.declared.certificate.Certificate.{Certificate}
 use Rattle.preflight_cert.specs.declared.refusal.Refusal.{Refusal}
 use Rattle.commands.specs.ClearedFiles.{IsWithinBound, RefusesSurface}
-use Rattle.commands.specs.Ends.{Opens}
+use Rattle.preflight_cert.specs.Reached.{OpensBoth}
 
 -- a fault is no certificate
 is_value : Result CertificateValue Fault → Bool
@@ -144,11 +144,17 @@ run_refused file width height wide high r (inl stops) =
     let bound : is_bound width height ≡ true = and_from (is_surface_side width) (is_surface_side height) (side_test width wide) (side_test height high) in
     inl (subst (λ (allowed : Bool). RefusesWithin allowed file width height r.number r.fault) bound stops)
 
--- an accepted file opens
-opened_of_answer : (file certificate : List ℕ) (r : Result OpenedValue Fault) → AnswersOpened r file certificate accepted → IsOk r
+-- an accepted file opens, and its certificate reads
+read_of_answer : (read : Result CertificateValue Fault) (o : OpenedValue) (records : List ℕ) → AnswersRead read o records accepted → IsOk read
 unfolding is_accepted
-opened_of_answer file certificate (Ok o) accepts = refl
-opened_of_answer file certificate (Err fault) accepts = absurd (true≢false (ap is_accepted accepts))
+read_of_answer (Ok c) o records accepts = refl
+read_of_answer (Err fault) o records accepts = absurd (true≢false (ap is_accepted accepts))
 
-pub accepted_opens : (file certificate : List ℕ) → IsAnswer file certificate accepted → Opens file
-accepted_opens file certificate accepts = opened_of_answer file certificate (opened file) accepts
+both_of_answer : (file certificate : List ℕ) (r : Result OpenedValue Fault) → AnswersOpened r file certificate accepted → IsOk r × IsOk (read_certificate certificate)
+unfolding is_accepted
+both_of_answer file certificate (Ok o) accepts = (refl, read_of_answer (read_certificate certificate) o (record_bytes o.format file) accepts)
+both_of_answer file certificate (Err fault) accepts = absurd (true≢false (ap is_accepted accepts))
+
+pub accepted_opens : (file certificate : List ℕ) → IsAnswer file certificate accepted → OpensBoth file certificate
+accepted_opens file certificate accepts =
+    let both = both_of_answer file certificate (opened file) accepts in record { opens = both.0; reads = both.1 }

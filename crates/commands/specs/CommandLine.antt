@@ -1,7 +1,8 @@
 -- The program's command line, as clap reads it.
-use Rattle.std.specs.Prelude.{◌≡◌, ◌≤◌, ℕ, List, [], ◌∷◌, Option, Some, None, IsSome, codes, pos, true}
+use Rattle.std.specs.Prelude.{◌≡◌, ◌≤◌, ℕ, List, [], ◌∷◌, Option, Some, None, IsSome, String, codes, map, pos, string_bytes, true}
 use Rattle.mapping.specs.Limits.{surface_side_limit}
 use Rattle.std.specs.Str.Parse.{IsNumeral, digits_value, without_leading_plus}
+use Rattle.std.specs.declared.alloc.Global.{Global}
 use Rattle.clap.specs.Words.{App, Row, Rule, Text, first_of, new_app, new_rule, one_of, subcommand_of, with_rule, with_subcommand}
 use Rattle.clap.specs.declared.builder.ArgAction.TheVariants.{Set}
 use Rattle.clap.specs.declared.builder.value_parser.ValueParser.TheVariants.{Signed}
@@ -115,6 +116,10 @@ pub record IsAskedBy (met : Option (Text × List Row)) (line : CommandLine) : Ty
   pub given : List Row
   pub command : met ≡ Some (command_name line, given)
   pub gives : HoldsWords given line
+
+-- the words of a command line, by their bytes
+abbrev pub texts_of : List (String Global) → List Text
+texts_of words = map string_bytes words
 
 -- the line has what the words, the program's name first, give its command
 abbrev pub IsAskedByWords : List Text → CommandLine → Type 0

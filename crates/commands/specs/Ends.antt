@@ -1,9 +1,8 @@
 -- What a task leaves on its output and on standard error, by how it ends.
-use Rattle.std.specs.Prelude.{◌⊎◌, ℕ, List, Option, IsOk, codes}
+use Rattle.std.specs.Prelude.{◌⊎◌, ℕ, List, Option, codes}
 use Rattle.std.specs.Io.KnownBytes.{Appends, Keeps}
 use Rattle.draw_ops.specs.declared.fault.Fault.{Fault}
 use Rattle.canvas.specs.Ppm.{AppendsFront}
-use Rattle.meta_headers.specs.Opening.{opened}
 use Rattle.preflight_cert.specs.Answer.{IsAnswer, refuses}
 use Rattle.preflight_cert.specs.Preparation.{Prepares}
 use Rattle.preflight_cert.specs.Refusal.{refusal_text}
@@ -19,10 +18,6 @@ use Rattle.listing.specs.declared.listing_end.ListingEnd.TheVariants.{Broken, En
 use Rattle.commands.specs.declared.command_end.Completion.{Completion}
 use Rattle.commands.specs.declared.command_end.CommandEnd.{CommandEnd}
 use Rattle.commands.specs.declared.command_end.CommandEnd.TheVariants as end
-
--- the file opens: its headers have no fault
-abbrev pub Opens : List ℕ → Type 0
-Opens file = IsOk (opened file)
 
 -- The text that a task writes where it is done: of the image that the file's run leaves of white, of the certificate that is prepared,
 -- of the report of an accepted one, or of the listing of records that end with an end record.

@@ -1,9 +1,9 @@
 -- What a command line's command leaves on its streams.
-use Rattle.std.specs.Prelude.{◌≡◌, ℕ, List, Option, None, IfSome, codes, String, map, string_bytes, ⊤}
+use Rattle.std.specs.Prelude.{◌≡◌, ℕ, List, Option, None, IfSome, codes, String, ⊤}
 use Rattle.std.specs.Io.KnownBytes.{Keeps}
 use Rattle.clap.specs.Words.{Text}
 use Rattle.std.specs.declared.alloc.Global.{Global}
-use Rattle.commands.specs.CommandLine.{HoldsOfAsked}
+use Rattle.commands.specs.CommandLine.{HoldsOfAsked, texts_of}
 use Rattle.commands.specs.Ends.{TellsBy, WritesBy}
 use Rattle.commands.specs.Report.{Reports, Told}
 use Rattle.commands.specs.Sides.{HoldsOfSome, file_of}
@@ -104,7 +104,7 @@ module _ {W : Type 0} where
   WritesLine line input answer contents old new = OutBy answer.end line input (contents old) (contents new)
 
   abbrev pub WritesAsked : List (String Global) → Option (List ℕ) → Completion → (W → Option (List ℕ)) → W → W → Type 0
-  WritesAsked words input answer contents old new = OutOfWords answer.end (map string_bytes words) input (contents old) (contents new)
+  WritesAsked words input answer contents old new = OutOfWords answer.end (texts_of words) input (contents old) (contents new)
 
   abbrev pub WritesSome : Option (List ℕ) → Completion → (W → Option (List ℕ)) → W → W → Type 0
   WritesSome input answer contents old new = OutOfSome answer.end input (contents old) (contents new)
@@ -119,7 +119,7 @@ module _ {W : Type 0} where
 
   abbrev pub TellsAsked : List (String Global) → Option (List ℕ) → Completion → (W → Option (List ℕ)) → W → W → Type 0
   TellsAsked words input answer contents old new =
-      ErrOfWords answer.end (map string_bytes words) input answer.told (contents old) (contents new)
+      ErrOfWords answer.end (texts_of words) input answer.told (contents old) (contents new)
 
   abbrev pub TellsSome : Option (List ℕ) → Completion → (W → Option (List ℕ)) → W → W → Type 0
   TellsSome input answer contents old new = ErrOfSome answer.end input answer.told (contents old) (contents new)

@@ -1,10 +1,10 @@
 //! Reading the command line.
 
-ghost use Rattle.std.specs.Prelude.{◌≡◌, IfErr, IfOk, IfSome, IsSome, codes, map, string_bytes};
+ghost use Rattle.std.specs.Prelude.{◌≡◌, IfErr, IfOk, IfSome, IsSome, codes};
 ghost use Rattle.clap.specs.Words.{first_of, found_of, kind_of, rows_of, subcommand_rows_of};
 ghost use Rattle.mapping.specs.Limits.{IsSurfaceSide};
 ghost use Rattle.commands.specs.CommandLine.{AllowsShow, AreRightWords, HoldsWords, GivesBands, GivesName, GivesNumber, GivesSide, GivesSides};
-ghost use Rattle.commands.specs.CommandLine.{HasPlainWords, IsAskedBy, IsAskedByWords, IsRightShow, command_name};
+ghost use Rattle.commands.specs.CommandLine.{HasPlainWords, IsAskedBy, IsAskedByWords, IsRightShow, command_name, texts_of};
 ghost use Rattle.commands.specs.Sides.{AreSides, HasSides};
 
 use crate::asked::CommandLine;
@@ -18,10 +18,9 @@ use std::alloc::Global;
 /// An error has the text that the user is shown, for asked-for help too.
 pub fn line<'a>(alloc: Global, words: &'a [String]) -> Result<CommandLine<'a>, Error>
     ensures sides { IfOk result HasSides }
-    ensures asked { IfOk result (IsAskedByWords (map string_bytes words.entry.now)) }
-    ensures plain { IfOk result (HasPlainWords (map string_bytes words.entry.now)) }
-    ensures taken { IfErr result
-        (λ e. AreRightWords (map string_bytes words.entry.now) → kind_of e ≡ ErrorKind.OutOfMemory) }
+    ensures asked { IfOk result (IsAskedByWords (texts_of words.entry.now)) }
+    ensures plain { IfOk result (HasPlainWords (texts_of words.entry.now)) }
+    ensures taken { IfErr result (λ e. AreRightWords (texts_of words.entry.now) → kind_of e ≡ ErrorKind.OutOfMemory) }
 {
     let mut command = metaplay(alloc)?;
     let matches = command.try_get_matches_from_mut(words)?;

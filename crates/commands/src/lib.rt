@@ -17,7 +17,7 @@
 //!   check's answer, and for `play` behind it that the surface is above the certificate's bound; for
 //!   `over` between them that the text is no image. Then nothing was written, and of `check` the refusal's
 //!   report; of `list` the listing of records that break. Where memory was refused nothing was written,
-//!   and of `show`, `prepare` and `list` the file opens.
+//!   and of `show`, `prepare` and `list` the file opens, and of `play` and `over` the certificate reads, too.
 //! - Where an output failed, it got a front of such a text.
 //! - The whole program's ends mean the same of some bytes, at the sides and for the files that the words
 //!   ask for (`run_words`, `run`); no status is above 4 (`CommandEnd::status`).

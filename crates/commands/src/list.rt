@@ -1,7 +1,8 @@
 //! The command `list`.
 
 ghost use Rattle.std.specs.Prelude.{◌≡◌, IfOk, OnErr};
-ghost use Rattle.commands.specs.Ends.{Opens, Tells, Writes, WritesFront, WritesText};
+ghost use Rattle.commands.specs.Ends.{Tells, Writes, WritesFront, WritesText};
+ghost use Rattle.preflight_cert.specs.Reached.{Opens};
 ghost use Rattle.commands.specs.Listings.{IsListing, Lists, StopsAtOnePixel, stop_in};
 ghost use Rattle.commands.specs.Tasks.{list};
 ghost use Rattle.preflight_cert.specs.Run.{refused};

@@ -2,6 +2,7 @@
 
 ghost use Rattle.std.specs.Prelude.{◌≡◌, ◌≤◌, ◌⊎◌, ◌^◌, IfErr, IfOk, OnOk};
 ghost use Rattle.canvas.specs.CanvasState.{image_of};
+ghost use Rattle.preflight_cert.specs.Reached.{OpensBoth};
 ghost use Rattle.preflight_cert.specs.Refusal.{IsWantOfMemory};
 ghost use Rattle.commands.specs.ClearedFiles.{IsWithinBound, Leaves, RefusesSurface};
 ghost use Rattle.commands.specs.Ends.{IsDoneBy, Tells, Writes, WritesText};
@@ -9,7 +10,7 @@ ghost use Rattle.commands.specs.Failures.{FailsWith};
 ghost use Rattle.commands.specs.Images.{IsPlayedOver, RefusesOver};
 ghost use Rattle.commands.specs.Tasks.{over};
 
-use crate::command_end::Completion;
+use crate::command_end::{CommandEnd, Completion};
 use crate::failure::{Failure, ending, failure_of};
 use crate::writing::write_image;
 use canvas::{Canvas, ImageError};
@@ -32,6 +33,7 @@ pub fn over_command<O: Write, E: Write>(
 ) -> Completion
     ensures written { Writes (over file.now certificate.now image.now) result O.contents out.old out.new }
     ensures told { Tells (over file.now certificate.now image.now) result E.contents err.old err.new }
+    ensures memory { result.end ≡ CommandEnd.OutOfMemory → OpensBoth file.now certificate.now }
 {
     let done = write_over(alloc, file, certificate, image, out);
     ending(done, err)
@@ -48,6 +50,7 @@ fn write_over<O: Write>(
     ensures done { OnOk result
         (WritesText (IsDoneBy (over file.now certificate.now image.now)) (O.contents out.old) (O.contents out.new)) }
     ensures failed { IfErr result (FailsWith (over file.now certificate.now image.now) O.contents out.old out.new) }
+    ensures memory { IfErr result (λ failure. failure ≡ Failure.OutOfMemory → OpensBoth file.now certificate.now) }
 {
     let canvas = match over_file(alloc, file, certificate, image) {
         Ok(canvas) => canvas,
@@ -69,6 +72,7 @@ fn over_file(
     ensures image { IfOk result (λ canvas. IsPlayedOver file.now certificate.now image.now (image_of canvas)) }
     ensures refusal { IfErr result
         (λ r. RefusesOver file.now certificate.now image.now r.number r.fault ⊎ IsWantOfMemory r) }
+    ensures memory { IfErr result (λ r. r.fault ≡ Fault.OutOfMemory → OpensBoth file.now certificate.now) }
 {
     let cleared = match check(alloc, file, certificate) {
         Ok(cleared) => cleared,

@@ -1,12 +1,13 @@
 //! The command `play`.
 
-ghost use Rattle.std.specs.Prelude.{◌≤◌, IfErr, IfSome, OnOk};
+ghost use Rattle.std.specs.Prelude.{◌≡◌, ◌≤◌, IfErr, IfSome, OnOk};
 ghost use Rattle.mapping.specs.Limits.{IsSurfaceSide};
+ghost use Rattle.preflight_cert.specs.Reached.{OpensBoth};
 ghost use Rattle.commands.specs.Ends.{IsDoneBy, Tells, Writes, WritesText};
 ghost use Rattle.commands.specs.Failures.{FailsWith};
 ghost use Rattle.commands.specs.Tasks.{play};
 
-use crate::command_end::Completion;
+use crate::command_end::{CommandEnd, Completion};
 use crate::failure::{Failure, ending, failure_of};
 use crate::playing::write_played;
 use preflight_cert::check;
@@ -31,6 +32,7 @@ pub fn play_command<O: Write, E: Write>(
     requires bands { IfSome bands (λ rows. 1 ≤ rows) }
     ensures written { Writes (play file.now certificate.now width height) result O.contents out.old out.new }
     ensures told { Tells (play file.now certificate.now width height) result E.contents err.old err.new }
+    ensures memory { result.end ≡ CommandEnd.OutOfMemory → OpensBoth file.now certificate.now }
 {
     let done = play_checked(alloc, file, certificate, width, height, bands, out);
     ending(done, err)
@@ -52,6 +54,7 @@ fn play_checked<O: Write>(
     ensures done { OnOk result
         (WritesText (IsDoneBy (play file.now certificate.now width height)) (O.contents out.old) (O.contents out.new)) }
     ensures failed { IfErr result (FailsWith (play file.now certificate.now width height) O.contents out.old out.new) }
+    ensures memory { IfErr result (λ failure. failure ≡ Failure.OutOfMemory → OpensBoth file.now certificate.now) }
 {
     let cleared = match check(alloc, file, certificate) {
         Ok(cleared) => cleared,

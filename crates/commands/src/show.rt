@@ -7,7 +7,8 @@ ghost use Rattle.preflight_cert.specs.Answer.{IsAnswer, accepted};
 ghost use Rattle.preflight_cert.specs.CertificateOf.{certificate_of};
 ghost use Rattle.preflight_cert.specs.CertificateReading.{read_certificate};
 ghost use Rattle.preflight_cert.specs.Preparation.{Prepares};
-ghost use Rattle.commands.specs.Ends.{IsDoneBy, Opens, Tells, Writes, WritesText};
+ghost use Rattle.commands.specs.Ends.{IsDoneBy, Tells, Writes, WritesText};
+ghost use Rattle.preflight_cert.specs.Reached.{Opens};
 ghost use Rattle.commands.specs.Failures.{FailsWith};
 ghost use Rattle.commands.specs.Tasks.{show};
 

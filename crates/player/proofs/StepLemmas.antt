@@ -1,5 +1,5 @@
 -- A step that is refused on a machine with room has the operation's fault.
-use Rattle.std.proofs.Common.{◌≡◌, ℕ, Option, Some, None, Result, Ok, Err, inl, inr, refl, ap, ◌∙◌, arith}
+use Rattle.std.proofs.Common.{◌≡◌, ℕ, ◌+◌, length, Option, Some, None, Result, Ok, Err, inl, inr, refl, ap, ◌∙◌, arith}
 use Rattle.std.specs.Option.{option_map}
 use Rattle.mapping.specs.Surface.{Surface}
 use Rattle.draw_ops.specs.Content.{Content, StepValue, broken_by, with_step}
@@ -21,7 +21,7 @@ use Rattle.player.specs.Leaving.{IsLeftBy}
 use Rattle.player.specs.Plays.{StopsBy}
 use Rattle.preflight_cert.specs.NeedLaws.{HasRoomFor, NeedLaws}
 use Rattle.preflight_cert.specs.Refusal.{number_told}
-use Rattle.preflight_cert.specs.Stop.{stop_at, stop_of, stopped}
+use Rattle.preflight_cert.specs.Stop.{Stop, broken_after, stop_at, stop_of, stopped}
 use Rattle.preflight_cert.specs.declared.refusal.Refusal.{Refusal}
 
 -- room for the needs of all steps is room for those of the first
@@ -46,13 +46,16 @@ refused_by_fault laws left rest step m fault is room refuses = elim refuses [
   | inr wants ↦ absurd (wants_none laws left rest step m fault is room wants)
 ]
 
+add_nothing : (n : ℕ) → n + 0 ≡ n
+add_nothing n = omega arith
+
 -- what is left stops where it breaks
 pub stops_where_broken : (before : ℕ) (left new : Content) (state : State) (s : Surface) (result : Result (Option Step) RecordFault) (fault : RecordFault) (r : Refusal) → Gives left result new → result ≡ Err fault → r.number ≡ Some before → r.fault ≡ Record fault → StopsAfter before left state s r
 stops_where_broken before left new state s result fault r gives e number by =
     let given : Stays (broken_by fault) left new = rw e at gives in
     record {
       at = stop_at before fault;
-      stops = rw given.is refl;
+      stops = rw (given.is, add_nothing before) refl;
       number = number;
       fault = by;
     }
@@ -81,11 +84,16 @@ stops_at_first before left rest step state s fault r is h number by =
     let found = that_of (fault_of step.operation state s) fault h in
     stops_there before left rest step state s found.here r is found.there (number ∙ ap (number_told step.number) found.same) (by ∙ found.same)
 
+-- the fault behind what is left is that behind the whole
+same_break : (whole left : Content) (before : ℕ) → before + length left.steps ≡ length whole.steps → left.fault ≡ whole.fault → broken_after 0 whole ≡ broken_after before left
+same_break whole left before count fault = rw (count, fault) refl
+
 -- where what is left stops, the whole does
-pub stops_by : (whole left : Content) (before : ℕ) (start state : State) (s : Surface) (r : Refusal) → stop_of whole start s ≡ stopped left.steps left.fault before state s → StopsAfter before left state s r → StopsBy whole start s r
-stops_by whole left before start state s r same after = record {
+pub stops_by : (whole left : Content) (before : ℕ) (start state : State) (s : Surface) (r : Refusal) → before + length left.steps ≡ length whole.steps → left.fault ≡ whole.fault
+    → stop_of whole start s ≡ stopped left.steps (broken_after 0 whole) state s → StopsAfter before left state s r → StopsBy whole start s r
+stops_by whole left before start state s r count fault same after = record {
   at = after.at;
-  stops = same ∙ after.stops;
+  stops = same ∙ ap (λ (behind : Option Stop). stopped left.steps behind state s) (same_break whole left before count fault) ∙ after.stops;
   number = after.number;
   fault = after.fault;
 }

@@ -7,7 +7,7 @@ use Rattle.dc_stack.specs.MachineState.{HasStepped, IsDrawingOf, MachineState}
 use Rattle.dc_stack.specs.State.{State}
 use Rattle.dc_stack.specs.declared.draw.Draw.{Draw}
 use Rattle.preflight_cert.specs.Refusal.{TellsStop}
-use Rattle.preflight_cert.specs.Stop.{stopped}
+use Rattle.preflight_cert.specs.Stop.{broken_after, stopped}
 use Rattle.preflight_cert.specs.declared.refusal.Refusal.{Refusal}
 
 -- the first step of what was left was played, and what it draws is told by where it lands
@@ -24,9 +24,9 @@ pub record HasEnded (old : Content) (start end : MachineState) : Type 0 where
   pub state : end.state ≡ start.state
   pub needs : end.needs ≡ start.needs
 
--- what is left stops at the refusal's record, by its fault, with so many records before
+-- what is left stops at the refusal's record, by its fault, where so many records come before
 abbrev pub StopsAfter : ℕ → Content → State → Surface → Refusal → Type 0
-StopsAfter before left state s r = TellsStop (stopped left.steps left.fault before state s) r
+StopsAfter before left state s r = TellsStop (stopped left.steps (broken_after before left) state s) r
 
 -- a step was played, or nothing was left, or what is left stops in its first record
 abbrev pub Advances : ℕ → Content → MachineState → Result (Option (Option Draw)) Refusal → Content → MachineState → Type 0

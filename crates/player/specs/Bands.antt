@@ -48,6 +48,10 @@ pub record WritesRunFront (cleared : Cleared) (width height : ℕ) (start : Colo
   pub of_run : IsClearedText cleared width height start text
   pub appended : AppendsFront old new text
 
+-- the same of a writer, by what it holds
+abbrev pub WritesFrontTo : {W : Type 0} → Cleared → ℕ → ℕ → Colour → (W → Option (List ℕ)) → W → W → Type 0
+WritesFrontTo cleared width height start contents old new = WritesRunFront cleared width height start (contents old) (contents new)
+
 -- so many pixels does the run of that file write at this size
 abbrev pub AreClearedWrites : Cleared → ℕ → ℕ → ℕ → Type 0
 AreClearedWrites cleared width height writes = (file : List ℕ) → IsOpenedFrom file cleared.opened → RunWrites file width height writes

@@ -1,12 +1,12 @@
 -- What playing does to a canvas.
-use Rattle.std.specs.Prelude.{◌≡◌, ◌≤◌, ℕ, ◌+◌, List, Option, None, IsOk}
+use Rattle.std.specs.Prelude.{◌≡◌, ◌≤◌, ℕ, ◌+◌, List, Option, None}
 use Rattle.mapping.specs.Surface.{Surface}
 use Rattle.draw_ops.specs.Content.{Content}
 use Rattle.canvas.specs.CanvasState.{CanvasState, image_of}
 use Rattle.preflight_cert.specs.After.{needs_after, state_after}
 use Rattle.preflight_cert.specs.Apply.{apply_all, image_after, rows_after}
 use Rattle.meta_headers.specs.File.{IsFile}
-use Rattle.meta_headers.specs.Opening.{HasContentOf, opened, surface_for}
+use Rattle.meta_headers.specs.Opening.{HasContentOf, surface_for}
 use Rattle.meta_headers.specs.declared.opened.FileFormat.{FileFormat}
 use Rattle.meta_headers.specs.declared.opened.Opened.{Opened}
 use Rattle.dc_stack.specs.Drawing.{Drawing}
@@ -15,6 +15,7 @@ use Rattle.preflight_cert.specs.Drawings.{drawings_of}
 use Rattle.preflight_cert.specs.Layer.{Layer, layers_if_drawn}
 use Rattle.meta_headers.specs.Headers.{OpenedValue}
 use Rattle.dc_stack.specs.State.{State, start_of}
+use Rattle.preflight_cert.specs.Reached.{Opens}
 use Rattle.preflight_cert.specs.Refusal.{IsWantOfMemory, TellsStop}
 use Rattle.preflight_cert.specs.Stop.{stop_of}
 use Rattle.preflight_cert.specs.StoppedRecords.{StopsOpened, StopsRecords}
@@ -23,7 +24,7 @@ use Rattle.preflight_cert.specs.declared.refusal.Refusal.{Refusal}
 
 -- the file opens, and memory was refused
 pub record WantsMemory (file : List ℕ) (r : Refusal) : Type 0 where
-  pub opens : IsOk (opened file)
+  pub opens : Opens file
   pub wants : IsWantOfMemory r
 
 -- the canvas holds rows of a surface

@@ -1,6 +1,7 @@
 -- There is one answer, it is 'accepted' where the certificate fits, and what is accepted is sound.
-use Rattle.std.proofs.Common.{◌≡◌, ℕ, suc, ◌≤◌, Bool, true, false, ◌&&◌, ◌==◌, cond, List, [], ◌∷◌, Option, Some, None, Result, Ok, Err, refl, ap, sym, ◌∙◌, arith}
+use Rattle.std.proofs.Common.{◌≡◌, ℕ, ◌≤◌, Bool, true, false, ◌&&◌, ◌==◌, cond, List, [], ◌∷◌, length, Option, Some, None, Result, Ok, Err, refl, ap, sym, ◌∙◌, arith}
 use Rattle.std.specs.Prelude.{nat_le}
+use Rattle.std.specs.Option.{option_or}
 use Rattle.std.proofs.lemmas.Bool.{and_from, and_parts, eq-eqb, eqb-true, le-leb, leb-true}
 use Rattle.mapping.specs.Image.{Image}
 use Rattle.mapping.specs.PlacingLaws.{IsNoLarger, ShowsFrame}
@@ -10,7 +11,6 @@ use Rattle.draw_ops.specs.ExactlyOne.{ExactlyOne}
 use Rattle.draw_ops.specs.RecordContent.{ContentIsOne}
 use Rattle.draw_ops.specs.declared.fault.Fault.{Fault}
 use Rattle.draw_ops.specs.declared.fault.Fault.TheVariants.{BudgetTooSmall, NeedTooSmall}
-use Rattle.draw_ops.specs.declared.record_fault.RecordFault.{RecordFault}
 use Rattle.draw_ops.specs.declared.record_fault.RecordFault.TheVariants.{BoxTooSmall, WrongEntry}
 use Rattle.meta_headers.specs.File.{FileIsOne, IsFile}
 use Rattle.meta_headers.specs.Headers.{OpenedValue}
@@ -24,13 +24,13 @@ use Rattle.preflight_cert.specs.After.{file_needs}
 use Rattle.preflight_cert.specs.Answer.{Answer, AnswerLaws, AnswersOpened, AnswersRead, Fits, IsAnswer, RecordsAnswer, Sound, accepted, answer_from, answer_to, are_within, bound_of, file_budget, refuses}
 use Rattle.preflight_cert.specs.Apply.{image_after}
 use Rattle.preflight_cert.specs.CertificateReading.{CertificateValue, read_certificate}
-use Rattle.preflight_cert.specs.Checked.{checked, checked_end}
+use Rattle.preflight_cert.specs.Checked.{checked, left_over}
 use Rattle.preflight_cert.specs.Drawings.{NumberedDrawing, drawing_then, drawings_of}
 use Rattle.preflight_cert.specs.Entries.{AreCovered, Covers, covers, entries_behind, entry_fault}
 use Rattle.preflight_cert.specs.NeedLaws.{AreWithin}
 use Rattle.preflight_cert.specs.Run.{Refused, ShowsImage, StopsInRecord, RunWrites}
 use Rattle.preflight_cert.specs.SizeLaws.{SizeLaws}
-use Rattle.preflight_cert.specs.Stop.{Stop, stop_at, stop_of, stopped}
+use Rattle.preflight_cert.specs.Stop.{Stop, broken_after, stop_at, stop_of, stopped}
 use Rattle.preflight_cert.specs.Writes.{writes_after}
 use Rattle.preflight_cert.specs.declared.entry.Entry.{Entry}
 use Rattle.preflight_cert.proofs.CoverLemmas.{points_in, points_of}
@@ -38,14 +38,14 @@ use Rattle.preflight_cert.proofs.RunLemmas.{opens_or_not}
 use Rattle.preflight_cert.proofs.StopLemmas.{none_first, none_here, none_later, none_second}
 
 -- behind the last step
-none_at_end : (fault : Option RecordFault) (before : ℕ) (entries : List Entry) → checked_end fault before entries ≡ None → fault ≡ None
-none_at_end None before entries h = refl
-none_at_end (Some fault) before entries h = absurd (cc)
+none_at_end : (behind : Option Stop) (count : ℕ) (entries : List Entry) → option_or behind (left_over count entries) ≡ None → behind ≡ None
+none_at_end None count entries h = refl
+none_at_end (Some stop) count entries h = absurd (cc)
 
-covered_end : (fault : Option RecordFault) (before : ℕ) (entries : List Entry) → checked_end fault before entries ≡ None → AreCovered [] entries
-covered_end None before [] h = tt
-covered_end None before (entry ∷ entries) h = absurd (cc)
-covered_end (Some fault) before entries h = absurd (cc)
+covered_end : (behind : Option Stop) (count : ℕ) (entries : List Entry) → option_or behind (left_over count entries) ≡ None → AreCovered [] entries
+covered_end None count [] h = tt
+covered_end None count (entry ∷ entries) h = absurd (cc)
+covered_end (Some stop) count entries h = absurd (cc)
 
 -- an entry that is in order covers its drawing, and the other way round
 boxed : (number : ℕ) (drawing : Drawing) (entry : Entry) (test : Bool) → covers entry.bounds (drawing_points drawing) ≡ test → entry.number ≡ number
@@ -77,36 +77,32 @@ covered_behind number None later entries h = h
 covered_behind number (Some drawing) later [] h = absurd h
 covered_behind number (Some drawing) later (entry ∷ entries) h = h.1
 
-module _ (s : Surface) where
-  unstopped_of : (steps : List StepValue) (fault : Option RecordFault) (before : ℕ) (state : State) (entries : List Entry) →
-      checked steps fault before state s entries ≡ None → stopped steps fault before state s ≡ None
-  unstopped_of [] fault before state entries h = rw (none_at_end fault before entries h) refl
-  unstopped_of (step ∷ steps) fault before state entries h =
+module _ (s : Surface) (behind : Option Stop) (count : ℕ) where
+  unstopped_of : (steps : List StepValue) (state : State) (entries : List Entry) → checked steps behind count state s entries ≡ None → stopped steps behind state s ≡ None
+  unstopped_of [] state entries h = none_at_end behind count entries h
+  unstopped_of (step ∷ steps) state entries h =
       let here : fault_of step.operation state s ≡ None = none_first (fault_of step.operation state s) (entry_fault step.number (drawing_of step.operation state) entries) (none_here _ _ _ h) in
-      let rest = unstopped_of steps fault (suc before) (next step.operation state) (entries_behind (drawing_of step.operation state) entries) (none_later _ _ _ h) in
+      let rest = unstopped_of steps (next step.operation state) (entries_behind (drawing_of step.operation state) entries) (none_later _ _ _ h) in
       rw (here, rest) refl
 
-  covered_of : (steps : List StepValue) (fault : Option RecordFault) (before : ℕ) (state : State) (entries : List Entry) →
-      checked steps fault before state s entries ≡ None → AreCovered (drawings_of steps state) entries
-  covered_of [] fault before state entries h = covered_end fault before entries h
-  covered_of (step ∷ steps) fault before state entries h =
+  covered_of : (steps : List StepValue) (state : State) (entries : List Entry) → checked steps behind count state s entries ≡ None → AreCovered (drawings_of steps state) entries
+  covered_of [] state entries h = covered_end behind count entries h
+  covered_of (step ∷ steps) state entries h =
       let fits = none_second (fault_of step.operation state s) (entry_fault step.number (drawing_of step.operation state) entries) (none_here _ _ _ h) in
       covered_then step.number (drawing_of step.operation state) (drawings_of steps (next step.operation state)) entries fits
-      (covered_of steps fault (suc before) (next step.operation state) (entries_behind (drawing_of step.operation state) entries) (none_later _ _ _ h))
+      (covered_of steps (next step.operation state) (entries_behind (drawing_of step.operation state) entries) (none_later _ _ _ h))
 
-  checked_at_end : (fault : Option RecordFault) (before : ℕ) (state : State) (entries : List Entry) → stopped [] fault before state s ≡ None → AreCovered [] entries → checked_end fault before entries ≡ None
-  checked_at_end None before state [] h covered = refl
-  checked_at_end None before state (entry ∷ entries) h covered = absurd covered
-  checked_at_end (Some fault) before state entries h covered = absurd (cc)
+  checked_at_end : (entries : List Entry) → behind ≡ None → AreCovered [] entries → option_or behind (left_over count entries) ≡ None
+  checked_at_end [] h covered = rw h refl
+  checked_at_end (entry ∷ entries) h covered = absurd covered
 
-  checked_from : (steps : List StepValue) (fault : Option RecordFault) (before : ℕ) (state : State) (entries : List Entry) →
-      stopped steps fault before state s ≡ None → AreCovered (drawings_of steps state) entries → checked steps fault before state s entries ≡ None
-  checked_from [] fault before state entries h covered = checked_at_end fault before state entries h covered
-  checked_from (step ∷ steps) fault before state entries h covered =
+  checked_from : (steps : List StepValue) (state : State) (entries : List Entry) → stopped steps behind state s ≡ None → AreCovered (drawings_of steps state) entries → checked steps behind count state s entries ≡ None
+  checked_from [] state entries h covered = checked_at_end entries h covered
+  checked_from (step ∷ steps) state entries h covered =
       let here : fault_of step.operation state s ≡ None = none_here step.number (fault_of step.operation state s) _ h in
       let fits = faultless step.number (drawing_of step.operation state) (drawings_of steps (next step.operation state)) entries covered in
-      let behind = covered_behind step.number (drawing_of step.operation state) (drawings_of steps (next step.operation state)) entries covered in
-      let rest = checked_from steps fault (suc before) (next step.operation state) (entries_behind (drawing_of step.operation state) entries) (none_later _ _ _ h) behind in
+      let behind_it = covered_behind step.number (drawing_of step.operation state) (drawings_of steps (next step.operation state)) entries covered in
+      let rest = checked_from steps (next step.operation state) (entries_behind (drawing_of step.operation state) entries) (none_later _ _ _ h) behind_it in
       rw (here, fits, rest) refl
 
 -- needs within others, as a test and as a fact
@@ -138,15 +134,15 @@ fits_of content o c h =
     let none = both_none _ _ h in
     let pair = both_true (are_within (file_needs content o) c.needs) (nat_le (file_budget content o c) c.writes) none.1 in
     record {
-      unstopped = unstopped_of (bound_of o c) content.steps content.fault 0 (start_of o) c.entries none.0;
-      covered = covered_of (bound_of o c) content.steps content.fault 0 (start_of o) c.entries none.0;
+      unstopped = unstopped_of (bound_of o c) (broken_after 0 content) (length content.steps) content.steps (start_of o) c.entries none.0;
+      covered = covered_of (bound_of o c) (broken_after 0 content) (length content.steps) content.steps (start_of o) c.entries none.0;
       needs = within_of (file_needs content o) c.needs pair.0;
       budget = leb-true _ _ pair.1;
     }
 
 accepted_of : (content : Content) (o : OpenedValue) (c : CertificateValue) → Fits c o content → accepted ≡ answer_to content o c
 accepted_of content o c fits =
-    let order = checked_from (bound_of o c) content.steps content.fault 0 (start_of o) c.entries fits.unstopped fits.covered in
+    let order = checked_from (bound_of o c) (broken_after 0 content) (length content.steps) content.steps (start_of o) c.entries fits.unstopped fits.covered in
     let within = within_from (file_needs content o) c.needs fits.needs in
     let few = le-leb _ _ fits.budget in
     rw (order, within, few) refl

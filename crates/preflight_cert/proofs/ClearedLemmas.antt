@@ -12,7 +12,7 @@ use Rattle.dc_stack.specs.declared.needs.Needs.{Needs}
 use Rattle.preflight_cert.specs.After.{file_notes, needs_after, notes_after}
 use Rattle.preflight_cert.specs.Answer.{Answer, CountsRecords, IsAnswer, IsCleared, RecordsAnswer, accepted, answer_from, answer_to, bound_of, refuses, total_fault}
 use Rattle.preflight_cert.specs.CertificateReading.{CertificateValue, read_certificate}
-use Rattle.preflight_cert.specs.Checked.{checked}
+use Rattle.preflight_cert.specs.Checked.{check_of}
 use Rattle.preflight_cert.specs.Checks.{Checks, StopsCheck}
 use Rattle.preflight_cert.specs.Drawings.{drawings_of}
 use Rattle.preflight_cert.specs.Entries.{budget_of}
@@ -23,7 +23,7 @@ use Rattle.preflight_cert.proofs.StartLemmas.{IsAtStart}
 -- the answer from a state on, on a surface, beside needs from before
 abbrev answer_on : Content → State → Surface → Needs → CertificateValue → Answer
 answer_on content state s needs c =
-    answer_from (checked content.steps content.fault 0 state s c.entries)
+    answer_from (check_of content state s c.entries)
     (total_fault (needs_after content.steps state needs) (budget_of (drawings_of content.steps state) c.entries s) c)
 
 module _ (content : Content) (c : CertificateValue) (noted : List ℕ) (m new : MachineState) (totals : Totals) (checks : Checks content m c.entries noted totals new) where

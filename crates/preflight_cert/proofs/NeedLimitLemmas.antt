@@ -1,8 +1,7 @@
 -- The needs of records without a fault are within what any file needs.
-use Rattle.std.proofs.Common.{◌≡◌, ℕ, suc, List, [], ◌∷◌, Option, None, refl, subst, ◌∙◌, arith}
+use Rattle.std.proofs.Common.{◌≡◌, List, [], ◌∷◌, Option, None, refl, subst, ◌∙◌, arith}
 use Rattle.mapping.specs.Surface.{Surface}
 use Rattle.draw_ops.specs.Content.{Content, StepValue}
-use Rattle.draw_ops.specs.declared.record_fault.RecordFault.{RecordFault}
 use Rattle.meta_headers.specs.Headers.{OpenedValue}
 use Rattle.object_tables.specs.Table.{CreatedIndexIsBelowBound, TableKind, table_kind_of}
 use Rattle.dc_stack.specs.Needs.{greater_needs, needs_of, no_needs}
@@ -12,7 +11,7 @@ use Rattle.dc_stack.specs.State.{State, start_of}
 use Rattle.dc_stack.specs.declared.needs.Needs.{Needs}
 use Rattle.preflight_cert.specs.After.{file_needs, needs_after}
 use Rattle.preflight_cert.specs.NeedLaws.{AreWithin, most_needs}
-use Rattle.preflight_cert.specs.Stop.{stop_of, stopped}
+use Rattle.preflight_cert.specs.Stop.{Stop, broken_after, stop_of, stopped}
 use Rattle.preflight_cert.proofs.OperationNeeds.{nothing_within, same_kind, within}
 use Rattle.preflight_cert.proofs.StopLemmas.{none_first, none_here, none_later}
 
@@ -24,17 +23,17 @@ both_within first second most a b =
 
 -- and all steps
 module _ (laws : CreatedIndexIsBelowBound) (kind : TableKind) (s : Surface) where
-  all_within : (steps : List StepValue) (fault : Option RecordFault) (before : ℕ) (state : State) (needs : Needs) → stopped steps fault before state s ≡ None → state.table_kind ≡ kind
+  all_within : (steps : List StepValue) (behind : Option Stop) (state : State) (needs : Needs) → stopped steps behind state s ≡ None → state.table_kind ≡ kind
       → AreWithin needs (most_needs kind) → AreWithin (needs_after steps state needs) (most_needs kind)
-  all_within [] fault before state needs h e most = most
-  all_within (step ∷ steps) fault before state needs h e most =
+  all_within [] behind state needs h e most = most
+  all_within (step ∷ steps) behind state needs h e most =
       let here : fault_of step.operation state s ≡ None = none_here step.number (fault_of step.operation state s) _ h in
       let one = within laws step.operation state (none_first (plain_fault step.operation state) (place_fault step.operation state s) here) in
       let same : AreWithin (needs_of step.operation state) (most_needs kind) = subst (λ (k : TableKind). AreWithin (needs_of step.operation state) (most_needs k)) e one in
-      all_within steps fault (suc before) (next step.operation state) (greater_needs needs (needs_of step.operation state)) (none_later step.number _ _ h)
+      all_within steps behind (next step.operation state) (greater_needs needs (needs_of step.operation state)) (none_later step.number _ _ h)
       (same_kind step.operation state ∙ e) (both_within needs (needs_of step.operation state) (most_needs kind) most same)
 
 pub limited : CreatedIndexIsBelowBound → (content : Content) (o : OpenedValue) (s : Surface) → stop_of content (start_of o) s ≡ None → AreWithin (file_needs content o) (most_needs (table_kind_of o.handles))
 limited laws content o s h =
     let kind = table_kind_of o.handles in
-    all_within laws kind s content.steps content.fault 0 (start_of o) no_needs h refl (nothing_within kind)
+    all_within laws kind s content.steps (broken_after 0 content) (start_of o) no_needs h refl (nothing_within kind)

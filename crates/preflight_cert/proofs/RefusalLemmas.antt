@@ -33,19 +33,19 @@ told_or_wanted step m fault r (inl found) numbered by = inl (told_at (fault_of s
 told_or_wanted step m fault r (inr wants) numbered by = inr (record { number = rw wants.memory at numbered; fault = by ∙ wants.memory })
 
 -- where entries are checked
-pub check_refused : (whole : Option Stop) (left rest : Content) (step : StepValue) (before : ℕ) (m : MachineState) (entries : List Entry) (fault : Fault) (r : Refusal)
-    → whole ≡ checked left.steps left.fault before m.state m.surface entries → left ≡ with_step step rest
+pub check_refused : (whole behind : Option Stop) (count : ℕ) (left rest : Content) (step : StepValue) (m : MachineState) (entries : List Entry) (fault : Fault) (r : Refusal)
+    → whole ≡ checked left.steps behind count m.state m.surface entries → left ≡ with_step step rest
     → RefusesStep step.operation m fault → r.number ≡ number_told step.number fault → r.fault ≡ fault → TellsStop whole r ⊎ IsWantOfMemory r
-check_refused whole left rest step before m entries fault r order begins refused numbered by = elim (told_or_wanted step m fault r refused numbered by) [
+check_refused whole behind count left rest step m entries fault r order begins refused numbered by = elim (told_or_wanted step m fault r refused numbered by) [
   | inl told ↦ inl (record { at = stop_at step.number told.here; stops = order ∙ rw (begins, told.there) refl; number = told.number; fault = told.fault })
   | inr wants ↦ inr wants
 ]
 
 -- and where they are gathered
-pub gathering_refused : (whole : Option Stop) (left rest : Content) (step : StepValue) (before : ℕ) (m : MachineState) (fault : Fault) (r : Refusal)
-    → whole ≡ stopped left.steps left.fault before m.state m.surface → left ≡ with_step step rest
+pub gathering_refused : (whole behind : Option Stop) (left rest : Content) (step : StepValue) (m : MachineState) (fault : Fault) (r : Refusal)
+    → whole ≡ stopped left.steps behind m.state m.surface → left ≡ with_step step rest
     → RefusesStep step.operation m fault → r.number ≡ number_told step.number fault → r.fault ≡ fault → TellsStop whole r ⊎ IsWantOfMemory r
-gathering_refused whole left rest step before m fault r order begins refused numbered by = elim (told_or_wanted step m fault r refused numbered by) [
+gathering_refused whole behind left rest step m fault r order begins refused numbered by = elim (told_or_wanted step m fault r refused numbered by) [
   | inl told ↦ inl (record { at = stop_at step.number told.here; stops = order ∙ rw (begins, told.there) refl; number = told.number; fault = told.fault })
   | inr wants ↦ inr wants
 ]

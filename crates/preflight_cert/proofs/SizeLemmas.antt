@@ -1,9 +1,8 @@
 -- What holds at one size holds at each that is no larger.
-use Rattle.std.proofs.Common.{◌≡◌, ℕ, suc, ◌≤◌, List, [], ◌∷◌, Option, None, refl, arith}
+use Rattle.std.proofs.Common.{◌≡◌, ◌≤◌, List, [], ◌∷◌, Option, None, refl, arith}
 use Rattle.mapping.specs.PlacingLaws.{IsNoLarger, ShowsFrame}
 use Rattle.mapping.specs.Surface.{Surface}
 use Rattle.draw_ops.specs.Content.{StepValue}
-use Rattle.draw_ops.specs.declared.record_fault.RecordFault.{RecordFault}
 use Rattle.dc_stack.specs.FaultLaws.{FaultLaws}
 use Rattle.dc_stack.specs.Next.{next}
 use Rattle.dc_stack.specs.State.{State}
@@ -11,19 +10,18 @@ use Rattle.preflight_cert.specs.DrawingBoxLaws.{DrawingBoxLaws}
 use Rattle.preflight_cert.specs.Drawings.{NumberedDrawing}
 use Rattle.preflight_cert.specs.Entries.{AreCovered, budget_of}
 use Rattle.preflight_cert.specs.SizeLaws.{SizeLaws}
-use Rattle.preflight_cert.specs.Stop.{stopped}
+use Rattle.preflight_cert.specs.Stop.{Stop, broken_after, stopped}
 use Rattle.preflight_cert.specs.Writes.{writes_after}
 use Rattle.preflight_cert.specs.declared.entry.Entry.{Entry}
 use Rattle.preflight_cert.proofs.StopLemmas.{none_here, none_later}
 
 -- faults and budgets from the larger surface to the smaller
 module _ (faults : FaultLaws) (boxes : DrawingBoxLaws) (smaller larger : Surface) (shows : ShowsFrame larger) (no_larger : IsNoLarger smaller larger) where
-  unstopped : (steps : List StepValue) (fault : Option RecordFault) (before : ℕ) (state : State) →
-      stopped steps fault before state larger ≡ None → stopped steps fault before state smaller ≡ None
-  unstopped [] fault before state h = h
-  unstopped (step ∷ steps) fault before state h =
+  unstopped : (steps : List StepValue) (behind : Option Stop) (state : State) → stopped steps behind state larger ≡ None → stopped steps behind state smaller ≡ None
+  unstopped [] behind state h = h
+  unstopped (step ∷ steps) behind state h =
       let here = faults.none_on_smaller step.operation state smaller larger shows no_larger (none_here _ _ _ h) in
-      let rest = unstopped steps fault (suc before) (next step.operation state) (none_later _ _ _ h) in
+      let rest = unstopped steps behind (next step.operation state) (none_later _ _ _ h) in
       rw (here, rest) refl
 
   few : (drawings : List NumberedDrawing) (entries : List Entry) → AreCovered drawings entries → writes_after drawings smaller ≤ budget_of drawings entries larger
@@ -35,6 +33,6 @@ module _ (faults : FaultLaws) (boxes : DrawingBoxLaws) (smaller larger : Surface
 
 pub size_laws : FaultLaws → DrawingBoxLaws → SizeLaws
 size_laws faults boxes = record {
-  unstopped = λ content state smaller larger shows no_larger h. unstopped faults boxes smaller larger shows no_larger content.steps content.fault 0 state h;
+  unstopped = λ content state smaller larger shows no_larger h. unstopped faults boxes smaller larger shows no_larger content.steps (broken_after 0 content) state h;
   few = λ drawings entries smaller larger shows no_larger covered. few faults boxes smaller larger shows no_larger drawings entries covered;
 }

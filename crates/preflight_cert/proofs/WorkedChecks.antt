@@ -5,7 +5,7 @@ use Rattle.mapping.specs.Limits.{place_limit, plane_limit}
 use Rattle.mapping.specs.PageMap.{unscaled_map}
 use Rattle.mapping.specs.Surface.{Surface}
 use Rattle.mapping.specs.declared.geometry.Point.{Point}
-use Rattle.draw_ops.specs.Content.{StepValue}
+use Rattle.draw_ops.specs.Content.{Content, StepValue}
 use Rattle.draw_ops.specs.NoteCounts.{no_notes}
 use Rattle.draw_ops.specs.Operation.{Operation, line_to, no_effect, pixel}
 use Rattle.draw_ops.specs.declared.record_fault.RecordFault.{RecordFault}
@@ -14,7 +14,7 @@ use Rattle.object_tables.specs.Table.{by_lowest_free}
 use Rattle.dc_stack.specs.Drawing.{edge_limit}
 use Rattle.dc_stack.specs.Path.{piece_limit}
 use Rattle.dc_stack.specs.State.{State, start_state}
-use Rattle.preflight_cert.specs.Checked.{checked}
+use Rattle.preflight_cert.specs.Checked.{check_of}
 use Rattle.preflight_cert.specs.Stop.{Stop, stop_at}
 use Rattle.preflight_cert.specs.declared.entry.Entry.{Entry}
 
@@ -45,7 +45,7 @@ line_entry = entry 1 (pos 0) (pos 0) (pos 3) (pos 0)
 
 -- where these steps and then this fault stop, beside these entries
 abbrev stop_beside : Option RecordFault → List Entry → Option Stop
-stop_beside fault entries = checked steps fault 0 start four entries
+stop_beside fault entries = check_of (record { steps = steps; fault = fault }) start four entries
 
 each_has_its_own : stop_beside None (dot_entry ∷ line_entry ∷ []) ≡ None
 unfolding plane_limit place_limit edge_limit piece_limit
@@ -78,6 +78,6 @@ end_of_file : stop_beside (Some NoEnd) (dot_entry ∷ line_entry ∷ []) ≡ Som
 unfolding plane_limit place_limit edge_limit piece_limit
 end_of_file = refl
 
-off_before_entry : checked (step 0 (line_to (at (pos 2000000000) (pos 0))) ∷ []) None 0 start four [] ≡ Some (stop_at 0 OffPlane)
+off_before_entry : check_of (record { steps = step 0 (line_to (at (pos 2000000000) (pos 0))) ∷ []; fault = None }) start four [] ≡ Some (stop_at 0 OffPlane)
 unfolding plane_limit place_limit edge_limit piece_limit
 off_before_entry = refl

@@ -13,7 +13,7 @@ use Rattle.dc_stack.specs.State.{start_of}
 use Rattle.dc_stack.specs.declared.needs.Needs.{Needs}
 use Rattle.preflight_cert.specs.After.{file_needs, file_notes}
 use Rattle.preflight_cert.specs.CertificateReading.{CertificateValue, read_certificate}
-use Rattle.preflight_cert.specs.Checked.{checked}
+use Rattle.preflight_cert.specs.Checked.{check_of}
 use Rattle.preflight_cert.specs.Drawings.{drawings_of}
 use Rattle.preflight_cert.specs.Entries.{AreCovered, budget_of}
 use Rattle.preflight_cert.specs.NeedLaws.{AreWithin}
@@ -61,7 +61,7 @@ answer_from None None = accepted
 -- the answer to a certificate for a file's records
 abbrev pub answer_to : Content → OpenedValue → CertificateValue → Answer
 answer_to content o c =
-    answer_from (checked content.steps content.fault 0 (start_of o) (bound_of o c) c.entries)
+    answer_from (check_of content (start_of o) (bound_of o c) c.entries)
     (total_fault (file_needs content o) (file_budget content o c) c)
 
 -- records of an opened file have a content that is answered so

@@ -1,27 +1,30 @@
 -- A certificate's entries against the steps of a file, at the size of its bound: the first fault, in the records' order.
-use Rattle.std.specs.Prelude.{ℕ, suc, ◌-◌, List, [], ◌∷◌, Option, Some, None}
+use Rattle.std.specs.Prelude.{ℕ, ◌-◌, List, [], ◌∷◌, length, Option, Some, None}
 use Rattle.std.specs.Option.{option_or}
 use Rattle.mapping.specs.Surface.{Surface}
-use Rattle.draw_ops.specs.Content.{StepValue}
-use Rattle.draw_ops.specs.declared.record_fault.RecordFault.{RecordFault}
+use Rattle.draw_ops.specs.Content.{Content, StepValue}
 use Rattle.draw_ops.specs.declared.record_fault.RecordFault.TheVariants.{WrongEntry}
 use Rattle.dc_stack.specs.Drawing.{drawing_of}
 use Rattle.dc_stack.specs.Next.{next}
 use Rattle.dc_stack.specs.OperationFault.{fault_of}
 use Rattle.dc_stack.specs.State.{State}
 use Rattle.preflight_cert.specs.Entries.{entries_behind, entry_fault}
-use Rattle.preflight_cert.specs.Stop.{Stop, stop_at, stopped_or}
+use Rattle.preflight_cert.specs.Stop.{Stop, broken_after, stop_at, stopped_or}
 use Rattle.preflight_cert.specs.declared.entry.Entry.{Entry}
 
--- behind the last step: the fault there, or else an entry that is left over, in the last record
-abbrev pub checked_end : Option RecordFault → ℕ → List Entry → Option Stop
-checked_end (Some fault) before entries = Some (stop_at before fault)
-checked_end None before [] = None
-checked_end None before (entry ∷ entries) = Some (stop_at (before - 1) WrongEntry)
+-- an entry that is left over, in the last of so many records
+abbrev pub left_over : ℕ → List Entry → Option Stop
+left_over count [] = None
+left_over count (entry ∷ entries) = Some (stop_at (count - 1) WrongEntry)
 
--- The first fault of the steps and of the entries, each operation and its entry in the state before it; so many records come before.
-abbrev pub checked : List StepValue → Option RecordFault → ℕ → State → Surface → List Entry → Option Stop
-checked [] fault before state s entries = checked_end fault before entries
-checked (step ∷ steps) fault before state s entries =
+-- The first fault of the steps and of the entries, each operation and its entry in the state before it, or else what stops behind them, or
+-- an entry that is left over, where there are so many records.
+abbrev pub checked : List StepValue → Option Stop → ℕ → State → Surface → List Entry → Option Stop
+checked [] behind count state s entries = option_or behind (left_over count entries)
+checked (step ∷ steps) behind count state s entries =
     stopped_or step.number (option_or (fault_of step.operation state s) (entry_fault step.number (drawing_of step.operation state) entries))
-    (checked steps fault (suc before) (next step.operation state) s (entries_behind (drawing_of step.operation state) entries))
+    (checked steps behind count (next step.operation state) s (entries_behind (drawing_of step.operation state) entries))
+
+-- where a content stops that is checked against entries
+abbrev pub check_of : Content → State → Surface → List Entry → Option Stop
+check_of content state s entries = checked content.steps (broken_after 0 content) (length content.steps) state s entries

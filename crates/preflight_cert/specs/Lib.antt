@@ -30,6 +30,7 @@ pub mod TextParts
 pub mod Corners
 pub mod Answer
 pub mod Preparation
+pub mod Reached
 pub mod PreparationLaws
 pub mod Gathered
 pub mod StoppedRecords

@@ -43,6 +43,7 @@ impl<'a> Certificate<'a> {
     pub fn read(bytes: &'a [u8]) -> Result<Certificate<'a>, Fault>
         ensures value { read_certificate bytes.now ≡ result_map certificate_of result }
         ensures in_no_record { IfErr result (λ fault. IsInRecord fault → ⊥) }
+        ensures no_memory { IfErr result (λ fault. fault ≡ Fault.OutOfMemory → ⊥) }
     {
         if bytes.len() < 4 || u32_at(bytes, 0) != MARK {
             return Err(Fault::NotCertificate);

@@ -91,6 +91,7 @@ pub(crate) fn read_whole(bytes: &[u8]) -> Result<Certificate<'_>, Fault>
     requires high { IsSurfaceSide (number_at bytes.now 8 4) }
     ensures value { read_whole bytes.now ≡ result_map certificate_of result }
     ensures in_no_record { IfErr result (λ fault. IsInRecord fault → ⊥) }
+    ensures no_memory { IfErr result (λ fault. fault ≡ Fault.OutOfMemory → ⊥) }
 {
     let end = HEAD_SIZE + ENTRY_SIZE * u32_at(bytes, 36) as usize;
     if bytes.len() < end {

@@ -8,6 +8,7 @@ ghost use Rattle.preflight_cert.specs.Answer.{CountsRecords, IsAnswer, IsRefused
 ghost use Rattle.preflight_cert.specs.CertificateOf.{certificate_of};
 ghost use Rattle.preflight_cert.specs.ClearedFacts.{CountsItsRecords, IsSoundFor};
 ghost use Rattle.preflight_cert.specs.CertificateReading.{read_certificate};
+ghost use Rattle.preflight_cert.specs.Reached.{OpensBoth};
 ghost use Rattle.preflight_cert.specs.Refusal.{IsWantOfMemory, TellsNumber};
 
 use crate::certificate::Certificate;
@@ -25,7 +26,8 @@ use std::alloc::Global;
 /// Checks a certificate against a file, at the size of its bound. Where it is accepted, each run of the file on a surface up to
 /// that bound has no fault and writes at most the certified number of pixels. The refusal is the first, in this order: the
 /// file doesn't open; the certificate can't be read; a record has a fault at the bound, or its drawing no entry of its number
-/// (`WrongEntry`), or one whose box lacks a point (`BoxTooSmall`); an entry is left over; a need is too small, or the writes are.
+/// (`WrongEntry`), or one whose box lacks a point (`BoxTooSmall`); an entry is left over; a need is too small, or the writes are. Memory is
+/// asked for only once both were read.
 pub fn check<'a>(
     alloc: Global,
     file: &'a [u8],
@@ -37,6 +39,7 @@ pub fn check<'a>(
     ensures counts { IfOk result CountsItsRecords }
     ensures sound { IfOk result (IsSoundFor file.now) }
     ensures refusal { IfErr result (λ r. IsRefusedWith file.now certificate.now r ⊎ IsWantOfMemory r) }
+    ensures memory { IfErr result (λ r. r.fault ≡ Fault.OutOfMemory → OpensBoth file.now certificate.now) }
     ensures number_told { IfErr result TellsNumber }
 {
     answer_law();

@@ -14,7 +14,8 @@
 //! - A certificate's bytes are read whole or refused by their first fault (`Certificate::read`), and its entries are
 //!   those of the bytes, by their index and from the front (`Certificate::entry`, `Entries`).
 //! - There is one answer to a file and a certificate. It is accepted exactly where the certificate fits the file's records, and then the
-//!   file is sound within the certificate's bound and writes (`answer_law`). `check` gives that answer, or wants memory.
+//!   file is sound within the certificate's bound and writes (`answer_law`). `check` gives that answer, or wants memory,
+//!   which it asks for only where the file opens and the certificate reads.
 //! - What is prepared is accepted, there is one such certificate of a file and a bound, and no other accepted one asks for less
 //!   (`prepare`, `preparation_law`).
 //! - Reading gives back what was written, and bytes that are read are the text of what they say (`text_law`).

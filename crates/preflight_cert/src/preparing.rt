@@ -7,6 +7,7 @@ ghost use Rattle.meta_headers.specs.OpenedOf.{opened_of};
 ghost use Rattle.preflight_cert.specs.Answer.{AnswersRead, IsAnswer, accepted};
 ghost use Rattle.preflight_cert.specs.CertificateReading.{read_certificate};
 ghost use Rattle.preflight_cert.specs.Preparation.{Prepares, PreparesRecords, StopsPreparing, is_bound};
+ghost use Rattle.preflight_cert.specs.Reached.{OpensAt};
 ghost use Rattle.preflight_cert.specs.Refusal.{IsWantOfMemory, TellsNumber};
 ghost use Rattle.preflight_cert.specs.StoppedRecords.{StopsOpened};
 
@@ -25,7 +26,7 @@ use std::alloc::Global;
 
 /// Prepares the certificate of a file for surfaces of at most these sides: the least box of each drawing, how many pixels these let a
 /// run write at most, and what it needs. `check` accepts it. The refusal is `BadBound` where a side isn't from 1 to 8,192, and else
-/// the first fault of the file's run at the bound.
+/// the first fault of the file's run at the bound. Memory is asked for only once the file opens.
 pub fn prepare(
     alloc: Global,
     file: &[u8],
@@ -36,6 +37,7 @@ pub fn prepare(
     ensures accepted { IfOk result (λ text. IsAnswer file.now text.items accepted) }
     ensures refusal { IfErr result (λ r. StopsPreparing file.now max_width max_height r ⊎ IsWantOfMemory r) }
     ensures bound { IfErr result (λ r. is_bound max_width max_height ≡ false → r.fault ≡ BadBound) }
+    ensures memory { IfErr result (λ r. r.fault ≡ Fault.OutOfMemory → OpensAt file.now max_width max_height) }
     ensures number_told { IfErr result TellsNumber }
 {
     if !(is_side(max_width) && is_side(max_height)) {

@@ -1,6 +1,7 @@
 -- What was checked is played over the image, or refused behind the check.
 use Rattle.std.proofs.Common.{rules}
 use Rattle.commands.proofs.PlayLemmas.{no_image_refuses, over_check_refuses, over_surface_refuses, played_over}
+use Rattle.commands.proofs.PreparedLemmas.{accepted_opens}
 use Rattle.commands.proofs.over.over_file.Goals as goal
 
 pub returns-in-Err-clause-refusal : goal.returns-in-Err-clause-refusal
@@ -17,3 +18,12 @@ returns-in-Ok-play_over-clause-image c =
 pub returns-in-Err-play_over-clause-refusal : goal.returns-in-Err-play_over-clause-refusal
 returns-in-Err-play_over-clause-refusal c =
     over_surface_refuses _ _ _ _ c.in-Ok.cleared c.in-Err-play_over.fault _ c.in-Ok.ensures.accepted c.in-Ok.ensures.read c.in-Ok-from_ppm.ensures.image c.in-Err-play_over.ensures.refusal (search rules) (search rules)
+
+pub returns-in-Err-BadImage-clause-memory : goal.returns-in-Err-BadImage-clause-memory
+returns-in-Err-BadImage-clause-memory c = λ e. accepted_opens _ _ c.in-Ok.ensures.accepted
+
+pub returns-in-Err-OutOfMemory-clause-memory : goal.returns-in-Err-OutOfMemory-clause-memory
+returns-in-Err-OutOfMemory-clause-memory c = λ e. accepted_opens _ _ c.in-Ok.ensures.accepted
+
+pub returns-in-Err-play_over-clause-memory : goal.returns-in-Err-play_over-clause-memory
+returns-in-Err-play_over-clause-memory c = λ e. accepted_opens _ _ c.in-Ok.ensures.accepted

@@ -1,7 +1,10 @@
 -- What is refused was refused by the check, the image or the surface.
-use Rattle.commands.proofs.FailureLemmas.{kept, refusal_fails}
+use Rattle.commands.proofs.FailureLemmas.{is_want, kept, refusal_fails}
 use Rattle.commands.specs.Tasks.{over}
 use Rattle.commands.proofs.over.write_over.Goals as goal
 
 pub returns-in-Err-clause-failed : goal.returns-in-Err-clause-failed
 returns-in-Err-clause-failed g c = refusal_fails (over c.args.file.now c.args.certificate.now c.args.image.now) c.in-Err.refusal c.failure_of.result (g.O.Write.contents c.args.out.now) c.in-Err.ensures.refusal (kept _) c.failure_of.ensures
+
+pub returns-in-Err-clause-memory : goal.returns-in-Err-clause-memory
+returns-in-Err-clause-memory g c = λ e. c.in-Err.ensures.memory (is_want c.in-Err.refusal c.failure_of.result c.failure_of.ensures e)

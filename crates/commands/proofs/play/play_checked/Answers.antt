@@ -1,5 +1,7 @@
 -- What was checked is played, or refused behind the check.
 use Rattle.std.proofs.lemmas.Result.{IfErr-weaker, on_ok_weaker}
+use Rattle.commands.proofs.FailureLemmas.{is_want}
+use Rattle.commands.proofs.PreparedLemmas.{accepted_opens}
 use Rattle.commands.proofs.PlayLemmas.{check_fails, play_done, play_fails}
 use Rattle.commands.proofs.play.play_checked.Goals as goal
 
@@ -15,3 +17,9 @@ returns-clause-failed g c =
     IfErr-weaker c.write_played.result _ _
     (λ failure fails. play_fails _ _ c.in-Ok.cleared _ _ c.in-Ok.ensures.accepted c.in-Ok.ensures.opened c.in-Ok.ensures.read g.O.Write.contents c.args.out.now c.write_played.new.out failure fails)
     c.write_played.ensures.failed
+
+pub returns-in-Err-clause-memory : goal.returns-in-Err-clause-memory
+returns-in-Err-clause-memory g c = λ e. c.in-Err.ensures.memory (is_want c.in-Err.refusal c.failure_of.result c.failure_of.ensures e)
+
+pub returns-clause-memory : goal.returns-clause-memory
+returns-clause-memory g c = IfErr-weaker c.write_played.result _ _ (λ failure fails e. accepted_opens _ _ c.in-Ok.ensures.accepted) c.write_played.ensures.failed

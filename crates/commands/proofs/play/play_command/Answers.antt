@@ -1,5 +1,5 @@
 -- The end says what was written and told.
-use Rattle.commands.proofs.FailureLemmas.{told_by, written_by}
+use Rattle.commands.proofs.FailureLemmas.{holds_by, told_by, written_by}
 use Rattle.commands.proofs.play.play_command.Goals as goal
 
 pub returns-clause-written : goal.returns-clause-written
@@ -7,3 +7,6 @@ returns-clause-written g c = written_by _ c.play_checked-done.result c.ending.re
 
 pub returns-clause-told : goal.returns-clause-told
 returns-clause-told g c = told_by _ c.play_checked-done.result c.ending.result _ _ _ _ c.ending.ensures.end c.play_checked-done.ensures.failed c.ending.ensures.told (λ t. t)
+
+pub returns-clause-memory : goal.returns-clause-memory
+returns-clause-memory g c = holds_by c.play_checked-done.result c.ending.result _ c.ending.ensures.end c.play_checked-done.ensures.memory

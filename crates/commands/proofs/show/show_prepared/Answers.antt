@@ -1,7 +1,7 @@
 -- The surface is within the bound that the certificate was prepared for.
 use Rattle.std.proofs.lemmas.Result.{IfErr-weaker, on_ok_weaker}
 use Rattle.commands.proofs.PlayLemmas.{show_done, show_fails}
-use Rattle.commands.proofs.PreparedLemmas.{prepared_within}
+use Rattle.commands.proofs.PreparedLemmas.{accepted_opens, prepared_within}
 use Rattle.commands.proofs.show.show_prepared.Goals as goal
 
 pub write_within-requires-clause-within : goal.write_within-requires-clause-within
@@ -13,3 +13,6 @@ returns-clause-done g c = on_ok_weaker c.write_within.result (show_done _ c.in-O
 pub returns-clause-failed : goal.returns-clause-failed
 returns-clause-failed g c =
     IfErr-weaker c.write_within.result _ _ (λ failure fails. show_fails _ c.in-Ok.cleared _ _ g.O.Write.contents c.args.out.now c.write_within.new.out failure c.in-Ok.ensures.opened fails) c.write_within.ensures.failed
+
+pub returns-clause-opens : goal.returns-clause-opens
+returns-clause-opens g c = (accepted_opens _ _ c.requires.accepted).opens

@@ -8,7 +8,7 @@ use Rattle.preflight_cert.specs.After.{needs_after, state_after}
 use Rattle.preflight_cert.specs.Apply.{rows_after}
 use Rattle.preflight_cert.specs.Drawings.{drawings_of}
 use Rattle.player.specs.Plays.{HoldsRows, SameRows}
-use Rattle.preflight_cert.specs.Stop.{stopped}
+use Rattle.preflight_cert.specs.Stop.{broken_after, stop_of, stopped}
 use Rattle.preflight_cert.specs.Writes.{writes_of_drawings}
 use Rattle.player.proofs.playing.play_steps.Given as goal
 
@@ -27,7 +27,9 @@ invariant-loop-drawn g l =
       lines : HasLines l.rows.room (content l.source) l.machine;
       held : HoldsRows l.canvas start;
       rows : SameRows l.fn.canvas l.canvas;
-      stops : stopped (content l.fn.source).steps (content l.fn.source).fault 0 l.fn.machine.state start ≡ stopped (content l.source).steps (content l.source).fault l.before l.machine.state start;
+      counted : l.before + length (content l.source).steps ≡ length (content l.fn.source).steps;
+      fault : (content l.source).fault ≡ (content l.fn.source).fault;
+      stops : stop_of (content l.fn.source) l.fn.machine.state start ≡ stopped (content l.source).steps (broken_after 0 (content l.fn.source)) l.machine.state start;
       state : state_after (content l.fn.source).steps l.fn.machine.state ≡ state_after (content l.source).steps l.machine.state;
       needs : needs_after (content l.fn.source).steps l.fn.machine.state l.fn.machine.needs ≡ needs_after (content l.source).steps l.machine.state l.machine.needs;
       left : left_by (content l.fn.source).steps l.fn.machine.state l.fn.machine.needs start ≡ left_by (content l.source).steps l.machine.state l.machine.needs start;

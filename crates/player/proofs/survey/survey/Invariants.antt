@@ -3,7 +3,7 @@ use Rattle.draw_ops.specs.Records.{record_limit}
 use Rattle.dc_stack.specs.MachineState.{GoesOn}
 use Rattle.player.specs.After.{HasRoomForSteps}
 use Rattle.preflight_cert.specs.After.{needs_after, state_after}
-use Rattle.preflight_cert.specs.Stop.{stopped}
+use Rattle.preflight_cert.specs.Stop.{broken_after, stop_of, stopped}
 use Rattle.player.proofs.survey.survey.Given as goal
 
 -- what is left of the run ends as the whole run does
@@ -16,7 +16,9 @@ invariant-loop-before g l =
       same_surface : l.machine.surface ≡ start;
       goes_on : GoesOn l.fn.machine l.machine;
       room : HasRoomForSteps (content l.source) l.machine;
-      stops : stopped (content l.fn.source).steps (content l.fn.source).fault 0 l.fn.machine.state start ≡ stopped (content l.source).steps (content l.source).fault l.before l.machine.state start;
+      counted : l.before + length (content l.source).steps ≡ length (content l.fn.source).steps;
+      fault : (content l.source).fault ≡ (content l.fn.source).fault;
+      stops : stop_of (content l.fn.source) l.fn.machine.state start ≡ stopped (content l.source).steps (broken_after 0 (content l.fn.source)) l.machine.state start;
       state : state_after (content l.fn.source).steps l.fn.machine.state ≡ state_after (content l.source).steps l.machine.state;
       needs : needs_after (content l.fn.source).steps l.fn.machine.state l.fn.machine.needs ≡ needs_after (content l.source).steps l.machine.state l.machine.needs;
     }

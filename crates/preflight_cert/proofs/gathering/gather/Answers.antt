@@ -38,6 +38,8 @@ loop-is_put-preserved g c =
       lengths = search rules;
       same_surface = search rules;
       place = search rules;
+      counted = search (begins, rules);
+      fault = search (begins, rules);
       stops = search (begins, stepped, rules);
       texts = c.loop-is_put.invariant.texts ∙
           step_texts (content c.loop-is_put.source) (content c.next_into.new.self) (put c.next_into.result step) step old.state new.state
@@ -58,5 +60,5 @@ returns-in-Err-step_into-clause-refusal g c =
     let is : put c.next_into.result step ≡ Ok (Some step) = ap (λ (r : Result Bool RecordFault). put r step) (c.in-Ok.is ∙ ap Ok c.if-not-is_put.false) in
     let begins : content c.loop-is_put.source ≡ with_step (step_value_of step) (content c.next_into.new.self) = rw is at c.next_into.ensures.gives in
     let refused : RefusesStep (operation_of step.op) m c.in-Err-step_into.fault = c.in-Err-step_into.ensures.refused in
-    gathering_refused _ (content c.loop-is_put.source) (content c.next_into.new.self) (step_value_of step) c.loop-is_put.before m c.in-Err-step_into.fault c.of_step.result
+    gathering_refused _ _ (content c.loop-is_put.source) (content c.next_into.new.self) (step_value_of step) m c.in-Err-step_into.fault c.of_step.result
     (rw c.loop-is_put.invariant.same_surface c.loop-is_put.invariant.stops) begins refused c.of_step.ensures.number c.of_step.ensures.fault

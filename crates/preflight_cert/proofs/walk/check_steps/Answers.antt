@@ -35,6 +35,7 @@ loop-is_put-preserved g c =
       same_surface = search rules;
       place = search rules;
       counted = search (begins, rules);
+      fault = search (begins, rules);
       order = search (begins, stepped, drawn, rules);
       budget = search (begins, stepped, drawn, rules, budget_then);
       notes = c.loop-is_put.invariant.notes ∙ ap (λ (k : Content). notes_after k.steps counts) begins
@@ -50,5 +51,5 @@ returns-in-Err-step_into-clause-refusal g c =
     let is : put c.next_into.result step ≡ Ok (Some step) = ap (λ (r : Result Bool RecordFault). put r step) (c.in-Ok.is ∙ ap Ok c.if-not-is_put.false) in
     let begins : content c.loop-is_put.source ≡ with_step (step_value_of step) (content c.next_into.new.self) = rw is at c.next_into.ensures.gives in
     let refused : RefusesStep (operation_of step.op) m c.in-Err-step_into.fault = c.in-Err-step_into.ensures.refused in
-    check_refused _ (content c.loop-is_put.source) (content c.next_into.new.self) (step_value_of step) c.loop-is_put.totals.records m (entries_of c.loop-is_put.entries) c.in-Err-step_into.fault c.of_step.result
+    check_refused _ _ _ (content c.loop-is_put.source) (content c.next_into.new.self) (step_value_of step) m (entries_of c.loop-is_put.entries) c.in-Err-step_into.fault c.of_step.result
     (rw c.loop-is_put.invariant.same_surface c.loop-is_put.invariant.order) begins refused c.of_step.ensures.number c.of_step.ensures.fault
