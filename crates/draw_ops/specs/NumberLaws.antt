@@ -7,7 +7,7 @@ use Rattle.draw_ops.specs.Records.{Framing}
 
 -- the steps are numbered in order, the first of them by this number
 abbrev pub AreNumberedFrom : ℕ → List StepValue → Type 0
-AreNumberedFrom number [] = ⊤
+AreNumberedFrom number [] = Unit
 AreNumberedFrom number (step ∷ steps) = (step.number ≡ number) × AreNumberedFrom (suc number) steps
 
 -- The step of record i has number i, where the first record is record 0.
