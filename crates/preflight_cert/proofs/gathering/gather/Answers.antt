@@ -1,15 +1,15 @@
 -- A count of records fits, and so do the numbers of their entries.
-use Rattle.std.proofs.Common.{◌≡◌, Bool, Result, Ok, Some, ap, ◌∙◌, arith, rules}
+use Rattle.std.proofs.Common.{◌≡◌, Bool, Result, Ok, Some, ap, inl, ◌∙◌, arith, rules}
 use Rattle.std.specs.Option.{option_map}
-use Rattle.draw_ops.specs.Gives.{put}
+use Rattle.draw_ops.specs.Gives.{Stays, put}
 use Rattle.draw_ops.specs.declared.record_fault.RecordFault.{RecordFault}
-use Rattle.draw_ops.specs.Content.{with_step}
+use Rattle.draw_ops.specs.Content.{broken_by, with_step}
 use Rattle.draw_ops.specs.OperationOf.{operation_of}
 use Rattle.draw_ops.specs.Records.{record_limit}
 use Rattle.draw_ops.specs.StepOf.{step_value_of}
 use Rattle.dc_stack.specs.MachineState.{HasStepped, IsDrawingOf, RefusesStep, drawing_with}
 use Rattle.preflight_cert.proofs.GatheredLemmas.{budget_then, step_entries, step_texts}
-use Rattle.preflight_cert.proofs.RefusalLemmas.{gathering_refused}
+use Rattle.preflight_cert.proofs.RefusalLemmas.{gathering_broken, gathering_refused}
 use Rattle.preflight_cert.proofs.gathering.gather.Goals as goal
 
 pub overflow_add-before : goal.overflow_add-before
@@ -62,3 +62,13 @@ returns-in-Err-step_into-clause-refusal g c =
     let refused : RefusesStep (operation_of step.op) m c.in-Err-step_into.fault = c.in-Err-step_into.ensures.refused in
     gathering_refused _ _ (content c.loop-is_put.source) (content c.next_into.new.self) (step_value_of step) m c.in-Err-step_into.fault c.of_step.result
     (rw c.loop-is_put.invariant.same_surface c.loop-is_put.invariant.stops) begins refused c.of_step.ensures.number c.of_step.ensures.fault
+
+pub returns-in-Err-clause-refusal : goal.returns-in-Err-clause-refusal
+returns-in-Err-clause-refusal g c =
+    let content = g.S.HasContent.content in
+    let loop = c.loop-is_put in
+    let left = content loop.source in
+    let broken : Stays (broken_by c.in-Err.fault) left (content c.next_into.new.self) =
+        rw (ap (λ (r : Result Bool RecordFault). put r c.next_into.new.step) c.in-Err.is) at c.next_into.ensures.gives in
+    inl (gathering_broken _ _ left loop.before loop.machine.state loop.machine.surface c.in-Err.fault c.at.result
+    (rw loop.invariant.same_surface loop.invariant.stops) broken.is loop.invariant.counted loop.invariant.fault c.at.ensures.number c.at.ensures.fault)
