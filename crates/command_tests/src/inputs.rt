@@ -75,6 +75,20 @@ fn an_input_is_read_to_its_end(rt: HostRuntime) -> Result<(), Fail> {
 }
 
 #[test]
+fn a_reader_that_has_ended_is_not_asked_again(rt: HostRuntime) -> Result<(), Fail> {
+    // A call for each byte and one for the end: the next would fail.
+    let mut input = Failing {
+        bytes: b"abc",
+        calls_left: 4,
+        kind: io::ErrorKind::BrokenPipe,
+    };
+    let bytes = read_input(rt.alloc(), &mut input)?;
+    same(&rt, bytes.as_slice(), "abc".as_bytes());
+    same(&rt, input.calls_left, 0);
+    Ok(())
+}
+
+#[test]
 fn a_reader_that_fails_cannot_be_read(rt: HostRuntime) -> Result<(), Fail> {
     // Whatever the kind of its error is, it was no refused growth.
     for kind in [
