@@ -13,7 +13,7 @@ import sys
 from typing import NamedTuple
 
 # What the promises of the public calls speak of.
-ROOTS = [("Run", "Run"), ("Run", "Writes"), ("Ppm", "ppm_text")]
+ROOTS = [("Run", "Run"), ("Run", "RunWrites"), ("Ppm", "ppm_text")]
 
 USE = re.compile(r"^use Rattle\.(\w+)\.specs\.([\w.]+)\.\{([^}]*)\}", re.M)
 HEAD = re.compile(r"^(?:abbrev |unfoldable )?(?:pub )?(?:record |data )?([^\s:(]+)")
@@ -64,6 +64,7 @@ def read(crate, path):
 def believed(files):
     """The definitions that the roots lead to, and the types of the code among what they name."""
     left = [made[name] for file, name in ROOTS for (_, stem), (made, _) in files.items() if stem == file and name in made]
+    assert len(left) == len(ROOTS), "a root is called otherwise, or there are two of it"
     found, types = set(left), set()
     while left:
         one = left.pop()
