@@ -1,7 +1,8 @@
 use Rattle.std.proofs.Common.{arith, rules}
 use Rattle.draw_ops.specs.Records.{record_limit}
-use Rattle.player.specs.Advances.{PlaysFirst}
+use Rattle.player.specs.Advances.{PlaysFirst, StopsAfter}
 use Rattle.player.proofs.AfterLemmas.{room_for_first}
+use Rattle.player.proofs.StepLemmas.{stops_by}
 use Rattle.player.proofs.playing.play_steps.Goals as goal
 
 pub draw-requires : goal.draw-requires
@@ -28,3 +29,10 @@ unfolding record_limit
 returns-in-Err-clause-bounded g c =
     let few = c.loop-drawn.invariant.few in
     let short = c.loop-drawn.invariant.short in omega (arith, few, short)
+
+pub returns-in-Err-clause-refusal : goal.returns-in-Err-clause-refusal
+returns-in-Err-clause-refusal g c =
+    let content = g.S.HasContent.content in
+    let loop = c.loop-drawn in
+    let after : StopsAfter loop.before (content loop.source) loop.machine.state c.args.machine.now.surface c.in-Err.refusal = rw loop.invariant.same_surface at c.in-Err.ensures.advances in
+    stops_by _ (content loop.source) loop.before _ loop.machine.state _ c.in-Err.refusal loop.invariant.counted loop.invariant.fault loop.invariant.stops after
