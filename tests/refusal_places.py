@@ -36,7 +36,7 @@ HANDS_ON = re.compile(r"-> [^{]*Result<[^{]*\b(?:OutOfMemory|WriteFault|InputFau
 ASKS = re.compile(r"-> Option<")
 
 # A function that answers a status: each number in it may be one.
-STATUS = re.compile(r"-> (?:u8|ExitCode|Answer)\b")
+STATUS = re.compile(r"-> (?:u8|ExitCode|Completion)\b")
 
 # A function whose answer may tell that it gives up, or that is given the allocator: it is listed, whatever its lines say.
 MAY_TELL = re.compile(
