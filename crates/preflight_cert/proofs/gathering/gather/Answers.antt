@@ -69,6 +69,6 @@ returns-in-Err-clause-refusal g c =
     let loop = c.loop-is_put in
     let left = content loop.source in
     let broken : Stays (broken_by c.in-Err.fault) left (content c.next_into.new.self) =
-        rw (ap (λ (r : Result Bool RecordFault). put r c.next_into.new.step) c.in-Err.is) at c.next_into.ensures.gives in
+    rw (ap (λ (r : Result Bool RecordFault). put r c.next_into.new.step) c.in-Err.is) at c.next_into.ensures.gives in
     inl (gathering_broken _ _ left loop.before loop.machine.state loop.machine.surface c.in-Err.fault c.at.result
     (rw loop.invariant.same_surface loop.invariant.stops) broken.is loop.invariant.counted loop.invariant.fault c.at.ensures.number c.at.ensures.fault)
