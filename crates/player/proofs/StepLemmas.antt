@@ -21,7 +21,7 @@ use Rattle.player.specs.Leaving.{IsLeftBy}
 use Rattle.player.specs.Plays.{StopsBy}
 use Rattle.preflight_cert.specs.NeedLaws.{HasRoomFor, NeedLaws}
 use Rattle.preflight_cert.specs.Refusal.{number_told}
-use Rattle.preflight_cert.specs.Stop.{Stop, broken_after, stop_at, stop_of, stopped}
+use Rattle.preflight_cert.specs.Stop.{Stop, broken_behind, stop_at, stop_of, stopped}
 use Rattle.preflight_cert.specs.declared.refusal.Refusal.{Refusal}
 
 -- room for the needs of all steps is room for those of the first
@@ -55,7 +55,9 @@ stops_where_broken before left new state s result fault r gives e number by =
     let given : Stays (broken_by fault) left new = rw e at gives in
     record {
       at = stop_at before fault;
-      stops = rw (given.is, add_nothing before) refl;
+      stops =
+          ap (λ (c : Content). stopped c.steps (broken_behind (before + length c.steps) c.fault) state s) given.is
+          ∙ ap (λ (n : ℕ). Some (stop_at n fault)) (add_nothing before);
       number = number;
       fault = by;
     }
@@ -85,12 +87,13 @@ stops_at_first before left rest step state s fault r is h number by =
     stops_there before left rest step state s found.here r is found.there (number ∙ ap (number_told step.number) found.same) (by ∙ found.same)
 
 -- the fault behind what is left is that behind the whole
-same_break : (whole left : Content) (before : ℕ) → before + length left.steps ≡ length whole.steps → left.fault ≡ whole.fault → broken_after 0 whole ≡ broken_after before left
+same_break : (whole left : Content) (before : ℕ) → before + length left.steps ≡ length whole.steps → left.fault ≡ whole.fault
+    → broken_behind (length whole.steps) whole.fault ≡ broken_behind (before + length left.steps) left.fault
 same_break whole left before count fault = rw (count, fault) refl
 
 -- where what is left stops, the whole does
 pub stops_by : (whole left : Content) (before : ℕ) (start state : State) (s : Surface) (r : Refusal) → before + length left.steps ≡ length whole.steps → left.fault ≡ whole.fault
-    → stop_of whole start s ≡ stopped left.steps (broken_after 0 whole) state s → StopsAfter before left state s r → StopsBy whole start s r
+    → stop_of whole start s ≡ stopped left.steps (broken_behind (length whole.steps) whole.fault) state s → StopsAfter before left state s r → StopsBy whole start s r
 stops_by whole left before start state s r count fault same after = record {
   at = after.at;
   stops = same ∙ ap (λ (behind : Option Stop). stopped left.steps behind state s) (same_break whole left before count fault) ∙ after.stops;

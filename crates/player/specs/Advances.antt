@@ -1,5 +1,5 @@
 -- What the next step of a source does to a machine.
-use Rattle.std.specs.Prelude.{◌≡◌, ℕ, Option, Some, None, IfSome, Result, Ok, Err}
+use Rattle.std.specs.Prelude.{◌≡◌, ℕ, ◌+◌, length, Option, Some, None, IfSome, Result, Ok, Err}
 use Rattle.mapping.specs.Surface.{Surface}
 use Rattle.draw_ops.specs.Content.{Content, StepValue, nothing_left, with_step}
 use Rattle.dc_stack.specs.Draws.{IsPlacedDraw}
@@ -7,7 +7,7 @@ use Rattle.dc_stack.specs.MachineState.{HasStepped, IsDrawingOf, MachineState}
 use Rattle.dc_stack.specs.State.{State}
 use Rattle.dc_stack.specs.declared.draw.Draw.{Draw}
 use Rattle.preflight_cert.specs.Refusal.{TellsStop}
-use Rattle.preflight_cert.specs.Stop.{broken_after, stopped}
+use Rattle.preflight_cert.specs.Stop.{broken_behind, stopped}
 use Rattle.preflight_cert.specs.declared.refusal.Refusal.{Refusal}
 
 -- the first step of what was left was played, and what it draws is told by where it lands
@@ -26,7 +26,7 @@ pub record HasEnded (old : Content) (start end : MachineState) : Type 0 where
 
 -- what is left stops at the refusal's record, by its fault, where so many records come before
 abbrev pub StopsAfter : ℕ → Content → State → Surface → Refusal → Type 0
-StopsAfter before left state s r = TellsStop (stopped left.steps (broken_after before left) state s) r
+StopsAfter before left state s r = TellsStop (stopped left.steps (broken_behind (before + length left.steps) left.fault) state s) r
 
 -- a step was played, or nothing was left, or what is left stops in its first record
 abbrev pub Advances : ℕ → Content → MachineState → Result (Option (Option Draw)) Refusal → Content → MachineState → Type 0

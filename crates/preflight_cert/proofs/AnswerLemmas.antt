@@ -30,7 +30,7 @@ use Rattle.preflight_cert.specs.Entries.{AreCovered, Covers, covers, entries_beh
 use Rattle.preflight_cert.specs.NeedLaws.{AreWithin}
 use Rattle.preflight_cert.specs.Run.{Refused, ShowsImage, StopsInRecord, RunWrites}
 use Rattle.preflight_cert.specs.SizeLaws.{SizeLaws}
-use Rattle.preflight_cert.specs.Stop.{Stop, broken_after, stop_at, stop_of, stopped}
+use Rattle.preflight_cert.specs.Stop.{Stop, broken_behind, stop_at, stop_of, stopped}
 use Rattle.preflight_cert.specs.Writes.{writes_after}
 use Rattle.preflight_cert.specs.declared.entry.Entry.{Entry}
 use Rattle.preflight_cert.proofs.CoverLemmas.{points_in, points_of}
@@ -134,15 +134,15 @@ fits_of content o c h =
     let none = both_none _ _ h in
     let pair = both_true (are_within (file_needs content o) c.needs) (nat_le (file_budget content o c) c.writes) none.1 in
     record {
-      unstopped = unstopped_of (bound_of o c) (broken_after 0 content) (length content.steps) content.steps (start_of o) c.entries none.0;
-      covered = covered_of (bound_of o c) (broken_after 0 content) (length content.steps) content.steps (start_of o) c.entries none.0;
+      unstopped = unstopped_of (bound_of o c) (broken_behind (length content.steps) content.fault) (length content.steps) content.steps (start_of o) c.entries none.0;
+      covered = covered_of (bound_of o c) (broken_behind (length content.steps) content.fault) (length content.steps) content.steps (start_of o) c.entries none.0;
       needs = within_of (file_needs content o) c.needs pair.0;
       budget = leb-true _ _ pair.1;
     }
 
 accepted_of : (content : Content) (o : OpenedValue) (c : CertificateValue) → Fits c o content → accepted ≡ answer_to content o c
 accepted_of content o c fits =
-    let order = checked_from (bound_of o c) (broken_after 0 content) (length content.steps) content.steps (start_of o) c.entries fits.unstopped fits.covered in
+    let order = checked_from (bound_of o c) (broken_behind (length content.steps) content.fault) (length content.steps) content.steps (start_of o) c.entries fits.unstopped fits.covered in
     let within = within_from (file_needs content o) c.needs fits.needs in
     let few = le-leb _ _ fits.budget in
     rw (order, within, few) refl

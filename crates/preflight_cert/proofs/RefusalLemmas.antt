@@ -11,7 +11,7 @@ use Rattle.dc_stack.specs.OperationFault.{fault_of}
 use Rattle.dc_stack.specs.State.{State}
 use Rattle.preflight_cert.specs.Checked.{checked, left_over}
 use Rattle.preflight_cert.specs.Refusal.{IsWantOfMemory, TellsStop, number_told}
-use Rattle.preflight_cert.specs.Stop.{Stop, broken_after, stop_at, stopped}
+use Rattle.preflight_cert.specs.Stop.{Stop, broken_behind, stop_at, stopped}
 use Rattle.preflight_cert.specs.declared.entry.Entry.{Entry}
 use Rattle.preflight_cert.specs.declared.refusal.Refusal.{Refusal}
 
@@ -52,7 +52,7 @@ gathering_refused whole behind left rest step m fault r order begins refused num
 
 -- where records break of which these are left, so many having come before
 broken_here : (whole left : Content) (before : ℕ) (fault : RecordFault) → left ≡ broken_by fault → before + length left.steps ≡ length whole.steps → left.fault ≡ whole.fault
-    → broken_after 0 whole ≡ Some (stop_at before fault)
+    → broken_behind (length whole.steps) whole.fault ≡ Some (stop_at before fault)
 broken_here whole left before fault is count same =
     let none : length left.steps ≡ 0 = ap (λ (c : Content). length c.steps) is in
     let all : length whole.steps ≡ before = omega (arith, none, count) in
@@ -60,22 +60,22 @@ broken_here whole left before fault is count same =
     rw (all, there) refl
 
 pub gathering_broken : (stop : Option Stop) (whole left : Content) (before : ℕ) (state : State) (s : Surface) (fault : RecordFault) (r : Refusal)
-    → stop ≡ stopped left.steps (broken_after 0 whole) state s → left ≡ broken_by fault → before + length left.steps ≡ length whole.steps → left.fault ≡ whole.fault
+    → stop ≡ stopped left.steps (broken_behind (length whole.steps) whole.fault) state s → left ≡ broken_by fault → before + length left.steps ≡ length whole.steps → left.fault ≡ whole.fault
     → r.number ≡ Some before → r.fault ≡ Record fault → TellsStop stop r
 gathering_broken stop whole left before state s fault r order is count same number by = record {
   at = stop_at before fault;
-  stops = order ∙ ap (λ (c : Content). stopped c.steps (broken_after 0 whole) state s) is ∙ broken_here whole left before fault is count same;
+  stops = order ∙ ap (λ (c : Content). stopped c.steps (broken_behind (length whole.steps) whole.fault) state s) is ∙ broken_here whole left before fault is count same;
   number = number;
   fault = by;
 }
 
 pub check_broken : (stop : Option Stop) (whole left : Content) (before : ℕ) (state : State) (s : Surface) (entries : List Entry) (fault : RecordFault) (r : Refusal)
-    → stop ≡ checked left.steps (broken_after 0 whole) (length whole.steps) state s entries → left ≡ broken_by fault → before + length left.steps ≡ length whole.steps
+    → stop ≡ checked left.steps (broken_behind (length whole.steps) whole.fault) (length whole.steps) state s entries → left ≡ broken_by fault → before + length left.steps ≡ length whole.steps
     → left.fault ≡ whole.fault → r.number ≡ Some before → r.fault ≡ Record fault → TellsStop stop r
 check_broken stop whole left before state s entries fault r order is count same number by = record {
   at = stop_at before fault;
   stops =
-      order ∙ ap (λ (c : Content). checked c.steps (broken_after 0 whole) (length whole.steps) state s entries) is
+      order ∙ ap (λ (c : Content). checked c.steps (broken_behind (length whole.steps) whole.fault) (length whole.steps) state s entries) is
       ∙ ap (λ (b : Option Stop). option_or b (left_over (length whole.steps) entries)) (broken_here whole left before fault is count same);
   number = number;
   fault = by;

@@ -9,7 +9,7 @@ use Rattle.dc_stack.specs.Next.{next}
 use Rattle.dc_stack.specs.OperationFault.{fault_of}
 use Rattle.dc_stack.specs.State.{State}
 use Rattle.preflight_cert.specs.Entries.{entries_behind, entry_fault}
-use Rattle.preflight_cert.specs.Stop.{Stop, broken_after, stop_at, stopped_or}
+use Rattle.preflight_cert.specs.Stop.{Stop, broken_behind, stop_at, stopped_or}
 use Rattle.preflight_cert.specs.declared.entry.Entry.{Entry}
 
 -- an entry that is left over, in the last of so many records
@@ -27,4 +27,5 @@ checked (step ∷ steps) behind count state s entries =
 
 -- where a content stops that is checked against entries
 abbrev pub check_of : Content → State → Surface → List Entry → Option Stop
-check_of content state s entries = checked content.steps (broken_after 0 content) (length content.steps) state s entries
+check_of content state s entries =
+    checked content.steps (broken_behind (length content.steps) content.fault) (length content.steps) state s entries

@@ -8,7 +8,7 @@ use Rattle.preflight_cert.specs.After.{needs_after, state_after}
 use Rattle.preflight_cert.specs.Apply.{rows_after}
 use Rattle.preflight_cert.specs.Drawings.{drawings_of}
 use Rattle.player.specs.Plays.{HoldsRows, SameRows}
-use Rattle.preflight_cert.specs.Stop.{broken_after, stop_of, stopped}
+use Rattle.preflight_cert.specs.Stop.{broken_behind, stop_of, stopped}
 use Rattle.preflight_cert.specs.Writes.{writes_of_drawings}
 use Rattle.player.proofs.playing.play_steps.Given as goal
 
@@ -29,7 +29,7 @@ invariant-loop-drawn g l =
       rows : SameRows l.fn.canvas l.canvas;
       counted : l.before + length (content l.source).steps ≡ length (content l.fn.source).steps;
       fault : (content l.source).fault ≡ (content l.fn.source).fault;
-      stops : stop_of (content l.fn.source) l.fn.machine.state start ≡ stopped (content l.source).steps (broken_after 0 (content l.fn.source)) l.machine.state start;
+      stops : stop_of (content l.fn.source) l.fn.machine.state start ≡ stopped (content l.source).steps (broken_behind (length (content l.fn.source).steps) (content l.fn.source).fault) l.machine.state start;
       state : state_after (content l.fn.source).steps l.fn.machine.state ≡ state_after (content l.source).steps l.machine.state;
       needs : needs_after (content l.fn.source).steps l.fn.machine.state l.fn.machine.needs ≡ needs_after (content l.source).steps l.machine.state l.machine.needs;
       left : left_by (content l.fn.source).steps l.fn.machine.state l.fn.machine.needs start ≡ left_by (content l.source).steps l.machine.state l.machine.needs start;

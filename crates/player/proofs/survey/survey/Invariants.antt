@@ -3,7 +3,7 @@ use Rattle.draw_ops.specs.Records.{record_limit}
 use Rattle.dc_stack.specs.MachineState.{GoesOn}
 use Rattle.player.specs.After.{HasRoomForSteps}
 use Rattle.preflight_cert.specs.After.{needs_after, state_after}
-use Rattle.preflight_cert.specs.Stop.{broken_after, stop_of, stopped}
+use Rattle.preflight_cert.specs.Stop.{broken_behind, stop_of, stopped}
 use Rattle.player.proofs.survey.survey.Given as goal
 
 -- what is left of the run ends as the whole run does
@@ -18,7 +18,7 @@ invariant-loop-before g l =
       room : HasRoomForSteps (content l.source) l.machine;
       counted : l.before + length (content l.source).steps ≡ length (content l.fn.source).steps;
       fault : (content l.source).fault ≡ (content l.fn.source).fault;
-      stops : stop_of (content l.fn.source) l.fn.machine.state start ≡ stopped (content l.source).steps (broken_after 0 (content l.fn.source)) l.machine.state start;
+      stops : stop_of (content l.fn.source) l.fn.machine.state start ≡ stopped (content l.source).steps (broken_behind (length (content l.fn.source).steps) (content l.fn.source).fault) l.machine.state start;
       state : state_after (content l.fn.source).steps l.fn.machine.state ≡ state_after (content l.source).steps l.machine.state;
       needs : needs_after (content l.fn.source).steps l.fn.machine.state l.fn.machine.needs ≡ needs_after (content l.source).steps l.machine.state l.machine.needs;
     }

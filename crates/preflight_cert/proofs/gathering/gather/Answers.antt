@@ -1,5 +1,5 @@
 -- A count of records fits, and so do the numbers of their entries.
-use Rattle.std.proofs.Common.{◌≡◌, Bool, Result, Ok, Some, ap, inl, ◌∙◌, arith, rules}
+use Rattle.std.proofs.Common.{◌≡◌, Bool, Result, Ok, Some, ap, inl, length, ◌∙◌, arith, rules}
 use Rattle.std.specs.Option.{option_map}
 use Rattle.draw_ops.specs.Gives.{Stays, put}
 use Rattle.draw_ops.specs.declared.record_fault.RecordFault.{RecordFault}
@@ -8,6 +8,7 @@ use Rattle.draw_ops.specs.OperationOf.{operation_of}
 use Rattle.draw_ops.specs.Records.{record_limit}
 use Rattle.draw_ops.specs.StepOf.{step_value_of}
 use Rattle.dc_stack.specs.MachineState.{HasStepped, IsDrawingOf, RefusesStep, drawing_with}
+use Rattle.preflight_cert.specs.Stop.{broken_behind}
 use Rattle.preflight_cert.proofs.GatheredLemmas.{budget_then, step_entries, step_texts}
 use Rattle.preflight_cert.proofs.RefusalLemmas.{gathering_broken, gathering_refused}
 use Rattle.preflight_cert.proofs.gathering.gather.Goals as goal
@@ -55,12 +56,13 @@ loop-is_put-preserved g c =
 pub returns-in-Err-step_into-clause-refusal : goal.returns-in-Err-step_into-clause-refusal
 returns-in-Err-step_into-clause-refusal g c =
     let content = g.S.HasContent.content in
+    let whole = content c.args.source.now in
     let m = c.loop-is_put.machine in
     let step = c.next_into.new.step in
     let is : put c.next_into.result step ≡ Ok (Some step) = ap (λ (r : Result Bool RecordFault). put r step) (c.in-Ok.is ∙ ap Ok c.if-not-is_put.false) in
     let begins : content c.loop-is_put.source ≡ with_step (step_value_of step) (content c.next_into.new.self) = rw is at c.next_into.ensures.gives in
     let refused : RefusesStep (operation_of step.op) m c.in-Err-step_into.fault = c.in-Err-step_into.ensures.refused in
-    gathering_refused _ _ (content c.loop-is_put.source) (content c.next_into.new.self) (step_value_of step) m c.in-Err-step_into.fault c.of_step.result
+    gathering_refused _ (broken_behind (length whole.steps) whole.fault) (content c.loop-is_put.source) (content c.next_into.new.self) (step_value_of step) m c.in-Err-step_into.fault c.of_step.result
     (rw c.loop-is_put.invariant.same_surface c.loop-is_put.invariant.stops) begins refused c.of_step.ensures.number c.of_step.ensures.fault
 
 pub returns-in-Err-clause-refusal : goal.returns-in-Err-clause-refusal
@@ -70,5 +72,5 @@ returns-in-Err-clause-refusal g c =
     let left = content loop.source in
     let broken : Stays (broken_by c.in-Err.fault) left (content c.next_into.new.self) =
     rw (ap (λ (r : Result Bool RecordFault). put r c.next_into.new.step) c.in-Err.is) at c.next_into.ensures.gives in
-    inl (gathering_broken _ _ left loop.before loop.machine.state loop.machine.surface c.in-Err.fault c.at.result
+    inl (gathering_broken _ (content c.args.source.now) left loop.before loop.machine.state loop.machine.surface c.in-Err.fault c.at.result
     (rw loop.invariant.same_surface loop.invariant.stops) broken.is loop.invariant.counted loop.invariant.fault c.at.ensures.number c.at.ensures.fault)

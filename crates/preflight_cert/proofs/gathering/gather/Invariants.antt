@@ -5,7 +5,7 @@ use Rattle.draw_ops.specs.Records.{record_limit}
 use Rattle.preflight_cert.specs.After.{needs_after}
 use Rattle.preflight_cert.specs.Drawings.{drawings_of}
 use Rattle.preflight_cert.specs.Gathered.{least_budget, least_entries, least_texts}
-use Rattle.preflight_cert.specs.Stop.{broken_after, stop_of, stopped}
+use Rattle.preflight_cert.specs.Stop.{broken_behind, stop_of, stopped}
 use Rattle.preflight_cert.specs.TextLaws.{IsEntry}
 use Rattle.preflight_cert.proofs.gathering.gather.Given as goal
 
@@ -24,7 +24,7 @@ invariant-loop-is_put g l =
       place : surface_of l.place ≡ start;
       counted : l.before + length left.steps ≡ length whole.steps;
       fault : left.fault ≡ whole.fault;
-      stops : stop_of whole l.fn.machine.state start ≡ stopped left.steps (broken_after 0 whole) l.machine.state start;
+      stops : stop_of whole l.fn.machine.state start ≡ stopped left.steps (broken_behind (length whole.steps) whole.fault) l.machine.state start;
       texts : l.fn.entries.items ++ least_texts (drawings_of whole.steps l.fn.machine.state) ≡ l.entries.items ++ least_texts (drawings_of left.steps l.machine.state);
       are_entries : All IsEntry (least_entries (drawings_of left.steps l.machine.state)) → All IsEntry (least_entries (drawings_of whole.steps l.fn.machine.state));
       budget : least_budget (drawings_of whole.steps l.fn.machine.state) start ≡ l.writes + least_budget (drawings_of left.steps l.machine.state) start;

@@ -1,5 +1,5 @@
 -- A count of records fits, and what is left is checked as the whole is.
-use Rattle.std.proofs.Common.{◌≡◌, ℕ, List, Bool, Result, Ok, Some, ap, inl, sym, ◌∙◌, rules}
+use Rattle.std.proofs.Common.{◌≡◌, ℕ, List, Bool, Result, Ok, Some, ap, inl, length, sym, ◌∙◌, rules}
 use Rattle.draw_ops.specs.Gives.{Stays, put}
 use Rattle.draw_ops.specs.declared.record_fault.RecordFault.{RecordFault}
 use Rattle.draw_ops.specs.Content.{Content, broken_by, with_step}
@@ -7,6 +7,7 @@ use Rattle.draw_ops.specs.OperationOf.{operation_of}
 use Rattle.draw_ops.specs.Records.{record_limit}
 use Rattle.draw_ops.specs.StepOf.{step_value_of}
 use Rattle.dc_stack.specs.MachineState.{HasStepped, IsDrawingOf, RefusesStep}
+use Rattle.preflight_cert.specs.Stop.{broken_behind}
 use Rattle.preflight_cert.specs.After.{notes_after}
 use Rattle.preflight_cert.specs.EntriesOf.{entries_of}
 use Rattle.preflight_cert.proofs.BudgetLemmas.{budget_then}
@@ -46,12 +47,13 @@ loop-is_put-preserved g c =
 pub returns-in-Err-step_into-clause-refusal : goal.returns-in-Err-step_into-clause-refusal
 returns-in-Err-step_into-clause-refusal g c =
     let content = g.S.HasContent.content in
+    let whole = content c.args.source.now in
     let m = c.loop-is_put.machine in
     let step = c.next_into.new.step in
     let is : put c.next_into.result step ≡ Ok (Some step) = ap (λ (r : Result Bool RecordFault). put r step) (c.in-Ok.is ∙ ap Ok c.if-not-is_put.false) in
     let begins : content c.loop-is_put.source ≡ with_step (step_value_of step) (content c.next_into.new.self) = rw is at c.next_into.ensures.gives in
     let refused : RefusesStep (operation_of step.op) m c.in-Err-step_into.fault = c.in-Err-step_into.ensures.refused in
-    check_refused _ _ _ (content c.loop-is_put.source) (content c.next_into.new.self) (step_value_of step) m (entries_of c.loop-is_put.entries) c.in-Err-step_into.fault c.of_step.result
+    check_refused _ (broken_behind (length whole.steps) whole.fault) (length whole.steps) (content c.loop-is_put.source) (content c.next_into.new.self) (step_value_of step) m (entries_of c.loop-is_put.entries) c.in-Err-step_into.fault c.of_step.result
     (rw c.loop-is_put.invariant.same_surface c.loop-is_put.invariant.order) begins refused c.of_step.ensures.number c.of_step.ensures.fault
 
 pub returns-in-Err-clause-refusal : goal.returns-in-Err-clause-refusal
@@ -61,5 +63,5 @@ returns-in-Err-clause-refusal g c =
     let left = content loop.source in
     let broken : Stays (broken_by c.in-Err.fault) left (content c.next_into.new.self) =
     rw (ap (λ (r : Result Bool RecordFault). put r c.next_into.new.step) c.in-Err.is) at c.next_into.ensures.gives in
-    inl (check_broken _ _ left loop.totals.records loop.machine.state loop.machine.surface (entries_of loop.entries) c.in-Err.fault c.at.result
+    inl (check_broken _ (content c.args.source.now) left loop.totals.records loop.machine.state loop.machine.surface (entries_of loop.entries) c.in-Err.fault c.at.result
     (rw loop.invariant.same_surface loop.invariant.order) broken.is (sym loop.invariant.counted) loop.invariant.fault c.at.ensures.number c.at.ensures.fault)

@@ -6,7 +6,7 @@ use Rattle.preflight_cert.specs.Checked.{check_of, checked}
 use Rattle.preflight_cert.specs.Drawings.{drawings_of}
 use Rattle.preflight_cert.specs.Entries.{budget_of}
 use Rattle.preflight_cert.specs.EntriesOf.{entries_of}
-use Rattle.preflight_cert.specs.Stop.{broken_after}
+use Rattle.preflight_cert.specs.Stop.{broken_behind}
 use Rattle.preflight_cert.proofs.walk.check_steps.Given as goal
 
 -- what is left is checked as the whole is
@@ -21,7 +21,7 @@ invariant-loop-is_put g l =
       place : surface_of l.place ≡ start;
       counted : length (content l.fn.source).steps ≡ l.totals.records + length (content l.source).steps;
       fault : (content l.source).fault ≡ (content l.fn.source).fault;
-      order : check_of (content l.fn.source) l.fn.machine.state start (entries_of l.fn.given) ≡ checked (content l.source).steps (broken_after 0 (content l.fn.source)) (length (content l.fn.source).steps) l.machine.state start (entries_of l.entries);
+      order : check_of (content l.fn.source) l.fn.machine.state start (entries_of l.fn.given) ≡ checked (content l.source).steps (broken_behind (length (content l.fn.source).steps) (content l.fn.source).fault) (length (content l.fn.source).steps) l.machine.state start (entries_of l.entries);
       budget : budget_of (drawings_of (content l.fn.source).steps l.fn.machine.state) (entries_of l.fn.given) start ≡ l.totals.writes + budget_of (drawings_of (content l.source).steps l.machine.state) (entries_of l.entries) start;
       notes : notes_after (content l.fn.source).steps l.fn.noted.counts ≡ notes_after (content l.source).steps l.totals.notes.counts;
       needs : needs_after (content l.fn.source).steps l.fn.machine.state l.fn.machine.needs ≡ needs_after (content l.source).steps l.machine.state l.machine.needs;
