@@ -8,6 +8,7 @@ import unittest
 from built import SAMPLES, Answer, answer, for_each_program
 from metafile.fields import BLUE, joined, u16, u32
 from metafile.files import EMF_END, emf_file, emf_record, placeable_file, plain_file, wmf_record
+from metafile.scripts import FORMS
 from reference.listing import listing
 from standards.emf import EMF
 from standards.wmf import WMF
@@ -37,9 +38,49 @@ HELD = b"".join(
     ]
 )
 
+# Records that double the page, on a frame of one unit. From there on a page unit is as wide as two
+# of the largest surfaces, of which 16,384 have 2^28 pixels: a point 16,385 units off lands too far on
+# the largest surface, and not on one of half its side.
+DOUBLED = "map_mode 8; window_extent 1 1; viewport_extent 2 2"
+NEAR, FAR = "pixel 16384 0", "pixel 16385 0"
+
+# One that lands too far on the largest surface alone, and in front of another fault, by hand.
+TOLD_BOTH = b"".join(
+    [
+        b"0\t40\t8\t0x0103\tMETA_SETMAPMODE\tplayed\tmap mode 8\n",
+        b"1\t48\t10\t0x020c\tMETA_SETWINDOWEXT\tplayed\twindow extent 1,1\n",
+        b"2\t58\t10\t0x020e\tMETA_SETVIEWPORTEXT\tplayed\tviewport extent 2,2\n",
+        b"3\t68\t14\t0x041f\tMETA_SETPIXEL\trefused\tOffPlane\n",
+        b"4\t82\t8\t0x0127\tMETA_RESTOREDC\trefused\tNoSavedState\n",
+        b"5\t90\t6\t0x0000\tMETA_EOF\tplayed\tnothing\n",
+    ]
+)
+
+# Scripts behind that, and which of their records are refused on the smallest surface and on the
+# largest, counted from 0, and by which faults.
+STOPS = [
+    ("", None, None),
+    (f"{NEAR}; pixel -16384 0", None, None),
+    # On the largest surface alone: the first is told, and no later one.
+    (FAR, None, (0, "OffPlane")),
+    ("line 0 -16385", None, (0, "OffPlane")),
+    (f"{NEAR}; {FAR}; {NEAR}", None, (1, "OffPlane")),
+    (f"{FAR}; viewport_extent 4 4; {FAR}; pixel 30000 0", None, (0, "OffPlane")),
+    # In front of another fault both are told, and behind one nothing is.
+    (f"{FAR}; restore -1", (1, "NoSavedState"), (0, "OffPlane")),
+    (f"{FAR}; {NEAR}; select 3", (2, "NoSuchHandle"), (0, "OffPlane")),
+    (f"restore -1; {FAR}", (0, "NoSavedState"), (0, "NoSavedState")),
+    # In one record both have the fault that doesn't depend on the surface, or else the same one.
+    ("16x cut 0 0 1 1; cut 0 0 16385 1", (16, "TooManyCuts"), (16, "TooManyCuts")),
+    ("viewport_extent 16384 16384; pixel 16385 0", (1, "OffPlane"), (1, "OffPlane")),
+    (f"{FAR}; viewport_extent 16384 16384; pixel 16385 0", (2, "OffPlane"), (0, "OffPlane")),
+    # A state that a refused record would have changed.
+    (f"{FAR}; save; restore -1; restore -1", (3, "NoSavedState"), (0, "OffPlane")),
+]
+
 NO_METAFILE = b"-\t-\t-\t-\t-\trefused\tNotMetafile\n"
 
-# What `show` tells of a refusal in a record: the fault, its kind where it tells one, and the record's number.
+# What a command tells of a refusal in a record: the fault, its kind where it tells one, and the record's number.
 TOLD = re.compile(r"metaplay: (\w+)(?: \w+)? at record (\d+)\n")
 
 SEED = 1
@@ -50,9 +91,9 @@ def listed(program, given):
     return answer(program, ["list", "stdin"], given)
 
 
-def wanted(given, stop=None):
+def wanted(given, stops=()):
     """What it is to answer: nothing is told on standard error, since the listing tells all."""
-    text, has_ended = listing(given, stop)
+    text, has_ended = listing(given, stops)
     return Answer(0 if has_ended else 1, text, b"")
 
 
@@ -83,10 +124,13 @@ def altered(file, chance):
     return bytes(changed)
 
 
-def stop_of(program, given):
-    """The record in which a run on one pixel is refused and the fault, as the program tells them, or nothing."""
-    told = TOLD.fullmatch(answer(program, ["show", "stdin", "1", "1"], given).err.decode())
-    return told and (int(told[2]), told[1])
+def stops_of(program, given):
+    """The records in which the runs on the smallest surface and on the largest are refused, and the faults, as
+    the program tells them where it shows the one and prepares for the other."""
+    smallest = answer(program, ["show", "stdin", "1", "1"], given)
+    largest = answer(program, ["prepare", "stdin", "8192", "8192", "/dev/null"], given)
+    told = [TOLD.fullmatch(it.err.decode()) for it in (smallest, largest)]
+    return [(int(it[2]), it[1]) for it in told if it]
 
 
 def first_refused(program, given):
@@ -98,9 +142,9 @@ def first_refused(program, given):
 class Listings(unittest.TestCase):
     """`list`: its lines and its status."""
 
-    def same(self, program, given, stop=None, name=None):
+    def same(self, program, given, stops=(), name=None):
         """A listing is that of the second reading."""
-        self.assertEqual(listed(program, given), wanted(given, stop), name)
+        self.assertEqual(listed(program, given), wanted(given, stops), name)
 
     @for_each_program
     def test_small_ones_by_hand(self, program):
@@ -111,8 +155,8 @@ class Listings(unittest.TestCase):
     @for_each_program
     def test_each_sample(self, program):
         for path in samples():
-            stop = (5, "HeldObject") if path.name == "held.wmf" else None
-            self.same(program, path.read_bytes(), stop, path.name)
+            stops = [(5, "HeldObject")] if path.name == "held.wmf" else []
+            self.same(program, path.read_bytes(), stops, path.name)
 
     @for_each_program
     def test_a_record_in_which_a_run_is_refused_is_refused_by_that_fault(self, program):
@@ -122,12 +166,42 @@ class Listings(unittest.TestCase):
             file = path.read_bytes()
             for trial in range(25 if len(file) < 3000 else 2):
                 changed = altered(file, chance)
-                stop = stop_of(program, changed)
-                self.same(program, changed, stop, (path.name, trial))
-                if stop:
+                found = stops_of(program, changed)
+                self.same(program, changed, found, (path.name, trial))
+                if found:
                     stops += 1
-                    self.assertEqual(first_refused(program, changed), stop, (path.name, trial))
+                    self.assertEqual(first_refused(program, changed), min(found), (path.name, trial))
         self.assertGreater(stops, 50)
+
+    @for_each_program
+    def test_the_faults_of_the_smallest_surface_and_of_the_largest(self, program):
+        for form in FORMS:
+            for script, *wanted_stops in STOPS:
+                front = form.records(DOUBLED)
+                given = form.file([*front, *form.records(script)], 1, 16)
+                first = form.first + len(front)
+                stops = [(first + number, fault) for number, fault in filter(None, wanted_stops)]
+                self.assertEqual(stops_of(program, given), stops, (form.name, script))
+                self.same(program, given, stops, (form.name, script))
+
+    @for_each_program
+    def test_a_fault_of_the_largest_surface_in_front_of_another_by_hand(self, program):
+        form = FORMS[0]
+        given = form.file(form.records(f"{DOUBLED}; {FAR}; restore -1"), 1, 1)
+        self.assertEqual(listed(program, given), Answer(0, TOLD_BOTH, b""))
+
+    @for_each_program
+    def test_a_fault_of_the_largest_surface_in_front_of_records_that_mean_nothing_or_break(self, program):
+        for form in FORMS:
+            front = form.records(f"{DOUBLED}; {FAR}")
+            first = form.first + len(front)
+            stop = (first - 1, "OffPlane")
+            # The smallest surface's run stops behind it, by a fault of meaning or of framing, which is told without a run.
+            given = form.file([*front, form.record(0x7777, bytes(8))], 1, 1)
+            cut = given[: -len(form.end) - 2]
+            for given, fault in [(given, "UnknownRecord"), (cut, "PastEnd")]:
+                self.assertEqual(stops_of(program, given), [(first, fault), stop], (form.name, fault))
+                self.same(program, given, [stop], (form.name, fault))
 
     @for_each_program
     def test_cut_at_each_byte_of_the_last_records(self, program):

@@ -17,6 +17,10 @@ from reference.pixels import Refused
 listing = importlib.import_module("reference.listing") if importlib.util.find_spec("reference.listing") else None
 
 
+# The longest side of a surface.
+LARGEST_SIDE = 8192
+
+
 @cache
 def codes():
     """The codes of faults by their names, as the page of faults has them."""
@@ -80,10 +84,10 @@ class Asked:
         return refused(*refusal) if refusal else self.image(sides)[0]
 
     def list(self):
-        """The answer of `list`, which tells the run on a surface of one pixel: of headers no fault is told."""
-        refusal = self.certified((1, 1))[1]
-        stop = refusal[::-1] if refusal and refusal[1] is not None else None
-        text, has_ended = listing.listing(self.file, stop)
+        """The answer of `list`, which tells the runs on the smallest surface and on the largest: of headers no fault is told."""
+        refusals = [self.certified((side, side))[1] for side in (1, LARGEST_SIDE)]
+        stops = [(record, fault) for fault, record in filter(None, refusals) if record is not None]
+        text, has_ended = listing.listing(self.file, stops)
         return Answer(0 if has_ended else 1, text, b"")
 
     def checked(self, data):

@@ -98,9 +98,9 @@ def told(framed, number, kind, record, is_behind):
     return "noted" if is_noted else "played", "; ".join(words)
 
 
-def lines_of(file, stop=None):
-    """The lines of a file, and whether its records end with an end record. `stop` is the number of the
-    record in which a run of the file stops, and the fault by which it does."""
+def lines_of(file, stops=()):
+    """The lines of a file, and whether its records end with an end record. `stops` are the numbers of
+    records in which runs of the file stop, each with the fault by which one does."""
     found = format_of(file)
     if found is None:
         return ["-\t-\t-\t-\t-\trefused\tNotMetafile"], False
@@ -114,8 +114,9 @@ def lines_of(file, stop=None):
         size, kind = framed.size_at(file, place), framed.kind_at(file, place)
         record = file[place : place + size]
         deed, text = told(framed, number, kind, record, place + size < len(file))
-        if stop and stop[0] == number and deed != "refused":
-            deed, text = "refused", stop[1]
+        here = [fault for at, fault in stops if at == number]
+        if here and deed != "refused":
+            deed, text = "refused", here[0]
         name = framed.names.get(kind, "-")
         fields = [number, place, size, framed.base.format(kind), name, deed, text]
         lines.append("\t".join(map(str, fields)))
@@ -125,7 +126,7 @@ def lines_of(file, stop=None):
             return lines, True
 
 
-def listing(file, stop=None):
+def listing(file, stops=()):
     """The listing of a file as bytes, and whether its records end with an end record."""
-    lines, has_ended = lines_of(file, stop)
+    lines, has_ended = lines_of(file, stops)
     return "".join(line + "\n" for line in lines).encode(), has_ended

@@ -48,6 +48,16 @@ pub(crate) const NOTED: &[u8] = b"\x01\0\x09\0\0\x03\0\0\0\0\0\0\0\0\0\0\0\0\
 pub(crate) const NOTED_CERT: &[u8] = b"MPC1\x0a\0\0\0\x14\0\0\0\x09\0\0\0\0\0\0\0\
     \x02\0\0\0\x07\0\0\0\0\0\0\0\0\0\0\0\0\0\0\0";
 
+/// A placeable file with the box (0,0,1,1), whose page is doubled from record 3 on: there a red pixel at (16385,0), which lands too
+/// far on the largest surface and not on one of half its side, then a restore where no state is saved, and an end.
+pub(crate) const FAR: &[u8] = b"\xd7\xcd\xc6\x9a\0\0\0\0\0\0\x01\0\x01\0\x60\0\0\0\0\0\x71\x57\
+    \x01\0\x09\0\0\x03\x25\0\0\0\0\0\x07\0\0\0\0\0\
+    \x04\0\0\0\x03\x01\x08\0\
+    \x05\0\0\0\x0c\x02\x01\0\x01\0\
+    \x05\0\0\0\x0e\x02\x02\0\x02\0\
+    \x07\0\0\0\x1f\x04\xff\0\0\0\0\0\x01\x40\
+    \x04\0\0\0\x27\x01\xff\xff\x03\0\0\0\0\0";
+
 /// Bytes with other ones from a place on.
 pub(crate) fn changed(
     alloc: Global,

@@ -1,7 +1,7 @@
 //! Listings, and what is told where they can't be written.
 
 use crate::comparing::{same, same_want_of_memory};
-use crate::files::{DOT, NIL};
+use crate::files::{DOT, FAR, NIL};
 use crate::limited;
 use commands::list_command;
 use std::alloc::Global;
@@ -15,6 +15,14 @@ const DOT_LINES: &str = "0\t40\t14\t0x041f\tMETA_SETPIXEL\tplayed\tpixel 2,1 #ff
 /// And where its last byte is missing.
 const BROKEN_LINES: &str = "0\t40\t14\t0x041f\tMETA_SETPIXEL\tplayed\tpixel 2,1 #ff0000\n\
     1\t54\t-\t-\t-\trefused\tNoEnd\n";
+
+/// The listing of `FAR`: of record 3 the fault that its run has on the largest surface, of record 4 that on the smallest.
+const FAR_LINES: &str = "0\t40\t8\t0x0103\tMETA_SETMAPMODE\tplayed\tmap mode 8\n\
+    1\t48\t10\t0x020c\tMETA_SETWINDOWEXT\tplayed\twindow extent 1,1\n\
+    2\t58\t10\t0x020e\tMETA_SETVIEWPORTEXT\tplayed\tviewport extent 2,2\n\
+    3\t68\t14\t0x041f\tMETA_SETPIXEL\trefused\tOffPlane\n\
+    4\t82\t8\t0x0127\tMETA_RESTOREDC\trefused\tNoSavedState\n\
+    5\t90\t6\t0x0000\tMETA_EOF\tplayed\tnothing\n";
 
 /// Ends the test unless listing a file ends with this status and these lines.
 fn lists(rt: &impl Abort, alloc: Global, file: &[u8], status: u8, want: &str) {
@@ -37,6 +45,12 @@ fn each_record_has_its_line(rt: HostRuntime) -> Result<(), Fail> {
         "0\t0\t88\t1\tEMR_HEADER\tplayed\tnothing\n\
         1\t88\t20\t14\tEMR_EOF\tplayed\tnothing\n",
     );
+    Ok(())
+}
+
+#[test]
+fn faults_of_the_smallest_surface_and_of_the_largest_are_told(rt: HostRuntime) -> Result<(), Fail> {
+    lists(&rt, rt.alloc(), FAR, 0, FAR_LINES);
     Ok(())
 }
 

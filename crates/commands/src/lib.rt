@@ -12,7 +12,8 @@
 //!   `list_command`, by `Writes` and `Tells`). Where it is done, its output got one text and nothing else:
 //!   the P6 text of the image that the file's records define, over white (`show`, `play`) or over the
 //!   image that a P6 text says (`over`), the certificate that is prepared (`prepare`), the report of an
-//!   accepted one (`check`), or the listing of records that end with an end record (`list`).
+//!   accepted one (`check`), or the listing of records that end with an end record (`list`), with the faults
+//!   that stop the runs on the smallest surface and on the largest.
 //! - It is refused only where that refusal is right: the file's first fault (`show`, `prepare`), or the
 //!   check's answer, and for `play` behind it that the surface is above the certificate's bound; for
 //!   `over` between them that the text is no image. Then nothing was written, and of `check` the refusal's

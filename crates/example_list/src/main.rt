@@ -14,7 +14,7 @@ fn main(rt: HostRuntime) -> io::Result<()> {
         }
         Err(fault) => println!(rt; "held.wmf doesn't open: {fault}")?,
     }
-    match write_listing(&file, None, &mut rt.stdout()) {
+    match write_listing(&file, &[], &mut rt.stdout()) {
         Ok(_) => Ok(()),
         Err(_) => Err(io::ErrorKind::WriteZero.into()),
     }

@@ -31,8 +31,8 @@ by_last false one other number (Err fault) same = refl
 same_step : (f : Framing) (meaning : Meaning) (one other : List ℕ) (number : ℕ) (r : Record) → (r.kind ≡ f.end_kind → one ≡ other) → step_of f meaning one number r ≡ step_of f meaning other number r
 same_step f meaning one other number r same = by_last (eqb r.kind f.end_kind) one other number (meaning number r) (λ last. same (eqb-true _ _ last))
 
-pub same_line : (format : FileFormat) (stop : Option (ℕ × RecordFault)) (one other : List ℕ) (number place : ℕ) (r : Record) → (r.kind ≡ (framing_of format).end_kind → one ≡ other) → line_of format stop one number place r ≡ line_of format stop other number place r
-same_line format stop one other number place r same =
+pub same_line : (format : FileFormat) (stops : List (ℕ × RecordFault)) (one other : List ℕ) (number place : ℕ) (r : Record) → (r.kind ≡ (framing_of format).end_kind → one ≡ other) → line_of format stops one number place r ≡ line_of format stops other number place r
+same_line format stops one other number place r same =
     rw (same_step (framing_of format) (meaning_of format) one other number r same) refl
 
 -- the line of a record that was put: its head, what is told of its meaning, and a line's end
@@ -44,34 +44,34 @@ told_line old head stop other_stop meant other_meant {headed} p q r same_stop sa
     joined old (head ++ meant_text other_stop other_meant) (codes "\n") (joined old head (meant_text other_stop other_meant) p (q ∙ both)) r
 
 -- a walk at its start: nothing was sent, and all lines are left
-pub begins : (known : Option (List ℕ)) (format : FileFormat) (stop : Option (ℕ × RecordFault)) (framed : Framed) (place : ℕ) (page : List ℕ) (walk : Walk) → page ≡ [] → walk.number ≡ 0 → walk.place ≡ place → walk.framed ≡ framed → Sending known known (lines_of_framed format stop 0 place framed) (page ++ listing_left format stop walk)
-begins known format stop framed place page walk p n at f = rw (p, n, at, f) (sending_none known (lines_of_framed format stop 0 place framed))
+pub begins : (known : Option (List ℕ)) (format : FileFormat) (stops : List (ℕ × RecordFault)) (framed : Framed) (place : ℕ) (page : List ℕ) (walk : Walk) → page ≡ [] → walk.number ≡ 0 → walk.place ≡ place → walk.framed ≡ framed → Sending known known (lines_of_framed format stops 0 place framed) (page ++ listing_left format stops walk)
+begins known format stops framed place page walk p n at f = rw (p, n, at, f) (sending_none known (lines_of_framed format stops 0 place framed))
 
-module _ (format : FileFormat) (stop : Option (ℕ × RecordFault)) (f : Framing) (is_of : framing_of format ≡ f) (old new : List ℕ) (before after : Walk) where
+module _ (format : FileFormat) (stops : List (ℕ × RecordFault)) (f : Framing) (is_of : framing_of format ≡ f) (old new : List ℕ) (before after : Walk) where
   -- the line of the record in front stands in front of the lines of the others
-  in_front_of : (r : Record) (line : List ℕ) → before.framed ≡ in_front r after.framed → after.number ≡ suc before.number → after.place ≡ before.place + length r.bytes → line ≡ line_of format stop after.framed.behind before.number before.place r → new ≡ old ++ line → old ++ listing_left format stop before ≡ new ++ listing_left format stop after
+  in_front_of : (r : Record) (line : List ℕ) → before.framed ≡ in_front r after.framed → after.number ≡ suc before.number → after.place ≡ before.place + length r.bytes → line ≡ line_of format stops after.framed.behind before.number before.place r → new ≡ old ++ line → old ++ listing_left format stops before ≡ new ++ listing_left format stops after
   in_front_of r line front number place is put =
       rw (front, number, place, put, is)
-      (sym (append_assoc old (line_of format stop after.framed.behind before.number before.place r) (lines_of format stop (suc before.number) (before.place + length r.bytes) after.framed.behind after.framed.records after.framed.fault)))
+      (sym (append_assoc old (line_of format stops after.framed.behind before.number before.place r) (lines_of format stops (suc before.number) (before.place + length r.bytes) after.framed.behind after.framed.records after.framed.fault)))
 
-  pub one_line : (given : PlacedRecord) → GivesRecord f before given after → new ≡ old ++ line_of format stop given.behind.now given.number given.place (record_of given.record) → PutsLine format stop old before new after
+  pub one_line : (given : PlacedRecord) → GivesRecord f before given after → new ≡ old ++ line_of format stops given.behind.now given.number given.place (record_of given.record) → PutsLine format stops old before new after
   one_line given gives put =
       let r = record_of given.record in
       let ends : r.kind ≡ (framing_of format).end_kind → given.behind.now ≡ after.framed.behind =
       λ last. gives.behind_the_end (last ∙ ap (λ (g : Framing). g.end_kind) is_of) ∙ ap (λ (d : Framed). d.behind) gives.front in
       record {
-        put = in_front_of r (line_of format stop given.behind.now given.number given.place r) gives.front gives.next_number gives.next_place (rw (gives.number, gives.place) (same_line format stop given.behind.now after.framed.behind before.number before.place r ends)) put;
+        put = in_front_of r (line_of format stops given.behind.now given.number given.place r) gives.front gives.next_number gives.next_place (rw (gives.number, gives.place) (same_line format stops given.behind.now after.framed.behind before.number before.place r ends)) put;
         fewer = rw gives.front (omega arith);
         end = rw gives.front refl;
       }
 
-  pub no_line : GivesNoRecord before after → new ≡ old → PutsRest format stop old before Ended new
+  pub no_line : GivesNoRecord before after → new ≡ old → PutsRest format stops old before Ended new
   no_line gives put = record {
     put = rw (gives.records, gives.fault) (put ∙ sym (append-nil old));
     end = rw gives.fault refl;
   }
 
-  pub last_of : (fault : RecordFault) → GivesFault before fault after → new ≡ old ++ fault_line after.number after.place fault → PutsRest format stop old before Broken new
+  pub last_of : (fault : RecordFault) → GivesFault before fault after → new ≡ old ++ fault_line after.number after.place fault → PutsRest format stops old before Broken new
   last_of fault gives put = record {
     put = rw (gives.broken_here) (put ∙ ap (λ (w : Walk). old ++ fault_line w.number w.place fault) gives.stays);
     end = rw (gives.broken_here) refl;

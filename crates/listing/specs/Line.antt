@@ -1,5 +1,5 @@
 -- The line that tells a record.
-use Rattle.std.specs.Prelude.{ℕ, Bool, true, false, ◌||◌, ◌==◌, if◌then◌else◌, List, ◌++◌, length, codes, decimal, Option, Some, None, Result, Ok, Err}
+use Rattle.std.specs.Prelude.{ℕ, ◌||◌, ◌==◌, if◌then◌else◌, List, [], ◌∷◌, ◌++◌, length, codes, decimal, Option, Some, None, Result, Ok, Err}
 use Rattle.draw_ops.specs.Content.{StepValue}
 use Rattle.draw_ops.specs.FaultTable.{fault_row}
 use Rattle.draw_ops.specs.Meaning.{step_of}
@@ -39,21 +39,16 @@ kind_name Emf kind = text_or_hyphen (emf_name_of kind)
 abbrev pub deed_text : List ℕ → List ℕ
 deed_text notes = if is_noted notes Skipped || is_noted notes EmfPlus then codes "noted" else codes "played"
 
--- a fault that a run has in a record with a number, if this is its number
-abbrev pub fault_where : Bool → RecordFault → Option RecordFault
-fault_where true fault = Some fault
-fault_where false fault = None
-
--- the fault that a run has in the record with this number, if it has one in it
-abbrev pub fault_at : ℕ → Option (ℕ × RecordFault) → Option RecordFault
-fault_at number None = None
-fault_at number (Some stop) = fault_where (stop.0 == number) stop.1
+-- the first of these faults, each by its record's number, that lies in the record with this number, if one does
+abbrev pub fault_at : ℕ → List (ℕ × RecordFault) → Option RecordFault
+fault_at number [] = None
+fault_at number (stop ∷ stops) = if stop.0 == number then Some stop.1 else fault_at number stops
 
 -- the last two fields of a line: that the record is refused, and the name of its fault
 abbrev pub refused_text : Fault → List ℕ
 refused_text fault = codes "refused\t" ++ (fault_row fault).name
 
--- the last two fields of a line: the fault that the run has in the record, or else what is done, what is asked for, and what is noted
+-- the last two fields of a line: the fault that a run has in the record, or else what is done, what is asked for, and what is noted
 abbrev pub step_text : Option RecordFault → StepValue → List ℕ
 step_text (Some fault) step = refused_text (InRecord fault)
 step_text None step = deed_text step.notes ++ codes "\t" ++ asked_text step.operation ++ notes_text step.notes
@@ -71,10 +66,10 @@ head_of format number place r =
     ++ kind_name format r.kind ++ codes "\t"
 
 -- the line of a record: that, what is done with it, and what it asks for, or the name of its fault
-abbrev pub line_of : FileFormat → Option (ℕ × RecordFault) → List ℕ → ℕ → ℕ → Record → List ℕ
-line_of format stop behind number place r =
+abbrev pub line_of : FileFormat → List (ℕ × RecordFault) → List ℕ → ℕ → ℕ → Record → List ℕ
+line_of format stops behind number place r =
     head_of format number place r
-    ++ meant_text (fault_at number stop) (step_of (framing_of format) (meaning_of format) behind number r) ++ codes "\n"
+    ++ meant_text (fault_at number stops) (step_of (framing_of format) (meaning_of format) behind number r) ++ codes "\n"
 
 -- the line that tells where the records break, and by which fault
 abbrev pub fault_line : ℕ → ℕ → RecordFault → List ℕ

@@ -17,31 +17,31 @@ last_line number place None = []
 last_line number place (Some fault) = fault_line number place fault
 
 -- the lines of these records, the first of which has this number and stands at this place, and the last line behind them
-abbrev pub lines_of : FileFormat → Option (ℕ × RecordFault) → ℕ → ℕ → List ℕ → List Record → Option RecordFault → List ℕ
-lines_of format stop number place behind [] fault = last_line number place fault
-lines_of format stop number place behind (r ∷ rs) fault =
-    line_of format stop behind number place r ++ lines_of format stop (suc number) (place + length r.bytes) behind rs fault
+abbrev pub lines_of : FileFormat → List (ℕ × RecordFault) → ℕ → ℕ → List ℕ → List Record → Option RecordFault → List ℕ
+lines_of format stops number place behind [] fault = last_line number place fault
+lines_of format stops number place behind (r ∷ rs) fault =
+    line_of format stops behind number place r ++ lines_of format stops (suc number) (place + length r.bytes) behind rs fault
 
 -- the lines of framed records
-abbrev pub lines_of_framed : FileFormat → Option (ℕ × RecordFault) → ℕ → ℕ → Framed → List ℕ
-lines_of_framed format stop number place framed = lines_of format stop number place framed.behind framed.records framed.fault
+abbrev pub lines_of_framed : FileFormat → List (ℕ × RecordFault) → ℕ → ℕ → Framed → List ℕ
+lines_of_framed format stops number place framed = lines_of format stops number place framed.behind framed.records framed.fault
 
 -- how the records of a file of some format are framed
 abbrev pub framed_records : FileFormat → List ℕ → Framed
 framed_records format file = framed_of (framing_of format) (record_bytes format file)
 
--- the lines of a file of some format, where a run of it has this fault in this record, if it has one: one for each of its records
-abbrev pub listing_in : FileFormat → Option (ℕ × RecordFault) → List ℕ → List ℕ
-listing_in format stop file = lines_of_framed format stop 0 (first_place format) (framed_records format file)
+-- the lines of a file of some format, where runs of it have these faults in these records: one for each of its records
+abbrev pub listing_in : FileFormat → List (ℕ × RecordFault) → List ℕ → List ℕ
+listing_in format stops file = lines_of_framed format stops 0 (first_place format) (framed_records format file)
 
 -- the lines of a file of this format, or the one that tells that it has none
-abbrev pub listing_if : Option FileFormat → Option (ℕ × RecordFault) → List ℕ → List ℕ
-listing_if None stop file = codes "-\t-\t-\t-\t-\t" ++ refused_text NotMetafile ++ codes "\n"
-listing_if (Some format) stop file = listing_in format stop file
+abbrev pub listing_if : Option FileFormat → List (ℕ × RecordFault) → List ℕ → List ℕ
+listing_if None stops file = codes "-\t-\t-\t-\t-\t" ++ refused_text NotMetafile ++ codes "\n"
+listing_if (Some format) stops file = listing_in format stops file
 
--- The listing of a file, where a run of it has this fault in this record, if it has one.
-abbrev pub listing_of : Option (ℕ × RecordFault) → List ℕ → List ℕ
-listing_of stop file = listing_if (format_of file) stop file
+-- The listing of a file, where runs of it have these faults in these records: the first that lies in a record is told on its line.
+abbrev pub listing_of : List (ℕ × RecordFault) → List ℕ → List ℕ
+listing_of stops file = listing_if (format_of file) stops file
 
 -- the records end with an end record, or with a fault of framing
 abbrev pub listed_as : Option RecordFault → ListingEnd

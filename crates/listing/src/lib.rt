@@ -6,6 +6,7 @@
 //!   fault of framing (`write_listing`, by `listing_of`). Of a writer that fails a front of it has been taken.
 //! - A line tells the record's number, its place in the file, its size, its function or type in the format's own base,
 //!   the standard's name, what the player does with it, and what it asks for, or its fault (`line_of`).
+//! - The faults by which runs of the file stop are handed in: the first that lies in a record is told on its line.
 //! - A fault of a record's meaning ends no listing, one of framing does, and how the records end is told.
 //! - A walk gives the records of some bytes in order, each with its number and its place, and then none or the fault
 //!   at which they break (`RecordWalk::new`, `RecordWalk::next_record`, by `GivesNext`); what one asks for is told by

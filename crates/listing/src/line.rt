@@ -84,14 +84,16 @@ fn deed(notes: NoteSet) -> &'static str
     }
 }
 
-/// The fault that a run has in the record with this number, if it has one in it.
-fn fault_at(number: u32, stop: Option<(u32, RecordFault)>) -> Option<RecordFault>
-    ensures { result ≡ fault_at number stop }
+/// The first of these faults that lies in the record with this number, if one does.
+fn fault_at(number: u32, stops: &[(u32, RecordFault)]) -> Option<RecordFault>
+    ensures { result ≡ fault_at number stops.now }
 {
-    let Some((at, fault)) = stop else {
-        return None;
-    };
-    if at == number { Some(fault) } else { None }
+    for stop in stops {
+        if stop.0 == number {
+            return Some(stop.1);
+        }
+    }
+    None
 }
 
 /// Puts that a record is refused, and the name of its fault.
@@ -104,7 +106,7 @@ fn put_refused(page: &mut Page, fault: Fault)
     page.put(fault.name());
 }
 
-/// Puts the fault that the run has in a record, or else what is done, what is asked for, and what is noted.
+/// Puts the fault that a run has in a record, or else what is done, what is asked for, and what is noted.
 fn put_step(page: &mut Page, stop: Option<RecordFault>, step: &Step<'_>)
     requires { length page.old + 347 ≤ 8192 }
     ensures text { page.new ≡ page.old ++ step_text stop (step_value_of step.now) }
@@ -176,15 +178,19 @@ fn put_head(page: &mut Page, format: FileFormat, given: &PlacedRecord<'_>)
 pub(crate) fn put_line(
     page: &mut Page,
     format: FileFormat,
-    stop: Option<(u32, RecordFault)>,
+    stops: &[(u32, RecordFault)],
     given: &PlacedRecord<'_>,
 )
     requires { length page.old + 512 ≤ 8192 }
     ensures { page.new ≡ page.old
-        ++ line_of format stop given.now.behind.now given.now.number given.now.place (record_of given.now.record) }
+        ++ line_of format stops.now given.now.behind.now given.now.number given.now.place (record_of given.now.record) }
 {
     put_head(page, format, given);
-    put_meant(page, fault_at(given.number, stop), &step_in(format, *given));
+    put_meant(
+        page,
+        fault_at(given.number, stops),
+        &step_in(format, *given),
+    );
     page.put("\n");
 }
 
@@ -202,7 +208,7 @@ pub(crate) fn put_fault_line(page: &mut Page, number: u32, place: usize, fault: 
 /// Puts the line that tells that a file begins as no metafile does.
 pub(crate) fn put_no_metafile(page: &mut Page)
     requires { length page.old + 512 ≤ 8192 }
-    ensures { page.new ≡ page.old ++ listing_if None None [] }
+    ensures { page.new ≡ page.old ++ listing_if None [] [] }
 {
     page.put("-\t-\t-\t-\t-\t");
     put_refused(page, Fault::NotMetafile);

@@ -23,20 +23,20 @@ use wmf_records::Wmf;
 /// Room for a line, in bytes.
 const LINE_ROOM: usize = 512;
 
-/// Writes a line for each record of a file, from the first one on, and tells how they end. `stop` is the fault that a run of the file has in a
-/// record, by the record's number: it is told on that record's line, unless a fault of the record's meaning is. Lines go on behind a fault of
-/// meaning, and end with that of framing. Of the headers nothing is read but how the file begins. Nothing is flushed.
+/// Writes a line for each record of a file, from the first one on, and tells how they end. `stops` are the faults that runs of the file have in
+/// records, by the records' numbers: the first of a record's is told on its line, unless a fault of its meaning is. Lines go on behind a fault
+/// of meaning, and end with that of framing. Of the headers nothing is read but how the file begins. Nothing is flushed.
 pub fn write_listing<W: Write>(
     file: &[u8],
-    stop: Option<(u32, RecordFault)>,
+    stops: &[(u32, RecordFault)],
     out: &mut W,
 ) -> Result<ListingEnd, WriteFault>
     ensures listed { IfOk result (λ listed. listed ≡ listed_of file.now) }
-    ensures ok { OnOk result (Appends (W.contents out.old) (W.contents out.new) (listing_of stop file.now)) }
-    ensures err { OnErr result (AppendsFront (W.contents out.old) (W.contents out.new) (listing_of stop file.now)) }
+    ensures ok { OnOk result (Appends (W.contents out.old) (W.contents out.new) (listing_of stops.now file.now)) }
+    ensures err { OnErr result (AppendsFront (W.contents out.old) (W.contents out.new) (listing_of stops.now file.now)) }
 {
     match format_of(file) {
-        Some(format) => write_in(format, file, stop, out),
+        Some(format) => write_in(format, file, stops, out),
         None => write_none(out),
     }
 }
@@ -44,8 +44,8 @@ pub fn write_listing<W: Write>(
 /// Writes the line that tells that a file begins as no metafile does.
 fn write_none<W: Write>(out: &mut W) -> Result<ListingEnd, WriteFault>
     ensures listed { IfOk result (λ listed. listed ≡ ListingEnd.Broken) }
-    ensures ok { OnOk result (Appends (W.contents out.old) (W.contents out.new) (listing_if None None [])) }
-    ensures err { OnErr result (AppendsFront (W.contents out.old) (W.contents out.new) (listing_if None None [])) }
+    ensures ok { OnOk result (Appends (W.contents out.old) (W.contents out.new) (listing_if None [] [])) }
+    ensures err { OnErr result (AppendsFront (W.contents out.old) (W.contents out.new) (listing_if None [] [])) }
 {
     let mut page = Page::new();
     put_no_metafile(&mut page);
@@ -57,17 +57,17 @@ fn write_none<W: Write>(out: &mut W) -> Result<ListingEnd, WriteFault>
 fn write_in<W: Write>(
     format: FileFormat,
     file: &[u8],
-    stop: Option<(u32, RecordFault)>,
+    stops: &[(u32, RecordFault)],
     out: &mut W,
 ) -> Result<ListingEnd, WriteFault>
     ensures listed { IfOk result (λ listed. listed ≡ listed_by (framed_records format file.now)) }
-    ensures ok { OnOk result (Appends (W.contents out.old) (W.contents out.new) (listing_in format stop file.now)) }
-    ensures err { OnErr result (AppendsFront (W.contents out.old) (W.contents out.new) (listing_in format stop file.now)) }
+    ensures ok { OnOk result (Appends (W.contents out.old) (W.contents out.new) (listing_in format stops.now file.now)) }
+    ensures err { OnErr result (AppendsFront (W.contents out.old) (W.contents out.new) (listing_in format stops.now file.now)) }
 {
     match format {
-        FileFormat::Placeable => write_lines::<Wmf, W>(format, file, stop, out),
-        FileFormat::Plain => write_lines::<Wmf, W>(format, file, stop, out),
-        FileFormat::Emf => write_lines::<Emf, W>(format, file, stop, out),
+        FileFormat::Placeable => write_lines::<Wmf, W>(format, file, stops, out),
+        FileFormat::Plain => write_lines::<Wmf, W>(format, file, stops, out),
+        FileFormat::Emf => write_lines::<Emf, W>(format, file, stops, out),
     }
 }
 
@@ -75,20 +75,20 @@ fn write_in<W: Write>(
 fn write_lines<F: Format, W: Write>(
     format: FileFormat,
     file: &[u8],
-    stop: Option<(u32, RecordFault)>,
+    stops: &[(u32, RecordFault)],
     out: &mut W,
 ) -> Result<ListingEnd, WriteFault>
     requires { framing_of format ≡ F.framing }
     ensures listed { IfOk result (λ listed. listed ≡ listed_by (framed_records format file.now)) }
-    ensures ok { OnOk result (Appends (W.contents out.old) (W.contents out.new) (listing_in format stop file.now)) }
-    ensures err { OnErr result (AppendsFront (W.contents out.old) (W.contents out.new) (listing_in format stop file.now)) }
+    ensures ok { OnOk result (Appends (W.contents out.old) (W.contents out.new) (listing_in format stops.now file.now)) }
+    ensures err { OnErr result (AppendsFront (W.contents out.old) (W.contents out.new) (listing_in format stops.now file.now)) }
 {
     let records = records_in(format, file);
     let mut walk = RecordWalk::<F>::new(records, first_place(format));
     let mut page = Page::new();
     loop {
         make_room(&mut page, out)?;
-        if let Some(listed) = put_next(&mut page, &mut walk, format, stop) {
+        if let Some(listed) = put_next(&mut page, &mut walk, format, stops) {
             send(out, page.text())?;
             return Ok(listed);
         }
@@ -114,15 +114,15 @@ fn put_next<F: Format>(
     page: &mut Page,
     walk: &mut RecordWalk<'_, F>,
     format: FileFormat,
-    stop: Option<(u32, RecordFault)>,
+    stops: &[(u32, RecordFault)],
 ) -> Option<ListingEnd>
     requires room { length page.old + 512 ≤ 8192 }
     requires framing { framing_of format ≡ F.framing }
-    ensures { PutsNext format stop page.old walk.old result page.new walk.new }
+    ensures { PutsNext format stops.now page.old walk.old result page.new walk.new }
 {
     match walk.next_record() {
         Ok(Some(given)) => {
-            put_line(page, format, stop, &given);
+            put_line(page, format, stops, &given);
             None
         }
         Ok(None) => Some(ListingEnd::Ended),

@@ -13,6 +13,6 @@ returns c =
     let format = c.args.format in
     let given = c.args.given.now in
     let r = record_of given.record in
-    told_line c.args.page.now (head_of format given.number given.place r) c.fault_at.result (fault_at given.number c.args.stop)
+    told_line c.args.page.now (head_of format given.number given.place r) c.fault_at.result (fault_at given.number c.args.stops.now)
     (result_map step_value_of c.step_in.result) (step_of (framing_of format) (meaning_of format) given.behind.now given.number r)
     c.put_head.ensures.text c.put_meant.ensures.text c.put.ensures c.fault_at.ensures c.step_in.ensures

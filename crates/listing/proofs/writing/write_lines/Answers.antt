@@ -12,7 +12,7 @@ pub loop-page-init : goal.loop-page-init
 loop-page-init g c =
     let framed : c.new-walk.result.framed ≡ framed_records c.args.format c.args.file.now = rw (c.requires, ← c.records_in-records.ensures) c.new-walk.ensures.framed in
     record {
-      sending = begins (g.W.Write.contents c.args.out.now) c.args.format c.args.stop (framed_records c.args.format c.args.file.now) (first_place c.args.format) c.new-page.result c.new-walk.result
+      sending = begins (g.W.Write.contents c.args.out.now) c.args.format c.args.stops.now (framed_records c.args.format c.args.file.now) (first_place c.args.format) c.new-page.result c.new-walk.result
           c.new-page.ensures c.new-walk.ensures.number (c.new-walk.ensures.place ∙ c.first_place.ensures.value) framed;
       end = ap listed_by framed;
     }
@@ -20,13 +20,13 @@ loop-page-init g c =
 pub returns-in_err-make_room-clause-err : goal.returns-in_err-make_room-clause-err
 returns-in_err-make_room-clause-err g c =
     let p = err_from_is_err_and c.from_residual.result c.from_residual.ensures.1 in
-    let left = listing_left c.args.format c.args.stop c.loop-page.walk in
+    let left = listing_left c.args.format c.args.stops.now c.loop-page.walk in
     rw p.1 (sending_front_more c.loop-page.page left c.loop-page.invariant.sending refl c.in_err-make_room.ensures.err)
 
 pub loop-page-preserved : goal.loop-page-preserved
 loop-page-preserved g c =
-    let left = listing_left c.args.format c.args.stop c.loop-page.walk in
-    let puts : PutsLine c.args.format c.args.stop c.make_room.new.page c.loop-page.walk c.put_next.new.page c.put_next.new.walk = c.in_default.ensures in
+    let left = listing_left c.args.format c.args.stops.now c.loop-page.walk in
+    let puts : PutsLine c.args.format c.args.stops.now c.make_room.new.page c.loop-page.walk c.put_next.new.page c.put_next.new.walk = c.in_default.ensures in
     record {
       sending = sending_same (sending_part left c.loop-page.invariant.sending c.in_ok-make_room.ensures.sent) puts.put;
       end = puts.end ∙ c.loop-page.invariant.end;
@@ -35,6 +35,6 @@ loop-page-preserved g c =
 pub returns-in_err-send-clause-err : goal.returns-in_err-send-clause-err
 returns-in_err-send-clause-err g c =
     let p = err_from_is_err_and c.from_residual-in_err-send.result c.from_residual-in_err-send.ensures.1 in
-    let left = listing_left c.args.format c.args.stop c.loop-page.walk in
-    let puts : PutsRest c.args.format c.args.stop c.make_room.new.page c.loop-page.walk c.in-Some.listed c.put_next.new.page = c.in-Some.ensures in
+    let left = listing_left c.args.format c.args.stops.now c.loop-page.walk in
+    let puts : PutsRest c.args.format c.args.stops.now c.make_room.new.page c.loop-page.walk c.in-Some.listed c.put_next.new.page = c.in-Some.ensures in
     rw p.1 (sending_rest_front (sending_same (sending_part left c.loop-page.invariant.sending c.in_ok-make_room.ensures.sent) (sym puts.put)) (rw c.text.ensures at c.in_err-send.ensures.err))

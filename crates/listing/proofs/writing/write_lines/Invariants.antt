@@ -7,7 +7,7 @@ use Rattle.listing.proofs.writing.write_lines.Given as goal
 -- what is on the page and what the walk has left wasn't sent, and the rest of the listing was; the records end as from the start
 abbrev pub invariant-loop-page : goal.invariant-loop-page
 invariant-loop-page g l = record {
-  sending : Sending (g.W.Write.contents l.fn.out) (g.W.Write.contents l.out) (listing_in l.format l.stop l.file) (l.page ++ listing_left l.format l.stop l.walk);
+  sending : Sending (g.W.Write.contents l.fn.out) (g.W.Write.contents l.out) (listing_in l.format l.stops l.file) (l.page ++ listing_left l.format l.stops l.walk);
   end : listed_by l.walk.framed ≡ listed_by (framed_records l.format l.file);
 }
 
