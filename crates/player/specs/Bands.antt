@@ -1,10 +1,12 @@
 -- Playing in bands: rows of a surface, one after another, from one colour, and the text of all of them.
-use Rattle.std.specs.Prelude.{◌≡◌, ◌≤◌, ◌<◌, ◌⊎◌, ℕ, ◌+◌, ◌++◌, List, Option}
+use Rattle.std.specs.Prelude.{◌≡◌, ◌≤◌, ◌<◌, ◌⊎◌, ℕ, ◌+◌, ◌++◌, List, Option, Result, Err}
 use Rattle.std.specs.Io.KnownBytes.{Appends}
 use Rattle.mapping.specs.Image.{Image, blank}
 use Rattle.mapping.specs.Surface.{Surface}
 use Rattle.mapping.specs.declared.geometry.Colour.{Colour}
 use Rattle.draw_ops.specs.Content.{Content}
+use Rattle.draw_ops.specs.declared.fault.Fault.{Fault}
+use Rattle.draw_ops.specs.declared.fault.Fault.TheVariants.{WriteFault}
 use Rattle.canvas.specs.CanvasState.{CanvasState, image_of}
 use Rattle.canvas.specs.Ppm.{AppendsFront, header, ppm_text, raster}
 use Rattle.mapping.specs.PlacingLaws.{IsNoLarger}
@@ -47,6 +49,10 @@ pub record WritesRunFront (cleared : Cleared) (width height : ℕ) (start : Colo
   pub text : List ℕ
   pub of_run : IsClearedText cleared width height start text
   pub appended : AppendsFront old new text
+
+-- the writer failed
+abbrev pub IsWriteFault : Result ℕ Fault → Type 0
+IsWriteFault result = result ≡ Err WriteFault
 
 -- the same of a writer, by what it holds
 abbrev pub WritesFrontTo : {W : Type 0} → Cleared → ℕ → ℕ → Colour → (W → Option (List ℕ)) → W → W → Type 0

@@ -2,11 +2,11 @@
 
 ghost use Rattle.std.specs.Prelude.{◌≡◌, ◌<◌, ◌≤◌, ◌-◌, ◌⊎◌, ◌^◌, ◌↔◌, Err, IfErr, IfOk, OnErr, OnOk};
 ghost use Rattle.std.specs.Io.KnownBytes.{Keeps};
-ghost use Rattle.draw_ops.specs.declared.fault.Fault.TheVariants.{OutOfMemory, SurfaceTooLarge, WriteFault};
+ghost use Rattle.draw_ops.specs.declared.fault.Fault.TheVariants.{OutOfMemory, SurfaceTooLarge};
 ghost use Rattle.meta_headers.specs.OpenedOf.{opened_of};
 ghost use Rattle.meta_headers.specs.Opening.{surface_for};
 ghost use Rattle.player.specs.Bands.{AreClearedWrites, CountsRows, IsAboveBound, IsReadyToPlay};
-ghost use Rattle.player.specs.Bands.{WritesFrontTo, WritesRows, WritesRowsFront, WritesRun, WritesRunFront};
+ghost use Rattle.player.specs.Bands.{IsWriteFault, WritesFrontTo, WritesRows, WritesRowsFront, WritesRun, WritesRunFront};
 
 use crate::band_room::{BandRoom, band_room};
 use crate::bands::show_band;
@@ -37,9 +37,9 @@ pub fn play_bands_to<W: FaultCount>(
     ensures writes { IfOk result (AreClearedWrites cleared.now width height) }
     ensures few { IfOk result (λ writes. writes ≤ cleared.now.certificate.writes) }
     ensures too_large { (result ≡ Err SurfaceTooLarge) ↔ IsAboveBound width height cleared.now.certificate }
-    ensures refusal { IfErr result (λ fault. fault ≡ SurfaceTooLarge ⊎ (fault ≡ OutOfMemory ⊎ fault ≡ WriteFault)) }
-    ensures unwritten { (result ≡ Err WriteFault → ⊥) → OnErr result (Keeps (W.contents out.old) (W.contents out.new)) }
-    ensures front { result ≡ Err WriteFault → WritesFrontTo cleared.now width height start W.contents out.old out.new }
+    ensures refusal { IfErr result (λ fault. fault ≡ SurfaceTooLarge ⊎ (fault ≡ OutOfMemory ⊎ fault ≡ Fault.WriteFault)) }
+    ensures unwritten { (IsWriteFault result → ⊥) → OnErr result (Keeps (W.contents out.old) (W.contents out.new)) }
+    ensures front { IsWriteFault result → WritesFrontTo cleared.now width height start W.contents out.old out.new }
     ensures fault { result ≡ Err Fault.WriteFault → W.fault_count out.old < W.fault_count out.new }
     ensures room { OnOk result (W.fault_count out.new < 2 ^ 64 - 1) }
     ensures count { W.fault_count out.old ≤ W.fault_count out.new }
