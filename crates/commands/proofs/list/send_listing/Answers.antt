@@ -1,5 +1,6 @@
 -- What was written is the listing, or a front of it.
-use Rattle.std.proofs.Common.{rules}
+use Rattle.std.proofs.Common.{[], rules, sym}
+use Rattle.std.proofs.lemmas.List.{append-nil}
 use Rattle.std.proofs.lemmas.Result.{err_from_is_err_and}
 use Rattle.listing.specs.Listing.{listing_of}
 use Rattle.commands.proofs.ListLemmas.{is_listing, lists}
@@ -21,5 +22,10 @@ pub returns-in-Err-clause-err : goal.returns-in-Err-clause-err
 returns-in-Err-clause-err g c = record {
   text = listing_of c.args.stops.now c.args.file.now;
   fact = is_listing c.args.file.now c.args.stops.now c.requires;
-  written = search rules;
+  written = record {
+    sent = listing_of c.args.stops.now c.args.file.now;
+    unsent = [];
+    front = sym (append-nil (listing_of c.args.stops.now c.args.file.now));
+    appended = search rules;
+  };
 }
