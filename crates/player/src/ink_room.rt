@@ -1,6 +1,7 @@
 //! Room for what becomes of the pixels of a row.
 
 use mapping::Colour;
+use span_fill::Stamps;
 
 /// The colour that stands for what isn't looked at.
 pub(crate) const BLACK: Colour = Colour { r: 0, g: 0, b: 0 };
@@ -13,6 +14,7 @@ pub(crate) const MAX_SIDE: usize = 8192;
 pub(crate) struct InkRoom {
     pub(crate) sources: [Colour; MAX_SIDE],
     pub(crate) mixes: MixRoom,
+    pub(crate) stamps: Stamps,
 }
 
 /// Room for what becomes of the pixels of a row, each at its column: the colours of a brush's picture, and what
@@ -34,6 +36,7 @@ impl InkRoom {
                 keeps: [BLACK; MAX_SIDE],
                 flips: [BLACK; MAX_SIDE],
             },
+            stamps: Stamps::new(),
         }
     }
 }

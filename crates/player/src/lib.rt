@@ -45,6 +45,7 @@ mod regions;
 mod room;
 mod row_ink;
 mod source_rows;
+mod stamping;
 mod strips;
 mod stroking;
 mod survey;

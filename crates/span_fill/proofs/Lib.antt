@@ -25,3 +25,4 @@ pub mod StrokingLemmas
 pub mod StripStart
 pub mod RowLawLemmas
 pub mod LineBoxLemmas
+pub mod StampLemmas
