@@ -280,7 +280,7 @@ no_cuts clip (box ∷ boxes) same empty = absurd (none (length boxes) empty)
     none n h = let zero = number (suc n) h in omega (arith, zero)
 
 -- where nothing is cut out, the clip has what it keeps
-uncut : (x y : ℕ) (cuts : List Rect) → cuts ≡ [] → not (list_any (λ box. in_box box x y) cuts) ≡ true
+pub uncut : (x y : ℕ) (cuts : List Rect) → cuts ≡ [] → not (list_any (λ box. in_box box x y) cuts) ≡ true
 uncut x y [] e = refl
 uncut x y (cut ∷ cuts) e = cc
 

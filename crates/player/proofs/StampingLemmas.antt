@@ -1,15 +1,14 @@
 -- Lines are drawn by marks of their pixels, which are written where they are taken.
-use Rattle.std.proofs.Common.{◌≡◌, ℕ, suc, ◌+◌, ◌*◌, ◌^◌, ◌<◌, ◌≤◌, ℤ, pos, ◌-ℤ◌, unsigned_abs, Bool, true, false, not, ◌&&◌, ◌||◌, nat_lt, IsTrue, List, [], ◌∷◌, arith, refl, ap, sym, ◌∙◌}
+use Rattle.std.proofs.Common.{◌≡◌, ℕ, suc, ◌+◌, ◌*◌, ◌^◌, ◌<◌, ◌≤◌, ℤ, pos, ◌-ℤ◌, unsigned_abs, Bool, true, false, not, ◌&&◌, ◌||◌, nat_lt, IsTrue, if◌then◌else◌, List, [], ◌∷◌, arith, refl, ap, sym, ◌∙◌}
 use Rattle.std.proofs.lemmas.Bool.{and_from, and_parts}
 use Rattle.std.proofs.lemmas.Int.{ints}
 use Rattle.mapping.specs.declared.geometry.Colour.{Colour}
-use Rattle.mapping.specs.declared.geometry.Point.{Point}
 use Rattle.canvas.specs.CanvasState.{CanvasState, HasPixel}
 use Rattle.canvas.specs.Writing.{Repaints, is_at}
 use Rattle.canvas.specs.WritingLaws.{IsWhole, WritingLaws}
 use Rattle.dc_stack.specs.Clip.{unclipped}
 use Rattle.span_fill.specs.Spans.{in_region}
-use Rattle.span_fill.specs.Stamps.{StampState, is_taken}
+use Rattle.player.specs.Stamps.{StampState, is_taken}
 use Rattle.span_fill.specs.Steps.{HasAllSteps, IsSameWay, IsStepPixel, StepsState, TakesStep}
 use Rattle.span_fill.specs.Strokes.{OnePixelForEachStep, far, in_stroke, is_steep, on_line, step_at, steps_of}
 use Rattle.span_fill.specs.declared.line.Line.{Line}
@@ -70,11 +69,11 @@ kept_by : (a p e : Bool) → e ≡ (a || p) → a ≡ true → e ≡ true
 kept_by true p e h t = h
 kept_by false p e h t = cc
 
-not_true : (a : Bool) → true ≡ not a → a ≡ false
-not_true true e = sym e
+pub not_true : (a : Bool) → true ≡ not a → a ≡ false
+not_true true e = e
 not_true false e = refl
 
-not_false : (a : Bool) → false ≡ not a → a ≡ true
+pub not_false : (a : Bool) → false ≡ not a → a ≡ true
 not_false true e = refl
 not_false false e = e
 
@@ -146,19 +145,19 @@ turned false true = refl
 turned false false = refl
 
 -- a line that ends where it begins has no pixel
-no_steps : (line : Line) → line.from ≡ line.to → steps_of line ≡ 0
-no_steps line e = none (is_steep line)
+no_steps : (line : Line) → line.from.x ≡ line.to.x → line.from.y ≡ line.to.y → steps_of line ≡ 0
+no_steps line e d = none (is_steep line)
   where
     nowhere : (a b : ℤ) → a ≡ b → far a b ≡ 0
     nowhere a b h = rw h (omega (arith, ints))
 
     none : (steep : Bool) → (if steep then far line.from.y line.to.y else far line.from.x line.to.x) ≡ 0
-    none true = nowhere line.from.y line.to.y (ap (λ (p : Point). p.y) e)
-    none false = nowhere line.from.x line.to.x (ap (λ (p : Point). p.x) e)
+    none true = nowhere line.from.y line.to.y d
+    none false = nowhere line.from.x line.to.x e
 
-pub no_pixel : OnePixelForEachStep → (line : Line) → line.from ≡ line.to → (x y : ℤ) → on_line line x y ≡ false
-no_pixel law line e x y = same_test _ _
-    (λ h. let before = law.no_other line x y h in let none = no_steps line e in absurd (omega (arith, before, none)))
+pub no_pixel : OnePixelForEachStep → (line : Line) → line.from.x ≡ line.to.x → line.from.y ≡ line.to.y → (x y : ℤ) → on_line line x y ≡ false
+no_pixel law line e d x y = same_test _ _
+    (λ h. let before = law.no_other line x y h in let none = no_steps line e d in absurd (omega (arith, before, none)))
     (λ e. cc)
 
 pub nothing_more : (a b : Bool) (r : Bool) → b ≡ false → a ≡ (a || (r && b))
@@ -260,12 +259,13 @@ or_end true r = refl
 or_end false true = refl
 or_end false false = refl
 
-pub one_line_less : (start now new : StampState) (region : Region) (all left rest : List Line) (line : Line) → left ≡ line ∷ rest
-    → ((x y : ℕ) → is_taken new x y ≡ (is_taken now x y || (in_region region x y && on_line line (pos x) (pos y))))
+pub one_line_less : (start now new : StampState) (region : Region) (all left rest : List Line) (line : Line) → left ≡ line ∷ rest → now.region ≡ region
+    → ((x y : ℕ) → is_taken new x y ≡ (is_taken now x y || (in_region now.region x y && on_line line (pos x) (pos y))))
     → ((x y : ℕ) → (is_taken now x y || (in_region region x y && in_stroke left x y)) ≡ (is_taken start x y || (in_region region x y && in_stroke all x y)))
     → (x y : ℕ) → (is_taken new x y || (in_region region x y && in_stroke rest x y)) ≡ (is_taken start x y || (in_region region x y && in_stroke all x y))
-one_line_less start now new region all left rest line is taken so_far x y =
-    or_first (is_taken now x y) (in_region region x y) (on_line line (pos x) (pos y)) (in_stroke rest x y) (is_taken new x y) (taken x y)
+one_line_less start now new region all left rest line is same taken so_far x y =
+    or_first (is_taken now x y) (in_region region x y) (on_line line (pos x) (pos y)) (in_stroke rest x y) (is_taken new x y)
+    (taken x y ∙ ap (λ (r : Region). is_taken now x y || (in_region r x y && on_line line (pos x) (pos y))) same)
     ∙ ap (λ (lines : List Line). is_taken now x y || (in_region region x y && in_stroke lines x y)) (sym is)
     ∙ so_far x y
 
@@ -276,3 +276,21 @@ no_line_left start now region all left is so_far x y =
     sym (or_end (is_taken now x y) (in_region region x y))
     ∙ ap (λ (lines : List Line). is_taken now x y || (in_region region x y && in_stroke lines x y)) (sym is)
     ∙ so_far x y
+
+-- what was written leaves the canvas its box
+pub still_may : (f : ℕ → ℕ → Colour → Colour) (start now : StampState) (before after : CanvasState) → MayStamp start.region before → IsWhole after → WritesTaken f start now before after → MayStamp now.region after
+still_may f start now before after may whole written =
+    let r = written.written in
+    record {
+      whole = whole;
+      columns = rw (written.region, r.width) may.columns;
+      top = rw (written.region, r.first) may.top;
+      bottom = rw (written.region, r.first, r.rows) may.bottom;
+      pixels = rw (r.rows, r.width) may.pixels;
+    }
+
+-- and its count room for a line
+pub kept_room : WritingLaws → (f : ℕ → ℕ → Colour → Colour) (start now : StampState) (before after : CanvasState) → MayStamp start.region before → before.writes + 2 ^ 27 + 2 ^ 26 < 2 ^ 64 → WritesTaken f start now before after → after.writes + 2 ^ 27 < 2 ^ 64
+kept_room laws f start now before after may room written =
+    let bound = laws.bounded _ _ before after written.written in
+    let pixels = may.pixels in omega (arith, bound, pixels, room)

@@ -4,7 +4,7 @@ use Rattle.mapping.specs.declared.geometry.Colour.{Colour}
 use Rattle.canvas.specs.CanvasState.{CanvasState}
 use Rattle.canvas.specs.Writing.{Repaints}
 use Rattle.canvas.specs.WritingLaws.{IsWhole}
-use Rattle.span_fill.specs.Stamps.{StampState, is_taken}
+use Rattle.player.specs.Stamps.{StampState, is_taken}
 use Rattle.span_fill.specs.declared.span.Region.{Region}
 
 -- a canvas has a box, and at most 2^26 pixels

@@ -1,7 +1,7 @@
 //! Room for what becomes of the pixels of a row.
 
+use crate::stamps::Stamps;
 use mapping::Colour;
-use span_fill::Stamps;
 
 /// The colour that stands for what isn't looked at.
 pub(crate) const BLACK: Colour = Colour { r: 0, g: 0, b: 0 };

@@ -46,6 +46,7 @@ mod room;
 mod row_ink;
 mod source_rows;
 mod stamping;
+mod stamps;
 mod strips;
 mod stroking;
 mod survey;

@@ -8,7 +8,7 @@ ghost use Rattle.dc_stack.specs.Clip.{in_box};
 ghost use Rattle.dc_stack.specs.Values.{placed_value};
 ghost use Rattle.span_fill.specs.Lines.{HasNearEnds};
 ghost use Rattle.span_fill.specs.Spans.{in_region};
-ghost use Rattle.span_fill.specs.Stamps.{is_taken};
+ghost use Rattle.player.specs.Stamps.{is_taken};
 ghost use Rattle.span_fill.specs.Strokes.{in_stroke, on_line};
 ghost use Rattle.player.specs.Counts.{CountsLayer, HasRoomForLayer};
 ghost use Rattle.player.specs.Painted.{made, paints};
@@ -21,10 +21,11 @@ use crate::ink_room::{BLACK, InkRoom};
 use crate::line_steps::mix_pixel;
 use crate::parts::{Part, paint_part};
 use crate::regions::{common, visible};
+use crate::stamps::Stamps;
 use canvas::{Canvas, writing_law};
 use dc_stack::Clip;
 use mapping::{Colour, Mix, Rect};
-use span_fill::{Line, Outline, Region, RowBuf, Stamps, line_law};
+use span_fill::{Line, Outline, Region, RowBuf, line_law};
 
 /// Paints the pixels of an outline's lines, which lie in a box, in the colour of a paint of one colour: by marks of the pixels that the
 /// box has of the rows held, where there are few enough and nothing is cut out of them, and else row by row.
@@ -64,7 +65,10 @@ fn begin_stamps(stamps: &mut Stamps, clip: &Clip, drawn: Region) -> bool
     ensures region { IsTrue result → stamps.new.region ≡ drawn }
     ensures none { IsTrue result → (x y : ℕ) → is_taken stamps.new x y ≡ false }
 {
-    clip.cut_boxes().is_empty() && stamps.begin(drawn)
+    if !clip.cut_boxes().is_empty() {
+        return false;
+    }
+    stamps.begin(drawn)
 }
 
 /// Takes and mixes the pixels that a box has of an outline's lines, of those that aren't taken yet.
@@ -101,7 +105,7 @@ fn stamp_line(
 {
     writing_law();
     line_law();
-    if line.from == line.to {
+    if is_point(line) {
         return;
     }
     let mut steps = stamps.steps(line);
@@ -110,4 +114,12 @@ fn stamp_line(
             mix_pixel(canvas, pixel, mix, constant);
         }
     }
+}
+
+/// Whether a line ends where it begins, and so has no pixel.
+fn is_point(line: Line) -> bool
+    ensures x { IsTrue result → line.from.x ≡ line.to.x }
+    ensures y { IsTrue result → line.from.y ≡ line.to.y }
+{
+    line.from.x == line.to.x && line.from.y == line.to.y
 }

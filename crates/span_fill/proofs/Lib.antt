@@ -25,4 +25,3 @@ pub mod StrokingLemmas
 pub mod StripStart
 pub mod RowLawLemmas
 pub mod LineBoxLemmas
-pub mod StampLemmas

@@ -10,8 +10,6 @@ pub mod Courses
 pub mod Clips
 pub mod Steps
 pub mod StepsInside
-pub mod Stamps
-pub mod StampsInside
 pub mod Cuts
 pub mod Slants
 pub mod Strips

@@ -10,7 +10,6 @@
 //!   (`RowBuf::crossings`, by `crossings_of`).
 //! - Within its room a row buffer wants no memory, and after a refusal it is what it was (`RowBuf::reserve`).
 //! - A line's pixels within a region are given in order, each once, and no other (`LineSteps::new`, `LineSteps::next`).
-//! - Of a box with at most 262,144 pixels each is taken once: a take tells whether it is the first (`Stamps::begin`, `Stamps::take`).
 //! - A line has one pixel for each step along its longer axis (`line_law`).
 //! - Above and below the rows in which lines lie there is nothing of them (`row_law`), and all their pixels lie in each box that
 //!   has the lines (`line_box_law`).
@@ -42,7 +41,6 @@ mod row_error;
 mod row_spans;
 mod slant;
 mod span;
-mod stamps;
 mod steps;
 mod strip;
 mod stroke_rows;
@@ -59,5 +57,4 @@ pub use pixel::Pixel;
 pub use row_buf::RowBuf;
 pub use row_error::OutOfMemory;
 pub use span::{Region, Span};
-pub use stamps::Stamps;
 pub use steps::LineSteps;

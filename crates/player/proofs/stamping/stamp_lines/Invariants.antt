@@ -2,7 +2,7 @@ use Rattle.std.proofs.Common.{◌≡◌, ℕ, ◌&&◌, ◌||◌, length}
 use Rattle.mapping.specs.Mixes.{mixed_by}
 use Rattle.canvas.specs.WritingLaws.{IsWhole}
 use Rattle.span_fill.specs.Spans.{in_region}
-use Rattle.span_fill.specs.Stamps.{is_taken}
+use Rattle.player.specs.Stamps.{is_taken}
 use Rattle.span_fill.specs.Strokes.{in_stroke}
 use Rattle.player.specs.Stamping.{WritesTaken}
 use Rattle.player.proofs.stamping.stamp_lines.Given as goal

@@ -3,19 +3,17 @@
 ghost use Rattle.std.specs.Prelude.{◌≡◌, ◌+◌, ◌*◌, ◌<◌, ◌≤◌, ◌^◌, ◌||◌, ◌==◌, ℕ, IsTrue, IsFalse, false, not, nat_le};
 ghost use Rattle.span_fill.specs.Lines.{HasNearEnds};
 ghost use Rattle.span_fill.specs.Spans.{in_region};
-ghost use Rattle.span_fill.specs.Stamps.{has_bit, is_pixel, is_taken, pixel_count, pixel_number, span_width, stamp_limit};
+ghost use Rattle.player.specs.Stamps.{has_bit, is_pixel, is_taken, pixel_count, pixel_number, span_width, stamp_limit};
 ghost use Rattle.span_fill.specs.Steps.{HasAllSteps};
 
-use crate::line::Line;
-use crate::span::{Region, Span};
-use crate::steps::LineSteps;
+use span_fill::{Line, LineSteps, Region, Span};
 use std::marker::Model;
 
 /// How many words the marks have, each of 64 bits.
-const WORDS: usize = 4096;
+const WORDS: usize = 16_384;
 
 /// The most pixels of a box.
-const MAX_PIXELS: usize = 262_144;
+const MAX_PIXELS: usize = 1_048_576;
 
 /// Marks for the pixels of a box, one bit each, which is set when the pixel is taken.
 ///
@@ -23,18 +21,18 @@ const MAX_PIXELS: usize = 262_144;
 ///
 /// - No call wants memory.
 #[derive(Drop)]
-pub struct Stamps {
+pub(crate) struct Stamps {
     /// The marks, row by row, and behind them what earlier boxes left.
     words: [u64; WORDS],
     region: Region,
 }
 
 impl Model for Stamps {
-    ghost use Rattle.span_fill.specs.Stamps.{StampState};
+    ghost use Rattle.player.specs.Stamps.{StampState};
 
     ghost Value = { StampState };
 
-    ghost use Rattle.span_fill.specs.StampsInside.{HasStamps, stamp_state};
+    ghost use Rattle.player.specs.StampsInside.{HasStamps, stamp_state};
 
     ghost view = { stamp_state };
 
@@ -43,7 +41,7 @@ impl Model for Stamps {
 
 impl Stamps {
     /// The marks of a box without pixels.
-    pub fn new() -> Stamps
+    pub(crate) fn new() -> Stamps
         ensures { pixel_count result.region ≡ 0 }
     {
         let none = Span { from: 0, to: 0 };
@@ -56,9 +54,9 @@ impl Stamps {
         }
     }
 
-    /// Begins with a box of which no pixel is taken, if it has at most 262,144 pixels: tells whether it has. Else the marks stay what
+    /// Begins with a box of which no pixel is taken, if it has at most 1,048,576 pixels: tells whether it has. Else the marks stay what
     /// they are.
-    pub fn begin(&mut self, region: Region) -> bool
+    pub(crate) fn begin(&mut self, region: Region) -> bool
         requires columns { region.columns.to ≤ 8192 }
         requires rows { region.rows.to ≤ 8192 }
         ensures begun { result ≡ nat_le (pixel_count region) stamp_limit }
@@ -76,7 +74,7 @@ impl Stamps {
     }
 
     /// The pixels that the box has of a line, a step at a time.
-    pub fn steps(&self, line: Line) -> LineSteps
+    pub(crate) fn steps(&self, line: Line) -> LineSteps
         requires { HasNearEnds line }
         ensures line { result.line ≡ line }
         ensures region { result.region ≡ self.now.region }
@@ -86,7 +84,7 @@ impl Stamps {
     }
 
     /// Takes a pixel of the box, and tells whether it wasn't taken before.
-    pub fn take(&mut self, x: u32, y: u32) -> bool
+    pub(crate) fn take(&mut self, x: u32, y: u32) -> bool
         requires { IsTrue (in_region self.old.region x y) }
         ensures first { result ≡ not (is_taken self.old x y) }
         ensures taken { (column row : ℕ) → is_taken self.new column row ≡ (is_taken self.old column row || is_pixel x y column row) }

@@ -12,7 +12,7 @@ pub record StampState : Type 0 where
 
 -- the most pixels of a box
 abbrev pub stamp_limit : ℕ
-stamp_limit = 262144
+stamp_limit = 1048576
 
 -- how many numbers a span has
 abbrev pub span_width : Span → ℕ

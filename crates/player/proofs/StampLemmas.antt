@@ -7,12 +7,12 @@ use Rattle.std.proofs.lemmas.List.{get_or-set_other, get_or-set_same}
 use Rattle.std.proofs.lemmas.Nat.{div-add-mod', div-mul-add, mod-mul-add, mul-add-lt, mod_below}
 use Rattle.std.proofs.lemmas.Nat.Bits.{bit_at_set_other, bit_at_set_same}
 use Rattle.span_fill.specs.Spans.{in_region, in_span}
-use Rattle.span_fill.specs.Stamps.{StampState, has_bit, is_pixel, is_taken, pixel_count, pixel_number, span_width, stamp_limit}
+use Rattle.player.specs.Stamps.{StampState, has_bit, is_pixel, is_taken, pixel_count, pixel_number, span_width, stamp_limit}
 use Rattle.span_fill.specs.declared.span.Region.{Region}
 use Rattle.span_fill.specs.declared.span.Span.{Span}
 
 -- the word of a bit
-pub word_within : (n : ℕ) → n < stamp_limit → n / 64 < 4096
+pub word_within : (n : ℕ) → n < stamp_limit → n / 64 < 16384
 word_within n h = omega (arith, h)
 
 -- a word in which a bit is set
@@ -47,7 +47,7 @@ or_true false = refl
 same_number : (a b : ℕ) → a / 64 ≡ b / 64 → a % 64 ≡ b % 64 → a ≡ b
 same_number a b h k = sym (div-add-mod' a 64) ∙ rw (h, k) (div-add-mod' b 64)
 
-module _ (words : List ℕ) (n : ℕ) (long : length words ≡ 4096) (within : n < stamp_limit) where
+module _ (words : List ℕ) (n : ℕ) (long : length words ≡ 16384) (within : n < stamp_limit) where
   inside : n / 64 < length words
   inside = rw long (word_within n within)
 

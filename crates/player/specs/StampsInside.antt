@@ -1,7 +1,7 @@
 -- What is true of the fields of marks.
 use Rattle.std.specs.Prelude.{◌≤◌}
-use Rattle.span_fill.specs.Stamps.{StampState, pixel_count, stamp_limit}
-use Rattle.span_fill.specs.declared.stamps.Stamps.TheInside.{Inside}
+use Rattle.player.specs.Stamps.{StampState, pixel_count, stamp_limit}
+use Rattle.player.specs.declared.stamps.Stamps.TheInside.{Inside}
 
 -- what callers see of the fields
 abbrev pub stamp_state : Inside → StampState

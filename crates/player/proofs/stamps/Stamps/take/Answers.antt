@@ -1,7 +1,7 @@
 use Rattle.std.proofs.Common.{◌≡◌, ◌||◌, ◌==◌, ℕ, ap, sym, ◌∙◌}
-use Rattle.span_fill.specs.Stamps.{has_bit}
-use Rattle.span_fill.proofs.StampLemmas.{is_taken_by}
-use Rattle.span_fill.proofs.stamps.Stamps.take.Goals as goal
+use Rattle.player.specs.Stamps.{has_bit}
+use Rattle.player.proofs.StampLemmas.{is_taken_by}
+use Rattle.player.proofs.stamps.Stamps.take.Goals as goal
 
 pub returns-clause-taken : goal.returns-clause-taken
 returns-clause-taken c =

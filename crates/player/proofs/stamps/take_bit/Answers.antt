@@ -1,5 +1,5 @@
-use Rattle.span_fill.proofs.StampLemmas.{bit_is_set, word_within}
-use Rattle.span_fill.proofs.stamps.take_bit.Goals as goal
+use Rattle.player.proofs.StampLemmas.{bit_is_set, word_within}
+use Rattle.player.proofs.stamps.take_bit.Goals as goal
 
 pub bounds-words-at : goal.bounds-words-at
 bounds-words-at c = word_within c.args.number c.requires
