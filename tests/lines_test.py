@@ -215,18 +215,19 @@ class Lists(ShapeTest):
 
 
 class Marks(ShapeTest):
-    """Strokes whose box has as many pixels as are marked at most, 512 by 512, and a column or a row more."""
+    """Strokes whose pixels are marked as they are written."""
 
     @for_each_program
-    def test_a_pixel_of_several_lines_is_turned_once_in_boxes_of_any_size(self, program):
-        file = {"frame": 600, "surface": (600, 600)}
-        for right, bottom in (511, 511), (512, 511), (511, 512):
+    def test_a_pixel_of_several_lines_is_turned_once_in_a_large_box(self, program):
+        side = 1025
+        file = {"frame": side, "surface": (side, side)}
+        for right, bottom in (1023, 1023), (1024, 1023), (1023, 1024):
             sides = f"0 0 {right} 0 {right} {bottom} 0 {bottom} 0 0"
             turned = {(x, y) for x in range(right + 1) for y in range(bottom + 1) if x in (0, right) or y in (0, bottom)}
-            # The line across begins on the others, and its last pixel isn't its own.
-            turned |= {(at, at) for at in range(511)}
+            # The line across begins on the others, and ends before its last point, which the corner has where it is one.
+            turned |= {(at, at) for at in range(1023)}
             for form in FORMS:
-                self.check(program, form, f"{INVERT}; polyline {sides} 511 511", shown(dict.fromkeys(turned, BLACK), 600, 600), **file)
+                self.check(program, form, f"{INVERT}; polyline {sides} 1023 1023", shown(dict.fromkeys(turned, BLACK), side, side), **file)
 
     @for_each_program
     def test_marks_of_the_stroke_before_are_gone(self, program):

@@ -6,8 +6,9 @@ use Rattle.std.proofs.lemmas.Bool.Decides.{eqb_tells}
 use Rattle.std.proofs.lemmas.List.{get_or-set_other, get_or-set_same}
 use Rattle.std.proofs.lemmas.Nat.{div-add-mod', div-mul-add, mod-mul-add, mul-add-lt, mod_below}
 use Rattle.std.proofs.lemmas.Nat.Bits.{bit_at_set_other, bit_at_set_same}
+use Rattle.canvas.specs.Writing.{is_at}
 use Rattle.span_fill.specs.Spans.{in_region, in_span}
-use Rattle.player.specs.Stamps.{StampState, has_bit, is_pixel, is_taken, pixel_count, pixel_number, span_width, stamp_limit}
+use Rattle.player.specs.Stamps.{StampState, has_bit, is_taken, pixel_count, pixel_number, span_width, stamp_limit}
 use Rattle.span_fill.specs.declared.span.Region.{Region}
 use Rattle.span_fill.specs.declared.span.Span.{Span}
 
@@ -154,7 +155,7 @@ module _ (region : Region) (words new : List ℕ) (x y : ℕ) (inside : IsTrue (
   same_bool true false f g = sym (f refl)
   same_bool false true f g = g refl
 
-  numbered : (a b : ℕ) → IsTrue (in_region region a b) → (pixel_number region a b == pixel_number region x y) ≡ is_pixel x y a b
+  numbered : (a b : ℕ) → IsTrue (in_region region a b) → (pixel_number region a b == pixel_number region x y) ≡ is_at x y a b
   numbered a b there = same_bool _ _
       (λ e.
       let same = equal_from _ _ e in
@@ -173,7 +174,7 @@ module _ (region : Region) (words new : List ℕ) (x y : ℕ) (inside : IsTrue (
       equal_to : (p q : ℕ) → p ≡ q → (p == q) ≡ true
       equal_to p q h = grind (arith)
 
-  no_pixel : (a b : ℕ) → in_region region a b ≡ false → is_pixel x y a b ≡ false
+  no_pixel : (a b : ℕ) → in_region region a b ≡ false → is_at x y a b ≡ false
   no_pixel a b outside = same_bool _ _
       (λ e.
       let parts = and_parts (a == x) (b == y) e in
@@ -188,11 +189,11 @@ module _ (region : Region) (words new : List ℕ) (x y : ℕ) (inside : IsTrue (
       clash : false ≡ true → ⊥
       clash e = cc
 
-  taken_by : (a b : ℕ) (within : Bool) → in_region region a b ≡ within → is_taken after a b ≡ (is_taken before a b || is_pixel x y a b)
+  taken_by : (a b : ℕ) (within : Bool) → in_region region a b ≡ within → is_taken after a b ≡ (is_taken before a b || is_at x y a b)
   taken_by a b true e = rw e (bits (pixel_number region a b) ∙ ap (λ t. has_bit words (pixel_number region a b) || t) (numbered a b e))
   taken_by a b false e = rw e (sym (no_pixel a b e))
 
-  pub is_taken_by : (a b : ℕ) → is_taken after a b ≡ (is_taken before a b || is_pixel x y a b)
+  pub is_taken_by : (a b : ℕ) → is_taken after a b ≡ (is_taken before a b || is_at x y a b)
   is_taken_by a b = taken_by a b (in_region region a b) refl
 
 -- where no bit is set, no pixel is taken

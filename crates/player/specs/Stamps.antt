@@ -22,10 +22,6 @@ span_width span = span.to - span.from
 abbrev pub pixel_count : Region → ℕ
 pixel_count region = span_width region.columns * span_width region.rows
 
--- (column, row) is this pixel
-abbrev pub is_pixel : ℕ → ℕ → ℕ → ℕ → Bool
-is_pixel x y column row = column == x && row == y
-
 -- the pixels of a box are numbered row by row
 abbrev pub pixel_number : Region → ℕ → ℕ → ℕ
 pixel_number region x y = (y - region.rows.from) * span_width region.columns + (x - region.columns.from)

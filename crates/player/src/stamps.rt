@@ -1,10 +1,11 @@
 //! Marks for the pixels of a box: which of them were taken.
 
-ghost use Rattle.std.specs.Prelude.{◌≡◌, ◌+◌, ◌*◌, ◌<◌, ◌≤◌, ◌^◌, ◌||◌, ◌==◌, ℕ, IsTrue, IsFalse, false, not, nat_le};
+ghost use Rattle.std.specs.Prelude.{◌≡◌, ◌<◌, ◌≤◌, ◌||◌, ◌==◌, ℕ, IsTrue, IsFalse, false, not, nat_le};
+ghost use Rattle.canvas.specs.Writing.{is_at};
 ghost use Rattle.span_fill.specs.Lines.{HasNearEnds};
 ghost use Rattle.span_fill.specs.Spans.{in_region};
-ghost use Rattle.player.specs.Stamps.{has_bit, is_pixel, is_taken, pixel_count, pixel_number, span_width, stamp_limit};
 ghost use Rattle.span_fill.specs.Steps.{HasAllSteps};
+ghost use Rattle.player.specs.Stamps.{has_bit, is_taken, pixel_count, pixel_number, span_width, stamp_limit};
 
 use span_fill::{Line, LineSteps, Region, Span};
 use std::marker::Model;
@@ -87,7 +88,7 @@ impl Stamps {
     pub(crate) fn take(&mut self, x: u32, y: u32) -> bool
         requires { IsTrue (in_region self.old.region x y) }
         ensures first { result ≡ not (is_taken self.old x y) }
-        ensures taken { (column row : ℕ) → is_taken self.new column row ≡ (is_taken self.old column row || is_pixel x y column row) }
+        ensures taken { (column row : ℕ) → is_taken self.new column row ≡ (is_taken self.old column row || is_at x y column row) }
         ensures region { self.new.region ≡ self.old.region }
     {
         let number = number_in(self.region, x, y);

@@ -18,8 +18,8 @@ returns-then-begin_stamps-clause-pixels g c =
     let begun = c.begin_stamps in
     let paint = c.args.paint.now in
     stroke_written paint c.args.colour c.requires.pen (g.O.Outline.lines c.args.outline) c.args.bounds c.requires.within c.args.canvas.now c.writing_law.ensures shown.ensures.whole shown.result drawn.result shown.ensures.kept drawn.ensures.has_columns drawn.ensures.has_rows (begun.ensures.uncut c.if-begin_stamps.true)
-    (λ (x y : ℕ) (old : Colour). mixed_by c.mix.result old) begun.new.stamps c.stamp_lines.new.stamps c.stamp_lines.new.canvas (begun.ensures.region c.if-begin_stamps.true) (begun.ensures.none c.if-begin_stamps.true) c.stamp_lines.ensures.taken
-    (λ x y old. rw (c.requires.pen.brush, c.requires.pen.alone) (c.mix.ensures old))
+    (λ (x y : ℕ) (old : Colour). mixed_by c.mix-mix.result old) begun.new.stamps c.stamp_lines.new.stamps c.stamp_lines.new.canvas (begun.ensures.region c.if-begin_stamps.true) (begun.ensures.none c.if-begin_stamps.true) c.stamp_lines.ensures.taken
+    (λ x y old. rw (c.requires.pen.brush, c.requires.pen.alone) (c.mix-mix.ensures old))
     c.stamp_lines.ensures.written
 
 pub returns-then-begin_stamps-clause-few : goal.returns-then-begin_stamps-clause-few
