@@ -20,6 +20,7 @@ use crate::list_lines::Ends;
 use crate::parts::{Part, paint_part, rule_of};
 use crate::rectangles::rectangle_box;
 use crate::regions::{landed_box, misses_rows, whole_law};
+use crate::stamping::stroke_figures;
 use crate::stroking::{stroke_box, stroke_line};
 use canvas::{Canvas, writing_law};
 use dc_stack::{Draw, Machine, Mark, Painting};
@@ -186,7 +187,7 @@ fn stroke_outline<'a, T: Table<'a>>(
             };
             let outline = FigureOutline::new(points, ends, machine);
             let landed = landed_box(place, drawn.bounds);
-            paint_part(canvas, rows, outline, Part::Lines, landed, &paint, room);
+            stroke_figures(canvas, rows, outline, landed, &paint, colour, room);
         }
         Mark::Rectangle {
             first,

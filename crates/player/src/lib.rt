@@ -45,6 +45,8 @@ mod regions;
 mod room;
 mod row_ink;
 mod source_rows;
+mod stamping;
+mod stamps;
 mod strips;
 mod stroking;
 mod survey;
