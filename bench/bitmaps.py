@@ -43,9 +43,9 @@ def noise(side, depth, top_down=False):
     return str(Bitmap(info, chance.randbytes((side * depth + 31) // 32 * 4 * side)))
 
 
-def whole(depth, box=(0, 0, FRAME, FRAME), top_down=False, side=1024):
+def whole(depth, box=(0, 0, FRAME, FRAME), top_down=False, side=1024, form=WMF):
     """A bitmap on the whole surface."""
-    return lambda: [WMF.step("stretch_dib", SRCCOPY, *box, 0, 0, side, side, noise(side, depth, top_down))]
+    return lambda: [form.step("stretch_dib", SRCCOPY, *box, 0, 0, side, side, noise(side, depth, top_down))]
 
 
 def brushed(form, brush):

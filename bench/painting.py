@@ -176,10 +176,10 @@ class Differences:
         self.each("a raster operation's pixel", "operation 7, wide", "operation 7, narrow", 1.5)
         beside = {"beside": pixel, "beside_name": "a lone line's"}
         self.each("a pixel of a line in a stroke of several", "strokes, whole", "strokes, part", None, **beside)
-        for shape, less in [("lines", pixel), ("rectangles", 0), ("triangles", 0)]:
+        for shape, less, goal in [("lines", pixel, 60), ("rectangles", 0, 60), ("triangles", 0, 150)]:
             all_of, half = (f"{shape} of a pixel, {part}" for part in ("all", "half"))
             _, count = self.apart(all_of, half)
-            self.each(f"a record of {shape} beside its pixel", all_of, half, 60, less * count)
+            self.each(f"a record of {shape} beside its pixel", all_of, half, goal, less * count)
         return self.rows
 
     def spans(self):

@@ -1,7 +1,8 @@
-"""Files of many shapes, at 1,024 and at 4,096 pixels a side, beside an empty picture of that size; on maps that scale, as files of EMF
-mostly have them, beside the same places on one that doesn't; and lines by lists of two points beside those by moves. Their goals are for
-a quiet machine of 2.5 GHz."""
+"""Files of many shapes, at 1,024 and at 4,096 pixels a side, beside an empty picture of that size; polylines on maps that scale, as files of
+EMF mostly have them, beside the same places on one that doesn't; and lines by lists of two points beside those by moves. Their goals are for
+a quiet machine of 2.5 GHz. The shapes of work.py are made here, too."""
 
+import math
 import random
 from collections.abc import Callable
 from typing import NamedTuple
@@ -38,8 +39,10 @@ def pens_and_brushes(chance, *names, form=WMF):
 
 
 def map_of(form, page):
-    """Records by which the page has so many units on each side of the frame."""
-    return form.records(f"map_mode 8; window_extent {page} {page}; viewport_extent {FRAME} {FRAME}")
+    """Records by which the page has so many units on each side of the frame. A WMF has the frame as its viewport from the start, and a player
+    of Windows the whole surface, so it sets none."""
+    viewport = f"; viewport_extent {FRAME} {FRAME}" if form is EMF else ""
+    return form.records(f"map_mode 8; window_extent {page} {page}{viewport}")
 
 
 def on_page(places, page):
@@ -74,33 +77,33 @@ def polylines(form, page):
         yield form.step("polyline", *on_page(near_places(chance, 100), page))
 
 
-def any_lines(as_lists=False):
+def any_lines(form=WMF, page=FRAME, as_lists=False):
     """50,000 lines of any slope between any two places, by turns with each of sixteen pens, by moves or as lists of two points."""
     chance = random.Random(2)
-    yield from pens_and_brushes(chance, "solid_pen")
+    yield from pens_and_brushes(chance, "solid_pen", form=form)
     for number in range(50_000):
         if number % 64 == 0:
-            yield WMF.step("select", number // 64 % 16)
-        start, end = place_in(chance, 0, 0, FRAME), place_in(chance, 0, 0, FRAME)
-        yield WMF.step("polyline", *start, *end) if as_lists else WMF.step("move", *start) + WMF.step("line", *end)
+            yield form.step("select", number // 64 % 16)
+        start, end = (on_page([place_in(chance, 0, 0, FRAME)], page) for _ in range(2))
+        yield form.step("polyline", *start, *end) if as_lists else form.step("move", *start) + form.step("line", *end)
 
 
-def any_rectangle(chance):
+def any_rectangle(chance, form=WMF, page=FRAME):
     """A rectangle with sides up to a third of the frame's."""
     width, height = (chance.randrange(1, FRAME // 3 + 1) for _ in range(2))
     left, top = chance.randrange(FRAME - width), chance.randrange(FRAME - height)
-    return WMF.step("rectangle", left, top, left + width, top + height)
+    return form.step("rectangle", *on_page([(left, top), (left + width, top + height)], page))
 
 
-def hatched_rectangles():
+def hatched_rectangles(form=WMF, page=FRAME):
     """2,000 rectangles without an outline, with each hatch by turns, in both background modes."""
     chance = random.Random(3)
-    yield from WMF.records("null_pen 0; select 0")
+    yield from form.records("null_pen 0; select 0")
     for hatch in range(6):
-        yield WMF.step("hatched_brush", 1 + hatch, hatch, chance.getrandbits(24))
+        yield form.step("hatched_brush", 1 + hatch, hatch, chance.getrandbits(24))
     for number in range(2_000):
-        yield WMF.step("back_mode", TRANSPARENT if number % 2 else OPAQUE) + WMF.step("select", 1 + number // 2 % 6)
-        yield any_rectangle(chance)
+        yield form.step("back_mode", TRANSPARENT if number % 2 else OPAQUE) + form.step("select", 1 + number // 2 % 6)
+        yield any_rectangle(chance, form, page)
 
 
 def mixed_rectangles():
@@ -119,14 +122,24 @@ def corners(side):
     return [place_in(chance, 0, 0, side) for _ in range(4_000)]
 
 
-def filled(mode):
+def filled(mode, form=WMF):
     """Records by which polygons have no outline, and a fill mode."""
-    return WMF.records(f"null_pen 0; select 0; solid_brush 1 0x206040; select 1; fill_mode {mode}")
+    return form.records(f"null_pen 0; select 0; solid_brush 1 0x206040; select 1; fill_mode {mode}")
 
 
 def large_polygon(mode):
     """One polygon of 4,000 edges between any places."""
     return [*filled(mode), WMF.step("polygon", *sum(corners(FRAME), ()))]
+
+
+def spiked_polygon(form=WMF, page=FRAME):
+    """One polygon of 4,000 edges round the middle of the frame, each corner at any distance from it between a quarter and half of a side."""
+    chance = random.Random(7)
+    places = []
+    for number in range(4_000):
+        far, angle = chance.randrange(FRAME // 4, FRAME // 2), math.tau * number / 4_000
+        places.append((FRAME // 2 + round(far * math.cos(angle)), FRAME // 2 + round(far * math.sin(angle))))
+    return [*filled(ALTERNATE, form), form.step("polygon", *on_page(places, page))]
 
 
 EMPTY, LINES = "an empty picture", "50,000 lines of any slope"
@@ -142,19 +155,16 @@ class Work(NamedTuple):
 
 
 def mapped_work(form):
-    """Shapes of a format on a map that scales, beside the same places on one that doesn't."""
-    for what, records in (("10,000 polylines of 100 points", polylines), ("10,000 polygons", small_polygons)):
-        plain = f"{form.name}: {what}, one to one"
-        for name, page, beside in ((plain, FRAME, EMPTY), (f"{form.name}: {what}, on a map that scales", PAGE, plain)):
-            made = lambda records=records, page=page: [*map_of(form, page), *records(form, page)]  # noqa: E731
-            yield name, Work(made, form=form, beside=beside)
+    """Polylines of a format on a map that scales, beside the same places on one that doesn't."""
+    what = f"{form.name}: 10,000 polylines of 100 points"
+    plain = f"{what}, one to one"
+    for name, page, beside in ((plain, FRAME, EMPTY), (f"{what}, on a map that scales", PAGE, plain)):
+        yield name, Work(lambda page=page: [*map_of(form, page), *polylines(form, page)], form=form, beside=beside)
 
 
 WORK = {
-    "10,000 polygons of 3 to 8 corners": Work(small_polygons, (0.35, 1.4)),
-    LINES: Work(any_lines, (0.15, 2.0)),
+    LINES: Work(any_lines),
     "50,000 lines as lists of two points": Work(lambda: any_lines(as_lists=True), beside=LINES),
-    "2,000 hatched rectangles": Work(hatched_rectangles, (0.04, 0.5)),
     "a polygon of 4,000 edges, ALTERNATE": Work(lambda: large_polygon(ALTERNATE), (0.03, 0.15)),
     "a polygon of 4,000 edges, WINDING": Work(lambda: large_polygon(WINDING), (0.03, 0.15)),
     "2,000 rectangles under R2_XORPEN": Work(mixed_rectangles),
