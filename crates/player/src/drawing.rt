@@ -20,7 +20,6 @@ use crate::list_lines::Ends;
 use crate::parts::{Part, paint_part, rule_of};
 use crate::rectangles::rectangle_box;
 use crate::regions::{landed_box, misses_rows, whole_law};
-use crate::stamping::stroke_figures;
 use crate::stroking::{stroke_box, stroke_line};
 use canvas::{Canvas, writing_law};
 use dc_stack::{Draw, Machine, Mark, Painting};
@@ -187,7 +186,7 @@ fn stroke_outline<'a, T: Table<'a>>(
             };
             let outline = FigureOutline::new(points, ends, machine);
             let landed = landed_box(place, drawn.bounds);
-            stroke_figures(canvas, rows, outline, landed, &paint, colour, room);
+            paint_part(canvas, rows, outline, Part::Lines, landed, &paint, room);
         }
         Mark::Rectangle {
             first,

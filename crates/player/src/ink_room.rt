@@ -1,6 +1,5 @@
 //! Room for what becomes of the pixels of a row.
 
-use crate::stamps::Stamps;
 use mapping::Colour;
 
 /// The colour that stands for what isn't looked at.
@@ -14,7 +13,6 @@ pub(crate) const MAX_SIDE: usize = 8192;
 pub(crate) struct InkRoom {
     pub(crate) sources: [Colour; MAX_SIDE],
     pub(crate) mixes: MixRoom,
-    pub(crate) stamps: Stamps,
 }
 
 /// Room for what becomes of the pixels of a row, each at its column: the colours of a brush's picture, and what
@@ -36,7 +34,6 @@ impl InkRoom {
                 keeps: [BLACK; MAX_SIDE],
                 flips: [BLACK; MAX_SIDE],
             },
-            stamps: Stamps::new(),
         }
     }
 }

@@ -45,8 +45,6 @@ mod regions;
 mod room;
 mod row_ink;
 mod source_rows;
-mod stamping;
-mod stamps;
 mod strips;
 mod stroking;
 mod survey;

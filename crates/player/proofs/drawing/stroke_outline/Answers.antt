@@ -49,14 +49,14 @@ new-outline-requires g c =
     let few = few_to_count _ (rw c.in-Figures.is at c.requires.placed.few) in
     search (lent, land, few, rules)
 
-pub stroke_figures-requires-clause-room : goal.stroke_figures-requires-clause-room
-stroke_figures-requires-clause-room g c =
+pub paint_part-requires-clause-room : goal.paint_part-requires-clause-room
+paint_part-requires-clause-room g c =
     let room = rw c.in-Figures.is at c.requires.lines in
     let counted = lines_few c.args.machine.now.surface (figures_drawn c.args.machine.now.painted c.in-Figures.points) c.in-Some.ends (outline_left c.new-outline.result) c.new-outline.ensures in
     omega (arith, room, counted)
 
-pub stroke_figures-requires-clause-within : goal.stroke_figures-requires-clause-within
-stroke_figures-requires-clause-within g c =
+pub paint_part-requires-clause-within : goal.paint_part-requires-clause-within
+paint_part-requires-clause-within g c =
     let s = c.args.machine.now.surface in
     let ends = c.in-Some.ends in
     let figures = figures_drawn c.args.machine.now.painted c.in-Figures.points in
@@ -129,7 +129,7 @@ returns-in-Some-clause-drawn g c =
     let figures = figures_drawn c.args.machine.now.painted c.in-Figures.points in
     let asked : stroked_ends c.in-Figures.painting ≡ Some ends = search rules in
     let shape = stroked_shape ends figures in
-    let drawn = pen_drawn c.writing_law.ensures s c.args.canvas.now c.stroke_figures.new.canvas c.whole_law.ensures c.requires.held c.binary_law.ensures.same paint tools modes operation clip _ shape c.args.colour c.with-paint.ensures.brush (λ x y. ap (λ (list : List Line). in_stroke list x y) c.new-outline.ensures ∙ stroked_lines s ends figures x y) c.stroke_figures.ensures.pixels in
+    let drawn = pen_drawn c.writing_law.ensures s c.args.canvas.now c.paint_part.new.canvas c.whole_law.ensures c.requires.held c.binary_law.ensures.same paint tools modes operation clip _ shape c.args.colour c.with-paint.ensures.brush (λ x y. ap (λ (list : List Line). in_stroke list x y) c.new-outline.ensures ∙ stroked_lines s ends figures x y) c.paint_part.ensures.pixels in
     rw (c.in-Figures.is, strokes_figures c.in-Figures.painting ends figures tools asked, pen_strokes shape tools c.args.colour c.requires.pen) drawn
 
 pub returns-in-Rectangle-clause-drawn : goal.returns-in-Rectangle-clause-drawn
