@@ -9,3 +9,4 @@ pub mod WritingLawLemmas
 pub mod SpanLemmas
 pub mod CallLemmas
 pub mod CellLemmas
+pub mod EachLemmas
