@@ -30,7 +30,7 @@ OTHERS = {
     "malloc": "a call of the C library's",
     "python3": "a program",
     "realloc": "a call of the C library's",
-    "rattle-kit-13f logic dac8208d650f15bf": "a version of the toolchain",
+    "rattle-kit-13b logic dac8208d650f15bf": "a version of the toolchain",
     "rt": "a program",
     "rt plant": "a program",
     "rt version": "a program",
