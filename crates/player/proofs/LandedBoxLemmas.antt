@@ -1,15 +1,15 @@
 -- The pixels of a drawing lie in the box between where two corners of its least box land.
-use Rattle.std.proofs.Common.{◌≡◌, ℕ, ℤ, pos, negsuc, ◌+ℤ◌, ◌≤ℤ◌, ◌<ℤ◌, Bool, true, false, ◌&&◌, List, [], ◌∷◌, map, arith, refl, ap, subst, sym, ◌∙◌}
+use Rattle.std.proofs.Common.{◌≡◌, ℕ, ℤ, pos, negsuc, ◌+ℤ◌, ◌≤ℤ◌, ◌<ℤ◌, int_le, int_lt, Bool, true, false, ◌&&◌, List, [], ◌∷◌, map, arith, refl, ap, subst, sym, ◌∙◌}
 use Rattle.std.proofs.lemmas.Bool.{and_from, and_parts}
 use Rattle.std.proofs.lemmas.Int.{ints}
 use Rattle.std.proofs.lemmas.List.Elements.{All-cons, All-nil}
 use Rattle.std.specs.Int.{int_max, int_min}
 use Rattle.std.specs.List.{All, list_all}
-use Rattle.mapping.specs.Boxes.{HasPoint, IsLeastBox, IsTight, KeepsBetween, box_between, far_corner, mapped_by, near_corner}
+use Rattle.mapping.specs.Boxes.{HasPoint, IsLeastBox, IsTight, KeepsBetween, box_between, far_corner, mapped_by, near_corner, no_box}
 use Rattle.mapping.specs.BoxLaws.{BoxLaws}
 use Rattle.mapping.specs.PlaceOf.{surface_of}
 use Rattle.mapping.specs.Plane.{is_on_plane}
-use Rattle.mapping.specs.PlacingLaws.{ShowsFrame}
+use Rattle.mapping.specs.PlacingLaws.{PlacingLaws, ShowsFrame}
 use Rattle.mapping.specs.Surface.{Surface, fits_place, lands_within_limits, placed_point}
 use Rattle.mapping.specs.declared.geometry.Point.{Point}
 use Rattle.mapping.specs.declared.geometry.Rect.{Rect}
@@ -20,7 +20,7 @@ use Rattle.preflight_cert.specs.DrawingBoxLaws.{DrawingBoxLaws, IsClosedShape, R
 use Rattle.preflight_cert.specs.Rectangles.{raised}
 use Rattle.preflight_cert.specs.Shape.{Shape, in_shape}
 use Rattle.player.specs.Regions.{HasLanded}
-use Rattle.player.proofs.TestLemmas.{from_to_from}
+use Rattle.player.proofs.TestLemmas.{from_to_from, int_le-true, int_lt-true}
 
 least_low : (a b v : ℤ) → a ≤ℤ v → int_min a b ≤ℤ v
 least_low a b v h = grind (arith, ints)
@@ -48,6 +48,24 @@ reached_between s bounds x y reached =
     and_from (is_from_to (int_min near.x far.x) (int_max near.x far.x +ℤ pos 1) x) (is_from_to (int_min near.y far.y) (int_max near.y far.y +ℤ pos 1) y)
     (from_to_from _ _ x (least_low near.x far.x (pos x) pixel.left) (most_high near.x far.x (pos x) pixel.right))
     (from_to_from _ _ y (least_low near.y far.y (pos y) pixel.top) (most_high near.y far.y (pos y) pixel.bottom))
+
+between_low : (a b v : ℤ) → a ≤ℤ b → int_min a b ≤ℤ v → a ≤ℤ v
+between_low a b v h k = grind (arith, ints)
+
+between_high : (a b v : ℤ) → a ≤ℤ b → v <ℤ (int_max a b +ℤ pos 1) → v ≤ℤ b
+between_high a b v h k = grind (arith, ints)
+
+from_to_parts : (from to : ℤ) (n : ℕ) → is_from_to from to n ≡ true → (from ≤ℤ pos n) × (pos n <ℤ to)
+from_to_parts from to n h = let parts = and_parts (int_le from (pos n)) (int_lt (pos n) to) h in (int_le-true from (pos n) parts.0, int_lt-true (pos n) to parts.1)
+
+-- no box has a pixel that is around no point
+pub none_in : (x y : ℕ) → in_box no_box x y ≡ true → ⊥
+none_in x y h =
+    let parts = and_parts (is_from_to (pos 0) (negsuc 0) x) (is_from_to (pos 0) (negsuc 0) y) h in
+    let inside = from_to_parts (pos 0) (negsuc 0) x parts.0 in
+    let low = inside.0 in
+    let high = inside.1 in
+    omega (arith, ints, low, high)
 
 pub shows : (place : Place) → ShowsFrame (surface_of place)
 shows place = record { wide = place.frame.wide; high = place.frame.high }
@@ -83,6 +101,30 @@ module _ (laws : BoxLaws) (place : Place) (bounds : Rect) where
       contradicts true false e f h = cc
       contradicts false b e f h = cc
 
+-- and where a box has a point, what lies between where its corners land is reached
+pub between_reached :
+    (laws : PlacingLaws) (s : Surface) → ShowsFrame s → (bounds : Rect) → bounds.l ≤ℤ bounds.r → bounds.t ≤ℤ bounds.b
+    → (x y : ℕ) → in_box (raised Inclusive (box_between (placed_point (near_corner bounds) s) (placed_point (far_corner bounds) s))) x y ≡ true
+    → Reaches bounds s x y
+between_reached laws s shown bounds wide high x y h =
+    let near = placed_point (near_corner bounds) s in
+    let far = placed_point (far_corner bounds) s in
+    let parts = and_parts (is_from_to (int_min near.x far.x) (int_max near.x far.x +ℤ pos 1) x) (is_from_to (int_min near.y far.y) (int_max near.y far.y +ℤ pos 1) y) h in
+    let column = from_to_parts _ _ x parts.0 in
+    let row = from_to_parts _ _ y parts.1 in
+    let across = laws.keeps_order s.width s.frame_width bounds.l bounds.r shown.wide wide in
+    let down = laws.keeps_order s.height s.frame_height bounds.t bounds.b shown.high high in
+    record {
+      wide = wide;
+      high = high;
+      pixel = record {
+        left = between_low near.x far.x (pos x) across column.0;
+        top = between_low near.y far.y (pos y) down row.0;
+        right = between_high near.x far.x (pos x) across column.1;
+        bottom = between_high near.y far.y (pos y) down row.1;
+      };
+    }
+
 -- the least box of points has them
 pub has_all : (bounds : Rect) (points : List Point) → IsLeastBox bounds points → All (HasPoint bounds) points
 has_all bounds [] least = All-nil (HasPoint bounds)
@@ -97,4 +139,4 @@ shape_landed laws place s e bounds box landed points least within shape closed t
     let here : ShowsFrame s = subst ShowsFrame e (shows place) in
     let there : HasLanded s bounds box = subst (λ (r : Surface). HasLanded r bounds box) e landed in
     let all : All (HasPoint bounds) (shape_points shape) = subst (All (HasPoint bounds)) (sym told) (has_all bounds points least) in
-    there points least within x y (laws.shape shape bounds s x y here closed all h)
+    there.all points least within x y (laws.shape shape bounds s x y here closed all h)

@@ -1,6 +1,7 @@
 pub mod MixLemmas
 pub mod StripLemmas
 pub mod LineStepLemmas
+pub mod LinePixelLemmas
 pub mod TestLemmas
 pub mod WorkedRows
 mod WorkedLayers

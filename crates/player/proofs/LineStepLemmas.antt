@@ -27,7 +27,7 @@ natural (pos n) = n
 natural v = 0
 
 -- a step has one pixel
-one_pixel : OnePixelForEachStep → (line : Line) (a b c d : ℕ) → IsTrue (on_line line (pos a) (pos b)) → IsTrue (on_line line (pos c) (pos d)) → step_at line (pos a) (pos b) ≡ step_at line (pos c) (pos d) → (a ≡ c) × (b ≡ d)
+pub one_pixel : OnePixelForEachStep → (line : Line) (a b c d : ℕ) → IsTrue (on_line line (pos a) (pos b)) → IsTrue (on_line line (pos c) (pos d)) → step_at line (pos a) (pos b) ≡ step_at line (pos c) (pos d) → (a ≡ c) × (b ≡ d)
 one_pixel law line a b c d on there at =
     let step = law.each line (step_at line (pos c) (pos d)) (law.no_other line (pos c) (pos d) there) in
     let first = step.only (pos a) (pos b) on at in
@@ -47,10 +47,10 @@ or_cases : (a b : Bool) → (a || b) ≡ true → (a ≡ true) ⊎ (b ≡ true)
 or_cases true b h = inl refl
 or_cases false b h = inr h
 
-is_at_true : (x y column row : ℕ) → is_at x y column row ≡ true → (column ≡ x) × (row ≡ y)
+pub is_at_true : (x y column row : ℕ) → is_at x y column row ≡ true → (column ≡ x) × (row ≡ y)
 is_at_true x y column row h = grind (arith)
 
-is_at_from : (x y column row : ℕ) → column ≡ x → row ≡ y → is_at x y column row ≡ true
+pub is_at_from : (x y column row : ℕ) → column ≡ x → row ≡ y → is_at x y column row ≡ true
 is_at_from x y column row h k = grind (arith)
 
 module _ (law : OnePixelForEachStep) (clip : ClipValue) (line : Line) (region : Region) (k : ℕ) (pixel : Pixel) (step : IsStepPixel line region k pixel) where
@@ -138,12 +138,12 @@ module _ (law : OnePixelForEachStep) (clip : ClipValue) (line : Line) (region : 
         laws.same (is_stepped clip line region k) (is_stepped clip line region (suc k)) f f old now whole (λ x y held. none_is_taken hidden x y) (λ x y c held t. refl) so_far
 
 -- columns and rows of a region
-inside_width : (region : Region) (x y : ℕ) → IsTrue (in_region region x y) → x < region.columns.to
+pub inside_width : (region : Region) (x y : ℕ) → IsTrue (in_region region x y) → x < region.columns.to
 inside_width region x y h =
     let a = and_parts (in_span region.columns x) (in_span region.rows y) h in
     let b = and_parts (nat_le region.columns.from x) (nat_lt x region.columns.to) a.0 in nat_lt-true x region.columns.to b.1
 
-inside_height : (region : Region) (x y : ℕ) → IsTrue (in_region region x y) → (region.rows.from ≤ y) × (y < region.rows.to)
+pub inside_height : (region : Region) (x y : ℕ) → IsTrue (in_region region x y) → (region.rows.from ≤ y) × (y < region.rows.to)
 inside_height region x y h =
     let a = and_parts (in_span region.columns x) (in_span region.rows y) h in
     let b = and_parts (nat_le region.rows.from y) (nat_lt y region.rows.to) a.1 in (nat_le-true region.rows.from y b.0, nat_lt-true y region.rows.to b.1)

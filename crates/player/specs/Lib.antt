@@ -19,6 +19,7 @@ pub mod Pens
 pub mod SourceRows
 pub mod Blits
 pub mod Strips
+pub mod LinePixels
 pub mod LineSteps
 pub mod RowsPainted
 pub mod Parts

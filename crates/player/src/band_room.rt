@@ -1,6 +1,6 @@
 //! The memory that playing in bands takes, all of it before a byte is written.
 
-ghost use Rattle.std.specs.Prelude.{◌≡◌, ◌≤◌, IfOk};
+ghost use Rattle.std.specs.Prelude.{◌≡◌, ◌≤◌, min, IfOk};
 ghost use Rattle.meta_headers.specs.OpenedOf.{opened_of};
 ghost use Rattle.meta_headers.specs.Opening.{surface_for};
 ghost use Rattle.player.specs.Bands.{IsReadyToPlay};
@@ -40,6 +40,7 @@ pub(crate) fn band_room<'a>(
     ensures surface { IfOk result (λ room. room.machine.surface ≡ surface_for (opened_of cleared.now.opened) width height) }
     ensures width { IfOk result (λ room. room.canvas.width ≡ width) }
     ensures some { IfOk result (λ room. 1 ≤ room.canvas.most) }
+    ensures most { IfOk result (λ room. room.canvas.most ≡ min rows height) }
     ensures unwritten { IfOk result (λ room. room.canvas.writes ≡ 0) }
 {
     let opened = &cleared.opened;

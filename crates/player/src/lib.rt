@@ -31,6 +31,7 @@ mod drawing;
 mod figure_outline;
 mod filling;
 mod ink_room;
+mod line_pixels;
 mod line_steps;
 mod list_lines;
 mod look;

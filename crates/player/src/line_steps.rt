@@ -13,6 +13,7 @@ ghost use Rattle.span_fill.specs.Strokes.{on_line};
 ghost use Rattle.player.specs.Counts.{CountsLayer, HasRoomForLayer};
 ghost use Rattle.player.specs.LineSteps.{MayTake, is_visible};
 
+use crate::line_pixels::LinePixels;
 use crate::regions::visible;
 use canvas::{Canvas, writing_law};
 use dc_stack::Clip;
@@ -45,11 +46,8 @@ fn put_steps(canvas: &mut Canvas, steps: LineSteps, colour: Colour)
     ensures { Repaints (is_visible unclipped steps.line steps.region) (λ x y old. colour) canvas.old canvas.new }
 {
     writing_law();
-    line_law();
-    let mut steps = steps;
-    while let Some(pixel) = steps.next() {
-        canvas.put(pixel.x, pixel.y, colour);
-    }
+    let mut pixels = LinePixels { steps };
+    canvas.put_each(&mut pixels, colour);
 }
 
 /// Mixes the pixels of the steps.

@@ -15,7 +15,7 @@ use crate::rectangles::rectangle_box;
 use canvas::Canvas;
 use dc_stack::Clip;
 use draw_ops::RectangleEdges;
-use mapping::{Place, Point, Rect, box_law, floor_division_law};
+use mapping::{Place, Point, Rect, box_law, floor_division_law, placing_law};
 use span_fill::{Region, Span};
 
 /// The longest side of a surface.
@@ -92,6 +92,7 @@ pub(crate) fn landed_box(place: Place, bounds: Rect) -> Rect
     ensures { HasLanded (surface_of place) bounds result }
 {
     box_law();
+    placing_law();
     let near = place.place(Point {
         x: bounds.l,
         y: bounds.t,
