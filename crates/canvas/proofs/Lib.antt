@@ -2,10 +2,14 @@ pub mod SendingLemmas
 pub mod PieceLemmas
 pub mod BandLawLemmas
 pub mod ReadingLemmas
+pub mod RowReading
 pub mod PpmLawLemmas
 pub mod PpmBothWays
 pub mod IndexLemmas
 pub mod WritingLawLemmas
+pub mod PartLemmas
+pub mod RowLemmas
+pub mod FieldLemmas
 pub mod SpanLemmas
 pub mod CallLemmas
 pub mod CellLemmas

@@ -35,6 +35,24 @@ colours_more count more text e =
     let next : more ≡ suc count = omega (arith, e) in
     ap (λ n. colours_at n text) next ∙ one_more count text (3 * count) refl
 
+-- so many colours, and then more, are read behind the samples of the first
+pub colours_at-add : (count more : ℕ) (text : List ℕ) → colours_at (count + more) text ≡ colours_at count text ++ colours_at more (drop (3 * count) text)
+colours_at-add zero more text =
+    let all : 0 + more ≡ more = omega arith in
+    let none : 0 ≡ 3 * 0 = omega arith in
+    ap (λ n. colours_at n text) all ∙ ap (λ n. colours_at more (drop n text)) none
+colours_at-add (suc count) more text =
+    let all : suc count + more ≡ suc (count + more) = omega arith in
+    let behind : 3 + 3 * count ≡ 3 * suc count = omega arith in
+    ap (λ n. colours_at n text) all
+    ∙ ap (λ (cs : List Colour). sampled text 0 ∷ cs) (colours_at-add count more (drop 3 text))
+    ∙ ap (λ (rest : List ℕ). sampled text 0 ∷ (colours_at count (drop 3 text) ++ colours_at more rest)) (drop-drop (3 * count) 3 text ∙ ap (λ n. drop n text) behind)
+
+-- there are as many as were asked for
+pub length-colours_at : (count : ℕ) (text : List ℕ) → length (colours_at count text) ≡ count
+length-colours_at zero text = refl
+length-colours_at (suc count) text = ap suc (length-colours_at count (drop 3 text))
+
 -- a number is as far from a side, and from 255, as it is where it is told as 9,999 at most
 and_false : (b : Bool) → (b && false) ≡ false
 and_false true = refl

@@ -1,12 +1,13 @@
 -- A part of a row, changed: which pixels of the surface that is.
-use Rattle.std.proofs.Common.{◌≡◌, ℕ, ◌+◌, ◌-◌, ◌*◌, ◌/◌, ◌%◌, ◌<◌, ◌≤◌, Bool, true, false, cond, eqb, leb, ltb, ◌&&◌, List, ◌++◌, length, get_or, take, drop, refl, sym, ap, ◌∙◌, subst, inl, inr, arith}
+use Rattle.std.proofs.Common.{◌≡◌, ℕ, ◌+◌, ◌-◌, ◌*◌, ◌/◌, ◌%◌, ◌<◌, ◌≤◌, Bool, true, false, cond, eqb, leb, ltb, ◌&&◌, List, length, get_or, refl, sym, ap, ◌∙◌, subst, inl, inr, arith}
 use Rattle.std.proofs.lemmas.Bool.{both_ways, and_parts, and_from, eqb-true, leb-true, ltb-true, eq-eqb, le-leb, lt-ltb, false_from_ne_true, cases_lt, cond-false}
-use Rattle.std.proofs.lemmas.List.{same_lists, length-append, length-take-le, length-drop, get_or_append_left, get_or-append_right, get_or-take, get_or-drop}
+use Rattle.std.proofs.lemmas.List.{same_lists}
 use Rattle.std.proofs.lemmas.Nat.{div-add-mod', div-mul-add, mod-mul-add, row_fits}
 use Rattle.mapping.specs.declared.geometry.Colour.{Colour}
 use Rattle.mapping.specs.Pixels.{count_indexes, count_pixels, repainted}
 use Rattle.canvas.specs.CanvasState.{CanvasState}
 use Rattle.canvas.specs.Writing.{Repaints, in_row_span}
+use Rattle.canvas.proofs.PartLemmas.{length-with_part, part_before, part_behind, part_here, with_part}
 use Rattle.canvas.proofs.IndexLemmas.{count-append, count_none, count_same, count_shift, get_or-map_indexed, length-map_indexed}
 
 -- what it is to be in a span
@@ -101,56 +102,35 @@ module _ (width first rows y from to : ℕ) (part : IsPart width first rows y fr
     module _ (f : ℕ → ℕ → Colour → Colour) (old made : List Colour) (whole : length old ≡ rows * width) (long : length made ≡ to - from) where
       -- the list of colours with the part's in place of what was there
       abbrev put : List Colour
-      put = take start old ++ (made ++ drop (start + (to - from)) old)
+      put = with_part start made old
 
-      length-front : length (take start old) ≡ start
-      length-front = let within = fits in length-take-le start old (omega arith)
-
-      length-put : length put ≡ length old
-      length-put =
-          let within = fits in
-          simp (length-append, length-drop) (omega (arith, length-front))
-
-      put_before : (k : ℕ) (d : Colour) → k < start → get_or put k d ≡ get_or old k d
-      put_before k d h = get_or_append_left (take start old) _ d k (omega (arith, length-front)) ∙ get_or-take start old k d h
-
-      put_behind : (k : ℕ) (d : Colour) → start ≤ k → get_or put k d ≡ get_or (made ++ drop (start + (to - from)) old) (k - start) d
-      put_behind k d h = get_or-append_right (take start old) _ start k d length-front h
-
-      put_here : (k : ℕ) (d : Colour) → k < to - from → get_or put (start + k) d ≡ get_or made k d
-      put_here k d h =
-          let e : start + k - start ≡ k = omega arith in
-          put_behind (start + k) d (omega arith) ∙ ap (λ (i : ℕ). get_or (made ++ drop (start + (to - from)) old) i d) e ∙ get_or_append_left made _ d k (omega arith)
-
-      put_after : (k : ℕ) (d : Colour) → start + (to - from) ≤ k → get_or put k d ≡ get_or old k d
-      put_after k d h =
-          let e : start + (to - from) + (k - start - (to - from)) ≡ k = omega arith in
-          put_behind k d (omega arith)
-          ∙ get_or-append_right made _ (to - from) (k - start) d long (omega arith)
-          ∙ get_or-drop (start + (to - from)) old (k - start - (to - from)) d
-          ∙ ap (λ (i : ℕ). get_or old i d) e
+      within_list : start + length made ≤ length old
+      within_list = let within = fits in omega arith
 
       module _ (each : (k : ℕ) (d : Colour) → k < to - from → get_or made k d ≡ cond (t (from + k) y) (f (from + k) y (get_or old (start + k) d)) (get_or old (start + k) d)) where
         -- each colour is what the repainted list has
         put_within : (k : ℕ) (d : Colour) → k < to - from → get_or put (start + k) d ≡ changed f (start + k) (get_or old (start + k) d)
-        put_within k d h = put_here k d h ∙ each k d h ∙ sym (changed_of f k (get_or old (start + k) d) h)
+        put_within k d h =
+            let e : start + k - start ≡ k = omega arith in
+            part_here start made old within_list (start + k) d (omega arith) (omega arith)
+            ∙ ap (λ (i : ℕ). get_or made i d) e ∙ each k d h ∙ sym (changed_of f k (get_or old (start + k) d) h)
 
         put_each : (k : ℕ) (d : Colour) → get_or put k d ≡ changed f k (get_or old k d)
         put_each k d = elim (cases_lt k start) [
-          | inl a ↦ put_before k d a ∙ sym (cond-false (at k) _ (get_or old k d) (fails k (λ b c. omega arith)))
+          | inl a ↦ part_before start made old within_list k d a ∙ sym (cond-false (at k) _ (get_or old k d) (fails k (λ b c. omega arith)))
           | inr a ↦ elim (cases_lt k (start + (to - from))) [
             | inl b ↦
                 let e : start + (k - start) ≡ k = omega arith in
                 subst (λ (i : ℕ). get_or put i d ≡ changed f i (get_or old i d)) e (put_within (k - start) d (omega arith))
-            | inr b ↦ put_after k d b ∙ sym (cond-false (at k) _ (get_or old k d) (fails k (λ c e. omega arith)))
+            | inr b ↦ part_behind start made old within_list k d (omega arith) ∙ sym (cond-false (at k) _ (get_or old k d) (fails k (λ c e. omega arith)))
           ]
         ]
 
         pub part_repainted : put ≡ repainted t f width first old
         part_repainted =
-            same_lists put _ (length-put ∙ sym (length-map_indexed (changed f) 0 old)) (λ k d h.
+            same_lists put _ (length-with_part start made old within_list ∙ sym (length-map_indexed (changed f) 0 old)) (λ k d h.
             let e : 0 + k ≡ k = omega arith in
-            put_each k d ∙ sym (get_or-map_indexed (changed f) 0 old k d (omega (arith, length-put, h)) ∙ ap (λ (i : ℕ). changed f i (get_or old k d)) e))
+            put_each k d ∙ sym (get_or-map_indexed (changed f) 0 old k d (omega (arith, length-with_part start made old within_list, h)) ∙ ap (λ (i : ℕ). changed f i (get_or old k d)) e))
 
 -- A call that puts other colours in place of a part's does what it says, if it counts the writes.
 pub wrote_part :
@@ -160,7 +140,7 @@ pub wrote_part :
     → length old.colours ≡ old.rows * old.width
     → length made ≡ to - from
     → ((k : ℕ) (d : Colour) → k < to - from → get_or made k d ≡ cond (t (from + k) y) (f (from + k) y (get_or old.colours (start old.width old.first old.rows y from to part + k) d)) (get_or old.colours (start old.width old.first old.rows y from to part + k) d))
-    → new.colours ≡ take (start old.width old.first old.rows y from to part) old.colours ++ (made ++ drop (start old.width old.first old.rows y from to part + (to - from)) old.colours)
+    → new.colours ≡ with_part (start old.width old.first old.rows y from to part) made old.colours
     → new.writes ≡ old.writes + count_indexes (λ k. t (from + k) y) 0 (to - from)
     → new.width ≡ old.width → new.first ≡ old.first → new.rows ≡ old.rows → new.most ≡ old.most
     → Repaints t f old new

@@ -19,8 +19,8 @@
 //!   one that never failed (`send_counted`, `write_header_to`, `Canvas::write_ppm_to`, `Canvas::write_rows_to`); `Counting`
 //!   makes such a writer of any other.
 //!
-//! Memory, three bytes a pixel, is taken when a canvas is made. No other call takes any: no contract says
-//! that but by the room that a canvas has, and a test over the built program counts its calls for memory.
+//! Memory, three bytes a pixel with what lies between rows, is taken when a canvas is made. No other call takes any: no
+//! contract says that but by the room that a canvas has, and a test over the built program counts its calls for memory.
 #![tactic(auto)]
 
 mod canvas_error;

@@ -51,7 +51,7 @@ impl Canvas {
         ensures repaints { Repaints (is_at x y) (λ column row old. colour) self.old (counted 1 self.new) }
         ensures count { self.new.writes ≡ self.old.writes }
     {
-        let place = place(self.width, y - self.first, x);
+        let place = place(self.stride, y - self.first, x);
         self.colours[place] = colour;
     }
 }

@@ -1,11 +1,13 @@
 //! The P6 text, written in pieces through a buffer on the stack.
 
-ghost use Rattle.std.specs.Prelude.{◌≡◌, ◌+◌, ◌*◌, ◌≤◌, ◌++◌, length, take, decimal, OnOk, OnErr};
+ghost use Rattle.std.specs.Prelude.{◌≡◌, ◌+◌, ◌-◌, ◌*◌, ◌<◌, ◌≤◌, ◌++◌, length, take, drop, decimal, OnOk, OnErr};
 ghost use Rattle.std.specs.Io.KnownBytes.{Appends};
-ghost use Rattle.canvas.specs.Ppm.{AppendsFront, header, raster};
+ghost use Rattle.canvas.specs.CanvasState.{image_of};
+ghost use Rattle.canvas.specs.Ppm.{AppendsFront, header, ppm_text, raster};
 
 use crate::canvas_error::WriteFault;
 use crate::sending::send;
+use crate::surface::Canvas;
 use itoa::Buffer;
 use mapping::Colour;
 use std::io::Write;
@@ -31,50 +33,46 @@ pub fn write_header<W: Write>(out: &mut W, width: u32, height: u32) -> Result<()
     send(out, &text[..length])
 }
 
-/// Writes the P6 text of an image.
-pub(crate) fn write_text<W: Write>(
-    out: &mut W,
-    width: u32,
-    height: u32,
-    colours: &[Colour],
-) -> Result<(), WriteFault>
-    ensures ok { OnOk result (Appends (W.contents out.old) (W.contents out.new) (header width height ++ raster colours.now)) }
-    ensures err { OnErr result (AppendsFront (W.contents out.old) (W.contents out.new) (header width height ++ raster colours.now)) }
+/// Writes the P6 text of the rows held.
+pub(crate) fn write_text<W: Write>(out: &mut W, canvas: &Canvas) -> Result<(), WriteFault>
+    ensures ok { OnOk result (Appends (W.contents out.old) (W.contents out.new) (ppm_text (image_of canvas.now))) }
+    ensures err { OnErr result (AppendsFront (W.contents out.old) (W.contents out.new) (ppm_text (image_of canvas.now))) }
 {
     let mut piece = [0u8; PIECE_ROOM];
-    let ready = put_header(&mut piece, width, height);
-    write_pieces(out, &mut piece, ready, colours)
+    let ready = put_header(&mut piece, canvas.width(), canvas.rows());
+    write_pieces(out, &mut piece, ready, canvas)
 }
 
-/// Writes the samples of the colours.
-pub(crate) fn write_raster<W: Write>(out: &mut W, colours: &[Colour]) -> Result<(), WriteFault>
-    ensures ok { OnOk result (Appends (W.contents out.old) (W.contents out.new) (raster colours.now)) }
-    ensures err { OnErr result (AppendsFront (W.contents out.old) (W.contents out.new) (raster colours.now)) }
+/// Writes the samples of the rows held.
+pub(crate) fn write_raster<W: Write>(out: &mut W, canvas: &Canvas) -> Result<(), WriteFault>
+    ensures ok { OnOk result (Appends (W.contents out.old) (W.contents out.new) (raster canvas.now.colours)) }
+    ensures err { OnErr result (AppendsFront (W.contents out.old) (W.contents out.new) (raster canvas.now.colours)) }
 {
     let mut piece = [0u8; PIECE_ROOM];
-    write_pieces(out, &mut piece, 0, colours)
+    write_pieces(out, &mut piece, 0, canvas)
 }
 
-/// Writes what is ready at the start of the piece, and then the samples of the colours, a piece at a time.
+/// Writes what is ready at the start of the piece, and then the samples of the rows held, a piece at a time.
 fn write_pieces<W: Write>(
     out: &mut W,
     piece: &mut [u8],
     ready: usize,
-    colours: &[Colour],
+    canvas: &Canvas,
 ) -> Result<(), WriteFault>
     requires room { 12320 ≤ length piece.old }
     requires few { ready ≤ 32 }
-    ensures ok { OnOk result (Appends (W.contents out.old) (W.contents out.new) (take ready piece.old ++ raster colours.now)) }
-    ensures err { OnErr result (AppendsFront (W.contents out.old) (W.contents out.new) (take ready piece.old ++ raster colours.now)) }
+    ensures ok { OnOk result (Appends (W.contents out.old) (W.contents out.new) (take ready piece.old ++ raster canvas.now.colours)) }
+    ensures err { OnErr result (AppendsFront (W.contents out.old) (W.contents out.new) (take ready piece.old ++ raster canvas.now.colours)) }
 {
+    let count = canvas.pixel_count();
     let mut filled = ready;
-    let mut rest = colours;
-    while !rest.is_empty() {
-        let (front, after) = rest.split_at(rest.len().min(PIECE_PIXELS));
-        filled = put_pixels(piece, filled, front);
+    let mut done = 0;
+    while done < count {
+        let end = done + PIECE_PIXELS.min(count - done);
+        filled = canvas.put_samples(piece, filled, done, end);
         send(out, &piece[..filled])?;
         filled = 0;
-        rest = after;
+        done = end;
     }
     send(out, &piece[..filled])
 }
@@ -112,6 +110,48 @@ fn put_text(buffer: &mut [u8], at: usize, text: &[u8]) -> usize
     let end = at + text.len();
     buffer[at..end].copy_from_slice(text);
     end
+}
+
+impl Canvas {
+    /// How many pixels are held.
+    pub(crate) fn pixel_count(&self) -> usize
+        ensures { result ≡ length self.now.colours }
+    {
+        self.rows() as usize * self.width as usize
+    }
+
+    /// Puts the samples of pixels behind the first `at` bytes, and tells where they end: of the pixels held, counted row by
+    /// row, those from one on, up to and without another.
+    pub(crate) fn put_samples(&self, buffer: &mut [u8], at: usize, from: usize, to: usize) -> usize
+        requires order { from ≤ to }
+        requires within { to ≤ length self.now.colours }
+        requires room { at + 3 * (to - from) ≤ length buffer.old }
+        ensures text { take result buffer.new ≡ take at buffer.old ++ raster (take (to - from) (drop from self.now.colours)) }
+        ensures end { result ≡ at + 3 * (to - from) }
+    {
+        let (mut end, mut done) = (at, from);
+        while done < to {
+            let part = self.part_of_row(done, to);
+            end = put_pixels(buffer, end, part);
+            done += part.len();
+        }
+        end
+    }
+
+    /// The colours of such pixels of one row: from one on, up to the end of its row, or up to and without another.
+    fn part_of_row(&self, from: usize, to: usize) -> &[Colour]
+        requires order { from < to }
+        requires within { to ≤ length self.now.colours }
+        ensures some { 1 ≤ length result.now }
+        ensures most { length result.now ≤ to - from }
+        ensures part { result.now ≡ take (length result.now) (drop from self.now.colours) }
+    {
+        let width = self.width as usize;
+        let (row, column) = (from / width, from % width);
+        let start = row * self.stride + column;
+        let count = (width - column).min(to - from);
+        &self.colours[start..start + count]
+    }
 }
 
 /// Puts the samples of the colours behind the first `at` bytes, and tells where they end.

@@ -2,13 +2,14 @@
 
 ghost use Rattle.std.specs.Prelude.{◌≡◌, ◌+◌, ◌*◌, ◌-◌, ◌^◌, ◌<◌, ◌≤◌, ◌++◌, length, take, OnOk, OnErr};
 ghost use Rattle.std.specs.Io.KnownBytes.{Appends};
-ghost use Rattle.canvas.specs.Ppm.{AppendsFront, header, raster};
+ghost use Rattle.canvas.specs.CanvasState.{image_of};
+ghost use Rattle.canvas.specs.Ppm.{AppendsFront, header, ppm_text, raster};
 
 use crate::canvas_error::WriteFault;
 use crate::counted_sending::send_counted;
 use crate::counting::FaultCount;
-use crate::ppm::{HEADER_ROOM, PIECE_PIXELS, PIECE_ROOM, put_header, put_pixels};
-use mapping::Colour;
+use crate::ppm::{HEADER_ROOM, PIECE_PIXELS, PIECE_ROOM, put_header};
+use crate::surface::Canvas;
 
 /// Writes the header of a P6 text, as `write_header` does, to a writer that counts its faults and has room for one
 /// more. `WriteFault` comes only where the count rose.
@@ -29,65 +30,58 @@ pub fn write_header_to<W: FaultCount>(
     send_counted(out, &text[..length])
 }
 
-/// Writes the P6 text of an image.
-pub(crate) fn write_text_to<W: FaultCount>(
-    out: &mut W,
-    width: u32,
-    height: u32,
-    colours: &[Colour],
-) -> Result<(), WriteFault>
+/// Writes the P6 text of the rows held.
+pub(crate) fn write_text_to<W: FaultCount>(out: &mut W, canvas: &Canvas) -> Result<(), WriteFault>
     requires room { W.fault_count out.old < 2 ^ 64 - 1 }
-    ensures ok { OnOk result (Appends (W.contents out.old) (W.contents out.new) (header width height ++ raster colours.now)) }
-    ensures err { OnErr result (AppendsFront (W.contents out.old) (W.contents out.new) (header width height ++ raster colours.now)) }
+    ensures ok { OnOk result (Appends (W.contents out.old) (W.contents out.new) (ppm_text (image_of canvas.now))) }
+    ensures err { OnErr result (AppendsFront (W.contents out.old) (W.contents out.new) (ppm_text (image_of canvas.now))) }
     ensures fault { OnErr result (W.fault_count out.old < W.fault_count out.new) }
     ensures room { OnOk result (W.fault_count out.new < 2 ^ 64 - 1) }
     ensures count { W.fault_count out.old ≤ W.fault_count out.new }
 {
     let mut piece = [0u8; PIECE_ROOM];
-    let ready = put_header(&mut piece, width, height);
-    write_pieces_to(out, &mut piece, ready, colours)
+    let ready = put_header(&mut piece, canvas.width(), canvas.rows());
+    write_pieces_to(out, &mut piece, ready, canvas)
 }
 
-/// Writes the samples of the colours.
-pub(crate) fn write_raster_to<W: FaultCount>(
-    out: &mut W,
-    colours: &[Colour],
-) -> Result<(), WriteFault>
+/// Writes the samples of the rows held.
+pub(crate) fn write_raster_to<W: FaultCount>(out: &mut W, canvas: &Canvas) -> Result<(), WriteFault>
     requires room { W.fault_count out.old < 2 ^ 64 - 1 }
-    ensures ok { OnOk result (Appends (W.contents out.old) (W.contents out.new) (raster colours.now)) }
-    ensures err { OnErr result (AppendsFront (W.contents out.old) (W.contents out.new) (raster colours.now)) }
+    ensures ok { OnOk result (Appends (W.contents out.old) (W.contents out.new) (raster canvas.now.colours)) }
+    ensures err { OnErr result (AppendsFront (W.contents out.old) (W.contents out.new) (raster canvas.now.colours)) }
     ensures fault { OnErr result (W.fault_count out.old < W.fault_count out.new) }
     ensures room { OnOk result (W.fault_count out.new < 2 ^ 64 - 1) }
     ensures count { W.fault_count out.old ≤ W.fault_count out.new }
 {
     let mut piece = [0u8; PIECE_ROOM];
-    write_pieces_to(out, &mut piece, 0, colours)
+    write_pieces_to(out, &mut piece, 0, canvas)
 }
 
-/// Writes what is ready at the start of the piece, and then the samples of the colours, a piece at a time.
+/// Writes what is ready at the start of the piece, and then the samples of the rows held, a piece at a time.
 fn write_pieces_to<W: FaultCount>(
     out: &mut W,
     piece: &mut [u8],
     ready: usize,
-    colours: &[Colour],
+    canvas: &Canvas,
 ) -> Result<(), WriteFault>
     requires room { W.fault_count out.old < 2 ^ 64 - 1 }
     requires long { 12320 ≤ length piece.old }
     requires few { ready ≤ 32 }
-    ensures ok { OnOk result (Appends (W.contents out.old) (W.contents out.new) (take ready piece.old ++ raster colours.now)) }
-    ensures err { OnErr result (AppendsFront (W.contents out.old) (W.contents out.new) (take ready piece.old ++ raster colours.now)) }
+    ensures ok { OnOk result (Appends (W.contents out.old) (W.contents out.new) (take ready piece.old ++ raster canvas.now.colours)) }
+    ensures err { OnErr result (AppendsFront (W.contents out.old) (W.contents out.new) (take ready piece.old ++ raster canvas.now.colours)) }
     ensures fault { OnErr result (W.fault_count out.old < W.fault_count out.new) }
     ensures room { OnOk result (W.fault_count out.new < 2 ^ 64 - 1) }
     ensures count { W.fault_count out.old ≤ W.fault_count out.new }
 {
+    let count = canvas.pixel_count();
     let mut filled = ready;
-    let mut rest = colours;
-    while !rest.is_empty() {
-        let (front, after) = rest.split_at(rest.len().min(PIECE_PIXELS));
-        filled = put_pixels(piece, filled, front);
+    let mut done = 0;
+    while done < count {
+        let end = done + PIECE_PIXELS.min(count - done);
+        filled = canvas.put_samples(piece, filled, done, end);
         send_counted(out, &piece[..filled])?;
         filled = 0;
-        rest = after;
+        done = end;
     }
     send_counted(out, &piece[..filled])
 }

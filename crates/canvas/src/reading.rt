@@ -2,11 +2,13 @@
 
 ghost use Rattle.std.specs.Prelude.{◌≡◌, ◌+◌, ◌*◌, ◌<◌, ◌≤◌, false, length, drop, min, IsTrue, MatchOption};
 ghost use Rattle.std.specs.List.{prefix_len};
-ghost use Rattle.mapping.specs.Limits.{is_surface_side};
+ghost use Rattle.mapping.specs.Limits.{is_surface_side, surface_side_limit};
 ghost use Rattle.std.specs.Char.{is_ascii_digit};
 ghost use Rattle.canvas.specs.PpmReading.{is_white, is_in_gap, is_in_comment, behind_gap, number_of_digits, begins_ppm, ends_head, has_head, colours_at};
 ghost use Rattle.canvas.specs.PpmHead.{IsNumberAt, IsHeadOf};
+ghost use Rattle.canvas.specs.Rows.{row_colours, row_stride};
 
+use crate::surface::place;
 use mapping::Colour;
 
 /// What a number counts to at most: every number that is higher is refused, whichever it is.
@@ -150,8 +152,31 @@ fn value_of(digits: &[u8]) -> u32
     value
 }
 
+/// Reads the colours of so many rows of this width, three samples each, where rows lie so far apart.
+pub(crate) fn read_rows(
+    colours: &mut [Colour],
+    rows: u32,
+    width: usize,
+    stride: usize,
+    samples: &[u8],
+)
+    requires wide { 1 ≤ width }
+    requires apart { width ≤ stride }
+    requires stride { stride ≤ row_stride surface_side_limit }
+    requires rows { rows ≤ surface_side_limit }
+    requires whole { length colours.old ≡ rows * stride }
+    requires samples { 3 * (rows * width) ≤ length samples.now }
+    ensures { row_colours rows width stride colours.new ≡ colours_at (rows * width) samples.now }
+{
+    for row in 0..rows {
+        let start = place(stride, row, 0);
+        let at = 3 * place(width, row, 0);
+        read_colours(&mut colours[start..start + width], &samples[at..]);
+    }
+}
+
 /// Reads as many colours as there is room for, each of three samples.
-pub(crate) fn read_colours(colours: &mut [Colour], samples: &[u8])
+fn read_colours(colours: &mut [Colour], samples: &[u8])
     requires { 3 * length colours.old ≤ length samples.now }
     ensures { colours.new ≡ colours_at (length colours.old) samples.now }
 {

@@ -4,6 +4,7 @@ ghost use Rattle.std.specs.Prelude.{◌≡◌, ◌+◌, ◌-◌, ◌*◌, ◌<�
 ghost use Rattle.std.specs.Io.KnownBytes.{Appends};
 ghost use Rattle.mapping.specs.Limits.{IsSurfaceSide, surface_side_limit};
 ghost use Rattle.canvas.specs.CanvasState.{HasPixel, image_of, colour_index, made_of, showing, shown_again, unwritten};
+ghost use Rattle.canvas.specs.Rows.{row_colours, row_stride};
 ghost use Rattle.canvas.specs.Writing.{Repaints, is_at};
 ghost use Rattle.canvas.specs.WritingLaws.{IsWhole};
 ghost use Rattle.canvas.specs.Ppm.{AppendsFront, ppm_text, raster};
@@ -14,7 +15,7 @@ use crate::canvas_error::{ImageError, OutOfMemory, WriteFault};
 use crate::counting::FaultCount;
 use crate::ppm::{write_raster, write_text};
 use crate::ppm_counted::{write_raster_to, write_text_to};
-use crate::reading::{read_colours, read_head};
+use crate::reading::{read_head, read_rows};
 use mapping::Colour;
 use std::alloc::Global;
 use std::io::Write;
@@ -27,10 +28,13 @@ use std::marker::Model;
 /// - The width is from 1 to 8,192 pixels, and the rows held are among 8,192.
 /// - There is one colour for each pixel held.
 /// - There is room for as many rows as the canvas was made for.
+///
+/// Rows lie apart (`stride_of`): what stands behind the width of one is in no row, and no call shows it.
 #[derive(Debug, Drop)]
 pub struct Canvas {
     pub(crate) colours: Vec<Colour>,
     pub(crate) width: u32,
+    pub(crate) stride: usize,
     pub(crate) first: u32,
     rows: u32,
     most: u32,
@@ -40,10 +44,11 @@ pub struct Canvas {
 impl Model for Canvas {
     ghost use Rattle.mapping.specs.Limits.{IsSurfaceSide};
     ghost use Rattle.canvas.specs.CanvasState.{CanvasState};
+    ghost use Rattle.canvas.specs.Rows.{row_colours};
 
     ghost Value = { CanvasState };
 
-    ghost view = { λ a. record { width = a.width; first = a.first; rows = a.rows; colours = a.colours.items; writes = a.writes; most = a.most } };
+    ghost view = { λ a. record { width = a.width; first = a.first; rows = a.rows; colours = row_colours a.rows a.width a.stride a.colours.items; writes = a.writes; most = a.most } };
 
     ghost use Rattle.canvas.specs.Canvas.{IsCanvas};
 
@@ -80,7 +85,7 @@ impl Canvas {
         requires within { first + rows ≤ surface_side_limit }
         ensures { IfOk result (λ canvas. canvas ≡ unwritten width first rows colour) }
     {
-        let Ok(colours) = Vec::from_elem(alloc, colour, pixels(rows, width)) else {
+        let Ok(colours) = Vec::from_elem(alloc, colour, room(rows, stride_of(width))) else {
             return Err(OutOfMemory);
         };
         Ok(Canvas::of(colours, width, first, rows))
@@ -95,7 +100,7 @@ impl Canvas {
         ensures { self.new ≡ shown_again first rows colour self.old }
     {
         self.colours.clear();
-        let count = pixels(rows, self.width);
+        let count = room(rows, self.stride);
         let _ = self.colours.resize(count, colour);
         (self.first, self.rows) = (first, rows);
     }
@@ -112,28 +117,30 @@ impl Canvas {
             return Err(ImageError::BadImage);
         };
         let samples = &bytes[head.start..];
-        let count = pixels(head.height, head.width);
-        if samples.len() / 3 < count {
+        let width = head.width as usize;
+        if samples.len() / 3 < room(head.height, width) {
             return Err(ImageError::BadImage);
         }
-        let Ok(mut colours) = Vec::from_elem(alloc, Colour::WHITE, count) else {
+        let stride = stride_of(head.width);
+        let Ok(mut colours) = Vec::from_elem(alloc, Colour::WHITE, room(head.height, stride)) else {
             return Err(ImageError::OutOfMemory);
         };
-        read_colours(&mut colours, samples);
+        read_rows(&mut colours, head.height, width, stride, samples);
         Ok(Canvas::of(colours, head.width, 0, head.height))
     }
 
-    /// The rows that show these colours, before anything is written.
+    /// The rows that lie so in these colours, before anything is written.
     fn of(colours: Vec<Colour>, width: u32, first: u32, rows: u32) -> Canvas
         requires wide { IsSurfaceSide width }
         requires high { 1 ≤ rows }
         requires within { first + rows ≤ surface_side_limit }
-        requires whole { vec_len colours ≡ rows * width }
-        ensures { result ≡ made_of colours.items width first rows }
+        requires whole { vec_len colours ≡ rows * row_stride width }
+        ensures { result ≡ made_of (row_colours rows width (row_stride width) colours.items) width first rows }
     {
         Canvas {
             colours,
             width,
+            stride: stride_of(width),
             first,
             rows,
             most: rows,
@@ -194,7 +201,7 @@ impl Canvas {
         requires { HasPixel self.now x y }
         ensures { slice_get self.now.colours (colour_index self.now x y) ≡ Some result }
     {
-        self.colours[place(self.width, y - self.first, x)]
+        self.colours[place(self.stride, y - self.first, x)]
     }
 
     /// Writes the surface's pixel `(x, y)`.
@@ -208,7 +215,7 @@ impl Canvas {
         ensures first { self.new.first ≡ self.old.first }
         ensures rows { self.new.rows ≡ self.old.rows }
     {
-        let place = place(self.width, y - self.first, x);
+        let place = place(self.stride, y - self.first, x);
         self.colours[place] = colour;
         self.writes += 1;
     }
@@ -221,7 +228,7 @@ impl Canvas {
         ensures ok { OnOk result (Appends (W.contents out.old) (W.contents out.new) (ppm_text (image_of self.now))) }
         ensures err { OnErr result (AppendsFront (W.contents out.old) (W.contents out.new) (ppm_text (image_of self.now))) }
     {
-        write_text(out, self.width, self.rows, self.colours.as_slice())
+        write_text(out, self)
     }
 
     /// Writes the raster of the rows held, red, green and blue of each pixel row by row (ppm(5)), without a header. The
@@ -230,7 +237,7 @@ impl Canvas {
         ensures ok { OnOk result (Appends (W.contents out.old) (W.contents out.new) (raster self.now.colours)) }
         ensures err { OnErr result (AppendsFront (W.contents out.old) (W.contents out.new) (raster self.now.colours)) }
     {
-        write_raster(out, self.colours.as_slice())
+        write_raster(out, self)
     }
 
     /// The same as `write_ppm`, to a writer that counts its faults and has room for one more: `WriteFault` comes only
@@ -243,7 +250,7 @@ impl Canvas {
         ensures room { OnOk result (W.fault_count out.new < 2 ^ 64 - 1) }
         ensures count { W.fault_count out.old ≤ W.fault_count out.new }
     {
-        write_text_to(out, self.width, self.rows, self.colours.as_slice())
+        write_text_to(out, self)
     }
 
     /// The same as `write_rows`, to a writer that counts its faults and has room for one more: `WriteFault` comes only
@@ -256,25 +263,35 @@ impl Canvas {
         ensures room { OnOk result (W.fault_count out.new < 2 ^ 64 - 1) }
         ensures count { W.fault_count out.old ≤ W.fault_count out.new }
     {
-        write_raster_to(out, self.colours.as_slice())
+        write_raster_to(out, self)
     }
 }
 
-/// How many pixels there are in so many rows of this width.
-fn pixels(rows: u32, width: u32) -> usize
-    requires rows { rows ≤ surface_side_limit }
-    requires width { width ≤ surface_side_limit }
-    ensures { result ≡ rows * width }
+/// How far behind a row's begin that of the next row lies, in colours: by the least odd multiple of 64 that is at least the
+/// width. Were it the width, each row of 4,096 pixels would begin 12,288 bytes behind the one above, and the pixels of a
+/// steep line, one in each row, would share few of the places that a processor's cache has for them.
+pub(crate) fn stride_of(width: u32) -> usize
+    requires { width ≤ surface_side_limit }
+    ensures { result ≡ row_stride width }
 {
-    rows as usize * width as usize
+    (width as usize + 63) / 128 * 128 + 64
 }
 
-/// The place of a column in a row, counted from the first row.
-pub(crate) fn place(width: u32, row: u32, column: u32) -> usize
-    requires width { width ≤ surface_side_limit }
-    requires row { row < surface_side_limit }
-    requires column { column ≤ width }
-    ensures { result ≡ row * width + column }
+/// How many colours so many rows take that lie so far apart.
+fn room(rows: u32, stride: usize) -> usize
+    requires rows { rows ≤ surface_side_limit }
+    requires stride { stride ≤ row_stride surface_side_limit }
+    ensures { result ≡ rows * stride }
 {
-    row as usize * width as usize + column as usize
+    rows as usize * stride
+}
+
+/// The place of a column in a row, counted from the first row, where rows lie so far apart.
+pub(crate) fn place(stride: usize, row: u32, column: u32) -> usize
+    requires stride { stride ≤ row_stride surface_side_limit }
+    requires row { row < surface_side_limit }
+    requires column { column ≤ stride }
+    ensures { result ≡ row * stride + column }
+{
+    row as usize * stride + column as usize
 }

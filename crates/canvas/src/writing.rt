@@ -19,7 +19,7 @@ impl Canvas {
         ensures pixels { Repaints (in_row_span y x_from x_to) (λ column row old. colour) self.old self.new }
         ensures count { self.new.writes ≡ self.old.writes + (x_to - x_from) }
     {
-        let start = place(self.width, y - self.first, x_from);
+        let start = place(self.stride, y - self.first, x_from);
         let end = start + (x_to - x_from) as usize;
         fill_with(&mut self.colours[start..end], colour);
         self.writes += u64::from(x_to - x_from);
@@ -35,7 +35,7 @@ impl Canvas {
         ensures pixels { Repaints (in_row_span y x_from x_to) (put_by_pattern pattern.now) self.old self.new }
         ensures count { self.new.writes ≡ self.old.writes + (x_to - x_from) }
     {
-        let start = place(self.width, y - self.first, x_from);
+        let start = place(self.stride, y - self.first, x_from);
         let end = start + (x_to - x_from) as usize;
         fill_with_pattern(&mut self.colours[start..end], x_from, pattern);
         self.writes += u64::from(x_to - x_from);
@@ -49,7 +49,7 @@ impl Canvas {
         ensures pixels { Repaints (in_row y x_from inks.now) (put_by_row inks.now x_from) self.old self.new }
         ensures count { self.new.writes ≡ self.old.writes + length inks.now }
     {
-        let start = place(self.width, y - self.first, x_from);
+        let start = place(self.stride, y - self.first, x_from);
         let end = start + inks.len();
         self.colours[start..end].copy_from_slice(inks);
         self.writes += inks.len() as u64;
@@ -64,7 +64,7 @@ impl Canvas {
         ensures pixels { Repaints (in_row_span y x_from x_to) (λ column row old. mixed_by mix old) self.old self.new }
         ensures count { self.new.writes ≡ self.old.writes + (x_to - x_from) }
     {
-        let start = place(self.width, y - self.first, x_from);
+        let start = place(self.stride, y - self.first, x_from);
         let end = start + (x_to - x_from) as usize;
         mix_all(&mut self.colours[start..end], mix);
         self.writes += u64::from(x_to - x_from);
@@ -80,7 +80,7 @@ impl Canvas {
         ensures pixels { Repaints (in_row y x_from keeps.now) (mixed_by_row keeps.now flips.now x_from) self.old self.new }
         ensures count { self.new.writes ≡ self.old.writes + length keeps.now }
     {
-        let start = place(self.width, y - self.first, x_from);
+        let start = place(self.stride, y - self.first, x_from);
         let end = start + keeps.len();
         mix_each(&mut self.colours[start..end], keeps, flips);
         self.writes += keeps.len() as u64;
@@ -96,7 +96,7 @@ impl Canvas {
         ensures pixels { Repaints (in_cells y x_from x_to cells) (λ column row old. mixed_by mix old) self.old self.new }
         ensures count { self.new.writes ≤ self.old.writes + (x_to - x_from) }
     {
-        let start = place(self.width, y - self.first, x_from);
+        let start = place(self.stride, y - self.first, x_from);
         let end = start + (x_to - x_from) as usize;
         let count = mix_cells_of(&mut self.colours[start..end], x_from, cells, mix);
         self.writes += count as u64;
@@ -109,7 +109,7 @@ impl Canvas {
         ensures pixel { Repaints (is_at x y) (λ column row old. mixed_by mix old) self.old self.new }
         ensures count { self.new.writes ≡ self.old.writes + 1 }
     {
-        let place = place(self.width, y - self.first, x);
+        let place = place(self.stride, y - self.first, x);
         self.colours[place] = mix.apply(self.colours[place]);
         self.writes += 1;
     }

@@ -1,14 +1,15 @@
-use Rattle.std.proofs.Common.{◌≤◌, ◌++◌, length, take}
+use Rattle.std.proofs.Common.{◌≤◌, ◌-◌, ◌++◌, drop, take}
 use Rattle.canvas.specs.Ppm.{raster}
 use Rattle.canvas.proofs.SendingLemmas.{Sending}
 use Rattle.canvas.proofs.ppm.write_pieces.Given as goal
 
 -- what is in the piece and what is left to put into one wasn't sent, and the rest of the text was
-abbrev pub invariant-loop-rest : goal.invariant-loop-rest
-invariant-loop-rest g l = record {
-  room : l.filled ≤ 32;
-  sending : Sending (g.W.Write.contents l.fn.out) (g.W.Write.contents l.out) (take l.ready l.fn.piece ++ raster l.colours) (take l.filled l.piece ++ raster l.rest);
+abbrev pub invariant-loop-done : goal.invariant-loop-done
+invariant-loop-done g l = record {
+  short : l.filled ≤ 32;
+  within : l.done ≤ l.count;
+  sending : Sending (g.W.Write.contents l.fn.out) (g.W.Write.contents l.out) (take l.ready l.fn.piece ++ raster l.canvas.colours) (take l.filled l.piece ++ raster (drop l.done l.canvas.colours));
 }
 
-abbrev pub decreases-loop-rest : goal.decreases-loop-rest
-decreases-loop-rest g l = length l.rest
+abbrev pub decreases-loop-done : goal.decreases-loop-done
+decreases-loop-done g l = l.count - l.done

@@ -1,19 +1,20 @@
-use Rattle.std.proofs.Common.{◌+◌, ◌-◌, length, refl, sym, ap, ◌∙◌, arith}
+use Rattle.std.proofs.Common.{◌+◌, ◌-◌, refl, ap, ◌∙◌, arith}
 use Rattle.std.proofs.lemmas.List.{with_items_is}
 use Rattle.mapping.specs.Mixes.{mixed_by}
+use Rattle.canvas.specs.Rows.{row_colours}
 use Rattle.canvas.proofs.CallLemmas.{helped_cells}
+use Rattle.canvas.proofs.FieldLemmas.{lies_inside}
 use Rattle.canvas.proofs.surface.Canvas.mix_cells.Goals as goal
 
 pub returns-clause-pixels : goal.returns-clause-pixels
 returns-clause-pixels c =
-    helped_cells c.args.y c.args.x_from c.args.x_to c.place-start.result (c.place-start.result + (c.args.x_to - c.args.x_from) - c.place-start.result) c.args.cells c.mix_cells_of-count.result (mixed_by c.args.mix) _ c.args.self.now _ c.deref_mut.result.now c.mix_cells_of-count.new.part c.self.view_is
+    helped_cells c.args.y c.args.x_from c.args.x_to c.place-start.result (c.place-start.result + (c.args.x_to - c.args.x_from) - c.place-start.result) c.self.inside.stride c.args.cells c.mix_cells_of-count.result (mixed_by c.args.mix) _ c.args.self.now _ c.deref_mut.result.now c.mix_cells_of-count.new.part c.self.view_is
     record { order = c.requires.columns; within = c.requires.width; from_first = c.requires.row.from_first; to_last = c.requires.row.to_last }
-    c.deref_mut.ensures.value
-    (sym (ap length c.deref_mut.ensures.value) ∙ c.deref_mut.ensures.len ∙ c.self.invariant.whole)
+    (lies_inside c.self.inside _ c.self.invariant c.deref_mut.ensures.value)
     c.place-start.ensures
     (omega arith)
     c.mix_cells_of-count.auto.part
     c.mix_cells_of-count.ensures.colours
     c.mix_cells_of-count.ensures.count
-    (λ long. with_items_is c.self.inside.colours _ (long ∙ c.deref_mut.ensures.len))
+    (λ long. ap (row_colours c.self.inside.rows c.self.inside.width c.self.inside.stride) (with_items_is c.self.inside.colours _ (long ∙ c.deref_mut.ensures.len)))
     refl refl refl refl refl
