@@ -1,5 +1,5 @@
 -- The text of a run, written band by band.
-use Rattle.std.proofs.Common.{◌≡◌, ℕ, zero, ◌+◌, ◌-◌, ◌≤◌, ◌⊎◌, inr, List, [], ◌++◌, Option, refl, sym, ap, subst, ◌∙◌, arith}
+use Rattle.std.proofs.Common.{◌≡◌, ℕ, ◌+◌, ◌-◌, ◌≤◌, ◌⊎◌, inr, List, ◌++◌, Option, sym, ap, subst, ◌∙◌, arith}
 use Rattle.std.specs.Prelude.{Result, Ok, Err, IfErr}
 use Rattle.std.proofs.KnownBytes.{Appends-trans}
 use Rattle.std.proofs.lemmas.List.{append_assoc, append-nil}
@@ -17,7 +17,7 @@ use Rattle.meta_headers.specs.Headers.{OpenedValue}
 use Rattle.meta_headers.specs.Opening.{HasContentOf, framing_of, meaning_of}
 use Rattle.dc_stack.specs.MachineState.{GoesOn, MachineState}
 use Rattle.dc_stack.specs.State.{State, start_of}
-use Rattle.preflight_cert.specs.Drawings.{NumberedDrawing, drawings_of}
+use Rattle.preflight_cert.specs.Drawings.{drawings_of}
 use Rattle.preflight_cert.specs.RowsLaws.{RowsLaws}
 use Rattle.preflight_cert.specs.Apply.{rows_after}
 use Rattle.preflight_cert.specs.Writes.{writes_of_drawings}

@@ -16,7 +16,6 @@ use Rattle.dc_stack.specs.State.{start_of}
 use Rattle.preflight_cert.specs.Answer.{AnswerLaws, bound_of}
 use Rattle.preflight_cert.specs.CertificateOf.{certificate_of}
 use Rattle.preflight_cert.specs.CertificateReading.{CertificateValue}
-use Rattle.preflight_cert.specs.Drawings.{drawings_of}
 use Rattle.preflight_cert.specs.RowsLaws.{RowsLaws}
 use Rattle.preflight_cert.specs.SizeLaws.{SizeLaws}
 use Rattle.preflight_cert.specs.declared.cleared.Cleared.{Cleared}

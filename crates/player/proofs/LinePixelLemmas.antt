@@ -1,5 +1,5 @@
 -- A line's steps give its pixels one after another.
-use Rattle.std.proofs.Common.{◌≡◌, ℕ, suc, ◌+◌, ◌-◌, ◌*◌, ◌^◌, ◌<◌, ◌≤◌, ℤ, pos, Bool, true, false, not, ◌&&◌, nat_le, nat_lt, IsTrue, ◌⊎◌, inl, inr, arith, refl, ap, sym, ◌∙◌}
+use Rattle.std.proofs.Common.{◌≡◌, ℕ, suc, ◌-◌, ◌<◌, ◌≤◌, pos, Bool, true, false, not, ◌&&◌, nat_le, ◌⊎◌, inl, inr, arith, refl, ap, sym, ◌∙◌}
 use Rattle.std.proofs.lemmas.Bool.{and_from, and_parts}
 use Rattle.canvas.specs.CanvasState.{CanvasState, HasPixel}
 use Rattle.canvas.specs.PixelSources.{GivesOne}
@@ -9,7 +9,7 @@ use Rattle.canvas.specs.declared.pixel_source.PixelAt.{PixelAt}
 use Rattle.dc_stack.specs.Clip.{unclipped}
 use Rattle.mapping.specs.declared.geometry.Colour.{Colour}
 use Rattle.span_fill.specs.Spans.{in_region}
-use Rattle.span_fill.specs.Steps.{HasAllSteps, StepsState, TakesStep}
+use Rattle.span_fill.specs.Steps.{HasAllSteps, StepsState}
 use Rattle.span_fill.specs.Strokes.{OnePixelForEachStep, on_line, step_at}
 use Rattle.player.specs.LinePixels.{is_to_step}
 use Rattle.player.specs.LineSteps.{MayTake, is_visible}
@@ -86,7 +86,7 @@ module _ (law : OnePixelForEachStep) (old new : StepsState) (pixel : PixelAt) (o
   earlier x y h =
       let parts = and_parts (is_to_step old x y) _ h in
       let p = parts_of old x y parts.0 in
-      let apart = from_not _ parts.1 in
+      let apart : is_at pixel.x pixel.y x y ≡ false = from_not _ parts.1 in
       let to = p.to in
       let there : step_at new.line (pos x) (pos y) ≡ step_at old.line (pos x) (pos y) = ap (λ l. step_at l (pos x) (pos y)) line in
       elim (cases_le old.next (step_at old.line (pos x) (pos y)) p.from) [

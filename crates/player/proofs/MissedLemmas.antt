@@ -1,5 +1,5 @@
 -- A drawing whose box lands beside the rows held is drawn by leaving them as they are.
-use Rattle.std.proofs.Common.{◌≡◌, ◌≢◌, ℕ, ◌≤◌, ℤ, pos, ◌*ℤ◌, ◌≤ℤ◌, ◌<ℤ◌, true, int_lt, arith, subst, sym}
+use Rattle.std.proofs.Common.{◌≡◌, ◌≢◌, ℕ, ◌≤◌, ℤ, pos, ◌*ℤ◌, ◌≤ℤ◌, ◌<ℤ◌, int_lt, arith, subst, sym}
 use Rattle.std.proofs.lemmas.Int.{by_lt_z, ints}
 use Rattle.mapping.specs.Boxes.{IsLeastBox}
 use Rattle.mapping.specs.Floor.{FloorDivisionIsGreatest, floor_div}

@@ -1,14 +1,12 @@
 -- A shape is painted row by row.
-use Rattle.std.proofs.Common.{◌≡◌, ℕ, suc, ◌+◌, ◌*◌, ◌^◌, ◌<◌, ◌≤◌, ℤ, pos, ◌≤ℤ◌, ◌<ℤ◌, ◌+ℤ◌, Bool, true, false, ◌&&◌, ◌||◌, ◌==◌, nat_lt, List, [], ◌∷◌, is_some, ◌⊎◌, inl, inr, arith, refl, sym, ◌∙◌, ap, subst}
+use Rattle.std.proofs.Common.{◌≡◌, ℕ, suc, ◌+◌, ◌*◌, ◌^◌, ◌<◌, ◌≤◌, ℤ, Bool, true, false, ◌&&◌, ◌||◌, ◌==◌, nat_lt, List, [], ◌∷◌, is_some, ◌⊎◌, inl, inr, arith, refl, sym, ◌∙◌, subst}
 use Rattle.std.proofs.lemmas.Bool.{and_from, and_parts, false_from_ne_true, true≢false}
-use Rattle.std.proofs.lemmas.Int.{by_lt_z, ints}
-use Rattle.std.proofs.Math.Bool.{and-true}
 use Rattle.mapping.specs.declared.geometry.Colour.{Colour}
 use Rattle.mapping.specs.declared.geometry.Rect.{Rect}
 use Rattle.canvas.specs.CanvasState.{CanvasState, HasPixel, HasRow}
 use Rattle.canvas.specs.Writing.{Repaints}
 use Rattle.canvas.specs.WritingLaws.{IsWhole, WritingLaws}
-use Rattle.dc_stack.specs.Clip.{in_box, in_boxes, in_kept, is_from_to}
+use Rattle.dc_stack.specs.Clip.{in_boxes, in_kept, is_from_to}
 use Rattle.dc_stack.specs.Values.{placed_value}
 use Rattle.span_fill.specs.Spans.{AreApart, AreRow, in_region, in_span, in_spans}
 use Rattle.span_fill.specs.declared.span.Region.{Region}
@@ -19,7 +17,7 @@ use Rattle.player.specs.RowsPainted.{paints_above, paints_row}
 use Rattle.player.specs.Strips.{is_painted, is_uncut}
 use Rattle.player.specs.declared.brushing.Brushing.{Brushing}
 use Rattle.player.specs.declared.row_ink.RowInk.{RowInk}
-use Rattle.player.proofs.TestLemmas.{column_from, column_true, from_to_from, nat_lt-from, nat_lt-true, same_test}
+use Rattle.player.proofs.TestLemmas.{column_from, column_true, nat_lt-from, nat_lt-true, same_test}
 
 same_number : (a b : ℕ) → (a == b) ≡ true → a ≡ b
 same_number a b h = grind (arith)

@@ -1,5 +1,5 @@
 -- What a blit paints, as the code tells it.
-use Rattle.std.specs.Prelude.{◌≡◌, ℕ, Bool, ◌&&◌, if◌then◌else◌, Option, Some, is_some}
+use Rattle.std.specs.Prelude.{ℕ, Bool, ◌&&◌, if◌then◌else◌, Option, Some, is_some}
 use Rattle.mapping.specs.Colours.{black_colour}
 use Rattle.mapping.specs.declared.geometry.Colour.{Colour}
 use Rattle.draw_ops.specs.Blits.{source_of}
@@ -8,7 +8,6 @@ use Rattle.draw_ops.specs.declared.ternary_op.TernaryOp.{TernaryOp}
 use Rattle.raster_ops.specs.Paints.{brush_paint}
 use Rattle.raster_ops.specs.Sources.{source_colour}
 use Rattle.raster_ops.specs.TernaryOps.{uses_pattern}
-use Rattle.raster_ops.specs.declared.sources.SourceReader.{SourceReader}
 use Rattle.dc_stack.specs.Clip.{in_box, in_boxes}
 use Rattle.mapping.specs.Boxes.{box_between}
 use Rattle.mapping.specs.Surface.{Surface, placed_point}

@@ -1,5 +1,5 @@
 -- What a canvas's count of writes has room for, and what is added to it.
-use Rattle.std.specs.Prelude.{ℕ, ◌+◌, ◌<◌, ◌≤◌, ◌^◌}
+use Rattle.std.specs.Prelude.{◌+◌, ◌<◌, ◌≤◌, ◌^◌}
 use Rattle.canvas.specs.CanvasState.{CanvasState}
 use Rattle.span_fill.specs.RowState.{RowState}
 

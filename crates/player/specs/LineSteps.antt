@@ -1,5 +1,5 @@
 -- What of a line is drawn so far.
-use Rattle.std.specs.Prelude.{◌≡◌, ℕ, pos, ◌+◌, ◌*◌, ◌<◌, ◌≤◌, ◌^◌, Bool, ◌&&◌, nat_lt}
+use Rattle.std.specs.Prelude.{ℕ, pos, ◌+◌, ◌*◌, ◌<◌, ◌≤◌, ◌^◌, Bool, ◌&&◌, nat_lt}
 use Rattle.canvas.specs.CanvasState.{CanvasState}
 use Rattle.canvas.specs.WritingLaws.{IsWhole}
 use Rattle.dc_stack.specs.Clip.{ClipValue, in_boxes}

@@ -1,5 +1,5 @@
 -- What goes through the points of pieces where they land, one after another.
-use Rattle.std.specs.Prelude.{◌≡◌, List, [], ◌∷◌, ◌++◌, map}
+use Rattle.std.specs.Prelude.{List, [], ◌∷◌, ◌++◌, map}
 use Rattle.std.specs.List.{flat_map}
 use Rattle.mapping.specs.PageMap.{map_numbers}
 use Rattle.mapping.specs.Surface.{Surface}

@@ -15,6 +15,7 @@ pub(crate) struct LinePixels {
 
 impl PixelSource for LinePixels {
     ghost to_come = { λ pixels. is_to_step pixels.steps };
+
     ghost measure = { λ pixels. pixels.steps.end - pixels.steps.next };
 
     fn next_pixel(&mut self) -> Option<PixelAt> {

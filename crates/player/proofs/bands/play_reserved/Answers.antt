@@ -1,5 +1,5 @@
 -- What was written and counted for all rows is the text and the writes of the file's run.
-use Rattle.std.proofs.Common.{◌≡◌, ◌≤◌, subst}
+use Rattle.std.proofs.Common.{subst}
 use Rattle.mapping.specs.PlacingLaws.{IsNoLarger}
 use Rattle.mapping.specs.Surface.{Surface}
 use Rattle.meta_headers.specs.OpenedOf.{opened_of}

@@ -1,9 +1,9 @@
-use Rattle.std.proofs.Common.{◌≡◌, ◌∙◌, ap}
+use Rattle.std.proofs.Common.{◌∙◌, ap}
 use Rattle.mapping.specs.Image.{blank}
 use Rattle.mapping.specs.PageMap.{map_numbers}
 use Rattle.canvas.specs.CanvasState.{CanvasState, image_of}
 use Rattle.meta_headers.specs.OpenedOf.{opened_of}
-use Rattle.dc_stack.specs.State.{start_of, start_state}
+use Rattle.dc_stack.specs.State.{start_state}
 use Rattle.player.proofs.BandTextLemmas.{band_played, goes_on_twice, ready_again}
 use Rattle.player.proofs.bands.show_band.Goals as goal
 

@@ -1,4 +1,4 @@
-use Rattle.std.proofs.Common.{◌≡◌, ◌-◌, ◌*◌, ◌≤◌, ◌^◌}
+use Rattle.std.proofs.Common.{◌≡◌, ◌-◌, ◌*◌, ◌≤◌}
 use Rattle.meta_headers.specs.OpenedOf.{opened_of}
 use Rattle.player.specs.Bands.{HasCountedRows, HasWrittenRows, IsReadyToPlay}
 use Rattle.player.proofs.bands.write_bands.Given as goal

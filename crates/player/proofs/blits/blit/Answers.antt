@@ -1,5 +1,3 @@
-use Rattle.std.proofs.Common.{◌≡◌}
-use Rattle.std.specs.Prelude.{IfSome}
 use Rattle.mapping.specs.PlaceOf.{surface_of}
 use Rattle.player.proofs.BlitLemmas.{blit_painted}
 use Rattle.player.proofs.blits.blit.Goals as goal

@@ -1,5 +1,5 @@
 -- A cleared file never stops.
-use Rattle.std.proofs.Common.{◌≡◌, refl, subst}
+use Rattle.std.proofs.Common.{subst}
 use Rattle.mapping.specs.PlacingLaws.{ShowsFrame}
 use Rattle.meta_headers.specs.OpenedOf.{opened_of}
 use Rattle.dc_stack.specs.State.{State}

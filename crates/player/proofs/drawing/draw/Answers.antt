@@ -1,10 +1,8 @@
 use Rattle.std.proofs.Common.{subst}
-use Rattle.mapping.specs.Boxes.{IsLeastBox}
 use Rattle.mapping.specs.PlacingLaws.{ShowsFrame}
-use Rattle.mapping.specs.PlaceOf.{surface_of}
 use Rattle.mapping.specs.Surface.{Surface}
 use Rattle.dc_stack.specs.Clip.{placed_box}
-use Rattle.dc_stack.specs.Drawing.{drawing_points, tools_of}
+use Rattle.dc_stack.specs.Drawing.{tools_of}
 use Rattle.dc_stack.specs.Draws.{IsPlacedDraw, mark_of}
 use Rattle.dc_stack.specs.MachineState.{drawing_with}
 use Rattle.preflight_cert.specs.Layer.{fills_of, strokes_of}

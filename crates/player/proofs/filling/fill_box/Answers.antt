@@ -1,4 +1,4 @@
-use Rattle.std.proofs.Common.{◌≡◌, ℕ, length, rules, arith, ◌∙◌}
+use Rattle.std.proofs.Common.{◌≡◌, length, rules, arith, ◌∙◌}
 use Rattle.dc_stack.specs.Clip.{in_box}
 use Rattle.span_fill.specs.Spans.{in_span}
 use Rattle.player.proofs.RegionLemmas.{box_row, none_seen, row_added, rows_begun, rows_done}

@@ -1,4 +1,4 @@
-use Rattle.std.proofs.Common.{◌≡◌, ℕ, length}
+use Rattle.std.proofs.Common.{◌≡◌, length}
 use Rattle.std.specs.Prelude.{IfSome}
 use Rattle.dc_stack.specs.Clip.{in_box}
 use Rattle.player.specs.SourceRows.{HoldsRow}

@@ -1,4 +1,3 @@
-use Rattle.std.proofs.Common.{arith}
 use Rattle.player.proofs.LinePixelLemmas.{has_to_step, put_visible}
 use Rattle.player.proofs.line_steps.put_steps.Goals as goal
 

@@ -1,4 +1,4 @@
-use Rattle.std.proofs.Common.{ℕ, ◌+◌, ◌≡◌, ◌≤◌, arith, ap, ◌∙◌}
+use Rattle.std.proofs.Common.{◌+◌, arith, ap, ◌∙◌}
 use Rattle.span_fill.specs.Spans.{in_spans}
 use Rattle.player.specs.Parts.{part_has}
 use Rattle.player.proofs.RegionLemmas.{none_seen, row_added, rows_begun, rows_done}

@@ -1,5 +1,5 @@
 -- Products are before one another where the quotient is before the row.
-use Rattle.std.proofs.Common.{◌≡◌, ℤ, pos, ◌*ℤ◌, int_lt, FitsSigned, w32, w64, to_z, of_z, arith, rules, ap, ◌∙◌}
+use Rattle.std.proofs.Common.{◌≡◌, ℤ, pos, ◌*ℤ◌, int_lt, FitsSigned, w32, w64, to_z, arith, rules, ap, ◌∙◌}
 use Rattle.std.proofs.lemmas.Int.{ints, to_z-of_z}
 use Rattle.player.proofs.MissedLemmas.{quotient_before}
 use Rattle.player.proofs.regions.lands_above.Goals as goal

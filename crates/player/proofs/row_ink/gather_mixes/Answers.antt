@@ -1,7 +1,6 @@
 use Rattle.std.proofs.Common.{Option, ap, slice_index_or, ◌∙◌}
 use Rattle.mapping.specs.Colours.{black_colour, white_colour}
 use Rattle.mapping.specs.declared.geometry.Colour.{Colour}
-use Rattle.raster_ops.specs.TernaryOps.{ternary_colour}
 use Rattle.player.specs.Joined.{joined_if}
 use Rattle.player.proofs.row_ink.gather_mixes.Goals as goal
 
