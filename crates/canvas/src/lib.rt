@@ -8,6 +8,8 @@
 //! - A call that writes a part of a row writes the pixels of the row that it names, each with the colour that
 //!   it says, leaves every other pixel as it is and counts each write (`Canvas::put_span`, `put_pattern`,
 //!   `put_row`, `mix_span`, `mix_row`, `mix_cells`, `mix`, by `Repaints`).
+//! - Pixels that a source gives one after another, none twice, are written in one colour, each counted once
+//!   (`Canvas::put_each`, `PixelSource`).
 //! - Writes that share no pixel are put together as one (`writing_law`).
 //! - What is written out is the P6 text of the image, byte for byte, and after a failure a front of
 //!   that text (`Canvas::write_ppm`, by `ppm_text`). Header and rows can be written apart (`write_header`,
