@@ -30,7 +30,8 @@ use Rattle.draw_ops.specs.Fault.{record_kind_of}
 use Rattle.draw_ops.specs.FaultTable.{fault_row}
 use Rattle.preflight_cert.specs.declared.cleared.Cleared.{Cleared}
 use Rattle.preflight_cert.specs.declared.refusal.Refusal.{Refusal}
-use Rattle.commands.specs.CheckReport.{ReportsAccepted, ReportsRefused, accepted_report, all_kinds, format_name, needs_data, noted_kinds, notes_data, refused_report, report_text, sides, whole, whole_if, with_kind}
+use Rattle.meta_headers.specs.Formats.{format_name}
+use Rattle.commands.specs.CheckReport.{ReportsAccepted, ReportsRefused, accepted_report, all_kinds, needs_data, noted_kinds, notes_data, refused_report, report_text, sides, whole, whole_if, with_kind}
 use Rattle.commands.specs.ClearedFiles.{report_of}
 
 both_false : (a b : Bool) → a ≡ false → b ≡ false → (a || b) ≡ false

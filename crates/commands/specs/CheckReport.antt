@@ -13,9 +13,8 @@ use Rattle.draw_ops.specs.declared.note.Note.TheVariants.{AfterEnd, DashedPen, E
 use Rattle.dc_stack.specs.State.{start_of}
 use Rattle.dc_stack.specs.declared.needs.Needs.{Needs}
 use Rattle.meta_headers.specs.File.{IsFile}
+use Rattle.meta_headers.specs.Formats.{format_name}
 use Rattle.meta_headers.specs.Headers.{OpenedValue}
-use Rattle.meta_headers.specs.declared.opened.FileFormat.{FileFormat}
-use Rattle.meta_headers.specs.declared.opened.FileFormat.TheVariants.{Emf, Placeable, Plain}
 use Rattle.preflight_cert.specs.After.{file_notes}
 use Rattle.preflight_cert.specs.Answer.{IsAnswer, accepted, refuses}
 use Rattle.preflight_cert.specs.CertificateReading.{CertificateValue, read_certificate}
@@ -33,12 +32,6 @@ whole_if (Some n) = whole n
 -- a width and a height
 abbrev pub sides : ℕ → ℕ → Data
 sides width height = array (item (whole width) (item (whole height) no_items))
-
--- the name of a format
-abbrev pub format_name : FileFormat → List ℕ
-format_name Placeable = codes "placeable"
-format_name Plain = codes "wmf"
-format_name Emf = codes "emf"
 
 -- what is needed, by name
 abbrev pub needs_data : Needs → Data

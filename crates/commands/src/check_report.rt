@@ -4,12 +4,11 @@ ghost use Rattle.std.specs.Prelude.{◌≡◌, IfOk, OnOk, false};
 ghost use Rattle.serde_json.specs.Data.{put as with_member, string};
 ghost use Rattle.serde_json.specs.View.{members_view, view};
 ghost use Rattle.serde_json.specs.Written.{has_float};
-ghost use Rattle.commands.specs.CheckReport.{format_name, needs_data, notes_data, refused_report, report_text, sides, whole, whole_if, with_kind};
+ghost use Rattle.commands.specs.CheckReport.{needs_data, notes_data, refused_report, report_text, sides, whole, whole_if, with_kind};
 ghost use Rattle.commands.specs.ClearedFiles.{report_of};
 
 use dc_stack::Needs;
 use draw_ops::{Note, Notes};
-use meta_headers::FileFormat;
 use preflight_cert::{Cleared, Refusal};
 use serde_json::{Map, Value, json, put};
 use std::alloc::{AllocError, Global};
@@ -27,7 +26,7 @@ fn accepted_value(alloc: Global, cleared: &Cleared<'_>) -> Result<Value, AllocEr
     ensures { IfOk result (λ value. view value ≡ report_of cleared.now) }
 {
     let certificate = cleared.certificate;
-    let format = format_name(cleared.opened.format);
+    let format = cleared.opened.format.name();
     let frame = sides_value(
         alloc,
         cleared.opened.frame.width,
@@ -94,17 +93,6 @@ fn sides_value(alloc: Global, width: u32, height: u32) -> Result<Value, AllocErr
     ensures { IfOk result (λ value. view value ≡ sides width height) }
 {
     json!(in alloc; [width, height])
-}
-
-/// The name of a format.
-fn format_name(format: FileFormat) -> &'static str
-    ensures { result.now ≡ format_name format }
-{
-    match format {
-        FileFormat::Placeable => "placeable",
-        FileFormat::Plain => "wmf",
-        FileFormat::Emf => "emf",
-    }
 }
 
 /// What is needed, by name.

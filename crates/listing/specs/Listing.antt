@@ -4,7 +4,8 @@ use Rattle.draw_ops.specs.Framed.{framed_of}
 use Rattle.draw_ops.specs.Records.{Framed, Record}
 use Rattle.draw_ops.specs.declared.fault.Fault.TheVariants.{NotMetafile}
 use Rattle.draw_ops.specs.declared.record_fault.RecordFault.{RecordFault}
-use Rattle.listing.specs.Formats.{first_place, format_of}
+use Rattle.meta_headers.specs.Formats.{format_of}
+use Rattle.listing.specs.Formats.{first_place}
 use Rattle.meta_headers.specs.Opening.{framing_of, record_bytes}
 use Rattle.meta_headers.specs.declared.opened.FileFormat.{FileFormat}
 use Rattle.listing.specs.Line.{fault_line, line_of, refused_text}

@@ -11,7 +11,7 @@
 //! - A walk gives the records of some bytes in order, each with its number and its place, and then none or the fault
 //!   at which they break (`RecordWalk::new`, `RecordWalk::next_record`, by `GivesNext`); what one asks for is told by
 //!   itself (`PlacedRecord::step`).
-//! - A file's format is told by how it begins, and where its records begin by the format (`format_of`, `records_in`).
+//! - Where a file's records begin is told by its format (`records_in`).
 //! - Each function of WMF and each type of EMF that the table of kinds has is named, and no other (`function_name`,
 //!   `wmf_names_law`, `type_name`, `emf_names_law`).
 //! - No call is handed an allocator.
@@ -31,7 +31,7 @@ mod wmf_names;
 mod writing;
 
 pub use emf_names::{emf_names_law, type_name};
-pub use formats::{first_place, format_of, records_in};
+pub use formats::{first_place, records_in};
 pub use listing_end::ListingEnd;
 pub use walk::{PlacedRecord, RecordWalk};
 pub use wmf_names::{function_name, wmf_names_law};

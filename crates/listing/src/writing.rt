@@ -8,7 +8,7 @@ ghost use Rattle.listing.specs.Listing.{framed_records, listed_by, listed_of, li
 ghost use Rattle.listing.specs.Putting.{PutsNext};
 ghost use Rattle.listing.specs.Sending.{Sending};
 
-use crate::formats::{first_place, format_of, records_in};
+use crate::formats::{first_place, records_in};
 use crate::line::{put_fault_line, put_line, put_no_metafile};
 use crate::listing_end::ListingEnd;
 use crate::page::{PAGE_ROOM, Page};
@@ -35,7 +35,7 @@ pub fn write_listing<W: Write>(
     ensures ok { OnOk result (Appends (W.contents out.old) (W.contents out.new) (listing_of stops.now file.now)) }
     ensures err { OnErr result (AppendsFront (W.contents out.old) (W.contents out.new) (listing_of stops.now file.now)) }
 {
-    match format_of(file) {
+    match FileFormat::of(file) {
         Some(format) => write_in(format, file, stops, out),
         None => write_none(out),
     }

@@ -6,3 +6,4 @@ pub mod Opening
 pub mod OpenedOf
 pub mod SourceContent
 pub mod File
+pub mod Formats

@@ -7,10 +7,12 @@
 //! - An opened file's source has what its records mean, from record 0 on (`Opened::source`, by
 //!   `HasContentOf`).
 //! - A file that opens does so in one way, and its records have one content (`file_law`).
+//! - A file's format is told by how it begins, and each format has a name (`FileFormat::of`, `FileFormat::name`).
 //! - No call is handed an allocator: the records are a part of the file.
 #![tactic(auto)]
 
 mod emf_header;
+mod formats;
 mod laws;
 mod notes_where;
 mod open;
