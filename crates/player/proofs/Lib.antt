@@ -1,6 +1,9 @@
 pub mod MixLemmas
 pub mod StripLemmas
 pub mod LineStepLemmas
+pub mod StampLemmas
+pub mod StampingLemmas
+pub mod StrokedLemmas
 pub mod TestLemmas
 pub mod WorkedRows
 mod WorkedLayers

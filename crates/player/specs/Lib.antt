@@ -20,6 +20,9 @@ pub mod SourceRows
 pub mod Blits
 pub mod Strips
 pub mod LineSteps
+pub mod Stamps
+pub mod StampsInside
+pub mod Stamping
 pub mod RowsPainted
 pub mod Parts
 pub mod Dots
