@@ -6,7 +6,7 @@ import tempfile
 import unittest
 
 from built import PROGRAMS, SAMPLES, Answer, answer, for_each_program
-from metafile.scripts import EMF, FORMS, WMF
+from metafile.scripts import EMF, FORMS, HANDLES, WMF
 from reference_test import Maker
 
 SEED = 25
@@ -67,6 +67,17 @@ class Bands(unittest.TestCase):
             for sides in SIDES:
                 with self.subTest(sample=path.name, sides=sides):
                     self.assertTrue(self.check(program, path.read_bytes(), sides, [*BANDS, 8192]))
+
+    @for_each_program
+    def test_strokes_beside_the_most_pixels_that_are_marked(self, program):
+        # Of the three boxes the first alone is marked on the whole surface, and each is in bands.
+        side = 1025
+        for right, bottom in (1023, 1023), (1024, 1023), (1023, 1024):
+            script = f"raster 6; polyline 0 0 {right} 0 {right} {bottom} 0 {bottom} 0 0 {right} {bottom} 7 9 {right} 500 7 9"
+            for form in FORMS:
+                with self.subTest(form=form.name, right=right, bottom=bottom):
+                    given = form.file(form.records(script), side, HANDLES)
+                    self.assertTrue(self.check(program, given, (side, side), [100, 8192]))
 
     @for_each_program
     def test_files_made_at_random(self, program):

@@ -7,7 +7,9 @@ to the right.
 
 import unittest
 
+from answers import shown
 from built import for_each_program
+from metafile.fields import BLACK
 from metafile.scripts import EMF, FORMS
 from shape_pictures import INVERT, ShapeTest, marked, side_by_side
 
@@ -210,6 +212,32 @@ class Lists(ShapeTest):
     def test_lines_that_cross_turn_their_common_pixel_once(self, program):
         rows = "#...# .#.## ..#.# .#.## ....#"
         self.check_drawings(program, {f"{INVERT}; polyline 0 0 4 4 4 0 0 4": rows})
+
+
+class Marks(ShapeTest):
+    """Strokes whose pixels are marked as they are written, where their lines aren't flat."""
+
+    @for_each_program
+    def test_a_pixel_of_several_lines_is_turned_once_in_a_large_box(self, program):
+        side = 1025
+        file = {"frame": side, "surface": (side, side)}
+        for right, bottom in (1023, 1023), (1024, 1023), (1023, 1024):
+            sides = f"0 0 {right} 0 {right} {bottom} 0 {bottom} 0 0"
+            turned = {(x, y) for x in range(right + 1) for y in range(bottom + 1) if x in (0, right) or y in (0, bottom)}
+            # The line across begins on the others, and ends before its last point, which the corner has where it is one.
+            turned |= {(at, at) for at in range(1023)}
+            for form in FORMS:
+                self.check(program, form, f"{INVERT}; polyline {sides} 1023 1023", shown(dict.fromkeys(turned, BLACK), side, side), **file)
+
+    @for_each_program
+    def test_a_pixel_of_several_flat_lines_is_turned_once(self, program):
+        rows = "######## ........ ######## ........ ........ ........ ........ ........"
+        self.check_drawings(program, {f"{INVERT}; polyline 0 0 7 0 0 0; polyline 0 2 7 2 1 2 6 2": rows})
+
+    @for_each_program
+    def test_marks_of_the_stroke_before_are_gone(self, program):
+        rows = "#....... #....... #....... ........ ........ ........ ........ ........"
+        self.check_drawings(program, {f"{INVERT}; polyline 0 0 4 0 0 0; polyline 1 0 4 0 5 0; polyline 0 1 0 2 0 1": rows})
 
 
 class FarLines(ShapeTest):

@@ -2,6 +2,9 @@ pub mod MixLemmas
 pub mod StripLemmas
 pub mod LineStepLemmas
 pub mod LinePixelLemmas
+pub mod StampLemmas
+pub mod StampingLemmas
+pub mod StrokedLemmas
 pub mod TestLemmas
 pub mod WorkedRows
 mod WorkedLayers

@@ -149,8 +149,8 @@ inside_height region x y h =
     let b = and_parts (nat_le region.rows.from y) (nat_lt y region.rows.to) a.1 in (nat_le-true region.rows.from y b.0, nat_lt-true y region.rows.to b.1)
 
 -- before the first step nothing is taken
-none_taken : (clip : ClipValue) (steps : StepsState) (line : Line) → line ≡ steps.line → HasAllSteps steps → (canvas : CanvasState) → PassesNone canvas (is_stepped clip line steps.region steps.next)
-none_taken clip steps line same all canvas x y held = same_test _ _
+pub none_before : (clip : ClipValue) (steps : StepsState) (line : Line) → line ≡ steps.line → HasAllSteps steps → (x y : ℕ) → is_stepped clip line steps.region steps.next x y ≡ false
+none_before clip steps line same all x y = same_test _ _
     (λ h.
     let a = and_parts (in_boxes clip x y) _ h in
     let b = and_parts (on_line line (pos x) (pos y)) _ a.1 in
@@ -163,8 +163,11 @@ none_taken clip steps line same all canvas x y held = same_test _ _
     over : (a b : ℕ) → a < b → b ≤ a → ⊥
     over a b h k = omega (arith, h, k)
 
+none_taken : (clip : ClipValue) (steps : StepsState) (line : Line) → line ≡ steps.line → HasAllSteps steps → (canvas : CanvasState) → PassesNone canvas (is_stepped clip line steps.region steps.next)
+none_taken clip steps line same all canvas x y held = none_before clip steps line same all x y
+
 -- behind the last, all of it is that the clip has
-all_taken : (clip : ClipValue) (line : Line) (region : Region) (n : ℕ) (x y : ℕ) → (IsTrue (on_line line (pos x) (pos y)) → IsTrue (in_region region x y) → step_at line (pos x) (pos y) < n) → is_stepped clip line region n x y ≡ is_visible clip line region x y
+pub all_taken : (clip : ClipValue) (line : Line) (region : Region) (n : ℕ) (x y : ℕ) → (IsTrue (on_line line (pos x) (pos y)) → IsTrue (in_region region x y) → step_at line (pos x) (pos y) < n) → is_stepped clip line region n x y ≡ is_visible clip line region x y
 all_taken clip line region n x y all = same_test _ _
     (λ h.
     let a = and_parts (in_boxes clip x y) _ h in
@@ -255,7 +258,7 @@ module _ (laws : WritingLaws) (clip : ClipValue) (f : ℕ → ℕ → Colour →
       so_far.drawn
 
 -- the steps that a region has of a line, where the canvas has the region
-pub may_take : (steps : StepsState) (region : Region) (canvas : CanvasState) → steps.region ≡ region → HasAllSteps steps → IsWhole canvas → region.columns.to ≤ canvas.width → canvas.first ≤ region.rows.from → region.rows.to ≤ canvas.first + canvas.rows → canvas.rows * canvas.width ≤ 2 ^ 26 → canvas.writes + 2 ^ 27 < 2 ^ 64 → MayTake steps canvas
+pub may_take : (steps : StepsState) (region : Region) (canvas : CanvasState) → steps.region ≡ region → HasAllSteps steps → IsWhole canvas → region.columns.to ≤ canvas.width → canvas.first ≤ region.rows.from → region.rows.to ≤ canvas.first + canvas.rows → canvas.rows * canvas.width ≤ 2 ^ 26 → canvas.writes + 2 ^ 27 + 2 ^ 26 < 2 ^ 64 → MayTake steps canvas
 may_take steps region canvas same all whole columns top bottom pixels countable = record {
   all = all;
   whole = whole;
@@ -277,7 +280,7 @@ no_cuts clip (box ∷ boxes) same empty = absurd (none (length boxes) empty)
     none n h = let zero = number (suc n) h in omega (arith, zero)
 
 -- where nothing is cut out, the clip has what it keeps
-uncut : (x y : ℕ) (cuts : List Rect) → cuts ≡ [] → not (list_any (λ box. in_box box x y) cuts) ≡ true
+pub uncut : (x y : ℕ) (cuts : List Rect) → cuts ≡ [] → not (list_any (λ box. in_box box x y) cuts) ≡ true
 uncut x y [] e = refl
 uncut x y (cut ∷ cuts) e = cc
 

@@ -11,9 +11,9 @@ HasRoomForFile canvas = canvas.writes ≤ 2 ^ 63
 abbrev pub HasRoomForDrawing : CanvasState → Type 0
 HasRoomForDrawing canvas = canvas.writes + 2 ^ 28 < 2 ^ 64
 
--- room for a layer, and as much beside
+-- room for a layer, and twice as much beside
 abbrev pub HasRoomForLayer : CanvasState → Type 0
-HasRoomForLayer canvas = canvas.writes + 2 ^ 27 < 2 ^ 64
+HasRoomForLayer canvas = canvas.writes + 2 ^ 27 + 2 ^ 26 < 2 ^ 64
 
 -- at most the writes of a file were counted: of 2^20 records with two layers each
 abbrev pub CountsFile : CanvasState → CanvasState → Type 0

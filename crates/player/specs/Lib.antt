@@ -21,6 +21,9 @@ pub mod Blits
 pub mod Strips
 pub mod LinePixels
 pub mod LineSteps
+pub mod Stamps
+pub mod StampsInside
+pub mod Stamping
 pub mod RowsPainted
 pub mod Parts
 pub mod Dots

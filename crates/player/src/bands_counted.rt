@@ -10,13 +10,13 @@ ghost use Rattle.player.specs.Bands.{IsWriteFault, WritesFrontTo, WritesRows, Wr
 
 use crate::band_room::{BandRoom, band_room};
 use crate::bands::show_band;
+use crate::room::LineRoom;
 use canvas::{Canvas, FaultCount, WriteFault, write_header_to};
 use dc_stack::Machine;
 use draw_ops::{Fault, content_law};
 use mapping::Colour;
 use object_tables::Table;
 use preflight_cert::{Cleared, answer_law, rows_law, size_law};
-use span_fill::RowBuf;
 use std::alloc::Global;
 
 /// The same as `play_bands`, to a writer that counts its faults and has room for one more: `WriteFault` comes only where the count rose.
@@ -101,13 +101,13 @@ fn play_within_to<W: FaultCount>(
 fn play_reserved_to<'a, T: Table<'a>, W: FaultCount>(
     cleared: &Cleared<'a>,
     machine: &mut Machine<'a, T>,
-    lines: &mut RowBuf,
+    lines: &mut LineRoom,
     canvas: &mut Canvas,
     height: u32,
     start: Colour,
     out: &mut W,
 ) -> Result<u64, Fault>
-    requires ready { IsReadyToPlay cleared.now lines.old.room machine.old }
+    requires ready { IsReadyToPlay cleared.now lines.old.rows.room machine.old }
     requires surface { machine.old.surface ≡ surface_for (opened_of cleared.now.opened) canvas.old.width height }
     requires some { 1 ≤ canvas.old.most }
     requires unwritten { canvas.old.writes ≡ 0 }
@@ -137,13 +137,13 @@ fn play_reserved_to<'a, T: Table<'a>, W: FaultCount>(
 fn write_bands_to<'a, T: Table<'a>, W: FaultCount>(
     cleared: &Cleared<'a>,
     machine: &mut Machine<'a, T>,
-    lines: &mut RowBuf,
+    lines: &mut LineRoom,
     canvas: &mut Canvas,
     height: u32,
     start: Colour,
     out: &mut W,
 ) -> Result<(), WriteFault>
-    requires ready { IsReadyToPlay cleared.now lines.old.room machine.old }
+    requires ready { IsReadyToPlay cleared.now lines.old.rows.room machine.old }
     requires width { canvas.old.width ≡ machine.old.surface.width }
     requires height { machine.old.surface.height ≡ height }
     requires some { 1 ≤ canvas.old.most }

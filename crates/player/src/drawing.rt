@@ -20,6 +20,8 @@ use crate::list_lines::Ends;
 use crate::parts::{Part, paint_part, rule_of};
 use crate::rectangles::rectangle_box;
 use crate::regions::{landed_box, misses_rows, whole_law};
+use crate::stamping::stroke_marked;
+use crate::stamps::Stamps;
 use crate::stroking::{stroke_box, stroke_line};
 use canvas::{Canvas, writing_law};
 use dc_stack::{Draw, Machine, Mark, Painting};
@@ -37,6 +39,7 @@ pub(crate) fn draw<'a, T: Table<'a>>(
     step: Option<Draw<'a>>,
     machine: &Machine<'a, T>,
     rows: &mut RowBuf,
+    marks: &mut Option<Stamps>,
     room: &mut InkRoom,
     canvas: &mut Canvas,
 )
@@ -58,7 +61,7 @@ pub(crate) fn draw<'a, T: Table<'a>>(
         return;
     }
     fill(drawn, machine, rows, room, canvas);
-    stroke(drawn, machine, rows, room, canvas);
+    stroke(drawn, machine, rows, marks, room, canvas);
 }
 
 /// Fills the inside of what a step draws, if it has one and the brush paints.
@@ -115,6 +118,7 @@ fn stroke<'a, T: Table<'a>>(
     drawn: Draw<'a>,
     machine: &Machine<'a, T>,
     rows: &mut RowBuf,
+    marks: &mut Option<Stamps>,
     room: &mut InkRoom,
     canvas: &mut Canvas,
 )
@@ -142,7 +146,7 @@ fn stroke<'a, T: Table<'a>>(
     let Pen::Solid { colour } = dc.selected.pen else {
         return;
     };
-    stroke_outline(drawn, colour, machine, rows, room, canvas);
+    stroke_outline(drawn, colour, machine, rows, marks, room, canvas);
 }
 
 /// Strokes the outline of what a step draws, in the colour of the pen. A dot and a blit have none.
@@ -151,6 +155,7 @@ fn stroke_outline<'a, T: Table<'a>>(
     colour: Colour,
     machine: &Machine<'a, T>,
     rows: &mut RowBuf,
+    marks: &mut Option<Stamps>,
     room: &mut InkRoom,
     canvas: &mut Canvas,
 )
@@ -186,6 +191,9 @@ fn stroke_outline<'a, T: Table<'a>>(
             };
             let outline = FigureOutline::new(points, ends, machine);
             let landed = landed_box(place, drawn.bounds);
+            if stroke_marked(canvas, marks, outline, landed, &paint, colour) {
+                return;
+            }
             paint_part(canvas, rows, outline, Part::Lines, landed, &paint, room);
         }
         Mark::Rectangle {

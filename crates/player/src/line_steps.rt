@@ -80,7 +80,7 @@ fn mix_uncut(canvas: &mut Canvas, steps: LineSteps, mix: Mix, constant: Option<C
 }
 
 /// Mixes a pixel, whose mix makes this colour of every colour, if it makes one.
-fn mix_pixel(canvas: &mut Canvas, pixel: Pixel, mix: Mix, constant: Option<Colour>)
+pub(crate) fn mix_pixel(canvas: &mut Canvas, pixel: Pixel, mix: Mix, constant: Option<Colour>)
     requires whole { IsWhole canvas.old }
     requires pixel { HasPixel canvas.old pixel.x pixel.y }
     requires countable { canvas.old.writes + 1 < 2 ^ 64 }

@@ -16,7 +16,8 @@ ghost use Rattle.preflight_cert.specs.Run.{Refused, Run, RunWrites, shown, white
 use crate::advance::advance;
 use crate::drawing::draw;
 use crate::ink_room::InkRoom;
-use crate::room::{reserve_all, rows_for};
+use crate::room::{lines_for, reserve_all};
+use crate::stamps::Stamps;
 use crate::survey::count_lines;
 use canvas::Canvas;
 use dc_stack::Machine;
@@ -83,8 +84,14 @@ fn play_opened(
         Ok(lines) => lines,
         Err(refusal) => return Ok(Err(refusal)),
     };
-    let mut rows = rows_for(alloc, lines)?;
-    match play_records(opened, &mut machine, &mut rows, canvas) {
+    let mut room = lines_for(alloc, lines)?;
+    match play_records(
+        opened,
+        &mut machine,
+        &mut room.rows,
+        &mut room.marks,
+        canvas,
+    ) {
         Ok(_) => Ok(Ok(())),
         Err(refusal) => Ok(Err(refusal)),
     }
@@ -117,7 +124,7 @@ pub fn play_on<'a, T: Table<'a>>(
     ensures goes_on { GoesOn machine.old machine.new }
     ensures lines { rows.new.room ≡ rows.old.room }
 {
-    play_records(opened, machine, rows, canvas)
+    play_records(opened, machine, rows, &mut None, canvas)
 }
 
 /// Plays an opened file's records as `play_on` does, on a machine and with rows that have room for what these records need.
@@ -125,6 +132,7 @@ pub(crate) fn play_records<'a, T: Table<'a>>(
     opened: &Opened<'a>,
     machine: &mut Machine<'a, T>,
     rows: &mut RowBuf,
+    marks: &mut Option<Stamps>,
     canvas: &mut Canvas,
 ) -> Result<u64, Refusal>
     requires held { HoldsRows canvas.old machine.old.surface }
@@ -145,7 +153,7 @@ pub(crate) fn play_records<'a, T: Table<'a>>(
     ensures lines { rows.new.room ≡ rows.old.room }
 {
     let before = canvas.writes();
-    match play_steps(&mut opened.source(), machine, rows, canvas) {
+    match play_steps(&mut opened.source(), machine, rows, marks, canvas) {
         Ok(()) => Ok(canvas.writes() - before),
         Err(refusal) => Err(refusal),
     }
@@ -156,6 +164,7 @@ fn play_steps<'a, S: OpSource<'a>, T: Table<'a>>(
     source: &mut S,
     machine: &mut Machine<'a, T>,
     rows: &mut RowBuf,
+    marks: &mut Option<Stamps>,
     canvas: &mut Canvas,
 ) -> Result<(), Refusal>
     requires short { length (S.content source.old).steps ≤ record_limit }
@@ -177,7 +186,7 @@ fn play_steps<'a, S: OpSource<'a>, T: Table<'a>>(
     let mut before: u32 = 0;
     loop {
         match advance(source, machine, before) {
-            Ok(Some(drawn)) => draw(drawn, machine, rows, &mut room, canvas),
+            Ok(Some(drawn)) => draw(drawn, machine, rows, marks, &mut room, canvas),
             Ok(None) => return Ok(()),
             Err(refusal) => return Err(refusal),
         }

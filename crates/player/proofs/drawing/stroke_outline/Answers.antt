@@ -55,6 +55,18 @@ paint_part-requires-clause-room g c =
     let counted = lines_few c.args.machine.now.surface (figures_drawn c.args.machine.now.painted c.in-Figures.points) c.in-Some.ends (outline_left c.new-outline.result) c.new-outline.ensures in
     omega (arith, room, counted)
 
+pub stroke_marked-requires-clause-within : goal.stroke_marked-requires-clause-within
+stroke_marked-requires-clause-within g c =
+    let s = c.args.machine.now.surface in
+    let ends = c.in-Some.ends in
+    let figures = figures_drawn c.args.machine.now.painted c.in-Figures.points in
+    let least = rw c.in-Figures.is at c.requires.placed.least in
+    let within = rw c.in-Figures.is at c.requires.placed.within in
+    λ x y h.
+    let same = ap (λ (list : List Line). in_stroke list x y) c.new-outline.ensures ∙ stroked_lines s ends figures x y in
+    shape_landed c.drawing_box_law.ensures c.place-place.result s c.place-place.ensures c.args.drawn.bounds c.landed_box-landed.result c.landed_box-landed.ensures (points_of_figures figures) least within
+    (stroked_shape ends figures) (stroke_closed ends figures) (stroke_told ends figures) x y (sym same ∙ h)
+
 pub paint_part-requires-clause-within : goal.paint_part-requires-clause-within
 paint_part-requires-clause-within g c =
     let s = c.args.machine.now.surface in
@@ -114,8 +126,8 @@ returns-in-Line-clause-drawn g c =
     let drawn = pen_drawn c.writing_law.ensures s c.args.canvas.now c.stroke_line.new.canvas c.whole_law.ensures c.requires.held c.binary_law.ensures.same paint tools modes operation clip _ shape c.args.colour c.with-paint.ensures.brush (λ x y. lone_stroke line there x y same) c.stroke_line.ensures.pixels in
     rw (c.in-Line.is, pen_strokes shape tools c.args.colour c.requires.pen) drawn
 
-pub returns-in-Some-clause-drawn : goal.returns-in-Some-clause-drawn
-returns-in-Some-clause-drawn g c =
+pub returns-then-stroke_marked-clause-drawn : goal.returns-then-stroke_marked-clause-drawn
+returns-then-stroke_marked-clause-drawn g c =
     let s = c.args.machine.now.surface in
     let state = c.args.machine.now.state.dc in
     let tools = tools_of state in
@@ -129,7 +141,26 @@ returns-in-Some-clause-drawn g c =
     let figures = figures_drawn c.args.machine.now.painted c.in-Figures.points in
     let asked : stroked_ends c.in-Figures.painting ≡ Some ends = search rules in
     let shape = stroked_shape ends figures in
-    let drawn = pen_drawn c.writing_law.ensures s c.args.canvas.now c.paint_part.new.canvas c.whole_law.ensures c.requires.held c.binary_law.ensures.same paint tools modes operation clip _ shape c.args.colour c.with-paint.ensures.brush (λ x y. ap (λ (list : List Line). in_stroke list x y) c.new-outline.ensures ∙ stroked_lines s ends figures x y) c.paint_part.ensures.pixels in
+    let drawn = pen_drawn c.writing_law.ensures s c.args.canvas.now c.stroke_marked.new.canvas c.whole_law.ensures c.requires.held c.binary_law.ensures.same paint tools modes operation clip _ shape c.args.colour c.with-paint.ensures.brush (λ x y. ap (λ (list : List Line). in_stroke list x y) c.new-outline.ensures ∙ stroked_lines s ends figures x y) (c.stroke_marked.ensures.pixels c.if-stroke_marked.true) in
+    rw (c.in-Figures.is, strokes_figures c.in-Figures.painting ends figures tools asked, pen_strokes shape tools c.args.colour c.requires.pen) drawn
+
+pub returns-else-stroke_marked-clause-drawn : goal.returns-else-stroke_marked-clause-drawn
+returns-else-stroke_marked-clause-drawn g c =
+    let same = c.stroke_marked.ensures.unpainted c.if-stroke_marked.false in
+    let s = c.args.machine.now.surface in
+    let state = c.args.machine.now.state.dc in
+    let tools = tools_of state in
+    let dc = c.dc-dc.result.now in
+    let paint = c.with-paint.result in
+    let value = c.dc-dc.ensures.value in
+    let modes = c.with-paint.ensures.modes ∙ ap (λ (d : DcValue). d.modes) value in
+    let operation = c.with-paint.ensures.operation ∙ ap (λ (d : DcValue). binary_table d.modes.raster_op) value in
+    let clip = clip_placed s paint.clip.now dc state c.with-paint.ensures.clip value c.dc-dc.ensures.placed in
+    let ends = c.in-Some.ends in
+    let figures = figures_drawn c.args.machine.now.painted c.in-Figures.points in
+    let asked : stroked_ends c.in-Figures.painting ≡ Some ends = search rules in
+    let shape = stroked_shape ends figures in
+    let drawn = pen_drawn c.writing_law.ensures s c.args.canvas.now c.paint_part.new.canvas c.whole_law.ensures c.requires.held c.binary_law.ensures.same paint tools modes operation clip _ shape c.args.colour c.with-paint.ensures.brush (λ x y. ap (λ (list : List Line). in_stroke list x y) c.new-outline.ensures ∙ stroked_lines s ends figures x y) (rw same at c.paint_part.ensures.pixels) in
     rw (c.in-Figures.is, strokes_figures c.in-Figures.painting ends figures tools asked, pen_strokes shape tools c.args.colour c.requires.pen) drawn
 
 pub returns-in-Rectangle-clause-drawn : goal.returns-in-Rectangle-clause-drawn

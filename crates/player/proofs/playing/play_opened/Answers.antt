@@ -17,5 +17,5 @@ play_records-requires c =
     let room : HasRoomForRecords o.format o.records.now machine = search rules in
     let state : machine.state ≡ before.state = search rules in
     let needs : machine.needs ≡ before.needs = search rules in
-    let lines : HasLinesForRecords c.in_ok-rows.rows.room o.format o.records.now machine = lines_for_records before machine c.in-Ok.lines c.in_ok-rows.rows.room o.format o.records.now state needs c.in-Ok.ensures.lines c.in_ok-rows.ensures.room in
+    let lines : HasLinesForRecords c.in_ok-room.room.rows.room o.format o.records.now machine = lines_for_records before machine c.in-Ok.lines c.in_ok-room.room.rows.room o.format o.records.now state needs c.in-Ok.ensures.lines c.in_ok-room.ensures.room in
     search (held, room, lines, rules)
