@@ -1,13 +1,11 @@
 -- The edges that cross a row, from those that crossed the row above; what they have inside; and where they cross.
-use Rattle.std.proofs.Common.{◌≡◌, inl, inr, ℕ, suc, ◌+◌, ◌<◌, ◌≤◌, ℤ, pos, negsuc, ◌<ℤ◌, true, false, ◌&&◌, cond, not, int_le, int_lt, nat_le, nat_lt, if◌then◌else◌, List, [], ◌∷◌, ◌++◌, length, get_or, drop, take, map, append-nil, refl, sym, ap, ◌∙◌, arith}
+use Rattle.std.proofs.Common.{◌≡◌, inl, inr, ℕ, suc, ◌+◌, ◌<◌, ◌≤◌, ℤ, pos, negsuc, ◌<ℤ◌, true, false, ◌&&◌, not, int_le, int_lt, nat_le, nat_lt, if◌then◌else◌, List, [], ◌∷◌, ◌++◌, length, get_or, map, refl, sym, ap, ◌∙◌, arith}
 use Rattle.std.specs.List.{All, filter, sum_by}
 use Rattle.std.specs.List.Sorted.{IsNonDecreasingBy, IsPermutation}
 use Rattle.std.proofs.lemmas.Bool.{cases_Bool, cases_lt}
 use Rattle.std.proofs.lemmas.Bool.Decides.{nat_tests}
 use Rattle.std.proofs.lemmas.Int.{ints}
-use Rattle.std.proofs.lemmas.List.Elements.{All-append, All-cons, All-filter, All-head, All-map, All-nil, All-tail, All-weaker, filter-append, filter_more}
-use Rattle.std.proofs.lemmas.List.{drop-set-lt, drop_more, take_more_set}
-use Rattle.std.proofs.Math.ListN.{set}
+use Rattle.std.proofs.lemmas.List.Elements.{All-append, All-cons, All-filter, All-head, All-map, All-nil, All-tail, All-weaker, filter-append}
 use Rattle.std.proofs.lemmas.List.Recursion.{is_sum_by}
 use Rattle.std.proofs.lemmas.List.Sorted.{All-permutation, IsPermutation-append, IsPermutation-map, IsPermutation-sym, IsPermutation-trans, sum_by-IsPermutation}
 use Rattle.mapping.specs.declared.geometry.Point.{Point}
@@ -285,47 +283,3 @@ lines_crossings number (line ∷ lines) y =
 pub crossings_are : (lines : List Line) (y : ℕ) (active : List ActiveEdge) → IsPermutation (active_edges y (edges_from 0 lines)) active → IsPermutation (map crossing_of active) (crossings_of lines y)
 crossings_are lines y active so =
     IsPermutation-trans _ _ _ (IsPermutation-sym _ _ (IsPermutation-map crossing_of _ _ so)) (IsPermutation-same _ _ (lines_crossings 0 lines y))
-
--- edges moved one part after another
-moved-append : (xs ys : List ActiveEdge) → map moved (xs ++ ys) ≡ map moved xs ++ map moved ys
-moved-append [] ys = refl
-moved-append (x ∷ xs) ys = ap (λ es. moved x ∷ es) (moved-append xs ys)
-
--- one edge more of those that still cross
-goes_more : (row place : ℕ) (d : ActiveEdge) (before : List ActiveEdge) → place < length before → goes_to row (get_or before place d) ≡ true → map moved (filter (goes_to row) (take (place + 1) before)) ≡ map moved (filter (goes_to row) (take place before)) ++ moved (get_or before place d) ∷ []
-goes_more row place d before within goes =
-    let more = filter_more (goes_to row) before place d within in
-    let one : cond (goes_to row (get_or before place d)) (get_or before place d ∷ []) [] ≡ get_or before place d ∷ [] = rw goes refl in
-    ap (map moved) (more ∙ ap (λ es. filter (goes_to row) (take place before) ++ es) one) ∙ moved-append (filter (goes_to row) (take place before)) (get_or before place d ∷ [])
-
-leaves_more : (row place : ℕ) (d : ActiveEdge) (before : List ActiveEdge) → place < length before → goes_to row (get_or before place d) ≡ false → map moved (filter (goes_to row) (take (place + 1) before)) ≡ map moved (filter (goes_to row) (take place before))
-leaves_more row place d before within goes =
-    let more = filter_more (goes_to row) before place d within in
-    let none : cond (goes_to row (get_or before place d)) (get_or before place d ∷ []) [] ≡ [] = rw goes refl in
-    ap (map moved) (more ∙ ap (λ es. filter (goes_to row) (take place before) ++ es) none ∙ append-nil (filter (goes_to row) (take place before)))
-
--- what is still to come has the same first edge, and the same others
-pub first_same : (place : ℕ) (d : ActiveEdge) (before now_ : List ActiveEdge) → place < length before → place < length now_ → drop place now_ ≡ drop place before → (get_or now_ place d ≡ get_or before place d) × (drop (place + 1) now_ ≡ drop (place + 1) before)
-first_same place d before now_ within inside others =
-    let a = drop_more now_ place d inside in
-    let b = drop_more before place d within in
-    let both : get_or now_ place d ∷ drop (place + 1) now_ ≡ get_or before place d ∷ drop (place + 1) before = sym a ∙ others ∙ b in
-    (cc both, cc both)
-
--- the edges so far that still cross stand in front: one that does
-pub front_keeps : (row place kept : ℕ) (d : ActiveEdge) (before now_ after : List ActiveEdge) → place < length before → length now_ ≡ length before → kept ≤ place → drop place now_ ≡ drop place before → take kept now_ ≡ map moved (filter (goes_to row) (take place before)) → goes_to row (get_or now_ place d) ≡ true → after ≡ set now_ kept (moved (get_or now_ place d)) → (take (kept + 1) after ≡ map moved (filter (goes_to row) (take (place + 1) before))) × (drop (place + 1) after ≡ drop (place + 1) before)
-front_keeps row place kept d before now_ after within len order others front goes is =
-    let same = first_same place d before now_ within (omega (arith, len, within)) others in
-    let edge = moved (get_or now_ place d) in
-    let goes_before : goes_to row (get_or before place d) ≡ true = sym (ap (goes_to row) same.0) ∙ goes in
-    let taken = take_more_set now_ kept edge (omega (arith, len, within, order)) in (
-      ap (take (kept + 1)) is ∙ taken ∙ ap (λ es. es ++ edge ∷ []) front ∙ ap (λ e. map moved (filter (goes_to row) (take place before)) ++ moved e ∷ []) same.0 ∙ sym (goes_more row place d before within goes_before),
-      ap (drop (place + 1)) is ∙ drop-set-lt (place + 1) now_ kept edge (omega (arith, order)) ∙ same.1,
-    )
-
--- and one that doesn't
-pub front_leaves : (row place kept : ℕ) (d : ActiveEdge) (before now_ : List ActiveEdge) → place < length before → length now_ ≡ length before → drop place now_ ≡ drop place before → take kept now_ ≡ map moved (filter (goes_to row) (take place before)) → goes_to row (get_or now_ place d) ≡ false → (take kept now_ ≡ map moved (filter (goes_to row) (take (place + 1) before))) × (drop (place + 1) now_ ≡ drop (place + 1) before)
-front_leaves row place kept d before now_ within len others front goes =
-    let same = first_same place d before now_ within (omega (arith, len, within)) others in
-    let goes_before : goes_to row (get_or before place d) ≡ false = sym (ap (goes_to row) same.0) ∙ goes in
-    (front ∙ sym (leaves_more row place d before within goes_before), same.1)

@@ -5,9 +5,10 @@ use Rattle.std.proofs.lemmas.List.{at_drop_more}
 use Rattle.std.proofs.lemmas.Bool.Decides.{nat_tests}
 use Rattle.span_fill.specs.Fill.{is_inside}
 use Rattle.span_fill.specs.Spans.{AreApart, AreRow, in_span, in_spans}
-use Rattle.span_fill.specs.Sweep.{CrossFrom, AreSorted, downwards_at, ended_spans, is_part, longer_run, run_spans, swept, upwards_at}
+use Rattle.span_fill.specs.Sweep.{CrossFrom, AreSorted, downwards_at, ended_spans, is_over_behind, is_part, longer_run, run_spans, swept, upwards_at}
 use Rattle.span_fill.specs.declared.edge.ActiveEdge.{ActiveEdge}
 use Rattle.span_fill.specs.declared.fill_rule.FillRule.{FillRule}
+use Rattle.span_fill.specs.declared.fill_rule.FillRule.TheVariants.{EvenOdd, NonZero}
 use Rattle.span_fill.specs.declared.span.Span.{Span}
 
 pub in_spans-append : (xs ys : List Span) (x : ℕ) → in_spans (xs ++ ys) x ≡ (in_spans xs x || in_spans ys x)
@@ -131,6 +132,55 @@ swept_is_row rule interval edges sorted h = record {
       let t : (in_span (record { from = interval.from; to = interval.from }) x || (nat_le interval.from x && is_inside rule (0 + downwards_at edges x) (0 + upwards_at edges x))) ≡ is_inside rule (0 + downwards_at edges x) (0 + upwards_at edges x) = grind (arith, nat_tests) in
       e ∙ t ∙ same_test rule _ _ _ _ (omega arith) (omega arith);
 }
+
+-- where only the columns between two are inside, and no run before them, they are the one span
+one_run : (at from to : ℕ) → ended_spans true (record { from = at; to = at }) from to ++ run_spans (longer_run true (record { from = at; to = at }) from to) ≡ run_spans (record { from = from; to = to })
+one_run at from to =
+    let none : nat_lt at at ≡ false = le-ltb at at (omega arith) in
+    elim (cases_lt from to) [
+      | inl h ↦ let t : nat_lt from to ≡ true = lt-ltb from to h in
+          elim (cases_eq at from) [
+            | inl e ↦ let s : (at == from) ≡ true = eq-eqb at from e in rw (t, s) (ap (λ n. run_spans (record { from = n; to = to })) e ∙ rw t refl)
+            | inr g ↦ let s : (at == from) ≡ false = ne_eqb at from g in rw (t, s, none, t) refl
+          ]
+      | inr h ↦ let t : nat_lt from to ≡ false = le-ltb from to h in rw (t, none) refl
+    ]
+
+-- a count of one edge is inside, and none is without edges
+none_crossed : (rule : FillRule) → is_inside rule 0 0 ≡ false
+none_crossed EvenOdd = refl
+none_crossed NonZero = refl
+
+one_crossed : (rule : FillRule) (is_down : Bool) → is_inside rule (0 + cond is_down 1 0) (0 + cond (not is_down) 1 0) ≡ true
+one_crossed EvenOdd true = refl
+one_crossed EvenOdd false = refl
+one_crossed NonZero true = refl
+one_crossed NonZero false = refl
+
+both_crossed : (rule : FillRule) (left right : ActiveEdge) → is_over_behind rule left right ≡ true → is_inside rule ((0 + cond left.is_down 1 0) + cond right.is_down 1 0) ((0 + cond (not left.is_down) 1 0) + cond (not right.is_down) 1 0) ≡ false
+both_crossed EvenOdd left right t =
+    elim (cases_Bool left.is_down) [
+      | inl l ↦ elim (cases_Bool right.is_down) [ inl r ↦ rw (l, r) refl | inr r ↦ rw (l, r) refl ]
+      | inr l ↦ elim (cases_Bool right.is_down) [ inl r ↦ rw (l, r) refl | inr r ↦ rw (l, r) refl ]
+    ]
+both_crossed NonZero left right t =
+    elim (cases_Bool left.is_down) [
+      | inl l ↦ elim (cases_Bool right.is_down) [ inl r ↦ absurd (let s = rw (l, r) at t in cc) | inr r ↦ rw (l, r) refl ]
+      | inr l ↦ elim (cases_Bool right.is_down) [ inl r ↦ rw (l, r) refl | inr r ↦ absurd (let s = rw (l, r) at t in cc) ]
+    ]
+
+-- two edges with nothing inside behind them give the span between them
+pub swept_pair : (rule : FillRule) (end at : ℕ) (left right : ActiveEdge) → is_over_behind rule left right ≡ true → swept rule end (left ∷ right ∷ []) at 0 0 (record { from = at; to = at }) ≡ run_spans (record { from = max at (min left.column end); to = max (max at (min left.column end)) (min right.column end) })
+swept_pair rule end at left right t =
+    rw (none_crossed rule, one_crossed rule left.is_down, both_crossed rule left right t) (one_run at (max at (min left.column end)) (max (max at (min left.column end)) (min right.column end)))
+
+-- the same of a list of two edges
+pub swept_two : (rule : FillRule) (end at : ℕ) (edges : List ActiveEdge) (d : ActiveEdge) (from to : ℕ) (before now_ : List Span) → length edges ≡ 2 → is_over_behind rule (get_or edges 0 d) (get_or edges 1 d) ≡ true → from ≡ max at (min (get_or edges 0 d).column end) → to ≡ max from (min (get_or edges 1 d).column end) → now_ ≡ before ++ run_spans (record { from = from; to = to }) → now_ ≡ before ++ swept rule end edges at 0 0 (record { from = at; to = at })
+swept_two rule end at [] d from to before now_ two over from_is to_is is = absurd (omega (arith, two))
+swept_two rule end at (left ∷ []) d from to before now_ two over from_is to_is is = absurd (omega (arith, two))
+swept_two rule end at (left ∷ right ∷ []) d from to before now_ two over from_is to_is is =
+    rw (is, to_is, from_is) (ap (λ spans. before ++ spans) (sym (swept_pair rule end at left right over)))
+swept_two rule end at (left ∷ right ∷ other ∷ edges) d from to before now_ two over from_is to_is is = absurd (omega (arith, two))
 
 -- a step over one edge, as the loop makes it
 pub swept_step : (rule : FillRule) (end : ℕ) (edges : List ActiveEdge) (i at downs ups : ℕ) (run : Span) (d : ActiveEdge) (before now_ total : List Span) (inside : Bool) (column downs' ups' : ℕ) (run' : Span) → i < length edges → inside ≡ is_inside rule downs ups → column ≡ max at (min (get_or edges i d).column end) → run' ≡ longer_run inside run at column → downs' ≡ downs + cond (get_or edges i d).is_down 1 0 → ups' ≡ ups + cond (not (get_or edges i d).is_down) 1 0 → now_ ≡ before ++ ended_spans inside run at column → before ++ swept rule end (drop i edges) at downs ups run ≡ total → now_ ++ swept rule end (drop (i + 1) edges) column downs' ups' run' ≡ total

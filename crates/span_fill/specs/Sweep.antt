@@ -1,8 +1,9 @@
 -- A row's spans from the edges that cross it, in the order of the columns that they cross.
-use Rattle.std.specs.Prelude.{ℕ, ◌+◌, ◌≤◌, Bool, ◌&&◌, ◌==◌, not, nat_le, nat_lt, max, min, if◌then◌else◌, List, [], ◌∷◌, ◌++◌}
+use Rattle.std.specs.Prelude.{ℕ, ◌+◌, ◌≤◌, Bool, true, ◌&&◌, ◌==◌, not, nat_le, nat_lt, max, min, if◌then◌else◌, List, [], ◌∷◌, ◌++◌}
 use Rattle.span_fill.specs.Fill.{is_inside}
 use Rattle.span_fill.specs.declared.edge.ActiveEdge.{ActiveEdge}
 use Rattle.span_fill.specs.declared.fill_rule.FillRule.{FillRule}
+use Rattle.span_fill.specs.declared.fill_rule.FillRule.TheVariants.{EvenOdd, NonZero}
 use Rattle.span_fill.specs.declared.span.Span.{Span}
 
 -- how many of the edges that run downwards cross the row at column x or before
@@ -24,6 +25,11 @@ CrossFrom column (edge ∷ edges) = (column ≤ edge.column) × CrossFrom column
 abbrev pub AreSorted : List ActiveEdge → Type 0
 AreSorted [] = Unit
 AreSorted (edge ∷ edges) = CrossFrom edge.column edges × AreSorted edges
+
+-- where two edges alone cross the row, no pixel behind both is inside
+abbrev pub is_over_behind : FillRule → ActiveEdge → ActiveEdge → Bool
+is_over_behind EvenOdd left right = true
+is_over_behind NonZero left right = if left.is_down then not right.is_down else right.is_down
 
 -- the run as a list, empty if it has no column
 abbrev pub run_spans : Span → List Span

@@ -1,29 +1,27 @@
 //! An edge where it crosses a row, and from there to the next row by additions.
 
-ghost use Rattle.std.specs.Prelude.{◌≡◌, ◌+◌, ◌≤◌, ◌^◌, pos, ◌+ℤ◌, ◌-ℤ◌, ◌*ℤ◌, ◌≤ℤ◌, ◌<ℤ◌, IsTrue, if◌then◌else◌};
+ghost use Rattle.std.specs.Prelude.{◌≡◌, ◌+◌, ◌≤◌, ◌^◌, pos, ◌+ℤ◌, ◌-ℤ◌, ◌*ℤ◌, ◌≤ℤ◌, ◌<ℤ◌, IsTrue, if◌then◌else◌, ◌&&◌, nat_le, map};
+ghost use Rattle.std.specs.List.{All};
 ghost use Rattle.mapping.specs.Floor.{floor_div};
 ghost use Rattle.mapping.specs.Limits.{IsWithin};
+ghost use Rattle.span_fill.specs.Insertion.{are_in_order};
 ghost use Rattle.span_fill.specs.Edges.{EdgeCanMove, near_column, crossing_of, first_column, goes_to, is_over, moved, moved_quotient, moved_rest, remainder_of};
 
 use crate::crossing::Crossing;
 use crate::edge::ActiveEdge;
 
 impl ActiveEdge {
-    /// The edge one row on.
+    /// One row on.
     #[inline]
-    pub(crate) fn moved(self) -> ActiveEdge
-        requires { EdgeCanMove self }
-        ensures { result ≡ moved self }
+    fn move_on(&mut self)
+        requires { EdgeCanMove self.old }
+        ensures { self.new ≡ moved self.old }
     {
-        let over = self.divisor <= self.rest + self.more;
-        let quotient = raised(self.quotient + self.step, over);
-        let rest = lowered(self.rest + self.more, self.divisor, over);
-        ActiveEdge {
-            column: first_column(quotient, rest, self.divisor),
-            quotient,
-            rest,
-            ..self
-        }
+        let sum = self.rest + self.more;
+        let over = self.divisor <= sum;
+        self.quotient = raised(self.quotient + self.step, over);
+        self.rest = lowered(sum, self.divisor, over);
+        self.column = first_column(self.quotient, self.rest, self.divisor);
     }
 
     /// Where the edge crosses its row.
@@ -37,6 +35,30 @@ impl ActiveEdge {
             rest: self.rest,
         }
     }
+}
+
+/// All edges one row on: whether they still are in the order of their columns.
+pub(crate) fn move_all(active: &mut [ActiveEdge]) -> bool
+    requires { All EdgeCanMove active.old }
+    ensures edges { active.new ≡ map moved active.old }
+    ensures order { result ≡ are_in_order 0 active.new }
+{
+    let mut ordered = true;
+    let mut before = 0;
+    for edge in active.iter_mut() {
+        edge.move_on();
+        ordered = goes_on(ordered, before, edge.column);
+        before = edge.column;
+    }
+    ordered
+}
+
+/// Whether what was in order still is, with this column behind the one before.
+#[inline]
+fn goes_on(ordered: bool, before: u32, column: u32) -> bool
+    ensures { result ≡ (ordered && nat_le before column) }
+{
+    ordered && before <= column
 }
 
 /// One more, if so.
@@ -74,16 +96,16 @@ pub(crate) fn first_column(quotient: i64, rest: i64, divisor: i64) -> u32
     column_of(raised(quotient, past))
 }
 
-/// The column, within 0 to 8,192.
+/// The column, within 0 to 8,192. That it lies between is asked first: it is one comparison, and mostly so.
 #[inline]
 fn column_of(place: i64) -> u32
     ensures { result ≡ near_column place }
 {
-    if place <= 0 {
-        0
-    } else if place >= 8192 {
-        8192
-    } else {
+    if 0 <= place && place < 8192 {
         place as u32
+    } else if place < 0 {
+        0
+    } else {
+        8192
     }
 }

@@ -27,6 +27,7 @@ mod division;
 mod edge;
 mod edge_list;
 mod edge_start;
+mod events;
 mod fill_rule;
 mod insertion;
 mod joining;

@@ -3,16 +3,43 @@
 ghost use Rattle.std.specs.Prelude.{◌≡◌, ◌+◌, ◌≤◌, ◌<◌, ◌^◌, ◌++◌, length, max, min, if◌then◌else◌};
 ghost use Rattle.smallvec.specs.SmallVec.{HasRoomFor, small_vec_len};
 ghost use Rattle.span_fill.specs.Fill.{is_inside};
-ghost use Rattle.span_fill.specs.Sweep.{is_part, longer_run, ended_spans, run_spans, swept};
+ghost use Rattle.span_fill.specs.Sweep.{is_over_behind, is_part, longer_run, ended_spans, run_spans, swept};
 
 use crate::edge::ActiveEdge;
 use crate::fill_rule::FillRule;
 use crate::row_spans::RowSpans;
 use crate::span::Span;
 
-/// The spans of a row within the interval, behind those that are there: from one edge to the next, in the
-/// order of their columns, with the count of those to the left.
+/// The spans of a row within the interval, behind those that are there. Most rows have two edges, and one span between them.
 pub(crate) fn sweep(rule: FillRule, edges: &[ActiveEdge], interval: Span, spans: &mut RowSpans)
+    requires count { length edges.now ≤ 2 ^ 20 }
+    requires room { HasRoomFor spans.old (length edges.now + 2) }
+    ensures spans { spans.new.items
+        ≡ spans.old.items
+        ++ swept rule interval.to edges.now interval.from 0 0 (record { from = interval.from; to = interval.from }) }
+    ensures room { spans.new.capacity ≡ spans.old.capacity }
+{
+    if edges.len() == 2 && is_over_behind(rule, edges[0], edges[1]) {
+        let from = column_behind(interval.from, edges[0].column, interval.to);
+        let to = column_behind(from, edges[1].column, interval.to);
+        put_run(spans, Span { from, to });
+    } else {
+        sweep_all(rule, edges, interval, spans);
+    }
+}
+
+/// Whether nothing is inside behind the two edges.
+fn is_over_behind(rule: FillRule, left: ActiveEdge, right: ActiveEdge) -> bool
+    ensures { result ≡ is_over_behind rule left right }
+{
+    match rule {
+        FillRule::EvenOdd => true,
+        FillRule::NonZero => left.is_down != right.is_down,
+    }
+}
+
+/// The same of any edges: from one to the next, in the order of their columns, with the count of those to the left.
+fn sweep_all(rule: FillRule, edges: &[ActiveEdge], interval: Span, spans: &mut RowSpans)
     requires count { length edges.now ≤ 2 ^ 20 }
     requires room { HasRoomFor spans.old (length edges.now + 2) }
     ensures spans { spans.new.items
