@@ -1,12 +1,11 @@
 -- What a row buffer keeps: at a begin, from one row to the next, and at its spans.
-use Rattle.std.proofs.Common.{◌≡◌, ℕ, false, ◌+◌, ◌-◌, ◌<◌, ◌≤◌, List, [], ◌∷◌, ◌++◌, append-nil, length, drop, map, refl, sym, ap, subst, ◌∙◌, arith}
+use Rattle.std.proofs.Common.{◌≡◌, ℕ, ◌+◌, ◌-◌, ◌<◌, ◌≤◌, List, ◌++◌, append-nil, length, drop, map, refl, sym, ap, subst, ◌∙◌, arith}
 use Rattle.std.specs.List.{All, filter}
 use Rattle.std.specs.List.Sorted.{IsNonDecreasingBy, IsPermutation}
 use Rattle.std.proofs.lemmas.List.Elements.{All-filter}
 use Rattle.std.proofs.lemmas.List.Sorted.{All-permutation, IsPermutation-append, IsPermutation-refl, IsPermutation-trans}
-use Rattle.span_fill.specs.Edges.{IsEdge, active_at, begins_behind, begins_by, edges_from, ends_behind, edge_first_row, goes_to, moved}
+use Rattle.span_fill.specs.Edges.{IsEdge, active_at, begins_behind, begins_by, column_of, edges_from, ends_behind, edge_first_row, goes_to, moved}
 use Rattle.span_fill.specs.Events.{IsQuietAbove, first_begin, first_end}
-use Rattle.span_fill.specs.Fill.{is_inside}
 use Rattle.span_fill.specs.Lines.{HasNearEnds}
 use Rattle.span_fill.specs.RowFields.{IsFilling, row_work}
 use Rattle.span_fill.specs.RowState.{FillsRow, IsFillingWork}
@@ -14,7 +13,6 @@ use Rattle.span_fill.specs.Sweep.{swept}
 use Rattle.span_fill.specs.declared.edge.ActiveEdge.{ActiveEdge}
 use Rattle.span_fill.specs.declared.edge.Edge.{Edge}
 use Rattle.span_fill.specs.declared.fill_rule.FillRule.{FillRule}
-use Rattle.span_fill.specs.declared.fill_rule.FillRule.TheVariants.{EvenOdd, NonZero}
 use Rattle.span_fill.specs.declared.line.Line.{Line}
 use Rattle.span_fill.specs.declared.row_buf.Work.{Work}
 use Rattle.span_fill.specs.declared.row_buf.Work.TheVariants.{Filling, Idle, Stroking}
@@ -31,7 +29,7 @@ listed_edges y lines collected edges near is so =
     (subst (λ (es : List Edge). All IsEdge es) (sym is) (All-filter (ends_behind y) IsEdge (edges_from 0 lines) (edges_near 0 lines near)))
 
 -- a begin
-pub filling_begins : (y room : ℕ) (lines : List Line) (collected edges : List Edge) (begun : ℕ) (admitted active : List ActiveEdge) (event : ℕ) → All HasNearEnds lines → y ≤ 8192 → collected ≡ filter (ends_behind y) (edges_from 0 lines) → IsPermutation collected edges → IsNonDecreasingBy edge_first_row edges → admitted ≡ map (active_at y) (filter (begins_by y) edges) → drop begun edges ≡ filter (begins_behind y) edges → begun ≤ length edges → IsPermutation admitted active → IsNonDecreasingBy (λ edge. edge.column) active → length active + (length edges - begun) ≤ room → event ≡ first_end (first_begin (drop begun edges)) active → IsFilling lines y room edges begun active event
+pub filling_begins : (y room : ℕ) (lines : List Line) (collected edges : List Edge) (begun : ℕ) (admitted active : List ActiveEdge) (event : ℕ) → All HasNearEnds lines → y ≤ 8192 → collected ≡ filter (ends_behind y) (edges_from 0 lines) → IsPermutation collected edges → IsNonDecreasingBy edge_first_row edges → admitted ≡ map (active_at y) (filter (begins_by y) edges) → drop begun edges ≡ filter (begins_behind y) edges → begun ≤ length edges → IsPermutation admitted active → IsNonDecreasingBy column_of active → length active + (length edges - begun) ≤ room → event ≡ first_end (first_begin (drop begun edges)) active → IsFilling lines y room edges begun active event
 filling_begins y room lines collected edges begun admitted active event near row is so ordered admitted_is left within order sorted count event_is =
     let listed = IsPermutation-trans _ _ _ (IsPermutation-same _ _ (sym is)) so in
     record {
@@ -47,7 +45,7 @@ filling_begins y room lines collected edges begun admitted active event near row
     }
 
 -- the next row
-pub filling_steps : (y z room : ℕ) (lines : List Line) (edges : List Edge) (begun next : ℕ) (active advanced admitted after : List ActiveEdge) (event later : ℕ) → z ≡ y + 1 → y < 8192 → All HasNearEnds lines → IsFilling lines y room edges begun active event → IsPermutation (map moved (filter (goes_to z) active)) advanced → admitted ≡ advanced ++ map (active_at z) (filter (begins_by z) (drop begun edges)) → drop next edges ≡ filter (begins_behind z) (drop begun edges) → next ≤ length edges → IsPermutation admitted after → IsNonDecreasingBy (λ edge. edge.column) after → length after + (length edges - next) ≤ room → IsQuietAbove later after (drop next edges) → IsFilling lines z room edges next after later
+pub filling_steps : (y z room : ℕ) (lines : List Line) (edges : List Edge) (begun next : ℕ) (active advanced admitted after : List ActiveEdge) (event later : ℕ) → z ≡ y + 1 → y < 8192 → All HasNearEnds lines → IsFilling lines y room edges begun active event → IsPermutation (map moved (filter (goes_to z) active)) advanced → admitted ≡ advanced ++ map (active_at z) (filter (begins_by z) (drop begun edges)) → drop next edges ≡ filter (begins_behind z) (drop begun edges) → next ≤ length edges → IsPermutation admitted after → IsNonDecreasingBy column_of after → length after + (length edges - next) ≤ room → IsQuietAbove later after (drop next edges) → IsFilling lines z room edges next after later
 filling_steps y z room lines edges begun next active advanced admitted after event later is row near filling on admitted_is left within order sorted count quiet =
     let still = map moved (filter (goes_to z) active) in
     let come = map (active_at z) (filter (begins_by z) (drop begun edges)) in
@@ -64,7 +62,7 @@ filling_steps y z room lines edges begun next active advanced admitted after eve
     }
 
 -- a row in which no edge ends or begins
-pub filling_goes_on : (y z room : ℕ) (lines : List Line) (edges : List Edge) (begun : ℕ) (active after : List ActiveEdge) (event : ℕ) → z ≡ y + 1 → y < 8192 → z < event → All HasNearEnds lines → IsFilling lines y room edges begun active event → IsPermutation (map moved active) after → IsNonDecreasingBy (λ edge. edge.column) after → length after ≡ length active → IsFilling lines z room edges begun after event
+pub filling_goes_on : (y z room : ℕ) (lines : List Line) (edges : List Edge) (begun : ℕ) (active after : List ActiveEdge) (event : ℕ) → z ≡ y + 1 → y < 8192 → z < event → All HasNearEnds lines → IsFilling lines y room edges begun active event → IsPermutation (map moved active) after → IsNonDecreasingBy column_of after → length after ≡ length active → IsFilling lines z room edges begun after event
 filling_goes_on y z room lines edges begun active after event is row above near filling order sorted long =
     let stay = all_go_on z event active above filling.quiet.stay in
     let wait = all_wait_on z event (drop begun edges) above filling.quiet.wait in
@@ -86,26 +84,6 @@ filling_grows y room more lines edges begun active event h filling =
       count = omega (arith, count, h);
       quiet = filling.quiet;
     }
-
--- no pixel is inside where no edge crosses
-none_inside : (rule : FillRule) → is_inside rule 0 0 ≡ false
-none_inside EvenOdd = refl
-none_inside NonZero = refl
-
--- a row that no edge crosses
-pub filled_empty : (work : Work) (rule : FillRule) (y room : ℕ) (lines : List Line) (edges : List Edge) (begun : ℕ) (active : List ActiveEdge) (event : ℕ) (interval : Span) (spans : List Span) → IsFillingWork (row_work work rule) → All HasNearEnds lines → IsFilling lines y room edges begun active event → interval.to ≤ 8192 → length active ≡ 0 → spans ≡ [] → FillsRow (row_work work rule) lines y interval spans
-filled_empty Idle rule y room lines edges begun active event interval spans h near filling end none is = absurd h
-filled_empty Stroking rule y room lines edges begun active event interval spans h near filling end none is = absurd h
-filled_empty Filling rule y room lines edges begun [] event interval spans h near filling end none is =
-    rw is (record { apart = tt; exact = λ x low high. sym (none_inside rule) ∙ inside_is rule lines [] y x near (omega (arith, high, end)) filling.crosses })
-filled_empty Filling rule y room lines edges begun (edge ∷ active) event interval spans h near filling end none is = absurd (omega (arith, none))
-
--- an interval without columns
-pub filled_nothing : (work : Work) (rule : FillRule) (y : ℕ) (lines : List Line) (interval : Span) (spans : List Span) → IsFillingWork (row_work work rule) → interval.to ≤ interval.from → spans ≡ [] → FillsRow (row_work work rule) lines y interval spans
-filled_nothing Idle rule y lines interval spans h order is = absurd h
-filled_nothing Stroking rule y lines interval spans h order is = absurd h
-filled_nothing Filling rule y lines interval spans h order is =
-    rw is (record { apart = tt; exact = λ x low high. absurd (omega (arith, low, high, order)) })
 
 -- a row that is swept
 pub filled_swept : (work : Work) (rule : FillRule) (y room : ℕ) (lines : List Line) (edges : List Edge) (begun : ℕ) (active : List ActiveEdge) (event : ℕ) (interval : Span) (spans : List Span) → IsFillingWork (row_work work rule) → All HasNearEnds lines → IsFilling lines y room edges begun active event → interval.to ≤ 8192 → interval.from < interval.to → spans ≡ swept rule interval.to active interval.from 0 0 (record { from = interval.from; to = interval.from }) → FillsRow (row_work work rule) lines y interval spans

@@ -2,7 +2,7 @@
 use Rattle.std.specs.Prelude.{◌≡◌, ℕ, ◌+◌, ◌-◌, ◌^◌, ◌<◌, ◌≤◌, ℤ, List, drop, length, filter, vec_capacity}
 use Rattle.std.specs.List.{All}
 use Rattle.std.specs.List.Sorted.{IsNonDecreasingBy, IsPermutation}
-use Rattle.span_fill.specs.Edges.{IsEdge, active_edges, begins_behind, edges_from, edge_first_row}
+use Rattle.span_fill.specs.Edges.{IsEdge, active_edges, begins_behind, column_of, edges_from, edge_first_row}
 use Rattle.span_fill.specs.Events.{IsQuietAbove}
 use Rattle.span_fill.specs.Lines.{HasNearEnds}
 use Rattle.span_fill.specs.RowState.{IsFillingWork, IsStrokingWork, RowState, RowWork, filling, idle, stroking}
@@ -46,7 +46,7 @@ pub record IsFilling (lines : List Line) (y room : ℕ) (edges : List Edge) (beg
   pub within : begun ≤ length edges
   pub waits : IsPermutation (filter (begins_behind y) (edges_from 0 lines)) (drop begun edges)
   pub crosses : IsPermutation (active_edges y (edges_from 0 lines)) active
-  pub sorted : IsNonDecreasingBy (λ edge. edge.column) active
+  pub sorted : IsNonDecreasingBy column_of active
   pub count : length active + (length edges - begun) ≤ room
   pub quiet : IsQuietAbove event active (drop begun edges)
 

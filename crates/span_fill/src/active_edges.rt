@@ -4,9 +4,8 @@ ghost use Rattle.std.specs.Prelude.{◌≡◌, ◌+◌, ◌-◌, ◌≤◌, ◌<
 ghost use Rattle.std.specs.List.{All};
 ghost use Rattle.std.specs.List.Sorted.{IsNonDecreasingBy, IsPermutation};
 ghost use Rattle.span_fill.specs.Admitting.{BeginsEdge, NoneBegins};
-ghost use Rattle.span_fill.specs.Edges.{IsEdge, active_at, begins_behind, begins_by, crossing_of, edge_first_row, goes_to};
+ghost use Rattle.span_fill.specs.Edges.{IsEdge, active_at, begins_behind, begins_by, edge_first_row, goes_to};
 
-use crate::crossing::Crossing;
 use crate::edge::{ActiveEdge, Edge};
 
 /// The edges in the order of the rows where they begin.
@@ -65,17 +64,5 @@ fn beginning(edges: &[Edge], next: usize, row: u32) -> Option<Edge>
         Some(edge)
     } else {
         None
-    }
-}
-
-/// Where the edges cross their row.
-pub(crate) fn tell(crossings: &mut Vec<Crossing>, active: &[ActiveEdge])
-    requires { length active.now ≤ vec_capacity crossings.old }
-    ensures crossings { crossings.new.items ≡ map crossing_of active.now }
-    ensures room { vec_capacity crossings.new ≡ vec_capacity crossings.old }
-{
-    crossings.clear();
-    for edge in active {
-        crossings.push_reserved(edge.crossing());
     }
 }

@@ -22,6 +22,7 @@ mod clip;
 mod course;
 mod crossing;
 mod crossing_moves;
+mod crossings;
 mod cut;
 mod division;
 mod edge;

@@ -5,8 +5,9 @@ ghost use Rattle.std.specs.List.Sorted.{IsPermutation};
 ghost use Rattle.span_fill.specs.Crossings.{crossings_of};
 ghost use Rattle.span_fill.specs.RowState.{BeginsFill, BeginsStroke, DiffersInRoom, FillsRow, SameWork, IsFillingWork, IsStrokingWork, filling, idle, stroking};
 
-use crate::active_edges::{admit, retire, sort_edges, tell};
+use crate::active_edges::{admit, retire, sort_edges};
 use crate::crossing::Crossing;
+use crate::crossings::tell;
 use crate::edge::{ActiveEdge, Edge};
 use crate::edge_list::collect_edges;
 use crate::events::next_event;
@@ -50,7 +51,7 @@ pub struct RowBuf {
     active: Vec<ActiveEdge>,
     /// The first row in which one of these has ended or another begins.
     event: u32,
-    /// Where they do, once that was asked for.
+    /// Where the lines cross the next row, once that was asked for.
     crossings: Vec<Crossing>,
     spans: RowSpans,
     /// The lines themselves.
@@ -216,12 +217,12 @@ impl RowBuf {
     }
 
     /// Where the lines cross the middle of the next row: each line once that has it between its ends, and
-    /// no other, in no order.
+    /// no other, in no order. Each is divided anew, for whoever asks.
     pub fn crossings(&mut self) -> &[Crossing]
         requires { IsFillingWork self.old.work }
         ensures { IsPermutation result.now (crossings_of self.old.lines self.old.next) }
     {
-        tell(&mut self.crossings, self.active.as_slice());
+        tell(&mut self.crossings, self.lines.as_slice(), self.next);
         self.crossings.as_slice()
     }
 
@@ -234,9 +235,6 @@ impl RowBuf {
         ensures same { SameWork self.old self.new }
     {
         self.spans.clear();
-        if self.active.is_empty() {
-            return;
-        }
         if interval.from < interval.to {
             sweep(self.rule, self.active.as_slice(), interval, &mut self.spans);
         }

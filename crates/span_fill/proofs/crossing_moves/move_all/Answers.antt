@@ -1,6 +1,7 @@
 -- One edge more is moved.
-use Rattle.std.proofs.Common.{◌<◌, length, pos, false, ap, subst, sym, ◌∙◌, arith}
+use Rattle.std.proofs.Common.{FitsSigned, w64, ◌<◌, length, pos, false, ap, subst, sym, ◌∙◌, arith, rules}
 use Rattle.std.proofs.Math.ListN.{set}
+use Rattle.std.proofs.lemmas.Int.{to_z-of_z}
 use Rattle.span_fill.specs.Edges.{EdgeCanMove, moved}
 use Rattle.span_fill.specs.declared.edge.ActiveEdge.{ActiveEdge}
 use Rattle.span_fill.proofs.MoveLemmas.{first_same, moved_more, order_step}
@@ -8,7 +9,7 @@ use Rattle.span_fill.proofs.crossing_moves.move_all.Goals as goal
 
 -- an edge where there is none
 abbrev none : ActiveEdge
-none = record { line = 0; column = 0; bottom = 0; is_down = false; quotient = pos 0; rest = pos 0; divisor = pos 0; step = pos 0; more = pos 0 }
+none = record { bottom = 0; is_down = false; column = pos 0; rest = pos 0; divisor = pos 0; step = pos 0; more = pos 0 }
 
 pub move_on-requires : goal.move_on-requires
 move_on-requires c =
@@ -25,8 +26,10 @@ loop-edge-preserved c =
     let after = set c.loop-edge.active at c.move_on.new.self in
     let more = moved_more at none c.args.active.now c.loop-edge.active after within c.loop-edge.auto.active c.loop-edge.invariant.done c.loop-edge.invariant.others (ap (set c.loop-edge.active at) c.move_on.ensures) in
     let edge_is = c.move_on.ensures ∙ ap moved same.0 in
+    let fits : FitsSigned w64 c.move_on.new.self.column = search rules in
+    let test = simp to_z-of_z at c.goes_on-ordered.ensures in
     record {
       done = more.0;
       others = more.1;
-      order = rw (c.goes_on-ordered.ensures, edge_is) (order_step at none c.args.active.now c.loop-edge.ordered c.loop-edge.before _ within c.loop-edge.invariant.order);
+      order = simp to_z-of_z (rw (test, edge_is) (order_step at none c.args.active.now c.loop-edge.ordered _ _ within c.loop-edge.invariant.order));
     }

@@ -7,7 +7,7 @@ use Rattle.span_fill.proofs.events.next_event.Goals as goal
 
 -- an edge where there is none
 abbrev none : ActiveEdge
-none = record { line = 0; column = 0; bottom = 0; is_down = false; quotient = pos 0; rest = pos 0; divisor = pos 0; step = pos 0; more = pos 0 }
+none = record { bottom = 0; is_down = false; column = pos 0; rest = pos 0; divisor = pos 0; step = pos 0; more = pos 0 }
 
 pub loop-edge-preserved : goal.loop-edge-preserved
 loop-edge-preserved c =
