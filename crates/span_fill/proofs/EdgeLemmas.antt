@@ -8,7 +8,7 @@ use Rattle.mapping.specs.declared.geometry.Point.{Point}
 use Rattle.std.proofs.Math.Nat.{mul-le-mul}
 use Rattle.mapping.specs.Floor.{floor_div}
 use Rattle.mapping.specs.Limits.{IsWithin, place_limit}
-use Rattle.span_fill.specs.Edges.{EdgeCanMove, IsEdge, active_at, active_with, near_column, moved, moved_rest, remainder_of}
+use Rattle.span_fill.specs.Edges.{EdgeCanMove, IsEdge, active_at, active_with, column_dividend, column_of, near_column, moved, moved_rest, remainder_of}
 use Rattle.span_fill.specs.Fill.{across, crossing_dividend, crossing_divisor, down}
 use Rattle.span_fill.specs.Lines.{IsNear}
 use Rattle.span_fill.specs.declared.edge.Edge.{Edge}
@@ -109,6 +109,9 @@ dividend_moves upper lower y =
     let e = ap (λ n. n *ℤ across upper lower) rows ∙ add_mul (pos (2 * y + 1) -ℤ pos 2 *ℤ upper.y) (pos 2) (across upper lower) in
     omega (arith, ints, e)
 
+column_moves : (upper lower : Point) (y : ℕ) → column_dividend upper lower (suc y) ≡ column_dividend upper lower y +ℤ pos 2 *ℤ across upper lower
+column_moves upper lower y = let e = dividend_moves upper lower y in omega (arith, ints, e)
+
 -- the divisor is above 0
 divisor_low : (edge : Edge) → IsEdge edge → pos 1 ≤ℤ crossing_divisor edge.upper edge.lower
 divisor_low edge h = let order = h.order in omega (arith, ints, order)
@@ -137,15 +140,15 @@ pub moved_is_next : (edge : Edge) (y : ℕ) → IsEdge edge → moved (active_at
 moved_is_next edge y h =
     let e = crossing_divisor edge.upper edge.lower in
     let positive = divisor_low edge h in
-    let a = crossing_dividend edge.upper edge.lower y in
+    let a = column_dividend edge.upper edge.lower y in
     let b = pos 2 *ℤ across edge.upper edge.lower in
     let r = rest_bounds a e positive in
     let m = rest_bounds b e positive in
     let next = carried a b e _ _ _ _ positive (parts_of a e) (parts_of b e) r.0 r.1 m.0 m.1 in
-    let sum = dividend_moves edge.upper edge.lower y in
-    let quotient = ap (λ n. floor_div n e) sum ∙ next.0 in
+    let sum = column_moves edge.upper edge.lower y in
+    let column = ap (λ n. floor_div n e) sum ∙ next.0 in
     let rest = ap (λ n. remainder_of n e) sum ∙ next.1 in
-    ap (λ q. active_with edge q (moved_rest (active_at y edge))) (sym quotient) ∙ ap (λ r. active_with edge (floor_div (crossing_dividend edge.upper edge.lower (suc y)) e) r) (sym rest)
+    ap (λ q. active_with edge q (moved_rest (active_at y edge))) (sym column) ∙ ap (λ r. active_with edge (floor_div (column_dividend edge.upper edge.lower (suc y)) e) r) (sym rest)
 
 -- how large the numbers are
 across_within : (edge : Edge) → IsEdge edge → IsWithin (2 ^ 30) (across edge.upper edge.lower)
@@ -171,16 +174,23 @@ dividend_within edge y h row =
     let b = product_within (2 ^ 31) (2 ^ 30) _ _ (rows_within edge y h row) (across_within edge h) in
     record { low = omega (arith, ints, a.low, b.low); high = omega (arith, ints, a.high, b.high) }
 
+column_within : (edge : Edge) (y : ℕ) → IsEdge edge → y ≤ 8192 → IsWithin (2 ^ 62 + 2 ^ 31) (column_dividend edge.upper edge.lower y)
+column_within edge y h row =
+    let near = dividend_within edge y h row in
+    let divisor = divisor_within edge h in
+    let order = h.order in
+    record { low = omega (arith, ints, near.low, order); high = omega (arith, ints, near.high, divisor.high) }
+
 -- the numbers leave room
 pub can_move : (edge : Edge) (y : ℕ) → IsEdge edge → y ≤ 8192 → EdgeCanMove (active_at y edge)
 can_move edge y h row =
     let positive = divisor_low edge h in
     let width = across_within edge h in
     let widths : IsWithin (2 ^ 31) (pos 2 *ℤ across edge.upper edge.lower) = record { low = omega (arith, ints, width.low); high = omega (arith, ints, width.high) } in
-    let rest = rest_bounds (crossing_dividend edge.upper edge.lower y) (crossing_divisor edge.upper edge.lower) positive in
+    let rest = rest_bounds (column_dividend edge.upper edge.lower y) (crossing_divisor edge.upper edge.lower) positive in
     let more = rest_bounds (pos 2 *ℤ across edge.upper edge.lower) (crossing_divisor edge.upper edge.lower) positive in
     record {
-      quotient = floor_within (2 ^ 62) _ _ positive (dividend_within edge y h row);
+      column = floor_within (2 ^ 62 + 2 ^ 31) _ _ positive (column_within edge y h row);
       step = floor_within (2 ^ 31) _ _ positive widths;
       divisor = (divisor_within edge h).high;
       rest_low = rest.0;
@@ -210,43 +220,21 @@ same_tests a b c d there back =
       | inr f ↦ f ∙ sym (int_le-not c d (λ h. int_lt-not a b (int_le-false a b f) (back h)))
     ]
 
--- the first column is the quotient, or one more where more than half a column is left
-column_tells_low : (d q r : ℤ) (x : ℕ) → pos 1 ≤ℤ d → pos 0 ≤ℤ r → r ≤ℤ d → int_le q (pos x) ≡ int_le (q *ℤ (pos 2 *ℤ d) +ℤ r) (pos (2 * x + 1) *ℤ d)
-column_tells_low d q r x positive low high =
+-- the floor of what is half a divisor more, but for 1, is the first column that is not before
+floor_tells : (d a q r : ℤ) (x : ℕ) → pos 1 ≤ℤ d → (a +ℤ d -ℤ pos 1) ≡ q *ℤ (pos 2 *ℤ d) +ℤ r → pos 0 ≤ℤ r → r <ℤ (pos 2 *ℤ d) → int_le q (pos x) ≡ int_le a (pos (2 * x + 1) *ℤ d)
+floor_tells d a q r x positive is low high =
     let twice = mul_twice q d in
     let odd = odd_times x d in
     let turned = mul_comm_ℤ q d in
     let turned_x = mul_comm_ℤ (pos x) d in
-    same_tests q (pos x) (q *ℤ (pos 2 *ℤ d) +ℤ r) (pos (2 * x + 1) *ℤ d)
-    (λ h. let e = order_mul q (pos x) d (omega (arith, ints, positive)) h in omega (arith, ints, twice, odd, e, high))
-    (λ h. mul_order_back d q (pos x) positive (omega (arith, ints, twice, odd, h, low, turned, turned_x, positive)))
-
-column_tells_high : (d q r : ℤ) (x : ℕ) → pos 1 ≤ℤ d → d <ℤ r → r <ℤ (pos 2 *ℤ d) → int_le (q +ℤ pos 1) (pos x) ≡ int_le (q *ℤ (pos 2 *ℤ d) +ℤ r) (pos (2 * x + 1) *ℤ d)
-column_tells_high d q r x positive low high =
-    let twice = mul_twice q d in
-    let odd = odd_times x d in
-    let turned_x = mul_comm_ℤ (pos x) d in
-    let turned = mul_comm_ℤ (q +ℤ pos 1) d in
-    let next = add_mul q (pos 1) d in
-    let once : pos 1 *ℤ d ≡ d = omega (arith, ints) in
-    same_tests (q +ℤ pos 1) (pos x) (q *ℤ (pos 2 *ℤ d) +ℤ r) (pos (2 * x + 1) *ℤ d)
-    (λ h. let e = order_mul (q +ℤ pos 1) (pos x) d (omega (arith, ints, positive)) h in omega (arith, ints, twice, odd, e, high, next, once))
-    (λ h. mul_order_back d (q +ℤ pos 1) (pos x) positive (omega (arith, ints, twice, odd, h, low, turned, turned_x, next, once)))
-
-first_tells : (d q r : ℤ) (x : ℕ) → pos 1 ≤ℤ d → pos 0 ≤ℤ r → r <ℤ (pos 2 *ℤ d) → int_le (q +ℤ (if int_lt (pos 2 *ℤ d) (pos 2 *ℤ r) then pos 1 else pos 0)) (pos x) ≡ int_le (q *ℤ (pos 2 *ℤ d) +ℤ r) (pos (2 * x + 1) *ℤ d)
-first_tells d q r x positive low high =
-    elim (cases_Bool (int_lt (pos 2 *ℤ d) (pos 2 *ℤ r))) [
-      | inl t ↦ let past = int_lt-true (pos 2 *ℤ d) (pos 2 *ℤ r) t in rw t (column_tells_high d q r x positive (omega (arith, ints, past)) high)
-      | inr f ↦ let not_past = int_lt-false (pos 2 *ℤ d) (pos 2 *ℤ r) f in
-          let none : q +ℤ pos 0 ≡ q = omega (arith, ints) in
-          rw (f, none) (column_tells_low d q r x positive low (omega (arith, ints, not_past)))
-    ]
+    same_tests q (pos x) a (pos (2 * x + 1) *ℤ d)
+    (λ h. let e = order_mul q (pos x) d (omega (arith, ints, positive)) h in omega (arith, ints, is, twice, odd, e, high))
+    (λ h. mul_order_back d q (pos x) positive (omega (arith, ints, is, twice, odd, h, low, turned, turned_x, positive)))
 
 -- an edge's column tells where it is crossed
-pub column_crossed : (edge : Edge) (y x : ℕ) → IsEdge edge → x < 8192 → nat_le (active_at y edge).column x ≡ int_le (crossing_dividend edge.upper edge.lower y) (pos (2 * x + 1) *ℤ down edge.upper edge.lower)
+pub column_crossed : (edge : Edge) (y x : ℕ) → IsEdge edge → x < 8192 → nat_le (column_of (active_at y edge)) x ≡ int_le (crossing_dividend edge.upper edge.lower y) (pos (2 * x + 1) *ℤ down edge.upper edge.lower)
 column_crossed edge y x h below =
-    let d = down edge.upper edge.lower in
     let order = h.order in
-    let rest = rest_bounds (crossing_dividend edge.upper edge.lower y) (crossing_divisor edge.upper edge.lower) (divisor_low edge h) in
-    let parts = parts_of (crossing_dividend edge.upper edge.lower y) (crossing_divisor edge.upper edge.lower) in
-    column_tells _ x below ∙ first_tells d _ _ x (omega (arith, ints, order)) rest.0 rest.1 ∙ ap (λ n. int_le n (pos (2 * x + 1) *ℤ d)) (sym parts)
+    let rest = rest_bounds (column_dividend edge.upper edge.lower y) (crossing_divisor edge.upper edge.lower) (divisor_low edge h) in
+    let parts = parts_of (column_dividend edge.upper edge.lower y) (crossing_divisor edge.upper edge.lower) in
+    column_tells _ x below ∙ floor_tells (down edge.upper edge.lower) (crossing_dividend edge.upper edge.lower y) _ _ x (omega (arith, ints, order)) parts rest.0 rest.1

@@ -1,18 +1,15 @@
 -- The edges that cross a row, from those that crossed the row above; what they have inside; and where they cross.
-use Rattle.std.proofs.Common.{◌≡◌, inl, inr, ℕ, suc, ◌+◌, ◌<◌, ◌≤◌, ℤ, pos, negsuc, ◌<ℤ◌, true, false, ◌&&◌, cond, not, int_le, int_lt, nat_le, nat_lt, if◌then◌else◌, List, [], ◌∷◌, ◌++◌, length, get_or, drop, take, map, append-nil, refl, sym, ap, ◌∙◌, arith}
+use Rattle.std.proofs.Common.{◌≡◌, inl, inr, ℕ, suc, ◌+◌, ◌<◌, ◌≤◌, ℤ, pos, negsuc, ◌<ℤ◌, true, false, ◌&&◌, not, int_le, int_lt, nat_le, nat_lt, if◌then◌else◌, List, [], ◌∷◌, ◌++◌, length, get_or, map, refl, sym, ap, ◌∙◌, arith}
 use Rattle.std.specs.List.{All, filter, sum_by}
 use Rattle.std.specs.List.Sorted.{IsNonDecreasingBy, IsPermutation}
 use Rattle.std.proofs.lemmas.Bool.{cases_Bool, cases_lt}
 use Rattle.std.proofs.lemmas.Bool.Decides.{nat_tests}
 use Rattle.std.proofs.lemmas.Int.{ints}
-use Rattle.std.proofs.lemmas.List.Elements.{All-append, All-cons, All-filter, All-head, All-map, All-nil, All-tail, All-weaker, filter-append, filter_more}
-use Rattle.std.proofs.lemmas.List.{drop-set-lt, drop_more, take_more_set}
-use Rattle.std.proofs.Math.ListN.{set}
+use Rattle.std.proofs.lemmas.List.Elements.{All-append, All-cons, All-filter, All-head, All-map, All-nil, All-tail, All-weaker, filter-append}
 use Rattle.std.proofs.lemmas.List.Recursion.{is_sum_by}
-use Rattle.std.proofs.lemmas.List.Sorted.{All-permutation, IsPermutation-append, IsPermutation-map, IsPermutation-sym, IsPermutation-trans, sum_by-IsPermutation}
+use Rattle.std.proofs.lemmas.List.Sorted.{All-permutation, IsPermutation-append, IsPermutation-map, IsPermutation-trans, sum_by-IsPermutation}
 use Rattle.mapping.specs.declared.geometry.Point.{Point}
-use Rattle.span_fill.specs.Crossings.{crossings_from, crossings_of, crossings_of_line}
-use Rattle.span_fill.specs.Edges.{EdgeCanMove, IsEdge, active_at, active_edges, begins_behind, begins_by, crosses_row, crossing_of, edges_from, edges_of_line, ends_behind, edge_first_row, goes_to, moved, near_row}
+use Rattle.span_fill.specs.Edges.{EdgeCanMove, IsEdge, active_at, active_edges, begins_behind, begins_by, column_of, crosses_row, edges_from, edges_of_line, ends_behind, edge_first_row, goes_to, moved, near_row}
 use Rattle.span_fill.specs.Fill.{crossed_downwards, crossed_upwards, has_row, in_fill, is_crossed, is_inside}
 use Rattle.span_fill.specs.Lines.{HasNearEnds}
 use Rattle.span_fill.specs.Sweep.{CrossFrom, AreSorted, downwards_at, upwards_at}
@@ -232,100 +229,27 @@ lines_up number (line ∷ lines) y x near below =
     ∙ ap (λ n. (if is_crossed line.to line.from x y then 1 else 0) + n) rest
 
 -- counts don't depend on the order
-down_sum : (x : ℕ) (edges : List ActiveEdge) → downwards_at edges x ≡ sum_by (λ e. if e.is_down && nat_le e.column x then 1 else 0) edges
-down_sum x edges = is_sum_by (λ es. downwards_at es x) (λ e. if e.is_down && nat_le e.column x then 1 else 0) refl (λ e es. refl) edges
+down_sum : (x : ℕ) (edges : List ActiveEdge) → downwards_at edges x ≡ sum_by (λ e. if e.is_down && nat_le (column_of e) x then 1 else 0) edges
+down_sum x edges = is_sum_by (λ es. downwards_at es x) (λ e. if e.is_down && nat_le (column_of e) x then 1 else 0) refl (λ e es. refl) edges
 
-up_sum : (x : ℕ) (edges : List ActiveEdge) → upwards_at edges x ≡ sum_by (λ e. if not e.is_down && nat_le e.column x then 1 else 0) edges
-up_sum x edges = is_sum_by (λ es. upwards_at es x) (λ e. if not e.is_down && nat_le e.column x then 1 else 0) refl (λ e es. refl) edges
+up_sum : (x : ℕ) (edges : List ActiveEdge) → upwards_at edges x ≡ sum_by (λ e. if not e.is_down && nat_le (column_of e) x then 1 else 0) edges
+up_sum x edges = is_sum_by (λ es. upwards_at es x) (λ e. if not e.is_down && nat_le (column_of e) x then 1 else 0) refl (λ e es. refl) edges
 
 -- so what the edges have inside is what the lines have inside
 pub inside_is : (rule : FillRule) (lines : List Line) (active : List ActiveEdge) (y x : ℕ) → All HasNearEnds lines → x < 8192 → IsPermutation (active_edges y (edges_from 0 lines)) active → is_inside rule (downwards_at active x) (upwards_at active x) ≡ in_fill rule lines x y
 inside_is rule lines active y x near below so =
-    let down = down_sum x active ∙ sum_by-IsPermutation (λ e. if e.is_down && nat_le e.column x then 1 else 0) _ _ so ∙ sym (down_sum x (active_edges y (edges_from 0 lines))) ∙ lines_down 0 lines y x near below in
-    let up = up_sum x active ∙ sum_by-IsPermutation (λ e. if not e.is_down && nat_le e.column x then 1 else 0) _ _ so ∙ sym (up_sum x (active_edges y (edges_from 0 lines))) ∙ lines_up 0 lines y x near below in
+    let down = down_sum x active ∙ sum_by-IsPermutation (λ e. if e.is_down && nat_le (column_of e) x then 1 else 0) _ _ so ∙ sym (down_sum x (active_edges y (edges_from 0 lines))) ∙ lines_down 0 lines y x near below in
+    let up = up_sum x active ∙ sum_by-IsPermutation (λ e. if not e.is_down && nat_le (column_of e) x then 1 else 0) _ _ so ∙ sym (up_sum x (active_edges y (edges_from 0 lines))) ∙ lines_up 0 lines y x near below in
     ap (λ n. is_inside rule n (upwards_at active x)) down ∙ ap (λ n. is_inside rule (crossed_downwards lines x y) n) up
 
 -- the order by places is the order by what stands behind
-from_places : (column : ℕ) (edges : List ActiveEdge) → ((i : ℕ) (d : ActiveEdge) → i < length edges → column ≤ (get_or edges i d).column) → CrossFrom column edges
+from_places : (column : ℕ) (edges : List ActiveEdge) → ((i : ℕ) (d : ActiveEdge) → i < length edges → column ≤ (column_of (get_or edges i d))) → CrossFrom column edges
 from_places column [] h = tt
 from_places column (edge ∷ edges) h =
     let first = h 0 edge (omega arith) in
     (first, from_places column edges (λ i d k. h (suc i) d (omega (arith, k))))
 
-pub sorted_places : (edges : List ActiveEdge) → IsNonDecreasingBy (λ e. e.column) edges → AreSorted edges
+pub sorted_places : (edges : List ActiveEdge) → IsNonDecreasingBy column_of edges → AreSorted edges
 sorted_places [] h = tt
 sorted_places (edge ∷ edges) h =
-    (from_places edge.column edges (λ i d k. h 0 (suc i) d (omega arith) (omega (arith, k))), sorted_places edges (λ i j d k l. h (suc i) (suc j) d (omega (arith, k)) (omega (arith, l))))
-
--- where a line's edges cross is where the line does
-line_crossings : (number : ℕ) (line : Line) (y : ℕ) → map crossing_of (active_edges y (edges_of_line number line)) ≡ crossings_of_line number line y
-line_crossings number line y =
-    elim (cases_Bool (int_lt line.from.y line.to.y)) [
-      | inl t ↦ let none = no_row line.to line.from y (other_order line.from.y line.to.y t) in
-          elim (cases_Bool (has_row line.from line.to y)) [ inl r ↦ rw (t, r) refl | inr g ↦ rw (t, g, none) refl ]
-      | inr f ↦ let none = no_row line.from line.to y f in
-          elim (cases_Bool (int_lt line.to.y line.from.y)) [
-            | inl s ↦ elim (cases_Bool (has_row line.to line.from y)) [ inl r ↦ rw (f, s, r, none) refl | inr g ↦ rw (f, s, g, none) refl ]
-            | inr g ↦ let other = no_row line.to line.from y g in rw (f, g, none, other) refl
-          ]
-    ]
-
-map_crossings : (xs ys : List ActiveEdge) → map crossing_of (xs ++ ys) ≡ map crossing_of xs ++ map crossing_of ys
-map_crossings [] ys = refl
-map_crossings (x ∷ xs) ys = ap (λ cs. crossing_of x ∷ cs) (map_crossings xs ys)
-
-lines_crossings : (number : ℕ) (lines : List Line) (y : ℕ) → map crossing_of (active_edges y (edges_from number lines)) ≡ crossings_from number lines y
-lines_crossings number [] y = refl
-lines_crossings number (line ∷ lines) y =
-    ap (map crossing_of) (active-append y (edges_of_line number line) (edges_from (suc number) lines))
-    ∙ map_crossings (active_edges y (edges_of_line number line)) (active_edges y (edges_from (suc number) lines))
-    ∙ ap (λ cs. cs ++ map crossing_of (active_edges y (edges_from (suc number) lines))) (line_crossings number line y)
-    ∙ ap (λ cs. crossings_of_line number line y ++ cs) (lines_crossings (suc number) lines y)
-
-pub crossings_are : (lines : List Line) (y : ℕ) (active : List ActiveEdge) → IsPermutation (active_edges y (edges_from 0 lines)) active → IsPermutation (map crossing_of active) (crossings_of lines y)
-crossings_are lines y active so =
-    IsPermutation-trans _ _ _ (IsPermutation-sym _ _ (IsPermutation-map crossing_of _ _ so)) (IsPermutation-same _ _ (lines_crossings 0 lines y))
-
--- edges moved one part after another
-moved-append : (xs ys : List ActiveEdge) → map moved (xs ++ ys) ≡ map moved xs ++ map moved ys
-moved-append [] ys = refl
-moved-append (x ∷ xs) ys = ap (λ es. moved x ∷ es) (moved-append xs ys)
-
--- one edge more of those that still cross
-goes_more : (row place : ℕ) (d : ActiveEdge) (before : List ActiveEdge) → place < length before → goes_to row (get_or before place d) ≡ true → map moved (filter (goes_to row) (take (place + 1) before)) ≡ map moved (filter (goes_to row) (take place before)) ++ moved (get_or before place d) ∷ []
-goes_more row place d before within goes =
-    let more = filter_more (goes_to row) before place d within in
-    let one : cond (goes_to row (get_or before place d)) (get_or before place d ∷ []) [] ≡ get_or before place d ∷ [] = rw goes refl in
-    ap (map moved) (more ∙ ap (λ es. filter (goes_to row) (take place before) ++ es) one) ∙ moved-append (filter (goes_to row) (take place before)) (get_or before place d ∷ [])
-
-leaves_more : (row place : ℕ) (d : ActiveEdge) (before : List ActiveEdge) → place < length before → goes_to row (get_or before place d) ≡ false → map moved (filter (goes_to row) (take (place + 1) before)) ≡ map moved (filter (goes_to row) (take place before))
-leaves_more row place d before within goes =
-    let more = filter_more (goes_to row) before place d within in
-    let none : cond (goes_to row (get_or before place d)) (get_or before place d ∷ []) [] ≡ [] = rw goes refl in
-    ap (map moved) (more ∙ ap (λ es. filter (goes_to row) (take place before) ++ es) none ∙ append-nil (filter (goes_to row) (take place before)))
-
--- what is still to come has the same first edge, and the same others
-pub first_same : (place : ℕ) (d : ActiveEdge) (before now_ : List ActiveEdge) → place < length before → place < length now_ → drop place now_ ≡ drop place before → (get_or now_ place d ≡ get_or before place d) × (drop (place + 1) now_ ≡ drop (place + 1) before)
-first_same place d before now_ within inside others =
-    let a = drop_more now_ place d inside in
-    let b = drop_more before place d within in
-    let both : get_or now_ place d ∷ drop (place + 1) now_ ≡ get_or before place d ∷ drop (place + 1) before = sym a ∙ others ∙ b in
-    (cc both, cc both)
-
--- the edges so far that still cross stand in front: one that does
-pub front_keeps : (row place kept : ℕ) (d : ActiveEdge) (before now_ after : List ActiveEdge) → place < length before → length now_ ≡ length before → kept ≤ place → drop place now_ ≡ drop place before → take kept now_ ≡ map moved (filter (goes_to row) (take place before)) → goes_to row (get_or now_ place d) ≡ true → after ≡ set now_ kept (moved (get_or now_ place d)) → (take (kept + 1) after ≡ map moved (filter (goes_to row) (take (place + 1) before))) × (drop (place + 1) after ≡ drop (place + 1) before)
-front_keeps row place kept d before now_ after within len order others front goes is =
-    let same = first_same place d before now_ within (omega (arith, len, within)) others in
-    let edge = moved (get_or now_ place d) in
-    let goes_before : goes_to row (get_or before place d) ≡ true = sym (ap (goes_to row) same.0) ∙ goes in
-    let taken = take_more_set now_ kept edge (omega (arith, len, within, order)) in (
-      ap (take (kept + 1)) is ∙ taken ∙ ap (λ es. es ++ edge ∷ []) front ∙ ap (λ e. map moved (filter (goes_to row) (take place before)) ++ moved e ∷ []) same.0 ∙ sym (goes_more row place d before within goes_before),
-      ap (drop (place + 1)) is ∙ drop-set-lt (place + 1) now_ kept edge (omega (arith, order)) ∙ same.1,
-    )
-
--- and one that doesn't
-pub front_leaves : (row place kept : ℕ) (d : ActiveEdge) (before now_ : List ActiveEdge) → place < length before → length now_ ≡ length before → drop place now_ ≡ drop place before → take kept now_ ≡ map moved (filter (goes_to row) (take place before)) → goes_to row (get_or now_ place d) ≡ false → (take kept now_ ≡ map moved (filter (goes_to row) (take (place + 1) before))) × (drop (place + 1) now_ ≡ drop (place + 1) before)
-front_leaves row place kept d before now_ within len others front goes =
-    let same = first_same place d before now_ within (omega (arith, len, within)) others in
-    let goes_before : goes_to row (get_or before place d) ≡ false = sym (ap (goes_to row) same.0) ∙ goes in
-    (front ∙ sym (leaves_more row place d before within goes_before), same.1)
+    (from_places (column_of edge) edges (λ i d k. h 0 (suc i) d (omega arith) (omega (arith, k))), sorted_places edges (λ i j d k l. h (suc i) (suc j) d (omega (arith, k)) (omega (arith, l))))

@@ -16,6 +16,8 @@ pub mod SweepLemmas
 pub mod EdgeLemmas
 pub mod Reordering
 pub mod AdmitLemmas
+pub mod EventLemmas
+pub mod MoveLemmas
 pub mod FillLemmas
 pub mod RowLemmas
 mod WorkedFills

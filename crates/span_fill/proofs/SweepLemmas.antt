@@ -3,11 +3,13 @@ use Rattle.std.proofs.Common.{◌≡◌, ℕ, inl, inr, suc, ◌+◌, ◌<◌, �
 use Rattle.std.proofs.lemmas.Bool.{cases_eq, cases_lt, cases_Bool, eq-eqb, ne_eqb, lt-ltb, le-ltb}
 use Rattle.std.proofs.lemmas.List.{at_drop_more}
 use Rattle.std.proofs.lemmas.Bool.Decides.{nat_tests}
+use Rattle.span_fill.specs.Edges.{column_of}
 use Rattle.span_fill.specs.Fill.{is_inside}
 use Rattle.span_fill.specs.Spans.{AreApart, AreRow, in_span, in_spans}
-use Rattle.span_fill.specs.Sweep.{CrossFrom, AreSorted, downwards_at, ended_spans, is_part, longer_run, run_spans, swept, upwards_at}
+use Rattle.span_fill.specs.Sweep.{CrossFrom, AreSorted, downwards_at, ended_spans, is_over_behind, is_part, longer_run, run_spans, swept, upwards_at}
 use Rattle.span_fill.specs.declared.edge.ActiveEdge.{ActiveEdge}
 use Rattle.span_fill.specs.declared.fill_rule.FillRule.{FillRule}
+use Rattle.span_fill.specs.declared.fill_rule.FillRule.TheVariants.{EvenOdd, NonZero}
 use Rattle.span_fill.specs.declared.span.Span.{Span}
 
 pub in_spans-append : (xs ys : List Span) (x : ℕ) → in_spans (xs ++ ys) x ≡ (in_spans xs x || in_spans ys x)
@@ -75,14 +77,14 @@ swept_exact rule end [] at d u run sorted h k l x below =
     let e : is_inside rule d u ≡ is_inside rule (d + 0) (u + 0) = same_test rule d u (d + 0) (u + 0) (omega arith) (omega arith) in
     last_part (is_inside rule d u) run at end x h k below ∙ ap (λ t. in_span run x || (nat_le at x && t)) e
 swept_exact rule end (edge ∷ edges) at d u run sorted h k l x below =
-    let order = longer_order (is_inside rule d u) run at (max at (min edge.column end)) h k (omega arith) in
-    let rest = swept_exact rule end edges (max at (min edge.column end)) (d + (if edge.is_down then 1 else 0)) (u + (if not edge.is_down then 1 else 0)) (longer_run (is_inside rule d u) run at (max at (min edge.column end))) sorted.1 order.0 order.1 (omega arith) x below in
-    next_part (is_inside rule d u) _ (is_inside rule (d + downwards_at (edge ∷ edges) x) (u + upwards_at (edge ∷ edges) x)) run at (max at (min edge.column end)) x _ h k (omega arith) rest
-    (λ before from. let left : x < edge.column = omega arith in
-    let a = none_down edges edge.column x sorted.0 left in
-    let b = none_up edges edge.column x sorted.0 left in
+    let order = longer_order (is_inside rule d u) run at (max at (min (column_of edge) end)) h k (omega arith) in
+    let rest = swept_exact rule end edges (max at (min (column_of edge) end)) (d + (if edge.is_down then 1 else 0)) (u + (if not edge.is_down then 1 else 0)) (longer_run (is_inside rule d u) run at (max at (min (column_of edge) end))) sorted.1 order.0 order.1 (omega arith) x below in
+    next_part (is_inside rule d u) _ (is_inside rule (d + downwards_at (edge ∷ edges) x) (u + upwards_at (edge ∷ edges) x)) run at (max at (min (column_of edge) end)) x _ h k (omega arith) rest
+    (λ before from. let left : x < (column_of edge) = omega arith in
+    let a = none_down edges (column_of edge) x sorted.0 left in
+    let b = none_up edges (column_of edge) x sorted.0 left in
     same_test rule _ _ _ _ (grind (arith, nat_tests)) (grind (arith, nat_tests)))
-    (λ behind. let right : edge.column ≤ x = omega arith in
+    (λ behind. let right : (column_of edge) ≤ x = omega arith in
     same_test rule _ _ _ _ (grind (arith, nat_tests)) (grind (arith, nat_tests)))
 
 -- spans that begin later
@@ -119,8 +121,8 @@ swept_apart rule end [] at d u run h k l =
     let order = longer_order (is_inside rule d u) run at end h k l in
     part_apart (is_inside rule d u) run at end end _ h k l (omega arith) (last_apart (longer_run (is_inside rule d u) run at end) end order.0 order.1)
 swept_apart rule end (edge ∷ edges) at d u run h k l =
-    let order = longer_order (is_inside rule d u) run at (max at (min edge.column end)) h k (omega arith) in
-    part_apart (is_inside rule d u) run at (max at (min edge.column end)) end _ h k (omega arith) (omega arith) (swept_apart rule end edges (max at (min edge.column end)) _ _ (longer_run (is_inside rule d u) run at (max at (min edge.column end))) order.0 order.1 (omega arith))
+    let order = longer_order (is_inside rule d u) run at (max at (min (column_of edge) end)) h k (omega arith) in
+    part_apart (is_inside rule d u) run at (max at (min (column_of edge) end)) end _ h k (omega arith) (omega arith) (swept_apart rule end edges (max at (min (column_of edge) end)) _ _ (longer_run (is_inside rule d u) run at (max at (min (column_of edge) end))) order.0 order.1 (omega arith))
 
 -- the whole row
 pub swept_is_row : (rule : FillRule) (interval : Span) (edges : List ActiveEdge) → AreSorted edges → interval.from ≤ interval.to → AreRow (λ x. is_inside rule (downwards_at edges x) (upwards_at edges x)) interval (swept rule interval.to edges interval.from 0 0 (record { from = interval.from; to = interval.from }))
@@ -132,8 +134,57 @@ swept_is_row rule interval edges sorted h = record {
       e ∙ t ∙ same_test rule _ _ _ _ (omega arith) (omega arith);
 }
 
+-- where only the columns between two are inside, and no run before them, they are the one span
+one_run : (at from to : ℕ) → ended_spans true (record { from = at; to = at }) from to ++ run_spans (longer_run true (record { from = at; to = at }) from to) ≡ run_spans (record { from = from; to = to })
+one_run at from to =
+    let none : nat_lt at at ≡ false = le-ltb at at (omega arith) in
+    elim (cases_lt from to) [
+      | inl h ↦ let t : nat_lt from to ≡ true = lt-ltb from to h in
+          elim (cases_eq at from) [
+            | inl e ↦ let s : (at == from) ≡ true = eq-eqb at from e in rw (t, s) (ap (λ n. run_spans (record { from = n; to = to })) e ∙ rw t refl)
+            | inr g ↦ let s : (at == from) ≡ false = ne_eqb at from g in rw (t, s, none, t) refl
+          ]
+      | inr h ↦ let t : nat_lt from to ≡ false = le-ltb from to h in rw (t, none) refl
+    ]
+
+-- a count of one edge is inside, and none is without edges
+none_crossed : (rule : FillRule) → is_inside rule 0 0 ≡ false
+none_crossed EvenOdd = refl
+none_crossed NonZero = refl
+
+one_crossed : (rule : FillRule) (is_down : Bool) → is_inside rule (0 + cond is_down 1 0) (0 + cond (not is_down) 1 0) ≡ true
+one_crossed EvenOdd true = refl
+one_crossed EvenOdd false = refl
+one_crossed NonZero true = refl
+one_crossed NonZero false = refl
+
+both_crossed : (rule : FillRule) (left right : ActiveEdge) → is_over_behind rule left right ≡ true → is_inside rule ((0 + cond left.is_down 1 0) + cond right.is_down 1 0) ((0 + cond (not left.is_down) 1 0) + cond (not right.is_down) 1 0) ≡ false
+both_crossed EvenOdd left right t =
+    elim (cases_Bool left.is_down) [
+      | inl l ↦ elim (cases_Bool right.is_down) [ inl r ↦ rw (l, r) refl | inr r ↦ rw (l, r) refl ]
+      | inr l ↦ elim (cases_Bool right.is_down) [ inl r ↦ rw (l, r) refl | inr r ↦ rw (l, r) refl ]
+    ]
+both_crossed NonZero left right t =
+    elim (cases_Bool left.is_down) [
+      | inl l ↦ elim (cases_Bool right.is_down) [ inl r ↦ absurd (let s = rw (l, r) at t in cc) | inr r ↦ rw (l, r) refl ]
+      | inr l ↦ elim (cases_Bool right.is_down) [ inl r ↦ rw (l, r) refl | inr r ↦ absurd (let s = rw (l, r) at t in cc) ]
+    ]
+
+-- two edges with nothing inside behind them give the span between them
+pub swept_pair : (rule : FillRule) (end at : ℕ) (left right : ActiveEdge) → is_over_behind rule left right ≡ true → swept rule end (left ∷ right ∷ []) at 0 0 (record { from = at; to = at }) ≡ run_spans (record { from = max at (min (column_of left) end); to = max (max at (min (column_of left) end)) (min (column_of right) end) })
+swept_pair rule end at left right t =
+    rw (none_crossed rule, one_crossed rule left.is_down, both_crossed rule left right t) (one_run at (max at (min (column_of left) end)) (max (max at (min (column_of left) end)) (min (column_of right) end)))
+
+-- the same of a list of two edges
+pub swept_two : (rule : FillRule) (end at : ℕ) (edges : List ActiveEdge) (d : ActiveEdge) (from to : ℕ) (before now_ : List Span) → length edges ≡ 2 → is_over_behind rule (get_or edges 0 d) (get_or edges 1 d) ≡ true → from ≡ max at (min (column_of (get_or edges 0 d)) end) → to ≡ max from (min (column_of (get_or edges 1 d)) end) → now_ ≡ before ++ run_spans (record { from = from; to = to }) → now_ ≡ before ++ swept rule end edges at 0 0 (record { from = at; to = at })
+swept_two rule end at [] d from to before now_ two over from_is to_is is = absurd (omega (arith, two))
+swept_two rule end at (left ∷ []) d from to before now_ two over from_is to_is is = absurd (omega (arith, two))
+swept_two rule end at (left ∷ right ∷ []) d from to before now_ two over from_is to_is is =
+    rw (is, to_is, from_is) (ap (λ spans. before ++ spans) (sym (swept_pair rule end at left right over)))
+swept_two rule end at (left ∷ right ∷ other ∷ edges) d from to before now_ two over from_is to_is is = absurd (omega (arith, two))
+
 -- a step over one edge, as the loop makes it
-pub swept_step : (rule : FillRule) (end : ℕ) (edges : List ActiveEdge) (i at downs ups : ℕ) (run : Span) (d : ActiveEdge) (before now_ total : List Span) (inside : Bool) (column downs' ups' : ℕ) (run' : Span) → i < length edges → inside ≡ is_inside rule downs ups → column ≡ max at (min (get_or edges i d).column end) → run' ≡ longer_run inside run at column → downs' ≡ downs + cond (get_or edges i d).is_down 1 0 → ups' ≡ ups + cond (not (get_or edges i d).is_down) 1 0 → now_ ≡ before ++ ended_spans inside run at column → before ++ swept rule end (drop i edges) at downs ups run ≡ total → now_ ++ swept rule end (drop (i + 1) edges) column downs' ups' run' ≡ total
+pub swept_step : (rule : FillRule) (end : ℕ) (edges : List ActiveEdge) (i at downs ups : ℕ) (run : Span) (d : ActiveEdge) (before now_ total : List Span) (inside : Bool) (column downs' ups' : ℕ) (run' : Span) → i < length edges → inside ≡ is_inside rule downs ups → column ≡ max at (min (column_of (get_or edges i d)) end) → run' ≡ longer_run inside run at column → downs' ≡ downs + cond (get_or edges i d).is_down 1 0 → ups' ≡ ups + cond (not (get_or edges i d).is_down) 1 0 → now_ ≡ before ++ ended_spans inside run at column → before ++ swept rule end (drop i edges) at downs ups run ≡ total → now_ ++ swept rule end (drop (i + 1) edges) column downs' ups' run' ≡ total
 swept_step rule end edges i at downs ups run d before now_ total inside column downs' ups' run' h inside_is column_is run_is downs_is ups_is now_is total_is =
     let step = at_drop_more (λ es. swept rule end es at downs ups run) edges i d h in
     rw (now_is, run_is, inside_is, column_is, downs_is, ups_is, append_assoc) (ap (λ xs. before ++ xs) (sym step) ∙ total_is)

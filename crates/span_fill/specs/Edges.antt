@@ -1,11 +1,10 @@
 -- Edges: lines as a fill sees them, and where they cross a row.
-use Rattle.std.specs.Prelude.{ℕ, ◌^◌, suc, ℤ, pos, negsuc, ◌+ℤ◌, ◌-ℤ◌, ◌*ℤ◌, ◌≤ℤ◌, ◌<ℤ◌, Bool, true, false, min, if◌then◌else◌, nat_le, nat_lt, int_le, int_lt, List, [], ◌∷◌, ◌++◌, map, filter}
+use Rattle.std.specs.Prelude.{ℕ, ◌+◌, ◌^◌, suc, ℤ, pos, negsuc, ◌+ℤ◌, ◌-ℤ◌, ◌*ℤ◌, ◌≤ℤ◌, ◌<ℤ◌, Bool, true, false, min, if◌then◌else◌, nat_le, nat_lt, int_le, int_lt, List, [], ◌∷◌, ◌++◌, map, filter}
 use Rattle.mapping.specs.Floor.{floor_div}
 use Rattle.mapping.specs.Limits.{IsWithin}
-use Rattle.span_fill.specs.Crossings.{quotient}
-use Rattle.span_fill.specs.Fill.{across, crossing_dividend, crossing_divisor, has_row}
+use Rattle.mapping.specs.declared.geometry.Point.{Point}
+use Rattle.span_fill.specs.Fill.{across, crossing_dividend, crossing_divisor, down, has_row}
 use Rattle.span_fill.specs.Lines.{IsNearPoint}
-use Rattle.span_fill.specs.declared.crossing.Crossing.{Crossing}
 use Rattle.span_fill.specs.declared.edge.ActiveEdge.{ActiveEdge}
 use Rattle.span_fill.specs.declared.edge.Edge.{Edge}
 use Rattle.span_fill.specs.declared.line.Line.{Line}
@@ -57,22 +56,20 @@ abbrev pub near_column : ℤ → ℕ
 near_column (pos n) = min n 8192
 near_column (negsuc n) = 0
 
--- the first column whose middle isn't to the left of a crossing
-abbrev pub first_column : ℤ → ℤ → ℤ → ℕ
-first_column quotient rest divisor = near_column (quotient +ℤ (if int_lt divisor (pos 2 *ℤ rest) then pos 1 else pos 0))
+-- The first column whose middle isn't to the left of a line's crossing is the floor of this number by `crossing_divisor`.
+abbrev pub column_dividend : Point → Point → ℕ → ℤ
+column_dividend upper lower y = crossing_dividend upper lower y +ℤ down upper lower -ℤ pos 1
 
 -- the floor of a fraction, and what is left
 abbrev pub remainder_of : ℤ → ℤ → ℤ
 remainder_of dividend divisor = dividend -ℤ floor_div dividend divisor *ℤ divisor
 
--- the edge where its crossing is this one
+-- the edge where its column is this one
 abbrev pub active_with : Edge → ℤ → ℤ → ActiveEdge
-active_with edge quotient rest = record {
-  line = edge.line;
-  column = first_column quotient rest (crossing_divisor edge.upper edge.lower);
+active_with edge column rest = record {
   bottom = near_row edge.lower.y;
   is_down = edge.is_down;
-  quotient = quotient;
+  column = column;
   rest = rest;
   divisor = crossing_divisor edge.upper edge.lower;
   step = floor_div (pos 2 *ℤ across edge.upper edge.lower) (crossing_divisor edge.upper edge.lower);
@@ -82,31 +79,31 @@ active_with edge quotient rest = record {
 -- the edge where it crosses row y
 abbrev pub active_at : ℕ → Edge → ActiveEdge
 active_at y edge =
-    active_with edge (quotient edge.upper edge.lower y) (remainder_of (crossing_dividend edge.upper edge.lower y) (crossing_divisor edge.upper edge.lower))
+    active_with edge (floor_div (column_dividend edge.upper edge.lower y) (crossing_divisor edge.upper edge.lower)) (remainder_of (column_dividend edge.upper edge.lower y) (crossing_divisor edge.upper edge.lower))
 
 -- those of the edges that cross row y, where they do
 abbrev pub active_edges : ℕ → List Edge → List ActiveEdge
 active_edges y edges = map (active_at y) (filter (crosses_row y) edges)
 
--- what is told of an edge
-abbrev pub crossing_of : ActiveEdge → Crossing
-crossing_of edge = record { line = edge.line; quotient = edge.quotient; rest = edge.rest }
+-- the edge's column, as near to it as columns go
+abbrev pub column_of : ActiveEdge → ℕ
+column_of edge = near_column edge.column
 
--- one row more takes the crossing past a whole column
+-- one row more takes the fraction past a whole column
 abbrev pub is_over : ActiveEdge → Bool
 is_over edge = int_le edge.divisor (edge.rest +ℤ edge.more)
 
--- the crossing's quotient one row on
-abbrev pub moved_quotient : ActiveEdge → ℤ
-moved_quotient edge = edge.quotient +ℤ edge.step +ℤ (if is_over edge then pos 1 else pos 0)
+-- the column one row on
+abbrev pub moved_column : ActiveEdge → ℤ
+moved_column edge = edge.column +ℤ edge.step +ℤ (if is_over edge then pos 1 else pos 0)
 
--- and its rest
+-- and what is left of the fraction
 abbrev pub moved_rest : ActiveEdge → ℤ
 moved_rest edge = edge.rest +ℤ edge.more -ℤ (if is_over edge then edge.divisor else pos 0)
 
 -- the edge one row on
 abbrev pub moved : ActiveEdge → ActiveEdge
-moved edge = record edge { column = first_column (moved_quotient edge) (moved_rest edge) edge.divisor; quotient = moved_quotient edge; rest = moved_rest edge }
+moved edge = record edge { column = moved_column edge; rest = moved_rest edge }
 
 -- the edge still crosses row y
 abbrev pub goes_to : ℕ → ActiveEdge → Bool
@@ -114,7 +111,7 @@ goes_to y edge = nat_lt y edge.bottom
 
 -- its numbers are of a fraction, and leave room for one row more
 pub record EdgeCanMove (edge : ActiveEdge) : Type 0 where
-  pub quotient : IsWithin (2 ^ 62) edge.quotient
+  pub column : IsWithin (2 ^ 62 + 2 ^ 31) edge.column
   pub step : IsWithin (2 ^ 31) edge.step
   pub divisor : edge.divisor ≤ℤ pos (2 ^ 31)
   pub rest_low : pos 0 ≤ℤ edge.rest

@@ -17,6 +17,7 @@ pub mod StrokeRows
 pub mod Sweep
 pub mod Edges
 pub mod Admitting
+pub mod Events
 pub mod RowState
 pub mod RowFields
 pub mod Insertion

@@ -1,13 +1,13 @@
 -- What is true of the fields of every row buffer.
-use Rattle.std.specs.Prelude.{◌≡◌, ℕ, ◌+◌, ◌-◌, ◌^◌, ◌<◌, ◌≤◌, ℤ, List, drop, length, map, filter, vec_capacity}
+use Rattle.std.specs.Prelude.{◌≡◌, ℕ, ◌+◌, ◌-◌, ◌^◌, ◌<◌, ◌≤◌, ℤ, List, drop, length, filter, vec_capacity}
 use Rattle.std.specs.List.{All}
 use Rattle.std.specs.List.Sorted.{IsNonDecreasingBy, IsPermutation}
-use Rattle.span_fill.specs.Edges.{IsEdge, active_edges, begins_behind, crossing_of, edges_from, edge_first_row}
+use Rattle.span_fill.specs.Edges.{IsEdge, active_edges, begins_behind, column_of, edges_from, edge_first_row}
+use Rattle.span_fill.specs.Events.{IsQuietAbove}
 use Rattle.span_fill.specs.Lines.{HasNearEnds}
 use Rattle.span_fill.specs.RowState.{IsFillingWork, IsStrokingWork, RowState, RowWork, filling, idle, stroking}
 use Rattle.span_fill.specs.StrokeRows.{lines_have}
 use Rattle.span_fill.specs.Stroking.{AreStrokes, HasStrokeRoom, stroke_count, strokes_have}
-use Rattle.span_fill.specs.declared.crossing.Crossing.{Crossing}
 use Rattle.span_fill.specs.declared.edge.ActiveEdge.{ActiveEdge}
 use Rattle.span_fill.specs.declared.edge.Edge.{Edge}
 use Rattle.span_fill.specs.declared.fill_rule.FillRule.{FillRule}
@@ -37,17 +37,18 @@ pub record HasRoom (a : Inside) : Type 0 where
   pub spans : a.room + 2 ≤ a.spans.capacity
   pub strokes : HasStrokeRoom a.room a.strokes
 
--- the edges of the lines: those that cross row y, in the order of their columns, and those that wait, in the order of their rows
-pub record IsFilling (lines : List Line) (y room : ℕ) (edges : List Edge) (begun : ℕ) (active : List ActiveEdge) (crossings : List Crossing) : Type 0 where
+-- the edges of the lines: those that cross row y, in the order of their columns, and those that wait, in the order of their rows; the
+-- rows above `event` have the same edges
+pub record IsFilling (lines : List Line) (y room : ℕ) (edges : List Edge) (begun : ℕ) (active : List ActiveEdge) (event : ℕ) : Type 0 where
   pub row : y ≤ 8192
   pub are_edges : All IsEdge edges
   pub ordered : IsNonDecreasingBy edge_first_row edges
   pub within : begun ≤ length edges
   pub waits : IsPermutation (filter (begins_behind y) (edges_from 0 lines)) (drop begun edges)
   pub crosses : IsPermutation (active_edges y (edges_from 0 lines)) active
-  pub sorted : IsNonDecreasingBy (λ edge. edge.column) active
+  pub sorted : IsNonDecreasingBy column_of active
   pub count : length active + (length edges - begun) ≤ room
-  pub told : crossings ≡ map crossing_of active
+  pub quiet : IsQuietAbove event active (drop begun edges)
 
 -- the strips of the lines: those that have row y, and those that wait; their pixels are the lines' in the rows to come
 pub record IsStroking (lines : List Line) (y room : ℕ) (strokes : Strokes) : Type 0 where
@@ -61,5 +62,5 @@ pub record IsRowBuf (a : Inside) : Type 0 where
   pub room : HasRoom a
   pub count : length a.lines.items ≤ a.room
   pub near : All HasNearEnds a.lines.items
-  pub filling : IsFillingWork (row_work a.work a.rule) → IsFilling a.lines.items a.next a.room a.edges.items a.begun a.active.items a.crossings.items
+  pub filling : IsFillingWork (row_work a.work a.rule) → IsFilling a.lines.items a.next a.room a.edges.items a.begun a.active.items a.event
   pub stroking : IsStrokingWork (row_work a.work a.rule) → IsStroking a.lines.items a.next a.room a.strokes

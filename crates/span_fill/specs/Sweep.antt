@@ -1,29 +1,36 @@
 -- A row's spans from the edges that cross it, in the order of the columns that they cross.
-use Rattle.std.specs.Prelude.{ℕ, ◌+◌, ◌≤◌, Bool, ◌&&◌, ◌==◌, not, nat_le, nat_lt, max, min, if◌then◌else◌, List, [], ◌∷◌, ◌++◌}
+use Rattle.std.specs.Prelude.{ℕ, ◌+◌, ◌≤◌, Bool, true, ◌&&◌, ◌==◌, not, nat_le, nat_lt, max, min, if◌then◌else◌, List, [], ◌∷◌, ◌++◌}
+use Rattle.span_fill.specs.Edges.{column_of}
 use Rattle.span_fill.specs.Fill.{is_inside}
 use Rattle.span_fill.specs.declared.edge.ActiveEdge.{ActiveEdge}
 use Rattle.span_fill.specs.declared.fill_rule.FillRule.{FillRule}
+use Rattle.span_fill.specs.declared.fill_rule.FillRule.TheVariants.{EvenOdd, NonZero}
 use Rattle.span_fill.specs.declared.span.Span.{Span}
 
 -- how many of the edges that run downwards cross the row at column x or before
 abbrev pub downwards_at : List ActiveEdge → ℕ → ℕ
 downwards_at [] x = 0
-downwards_at (edge ∷ edges) x = (if edge.is_down && nat_le edge.column x then 1 else 0) + downwards_at edges x
+downwards_at (edge ∷ edges) x = (if edge.is_down && nat_le (column_of edge) x then 1 else 0) + downwards_at edges x
 
 -- the same of those that run upwards
 abbrev pub upwards_at : List ActiveEdge → ℕ → ℕ
 upwards_at [] x = 0
-upwards_at (edge ∷ edges) x = (if not edge.is_down && nat_le edge.column x then 1 else 0) + upwards_at edges x
+upwards_at (edge ∷ edges) x = (if not edge.is_down && nat_le (column_of edge) x then 1 else 0) + upwards_at edges x
 
 -- no edge crosses before this column
 abbrev pub CrossFrom : ℕ → List ActiveEdge → Type 0
 CrossFrom column [] = Unit
-CrossFrom column (edge ∷ edges) = (column ≤ edge.column) × CrossFrom column edges
+CrossFrom column (edge ∷ edges) = (column ≤ (column_of edge)) × CrossFrom column edges
 
 -- no edge crosses before one that is in front of it
 abbrev pub AreSorted : List ActiveEdge → Type 0
 AreSorted [] = Unit
-AreSorted (edge ∷ edges) = CrossFrom edge.column edges × AreSorted edges
+AreSorted (edge ∷ edges) = CrossFrom (column_of edge) edges × AreSorted edges
+
+-- where two edges alone cross the row, no pixel behind both is inside
+abbrev pub is_over_behind : FillRule → ActiveEdge → ActiveEdge → Bool
+is_over_behind EvenOdd left right = true
+is_over_behind NonZero left right = if left.is_down then not right.is_down else right.is_down
 
 -- the run as a list, empty if it has no column
 abbrev pub run_spans : Span → List Span
@@ -47,5 +54,5 @@ abbrev pub swept : FillRule → ℕ → List ActiveEdge → ℕ → ℕ → ℕ 
 swept rule end [] at downs ups run =
     ended_spans (is_inside rule downs ups) run at end ++ run_spans (longer_run (is_inside rule downs ups) run at end)
 swept rule end (edge ∷ edges) at downs ups run =
-    ended_spans (is_inside rule downs ups) run at (max at (min edge.column end))
-    ++ swept rule end edges (max at (min edge.column end)) (downs + (if edge.is_down then 1 else 0)) (ups + (if not edge.is_down then 1 else 0)) (longer_run (is_inside rule downs ups) run at (max at (min edge.column end)))
+    ended_spans (is_inside rule downs ups) run at (max at (min (column_of edge) end))
+    ++ swept rule end edges (max at (min (column_of edge) end)) (downs + (if edge.is_down then 1 else 0)) (ups + (if not edge.is_down then 1 else 0)) (longer_run (is_inside rule downs ups) run at (max at (min (column_of edge) end)))

@@ -1,12 +1,11 @@
-//! The edges that cross a row: those that go on to the next one, and those that begin at it.
+//! The edges that cross a row where others end or begin: those that are left, and those that come.
 
 ghost use Rattle.std.specs.Prelude.{◌≡◌, ◌+◌, ◌-◌, ◌≤◌, ◌<◌, ◌++◌, length, map, drop, filter, MatchOption, vec_len, vec_capacity};
 ghost use Rattle.std.specs.List.{All};
 ghost use Rattle.std.specs.List.Sorted.{IsNonDecreasingBy, IsPermutation};
 ghost use Rattle.span_fill.specs.Admitting.{BeginsEdge, NoneBegins};
-ghost use Rattle.span_fill.specs.Edges.{EdgeCanMove, IsEdge, active_at, begins_behind, begins_by, crossing_of, edge_first_row, goes_to, moved};
+ghost use Rattle.span_fill.specs.Edges.{IsEdge, active_at, begins_behind, begins_by, edge_first_row, goes_to};
 
-use crate::crossing::Crossing;
 use crate::edge::{ActiveEdge, Edge};
 
 /// The edges in the order of the rows where they begin.
@@ -19,22 +18,13 @@ pub(crate) fn sort_edges(edges: &mut Vec<Edge>)
     edges.sort_unstable_by_key(|edge| edge.first_row());
 }
 
-/// The edges that still cross the next row, there.
-pub(crate) fn advance(active: &mut Vec<ActiveEdge>, row: u32)
-    requires { All EdgeCanMove active.old.items }
-    ensures edges { active.new.items ≡ map moved (filter (goes_to row) active.old.items) }
+/// The edges that still cross the row.
+pub(crate) fn retire(active: &mut Vec<ActiveEdge>, row: u32)
+    ensures edges { active.new.items ≡ filter (goes_to row) active.old.items }
     ensures length { vec_len active.new ≤ vec_len active.old }
     ensures room { vec_capacity active.new ≡ vec_capacity active.old }
 {
-    let mut kept = 0;
-    for place in 0..active.len() {
-        let edge = active[place];
-        if row < edge.bottom {
-            active[kept] = edge.moved();
-            kept += 1;
-        }
-    }
-    active.truncate(kept);
+    active.retain(|edge| row < edge.bottom);
 }
 
 /// Those of the edges that begin at the row or above it, where they cross it, behind those that are
@@ -74,17 +64,5 @@ fn beginning(edges: &[Edge], next: usize, row: u32) -> Option<Edge>
         Some(edge)
     } else {
         None
-    }
-}
-
-/// Where the edges cross their row.
-pub(crate) fn tell(crossings: &mut Vec<Crossing>, active: &[ActiveEdge])
-    requires { length active.now ≤ vec_capacity crossings.old }
-    ensures crossings { crossings.new.items ≡ map crossing_of active.now }
-    ensures room { vec_capacity crossings.new ≡ vec_capacity crossings.old }
-{
-    crossings.clear();
-    for edge in active {
-        crossings.push_reserved(edge.crossing());
     }
 }

@@ -1,53 +1,71 @@
-//! An edge where it crosses a row, and from there to the next row by additions.
+//! Edges that go on to the next row: by additions.
 
-ghost use Rattle.std.specs.Prelude.{◌≡◌, ◌+◌, ◌≤◌, ◌^◌, pos, ◌+ℤ◌, ◌-ℤ◌, ◌*ℤ◌, ◌≤ℤ◌, ◌<ℤ◌, IsTrue, if◌then◌else◌};
-ghost use Rattle.mapping.specs.Floor.{floor_div};
+ghost use Rattle.std.specs.Prelude.{◌≡◌, ◌+◌, ◌≤◌, ◌^◌, pos, ◌+ℤ◌, ◌-ℤ◌, ◌*ℤ◌, ◌≤ℤ◌, ◌<ℤ◌, if◌then◌else◌, ◌&&◌, int_le, map};
+ghost use Rattle.std.specs.List.{All};
 ghost use Rattle.mapping.specs.Limits.{IsWithin};
-ghost use Rattle.span_fill.specs.Edges.{EdgeCanMove, near_column, crossing_of, first_column, goes_to, is_over, moved, moved_quotient, moved_rest, remainder_of};
+ghost use Rattle.span_fill.specs.Edges.{EdgeCanMove, near_column, column_of, is_over, moved, moved_column, moved_rest};
+ghost use Rattle.span_fill.specs.Insertion.{are_in_order, lowest};
 
-use crate::crossing::Crossing;
 use crate::edge::ActiveEdge;
 
 impl ActiveEdge {
-    /// The edge one row on.
+    /// One row on.
     #[inline]
-    pub(crate) fn moved(self) -> ActiveEdge
-        requires { EdgeCanMove self }
-        ensures { result ≡ moved self }
+    fn move_on(&mut self)
+        requires { EdgeCanMove self.old }
+        ensures { self.new ≡ moved self.old }
     {
-        let over = self.divisor <= self.rest + self.more;
-        let quotient = raised(self.quotient + self.step, over);
-        let rest = lowered(self.rest + self.more, self.divisor, over);
-        ActiveEdge {
-            column: first_column(quotient, rest, self.divisor),
-            quotient,
-            rest,
-            ..self
-        }
+        let sum = self.rest + self.more;
+        let over = self.divisor <= sum;
+        self.column = raised(self.column + self.step, over);
+        self.rest = lowered(sum, self.divisor, over);
     }
 
-    /// Where the edge crosses its row.
-    #[inline]
-    pub(crate) fn crossing(&self) -> Crossing
-        ensures { result ≡ crossing_of self.now }
+    /// The column, within 0 to 8,192.
+    pub(crate) fn column_within(&self) -> u32
+        ensures { result ≡ column_of self.now }
     {
-        Crossing {
-            line: self.line,
-            quotient: self.quotient,
-            rest: self.rest,
+        if self.column <= 0 {
+            0
+        } else if self.column >= 8192 {
+            8192
+        } else {
+            self.column as u32
         }
     }
 }
 
+/// All edges one row on: whether they still are in the order of their columns.
+pub(crate) fn move_all(active: &mut [ActiveEdge]) -> bool
+    requires { All EdgeCanMove active.old }
+    ensures edges { active.new ≡ map moved active.old }
+    ensures order { result ≡ are_in_order lowest active.new }
+{
+    let mut ordered = true;
+    let mut before = i64::MIN;
+    for edge in active.iter_mut() {
+        edge.move_on();
+        ordered = goes_on(ordered, before, edge.column);
+        before = edge.column;
+    }
+    ordered
+}
+
+/// Whether what was in order still is, with this column behind the one before.
+#[inline]
+fn goes_on(ordered: bool, before: i64, column: i64) -> bool
+    ensures { result ≡ (ordered && int_le before column) }
+{
+    ordered && before <= column
+}
+
 /// One more, if so.
 #[inline]
-fn raised(quotient: i64, over: bool) -> i64
-    requires { IsWithin (2 ^ 62 + 2 ^ 32) quotient }
-    ensures value { result ≡ quotient +ℤ (if over then pos 1 else pos 0) }
-    ensures low { quotient ≤ℤ result }
-    ensures high { result ≤ℤ (quotient +ℤ pos 1) }
+fn raised(column: i64, over: bool) -> i64
+    requires { IsWithin (2 ^ 62 + 2 ^ 32) column }
+    ensures { result ≡ column +ℤ (if over then pos 1 else pos 0) }
 {
-    quotient + i64::from(over)
+    column + i64::from(over)
 }
 
 /// Less by the divisor, if so.
@@ -56,34 +74,7 @@ fn lowered(rest: i64, divisor: i64, over: bool) -> i64
     requires rest { IsWithin (2 ^ 32) rest }
     requires divisor_low { pos 0 ≤ℤ divisor }
     requires divisor_high { divisor ≤ℤ pos (2 ^ 32) }
-    ensures value { result ≡ rest -ℤ (if over then divisor else pos 0) }
-    ensures low { (rest -ℤ divisor) ≤ℤ result }
-    ensures high { result ≤ℤ rest }
+    ensures { result ≡ rest -ℤ (if over then divisor else pos 0) }
 {
     if over { rest - divisor } else { rest }
-}
-
-/// The first column whose middle isn't to the left of the crossing, within 0 to 8,192.
-#[inline]
-pub(crate) fn first_column(quotient: i64, rest: i64, divisor: i64) -> u32
-    requires quotient { IsWithin (2 ^ 62 + 2 ^ 32) quotient }
-    requires rest { IsWithin (2 ^ 33) rest }
-    ensures { result ≡ first_column quotient rest divisor }
-{
-    let past = divisor < 2 * rest;
-    column_of(raised(quotient, past))
-}
-
-/// The column, within 0 to 8,192.
-#[inline]
-fn column_of(place: i64) -> u32
-    ensures { result ≡ near_column place }
-{
-    if place <= 0 {
-        0
-    } else if place >= 8192 {
-        8192
-    } else {
-        place as u32
-    }
 }

@@ -17,16 +17,13 @@ pub(crate) struct Edge {
 /// it to the next one.
 #[derive(Clone, Copy, Debug)]
 pub(crate) struct ActiveEdge {
-    /// The line's number in its outline.
-    pub(crate) line: u32,
-    /// The first column whose middle isn't to the left of the crossing, within 0 to 8,192.
-    pub(crate) column: u32,
     /// The first row that isn't above the lower end.
     pub(crate) bottom: u32,
     /// Whether the line itself runs downwards.
     pub(crate) is_down: bool,
-    /// The crossing, as a fraction by `divisor`: its floor, and what is left.
-    pub(crate) quotient: i64,
+    /// The first column whose middle isn't to the left of the crossing, on the surface or beside it: the floor
+    /// of a fraction by `divisor`, and what is left of that.
+    pub(crate) column: i64,
     pub(crate) rest: i64,
     /// Twice the edge's height.
     pub(crate) divisor: i64,

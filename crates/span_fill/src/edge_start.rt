@@ -3,10 +3,11 @@
 ghost use Rattle.std.specs.Prelude.{◌≡◌, ◌+◌, ◌*◌, ◌≤◌, ◌^◌, pos, ◌+ℤ◌, ◌-ℤ◌, ◌*ℤ◌, ◌≤ℤ◌, ◌<ℤ◌, IsTrue};
 ghost use Rattle.mapping.specs.Floor.{floor_div};
 ghost use Rattle.mapping.specs.Limits.{IsWithin};
-ghost use Rattle.span_fill.specs.Edges.{IsEdge, active_at, edge_first_row, remainder_of, near_row};
+ghost use Rattle.span_fill.specs.Crossings.{crossing_at};
+ghost use Rattle.span_fill.specs.Edges.{IsEdge, active_at, column_dividend, edge_first_row, remainder_of, near_row};
 ghost use Rattle.span_fill.specs.Fill.{across, crossing_dividend, crossing_divisor, down};
 
-use crate::crossing_moves::first_column;
+use crate::crossing::Crossing;
 use crate::edge::{ActiveEdge, Edge};
 
 /// A fraction of whole numbers: the greatest whole number not above it, and what is left.
@@ -24,18 +25,30 @@ impl Edge {
         ensures { result ≡ active_at row self }
     {
         let divisor = doubled(self.down());
-        let crossing = divided(self.dividend(row), divisor);
+        let column = divided(self.column_dividend(row), divisor);
         let per_row = divided(doubled(self.across()), divisor);
         ActiveEdge {
-            line: self.line,
-            column: first_column(crossing.floor, crossing.rest, divisor),
             bottom: row_of(self.lower.y),
             is_down: self.is_down,
-            quotient: crossing.floor,
-            rest: crossing.rest,
+            column: column.floor,
+            rest: column.rest,
             divisor,
             step: per_row.floor,
             more: per_row.rest,
+        }
+    }
+
+    /// Where the edge crosses the row.
+    pub(crate) fn crossing_at(self, row: u32) -> Crossing
+        requires edge { IsEdge self }
+        requires row { row ≤ 8192 }
+        ensures { result ≡ crossing_at self.line self.upper self.lower row }
+    {
+        let crossing = divided(self.dividend(row), doubled(self.down()));
+        Crossing {
+            line: self.line,
+            quotient: crossing.floor,
+            rest: crossing.rest,
         }
     }
 
@@ -80,6 +93,17 @@ impl Edge {
         ensures near { IsWithin (2 ^ 30) result }
     {
         i64::from(2 * row + 1) - 2 * i64::from(self.upper.y)
+    }
+
+    /// The number that gives the first column whose middle isn't to the left of the crossing, by twice the
+    /// edge's height.
+    fn column_dividend(self, row: u32) -> i64
+        requires edge { IsEdge self }
+        requires row { row ≤ 8192 }
+        ensures value { result ≡ column_dividend self.upper self.lower row }
+        ensures near { IsWithin (2 ^ 62 + 2 ^ 31) result }
+    {
+        rounded_up(self.dividend(row), self.down())
     }
 
     /// The number that gives the crossing, by twice the edge's height.
@@ -131,14 +155,25 @@ fn sum(a: i64, b: i64) -> i64
     a + b
 }
 
+/// Half a divisor more, but for 1.
+fn rounded_up(dividend: i64, half: i64) -> i64
+    requires dividend { IsWithin (2 ^ 62) dividend }
+    requires low { pos 1 ≤ℤ half }
+    requires high { half ≤ℤ pos (2 ^ 30) }
+    ensures value { result ≡ dividend +ℤ half -ℤ pos 1 }
+    ensures near { IsWithin (2 ^ 62 + 2 ^ 31) result }
+{
+    dividend + half - 1
+}
+
 /// The fraction by a divisor above 0.
 fn divided(dividend: i64, divisor: i64) -> Fraction
-    requires dividend { IsWithin (2 ^ 62) dividend }
+    requires dividend { IsWithin (2 ^ 62 + 2 ^ 31) dividend }
     requires low { pos 1 ≤ℤ divisor }
     requires high { divisor ≤ℤ pos (2 ^ 31) }
     ensures floor { result.floor ≡ floor_div dividend divisor }
     ensures rest { result.rest ≡ remainder_of dividend divisor }
-    ensures near { IsWithin (2 ^ 62) result.floor }
+    ensures near { IsWithin (2 ^ 62 + 2 ^ 31) result.floor }
     ensures rest_low { pos 0 ≤ℤ result.rest }
     ensures rest_high { result.rest <ℤ divisor }
 {

@@ -5,12 +5,14 @@ ghost use Rattle.std.specs.List.Sorted.{IsPermutation};
 ghost use Rattle.span_fill.specs.Crossings.{crossings_of};
 ghost use Rattle.span_fill.specs.RowState.{BeginsFill, BeginsStroke, DiffersInRoom, FillsRow, SameWork, IsFillingWork, IsStrokingWork, filling, idle, stroking};
 
-use crate::active_edges::{admit, advance, sort_edges, tell};
+use crate::active_edges::{admit, retire, sort_edges};
 use crate::crossing::Crossing;
+use crate::crossings::tell;
 use crate::edge::{ActiveEdge, Edge};
 use crate::edge_list::collect_edges;
+use crate::events::next_event;
 use crate::fill_rule::FillRule;
-use crate::insertion::sort_active;
+use crate::insertion::{move_in_order, sort_active};
 use crate::line::Line;
 use crate::memory::grow;
 use crate::outline::{Outline, copy_lines};
@@ -47,6 +49,9 @@ pub struct RowBuf {
     begun: usize,
     /// Those that cross the next row, in the order of the columns where they do.
     active: Vec<ActiveEdge>,
+    /// The first row in which one of these has ended or another begins.
+    event: u32,
+    /// Where the lines cross the next row, once that was asked for.
     crossings: Vec<Crossing>,
     spans: RowSpans,
     /// The lines themselves.
@@ -82,6 +87,7 @@ impl RowBuf {
             edges: Vec::new(alloc),
             begun: 0,
             active: Vec::new(alloc),
+            event: 0,
             crossings: Vec::new(alloc),
             spans: SmallVec::new(alloc),
             strokes: Strokes::new(alloc),
@@ -131,7 +137,7 @@ impl RowBuf {
         self.active.clear();
         self.begun = admit(&mut self.active, self.edges.as_slice(), 0, y);
         sort_active(&mut self.active);
-        tell(&mut self.crossings, self.active.as_slice());
+        self.event = next_event(self.active.as_slice(), self.edges.as_slice(), self.begun);
     }
 
     /// The spans of the next row within the interval.
@@ -211,11 +217,12 @@ impl RowBuf {
     }
 
     /// Where the lines cross the middle of the next row: each line once that has it between its ends, and
-    /// no other, in no order.
-    pub fn crossings(&self) -> &[Crossing]
-        requires { IsFillingWork self.now.work }
-        ensures { IsPermutation result.now (crossings_of self.now.lines self.now.next) }
+    /// no other, in no order. Each is divided anew, for whoever asks.
+    pub fn crossings(&mut self) -> &[Crossing]
+        requires { IsFillingWork self.old.work }
+        ensures { IsPermutation result.now (crossings_of self.old.lines self.old.next) }
     {
+        tell(&mut self.crossings, self.lines.as_slice(), self.next);
         self.crossings.as_slice()
     }
 
@@ -228,9 +235,6 @@ impl RowBuf {
         ensures same { SameWork self.old self.new }
     {
         self.spans.clear();
-        if self.active.is_empty() {
-            return;
-        }
         if interval.from < interval.to {
             sweep(self.rule, self.active.as_slice(), interval, &mut self.spans);
         }
@@ -245,7 +249,12 @@ impl RowBuf {
         ensures same { SameWork self.old self.new }
     {
         self.next += 1;
-        advance(&mut self.active, self.next);
+        if self.next < self.event {
+            move_in_order(&mut self.active);
+            return;
+        }
+        retire(&mut self.active, self.next);
+        move_in_order(&mut self.active);
         self.begun = admit(
             &mut self.active,
             self.edges.as_slice(),
@@ -253,6 +262,6 @@ impl RowBuf {
             self.next,
         );
         sort_active(&mut self.active);
-        tell(&mut self.crossings, self.active.as_slice());
+        self.event = next_event(self.active.as_slice(), self.edges.as_slice(), self.begun);
     }
 }

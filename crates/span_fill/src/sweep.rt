@@ -2,18 +2,48 @@
 
 ghost use Rattle.std.specs.Prelude.{◌≡◌, ◌+◌, ◌≤◌, ◌<◌, ◌^◌, ◌++◌, length, max, min, if◌then◌else◌};
 ghost use Rattle.smallvec.specs.SmallVec.{HasRoomFor, small_vec_len};
+ghost use Rattle.span_fill.specs.Edges.{column_of, near_column};
 ghost use Rattle.span_fill.specs.Fill.{is_inside};
-ghost use Rattle.span_fill.specs.Sweep.{is_part, longer_run, ended_spans, run_spans, swept};
+ghost use Rattle.span_fill.specs.Sweep.{is_over_behind, is_part, longer_run, ended_spans, run_spans, swept};
 
 use crate::edge::ActiveEdge;
 use crate::fill_rule::FillRule;
 use crate::row_spans::RowSpans;
 use crate::span::Span;
 
-/// The spans of a row within the interval, behind those that are there: from one edge to the next, in the
-/// order of their columns, with the count of those to the left.
+/// The spans of a row within the interval, behind those that are there. Most rows have two edges, and one span between them.
 pub(crate) fn sweep(rule: FillRule, edges: &[ActiveEdge], interval: Span, spans: &mut RowSpans)
     requires count { length edges.now ≤ 2 ^ 20 }
+    requires interval { interval.to ≤ 8192 }
+    requires room { HasRoomFor spans.old (length edges.now + 2) }
+    ensures spans { spans.new.items
+        ≡ spans.old.items
+        ++ swept rule interval.to edges.now interval.from 0 0 (record { from = interval.from; to = interval.from }) }
+    ensures room { spans.new.capacity ≡ spans.old.capacity }
+{
+    if edges.len() == 2 && is_over_behind(rule, edges[0], edges[1]) {
+        let from = column_behind(interval.from, &edges[0], interval.to);
+        let to = column_behind(from, &edges[1], interval.to);
+        put_run(spans, Span { from, to });
+    } else {
+        sweep_all(rule, edges, interval, spans);
+    }
+}
+
+/// Whether nothing is inside behind the two edges.
+fn is_over_behind(rule: FillRule, left: ActiveEdge, right: ActiveEdge) -> bool
+    ensures { result ≡ is_over_behind rule left right }
+{
+    match rule {
+        FillRule::EvenOdd => true,
+        FillRule::NonZero => left.is_down != right.is_down,
+    }
+}
+
+/// The same of any edges: from one to the next, in the order of their columns, with the count of those to the left.
+fn sweep_all(rule: FillRule, edges: &[ActiveEdge], interval: Span, spans: &mut RowSpans)
+    requires count { length edges.now ≤ 2 ^ 20 }
+    requires interval { interval.to ≤ 8192 }
     requires room { HasRoomFor spans.old (length edges.now + 2) }
     ensures spans { spans.new.items
         ≡ spans.old.items
@@ -25,7 +55,7 @@ pub(crate) fn sweep(rule: FillRule, edges: &[ActiveEdge], interval: Span, spans:
     let mut downs: u32 = 0;
     let mut ups: u32 = 0;
     for edge in edges {
-        let column = column_behind(at, edge.column, interval.to);
+        let column = column_behind(at, edge, interval.to);
         run = put_part(spans, run, at, column, is_inside_at(rule, downs, ups));
         at = column;
         downs = counted(downs, edge.is_down);
@@ -35,11 +65,12 @@ pub(crate) fn sweep(rule: FillRule, edges: &[ActiveEdge], interval: Span, spans:
     put_run(spans, run);
 }
 
-/// The column within the rest of the interval.
-fn column_behind(at: u32, column: u32, end: u32) -> u32
-    ensures { result ≡ max at (min column end) }
+/// The edge's column within the rest of the interval.
+fn column_behind(at: u32, edge: &ActiveEdge, end: u32) -> u32
+    requires { end ≤ 8192 }
+    ensures { result ≡ max at (min (column_of edge.now) end) }
 {
-    at.max(column.min(end))
+    edge.column.min(i64::from(end)).max(i64::from(at)) as u32
 }
 
 /// One more where the edge counts.

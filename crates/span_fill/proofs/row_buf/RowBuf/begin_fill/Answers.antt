@@ -1,7 +1,7 @@
 -- The edges are those of the outline's lines.
-use Rattle.std.proofs.Common.{◌≡◌, ◌≤◌, List, length, map, ap, subst, sym, ◌∙◌, arith}
+use Rattle.std.proofs.Common.{◌≡◌, ◌≤◌, List, length, ap, subst, sym, arith}
 use Rattle.std.specs.List.{All}
-use Rattle.span_fill.specs.Edges.{IsEdge, crossing_of}
+use Rattle.span_fill.specs.Edges.{IsEdge}
 use Rattle.span_fill.specs.RowState.{RowState}
 use Rattle.span_fill.specs.declared.edge.Edge.{Edge}
 use Rattle.span_fill.proofs.RowLemmas.{filling_begins, listed_edges}
@@ -24,6 +24,7 @@ invariant_of-self g c =
     let count : length c.copy_lines.new.lines.items ≤ c.self.inside.room = omega (arith, room, lines, asked) in
     let given = ap (λ xs. length xs) c.as_slice.ensures.value in
     let edges = ap (λ xs. length xs) c.as_slice-2.ensures.value in
+    let event = rw (c.as_slice-3.ensures.value, c.as_slice-4.ensures.value) at c.next_event-self-inside.ensures in
     record {
       room = record {
         limit = c.self.invariant.room.limit;
@@ -36,7 +37,7 @@ invariant_of-self g c =
       };
       count = count;
       near = c.copy_lines.ensures.near;
-      filling = λ h. filling_begins c.args.y c.self.inside.room c.copy_lines.new.lines.items c.collect_edges.new.edges.items c.sort_edges.new.edges.items c.admit-self-inside.result c.admit-self-inside.new.active.items c.sort_active.new.active.items c.tell.new.crossings.items c.copy_lines.ensures.near c.requires.row collected c.sort_edges.ensures.permutation c.sort_edges.ensures.sorted admitted left (omega (arith, edges, c.admit-self-inside.ensures.within)) c.sort_active.ensures.permutation c.sort_active.ensures.sorted (omega (arith, edges, count, given, c.admit-self-inside.ensures.length, c.collect_edges.ensures.length)) (c.tell.ensures.crossings ∙ ap (map crossing_of) c.as_slice-3.ensures.value);
+      filling = λ h. filling_begins c.args.y c.self.inside.room c.copy_lines.new.lines.items c.collect_edges.new.edges.items c.sort_edges.new.edges.items c.admit-self-inside.result c.admit-self-inside.new.active.items c.sort_active.new.active.items c.next_event-self-inside.result c.copy_lines.ensures.near c.requires.row collected c.sort_edges.ensures.permutation c.sort_edges.ensures.sorted admitted left (omega (arith, edges, c.admit-self-inside.ensures.within)) c.sort_active.ensures.permutation c.sort_active.ensures.sorted (omega (arith, edges, count, given, c.admit-self-inside.ensures.length, c.collect_edges.ensures.length)) event;
       stroking = λ h. absurd h;
     }
 

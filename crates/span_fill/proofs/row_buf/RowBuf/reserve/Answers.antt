@@ -23,7 +23,7 @@ invariant_of-self-2 c =
       };
       count = rw c.grow.ensures.items (omega arith);
       near = rw c.grow.ensures.items c.self.invariant.near;
-      filling = λ work. rw (c.grow.ensures.items, c.grow-2.ensures.items, c.grow-3.ensures.items, c.grow-4.ensures.items) (filling_grows c.self.inside.next c.self.inside.room c.args.lines c.self.inside.lines.items c.self.inside.edges.items c.self.inside.begun c.self.inside.active.items c.self.inside.crossings.items (omega arith) (c.self.invariant.filling work));
+      filling = λ work. rw (c.grow.ensures.items, c.grow-2.ensures.items, c.grow-3.ensures.items) (filling_grows c.self.inside.next c.self.inside.room c.args.lines c.self.inside.lines.items c.self.inside.edges.items c.self.inside.begun c.self.inside.active.items c.self.inside.event (omega arith) (c.self.invariant.filling work));
       stroking = λ work. rw c.grow.ensures.items (stroking_grows c.self.inside.lines.items c.self.inside.next c.self.inside.room c.args.lines c.self.inside.strokes c.reserve.new.self (omega arith) c.reserve.ensures.strokes c.reserve.ensures.have c.reserve.ensures.count (c.self.invariant.stroking work));
     }
 
@@ -47,6 +47,6 @@ invariant_of-self-in_err-reserve c =
       };
       count = rw c.grow.ensures.items c.self.invariant.count;
       near = rw c.grow.ensures.items c.self.invariant.near;
-      filling = λ work. rw (c.grow.ensures.items, c.grow-2.ensures.items, c.grow-3.ensures.items, c.grow-4.ensures.items) (c.self.invariant.filling work);
+      filling = λ work. rw (c.grow.ensures.items, c.grow-2.ensures.items, c.grow-3.ensures.items) (c.self.invariant.filling work);
       stroking = λ work. rw c.grow.ensures.items (stroking_grows c.self.inside.lines.items c.self.inside.next c.self.inside.room c.self.inside.room c.self.inside.strokes c.reserve.new.self (omega arith) c.reserve.ensures.strokes c.reserve.ensures.have c.reserve.ensures.count (c.self.invariant.stroking work));
     }

@@ -2,7 +2,7 @@
 use Rattle.std.proofs.Common.{◌≡◌, ◌+◌, ◌≤◌, ◌++◌, drop}
 use Rattle.smallvec.specs.SmallVec.{small_vec_len}
 use Rattle.span_fill.specs.Sweep.{swept}
-use Rattle.span_fill.proofs.sweep.sweep.Given as goal
+use Rattle.span_fill.proofs.sweep.sweep_all.Given as goal
 
 abbrev pub invariant-loop-edge : goal.invariant-loop-edge
 invariant-loop-edge l = record {
