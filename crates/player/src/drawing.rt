@@ -202,7 +202,7 @@ fn stroke_outline<'a, T: Table<'a>>(
             edges,
         } => {
             let inside = rectangle_box(place.at(first), place.at(second), edges);
-            stroke_box(canvas, rows, inside, &paint, room);
+            stroke_box(canvas, rows, marks, inside, &paint, colour, room);
         }
     }
 }

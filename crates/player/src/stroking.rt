@@ -1,6 +1,6 @@
 //! A pen's work that isn't told by an outline: the outer pixels of a box, and a lone line by its steps.
 
-ghost use Rattle.std.specs.Prelude.{◌≡◌, ◌≤◌, pos, None};
+ghost use Rattle.std.specs.Prelude.{◌≡◌, ◌≤◌, pos};
 ghost use Rattle.canvas.specs.Writing.{Repaints};
 ghost use Rattle.span_fill.specs.Lines.{HasNearEnds};
 ghost use Rattle.span_fill.specs.Strokes.{in_stroke, on_line};
@@ -16,20 +16,24 @@ use crate::line_steps::mix_line;
 use crate::parts::{Part, paint_part};
 use crate::rectangles::{LineList, box_lines, has_inside};
 use crate::regions::whole_law;
+use crate::stamping::stroke_marked;
+use crate::stamps::Stamps;
 use canvas::{Canvas, writing_law};
 use mapping::{Colour, Rect};
 use span_fill::{Line, RowBuf, line_box_law};
 
-/// Paints the outer pixels of a box, if it has any. Nothing is read.
+/// Paints the outer pixels of a box, if it has any, in the colour of a paint of one colour.
 pub(crate) fn stroke_box(
     canvas: &mut Canvas,
     rows: &mut RowBuf,
+    marks: &mut Option<Stamps>,
     inside: Rect,
     paint: &Brushing<'_, '_>,
+    colour: Colour,
     room: &mut InkRoom,
 )
     requires countable { HasRoomForLayer canvas.old }
-    requires alone { paint.now.source ≡ None }
+    requires pen { IsPen paint.now colour }
     requires room { 4 ≤ rows.old.room }
     requires near { IsNearBox inside }
     ensures pixels { Repaints (paints paint.now (in_stroke (rectangle_lines inside))) (made paint.now) canvas.old canvas.new }
@@ -44,6 +48,9 @@ pub(crate) fn stroke_box(
     }
     let lines = box_lines(inside);
     let outline = LineList { rest: &lines };
+    if stroke_marked(canvas, marks, outline, inside, paint, colour) {
+        return;
+    }
     paint_part(canvas, rows, outline, Part::Lines, inside, paint, room);
 }
 

@@ -21,8 +21,22 @@ returns-then-not-has_inside-clause-pixels c =
     let there = and_parts (in_boxes (placed_value paint.clip.now) x y) (shape x y) painted.0 in
     true≢false (sym there.1 ∙ no_stroke c.args.inside x y none))
 
+pub stroke_marked-requires-clause-within : goal.stroke_marked-requires-clause-within
+stroke_marked-requires-clause-within c = λ x y h.
+    let some : has_inside c.args.inside ≡ true = sym c.if-not-has_inside.ensures in
+    let there = ap (λ (lines : List Line). in_stroke lines x y) c.box_lines-lines.ensures.lines in
+    stroke_within c.args.inside some c.line_box_law.ensures x y (sym there ∙ h)
+
 pub paint_part-requires-clause-within : goal.paint_part-requires-clause-within
 paint_part-requires-clause-within c = λ x y h.
     let some : has_inside c.args.inside ≡ true = sym c.if-not-has_inside.ensures in
     let there = ap (λ (lines : List Line). in_stroke lines x y) c.box_lines-lines.ensures.lines in
     stroke_within c.args.inside some c.line_box_law.ensures x y (sym there ∙ h)
+
+pub returns-then-stroke_marked-clause-pixels : goal.returns-then-stroke_marked-clause-pixels
+returns-then-stroke_marked-clause-pixels c = rw c.box_lines-lines.ensures.lines at (c.stroke_marked.ensures.pixels c.if-stroke_marked.true)
+
+pub returns-clause-pixels : goal.returns-clause-pixels
+returns-clause-pixels c =
+    let same = c.stroke_marked.ensures.unpainted c.if-stroke_marked.false in
+    rw (c.box_lines-lines.ensures.lines, same) at c.paint_part.ensures.pixels
