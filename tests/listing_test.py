@@ -9,6 +9,7 @@ from built import SAMPLES, Answer, answer, for_each_program
 from metafile.fields import BLUE, joined, u16, u32
 from metafile.files import EMF_END, emf_file, emf_record, placeable_file, plain_file, wmf_record
 from metafile.scripts import FORMS
+from reading.commands import Asked
 from reference.listing import listing
 from standards.emf import EMF
 from standards.wmf import WMF
@@ -56,26 +57,59 @@ TOLD_BOTH = b"".join(
     ]
 )
 
-# Scripts behind that, and which of their records are refused on the smallest surface and on the
-# largest, counted from 0, and by which faults.
+# Four pixels behind that: the second is off the plane on the largest surface alone, since 2 * 16,385 * 8,192 is past 2^28 and
+# 2 * 16,385 * 8,191 isn't, and the fourth from 4,474 pixels on, since 2 * 30,000 * 4,474 is past 2^28 and 2 * 30,000 * 4,473 isn't.
+APART = f"{DOUBLED}; {NEAR}; {FAR}; {NEAR}; pixel 30000 0"
+
+TOLD_APART = b"".join(
+    [
+        b"0\t40\t8\t0x0103\tMETA_SETMAPMODE\tplayed\tmap mode 8\n",
+        b"1\t48\t10\t0x020c\tMETA_SETWINDOWEXT\tplayed\twindow extent 1,1\n",
+        b"2\t58\t10\t0x020e\tMETA_SETVIEWPORTEXT\tplayed\tviewport extent 2,2\n",
+        b"3\t68\t14\t0x041f\tMETA_SETPIXEL\tplayed\tpixel 16384,0 #ff0000\n",
+        b"4\t82\t14\t0x041f\tMETA_SETPIXEL\trefused\tOffPlane\n",
+        b"5\t96\t14\t0x041f\tMETA_SETPIXEL\tplayed\tpixel 16384,0 #ff0000\n",
+        b"6\t110\t14\t0x041f\tMETA_SETPIXEL\trefused\tOffPlane\n",
+        b"7\t124\t6\t0x0000\tMETA_EOF\tplayed\tnothing\n",
+    ]
+)
+
+# Which of the records is the first that is off the plane, by the side of the bound.
+APART_AT = [(8192, 4), (8191, 6), (4474, 6), (4473, None), (1, None)]
+
+# Scripts behind that: which of their records are off the plane on the largest surface alone, counted from 0, and which the smallest
+# refuses, and by which fault.
 STOPS = [
-    ("", None, None),
-    (f"{NEAR}; pixel -16384 0", None, None),
-    # On the largest surface alone: the first is told, and no later one.
-    (FAR, None, (0, "OffPlane")),
-    ("line 0 -16385", None, (0, "OffPlane")),
-    (f"{NEAR}; {FAR}; {NEAR}", None, (1, "OffPlane")),
-    (f"{FAR}; viewport_extent 4 4; {FAR}; pixel 30000 0", None, (0, "OffPlane")),
-    # In front of another fault both are told, and behind one nothing is.
-    (f"{FAR}; restore -1", (1, "NoSavedState"), (0, "OffPlane")),
-    (f"{FAR}; {NEAR}; select 3", (2, "NoSuchHandle"), (0, "OffPlane")),
-    (f"restore -1; {FAR}", (0, "NoSavedState"), (0, "NoSavedState")),
-    # In one record both have the fault that doesn't depend on the surface, or else the same one.
-    ("16x cut 0 0 1 1; cut 0 0 16385 1", (16, "TooManyCuts"), (16, "TooManyCuts")),
-    ("viewport_extent 16384 16384; pixel 16385 0", (1, "OffPlane"), (1, "OffPlane")),
-    (f"{FAR}; viewport_extent 16384 16384; pixel 16385 0", (2, "OffPlane"), (0, "OffPlane")),
+    ("", [], None),
+    (f"{NEAR}; pixel -16384 0", [], None),
+    # On the largest surface alone: each is told, also behind another.
+    (FAR, [0], None),
+    ("line 0 -16385", [0], None),
+    (f"{NEAR}; {FAR}; {NEAR}", [1], None),
+    (f"{FAR}; viewport_extent 4 4; {FAR}; pixel 30000 0", [0, 2, 3], None),
+    (f"rectangle 0 0 16385 1; polygon 0 0 0 16385 1 1; polyline 0 0 1 1; polyline 0 0 16385 1", [0, 1, 3], None),
+    ("cut 0 0 16385 1; keep 0 0 0 1; keep 0 0 0 16385", [0, 2], None),
+    # A position alone is on no surface, but lines begin there.
+    ("move 16385 0; pixel 0 0; line 0 0; line 1 1", [2], None),
+    # Behind one that all refuse nothing is.
+    (f"{FAR}; restore -1", [0], (1, "NoSavedState")),
+    (f"{FAR}; {NEAR}; select 3", [0], (2, "NoSuchHandle")),
+    (f"restore -1; {FAR}", [], (0, "NoSavedState")),
+    (f"{FAR}; restore -1; {FAR}", [0], (1, "NoSavedState")),
+    # In one record all have the fault that doesn't depend on the surface, or else the same one.
+    ("16x cut 0 0 1 1; cut 0 0 16385 1", [], (16, "TooManyCuts")),
+    ("viewport_extent 16384 16384; pixel 16385 0", [], (1, "OffPlane")),
+    (f"{FAR}; viewport_extent 16384 16384; pixel 16385 0", [0], (2, "OffPlane")),
     # A state that a refused record would have changed.
-    (f"{FAR}; save; restore -1; restore -1", (3, "NoSavedState"), (0, "OffPlane")),
+    (f"{FAR}; save; restore -1; restore -1", [0], (3, "NoSavedState")),
+]
+
+# The same in EMF alone: what a path gathers is looked at where it is added and again where it is painted.
+PATH_STOPS = [
+    (f"begin_path; move 0 0; line 16385 0; line 0 1; end_path; stroke_path; {NEAR}", [2, 5], None),
+    ("begin_path; move 16385 0; line 0 0; line 0 1; end_path; fill_path", [2, 5], None),
+    ("begin_path; polygon 0 0 1 0 0 16385; abort_path; begin_path; rectangle 0 0 1 1; end_path; stroke_and_fill_path", [1], None),
+    ("begin_path; end_path; fill_path; fill_path", [], (3, "PathState")),
 ]
 
 NO_METAFILE = b"-\t-\t-\t-\t-\trefused\tNotMetafile\n"
@@ -124,13 +158,15 @@ def altered(file, chance):
     return bytes(changed)
 
 
+def refused_at(program, given, side):
+    """The record in which the run on a square surface is refused, and the fault, as the program tells them where it prepares for it."""
+    told = TOLD.fullmatch(answer(program, ["prepare", "stdin", str(side), str(side), "/dev/null"], given).err.decode())
+    return (int(told[2]), told[1]) if told else None
+
+
 def stops_of(program, given):
-    """The records in which the runs on the smallest surface and on the largest are refused, and the faults, as
-    the program tells them where it shows the one and prepares for the other."""
-    smallest = answer(program, ["show", "stdin", "1", "1"], given)
-    largest = answer(program, ["prepare", "stdin", "8192", "8192", "/dev/null"], given)
-    told = [TOLD.fullmatch(it.err.decode()) for it in (smallest, largest)]
-    return [(int(it[2]), it[1]) for it in told if it]
+    """The records in which the runs on the largest surface and on the smallest are refused, and the faults."""
+    return [it for it in (refused_at(program, given, side) for side in (8192, 1)) if it]
 
 
 def first_refused(program, given):
@@ -166,23 +202,33 @@ class Listings(unittest.TestCase):
             file = path.read_bytes()
             for trial in range(25 if len(file) < 3000 else 2):
                 changed = altered(file, chance)
+                told = listed(program, changed)
+                self.assertEqual(told, Asked(changed).list(), (path.name, trial))
                 found = stops_of(program, changed)
-                self.same(program, changed, found, (path.name, trial))
                 if found:
                     stops += 1
                     self.assertEqual(first_refused(program, changed), min(found), (path.name, trial))
         self.assertGreater(stops, 50)
 
     @for_each_program
-    def test_the_faults_of_the_smallest_surface_and_of_the_largest(self, program):
+    def test_each_record_that_is_refused_on_some_surface(self, program):
         for form in FORMS:
-            for script, *wanted_stops in STOPS:
+            for script, off, stop in STOPS + (PATH_STOPS if "begin_path" in form.named else []):
                 front = form.records(DOUBLED)
                 given = form.file([*front, *form.records(script)], 1, 16)
                 first = form.first + len(front)
-                stops = [(first + number, fault) for number, fault in filter(None, wanted_stops)]
-                self.assertEqual(stops_of(program, given), stops, (form.name, script))
+                stops = [(first + number, fault) for number, fault in [*((it, "OffPlane") for it in off), *filter(None, [stop])]]
                 self.same(program, given, stops, (form.name, script))
+                self.assertEqual(Asked(given).list(), wanted(given, stops), (form.name, script))
+                self.assertEqual(stops_of(program, given), stops[:1] + stops[-1:] * bool(stop), (form.name, script))
+
+    @for_each_program
+    def test_the_fault_at_each_bound_is_told_on_its_line(self, program):
+        form = FORMS[0]
+        given = form.file(form.records(APART), 1, 1)
+        self.assertEqual(listed(program, given), Answer(0, TOLD_APART, b""))
+        for side, record in APART_AT:
+            self.assertEqual(refused_at(program, given, side), (record, "OffPlane") if record else None, side)
 
     @for_each_program
     def test_a_fault_of_the_largest_surface_in_front_of_another_by_hand(self, program):

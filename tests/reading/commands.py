@@ -84,9 +84,8 @@ class Asked:
         return refused(*refusal) if refusal else self.image(sides)[0]
 
     def list(self):
-        """The answer of `list`, which tells the runs on the smallest surface and on the largest: of headers no fault is told."""
-        refusals = [self.certified((side, side))[1] for side in (1, LARGEST_SIDE)]
-        stops = [(record, fault) for fault, record in filter(None, refusals) if record is not None]
+        """The answer of `list`, which tells each record that is refused on some surface, up to the first that each refuses: of headers no fault is told."""
+        stops = [] if self.refusal else self.steps.faults(1, LARGEST_SIDE)
         text, has_ended = listing.listing(self.file, stops)
         return Answer(0 if has_ended else 1, text, b"")
 

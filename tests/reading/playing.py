@@ -7,7 +7,7 @@ from reading import emf, wmf
 from reading.fields import Record, fault, text_of
 from reading.opening import opened
 from reference.certificates import Certifier, PlaneAxis
-from reference.pixels import Axis, OffPlane, Refused
+from reference.pixels import PLACED_END, Axis, OffPlane, Refused
 from reference.player import Reference
 
 MOST_SAVED, MOST_CUTS, MOST_OBJECTS = 256, 16, 1024
@@ -164,6 +164,57 @@ class FileReference(Records, Reference):
     """Records on a surface."""
 
 
+class FileJudge(FileCertifier):
+    """Records on the plane of a small surface, and whether they are off the plane of a larger one."""
+
+    def __init__(self, axes, inclusive, limits):
+        super().__init__(axes, inclusive, 0)
+        self.limits = limits
+
+    def is_off(self, points):
+        """Whether one of some points of the plane lands too far on the larger surface."""
+        return any(not limit.has(number) for point in points for limit, number in zip(self.limits, point, strict=True))
+
+    def judge(self, number, step):
+        """The fault of a record that has one on some surface, and whether it has it on each."""
+        self.first, self.drawings = number, []
+        for limit in self.limits:
+            limit.is_passed = False
+        refusal = self.certify([step])
+        if refusal:
+            return refusal[0], True
+        is_off = any(limit.is_passed for limit in self.limits) or any(self.is_off(it.points) for it in self.drawings)
+        return "OffPlane" if is_off else None, False
+
+
+class Limit:
+    """How far coordinates of the plane go on a side of a surface, and whether one was farther."""
+
+    def __init__(self, frame, side):
+        self.frame = frame
+        self.side = side
+        self.is_passed = False
+
+    def has(self, number):
+        """Whether a coordinate lands within the limits."""
+        return abs(number * self.side // self.frame) <= PLACED_END
+
+    def axis(self, *numbers):
+        """An axis of the plane that tells the limit of each coordinate."""
+        limit = self
+
+        class LimitedAxis(PlaneAxis):
+            """An axis of the plane."""
+
+            def placed(self, number):
+                """The coordinate on the plane."""
+                plane = super().placed(number)
+                limit.is_passed |= not limit.has(plane)
+                return plane
+
+        return LimitedAxis(*numbers)
+
+
 class Counted(dict):
     """An image that counts the pixels that are written."""
 
@@ -222,6 +273,21 @@ class Steps:
         """The certifier of these records at a bound, and the first fault with its record, if there is one."""
         certifier = self.certifier(sides)
         return certifier, certifier.certify(self.read) or self.refusal
+
+    def faults(self, smallest, largest):
+        """The records that are refused on a surface of these sides at most, each with its fault, up to the first that each surface refuses."""
+        limits = [Limit(frame, largest) for frame in self.opened.frame]
+        axes = [limit.axis(*numbers, limit.frame, smallest) for limit, numbers in zip(limits, self.opened.axes, strict=True)]
+        judge = FileJudge(axes, self.opened.is_emf, limits)
+        judge.begin(self.opened)
+        found = []
+        for number, step in enumerate(self.read):
+            fault, is_last = judge.judge(number, step)
+            if fault:
+                found.append((number, fault))
+            if is_last:
+                break
+        return found
 
     def image(self, sides, before=None):
         """The image of these records, which have no fault at these sides, over white or over what was there before."""

@@ -100,7 +100,7 @@ def told(framed, number, kind, record, is_behind):
 
 def lines_of(file, stops=()):
     """The lines of a file, and whether its records end with an end record. `stops` are the numbers of
-    records in which runs of the file stop, each with the fault by which one does."""
+    records that runs of the file refuse, each with the fault."""
     found = format_of(file)
     if found is None:
         return ["-\t-\t-\t-\t-\trefused\tNotMetafile"], False

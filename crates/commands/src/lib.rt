@@ -12,8 +12,9 @@
 //!   `list_command`, by `Writes` and `Tells`). Where it is done, its output got one text and nothing else:
 //!   the P6 text of the image that the file's records define, over white (`show`, `play`) or over the
 //!   image that a P6 text says (`over`), the certificate that is prepared (`prepare`), the report of an
-//!   accepted one (`check`), or the listing of records that end with an end record (`list`), with the faults
-//!   that stop the runs on the smallest surface and on the largest.
+//!   accepted one (`check`), or the listing of records that end with an end record (`list`).
+//! - In a listing each record in which a run of the file stops, on a surface of any sides, or by whose fault a certificate is refused,
+//!   has that fault on its line, unless the fault is that of the certificate's own entry (`list_command`).
 //! - It is refused only where that refusal is right: the file's first fault (`show`, `prepare`), or the
 //!   check's answer, and for `play` behind it that the surface is above the certificate's bound; for
 //!   `over` between them that the text is no image. Then nothing was written, and of `check` the refusal's

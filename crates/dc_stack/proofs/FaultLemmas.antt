@@ -1,5 +1,5 @@
 -- Being off the plane, on several surfaces.
-use Rattle.std.proofs.Common.{◌≡◌, ◌≢◌, Bool, true, false, List, [], ◌∷◌, Option, Some, None, refl}
+use Rattle.std.proofs.Common.{◌≡◌, ◌≢◌, Bool, true, false, List, [], ◌∷◌, Option, Some, None, refl, ap, sym}
 use Rattle.std.proofs.lemmas.Bool.{and_from, and_parts}
 use Rattle.std.specs.List.{list_all}
 use Rattle.std.specs.Option.{option_or}
@@ -26,6 +26,14 @@ no_fault (Some g) test other passes h = cc
 no_fault None true other passes h = rw (passes refl) refl
 no_fault None false other passes h = cc
 
+same_fault : (plain : Option RecordFault) (test other : Bool) (fault : RecordFault) → (other ≡ true → test ≡ true) → option_or plain (off_unless test) ≡ Some fault → option_or plain (off_unless other) ≡ Some fault
+same_fault (Some g) test other fault passes h = h
+same_fault None test false fault passes h = ap Some (sym (off_is_off_plane test fault h))
+same_fault None test true fault passes h = absurd (none_is_some (rw (passes refl) at h))
+  where
+    none_is_some : None ≡ Some fault → ⊥
+    none_is_some e = cc
+
 -- points that land on a surface do so on a smaller one
 all_on_smaller : PlacingLaws → (smaller larger : Surface) → ShowsFrame larger → IsNoLarger smaller larger → (points : List Point) → list_all (λ p. lands_within_limits p larger) points ≡ true → list_all (λ p. lands_within_limits p smaller) points ≡ true
 all_on_smaller laws smaller larger shows no_larger [] h = refl
@@ -38,4 +46,5 @@ pub fault_laws : PlacingLaws → FaultLaws
 fault_laws laws = record {
   only_off_plane = λ operation state s other fault ne h. other_fault (plain_fault operation state) (list_all (λ p. lands_within_limits p s) (plane_points operation state)) (list_all (λ p. lands_within_limits p other) (plane_points operation state)) fault ne h;
   none_on_smaller = λ operation state smaller larger shows no_larger h. no_fault (plain_fault operation state) (list_all (λ p. lands_within_limits p larger) (plane_points operation state)) (list_all (λ p. lands_within_limits p smaller) (plane_points operation state)) (all_on_smaller laws smaller larger shows no_larger (plane_points operation state)) h;
+  same_on_larger = λ operation state smaller larger fault shows no_larger h. same_fault (plain_fault operation state) (list_all (λ p. lands_within_limits p smaller) (plane_points operation state)) (list_all (λ p. lands_within_limits p larger) (plane_points operation state)) fault (all_on_smaller laws smaller larger shows no_larger (plane_points operation state)) h;
 }

@@ -8,6 +8,7 @@ pub mod CornerLemmas
 pub mod GatheringLemmas
 pub mod CountLemmas
 pub mod PaintingLemmas
+pub mod PlacedPointLemmas
 pub mod AddingLemmas
 pub mod AdditionLemmas
 pub mod FaultLemmas

@@ -8,8 +8,8 @@ use Rattle.draw_ops.specs.declared.record_fault.RecordFault.TheVariants.{OffPlan
 use Rattle.dc_stack.specs.OperationFault.{fault_of}
 use Rattle.dc_stack.specs.State.{State}
 
--- Another fault than being off the plane is the same on each surface, and an operation without a fault on a surface has none on each
--- that is no larger.
+-- Another fault than being off the plane is the same on each surface; an operation without a fault on a surface has none on each that is no
+-- larger, and one with a fault has it on each that is no smaller.
 pub record FaultLaws : Type 0 where
   pub only_off_plane :
       (operation : Operation) (state : State) (s other : Surface) (fault : RecordFault)
@@ -17,3 +17,6 @@ pub record FaultLaws : Type 0 where
   pub none_on_smaller :
       (operation : Operation) (state : State) (smaller larger : Surface) → ShowsFrame larger → IsNoLarger smaller larger
       → fault_of operation state larger ≡ None → fault_of operation state smaller ≡ None
+  pub same_on_larger :
+      (operation : Operation) (state : State) (smaller larger : Surface) (fault : RecordFault) → ShowsFrame larger → IsNoLarger smaller larger
+      → fault_of operation state smaller ≡ Some fault → fault_of operation state larger ≡ Some fault

@@ -14,7 +14,8 @@
 //! - The needs are the greatest of all steps since the start (`Machine::needs`).
 //! - The clip of a machine has a pixel exactly where the definition says so (`Machine::dc`, `Clip::has`).
 //! - Only being off the plane depends on the surface, and an operation without a fault on a surface has
-//!   none on a smaller one (`fault_law`).
+//!   none on a smaller one; with one it has that on each larger one (`fault_law`).
+//! - Whether an operation is off the plane of any surface is told before it is played on another (`Machine::place_fault`).
 #![tactic(auto)]
 
 mod clip;

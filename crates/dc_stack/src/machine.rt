@@ -14,6 +14,7 @@ ghost use Rattle.dc_stack.specs.State.{start_state};
 mod adding;
 mod clipping;
 mod drawing;
+mod landing;
 mod objects;
 mod page_mapping;
 mod paths;

@@ -1,7 +1,7 @@
 //! Opens a file, and lists its records: a line for each, to be read by people and cut by other programs.
 #![tactic(auto)]
 
-use listing::write_listing;
+use listing::{Judge, write_listing};
 use meta_headers::open_file;
 use std::{fs, io};
 
@@ -14,7 +14,10 @@ fn main(rt: HostRuntime) -> io::Result<()> {
         }
         Err(fault) => println!(rt; "held.wmf doesn't open: {fault}")?,
     }
-    match write_listing(&file, &[], &mut rt.stdout()) {
+    let Ok(judge) = Judge::new(rt.alloc(), &file) else {
+        return Err(io::ErrorKind::OutOfMemory.into());
+    };
+    match write_listing(&file, judge, &mut rt.stdout()) {
         Ok(_) => Ok(()),
         Err(_) => Err(io::ErrorKind::WriteZero.into()),
     }

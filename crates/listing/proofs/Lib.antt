@@ -3,3 +3,6 @@ pub mod SendingLemmas
 pub mod LineLemmas
 pub mod WalkLemmas
 pub mod TextLemmas
+pub mod JudgingLemmas
+pub mod StopLemmas
+pub mod LawLemmas

@@ -2,8 +2,10 @@ pub mod Parts
 pub mod ObjectTexts
 pub mod Asked
 pub mod NoteTexts
+pub mod Judging
 pub mod Line
 pub mod Listing
+pub mod ListingLaws
 pub mod Sending
 pub mod Putting
 pub mod WmfNames

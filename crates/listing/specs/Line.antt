@@ -1,8 +1,7 @@
 -- The line that tells a record.
-use Rattle.std.specs.Prelude.{ℕ, ◌||◌, ◌==◌, if◌then◌else◌, List, [], ◌∷◌, ◌++◌, length, codes, decimal, Option, Some, None, Result, Ok, Err}
+use Rattle.std.specs.Prelude.{ℕ, ◌||◌, if◌then◌else◌, List, ◌++◌, length, codes, decimal, Option, Some, None, Result, Ok, Err}
 use Rattle.draw_ops.specs.Content.{StepValue}
 use Rattle.draw_ops.specs.FaultTable.{fault_row}
-use Rattle.draw_ops.specs.Meaning.{step_of}
 use Rattle.draw_ops.specs.NoteKinds.{is_noted}
 use Rattle.draw_ops.specs.Records.{Record}
 use Rattle.draw_ops.specs.declared.fault.Fault.{Fault}
@@ -10,7 +9,6 @@ use Rattle.draw_ops.specs.declared.fault.Fault.TheVariants.{Record as InRecord}
 use Rattle.draw_ops.specs.declared.record_fault.RecordFault.{RecordFault}
 use Rattle.draw_ops.specs.declared.note.Note.TheVariants.{EmfPlus, Skipped}
 use Rattle.listing.specs.EmfNames.{emf_name_of}
-use Rattle.meta_headers.specs.Opening.{framing_of, meaning_of}
 use Rattle.meta_headers.specs.declared.opened.FileFormat.{FileFormat}
 use Rattle.meta_headers.specs.declared.opened.FileFormat.TheVariants.{Placeable, Plain, Emf}
 use Rattle.listing.specs.WmfNames.{wmf_name_of}
@@ -39,24 +37,19 @@ kind_name Emf kind = text_or_hyphen (emf_name_of kind)
 abbrev pub deed_text : List ℕ → List ℕ
 deed_text notes = if is_noted notes Skipped || is_noted notes EmfPlus then codes "noted" else codes "played"
 
--- the first of these faults, each by its record's number, that lies in the record with this number, if one does
-abbrev pub fault_at : ℕ → List (ℕ × RecordFault) → Option RecordFault
-fault_at number [] = None
-fault_at number (stop ∷ stops) = if stop.0 == number then Some stop.1 else fault_at number stops
-
 -- the last two fields of a line: that the record is refused, and the name of its fault
 abbrev pub refused_text : Fault → List ℕ
 refused_text fault = codes "refused\t" ++ (fault_row fault).name
 
--- the last two fields of a line: the fault that a run has in the record, or else what is done, what is asked for, and what is noted
+-- the last two fields of a line: the fault that runs have in the record, or else what is done, what is asked for, and what is noted
 abbrev pub step_text : Option RecordFault → StepValue → List ℕ
 step_text (Some fault) step = refused_text (InRecord fault)
 step_text None step = deed_text step.notes ++ codes "\t" ++ asked_text step.operation ++ notes_text step.notes
 
 -- the last two fields of a line: of a record that has a meaning, or the fault of its meaning
 abbrev pub meant_text : Option RecordFault → Result StepValue RecordFault → List ℕ
-meant_text stop (Err fault) = refused_text (InRecord fault)
-meant_text stop (Ok step) = step_text stop step
+meant_text run (Err fault) = refused_text (InRecord fault)
+meant_text run (Ok step) = step_text run step
 
 -- What is told of a record that isn't read, a tab behind each field: its number, its place in the file, its size in bytes, its kind, and the
 -- standard's name.
@@ -65,11 +58,10 @@ head_of format number place r =
     decimal number ++ codes "\t" ++ decimal place ++ codes "\t" ++ decimal (length r.bytes) ++ codes "\t" ++ kind_text format r.kind ++ codes "\t"
     ++ kind_name format r.kind ++ codes "\t"
 
--- the line of a record: that, what is done with it, and what it asks for, or the name of its fault
-abbrev pub line_of : FileFormat → List (ℕ × RecordFault) → List ℕ → ℕ → ℕ → Record → List ℕ
-line_of format stops behind number place r =
-    head_of format number place r
-    ++ meant_text (fault_at number stops) (step_of (framing_of format) (meaning_of format) behind number r) ++ codes "\n"
+-- The line of a record that means this, or has a fault of meaning, and has this fault in runs: that, what is done with it, and what it asks for, or the
+-- name of its fault.
+abbrev pub line_of : FileFormat → Option RecordFault → ℕ → ℕ → Record → Result StepValue RecordFault → List ℕ
+line_of format run number place r meant = head_of format number place r ++ meant_text run meant ++ codes "\n"
 
 -- the line that tells where the records break, and by which fault
 abbrev pub fault_line : ℕ → ℕ → RecordFault → List ℕ

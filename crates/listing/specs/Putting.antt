@@ -1,27 +1,35 @@
 -- What is put for the next record of a walk.
 use Rattle.std.specs.Prelude.{◌≡◌, ◌<◌, ℕ, List, ◌++◌, length, Option, Some, None}
 use Rattle.listing.specs.WalkState.{Walk}
-use Rattle.draw_ops.specs.declared.record_fault.RecordFault.{RecordFault}
 use Rattle.meta_headers.specs.declared.opened.FileFormat.{FileFormat}
+use Rattle.listing.specs.Judging.{Judging}
 use Rattle.listing.specs.Listing.{lines_of_framed, listed_by}
 use Rattle.listing.specs.declared.listing_end.ListingEnd.{ListingEnd}
 
--- the lines of the records that are left to a walk
-abbrev pub listing_left : FileFormat → List (ℕ × RecordFault) → Walk → List ℕ
-listing_left format stops walk = lines_of_framed format stops walk.number walk.place walk.framed
+-- how far a listing has come: the records that are left to a walk, and what the next of them is judged by
+pub record Coming : Type 0 where
+  pub walk : Walk
+  pub judging : Option Judging
+
+abbrev pub coming : Walk → Option Judging → Coming
+coming walk judging = record { walk = walk; judging = judging }
+
+-- the lines of the records that are left
+abbrev pub listing_left : FileFormat → Coming → List ℕ
+listing_left format coming = lines_of_framed format coming.judging coming.walk.number coming.walk.place coming.walk.framed
 
 -- a line was put, the others are left, and the records end as before
-pub record PutsLine (format : FileFormat) (stops : List (ℕ × RecordFault)) (old : List ℕ) (before : Walk) (new : List ℕ) (after : Walk) : Type 0 where
-  pub put : old ++ listing_left format stops before ≡ new ++ listing_left format stops after
-  pub fewer : length after.framed.records < length before.framed.records
-  pub end : listed_by after.framed ≡ listed_by before.framed
+pub record PutsLine (format : FileFormat) (old : List ℕ) (before : Coming) (new : List ℕ) (after : Coming) : Type 0 where
+  pub put : old ++ listing_left format before ≡ new ++ listing_left format after
+  pub fewer : length after.walk.framed.records < length before.walk.framed.records
+  pub end : listed_by after.walk.framed ≡ listed_by before.walk.framed
 
 -- all that was left was put, and the records end so
-pub record PutsRest (format : FileFormat) (stops : List (ℕ × RecordFault)) (old : List ℕ) (before : Walk) (listed : ListingEnd) (new : List ℕ) : Type 0 where
-  pub put : new ≡ old ++ listing_left format stops before
-  pub end : listed ≡ listed_by before.framed
+pub record PutsRest (format : FileFormat) (old : List ℕ) (before : Coming) (listed : ListingEnd) (new : List ℕ) : Type 0 where
+  pub put : new ≡ old ++ listing_left format before
+  pub end : listed ≡ listed_by before.walk.framed
 
 -- a line was put, or all that was left
-abbrev pub PutsNext : FileFormat → List (ℕ × RecordFault) → List ℕ → Walk → Option ListingEnd → List ℕ → Walk → Type 0
-PutsNext format stops old before None new after = PutsLine format stops old before new after
-PutsNext format stops old before (Some listed) new after = PutsRest format stops old before listed new
+abbrev pub PutsNext : FileFormat → List ℕ → Coming → Option ListingEnd → List ℕ → Coming → Type 0
+PutsNext format old before None new after = PutsLine format old before new after
+PutsNext format old before (Some listed) new after = PutsRest format old before listed new

@@ -6,7 +6,10 @@
 //!   fault of framing (`write_listing`, by `listing_of`). Of a writer that fails a front of it has been taken.
 //! - A line tells the record's number, its place in the file, its size, its function or type in the format's own base,
 //!   the standard's name, what the player does with it, and what it asks for, or its fault (`line_of`).
-//! - The faults by which runs of the file stop are handed in: the first that lies in a record is told on its line.
+//! - Where a record has a fault in the file's runs, it is told on its line: also being off the plane on some surface alone. What finds those faults
+//!   plays the file on the smallest surface, up to the record that no surface accepts (`Judge::new`, `Judge::judge`, by `fault_in_runs`).
+//! - Wherever and by whatever fault of a record a run of the file stops, on a surface of any sides, or a certificate is refused for it, the record's
+//!   line has that fault (`listing_law`).
 //! - A fault of a record's meaning ends no listing, one of framing does, and how the records end is told.
 //! - A walk gives the records of some bytes in order, each with its number and its place, and then none or the fault
 //!   at which they break (`RecordWalk::new`, `RecordWalk::next_record`, by `GivesNext`); what one asks for is told by
@@ -14,12 +17,14 @@
 //! - Where a file's records begin is told by its format (`records_in`).
 //! - Each function of WMF and each type of EMF that the table of kinds has is named, and no other (`function_name`,
 //!   `wmf_names_law`, `type_name`, `emf_names_law`).
-//! - No call is handed an allocator.
+//! - No call but `Judge::new` is handed an allocator.
 #![tactic(auto)]
 
 mod asked;
 mod emf_names;
 mod formats;
+mod judging;
+mod laws;
 mod line;
 mod listing_end;
 mod noting;
@@ -32,6 +37,8 @@ mod writing;
 
 pub use emf_names::{emf_names_law, type_name};
 pub use formats::{first_place, records_in};
+pub use judging::Judge;
+pub use laws::listing_law;
 pub use listing_end::ListingEnd;
 pub use walk::{PlacedRecord, RecordWalk};
 pub use wmf_names::{function_name, wmf_names_law};

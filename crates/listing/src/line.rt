@@ -1,17 +1,15 @@
 //! The line that tells a record.
 
-ghost use Rattle.std.specs.Prelude.{◌≡◌, ◌+◌, ◌≤◌, ◌++◌, [], None, IfSome, codes, decimal, length};
+ghost use Rattle.std.specs.Prelude.{◌≡◌, ◌+◌, ◌≤◌, ◌++◌, IfSome, codes, decimal, length};
 ghost use Rattle.std.specs.Option.{option_map};
 ghost use Rattle.draw_ops.specs.FaultTable.{fault_row};
 ghost use Rattle.draw_ops.specs.NoteSet.{notes_in};
-ghost use Rattle.draw_ops.specs.Meaning.{step_of};
 ghost use Rattle.draw_ops.specs.RecordOf.{record_of};
 ghost use Rattle.draw_ops.specs.Results.{result_map};
 ghost use Rattle.draw_ops.specs.StepOf.{step_value_of};
-ghost use Rattle.meta_headers.specs.Opening.{framing_of, meaning_of};
-ghost use Rattle.listing.specs.Line.{deed_text, fault_at, fault_line, head_of, kind_name, kind_text, line_of, meant_text};
+ghost use Rattle.listing.specs.Line.{deed_text, fault_line, head_of, kind_name, kind_text, line_of, meant_text};
 ghost use Rattle.listing.specs.Line.{refused_text, step_text, text_or_hyphen};
-ghost use Rattle.listing.specs.Listing.{listing_if};
+ghost use Rattle.listing.specs.Listing.{no_format_line, step_in};
 
 use crate::asked::put_asked;
 use crate::emf_names::type_name;
@@ -84,18 +82,6 @@ fn deed(notes: NoteSet) -> &'static str
     }
 }
 
-/// The first of these faults that lies in the record with this number, if one does.
-fn fault_at(number: u32, stops: &[(u32, RecordFault)]) -> Option<RecordFault>
-    ensures { result ≡ fault_at number stops.now }
-{
-    for stop in stops {
-        if stop.0 == number {
-            return Some(stop.1);
-        }
-    }
-    None
-}
-
 /// Puts that a record is refused, and the name of its fault.
 fn put_refused(page: &mut Page, fault: Fault)
     requires { length page.old + 24 ≤ 8192 }
@@ -106,13 +92,13 @@ fn put_refused(page: &mut Page, fault: Fault)
     page.put(fault.name());
 }
 
-/// Puts the fault that a run has in a record, or else what is done, what is asked for, and what is noted.
-fn put_step(page: &mut Page, stop: Option<RecordFault>, step: &Step<'_>)
+/// Puts the fault that runs have in a record, or else what is done, what is asked for, and what is noted.
+fn put_step(page: &mut Page, run: Option<RecordFault>, step: &Step<'_>)
     requires { length page.old + 347 ≤ 8192 }
-    ensures text { page.new ≡ page.old ++ step_text stop (step_value_of step.now) }
+    ensures text { page.new ≡ page.old ++ step_text run (step_value_of step.now) }
     ensures short { length page.new ≤ length page.old + 347 }
 {
-    match stop {
+    match run {
         Some(fault) => put_refused(page, Fault::Record(fault)),
         None => {
             page.put(deed(step.notes));
@@ -124,21 +110,23 @@ fn put_step(page: &mut Page, stop: Option<RecordFault>, step: &Step<'_>)
 }
 
 /// Puts what is told of a record that has a meaning, or the fault of its meaning.
-fn put_meant(page: &mut Page, stop: Option<RecordFault>, meant: &Result<Step<'_>, RecordFault>)
+fn put_meant(page: &mut Page, run: Option<RecordFault>, meant: &Result<Step<'_>, RecordFault>)
     requires { length page.old + 347 ≤ 8192 }
-    ensures text { page.new ≡ page.old ++ meant_text stop (result_map step_value_of meant.now) }
+    ensures text { page.new ≡ page.old ++ meant_text run (result_map step_value_of meant.now) }
     ensures short { length page.new ≤ length page.old + 347 }
 {
     match meant {
-        Ok(step) => put_step(page, stop, step),
+        Ok(step) => put_step(page, run, step),
         Err(fault) => put_refused(page, Fault::Record(*fault)),
     }
 }
 
 /// What a record of a format asks for, or the first fault of what it means.
-fn step_in<'a>(format: FileFormat, given: PlacedRecord<'a>) -> Result<Step<'a>, RecordFault>
-    ensures { step_of (framing_of format) (meaning_of format) given.entry.behind.now given.entry.number (record_of given.entry.record)
-        ≡ result_map step_value_of result }
+pub(crate) fn step_in<'a>(
+    format: FileFormat,
+    given: PlacedRecord<'a>,
+) -> Result<Step<'a>, RecordFault>
+    ensures { step_in format given.entry.behind.now given.entry.number (record_of given.entry.record) ≡ result_map step_value_of result }
 {
     match format {
         FileFormat::Placeable => given.step::<Wmf>(),
@@ -174,23 +162,20 @@ fn put_head(page: &mut Page, format: FileFormat, given: &PlacedRecord<'_>)
     page.put("\t");
 }
 
-/// Puts the line of a record.
+/// Puts the line of a record that means this, or has a fault of meaning, and has this fault in runs.
 pub(crate) fn put_line(
     page: &mut Page,
     format: FileFormat,
-    stops: &[(u32, RecordFault)],
     given: &PlacedRecord<'_>,
+    run: Option<RecordFault>,
+    meant: &Result<Step<'_>, RecordFault>,
 )
     requires { length page.old + 512 ≤ 8192 }
     ensures { page.new ≡ page.old
-        ++ line_of format stops.now given.now.behind.now given.now.number given.now.place (record_of given.now.record) }
+        ++ line_of format run given.now.number given.now.place (record_of given.now.record) (result_map step_value_of meant.now) }
 {
     put_head(page, format, given);
-    put_meant(
-        page,
-        fault_at(given.number, stops),
-        &step_in(format, *given),
-    );
+    put_meant(page, run, meant);
     page.put("\n");
 }
 
@@ -208,7 +193,7 @@ pub(crate) fn put_fault_line(page: &mut Page, number: u32, place: usize, fault: 
 /// Puts the line that tells that a file begins as no metafile does.
 pub(crate) fn put_no_metafile(page: &mut Page)
     requires { length page.old + 512 ≤ 8192 }
-    ensures { page.new ≡ page.old ++ listing_if None [] [] }
+    ensures { page.new ≡ page.old ++ no_format_line }
 {
     page.put("-\t-\t-\t-\t-\t");
     put_refused(page, Fault::NotMetafile);

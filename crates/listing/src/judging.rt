@@ -1,0 +1,157 @@
+//! The faults that a file's records have in its runs, on surfaces of any sides.
+
+ghost use Rattle.std.specs.Prelude.{◌≡◌, Option, Some, None, IfErr, IfOk, OnErr, OnOk};
+ghost use Rattle.std.specs.Option.{option_map};
+ghost use Rattle.draw_ops.specs.OperationOf.{operation_of};
+ghost use Rattle.draw_ops.specs.Results.{result_map};
+ghost use Rattle.draw_ops.specs.StepOf.{step_value_of};
+ghost use Rattle.draw_ops.specs.declared.fault.Fault.TheVariants.{Record};
+ghost use Rattle.draw_ops.specs.declared.record_fault.RecordFault.{RecordFault as TheRecordFault};
+ghost use Rattle.meta_headers.specs.OpenedOf.{opened_of};
+ghost use Rattle.dc_stack.specs.Next.{next};
+ghost use Rattle.dc_stack.specs.OperationFault.{fault_of, place_fault};
+ghost use Rattle.preflight_cert.specs.Reached.{Opens};
+ghost use Rattle.listing.specs.ListingLaws.{ShowsItsFrame};
+ghost use Rattle.listing.specs.Judging.{behind_record, behind_step, fault_in_runs, judging_of, run_fault, start_judging};
+
+use canvas::OutOfMemory;
+use dc_stack::{Draw, MAX_PIECES, MAX_SAVED_STATES, Machine, fault_law};
+use draw_ops::{Fault, Op, RecordFault, Step};
+use mapping::{MAX_SURFACE_SIDE, Place};
+use meta_headers::{Opened, open_file};
+use object_tables::{FileTable, Table, full_slots};
+use preflight_cert::need_law;
+use std::alloc::Global;
+use std::marker::Model;
+
+/// A run on the smallest surface that no record has stopped, with room for any file.
+#[derive(Drop)]
+struct SmallestRun<'a> {
+    machine: Machine<'a, FileTable<'a>>,
+    largest: Place,
+}
+
+impl<'a> Model for SmallestRun<'a> {
+    ghost use Rattle.mapping.specs.PlaceOf.{surface_of};
+    ghost use Rattle.listing.specs.Judging.{IsRunning, Judging};
+
+    ghost Value = { Judging };
+
+    ghost view = { λ r. record { state = r.machine.state; smallest = r.machine.surface; largest = surface_of r.largest } };
+
+    ghost invariant = { λ r. IsRunning r.machine (surface_of r.largest) };
+}
+
+impl<'a> SmallestRun<'a> {
+    /// The run of an opened file before its first record.
+    fn new(alloc: Global, opened: &Opened<'a>) -> Result<SmallestRun<'a>, OutOfMemory>
+        ensures { IfOk result (λ run. run ≡ start_judging (opened_of opened.now)) }
+    {
+        let smallest = Place::new(&opened.frame, 1, 1);
+        let largest = Place::new(&opened.frame, MAX_SURFACE_SIDE, MAX_SURFACE_SIDE);
+        let table = FileTable::new(alloc, opened.handles);
+        let mut machine = Machine::new(alloc, opened, smallest, table);
+        let slots = full_slots(opened.handles);
+        match machine.reserve(MAX_SAVED_STATES, slots, MAX_PIECES) {
+            Ok(()) => Ok(SmallestRun { machine, largest }),
+            Err(_) => Err(OutOfMemory),
+        }
+    }
+
+    /// `OffPlane` where an operation is off the plane on the largest surface.
+    fn off_largest(&self, op: &Op<'a>) -> Option<RecordFault>
+        ensures { result ≡ place_fault (operation_of op.now) self.now.state self.now.largest }
+    {
+        self.machine.place_fault(op, self.largest)
+    }
+
+    /// Plays an operation, or tells the fault that it has on both surfaces.
+    fn play(&mut self, op: &Op<'a>) -> Result<(), Fault>
+        ensures no_fault { OnOk result (fault_of (operation_of op.now) self.old.state self.old.smallest ≡ None) }
+        ensures played { OnOk result (self.new
+            ≡ record { state = next (operation_of op.now) self.old.state; smallest = self.old.smallest; largest = self.old.largest }) }
+        ensures on_smallest { IfErr result (λ fault.
+            option_map Record (fault_of (operation_of op.now) self.old.state self.old.smallest) ≡ Some fault) }
+        ensures on_largest { IfErr result (λ fault.
+            option_map Record (fault_of (operation_of op.now) self.old.state self.old.largest) ≡ Some fault) }
+    {
+        fault_law();
+        need_law();
+        let mut drawn: Option<Draw<'a>> = None;
+        self.machine.step_into(op, &mut drawn)
+    }
+}
+
+/// What finds the fault that each record of a file has in its runs, record by record.
+#[derive(Drop)]
+pub struct Judge<'a> {
+    run: Option<SmallestRun<'a>>,
+}
+
+impl<'a> Model for Judge<'a> {
+    ghost use Rattle.std.specs.Prelude.{Option};
+    ghost use Rattle.listing.specs.Judging.{Judging};
+
+    ghost Value = { Option Judging };
+
+    ghost view = { λ j. j.run };
+}
+
+impl<'a> Judge<'a> {
+    /// What finds the faults of a file's records from the first one on: it finds none where the file doesn't open. All memory is taken here,
+    /// and how much depends on the file's headers alone.
+    pub fn new(alloc: Global, file: &'a [u8]) -> Result<Judge<'a>, OutOfMemory>
+        ensures start { IfOk result (λ judge. judge ≡ judging_of file.entry.now) }
+        ensures opens { OnErr result (Opens file.entry.now) }
+        ensures shows { ShowsItsFrame file.entry.now }
+    {
+        let opened = match open_file(file) {
+            Ok(opened) => opened,
+            Err(_) => return Ok(Judge { run: None }),
+        };
+        match SmallestRun::new(alloc, &opened) {
+            Ok(run) => Ok(Judge { run: Some(run) }),
+            Err(fault) => Err(fault),
+        }
+    }
+
+    /// The fault that the next record has in runs, by what it means.
+    pub fn judge(&mut self, meant: &Result<Step<'a>, RecordFault>) -> Option<RecordFault>
+        ensures fault { result ≡ fault_in_runs self.old (result_map step_value_of meant.now) }
+        ensures behind { self.new ≡ behind_record self.old (result_map step_value_of meant.now) }
+    {
+        let Ok(step) = meant else {
+            self.run = None;
+            return None;
+        };
+        self.judge_step(step)
+    }
+
+    /// The fault that the next record's step has in runs.
+    fn judge_step(&mut self, step: &Step<'a>) -> Option<RecordFault>
+        ensures fault { result ≡ run_fault self.old (step_value_of step.now) }
+        ensures behind { self.new ≡ behind_step self.old (step_value_of step.now) }
+    {
+        let Some(run) = &mut self.run else {
+            return None;
+        };
+        let off = run.off_largest(&step.op);
+        match run.play(&step.op) {
+            Ok(()) => off,
+            Err(fault) => {
+                self.run = None;
+                in_record(fault)
+            }
+        }
+    }
+}
+
+/// A fault that lies in a record.
+fn in_record(fault: Fault) -> Option<RecordFault>
+    ensures { (found : Option TheRecordFault) → option_map Record found ≡ Some fault → result ≡ found }
+{
+    match fault {
+        Fault::Record(fault) => Some(fault),
+        _ => None,
+    }
+}
