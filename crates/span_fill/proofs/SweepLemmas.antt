@@ -68,7 +68,7 @@ none_up [] column x h l = refl
 none_up (e ∷ edges) column x h l = let t = none_up edges column x h.1 l in let first = h.0 in grind (arith, nat_tests)
 
 -- the same test at the same counts
-same_test : (rule : FillRule) (d u d' u' : ℕ) → d ≡ d' → u ≡ u' → is_inside rule d u ≡ is_inside rule d' u'
+pub same_test : (rule : FillRule) (d u d' u' : ℕ) → d ≡ d' → u ≡ u' → is_inside rule d u ≡ is_inside rule d' u'
 same_test rule d u d' u' e f = ap (λ n. is_inside rule n u) e ∙ ap (λ n. is_inside rule d' n) f
 
 -- a pixel is in a swept span or in the run exactly where it is inside
@@ -148,11 +148,11 @@ one_run at from to =
     ]
 
 -- a count of one edge is inside, and none is without edges
-none_crossed : (rule : FillRule) → is_inside rule 0 0 ≡ false
+pub none_crossed : (rule : FillRule) → is_inside rule 0 0 ≡ false
 none_crossed EvenOdd = refl
 none_crossed NonZero = refl
 
-one_crossed : (rule : FillRule) (is_down : Bool) → is_inside rule (0 + cond is_down 1 0) (0 + cond (not is_down) 1 0) ≡ true
+pub one_crossed : (rule : FillRule) (is_down : Bool) → is_inside rule (0 + cond is_down 1 0) (0 + cond (not is_down) 1 0) ≡ true
 one_crossed EvenOdd true = refl
 one_crossed EvenOdd false = refl
 one_crossed NonZero true = refl

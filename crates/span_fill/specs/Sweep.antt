@@ -1,5 +1,5 @@
 -- A row's spans from the edges that cross it, in the order of the columns that they cross.
-use Rattle.std.specs.Prelude.{ℕ, ◌+◌, ◌≤◌, Bool, true, ◌&&◌, ◌==◌, not, nat_le, nat_lt, max, min, if◌then◌else◌, List, [], ◌∷◌, ◌++◌}
+use Rattle.std.specs.Prelude.{ℕ, ◌+◌, ◌≤◌, Bool, true, false, ◌&&◌, ◌==◌, not, nat_le, nat_lt, max, min, if◌then◌else◌, List, [], ◌∷◌, ◌++◌}
 use Rattle.span_fill.specs.Edges.{column_of}
 use Rattle.span_fill.specs.Fill.{is_inside}
 use Rattle.span_fill.specs.declared.edge.ActiveEdge.{ActiveEdge}
@@ -31,6 +31,12 @@ AreSorted (edge ∷ edges) = CrossFrom (column_of edge) edges × AreSorted edges
 abbrev pub is_over_behind : FillRule → ActiveEdge → ActiveEdge → Bool
 is_over_behind EvenOdd left right = true
 is_over_behind NonZero left right = if left.is_down then not right.is_down else right.is_down
+
+-- there are two edges in front, and no pixel behind both is inside
+abbrev pub has_pair : FillRule → List ActiveEdge → Bool
+has_pair rule [] = false
+has_pair rule (left ∷ []) = false
+has_pair rule (left ∷ right ∷ edges) = is_over_behind rule left right
 
 -- the run as a list, empty if it has no column
 abbrev pub run_spans : Span → List Span

@@ -1,17 +1,18 @@
 //! A row's spans from the edges that cross it.
 
-ghost use Rattle.std.specs.Prelude.{◌≡◌, ◌+◌, ◌≤◌, ◌<◌, ◌^◌, ◌++◌, length, max, min, if◌then◌else◌};
+ghost use Rattle.std.specs.Prelude.{◌≡◌, ◌+◌, ◌-◌, ◌≤◌, ◌<◌, ◌^◌, ◌++◌, IsTrue, drop, length, max, min, if◌then◌else◌};
 ghost use Rattle.smallvec.specs.SmallVec.{HasRoomFor, small_vec_len};
 ghost use Rattle.span_fill.specs.Edges.{column_of, near_column};
 ghost use Rattle.span_fill.specs.Fill.{is_inside};
-ghost use Rattle.span_fill.specs.Sweep.{is_over_behind, is_part, longer_run, ended_spans, run_spans, swept};
+ghost use Rattle.span_fill.specs.Sweep.{has_pair, is_over_behind, is_part, longer_run, ended_spans, run_spans, swept};
 
 use crate::edge::ActiveEdge;
 use crate::fill_rule::FillRule;
 use crate::row_spans::RowSpans;
 use crate::span::Span;
 
-/// The spans of a row within the interval, behind those that are there. Most rows have two edges, and one span between them.
+/// The spans of a row within the interval, behind those that are there. Most rows have two edges, and one
+/// span between them.
 pub(crate) fn sweep(rule: FillRule, edges: &[ActiveEdge], interval: Span, spans: &mut RowSpans)
     requires count { length edges.now ≤ 2 ^ 20 }
     requires interval { interval.to ≤ 8192 }
@@ -26,8 +27,50 @@ pub(crate) fn sweep(rule: FillRule, edges: &[ActiveEdge], interval: Span, spans:
         let to = column_behind(from, &edges[1], interval.to);
         put_run(spans, Span { from, to });
     } else {
-        sweep_all(rule, edges, interval, spans);
+        sweep_pairs(rule, edges, interval, spans);
     }
+}
+
+/// The same of any edges: two by two, as long as nothing is inside behind both.
+fn sweep_pairs(rule: FillRule, edges: &[ActiveEdge], interval: Span, spans: &mut RowSpans)
+    requires count { length edges.now ≤ 2 ^ 20 }
+    requires interval { interval.to ≤ 8192 }
+    requires room { HasRoomFor spans.old (length edges.now + 2) }
+    ensures spans { spans.new.items
+        ≡ spans.old.items
+        ++ swept rule interval.to edges.now interval.from 0 0 (record { from = interval.from; to = interval.from }) }
+    ensures room { spans.new.capacity ≡ spans.old.capacity }
+{
+    let mut at = interval.from;
+    let mut run = Span { from: at, to: at };
+    let mut place = 0;
+    while has_pair(rule, edges, place) {
+        let from = column_behind(at, &edges[place], interval.to);
+        at = column_behind(from, &edges[place + 1], interval.to);
+        run = put_part(spans, run, from, at, true);
+        place += 2;
+    }
+    sweep_rest(
+        rule,
+        edges,
+        place,
+        Span {
+            from: at,
+            to: interval.to,
+        },
+        run,
+        spans,
+    );
+}
+
+/// Whether two edges stand from the place on, and nothing is inside behind both, if nothing is before.
+fn has_pair(rule: FillRule, edges: &[ActiveEdge], place: usize) -> bool
+    requires count { length edges.now ≤ 2 ^ 20 }
+    requires place { place ≤ length edges.now }
+    ensures pair { result ≡ has_pair rule (drop place edges.now) }
+    ensures within { IsTrue result → place + 1 < length edges.now }
+{
+    place + 1 < edges.len() && is_over_behind(rule, edges[place], edges[place + 1])
 }
 
 /// Whether nothing is inside behind the two edges.
@@ -40,28 +83,36 @@ fn is_over_behind(rule: FillRule, left: ActiveEdge, right: ActiveEdge) -> bool
     }
 }
 
-/// The same of any edges: from one to the next, in the order of their columns, with the count of those to the left.
-fn sweep_all(rule: FillRule, edges: &[ActiveEdge], interval: Span, spans: &mut RowSpans)
+/// The same of the edges from the place on, in the rest of the interval: from one to the next, in the order of their
+/// columns, with the count of those to the left. Before them nothing is inside, and a run isn't ended yet.
+fn sweep_rest(
+    rule: FillRule,
+    edges: &[ActiveEdge],
+    place: usize,
+    rest: Span,
+    begun: Span,
+    spans: &mut RowSpans,
+)
     requires count { length edges.now ≤ 2 ^ 20 }
-    requires interval { interval.to ≤ 8192 }
-    requires room { HasRoomFor spans.old (length edges.now + 2) }
-    ensures spans { spans.new.items
-        ≡ spans.old.items
-        ++ swept rule interval.to edges.now interval.from 0 0 (record { from = interval.from; to = interval.from }) }
+    requires place { place ≤ length edges.now }
+    requires interval { rest.to ≤ 8192 }
+    requires room { HasRoomFor spans.old (length edges.now - place + 2) }
+    ensures spans { spans.new.items ≡ spans.old.items ++ swept rule rest.to (drop place edges.now) rest.from 0 0 begun }
     ensures room { spans.new.capacity ≡ spans.old.capacity }
 {
-    let mut at = interval.from;
-    let mut run = Span { from: at, to: at };
+    let mut at = rest.from;
+    let mut run = begun;
     let mut downs: u32 = 0;
     let mut ups: u32 = 0;
-    for edge in edges {
-        let column = column_behind(at, edge, interval.to);
+    for next in place..edges.len() {
+        let edge = &edges[next];
+        let column = column_behind(at, edge, rest.to);
         run = put_part(spans, run, at, column, is_inside_at(rule, downs, ups));
         at = column;
         downs = counted(downs, edge.is_down);
         ups = counted(ups, !edge.is_down);
     }
-    run = put_part(spans, run, at, interval.to, is_inside_at(rule, downs, ups));
+    run = put_part(spans, run, at, rest.to, is_inside_at(rule, downs, ups));
     put_run(spans, run);
 }
 
