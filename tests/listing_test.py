@@ -246,7 +246,7 @@ class Listings(unittest.TestCase):
             given = form.file([*front, form.record(0x7777, bytes(8))], 1, 1)
             cut = given[: -len(form.end) - 2]
             for given, fault in [(given, "UnknownRecord"), (cut, "PastEnd")]:
-                self.assertEqual(stops_of(program, given), [(first, fault), stop], (form.name, fault))
+                self.assertEqual(stops_of(program, given), [stop, (first, fault)], (form.name, fault))
                 self.same(program, given, [stop], (form.name, fault))
 
     @for_each_program

@@ -5,7 +5,6 @@ use Rattle.draw_ops.specs.Content.{Content}
 use Rattle.canvas.specs.CanvasState.{CanvasState, image_of}
 use Rattle.preflight_cert.specs.After.{needs_after, state_after}
 use Rattle.preflight_cert.specs.Apply.{apply_all, image_after, rows_after}
-use Rattle.meta_headers.specs.File.{IsFile}
 use Rattle.meta_headers.specs.Opening.{HasContentOf, surface_for}
 use Rattle.meta_headers.specs.declared.opened.FileFormat.{FileFormat}
 use Rattle.meta_headers.specs.declared.opened.Opened.{Opened}
@@ -69,19 +68,6 @@ pub record PlaysRecords (format : FileFormat) (records : List ℕ) (start end : 
   pub content : Content
   pub of_records : HasContentOf format records content
   pub plays : PlaysContent content start end old new
-
--- the records of a file in some format have a content that doesn't stop
-pub record RunsRecords (format : FileFormat) (records : List ℕ) (state : State) (s : Surface) : Type 0 where
-  pub content : Content
-  pub of_records : HasContentOf format records content
-  pub unstopped : stop_of content state s ≡ None
-
--- a file opens, and its records don't stop on a surface of these sides
-pub record RunsFile (file : List ℕ) (width height : ℕ) : Type 0 where
-  pub headers : OpenedValue
-  pub content : Content
-  pub of_file : IsFile file headers content
-  pub unstopped : stop_of content (start_of headers) (surface_for headers width height) ≡ None
 
 -- all records of an opened file of the code were played and drawn
 abbrev pub PlaysFile : Opened → MachineState → MachineState → CanvasState → CanvasState → Type 0

@@ -8,7 +8,6 @@
 //! - A refused file has that fault first, in that record (`play_file`, by `Refused`; `play_on`, by
 //!   `StopsFileBy`), or it opens and memory for its canvas, its machine or the lines of a drawing was
 //!   refused, before the first of its records was drawn (`play_file`, by `WantsMemory`).
-//! - The same fault is found where nothing is drawn (`look_through`), with memory that the file's headers alone decide.
 //! - A file whose certificate was accepted plays over whatever a canvas of a surface within its bound shows, and leaves the run's image,
 //!   with no more pixels written than certified. It is refused only where a side is above the bound, or memory was, and then the canvas is
 //!   what it was (`play`).
@@ -34,7 +33,6 @@ mod ink_room;
 mod line_pixels;
 mod line_steps;
 mod list_lines;
-mod look;
 mod mark_costs;
 mod moves;
 mod parts;
@@ -56,5 +54,4 @@ mod survey;
 pub use bands::play_bands;
 pub use bands_counted::play_bands_to;
 pub use cleared_play::play;
-pub use look::look_through;
 pub use playing::{play_file, play_on};
