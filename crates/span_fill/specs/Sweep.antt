@@ -20,7 +20,7 @@ upwards_at (edge ∷ edges) x = (if not edge.is_down && nat_le (column_of edge) 
 -- no edge crosses before this column
 abbrev pub CrossFrom : ℕ → List ActiveEdge → Type 0
 CrossFrom column [] = Unit
-CrossFrom column (edge ∷ edges) = (column ≤ (column_of edge)) × CrossFrom column edges
+CrossFrom column (edge ∷ edges) = (column ≤ column_of edge) × CrossFrom column edges
 
 -- no edge crosses before one that is in front of it
 abbrev pub AreSorted : List ActiveEdge → Type 0

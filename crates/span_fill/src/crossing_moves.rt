@@ -3,7 +3,7 @@
 ghost use Rattle.std.specs.Prelude.{◌≡◌, ◌+◌, ◌≤◌, ◌^◌, pos, ◌+ℤ◌, ◌-ℤ◌, ◌*ℤ◌, ◌≤ℤ◌, ◌<ℤ◌, if◌then◌else◌, ◌&&◌, int_le, map};
 ghost use Rattle.std.specs.List.{All};
 ghost use Rattle.mapping.specs.Limits.{IsWithin};
-ghost use Rattle.span_fill.specs.Edges.{EdgeCanMove, near_column, column_of, is_over, moved, moved_column, moved_rest};
+ghost use Rattle.span_fill.specs.Edges.{EdgeCanMove, is_over, moved, moved_column, moved_rest};
 ghost use Rattle.span_fill.specs.Insertion.{are_in_order, lowest};
 
 use crate::edge::ActiveEdge;
@@ -19,19 +19,6 @@ impl ActiveEdge {
         let over = self.divisor <= sum;
         self.column = raised(self.column + self.step, over);
         self.rest = lowered(sum, self.divisor, over);
-    }
-
-    /// The column, within 0 to 8,192.
-    pub(crate) fn column_within(&self) -> u32
-        ensures { result ≡ column_of self.now }
-    {
-        if self.column <= 0 {
-            0
-        } else if self.column >= 8192 {
-            8192
-        } else {
-            self.column as u32
-        }
     }
 }
 
