@@ -10,6 +10,8 @@ import unittest
 
 from answers import refused
 from built import DOT, DOT_IMAGE, SAMPLES, Answer, answer, for_each_program
+from metafile.fields import i16, i32, u32
+from metafile.files import placeable_file, wmf_record
 from program_test import CANNOT_READ, CANNOT_WRITE, as_nobody
 
 DOT_FILE = SAMPLES / "dot.wmf"
@@ -217,6 +219,15 @@ class Over(CommandTest):
         self.assertEqual(self.over(program, PAGE), Answer(0, PRINTED, b""))
         image = self.file("image", PAGE)
         self.assertEqual(answer(program, ["over", "stdin", self.certificate, image], DOT), Answer(0, PRINTED, b""))
+
+    @for_each_program
+    def test_a_file_that_saves_as_many_states_as_may_be(self, program):
+        save = wmf_record(0x001E)
+        file = placeable_file([save] * 256 + [DOT[40:]], right=i16(4), bottom=i16(4))
+        told = answer(program, ["prepare", "stdin", "4", "4", "/dev/stdout"], file)
+        # The bound, one write, 256 states, no slot, no line and no piece, and the entry of record 256: a point of the plane.
+        self.assertEqual(told, Answer(0, b"MPC1" + u32(4, 4, 1, 0, 256, 0, 0, 0, 1, 256) + i32(2, 1, 2, 1), b""))
+        self.assertEqual(self.over(program, PAGE, told.out, file), Answer(0, PRINTED, b""))
 
     @for_each_program
     def test_what_is_written_is_an_image_to_play_over(self, program):

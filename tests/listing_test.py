@@ -189,6 +189,12 @@ class Listings(unittest.TestCase):
         self.assertEqual(listed(program, held), Answer(0, HELD, b""))
 
     @for_each_program
+    def test_a_file_without_object_indexes_by_hand(self, program):
+        given = emf_file([EMF_END], handles=u16(0))
+        lines = b"0\t0\t88\t1\tEMR_HEADER\tplayed\tnothing\n1\t88\t20\t14\tEMR_EOF\tplayed\tnothing\n"
+        self.assertEqual(listed(program, given), Answer(0, lines, b""))
+
+    @for_each_program
     def test_each_sample(self, program):
         for path in samples():
             stops = [(5, "HeldObject")] if path.name == "held.wmf" else []
