@@ -39,7 +39,7 @@ pub(crate) fn fill_box(
     let mut kept = None;
     for y in drawn.rows.from..drawn.rows.to {
         kept = read_row(&paint.source, columns, y, kept, &mut room.sources);
-        let ink = paint.row(same, y, columns, &room.sources, &mut room.mixes);
+        let ink = paint.row(&same, y, columns, &room.sources, &mut room.mixes);
         put_uncut(canvas, &ink, y, columns, paint.clip.cut_boxes());
     }
 }

@@ -88,7 +88,7 @@ pub(crate) fn paint_part<O: Outline + Copy>(
     begin_rows(rows, &mut lines, part, drawn.rows.from);
     for y in drawn.rows.from..drawn.rows.to {
         next_row(rows, part, columns);
-        let ink = paint.row(same, y, columns, &room.sources, &mut room.mixes);
+        let ink = paint.row(&same, y, columns, &room.sources, &mut room.mixes);
         put_spans(canvas, &ink, y, rows.spans(), paint.clip.cut_boxes());
     }
 }
