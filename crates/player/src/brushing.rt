@@ -109,7 +109,7 @@ impl<'d, 'a> Brushing<'d, 'a> {
     }
 
     /// The same, where it isn't.
-    fn new_row<'r>(
+    pub(crate) fn new_row<'r>(
         &self,
         y: u32,
         columns: Span,

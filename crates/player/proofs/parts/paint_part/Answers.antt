@@ -24,9 +24,6 @@ loop-y-init g c =
       painted = rows_begun c.args.paint.now (part_has c.args.part (g.O.Outline.lines c.args.outline)) c.args.bounds c.requires.within c.args.canvas.now c.writing_law.ensures shown.ensures.whole shown.result drawn.result shown.ensures.kept drawn.ensures.has_columns drawn.ensures.has_rows;
     }
 
-pub row-ink-requires-clause-seen : goal.row-ink-requires-clause-seen
-row-ink-requires-clause-seen g c = rw c.requires.alone tt
-
 pub loop-y-preserved : goal.loop-y-preserved
 loop-y-preserved g c =
     let shape = part_has c.args.part (g.O.Outline.lines c.args.outline) in
@@ -42,20 +39,21 @@ loop-y-preserved g c =
     let bottom = shown.ensures.bottom in
     let spans = c.next_row.new.rows.spans in
     let row = rw (inv.taken, inv.next) at c.next_row.ensures.spans in
+    let row_painted = c.put_row.ensures.painted in
     record {
       taken = same.lines ∙ inv.taken;
       kind = same.work ∙ inv.kind;
       next = c.next_row.ensures.next ∙ ap (λ n. n + 1) inv.next;
       room = same.room ∙ inv.room;
       painted = row_added c.args.paint.now shape c.args.bounds c.requires.within c.args.canvas.now c.writing_law.ensures shown.ensures.whole shown.result drawn.result shown.ensures.kept drawn.ensures.has_columns drawn.ensures.has_rows
-          c.loop-y.canvas c.put_spans.new.canvas c.loop-y.y c.row-ink.result (in_spans spans)
+          c.loop-y.canvas c.put_row.new.canvas c.loop-y.y row_painted.ink (in_spans spans)
           (λ x. spans_are drawn.result.columns spans (λ n. shape n c.loop-y.y) x row)
-          c.row-ink.ensures low high (record { from_first = omega (arith, low, above, top); to_last = omega (arith, high, last, bottom) })
-          inv.painted (rw (c.spans.ensures, c.cut_boxes.ensures) at c.put_spans.ensures.pixels);
+          row_painted.is_ink low high (record { from_first = omega (arith, low, above, top); to_last = omega (arith, high, last, bottom) })
+          inv.painted (rw c.spans.ensures at row_painted.painted);
     }
 
-pub put_spans-requires-clause-spans : goal.put_spans-requires-clause-spans
-put_spans-requires-clause-spans g c =
+pub put_row-requires-clause-spans : goal.put_row-requires-clause-spans
+put_row-requires-clause-spans g c =
     let inv = c.loop-y.invariant in
     let columns = c.common-drawn.result.columns in
     let row = rw (inv.taken, inv.next) at c.next_row.ensures.spans in
@@ -64,8 +62,8 @@ put_spans-requires-clause-spans g c =
     let width = inv.painted.painted.width in
     rw c.spans.ensures (apart_within columns.from columns.to 0 c.loop-y.canvas.width c.next_row.new.rows.spans (omega arith) (omega (arith, right, shown, width)) row.apart)
 
-pub put_spans-requires-clause-countable : goal.put_spans-requires-clause-countable
-put_spans-requires-clause-countable g c =
+pub put_row-requires-clause-countable : goal.put_row-requires-clause-countable
+put_row-requires-clause-countable g c =
     let painted = c.loop-y.invariant.painted.painted in
     let few = few_written c.writing_law.ensures _ _ c.args.canvas.now c.loop-y.canvas painted c.visible-region.ensures.pixels in
     let width = painted.width in
@@ -82,8 +80,8 @@ returns-clause-pixels g c =
     let drawn = c.common-drawn in
     rows_done c.args.paint.now (part_has c.args.part (g.O.Outline.lines c.args.outline)) c.args.bounds c.requires.within c.args.canvas.now c.writing_law.ensures shown.ensures.whole shown.result drawn.result shown.ensures.kept drawn.ensures.has_columns drawn.ensures.has_rows c.loop-y.canvas c.loop-y.y c.loop-y-test.false c.loop-y.invariant.painted
 
-pub put_spans-requires-clause-row : goal.put_spans-requires-clause-row
-put_spans-requires-clause-row g c =
+pub put_row-requires-clause-row : goal.put_row-requires-clause-row
+put_row-requires-clause-row g c =
     let low = c.loop-y.auto.y in
     let high = c.loop-y-test.true in
     let top = c.visible-region.ensures.top in
