@@ -202,9 +202,12 @@ pub(crate) fn put_spans(
     ensures count { canvas.new.writes ≤ canvas.old.writes + canvas.old.width }
 {
     writing_law();
-    if let (RowInk::Full(colour), true) = (*ink, cuts.is_empty()) {
-        put_full(canvas, colour, y, spans);
-        return;
+    // (the ink is looked at where it lies: a copy of it would be waited for in each row)
+    if cuts.is_empty() {
+        if let RowInk::Full(colour) = ink {
+            put_full(canvas, *colour, y, spans);
+            return;
+        }
     }
     for span in spans {
         put_uncut(canvas, ink, y, *span, cuts);
