@@ -210,14 +210,12 @@ class LittleMemory(unittest.TestCase):
 
     @for_each_program
     def test_any_limit_gives_the_image_or_is_told(self, program):
-        # Above what the bare program takes and a quarter of a MiB for the stack of a play, which has rooms for rows there, there is memory
-        # for the image, or there isn't and that is told. (Where the band leaves less than that quarter, the stack can't grow, and the system
-        # ends the program.)
+        # Above what the bare program takes there is memory for the image, or there isn't and that is told, also where all that is left
+        # beside the band is a few pages: nothing large lies on the stack, which couldn't grow there.
         words = ["show", "stdin", "1024", "1024"]
         ample, found = answer(program, words, DOT), set()
-        for room in range(MIB // 4, 24 * MIB, MIB // 4):
-            if BAND <= room < BAND + MIB // 4:
-                continue
+        around = range(BAND - MIB // 8, BAND + 2 * MIB, 16 * 1024)
+        for room in [*range(0, 24 * MIB, MIB // 4), *around]:
             answered = answer_within(bare(program) + room, program, words, DOT)
             found.add(answered.status)
             self.assertEqual(answered, OUT_OF_MEMORY if answered.status else ample, room)

@@ -13,18 +13,24 @@ use mapping::{Colour, Mix};
 const PERIOD: usize = 8;
 
 /// Fills the part, whose first colour stands in this column, with the colours of the pattern, each at its
-/// column modulo 8.
+/// column modulo 8. From the column on where the pattern begins it goes in as it is: a pattern that was turned first would be waited for.
 pub(crate) fn fill_with_pattern(part: &mut [Colour], column: u32, pattern: &[Colour; 8])
     ensures { (k : ℕ) (d : Colour) → k < length part.old → slice_index_or part.new k d ≡ slice_index_or pattern.now ((column + k) % 8) d }
 {
-    if part.len() <= PERIOD {
-        fill_few(part, column, pattern);
-    } else {
-        repeat(part, &turned_pattern(pattern, column));
-    }
+    let first = columns_to_next(column).min(part.len());
+    fill_few(&mut part[..first], column, pattern);
+    repeat(&mut part[first..], pattern);
 }
 
-/// The same for at most 8 colours.
+/// How many columns there are from this one to the next in which the pattern begins.
+fn columns_to_next(column: u32) -> usize
+    ensures few { result < 8 }
+    ensures begins { (column + result) % 8 ≡ 0 }
+{
+    (PERIOD - turned(column, 0)) & 7
+}
+
+/// The same as `fill_with_pattern` for at most 8 colours.
 fn fill_few(part: &mut [Colour], column: u32, pattern: &[Colour; 8])
     requires { length part.old ≤ 8 }
     ensures { (k : ℕ) (d : Colour) → k < length part.old → slice_index_or part.new k d ≡ slice_index_or pattern.now ((column + k) % 8) d }
@@ -32,17 +38,6 @@ fn fill_few(part: &mut [Colour], column: u32, pattern: &[Colour; 8])
     for k in 0..part.len() {
         part[k] = pattern[turned(column, k)];
     }
-}
-
-/// The pattern, turned to begin in this column.
-fn turned_pattern(pattern: &[Colour; 8], column: u32) -> [Colour; 8]
-    ensures { (k : ℕ) (d : Colour) → k < 8 → slice_index_or result k d ≡ slice_index_or pattern.now ((column + k) % 8) d }
-{
-    let mut colours = *pattern;
-    for k in 0..PERIOD {
-        colours[k] = pattern[turned(column, k)];
-    }
-    colours
 }
 
 /// Fills the part with one colour.

@@ -1,4 +1,4 @@
--- A certificate that was prepared is read with the bound that it was prepared for, and its check refuses for memory alone.
+-- A certificate that was prepared is read with the bound that it was prepared for.
 use Rattle.std.proofs.Common.{◌≡◌, ◌∙◌, ◌≤◌, ◌<◌, ◌⊎◌, inl, inr, Bool, true, false, ◌||◌, cond, ℕ, List, length, Result, Ok, Err, IsOk, Option, ap, arith, refl, subst, sym}
 use Rattle.std.specs.Prelude.{◌==◌, nat_le, nat_lt, not}
 use Rattle.std.proofs.lemmas.Bool.{and_from, le-leb, true≢false}
@@ -100,20 +100,6 @@ module _ (file : List ℕ) (width height : ℕ) (bytes : List ℕ) (prepared : P
 is_accepted : Answer → Bool
 is_accepted accepted = true
 is_accepted (refuses number fault) = false
-
--- what is accepted isn't refused
-pub never_refused : (file certificate : List ℕ) → ExactlyOne (IsAnswer file certificate) → IsAnswer file certificate accepted
-    → (number : Option ℕ) (fault : Fault) → IsAnswer file certificate (refuses number fault) → ⊥
-unfolding is_accepted
-never_refused file certificate one accepts number fault denies =
-    let same : accepted ≡ refuses number fault = one.only accepted accepts ∙ sym (one.only (refuses number fault) denies) in
-    true≢false (ap is_accepted same)
-
--- nor is memory all that is left
-pub only_memory : (file certificate : List ℕ) → ExactlyOne (IsAnswer file certificate) → IsAnswer file certificate accepted → (r : Refusal)
-    → (IsAnswer file certificate (refuses r.number r.fault) ⊎ IsWantOfMemory r) → (r.fault ≡ OutOfMemory → ⊥) → ⊥
-only_memory file certificate one accepts r (inl denies) other = never_refused file certificate one accepts r.number r.fault denies
-only_memory file certificate one accepts r (inr want) other = other want.fault
 
 -- a surface of the sides that a certificate was prepared for isn't above its bound
 pub prepared_within : (file : List ℕ) (width height : ℕ) (bytes : List ℕ) → Prepares file width height bytes → IsSurfaceSide width → IsSurfaceSide height

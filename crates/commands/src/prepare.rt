@@ -48,11 +48,11 @@ fn write_prepared<O: Write>(
     ensures failed { IfErr result (FailsWith (prepare file.now width height) O.contents out.old out.new) }
     ensures memory { IfErr result (λ failure. failure ≡ Failure.OutOfMemory → Opens file.now) }
 {
-    let text = match prepare_file(alloc, file, width, height) {
-        Ok(text) => text,
+    let prepared = match prepare_file(alloc, file, width, height) {
+        Ok(prepared) => prepared,
         Err(refusal) => return Err(failure_of(refusal)),
     };
-    match write_text(text.as_slice(), out) {
+    match write_text(prepared.text.as_slice(), out) {
         Ok(()) => Ok(()),
         Err(_) => Err(Failure::CannotWrite),
     }

@@ -2,6 +2,7 @@
 
 ghost use Rattle.std.specs.Prelude.{◌≡◌, ◌⊎◌, IfErr, IfOk};
 ghost use Rattle.mapping.specs.Limits.{IsSurfaceSide};
+ghost use Rattle.meta_headers.specs.File.{IsOpenedFrom};
 ghost use Rattle.preflight_cert.specs.Answer.{IsAnswer, accepted};
 ghost use Rattle.preflight_cert.specs.Preparation.{Prepares};
 ghost use Rattle.preflight_cert.specs.Reached.{Opens};
@@ -9,25 +10,26 @@ ghost use Rattle.preflight_cert.specs.Refusal.{IsWantOfMemory};
 ghost use Rattle.preflight_cert.specs.Run.{Refused};
 
 use draw_ops::Fault;
-use preflight_cert::{Refusal, prepare};
+use preflight_cert::{Prepared, Refusal};
 use std::alloc::Global;
 
 /// Prepares a file's certificate for surfaces up to these sides. These are a surface's, so the refusal is that of the file's run.
-pub(crate) fn prepare_file(
+pub(crate) fn prepare_file<'a>(
     alloc: Global,
-    file: &[u8],
+    file: &'a [u8],
     width: u32,
     height: u32,
-) -> Result<Vec<u8>, Refusal>
+) -> Result<Prepared<'a>, Refusal>
     requires wide { IsSurfaceSide width }
     requires high { IsSurfaceSide height }
-    ensures text { IfOk result (λ text. Prepares file.now width height text.items) }
-    ensures accepted { IfOk result (λ text. IsAnswer file.now text.items accepted) }
+    ensures text { IfOk result (λ prepared. Prepares file.now width height prepared.text.items) }
+    ensures accepted { IfOk result (λ prepared. IsAnswer file.now prepared.text.items accepted) }
+    ensures opened { IfOk result (λ prepared. IsOpenedFrom file.now prepared.opened) }
     ensures refusal { IfErr result (λ r. Refused file.now width height r.number r.fault ⊎ IsWantOfMemory r) }
     ensures memory { IfErr result (λ r. r.fault ≡ Fault.OutOfMemory → Opens file.now) }
 {
-    match prepare(alloc, file, width, height) {
-        Ok(text) => Ok(text),
+    match Prepared::new(alloc, file, width, height) {
+        Ok(prepared) => Ok(prepared),
         Err(refusal) => Err(refusal),
     }
 }

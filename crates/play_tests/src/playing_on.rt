@@ -1,7 +1,5 @@
 //! Worked files over what a canvas shows already, on a machine with full room.
 
-ghost use Rattle.std.specs.Prelude.{◌≤◌, ◌^◌, IfOk};
-
 use crate::comparing::same;
 use crate::playing::{BLUE, colour};
 use canvas::Canvas;
@@ -11,20 +9,10 @@ use mapping::Place;
 use meta_headers::open_file;
 use object_tables::LowestFree;
 use part_tests::{DOT, RED, changed};
-use player::play_on;
+use player::{DrawingRoom, play_on};
 use preflight_cert::Refusal;
-use span_fill::RowBuf;
 use std::alloc::Global;
 use std::test::Fail;
-
-/// Rows that have room for any drawing.
-fn full_rows(alloc: Global) -> Result<RowBuf, Fail>
-    ensures { IfOk result (λ rows. 2 ^ 20 ≤ rows.room) }
-{
-    let mut rows = RowBuf::new(alloc);
-    rows.reserve(1_048_576)?;
-    Ok(rows)
-}
 
 /// Plays a WMF file on a canvas that counts few writes so far and holds a whole surface.
 fn play_over(
@@ -36,11 +24,11 @@ fn play_over(
     let place = Place::new(&opened.frame, canvas.width(), canvas.rows());
     let mut machine = Machine::new(alloc, &opened, place, LowestFree::new(alloc));
     machine.reserve(256, 1024, MAX_PIECES)?;
-    let mut rows = full_rows(alloc)?;
+    let mut room = DrawingRoom::new(alloc)?;
     if canvas.first() != 0 || canvas.writes() > 1000 {
         return Err("the canvas of a test is whole and new".into());
     }
-    Ok(play_on(&opened, &mut machine, &mut rows, canvas))
+    Ok(play_on(&opened, &mut machine, &mut room, canvas))
 }
 
 #[test]

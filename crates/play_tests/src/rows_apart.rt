@@ -1,7 +1,5 @@
 //! A picture drawn on rows of a surface, each by themselves, with the answers by hand.
 
-ghost use Rattle.std.specs.Prelude.{◌≤◌, ◌^◌, IfOk};
-
 use crate::comparing::same;
 use crate::files::placeable;
 use crate::playing::{BLUE, colour};
@@ -10,19 +8,9 @@ use dc_stack::{MAX_PIECES, Machine};
 use mapping::{Colour, Place};
 use meta_headers::open_file;
 use object_tables::LowestFree;
-use player::play_on;
-use span_fill::RowBuf;
+use player::{DrawingRoom, play_on};
 use std::alloc::Global;
 use std::test::Fail;
-
-/// Rows that have room for any drawing.
-fn full_rows(alloc: Global) -> Result<RowBuf, Fail>
-    ensures { IfOk result (λ rows. 2 ^ 20 ≤ rows.room) }
-{
-    let mut rows = RowBuf::new(alloc);
-    rows.reserve(1_048_576)?;
-    Ok(rows)
-}
 
 /// Plays a WMF file over blue on so many rows of a surface of 4 by 4 pixels, and tells how many pixels were written.
 fn play_part(alloc: Global, file: &[u8], canvas: &mut Canvas) -> Result<u64, Fail> {
@@ -30,12 +18,12 @@ fn play_part(alloc: Global, file: &[u8], canvas: &mut Canvas) -> Result<u64, Fai
     let place = Place::new(&opened.frame, 4, 4);
     let mut machine = Machine::new(alloc, &opened, place, LowestFree::new(alloc));
     machine.reserve(256, 1024, MAX_PIECES)?;
-    let mut rows = full_rows(alloc)?;
+    let mut room = DrawingRoom::new(alloc)?;
     let (first, held) = (canvas.first(), canvas.rows());
     if canvas.width() != 4 || first + held > 4 || canvas.writes() > 1000 {
         return Err("the canvas of a test holds rows of four, and is new".into());
     }
-    Ok(play_on(&opened, &mut machine, &mut rows, canvas)?)
+    Ok(play_on(&opened, &mut machine, &mut room, canvas)?)
 }
 
 /// The colour of the pen at the start.

@@ -5,7 +5,7 @@ ghost use Rattle.meta_headers.specs.OpenedOf.{opened_of};
 ghost use Rattle.meta_headers.specs.Opening.{surface_for};
 ghost use Rattle.player.specs.Bands.{IsReadyToPlay};
 
-use crate::room::{LineRoom, lines_for};
+use crate::room::DrawingRoom;
 use canvas::Canvas;
 use dc_stack::Machine;
 use mapping::{Colour, Place};
@@ -14,11 +14,11 @@ use preflight_cert::Cleared;
 use span_fill::OutOfMemory;
 use std::alloc::Global;
 
-/// A machine and lines with room for what a cleared file needs, and a canvas with room for a band.
+/// A machine and room for drawings, enough for what a cleared file needs, and a canvas with room for a band.
 #[derive(Drop)]
 pub(crate) struct BandRoom<'a> {
     pub machine: Machine<'a, FileTable<'a>>,
-    pub lines: LineRoom,
+    pub drawings: DrawingRoom,
     pub canvas: Canvas,
 }
 
@@ -36,7 +36,7 @@ pub(crate) fn band_room<'a>(
     requires rows { 1 ≤ rows }
     requires wide_within { width ≤ cleared.now.certificate.max_width }
     requires high_within { height ≤ cleared.now.certificate.max_height }
-    ensures ready { IfOk result (λ room. IsReadyToPlay cleared.now room.lines.rows.room room.machine) }
+    ensures ready { IfOk result (λ room. IsReadyToPlay cleared.now room.drawings.rows.room room.machine) }
     ensures surface { IfOk result (λ room. room.machine.surface ≡ surface_for (opened_of cleared.now.opened) width height) }
     ensures width { IfOk result (λ room. room.canvas.width ≡ width) }
     ensures some { IfOk result (λ room. 1 ≤ room.canvas.most) }
@@ -55,7 +55,7 @@ pub(crate) fn band_room<'a>(
     ) else {
         return Err(OutOfMemory);
     };
-    let Ok(lines) = lines_for(alloc, needs.edges) else {
+    let Ok(drawings) = DrawingRoom::for_lines(alloc, needs.edges) else {
         return Err(OutOfMemory);
     };
     let Ok(canvas) = Canvas::band(alloc, width, 0, rows.min(height), start) else {
@@ -63,7 +63,7 @@ pub(crate) fn band_room<'a>(
     };
     Ok(BandRoom {
         machine,
-        lines,
+        drawings,
         canvas,
     })
 }

@@ -11,7 +11,7 @@ ghost use Rattle.player.specs.Counts.{CountsFile, HasRoomForFile};
 
 use crate::band_room::{BandRoom, band_room};
 use crate::cleared_play::play_rows;
-use crate::room::LineRoom;
+use crate::room::DrawingRoom;
 use canvas::{Canvas, WriteFault, write_header};
 use dc_stack::Machine;
 use draw_ops::{Fault, content_law};
@@ -82,13 +82,13 @@ fn play_within<W: Write>(
     };
     let BandRoom {
         mut machine,
-        mut lines,
+        mut drawings,
         mut canvas,
     } = room;
     play_reserved(
         cleared,
         &mut machine,
-        &mut lines,
+        &mut drawings,
         &mut canvas,
         height,
         start,
@@ -100,13 +100,13 @@ fn play_within<W: Write>(
 fn play_reserved<'a, T: Table<'a>, W: Write>(
     cleared: &Cleared<'a>,
     machine: &mut Machine<'a, T>,
-    lines: &mut LineRoom,
+    drawings: &mut DrawingRoom,
     canvas: &mut Canvas,
     height: u32,
     start: Colour,
     out: &mut W,
 ) -> Result<u64, Fault>
-    requires ready { IsReadyToPlay cleared.now lines.old.rows.room machine.old }
+    requires ready { IsReadyToPlay cleared.now drawings.old.rows.room machine.old }
     requires surface { machine.old.surface ≡ surface_for (opened_of cleared.now.opened) canvas.old.width height }
     requires some { 1 ≤ canvas.old.most }
     requires unwritten { canvas.old.writes ≡ 0 }
@@ -122,7 +122,7 @@ fn play_reserved<'a, T: Table<'a>, W: Write>(
     content_law();
     rows_law();
     canvas.width();
-    match write_bands(cleared, machine, lines, canvas, height, start, out) {
+    match write_bands(cleared, machine, drawings, canvas, height, start, out) {
         Ok(()) => Ok(canvas.writes()),
         Err(_) => Err(Fault::WriteFault),
     }
@@ -132,13 +132,13 @@ fn play_reserved<'a, T: Table<'a>, W: Write>(
 fn write_bands<'a, T: Table<'a>, W: Write>(
     cleared: &Cleared<'a>,
     machine: &mut Machine<'a, T>,
-    lines: &mut LineRoom,
+    drawings: &mut DrawingRoom,
     canvas: &mut Canvas,
     height: u32,
     start: Colour,
     out: &mut W,
 ) -> Result<(), WriteFault>
-    requires ready { IsReadyToPlay cleared.now lines.old.rows.room machine.old }
+    requires ready { IsReadyToPlay cleared.now drawings.old.rows.room machine.old }
     requires width { canvas.old.width ≡ machine.old.surface.width }
     requires height { machine.old.surface.height ≡ height }
     requires some { 1 ≤ canvas.old.most }
@@ -153,7 +153,7 @@ fn write_bands<'a, T: Table<'a>, W: Write>(
     let mut first: u32 = 0;
     while first < height {
         let rows = most.min(height - first);
-        show_band(cleared, machine, lines, canvas, first, rows, start);
+        show_band(cleared, machine, drawings, canvas, first, rows, start);
         canvas.write_rows(out)?;
         first += rows;
     }
@@ -164,13 +164,13 @@ fn write_bands<'a, T: Table<'a>, W: Write>(
 pub(crate) fn show_band<'a, T: Table<'a>>(
     cleared: &Cleared<'a>,
     machine: &mut Machine<'a, T>,
-    lines: &mut LineRoom,
+    drawings: &mut DrawingRoom,
     canvas: &mut Canvas,
     first: u32,
     rows: u32,
     start: Colour,
 )
-    requires ready { IsReadyToPlay cleared.now lines.old.rows.room machine.old }
+    requires ready { IsReadyToPlay cleared.now drawings.old.rows.room machine.old }
     requires width { canvas.old.width ≡ machine.old.surface.width }
     requires some { 1 ≤ rows }
     requires few { rows ≤ canvas.old.most }
@@ -178,7 +178,7 @@ pub(crate) fn show_band<'a, T: Table<'a>>(
     requires countable { HasRoomForFile canvas.old }
     ensures played { PlaysClearedBand cleared.now machine.old.surface start first rows canvas.old canvas.new }
     ensures bounded { CountsFile canvas.old canvas.new }
-    ensures ready { IsReadyToPlay cleared.now lines.new.rows.room machine.new }
+    ensures ready { IsReadyToPlay cleared.now drawings.new.rows.room machine.new }
     ensures surface { machine.new.surface ≡ machine.old.surface }
     ensures width { canvas.new.width ≡ canvas.old.width }
     ensures most { canvas.new.most ≡ canvas.old.most }
@@ -186,5 +186,5 @@ pub(crate) fn show_band<'a, T: Table<'a>>(
     content_law();
     machine.restart(&cleared.opened);
     canvas.again(first, rows, start);
-    play_rows(cleared, machine, lines, canvas);
+    play_rows(cleared, machine, drawings, canvas);
 }

@@ -10,7 +10,7 @@ ghost use Rattle.player.specs.Bands.{IsWriteFault, WritesFrontTo, WritesRows, Wr
 
 use crate::band_room::{BandRoom, band_room};
 use crate::bands::show_band;
-use crate::room::LineRoom;
+use crate::room::DrawingRoom;
 use canvas::{Canvas, FaultCount, WriteFault, write_header_to};
 use dc_stack::Machine;
 use draw_ops::{Fault, content_law};
@@ -83,13 +83,13 @@ fn play_within_to<W: FaultCount>(
     };
     let BandRoom {
         mut machine,
-        mut lines,
+        mut drawings,
         mut canvas,
     } = room;
     play_reserved_to(
         cleared,
         &mut machine,
-        &mut lines,
+        &mut drawings,
         &mut canvas,
         height,
         start,
@@ -101,13 +101,13 @@ fn play_within_to<W: FaultCount>(
 fn play_reserved_to<'a, T: Table<'a>, W: FaultCount>(
     cleared: &Cleared<'a>,
     machine: &mut Machine<'a, T>,
-    lines: &mut LineRoom,
+    drawings: &mut DrawingRoom,
     canvas: &mut Canvas,
     height: u32,
     start: Colour,
     out: &mut W,
 ) -> Result<u64, Fault>
-    requires ready { IsReadyToPlay cleared.now lines.old.rows.room machine.old }
+    requires ready { IsReadyToPlay cleared.now drawings.old.rows.room machine.old }
     requires surface { machine.old.surface ≡ surface_for (opened_of cleared.now.opened) canvas.old.width height }
     requires some { 1 ≤ canvas.old.most }
     requires unwritten { canvas.old.writes ≡ 0 }
@@ -127,7 +127,7 @@ fn play_reserved_to<'a, T: Table<'a>, W: FaultCount>(
     content_law();
     rows_law();
     canvas.width();
-    match write_bands_to(cleared, machine, lines, canvas, height, start, out) {
+    match write_bands_to(cleared, machine, drawings, canvas, height, start, out) {
         Ok(()) => Ok(canvas.writes()),
         Err(_) => Err(Fault::WriteFault),
     }
@@ -137,13 +137,13 @@ fn play_reserved_to<'a, T: Table<'a>, W: FaultCount>(
 fn write_bands_to<'a, T: Table<'a>, W: FaultCount>(
     cleared: &Cleared<'a>,
     machine: &mut Machine<'a, T>,
-    lines: &mut LineRoom,
+    drawings: &mut DrawingRoom,
     canvas: &mut Canvas,
     height: u32,
     start: Colour,
     out: &mut W,
 ) -> Result<(), WriteFault>
-    requires ready { IsReadyToPlay cleared.now lines.old.rows.room machine.old }
+    requires ready { IsReadyToPlay cleared.now drawings.old.rows.room machine.old }
     requires width { canvas.old.width ≡ machine.old.surface.width }
     requires height { machine.old.surface.height ≡ height }
     requires some { 1 ≤ canvas.old.most }
@@ -162,7 +162,7 @@ fn write_bands_to<'a, T: Table<'a>, W: FaultCount>(
     let mut first: u32 = 0;
     while first < height {
         let rows = most.min(height - first);
-        show_band(cleared, machine, lines, canvas, first, rows, start);
+        show_band(cleared, machine, drawings, canvas, first, rows, start);
         canvas.write_rows_to(out)?;
         first += rows;
     }

@@ -87,28 +87,7 @@ impl<'d, 'a> Brushing<'d, 'a> {
         }
     }
 
-    /// What it makes of the pixels of a row in some columns, what it reads there being gathered: this, if that is the same in each row.
-    pub(crate) fn row<'r>(
-        &self,
-        same: &Option<RowInk<'static>>,
-        y: u32,
-        columns: Span,
-        sources: &'r [Colour; MAX_SIDE],
-        room: &'r mut MixRoom,
-    ) -> RowInk<'r>
-        requires same { IfSome same.now (λ ink. (columns : Span) (y : ℕ) → IsInk self.now columns y ink) }
-        requires order { columns.from ≤ columns.to }
-        requires end { columns.to ≤ 8192 }
-        requires seen { IfSome self.now.source (λ reader. HoldsRow reader columns (row_read reader y) sources.now) }
-        ensures { IsInk self.now columns y result }
-    {
-        match same {
-            Some(ink) => *ink,
-            None => self.new_row(y, columns, sources, room),
-        }
-    }
-
-    /// The same, where it isn't.
+    /// What it makes of the pixels of a row in some columns, what it reads there being gathered.
     pub(crate) fn new_row<'r>(
         &self,
         y: u32,

@@ -17,7 +17,7 @@ ghost use Rattle.player.specs.Plays.{HoldsRows, PlaysFile, PlaysOpened, SameRows
 ghost use Rattle.preflight_cert.specs.NeedLaws.{HasRoomFor};
 
 use crate::playing::play_records;
-use crate::room::{LineRoom, lines_for};
+use crate::room::DrawingRoom;
 use canvas::Canvas;
 use dc_stack::Machine;
 use draw_ops::Fault;
@@ -74,17 +74,17 @@ fn play_within(alloc: Global, cleared: &Cleared<'_>, canvas: &mut Canvas) -> Res
     ) else {
         return Err(Fault::OutOfMemory);
     };
-    let Ok(mut lines) = lines_for(alloc, needs.edges) else {
+    let Ok(mut drawings) = DrawingRoom::for_lines(alloc, needs.edges) else {
         return Err(Fault::OutOfMemory);
     };
-    Ok(play_reserved(cleared, &mut machine, &mut lines, canvas))
+    Ok(play_reserved(cleared, &mut machine, &mut drawings, canvas))
 }
 
 /// The same on a machine and with rows that have room for what the certificate needs: nothing is refused.
 fn play_reserved<'a, T: Table<'a>>(
     cleared: &Cleared<'a>,
     machine: &mut Machine<'a, T>,
-    lines: &mut LineRoom,
+    drawings: &mut DrawingRoom,
     canvas: &mut Canvas,
 ) -> u64
     requires whole { canvas.old.first ≡ 0 }
@@ -92,7 +92,7 @@ fn play_reserved<'a, T: Table<'a>>(
     requires countable { HasRoomForFile canvas.old }
     requires within { IsCanvasWithin canvas.old cleared.now.certificate }
     requires room { HasRoomFor cleared.now.certificate.needs machine.old }
-    requires lines { (edge_limit ≤ lines.old.rows.room) ⊎ (cleared.now.certificate.needs.edges ≤ lines.old.rows.room) }
+    requires lines { (edge_limit ≤ drawings.old.rows.room) ⊎ (cleared.now.certificate.needs.edges ≤ drawings.old.rows.room) }
     requires state { machine.old.state ≡ start_of (opened_of cleared.now.opened) }
     requires needs { machine.old.needs ≡ no_needs }
     requires surface { machine.old.surface ≡ surface_for (opened_of cleared.now.opened) canvas.old.width canvas.old.rows }
@@ -103,7 +103,7 @@ fn play_reserved<'a, T: Table<'a>>(
 {
     answer_law();
     size_law();
-    play_rows(cleared, machine, lines, canvas)
+    play_rows(cleared, machine, drawings, canvas)
 }
 
 /// Plays a cleared file from its start on, on a canvas that holds rows of a surface within the certificate's bound, on a machine and
@@ -111,14 +111,14 @@ fn play_reserved<'a, T: Table<'a>>(
 pub(crate) fn play_rows<'a, T: Table<'a>>(
     cleared: &Cleared<'a>,
     machine: &mut Machine<'a, T>,
-    lines: &mut LineRoom,
+    drawings: &mut DrawingRoom,
     canvas: &mut Canvas,
 ) -> u64
     requires held { HoldsRows canvas.old machine.old.surface }
     requires countable { HasRoomForFile canvas.old }
     requires within { IsNoLarger machine.old.surface (bound_of (opened_of cleared.now.opened) (certificate_of cleared.now.certificate)) }
     requires room { HasRoomFor cleared.now.certificate.needs machine.old }
-    requires lines { (edge_limit ≤ lines.old.rows.room) ⊎ (cleared.now.certificate.needs.edges ≤ lines.old.rows.room) }
+    requires lines { (edge_limit ≤ drawings.old.rows.room) ⊎ (cleared.now.certificate.needs.edges ≤ drawings.old.rows.room) }
     requires state { machine.old.state ≡ start_of (opened_of cleared.now.opened) }
     requires needs { machine.old.needs ≡ no_needs }
     ensures played { PlaysFile cleared.now.opened machine.old machine.new canvas.old canvas.new }
@@ -126,17 +126,11 @@ pub(crate) fn play_rows<'a, T: Table<'a>>(
     ensures bounded { CountsFile canvas.old canvas.new }
     ensures rows { SameRows canvas.old canvas.new }
     ensures goes_on { GoesOn machine.old machine.new }
-    ensures lines { lines.new.rows.room ≡ lines.old.rows.room }
+    ensures lines { drawings.new.rows.room ≡ drawings.old.rows.room }
 {
     answer_law();
     size_law();
-    match play_records(
-        &cleared.opened,
-        machine,
-        &mut lines.rows,
-        &mut lines.marks,
-        canvas,
-    ) {
+    match play_records(&cleared.opened, machine, drawings, canvas) {
         Ok(writes) => writes,
         Err(_) => unreachable!(),
     }

@@ -15,13 +15,12 @@ use crate::brushing::Brushing;
 use crate::dots::put;
 use crate::figure_outline::{FigureOutline, stroked_ends};
 use crate::filling::fill_box;
-use crate::ink_room::InkRoom;
 use crate::list_lines::Ends;
 use crate::parts::{Part, paint_part, rule_of};
 use crate::rectangles::rectangle_box;
 use crate::regions::{landed_box, misses_rows, whole_law};
+use crate::room::DrawingRoom;
 use crate::stamping::stroke_marked;
-use crate::stamps::Stamps;
 use crate::stroking::{stroke_box, stroke_line};
 use canvas::{Canvas, writing_law};
 use dc_stack::{Draw, Machine, Mark, Painting};
@@ -30,7 +29,7 @@ use mapping::Colour;
 use object_tables::Table;
 use preflight_cert::{drawing_box_law, missed_rows_law};
 use raster_ops::binary_law;
-use span_fill::{Line, RowBuf};
+use span_fill::Line;
 
 /// Draws what a step of the machine draws, if it draws, with the tools of its moment. A drawing whose box misses the rows held is
 /// not painted: it has no pixel there. The count of writes has room for two layers of a surface of 2^26 pixels, and the
@@ -38,19 +37,17 @@ use span_fill::{Line, RowBuf};
 pub(crate) fn draw<'a, T: Table<'a>>(
     step: Option<Draw<'a>>,
     machine: &Machine<'a, T>,
-    rows: &mut RowBuf,
-    marks: &mut Option<Stamps>,
-    room: &mut InkRoom,
+    room: &mut DrawingRoom,
     canvas: &mut Canvas,
 )
     requires held { HoldsRows canvas.old machine.now.surface }
     requires countable { HasRoomForDrawing canvas.old }
     requires placed { IfSome step (IsPlacedDraw machine.now.surface machine.now.painted) }
-    requires lines { drawing_edges (option_map (drawing_with machine.now) step) ≤ rows.old.room }
+    requires lines { drawing_edges (option_map (drawing_with machine.now) step) ≤ room.old.rows.room }
     ensures drawn { DrawsDrawing (option_map (drawing_with machine.now) step.entry) machine.now.surface canvas.old canvas.new }
     ensures rows { SameRows canvas.old canvas.new }
     ensures few { CountsDrawing canvas.old canvas.new }
-    ensures room { rows.new.room ≡ rows.old.room }
+    ensures room { room.new.rows.room ≡ room.old.rows.room }
 {
     missed_rows_law();
     whole_law(canvas);
@@ -60,26 +57,25 @@ pub(crate) fn draw<'a, T: Table<'a>>(
     if misses_rows(canvas, machine.place(), drawn.bounds) {
         return;
     }
-    fill(drawn, machine, rows, room, canvas);
-    stroke(drawn, machine, rows, marks, room, canvas);
+    fill(drawn, machine, room, canvas);
+    stroke(drawn, machine, room, canvas);
 }
 
 /// Fills the inside of what a step draws, if it has one and the brush paints.
 fn fill<'a, T: Table<'a>>(
     drawn: Draw<'a>,
     machine: &Machine<'a, T>,
-    rows: &mut RowBuf,
-    room: &mut InkRoom,
+    room: &mut DrawingRoom,
     canvas: &mut Canvas,
 )
     requires held { HoldsRows canvas.old machine.now.surface }
     requires countable { HasRoomForLayer canvas.old }
     requires placed { IsPlacedDraw machine.now.surface machine.now.painted drawn }
-    requires lines { mark_edges (mark_of machine.now.painted drawn) ≤ rows.old.room }
+    requires lines { mark_edges (mark_of machine.now.painted drawn) ≤ room.old.rows.room }
     ensures drawn { DrawsLayers (fills_of (mark_of machine.now.painted drawn.entry) (tools_of machine.now.state.dc)) machine.now.surface canvas.old canvas.new }
     ensures rows { SameRows canvas.old canvas.new }
     ensures few { CountsLayer canvas.old canvas.new }
-    ensures room { rows.new.room ≡ rows.old.room }
+    ensures room { room.new.rows.room ≡ room.old.rows.room }
 {
     writing_law();
     whole_law(canvas);
@@ -99,7 +95,8 @@ fn fill<'a, T: Table<'a>>(
             let outline = FigureOutline::new(points, Ends::Closed, machine);
             let part = Part::Inside(rule_of(dc.modes.fill_mode));
             let landed = landed_box(place, drawn.bounds);
-            paint_part(canvas, rows, outline, part, landed, &paint, room);
+            let DrawingRoom { rows, inks, .. } = room;
+            paint_part(canvas, rows, outline, part, landed, &paint, inks);
         }
         Mark::Rectangle {
             first,
@@ -107,7 +104,7 @@ fn fill<'a, T: Table<'a>>(
             edges,
         } => {
             let inside = rectangle_box(place.at(first), place.at(second), edges);
-            fill_box(canvas, inside, &paint, room);
+            fill_box(canvas, inside, &paint, &mut room.inks);
         }
         Mark::Dot { .. } | Mark::Line { .. } | Mark::Blit(_) => {}
     }
@@ -117,19 +114,17 @@ fn fill<'a, T: Table<'a>>(
 fn stroke<'a, T: Table<'a>>(
     drawn: Draw<'a>,
     machine: &Machine<'a, T>,
-    rows: &mut RowBuf,
-    marks: &mut Option<Stamps>,
-    room: &mut InkRoom,
+    room: &mut DrawingRoom,
     canvas: &mut Canvas,
 )
     requires held { HoldsRows canvas.old machine.now.surface }
     requires countable { HasRoomForLayer canvas.old }
     requires placed { IsPlacedDraw machine.now.surface machine.now.painted drawn }
-    requires lines { mark_edges (mark_of machine.now.painted drawn) ≤ rows.old.room }
+    requires lines { mark_edges (mark_of machine.now.painted drawn) ≤ room.old.rows.room }
     ensures drawn { DrawsLayers (strokes_of (mark_of machine.now.painted drawn.entry) (tools_of machine.now.state.dc)) machine.now.surface canvas.old canvas.new }
     ensures rows { SameRows canvas.old canvas.new }
     ensures few { CountsLayer canvas.old canvas.new }
-    ensures room { rows.new.room ≡ rows.old.room }
+    ensures room { room.new.rows.room ≡ room.old.rows.room }
 {
     writing_law();
     whole_law(canvas);
@@ -140,13 +135,13 @@ fn stroke<'a, T: Table<'a>>(
         return;
     }
     if let Mark::Blit(asked) = drawn.mark {
-        blit(&asked, place, dc, room, canvas);
+        blit(&asked, place, dc, &mut room.inks, canvas);
         return;
     }
     let Pen::Solid { colour } = dc.selected.pen else {
         return;
     };
-    stroke_outline(drawn, colour, machine, rows, marks, room, canvas);
+    stroke_outline(drawn, colour, machine, room, canvas);
 }
 
 /// Strokes the outline of what a step draws, in the colour of the pen. A dot and a blit have none.
@@ -154,20 +149,18 @@ fn stroke_outline<'a, T: Table<'a>>(
     drawn: Draw<'a>,
     colour: Colour,
     machine: &Machine<'a, T>,
-    rows: &mut RowBuf,
-    marks: &mut Option<Stamps>,
-    room: &mut InkRoom,
+    room: &mut DrawingRoom,
     canvas: &mut Canvas,
 )
     requires held { HoldsRows canvas.old machine.now.surface }
     requires countable { HasRoomForLayer canvas.old }
     requires placed { IsPlacedDraw machine.now.surface machine.now.painted drawn }
-    requires lines { mark_edges (mark_of machine.now.painted drawn) ≤ rows.old.room }
+    requires lines { mark_edges (mark_of machine.now.painted drawn) ≤ room.old.rows.room }
     requires pen { machine.now.state.dc.selected.pen.object ≡ Solid colour }
     ensures drawn { DrawsLayers (outlines_of (mark_of machine.now.painted drawn.entry) (tools_of machine.now.state.dc)) machine.now.surface canvas.old canvas.new }
     ensures rows { SameRows canvas.old canvas.new }
     ensures few { CountsLayer canvas.old canvas.new }
-    ensures room { rows.new.room ≡ rows.old.room }
+    ensures room { room.new.rows.room ≡ room.old.rows.room }
 {
     writing_law();
     whole_law(canvas);
@@ -191,10 +184,11 @@ fn stroke_outline<'a, T: Table<'a>>(
             };
             let outline = FigureOutline::new(points, ends, machine);
             let landed = landed_box(place, drawn.bounds);
+            let DrawingRoom { rows, marks, inks } = room;
             if stroke_marked(canvas, marks, outline, landed, &paint, colour) {
                 return;
             }
-            paint_part(canvas, rows, outline, Part::Lines, landed, &paint, room);
+            paint_part(canvas, rows, outline, Part::Lines, landed, &paint, inks);
         }
         Mark::Rectangle {
             first,
@@ -202,7 +196,7 @@ fn stroke_outline<'a, T: Table<'a>>(
             edges,
         } => {
             let inside = rectangle_box(place.at(first), place.at(second), edges);
-            stroke_box(canvas, rows, marks, inside, &paint, colour, room);
+            stroke_box(canvas, inside, &paint, colour, room);
         }
     }
 }

@@ -7,11 +7,11 @@ ghost use Rattle.player.specs.Counts.{CountsLayer, HasRoomForLayer};
 ghost use Rattle.player.specs.Painted.{made, paints};
 ghost use Rattle.player.specs.SourceRows.{ReadsBox};
 
+use crate::brushed_row::put_row;
 use crate::brushing::Brushing;
 use crate::ink_room::InkRoom;
 use crate::regions::{common, visible};
 use crate::source_rows::read_row;
-use crate::strips::put_uncut;
 use canvas::{Canvas, writing_law};
 use mapping::Rect;
 
@@ -38,8 +38,7 @@ pub(crate) fn fill_box(
     let same = paint.same_ink();
     let mut kept = None;
     for y in drawn.rows.from..drawn.rows.to {
-        kept = read_row(&paint.source, columns, y, kept, &mut room.sources);
-        let ink = paint.row(&same, y, columns, &room.sources, &mut room.mixes);
-        put_uncut(canvas, &ink, y, columns, paint.clip.cut_boxes());
+        kept = read_row(&paint.source, columns, y, kept, &mut *room.sources);
+        put_row(canvas, &[columns], y, columns, paint, &same, room);
     }
 }

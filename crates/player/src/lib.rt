@@ -14,8 +14,8 @@
 //! - Played in bands of any number of rows, it writes the text of the image that the run leaves of one colour, and tells the run's writes. It is
 //!   refused only where a side is above the bound, or memory was, and then no byte was written, or by the writer, and then a front of
 //!   the text was (`play_bands`); over a writer that counts its faults, only where the count rose (`play_bands_to`).
-//! - Playing on a machine with full room, with rows that have room for any drawing, and on a canvas that
-//!   is there is never refused for memory (`play_on`).
+//! - Playing on a machine with full room, with room for any drawing, and on a canvas that is there is never
+//!   refused for memory (`play_on`, with a `DrawingRoom`).
 #![tactic(auto)]
 
 mod advance;
@@ -23,6 +23,7 @@ mod band_room;
 mod bands;
 mod bands_counted;
 mod blits;
+mod brushed_row;
 mod brushing;
 mod cleared_play;
 mod dots;
@@ -55,3 +56,4 @@ pub use bands::play_bands;
 pub use bands_counted::play_bands_to;
 pub use cleared_play::play;
 pub use playing::{play_file, play_on};
+pub use room::DrawingRoom;

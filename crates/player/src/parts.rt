@@ -1,24 +1,19 @@
 //! Parts of outlines, painted row by row: what is inside, or the lines.
 
-ghost use Rattle.std.specs.Prelude.{◌≡◌, ℕ, None, true, ◌+◌, ◌*◌, ◌^◌, ◌<◌, ◌≤◌, length, IfSome};
-ghost use Rattle.canvas.specs.CanvasState.{HasRow};
+ghost use Rattle.std.specs.Prelude.{◌≡◌, ℕ, None, true, ◌+◌, ◌<◌, ◌≤◌, length};
 ghost use Rattle.canvas.specs.Writing.{Repaints};
-ghost use Rattle.canvas.specs.WritingLaws.{IsWhole};
 ghost use Rattle.dc_stack.specs.Clip.{in_box};
 ghost use Rattle.preflight_cert.specs.Shape.{fill_rule_of};
 ghost use Rattle.span_fill.specs.RowState.{SameWork};
-ghost use Rattle.span_fill.specs.Spans.{AreApart, AreRow};
-ghost use Rattle.span_fill.specs.declared.span.Span.{Span};
+ghost use Rattle.span_fill.specs.Spans.{AreRow};
 ghost use Rattle.player.specs.Counts.{CountsLayer, HasRoomForLayer};
 ghost use Rattle.player.specs.Painted.{made, paints};
 ghost use Rattle.player.specs.Parts.{part_has, work_of};
-ghost use Rattle.player.specs.RowsPainted.{IsInk, PaintsSpans};
 
+use crate::brushed_row::put_row;
 use crate::brushing::Brushing;
 use crate::ink_room::InkRoom;
 use crate::regions::{common, visible};
-use crate::row_ink::RowInk;
-use crate::strips::put_spans;
 use canvas::{Canvas, writing_law};
 use draw_ops::FillMode;
 use mapping::Rect;
@@ -94,38 +89,6 @@ pub(crate) fn paint_part<O: Outline + Copy>(
     for y in drawn.rows.from..drawn.rows.to {
         next_row(rows, part, columns);
         put_row(canvas, rows.spans(), y, columns, paint, &same, room);
-    }
-}
-
-/// Paints the pixels in the spans of a row: by the ink that each row has, if there is one, which isn't copied for a row, and else by its own.
-/// Nothing is read.
-fn put_row(
-    canvas: &mut Canvas,
-    spans: &[Span],
-    y: u32,
-    columns: Span,
-    paint: &Brushing<'_, '_>,
-    same: &Option<RowInk<'static>>,
-    room: &mut InkRoom,
-)
-    requires whole { IsWhole canvas.old }
-    requires spans { AreApart 0 canvas.old.width spans.now }
-    requires row { HasRow canvas.old y }
-    requires countable { canvas.old.writes + 2 * canvas.old.width < 2 ^ 64 }
-    requires alone { paint.now.source ≡ None }
-    requires order { columns.from ≤ columns.to }
-    requires end { columns.to ≤ 8192 }
-    requires same { IfSome same.now (λ ink. (columns : Span) (y : ℕ) → IsInk paint.now columns y ink) }
-    ensures painted { PaintsSpans paint.now columns y spans.now canvas.old canvas.new }
-    ensures few { canvas.new.writes ≤ canvas.old.writes + canvas.old.width }
-{
-    let cuts = paint.clip.cut_boxes();
-    match same {
-        Some(ink) => put_spans(canvas, ink, y, spans, cuts),
-        None => {
-            let ink = paint.new_row(y, columns, &room.sources, &mut room.mixes);
-            put_spans(canvas, &ink, y, spans, cuts);
-        }
     }
 }
 

@@ -15,9 +15,7 @@ ghost use Rattle.preflight_cert.specs.Run.{Refused, Run, RunWrites, shown, white
 
 use crate::advance::advance;
 use crate::drawing::draw;
-use crate::ink_room::InkRoom;
-use crate::room::{lines_for, reserve_all};
-use crate::stamps::Stamps;
+use crate::room::{DrawingRoom, reserve_all};
 use crate::survey::count_lines;
 use canvas::Canvas;
 use dc_stack::Machine;
@@ -26,7 +24,7 @@ use mapping::{Colour, Place};
 use meta_headers::{Opened, open_file};
 use object_tables::{FileTable, Table};
 use preflight_cert::{Refusal, need_law};
-use span_fill::{OutOfMemory, RowBuf};
+use span_fill::OutOfMemory;
 use std::alloc::Global;
 
 /// Plays a file on a white surface of `width` by `height` pixels. The canvas shows the image that the
@@ -84,33 +82,27 @@ fn play_opened(
         Ok(lines) => lines,
         Err(refusal) => return Ok(Err(refusal)),
     };
-    let mut room = lines_for(alloc, lines)?;
-    match play_records(
-        opened,
-        &mut machine,
-        &mut room.rows,
-        &mut room.marks,
-        canvas,
-    ) {
+    let mut room = DrawingRoom::for_lines(alloc, lines)?;
+    match play_records(opened, &mut machine, &mut room, canvas) {
         Ok(_) => Ok(Ok(())),
         Err(refusal) => Ok(Err(refusal)),
     }
 }
 
-/// Plays an opened file's records on a machine that has room for any file, with rows that have room for
-/// any drawing, and on a canvas that holds rows of the machine's surface, over what it shows, and tells how many
+/// Plays an opened file's records on a machine that has room for any file, with room for any drawing,
+/// and on a canvas that holds rows of the machine's surface, over what it shows, and tells how many
 /// of their pixels were written. The refusal is the first fault of the records: no memory is wanted. Behind a play the machine is in the
 /// state, and tells the needs, that the records leave, and after a refusal those that the records before the fault leave. The canvas
 /// may then show what these drew.
 pub fn play_on<'a, T: Table<'a>>(
     opened: &Opened<'a>,
     machine: &mut Machine<'a, T>,
-    rows: &mut RowBuf,
+    room: &mut DrawingRoom,
     canvas: &mut Canvas,
 ) -> Result<u64, Refusal>
     requires held { HoldsRows canvas.old machine.old.surface }
     requires room { HasFullRoom machine.old }
-    requires lines { HasFullLines rows.old }
+    requires lines { HasFullLines room.old.rows }
     requires countable { HasRoomForFile canvas.old }
     ensures played { OnOk result
         (PlaysFile opened.now machine.old machine.new canvas.old canvas.new) }
@@ -122,22 +114,21 @@ pub fn play_on<'a, T: Table<'a>>(
     ensures number_told { IfErr result TellsNumber }
     ensures rows { SameRows canvas.old canvas.new }
     ensures goes_on { GoesOn machine.old machine.new }
-    ensures lines { rows.new.room ≡ rows.old.room }
+    ensures lines { room.new.rows.room ≡ room.old.rows.room }
 {
-    play_records(opened, machine, rows, &mut None, canvas)
+    play_records(opened, machine, room, canvas)
 }
 
-/// Plays an opened file's records as `play_on` does, on a machine and with rows that have room for what these records need.
+/// Plays an opened file's records as `play_on` does, on a machine and with room for drawings that are enough for what these records need.
 pub(crate) fn play_records<'a, T: Table<'a>>(
     opened: &Opened<'a>,
     machine: &mut Machine<'a, T>,
-    rows: &mut RowBuf,
-    marks: &mut Option<Stamps>,
+    room: &mut DrawingRoom,
     canvas: &mut Canvas,
 ) -> Result<u64, Refusal>
     requires held { HoldsRows canvas.old machine.old.surface }
     requires room { HasRoomForRecords opened.now.format opened.now.records.now machine.old }
-    requires lines { HasLinesForRecords rows.old.room opened.now.format opened.now.records.now machine.old }
+    requires lines { HasLinesForRecords room.old.rows.room opened.now.format opened.now.records.now machine.old }
     requires countable { HasRoomForFile canvas.old }
     ensures played { OnOk result
         (PlaysFile opened.now machine.old machine.new canvas.old canvas.new) }
@@ -150,10 +141,10 @@ pub(crate) fn play_records<'a, T: Table<'a>>(
     ensures bounded { CountsFile canvas.old canvas.new }
     ensures rows { SameRows canvas.old canvas.new }
     ensures goes_on { GoesOn machine.old machine.new }
-    ensures lines { rows.new.room ≡ rows.old.room }
+    ensures lines { room.new.rows.room ≡ room.old.rows.room }
 {
     let before = canvas.writes();
-    match play_steps(&mut opened.source(), machine, rows, marks, canvas) {
+    match play_steps(&mut opened.source(), machine, room, canvas) {
         Ok(()) => Ok(canvas.writes() - before),
         Err(refusal) => Err(refusal),
     }
@@ -163,14 +154,13 @@ pub(crate) fn play_records<'a, T: Table<'a>>(
 fn play_steps<'a, S: OpSource<'a>, T: Table<'a>>(
     source: &mut S,
     machine: &mut Machine<'a, T>,
-    rows: &mut RowBuf,
-    marks: &mut Option<Stamps>,
+    room: &mut DrawingRoom,
     canvas: &mut Canvas,
 ) -> Result<(), Refusal>
     requires short { length (S.content source.old).steps ≤ record_limit }
     requires held { HoldsRows canvas.old machine.old.surface }
     requires room { HasRoomForSteps (S.content source.old) machine.old }
-    requires lines { HasLines rows.old.room (S.content source.old) machine.old }
+    requires lines { HasLines room.old.rows.room (S.content source.old) machine.old }
     requires countable { HasRoomForFile canvas.old }
     ensures played { OnOk result (PlaysContent (S.content source.old) machine.old machine.new canvas.old canvas.new) }
     ensures refusal { IfErr result (StopsBy (S.content source.old) machine.old.state machine.old.surface) }
@@ -179,14 +169,13 @@ fn play_steps<'a, S: OpSource<'a>, T: Table<'a>>(
     ensures bounded { CountsFile canvas.old canvas.new }
     ensures rows { SameRows canvas.old canvas.new }
     ensures goes_on { GoesOn machine.old machine.new }
-    ensures lines { rows.new.room ≡ rows.old.room }
+    ensures lines { room.new.rows.room ≡ room.old.rows.room }
 {
     need_law();
-    let mut room = InkRoom::new();
     let mut before: u32 = 0;
     loop {
         match advance(source, machine, before) {
-            Ok(Some(drawn)) => draw(drawn, machine, rows, marks, &mut room, canvas),
+            Ok(Some(drawn)) => draw(drawn, machine, room, canvas),
             Ok(None) => return Ok(()),
             Err(refusal) => return Err(refusal),
         }

@@ -29,9 +29,7 @@ const SRCCOPY: u8 = 0xcc;
 pub(crate) enum RowInk<'r> {
     /// None is written.
     Nothing,
-    /// Each becomes this colour.
-    Full(Colour),
-    /// Each becomes the colour at its column modulo 8.
+    /// Each becomes the colour at its column modulo 8, where one colour is eight times the same: they are made once for all rows.
     Pattern([Colour; 8]),
     /// Each is mixed.
     Mixed(Mix),
@@ -108,15 +106,14 @@ fn tile_ink<'r>(
     ensures test { (x : ℕ) → is_inked result x ≡ true }
     ensures ink { (x : ℕ) (old : Colour) → columns.from ≤ x → x < columns.to → inked result x old ≡ joined_if operation.op.table black_colour (row_paint row.now x) old }
 {
-    gather_pattern(row, columns.from, columns.to, &mut room.patterns);
+    let patterns = &mut *room.patterns;
+    gather_pattern(row, columns.from, columns.to, patterns);
     if copies_pattern(operation.op) {
-        return RowInk::Row(&room.patterns);
+        return RowInk::Row(patterns);
     }
-    mix_patterns(operation, columns, room);
-    RowInk::MixRow {
-        keeps: &room.keeps,
-        flips: &room.flips,
-    }
+    let (keeps, flips) = (&mut *room.keeps, &mut *room.flips);
+    mix_patterns(operation, columns, patterns, keeps, flips);
+    RowInk::MixRow { keeps, flips }
 }
 
 /// What a row of a brush makes of its pixels in some columns, and of what is read there, each at its column: that, where the operation
@@ -145,9 +142,9 @@ pub(crate) fn source_ink<'r>(
 /// The mixes of the columns to which a row of a brush gives a colour.
 fn mix_given<'r>(row: &BrushRow<'_>, room: &'r MixRoom) -> RowInk<'r>
     ensures test { (x : ℕ) → is_inked result x ≡ is_some (row_paint row.now x) }
-    ensures ink { (x : ℕ) (old : Colour) → is_inked result x ≡ true → inked result x old ≡ mixed_by (mix_at room.entry.now.keeps room.entry.now.flips x) old }
+    ensures ink { (x : ℕ) (old : Colour) → is_inked result x ≡ true → inked result x old ≡ mixed_by (mix_at room.entry.now.keeps.value room.entry.now.flips.value x) old }
 {
-    let (keeps, flips) = (&room.keeps, &room.flips);
+    let (keeps, flips) = (&*room.keeps, &*room.flips);
     match *row {
         BrushRow::Nothing => RowInk::Nothing,
         BrushRow::Solid(_) => RowInk::MixRow { keeps, flips },
@@ -175,14 +172,11 @@ fn gather_mixes(
 )
     requires order { columns.from ≤ columns.to }
     requires end { columns.to ≤ 8192 }
-    ensures { (x : ℕ) (old : Colour) → columns.from ≤ x → x < columns.to → is_some (row_paint row.now x) ≡ true → mixed_by (mix_at room.new.keeps room.new.flips x) old ≡ joined_if operation.op.table (slice_index_or sources.now x black_colour) (row_paint row.now x) old }
+    ensures { (x : ℕ) (old : Colour) → columns.from ≤ x → x < columns.to → is_some (row_paint row.now x) ≡ true → mixed_by (mix_at room.new.keeps.value room.new.flips.value x) old ≡ joined_if operation.op.table (slice_index_or sources.now x black_colour) (row_paint row.now x) old }
 {
     let (from, to) = (columns.from, columns.to);
-    let MixRoom {
-        patterns,
-        keeps,
-        flips,
-    } = room;
+    let patterns = &mut *room.patterns;
+    let (keeps, flips) = (&mut *room.keeps, &mut *room.flips);
     gather_pattern(row, from, to, patterns);
     operation.gather(patterns, sources, from, to, keeps, flips);
 }
@@ -196,15 +190,21 @@ fn copies_pattern(operation: TernaryOp) -> bool
 }
 
 /// Mixes that join the patterns of some columns, each at its column.
-fn mix_patterns(operation: TernaryMixer, columns: Span, room: &mut MixRoom)
+fn mix_patterns(
+    operation: TernaryMixer,
+    columns: Span,
+    patterns: &[Colour; MAX_SIDE],
+    keeps: &mut [Colour; MAX_SIDE],
+    flips: &mut [Colour; MAX_SIDE],
+)
     requires order { columns.from ≤ columns.to }
     requires end { columns.to ≤ 8192 }
-    ensures { (x : ℕ) (d old : Colour) → columns.from ≤ x → x < columns.to → mixed_by (mix_at room.new.keeps room.new.flips x) old ≡ ternary_colour operation.op.table (slice_index_or room.old.patterns x d) black_colour old }
+    ensures { (x : ℕ) (d old : Colour) → columns.from ≤ x → x < columns.to → mixed_by (mix_at keeps.new flips.new x) old ≡ ternary_colour operation.op.table (slice_index_or patterns.now x d) black_colour old }
 {
     for x in columns.from as usize..columns.to as usize {
-        let mix = operation.mix(room.patterns[x], BLACK);
-        room.keeps[x] = mix.keep;
-        room.flips[x] = mix.flip;
+        let mix = operation.mix(patterns[x], BLACK);
+        keeps[x] = mix.keep;
+        flips[x] = mix.flip;
     }
 }
 
@@ -214,7 +214,7 @@ pub(crate) fn full(mix: Mix) -> RowInk<'static>
     ensures ink { (x : ℕ) (old : Colour) → inked result x old ≡ mixed_by mix old }
 {
     match mix.constant() {
-        Some(colour) => RowInk::Full(colour),
+        Some(colour) => RowInk::Pattern([colour; 8]),
         None => RowInk::Mixed(mix),
     }
 }

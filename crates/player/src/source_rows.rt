@@ -1,10 +1,11 @@
 //! What a blit reads, a row of its box at a time.
 
-ghost use Rattle.std.specs.Prelude.{◌≡◌, ◌<◌, ◌≤◌, ◌≤ℤ◌, ◌+ℤ◌, pos, IfSome, length};
+ghost use Rattle.std.specs.Prelude.{◌≡◌, ◌<◌, ◌≤◌, ◌≤ℤ◌, ◌+ℤ◌, pos, IfSome};
 ghost use Rattle.dib_views.specs.PictureOf.{picture_of};
 ghost use Rattle.raster_ops.specs.Readers.{row_read};
 ghost use Rattle.player.specs.SourceRows.{HoldsRow, ReadsRow};
 
+use crate::ink_room::MAX_SIDE;
 use mapping::Colour;
 use raster_ops::SourceReader;
 use span_fill::Span;
@@ -16,10 +17,10 @@ pub(crate) fn read_row(
     columns: Span,
     y: u32,
     kept: Option<u32>,
-    sources: &mut [Colour],
+    sources: &mut [Colour; MAX_SIDE],
 ) -> Option<u32>
     requires order { columns.from ≤ columns.to }
-    requires room { columns.to ≤ length sources.old }
+    requires end { columns.to ≤ 8192 }
     requires reads { IfSome source.now (λ reader. ReadsRow reader columns y) }
     requires kept { IfSome kept (λ row. IfSome source.now (λ reader. HoldsRow reader columns row sources.old)) }
     ensures kept { IfSome result (λ row. IfSome source.now (λ reader. HoldsRow reader columns row sources.new)) }

@@ -13,7 +13,7 @@ ghost use Rattle.dc_stack.specs.declared.clip.ClipBox.{ClipBox};
 ghost use Rattle.span_fill.specs.Spans.{AreApart, in_span, in_spans};
 ghost use Rattle.player.specs.RowInks.{inked};
 ghost use Rattle.player.specs.Strips.{CountsOnce, MayPaint, in_columns, is_painted};
-ghost use Rattle.player.specs.declared.row_ink.RowInk.TheVariants.{Full};
+ghost use Rattle.player.specs.declared.row_ink.RowInk.TheVariants.{Pattern};
 
 use crate::ink_room::MAX_SIDE;
 use crate::row_ink::RowInk;
@@ -29,28 +29,27 @@ fn put_ink(canvas: &mut Canvas, ink: &RowInk<'_>, y: u32, columns: Span)
     ensures count { CountsOnce columns canvas.old canvas.new }
 {
     writing_law();
-    match *ink {
+    match ink {
         RowInk::Nothing => {}
-        RowInk::Full(colour) => canvas.put_span(columns.from, columns.to, y, colour),
-        RowInk::Pattern(pattern) => canvas.put_pattern(columns.from, columns.to, y, &pattern),
-        RowInk::Mixed(mix) => canvas.mix_span(columns.from, columns.to, y, mix),
+        RowInk::Pattern(pattern) => canvas.put_pattern(columns.from, columns.to, y, pattern),
+        RowInk::Mixed(mix) => canvas.mix_span(columns.from, columns.to, y, *mix),
         RowInk::Cells {
             cells,
             mix,
             gaps: None,
-        } => canvas.mix_cells(columns.from, columns.to, y, cells, mix),
+        } => canvas.mix_cells(columns.from, columns.to, y, *cells, *mix),
         RowInk::Cells {
             cells,
             mix,
             gaps: Some(gaps),
-        } => put_both(canvas, cells, mix, gaps, y, columns),
+        } => put_both(canvas, *cells, *mix, *gaps, y, columns),
         RowInk::Row(colours) => put_colours(canvas, colours, y, columns),
         RowInk::MixRow { keeps, flips } => put_mixes(canvas, keeps, flips, y, columns),
         RowInk::MixCells {
             cells,
             keeps,
             flips,
-        } => put_cells(canvas, cells, keeps, flips, y, columns),
+        } => put_cells(canvas, *cells, keeps, flips, y, columns),
     }
 }
 
@@ -160,7 +159,7 @@ fn within(coordinate: i32, least: u32, most: u32) -> u32
 }
 
 /// Writes what an ink makes of those columns of a row that no box cuts out.
-pub(crate) fn put_uncut(
+fn put_uncut(
     canvas: &mut Canvas,
     ink: &RowInk<'_>,
     y: u32,
@@ -204,8 +203,8 @@ pub(crate) fn put_spans(
     writing_law();
     // (the ink is looked at where it lies: a copy of it would be waited for in each row)
     if cuts.is_empty() {
-        if let RowInk::Full(colour) = ink {
-            put_full(canvas, *colour, y, spans);
+        if let RowInk::Pattern(pattern) = ink {
+            put_patterns(canvas, pattern, y, spans);
             return;
         }
     }
@@ -214,17 +213,17 @@ pub(crate) fn put_spans(
     }
 }
 
-/// Gives the pixels in the spans of a row one colour.
-fn put_full(canvas: &mut Canvas, colour: Colour, y: u32, spans: &[Span])
+/// Gives the pixels in the spans of a row the colours of a pattern.
+fn put_patterns(canvas: &mut Canvas, pattern: &[Colour; 8], y: u32, spans: &[Span])
     requires whole { IsWhole canvas.old }
     requires spans { AreApart 0 canvas.old.width spans.now }
     requires row { HasRow canvas.old y }
     requires countable { canvas.old.writes + 2 * canvas.old.width < 2 ^ 64 }
-    ensures pixels { Repaints (is_painted (Full colour) [] y (in_spans spans.now)) (λ column row old. colour) canvas.old canvas.new }
+    ensures pixels { Repaints (is_painted (Pattern pattern.now) [] y (in_spans spans.now)) (λ column row old. inked (Pattern pattern.now) column old) canvas.old canvas.new }
     ensures count { canvas.new.writes ≤ canvas.old.writes + canvas.old.width }
 {
     writing_law();
     for span in spans {
-        canvas.put_span(span.from, span.to, y, colour);
+        canvas.put_pattern(span.from, span.to, y, pattern);
     }
 }

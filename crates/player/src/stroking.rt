@@ -11,34 +11,32 @@ ghost use Rattle.preflight_cert.specs.Rectangles.{rectangle_lines};
 ghost use Rattle.player.specs.RectangleBoxes.{IsNearBox};
 
 use crate::brushing::Brushing;
-use crate::ink_room::{BLACK, InkRoom};
+use crate::ink_room::BLACK;
 use crate::line_steps::mix_line;
 use crate::parts::{Part, paint_part};
 use crate::rectangles::{LineList, box_lines, has_inside};
 use crate::regions::whole_law;
+use crate::room::DrawingRoom;
 use crate::stamping::stroke_marked;
-use crate::stamps::Stamps;
 use canvas::{Canvas, writing_law};
 use mapping::{Colour, Rect};
-use span_fill::{Line, RowBuf, line_box_law};
+use span_fill::{Line, line_box_law};
 
 /// Paints the outer pixels of a box, if it has any, in the colour of a paint of one colour.
 pub(crate) fn stroke_box(
     canvas: &mut Canvas,
-    rows: &mut RowBuf,
-    marks: &mut Option<Stamps>,
     inside: Rect,
     paint: &Brushing<'_, '_>,
     colour: Colour,
-    room: &mut InkRoom,
+    room: &mut DrawingRoom,
 )
     requires countable { HasRoomForLayer canvas.old }
     requires pen { IsPen paint.now colour }
-    requires room { 4 ≤ rows.old.room }
+    requires room { 4 ≤ room.old.rows.room }
     requires near { IsNearBox inside }
     ensures pixels { Repaints (paints paint.now (in_stroke (rectangle_lines inside))) (made paint.now) canvas.old canvas.new }
     ensures few { CountsLayer canvas.old canvas.new }
-    ensures room { rows.new.room ≡ rows.old.room }
+    ensures room { room.new.rows.room ≡ room.old.rows.room }
 {
     writing_law();
     whole_law(canvas);
@@ -48,10 +46,11 @@ pub(crate) fn stroke_box(
     }
     let lines = box_lines(inside);
     let outline = LineList { rest: &lines };
+    let DrawingRoom { rows, marks, inks } = room;
     if stroke_marked(canvas, marks, outline, inside, paint, colour) {
         return;
     }
-    paint_part(canvas, rows, outline, Part::Lines, inside, paint, room);
+    paint_part(canvas, rows, outline, Part::Lines, inside, paint, inks);
 }
 
 /// Paints the pixels of a lone line in the colour of a paint of one colour.

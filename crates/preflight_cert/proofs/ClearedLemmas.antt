@@ -1,5 +1,6 @@
 -- What checking steps tells is the answer.
-use Rattle.std.proofs.Common.{◌≡◌, ◌⊎◌, inl, inr, ℕ, List, length, Option, Some, None, Ok, refl, ap, sym, ◌∙◌}
+use Rattle.std.proofs.Common.{◌≡◌, ◌⊎◌, inl, inr, ℕ, Bool, true, false, List, length, Option, Some, None, Result, Ok, Err, IsOk, refl, ap, sym, subst, ◌∙◌}
+use Rattle.std.proofs.lemmas.Bool.{true≢false}
 use Rattle.mapping.specs.Surface.{Surface}
 use Rattle.draw_ops.specs.Content.{Content}
 use Rattle.draw_ops.specs.RecordContent.{ContentIsOne}
@@ -10,7 +11,7 @@ use Rattle.dc_stack.specs.MachineState.{MachineState}
 use Rattle.dc_stack.specs.State.{State, start_of}
 use Rattle.dc_stack.specs.declared.needs.Needs.{Needs}
 use Rattle.preflight_cert.specs.After.{file_notes, needs_after, notes_after}
-use Rattle.preflight_cert.specs.Answer.{Answer, CountsRecords, IsAnswer, IsCleared, RecordsAnswer, accepted, answer_from, answer_to, bound_of, refuses, total_fault}
+use Rattle.preflight_cert.specs.Answer.{Answer, AnswersRead, CountsRecords, IsAnswer, IsCleared, RecordsAnswer, accepted, answer_from, answer_to, bound_of, refuses, total_fault}
 use Rattle.preflight_cert.specs.CertificateReading.{CertificateValue, read_certificate}
 use Rattle.preflight_cert.specs.Checked.{check_of}
 use Rattle.preflight_cert.specs.Checks.{Checks, StopsCheck}
@@ -58,20 +59,38 @@ module _ (content : Content) (o : OpenedValue) (records : List ℕ) (c : Certifi
   pub records_stopped : (r : Refusal) → StopsCheck content m c.entries r → RecordsAnswer o records c (refuses r.number r.fault)
   records_stopped r stops = record { content = content; of_records = of_records; answers = stopped_on content c m r stops ∙ same_answer content o c m at }
 
-  pub records_counted : ContentIsOne → (noted : List ℕ) (new : MachineState) (totals : Totals) → noted ≡ o.notes → Checks content m c.entries noted totals new → CountsRecords o records totals.records totals.notes.counts
-  records_counted one noted new totals of_headers checks =
-      let the_one = one (framing_of o.format) (meaning_of o.format) records in
-      let same : (other : Content) → HasContentOf o.format records other → content ≡ other =
-      λ (other : Content) (h : HasContentOf o.format records other). the_one.only content of_records ∙ sym (the_one.only other h) in
-      record {
-        all = λ other h. checks.records ∙ ap (λ (k : Content). length k.steps) (same other h);
-        notes = λ other h. checks.notes ∙ ap (λ (counts : List ℕ). notes_after content.steps counts) of_headers ∙ ap (λ (k : Content). file_notes k o) (same other h);
-      }
+-- what was counted of one content is counted of the records
+pub records_counted :
+    ContentIsOne → (content : Content) (o : OpenedValue) (records : List ℕ) → HasContentOf o.format records content → (noted : List ℕ) (totals : Totals) → noted ≡ o.notes
+    → totals.records ≡ length content.steps → totals.notes.counts ≡ notes_after content.steps noted → CountsRecords o records totals.records totals.notes.counts
+records_counted one content o records of_records noted totals of_headers counted kept =
+    let the_one = one (framing_of o.format) (meaning_of o.format) records in
+    let same : (other : Content) → HasContentOf o.format records other → content ≡ other =
+    λ (other : Content) (h : HasContentOf o.format records other). the_one.only content of_records ∙ sym (the_one.only other h) in
+    record {
+      all = λ other h. counted ∙ ap (λ (k : Content). length k.steps) (same other h);
+      notes = λ other h. kept ∙ ap (λ (counts : List ℕ). notes_after content.steps counts) of_headers ∙ ap (λ (k : Content). file_notes k o) (same other h);
+    }
 
 pub cleared : ContentIsOne → (o : OpenedValue) (records : List ℕ) (c : CertificateValue) → RecordsAnswer o records c accepted → IsCleared o records c
 cleared one o records c answer content h =
     let the_one = one (framing_of o.format) (meaning_of o.format) records in
     answer.answers ∙ ap (λ (k : Content). answer_to k o c) (the_one.only answer.content answer.of_records ∙ sym (the_one.only content h))
+
+-- a certificate that is read is cleared, where the answer to what is read accepts
+pub cleared_if_read : ContentIsOne → (read : Result CertificateValue Fault) (o : OpenedValue) (records : List ℕ) → AnswersRead read o records accepted → (c : CertificateValue) → read ≡ Ok c → IsCleared o records c
+cleared_if_read one read o records answer c e = cleared one o records c (subst (λ (r : Result CertificateValue Fault). AnswersRead r o records accepted) e answer)
+
+-- an answer that accepts
+is_accepted : Answer → Bool
+is_accepted accepted = true
+is_accepted (refuses number fault) = false
+
+-- and read it is
+pub accepted_reads : (read : Result CertificateValue Fault) (o : OpenedValue) (records : List ℕ) → AnswersRead read o records accepted → IsOk read
+unfolding is_accepted
+accepted_reads (Ok c) o records answer = refl
+accepted_reads (Err fault) o records answer = absurd (true≢false (ap is_accepted answer))
 
 -- the answer to records is that to the file
 pub file_answer : (file bytes records : List ℕ) (o : OpenedValue) (c : CertificateValue) (answer : Answer) → opened file ≡ Ok o → read_certificate bytes ≡ Ok c → records ≡ record_bytes o.format file

@@ -27,6 +27,7 @@ use Rattle.preflight_cert.specs.Stop.{stop_of}
 use Rattle.preflight_cert.specs.TextLaws.{IsCertificate, IsEntry, TextLaws}
 use Rattle.preflight_cert.specs.TextParts.{full_text}
 use Rattle.preflight_cert.specs.declared.refusal.Refusal.{Refusal}
+use Rattle.preflight_cert.specs.declared.walk.Totals.{Totals}
 use Rattle.preflight_cert.proofs.CertificateTextLemmas.{length-entries}
 use Rattle.preflight_cert.proofs.LeastBoxLemmas.{is_least}
 use Rattle.preflight_cert.proofs.StartLemmas.{IsAtStart}
@@ -73,14 +74,14 @@ module _ (content : Content) (o : OpenedValue) (records : List ℕ) (width heigh
   pub records_stop : (r : Refusal) → StopsGathering content m r → StopsOpened o records width height r
   records_stop r h = record { content = content; of_records = of_records; stops = record { at = h.at; stops = sym same_stop ∙ h.stops; number = h.number; fault = h.fault } }
 
-  module _ (budget : ℕ) (new : MachineState) (after text : List ℕ) (h : Gathers content m [] budget new after) (written : text ≡ full_text width height budget new.needs after) where
+  module _ (noted : List ℕ) (totals : Totals) (new : MachineState) (after text : List ℕ) (h : Gathers content m [] noted totals new after) (written : text ≡ full_text width height totals.writes new.needs after) where
     unstopped : stop_of content (start_of o) (surface_for o width height) ≡ None
     unstopped = sym same_stop ∙ h.unstopped
 
     texts_are : after ≡ flat_map entry_text (least_entries drawings)
     texts_are = h.texts ∙ ap (λ (state : State). least_texts (drawings_of content.steps state)) at.state
 
-    budget_is : budget ≡ made.writes
+    budget_is : totals.writes ≡ made.writes
     budget_is = h.is_budget ∙ ap (λ (state : State). least_budget (drawings_of content.steps state) m.surface) at.state ∙ ap (λ (s : Surface). least_budget drawings s) at.surface
 
     needs_are : new.needs ≡ made.needs
@@ -106,7 +107,7 @@ module _ (content : Content) (o : OpenedValue) (records : List ℕ) (width heigh
       is_text = text_is;
     }
 
-    is_certificate : NeedLaws → IsSurfaceSide width → IsSurfaceSide height → IfSome o.handles (λ n. n < 2 ^ 16) → budget < 2 ^ 64 → length after ≤ 20 * 2 ^ 20 → IsCertificate made
+    is_certificate : NeedLaws → IsSurfaceSide width → IsSurfaceSide height → IfSome o.handles (λ n. n < 2 ^ 16) → totals.writes < 2 ^ 64 → length after ≤ 20 * 2 ^ 20 → IsCertificate made
     is_certificate laws wide high handles fits few =
         let within = laws.limited content o (surface_for o width height) unstopped in
         let slots = few_slots o.handles handles in
@@ -126,7 +127,7 @@ module _ (content : Content) (o : OpenedValue) (records : List ℕ) (width heigh
         }
 
     -- so it is read as it was, and accepted
-    pub records_read : BoxLaws → NeedLaws → PreparationLaws → TextLaws → AnswerLaws → IsSurfaceSide width → IsSurfaceSide height → IfSome o.handles (λ n. n < 2 ^ 16) → budget < 2 ^ 64
+    pub records_read : BoxLaws → NeedLaws → PreparationLaws → TextLaws → AnswerLaws → IsSurfaceSide width → IsSurfaceSide height → IfSome o.handles (λ n. n < 2 ^ 16) → totals.writes < 2 ^ 64
         → length after ≤ 20 * 2 ^ 20 → AnswersRead (read_certificate text) o records accepted
     records_read boxes needs preparation texts answers wide high handles fits few =
         let back : read_certificate text ≡ Ok made = ap read_certificate text_is ∙ texts.reads_back made (is_certificate needs wide high handles fits few) in

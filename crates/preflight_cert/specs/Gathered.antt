@@ -1,5 +1,5 @@
 -- What is gathered of records for a certificate, record by record.
-use Rattle.std.specs.Prelude.{◌≡◌, ℕ, List, [], ◌∷◌, ◌++◌, map, Option, Some, None}
+use Rattle.std.specs.Prelude.{◌≡◌, ℕ, List, [], ◌∷◌, ◌++◌, length, map, Option, Some, None}
 use Rattle.std.specs.Int.{int_max, int_min}
 use Rattle.std.specs.List.{All, flat_map}
 use Rattle.mapping.specs.Boxes.{point_box, no_box}
@@ -9,7 +9,7 @@ use Rattle.mapping.specs.declared.geometry.Rect.{Rect}
 use Rattle.draw_ops.specs.Content.{Content}
 use Rattle.dc_stack.specs.Drawing.{Drawing, drawing_points}
 use Rattle.dc_stack.specs.MachineState.{MachineState}
-use Rattle.preflight_cert.specs.After.{needs_after}
+use Rattle.preflight_cert.specs.After.{needs_after, notes_after}
 use Rattle.preflight_cert.specs.Budget.{layers_budget}
 use Rattle.preflight_cert.specs.CertificateText.{entry_text}
 use Rattle.preflight_cert.specs.Drawings.{NumberedDrawing, drawings_of}
@@ -20,6 +20,7 @@ use Rattle.preflight_cert.specs.Stop.{stop_of}
 use Rattle.preflight_cert.specs.TextLaws.{IsEntry}
 use Rattle.preflight_cert.specs.declared.entry.Entry.{Entry}
 use Rattle.preflight_cert.specs.declared.refusal.Refusal.{Refusal}
+use Rattle.preflight_cert.specs.declared.walk.Totals.{Totals}
 
 -- the box around two others
 abbrev pub box_over : Rect → Rect → Rect
@@ -75,12 +76,14 @@ abbrev pub least_drawing_budget : Option Drawing → Surface → ℕ
 least_drawing_budget None s = 0
 least_drawing_budget (Some drawing) s = layers_budget (layers_of drawing) (least_box (drawing_points drawing)) s
 
--- the entries of all steps were appended, none of which stops, and the budget and the needs are theirs
-pub record Gathers (content : Content) (old : MachineState) (before : List ℕ) (budget : ℕ) (new : MachineState) (after : List ℕ) : Type 0 where
+-- the entries of all steps were appended, none of which stops, and the needs and the totals are theirs, beside notes from before
+pub record Gathers (content : Content) (old : MachineState) (before noted : List ℕ) (totals : Totals) (new : MachineState) (after : List ℕ) : Type 0 where
   pub unstopped : stop_of content old.state old.surface ≡ None
   pub texts : after ≡ before ++ least_texts (drawings_of content.steps old.state)
   pub are_entries : All IsEntry (least_entries (drawings_of content.steps old.state))
-  pub is_budget : budget ≡ least_budget (drawings_of content.steps old.state) old.surface
+  pub is_budget : totals.writes ≡ least_budget (drawings_of content.steps old.state) old.surface
+  pub records : totals.records ≡ length content.steps
+  pub notes : totals.notes.counts ≡ notes_after content.steps noted
   pub needs : new.needs ≡ needs_after content.steps old.state old.needs
 
 -- the content stops, and the refusal tells where

@@ -14,50 +14,56 @@ use crate::covering::pixel_budget;
 use crate::entry::Entry;
 use crate::layer_count::layer_count;
 use crate::refusal::Refusal;
+use crate::walk::Totals;
 use crate::writing::put_entry;
 use dc_stack::{Draw, Machine};
-use draw_ops::{Fault, OpSource, Step};
+use draw_ops::{Fault, Notes, OpSource, Step};
 use mapping::{Place, box_law};
 use object_tables::Table;
 use span_fill::OutOfMemory;
 
-/// Appends the entries of the steps that are left of a source, and tells how many pixels they let a run write at most.
+/// Appends the entries of the steps that are left of a source, and tells what the steps come to, beside notes from before.
 #[tactic(auto, using(crate::proofs::GatheredLemmas::gathered))]
 pub(crate) fn gather<'a, S: OpSource<'a>, T: Table<'a>>(
     source: &mut S,
     machine: &mut Machine<'a, T>,
     place: Place,
+    noted: Notes,
     entries: &mut Vec<u8>,
-) -> Result<u64, Refusal>
+) -> Result<Totals, Refusal>
     requires short { length (S.content source.old).steps ≤ record_limit }
     requires place { surface_of place ≡ machine.old.surface }
     ensures gathers { IfOk result
-        (λ budget. Gathers (S.content source.old) machine.old entries.old.items budget machine.new entries.new.items) }
+        (λ totals. Gathers (S.content source.old) machine.old entries.old.items noted.counts totals machine.new entries.new.items) }
     ensures few { OnOk result (length entries.new.items ≤ length entries.old.items + 20 * 2 ^ 20) }
     ensures refusal { IfErr result (λ r. StopsGathering (S.content source.old) machine.old r ⊎ IsWantOfMemory r) }
     ensures number_told { IfErr result TellsNumber }
 {
-    let mut before: u32 = 0;
-    let mut writes: u64 = 0;
+    let mut totals = Totals {
+        writes: 0,
+        records: 0,
+        notes: noted,
+    };
     let mut step: Step<'a> = Step::without_effect();
     let mut drawn: Option<Draw<'a>> = None;
     loop {
         let is_put = match source.next_into(&mut step) {
             Ok(is_put) => is_put,
-            Err(fault) => return Err(Refusal::at(before, fault)),
+            Err(fault) => return Err(Refusal::at(totals.records, fault)),
         };
         if !is_put {
-            return Ok(writes);
+            return Ok(totals);
         }
         match machine.step_into(&step.op, &mut drawn) {
             Ok(()) => {}
             Err(fault) => return Err(Refusal::of_step(step.number, fault)),
         }
         match add_entry(step.number, &drawn, machine, place, entries) {
-            Ok(more) => writes += more,
+            Ok(more) => totals.writes += more,
             Err(OutOfMemory) => return Err(Refusal::of_file(Fault::OutOfMemory)),
         }
-        before += 1;
+        totals.notes = totals.notes.with_all(step.notes);
+        totals.records += 1;
     }
 }
 

@@ -17,7 +17,7 @@
 //!   file is sound within the certificate's bound and writes (`answer_law`). `check` gives that answer, or wants memory,
 //!   which it asks for only where the file opens and the certificate reads.
 //! - What is prepared is accepted, there is one such certificate of a file and a bound, and no other accepted one asks for less
-//!   (`prepare`, `preparation_law`).
+//!   (`prepare`, `preparation_law`). So it is cleared without being checked (`Prepared::clear`).
 //! - Reading gives back what was written, and bytes that are read are the text of what they say (`text_law`).
 #![tactic(auto)]
 
@@ -31,6 +31,7 @@ mod entry;
 mod gathering;
 mod laws;
 mod layer_count;
+mod prepared;
 mod preparing;
 mod refusal;
 mod walk;
@@ -44,5 +45,6 @@ pub use laws::{
     answer_law, drawing_box_law, missed_rows_law, need_law, preparation_law, rows_law, run_law,
     size_law, text_law,
 };
+pub use prepared::Prepared;
 pub use preparing::prepare;
 pub use refusal::Refusal;

@@ -4,22 +4,23 @@ ghost use Rattle.std.specs.Prelude.{◌≡◌, ◌⊎◌, IfErr, IfOk, false};
 ghost use Rattle.draw_ops.specs.declared.fault.Fault.TheVariants.{BadBound};
 ghost use Rattle.mapping.specs.Limits.{IsSurfaceSide};
 ghost use Rattle.meta_headers.specs.OpenedOf.{opened_of};
-ghost use Rattle.preflight_cert.specs.Answer.{AnswersRead, IsAnswer, accepted};
+ghost use Rattle.preflight_cert.specs.Answer.{AnswersRead, CountsRecords, IsAnswer, accepted};
 ghost use Rattle.preflight_cert.specs.CertificateReading.{read_certificate};
 ghost use Rattle.preflight_cert.specs.Preparation.{Prepares, PreparesRecords, StopsPreparing, is_bound};
 ghost use Rattle.preflight_cert.specs.Reached.{OpensAt};
 ghost use Rattle.preflight_cert.specs.Refusal.{IsWantOfMemory, TellsNumber};
 ghost use Rattle.preflight_cert.specs.StoppedRecords.{StopsOpened};
 
-use crate::certificate_reading::is_side;
 use crate::gathering::gather;
 use crate::laws::{answer_law, need_law, preparation_law, text_law};
+use crate::prepared::Prepared;
 use crate::refusal::Refusal;
+use crate::walk::Totals;
 use crate::writing::{Head, put_text};
 use dc_stack::Machine;
-use draw_ops::Fault;
+use draw_ops::{Fault, Notes, content_law};
 use mapping::{Place, box_law};
-use meta_headers::{Opened, open_file};
+use meta_headers::Opened;
 use object_tables::FileTable;
 use span_fill::OutOfMemory;
 use std::alloc::Global;
@@ -40,38 +41,37 @@ pub fn prepare(
     ensures memory { IfErr result (λ r. r.fault ≡ Fault.OutOfMemory → OpensAt file.now max_width max_height) }
     ensures number_told { IfErr result TellsNumber }
 {
-    if !(is_side(max_width) && is_side(max_height)) {
-        return Err(Refusal::of_file(Fault::BadBound));
-    }
-    let opened = match open_file(file) {
-        Ok(opened) => opened,
-        Err(fault) => return Err(Refusal::of_file(fault)),
-    };
-    match prepare_opened(alloc, opened, max_width, max_height) {
-        Ok(text) => Ok(text),
+    match Prepared::new(alloc, file, max_width, max_height) {
+        Ok(prepared) => {
+            let Prepared { text, .. } = prepared;
+            Ok(text)
+        }
         Err(refusal) => Err(refusal),
     }
 }
 
-/// The same for an opened file and a bound whose sides are allowed.
-fn prepare_opened(
+/// The same for an opened file and a bound whose sides are allowed, with what the records come to.
+pub(crate) fn prepare_opened(
     alloc: Global,
     opened: Opened<'_>,
     max_width: u32,
     max_height: u32,
-) -> Result<Vec<u8>, Refusal>
+) -> Result<(Vec<u8>, Totals), Refusal>
     requires wide { IsSurfaceSide max_width }
     requires high { IsSurfaceSide max_height }
     ensures text { IfOk result
-        (λ text. PreparesRecords (opened_of opened.entry) opened.entry.records.now max_width max_height text.items) }
+        (λ made. PreparesRecords (opened_of opened.entry) opened.entry.records.now max_width max_height made.0.items) }
     ensures accepted { IfOk result
-        (λ text. AnswersRead (read_certificate text.items) (opened_of opened.entry) opened.entry.records.now accepted) }
+        (λ made. AnswersRead (read_certificate made.0.items) (opened_of opened.entry) opened.entry.records.now accepted) }
+    ensures counts { IfOk result
+        (λ made. CountsRecords (opened_of opened.entry) opened.entry.records.now made.1.records made.1.notes.counts) }
     ensures refusal { IfErr result
         (λ r. StopsOpened (opened_of opened.entry) opened.entry.records.now max_width max_height r ⊎ IsWantOfMemory r) }
     ensures number_told { IfErr result TellsNumber }
 {
     answer_law();
     box_law();
+    content_law();
     need_law();
     preparation_law();
     text_law();
@@ -79,18 +79,25 @@ fn prepare_opened(
     let table = FileTable::new(alloc, opened.handles);
     let mut machine = Machine::new(alloc, &opened, place, table);
     let mut entries = Vec::new(alloc);
-    let writes = match gather(&mut opened.source(), &mut machine, place, &mut entries) {
-        Ok(writes) => writes,
+    let noted = Notes::of(opened.notes);
+    let totals = match gather(
+        &mut opened.source(),
+        &mut machine,
+        place,
+        noted,
+        &mut entries,
+    ) {
+        Ok(totals) => totals,
         Err(refusal) => return Err(refusal),
     };
     let head = Head {
         max_width,
         max_height,
-        writes,
+        writes: totals.writes,
         needs: machine.needs(),
     };
     match put_text(alloc, head, &entries) {
-        Ok(text) => Ok(text),
+        Ok(text) => Ok((text, totals)),
         Err(OutOfMemory) => Err(Refusal::of_file(Fault::OutOfMemory)),
     }
 }

@@ -1,5 +1,8 @@
--- What is refused was refused by the file's run, and what was prepared is played.
+-- What is refused was refused by the file's run, and what was prepared is played: the surface is within the bound that it was prepared for.
+use Rattle.std.proofs.lemmas.Result.{IfErr-weaker, on_ok_weaker}
 use Rattle.commands.proofs.FailureLemmas.{is_want, kept, refusal_fails}
+use Rattle.commands.proofs.PlayLemmas.{show_done, show_fails}
+use Rattle.commands.proofs.PreparedLemmas.{accepted_opens, prepared_within}
 use Rattle.commands.specs.Tasks.{show}
 use Rattle.commands.proofs.show.show_file.Goals as goal
 
@@ -8,3 +11,17 @@ returns-in-Err-clause-failed g c = refusal_fails (show c.args.file.now c.args.wi
 
 pub returns-in-Err-clause-memory : goal.returns-in-Err-clause-memory
 returns-in-Err-clause-memory g c = λ e. c.in-Err.ensures.memory (is_want c.in-Err.refusal c.failure_of.result c.failure_of.ensures e)
+
+pub write_within-requires-clause-within : goal.write_within-requires-clause-within
+write_within-requires-clause-within g c = prepared_within _ _ _ _ c.in-Ok.ensures.text c.requires.wide c.requires.high _ c.clear.ensures.read
+
+pub returns-clause-done : goal.returns-clause-done
+returns-clause-done g c = on_ok_weaker c.write_within.result (show_done _ c.clear.result _ _ _ _ (rw c.clear.ensures.opened c.in-Ok.ensures.opened)) c.write_within.ensures.done
+
+pub returns-clause-failed : goal.returns-clause-failed
+returns-clause-failed g c =
+    IfErr-weaker c.write_within.result _ _
+    (λ failure fails. show_fails _ c.clear.result _ _ g.O.Write.contents c.args.out.now c.write_within.new.out failure (rw c.clear.ensures.opened c.in-Ok.ensures.opened) fails) c.write_within.ensures.failed
+
+pub returns-clause-memory : goal.returns-clause-memory
+returns-clause-memory g c = IfErr-weaker c.write_within.result _ _ (λ failure fails e. (accepted_opens _ _ c.in-Ok.ensures.accepted).opens) c.write_within.ensures.failed

@@ -20,4 +20,4 @@ pub returns-clause-ready : goal.returns-clause-ready
 returns-clause-ready g c =
     let m = c.args.machine.now in
     let new = c.play_rows.new.machine in
-    ready_again c.args.cleared.now c.args.lines.now.rows.room c.play_rows.new.lines.rows.room m new (goes_on_twice m c.restart.new.self new c.restart.ensures.goes_on c.play_rows.ensures.goes_on) c.play_rows.ensures.lines c.requires.ready
+    ready_again c.args.cleared.now c.args.drawings.now.rows.room c.play_rows.new.drawings.rows.room m new (goes_on_twice m c.restart.new.self new c.restart.ensures.goes_on c.play_rows.ensures.goes_on) c.play_rows.ensures.lines c.requires.ready

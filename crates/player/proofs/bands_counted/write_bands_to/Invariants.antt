@@ -12,7 +12,7 @@ invariant-loop-first g l =
     record {
       within : l.first ≤ l.height;
       surface : l.machine.surface ≡ s;
-      ready : IsReadyToPlay l.cleared l.lines.rows.room l.machine;
+      ready : IsReadyToPlay l.cleared l.drawings.rows.room l.machine;
       width : l.canvas.width ≡ s.width;
       most : l.canvas.most ≡ l.fn.canvas.most;
       few : l.canvas.writes ≤ 140737488355328 * l.first;

@@ -1,4 +1,4 @@
-use Rattle.std.proofs.Common.{◌≡◌, length}
+use Rattle.std.proofs.Common.{◌≡◌}
 use Rattle.std.specs.Prelude.{IfSome}
 use Rattle.dc_stack.specs.Clip.{in_box}
 use Rattle.player.specs.SourceRows.{HoldsRow}
@@ -9,6 +9,5 @@ use Rattle.player.proofs.filling.fill_box.Given as goal
 abbrev pub invariant-loop-y : goal.invariant-loop-y
 invariant-loop-y l = record {
   painted : HasRowsPainted l.paint (in_box l.fn.inside) l.y l.fn.canvas l.canvas;
-  long : length l.room.sources ≡ 8192;
-  held : IfSome l.kept (λ row. IfSome l.paint.source (λ reader. HoldsRow reader l.columns row l.room.sources));
+  held : IfSome l.kept (λ row. IfSome l.paint.source (λ reader. HoldsRow reader l.columns row l.room.sources.value));
 }

@@ -91,3 +91,6 @@ put_row-requires-clause-row g c =
     let first = c.loop-y.invariant.painted.painted.first in
     let rows = c.loop-y.invariant.painted.painted.rows in
     record { from_first = omega (arith, low, above, top, first); to_last = omega (arith, high, last, bottom, first, rows) }
+
+pub put_row-requires-clause-seen : goal.put_row-requires-clause-seen
+put_row-requires-clause-seen g c = rw c.requires.alone tt

@@ -10,7 +10,7 @@ draw-requires g c =
     let loop = c.loop-drawn in
     let content = g.S.HasContent.content in
     let played : PlaysFirst (content loop.source) (content c.advance.new.source) loop.machine c.advance.new.machine c.in-Ok-Some.drawn = rw c.in-Ok-Some.field-0-is at c.in-Ok-Some.ensures.advances in
-    let lines = room_for_first c.need_law.ensures loop.rows.room (content loop.source) (content c.advance.new.source) played.step loop.machine c.advance.new.machine c.in-Ok-Some.drawn played.begins played.drawn played.placed loop.invariant.lines in
+    let lines = room_for_first c.need_law.ensures loop.room.rows.room (content loop.source) (content c.advance.new.source) played.step loop.machine c.advance.new.machine c.in-Ok-Some.drawn played.begins played.drawn played.placed loop.invariant.lines in
     search (lines, rules)
 
 pub overflow_add-before : goal.overflow_add-before

@@ -23,8 +23,8 @@ invariant-loop-drawn g l =
       same_surface : l.machine.surface ≡ start;
       goes_on : GoesOn l.fn.machine l.machine;
       room : HasRoomForSteps (content l.source) l.machine;
-      same_room : l.rows.room ≡ l.fn.rows.room;
-      lines : HasLines l.rows.room (content l.source) l.machine;
+      same_room : l.room.rows.room ≡ l.fn.room.rows.room;
+      lines : HasLines l.room.rows.room (content l.source) l.machine;
       held : HoldsRows l.canvas start;
       rows : SameRows l.fn.canvas l.canvas;
       counted : l.before + length (content l.source).steps ≡ length (content l.fn.source).steps;

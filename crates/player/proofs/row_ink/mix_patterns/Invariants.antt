@@ -9,8 +9,7 @@ use Rattle.player.proofs.row_ink.mix_patterns.Given as goal
 -- the mixes so far join the colours at their places
 abbrev pub invariant-loop-x : goal.invariant-loop-x
 invariant-loop-x l = record {
-  patterns : l.room.patterns ≡ l.fn.room.patterns;
-  keeps : length l.room.keeps ≡ 8192;
-  flips : length l.room.flips ≡ 8192;
-  done : (x : ℕ) (d old : Colour) → l.fn.columns.from ≤ x → x < l.x → mixed_by (mix_at l.room.keeps l.room.flips x) old ≡ ternary_colour l.operation.op.table (slice_index_or l.fn.room.patterns x d) black_colour old;
+  keeps : length l.keeps ≡ 8192;
+  flips : length l.flips ≡ 8192;
+  done : (x : ℕ) (d old : Colour) → l.fn.columns.from ≤ x → x < l.x → mixed_by (mix_at l.keeps l.flips x) old ≡ ternary_colour l.operation.op.table (slice_index_or l.patterns x d) black_colour old;
 }

@@ -16,6 +16,6 @@ returns-then-copies_pattern-clause-ink c = λ x old low high.
 
 pub returns-clause-ink : goal.returns-clause-ink
 returns-clause-ink c = λ x old low high.
-    subst (λ (paint : Option Colour). mixed_by (mix_at c.mix_patterns.new.room.keeps c.mix_patterns.new.room.flips x) old ≡ joined_if c.args.operation.op.table black_colour paint old)
+    subst (λ (paint : Option Colour). mixed_by (mix_at c.mix_patterns.new.keeps c.mix_patterns.new.flips x) old ≡ joined_if c.args.operation.op.table black_colour paint old)
     (c.gather_pattern.ensures.colours x black_colour low high (c.requires.tiled x))
     (c.mix_patterns.ensures x black_colour old low high)

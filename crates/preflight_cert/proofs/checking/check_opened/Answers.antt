@@ -26,7 +26,5 @@ invariant_of-result c =
 pub returns-in-None-clause-counts : goal.returns-in-None-clause-counts
 returns-in-None-clause-counts c =
     let o = opened_of c.args.opened in
-    let state = c.new-machine.ensures.state ∙ ap (λ (kind : TableKind). start_state (map_numbers c.args.opened.start_map) kind) c.new-table.ensures.kind in
-    records_counted (source_content c.source.result) o c.args.opened.records.now (certificate_of c.args.certificate) c.new-machine.result c.source.ensures.content
-    (record { state = state; surface = c.new-machine.ensures.surface ∙ c.new-place.ensures.surface; needs = c.new-machine.ensures.needs })
-    c.content_law.ensures c.of.result.counts c.check_steps.new.machine c.in-Ok.totals c.of.ensures c.in-Ok.ensures.checked
+    let checks = c.in-Ok.ensures.checked in
+    records_counted c.content_law.ensures (source_content c.source.result) o c.args.opened.records.now c.source.ensures.content c.of.result.counts c.in-Ok.totals c.of.ensures checks.records checks.notes

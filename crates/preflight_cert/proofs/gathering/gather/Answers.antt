@@ -1,21 +1,22 @@
 -- A count of records fits, and so do the numbers of their entries.
-use Rattle.std.proofs.Common.{◌≡◌, Bool, Result, Ok, Some, ap, inl, length, ◌∙◌, arith, rules}
+use Rattle.std.proofs.Common.{◌≡◌, ℕ, Bool, List, Result, Ok, Some, ap, inl, length, sym, ◌∙◌, arith, rules}
 use Rattle.std.specs.Option.{option_map}
 use Rattle.draw_ops.specs.Gives.{Stays, put}
 use Rattle.draw_ops.specs.declared.record_fault.RecordFault.{RecordFault}
-use Rattle.draw_ops.specs.Content.{broken_by, with_step}
+use Rattle.draw_ops.specs.Content.{Content, broken_by, with_step}
 use Rattle.draw_ops.specs.OperationOf.{operation_of}
 use Rattle.draw_ops.specs.Records.{record_limit}
 use Rattle.draw_ops.specs.StepOf.{step_value_of}
 use Rattle.dc_stack.specs.MachineState.{HasStepped, IsDrawingOf, RefusesStep, drawing_with}
+use Rattle.preflight_cert.specs.After.{notes_after}
 use Rattle.preflight_cert.specs.Stop.{broken_behind}
 use Rattle.preflight_cert.proofs.GatheredLemmas.{budget_then, step_entries, step_texts}
 use Rattle.preflight_cert.proofs.RefusalLemmas.{gathering_broken, gathering_refused}
 use Rattle.preflight_cert.proofs.gathering.gather.Goals as goal
 
-pub overflow_add-before : goal.overflow_add-before
+pub overflow_add-totals-in-loop-is_put : goal.overflow_add-totals-in-loop-is_put
 unfolding record_limit
-overflow_add-before g c = search rules
+overflow_add-totals-in-loop-is_put g c = search rules
 
 pub returns-then-not-is_put-clause-few : goal.returns-then-not-is_put-clause-few
 unfolding record_limit
@@ -29,6 +30,8 @@ loop-is_put-preserved g c =
     let old = c.loop-is_put.machine in
     let new = c.step_into.new.self in
     let step = c.next_into.new.step in
+    let counts = c.loop-is_put.totals.notes.counts in
+    let rest = content c.next_into.new.self in
     let is : put c.next_into.result step ≡ Ok (Some step) = ap (λ (r : Result Bool RecordFault). put r step) (c.in-Ok.is ∙ ap Ok c.if-not-is_put.false) in
     let begins : content c.loop-is_put.source ≡ with_step (step_value_of step) (content c.next_into.new.self) = rw is at c.next_into.ensures.gives in
     let stepped : HasStepped (operation_of step.op) old new = c.in-Ok-step_into.ensures.stepped in
@@ -50,6 +53,8 @@ loop-is_put-preserved g c =
           (step_entries (content c.loop-is_put.source) (content c.next_into.new.self) (put c.next_into.result step) step old.state new.state
           (option_map (drawing_with new) c.step_into.new.drawn) c.next_into.ensures.gives is stepped.state drawn c.in-Ok-add_entry.ensures.fits all);
       budget = search (begins, stepped, drawn, rules, budget_then);
+      notes = c.loop-is_put.invariant.notes ∙ ap (λ (k : Content). notes_after k.steps counts) begins
+          ∙ ap (λ (n : List ℕ). notes_after rest.steps n) (sym c.with_all-totals.ensures);
       needs = search (begins, stepped, rules);
     }
 
@@ -72,5 +77,5 @@ returns-in-Err-clause-refusal g c =
     let left = content loop.source in
     let broken : Stays (broken_by c.in-Err.fault) left (content c.next_into.new.self) =
     rw (ap (λ (r : Result Bool RecordFault). put r c.next_into.new.step) c.in-Err.is) at c.next_into.ensures.gives in
-    inl (gathering_broken _ (content c.args.source.now) left loop.before loop.machine.state loop.machine.surface c.in-Err.fault c.at.result
+    inl (gathering_broken _ (content c.args.source.now) left loop.totals.records loop.machine.state loop.machine.surface c.in-Err.fault c.at.result
     (rw loop.invariant.same_surface loop.invariant.stops) broken.is loop.invariant.counted loop.invariant.fault c.at.ensures.number c.at.ensures.fault)

@@ -9,6 +9,7 @@ use Rattle.object_tables.specs.Table.{TableKind}
 use Rattle.dc_stack.specs.State.{start_state}
 use Rattle.preflight_cert.specs.Gathered.{Gathers}
 use Rattle.preflight_cert.specs.TextParts.{full_text}
+use Rattle.preflight_cert.proofs.ClearedLemmas.{records_counted}
 use Rattle.preflight_cert.proofs.PreparedLemmas.{records_prepared, records_read}
 use Rattle.preflight_cert.proofs.StartLemmas.{IsAtStart}
 use Rattle.preflight_cert.proofs.preparing.prepare_opened.Goals as goal
@@ -23,17 +24,20 @@ returns-in-Ok-put_text c =
     let state = c.new-machine.ensures.state ∙ ap (λ (kind : TableKind). start_state (map_numbers opened.start_map) kind) c.new-table.ensures.kind in
     let at : IsAtStart o (surface_for o w h) m = record { state = state; surface = c.new-machine.ensures.surface ∙ c.new-place.ensures.surface; needs = c.new-machine.ensures.needs } in
     let content = source_content c.source.result in
+    let noted = c.of-noted.result.counts in
+    let totals = c.in-Ok.totals in
     let new = c.gather.new.machine in
     let after = c.gather.new.entries.items in
     let text = c.in-Ok-put_text.text.items in
-    let gathers = subst (λ (before : List ℕ). Gathers content m before c.in-Ok.writes new after) c.new-entries.ensures.items c.in-Ok.ensures.gathers in
-    let written : text ≡ full_text w h c.in-Ok.writes new.needs after = search rules in
+    let gathers = subst (λ (before : List ℕ). Gathers content m before noted totals new after) c.new-entries.ensures.items c.in-Ok.ensures.gathers in
+    let written : text ≡ full_text w h totals.writes new.needs after = search rules in
     let handles : IfSome o.handles (λ n. n < 2 ^ 16) = search rules in
-    let fits : c.in-Ok.writes < 2 ^ 64 = search rules in
+    let fits : totals.writes < 2 ^ 64 = search rules in
     record {
-      text = records_prepared content o opened.records.now w h m c.source.ensures.content at c.in-Ok.writes new after text gathers written c.box_law.ensures;
-      accepted = records_read content o opened.records.now w h m c.source.ensures.content at c.in-Ok.writes new after text gathers written
+      text = records_prepared content o opened.records.now w h m c.source.ensures.content at noted totals new after text gathers written c.box_law.ensures;
+      accepted = records_read content o opened.records.now w h m c.source.ensures.content at noted totals new after text gathers written
           c.box_law.ensures c.need_law.ensures c.preparation_law.ensures c.text_law.ensures c.answer_law.ensures c.requires.wide c.requires.high handles fits (search rules);
+      counts = records_counted c.content_law.ensures content o opened.records.now c.source.ensures.content noted totals c.of-noted.ensures gathers.records gathers.notes;
       refusal = tt;
       number_told = tt;
     }

@@ -1,0 +1,96 @@
+//! A file with the certificate that was prepared for it.
+
+ghost use Rattle.std.specs.Prelude.{◌≡◌, ◌⊎◌, Ok, IfErr, IfOk, IsOk, false};
+ghost use Rattle.std.specs.Result.{ForOk};
+ghost use Rattle.draw_ops.specs.declared.fault.Fault.TheVariants.{BadBound};
+ghost use Rattle.meta_headers.specs.File.{IsOpenedFrom};
+ghost use Rattle.meta_headers.specs.OpenedOf.{opened_of};
+ghost use Rattle.preflight_cert.specs.Answer.{CountsRecords, IsAnswer, IsCleared, accepted};
+ghost use Rattle.preflight_cert.specs.CertificateOf.{certificate_of};
+ghost use Rattle.preflight_cert.specs.CertificateReading.{read_certificate};
+ghost use Rattle.preflight_cert.specs.Preparation.{Prepares, StopsPreparing, is_bound};
+ghost use Rattle.preflight_cert.specs.Reached.{OpensAt};
+ghost use Rattle.preflight_cert.specs.Refusal.{IsWantOfMemory, TellsNumber};
+
+use crate::certificate::Certificate;
+use crate::certificate_reading::is_side;
+use crate::cleared::Cleared;
+use crate::preparing::prepare_opened;
+use crate::refusal::Refusal;
+use draw_ops::{Fault, Notes, content_law};
+use meta_headers::{Opened, open_file};
+use std::alloc::Global;
+
+/// A file that opened, the certificate that was prepared for it, and what its records come to.
+///
+/// # Guarantees
+///
+/// - The certificate is accepted for the file's records.
+#[derive(Drop)]
+pub struct Prepared<'a> {
+    pub opened: Opened<'a>,
+    /// The certificate's bytes.
+    pub text: Vec<u8>,
+    /// How many records the file has, the end record among them.
+    pub records: u32,
+    /// How often each kind is noted of the file's headers and records.
+    pub notes: Notes,
+    pub ghost readable: { IsOk (read_certificate text.items) },
+    pub ghost cleared: { ForOk (read_certificate text.items) (IsCleared (opened_of opened) opened.records.now) },
+}
+
+impl<'a> Prepared<'a> {
+    /// Prepares the certificate of a file for surfaces of at most these sides, as `prepare` does, whose refusals it has.
+    pub fn new(
+        alloc: Global,
+        file: &'a [u8],
+        max_width: u32,
+        max_height: u32,
+    ) -> Result<Prepared<'a>, Refusal>
+        ensures text { IfOk result (λ prepared. Prepares file.now max_width max_height prepared.text.items) }
+        ensures accepted { IfOk result (λ prepared. IsAnswer file.now prepared.text.items accepted) }
+        ensures opened { IfOk result (λ prepared. IsOpenedFrom file.now prepared.opened) }
+        ensures counts { IfOk result
+            (λ prepared. CountsRecords (opened_of prepared.opened) prepared.opened.records.now prepared.records prepared.notes.counts) }
+        ensures refusal { IfErr result (λ r. StopsPreparing file.now max_width max_height r ⊎ IsWantOfMemory r) }
+        ensures bound { IfErr result (λ r. is_bound max_width max_height ≡ false → r.fault ≡ BadBound) }
+        ensures memory { IfErr result (λ r. r.fault ≡ Fault.OutOfMemory → OpensAt file.now max_width max_height) }
+        ensures number_told { IfErr result TellsNumber }
+    {
+        if !(is_side(max_width) && is_side(max_height)) {
+            return Err(Refusal::of_file(Fault::BadBound));
+        }
+        let opened = match open_file(file) {
+            Ok(opened) => opened,
+            Err(fault) => return Err(Refusal::of_file(fault)),
+        };
+        content_law();
+        match prepare_opened(alloc, opened, max_width, max_height) {
+            Ok((text, totals)) => Ok(Prepared {
+                opened,
+                text,
+                records: totals.records,
+                notes: totals.notes,
+            }),
+            Err(refusal) => Err(refusal),
+        }
+    }
+
+    /// The file and its certificate as `check` would clear them, which isn't asked again.
+    pub fn clear(&self) -> Cleared<'_>
+        ensures opened { result.opened ≡ self.now.opened }
+        ensures read { read_certificate self.now.text.items ≡ Ok (certificate_of result.certificate) }
+        ensures records { result.records ≡ self.now.records }
+        ensures notes { result.notes ≡ self.now.notes }
+    {
+        match Certificate::read(&self.text[..]) {
+            Ok(certificate) => Cleared {
+                opened: self.opened,
+                certificate,
+                records: self.records,
+                notes: self.notes,
+            },
+            Err(_) => unreachable!(),
+        }
+    }
+}
