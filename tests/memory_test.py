@@ -18,6 +18,9 @@ MIB = 1 << 20
 # What a run may take beside the program itself and the file, whatever the surface: a band takes 3 MiB of it.
 ROOM = 8 * MIB
 
+# The least room beside the bare program in which it is tried: its own pages for reading a file.
+LEAST = MIB // 16
+
 # A band of 1,024 rows of 1,024 pixels, which lie 1,088 apart.
 BAND = 3 * 1024 * 1088
 
@@ -210,15 +213,28 @@ class LittleMemory(unittest.TestCase):
 
     @for_each_program
     def test_any_limit_gives_the_image_or_is_told(self, program):
-        # Above what the bare program takes there is memory for the image, or there isn't and that is told, also where all that is left
-        # beside the band is a few pages: nothing large lies on the stack, which couldn't grow there.
-        words = ["show", "stdin", "1024", "1024"]
-        ample, found = answer(program, words, DOT), set()
+        # Above what the bare program takes and some pages there is memory for the image, or there isn't and that is told, also where all that is left
+        # beside a band or a surface is a few pages: nothing large lies on the stack, which couldn't grow there.
         around = range(BAND - MIB // 8, BAND + 2 * MIB, 16 * 1024)
-        for room in [*range(0, 24 * MIB, MIB // 4), *around]:
+        self.check_limits(program, ["show", "stdin", "1024", "1024"], [*range(LEAST, 24 * MIB, MIB // 4), *around])
+
+    @for_each_program
+    def test_any_limit_gives_what_is_played_by_a_certificate_or_is_told(self, program):
+        with tempfile.TemporaryDirectory() as folder:
+            certificate, image = pathlib.Path(folder, "certificate"), pathlib.Path(folder, "image")
+            self.assertEqual(answer(program, ["prepare", "stdin", "512", "512", certificate], DOT), Answer(0, b"", b""))
+            image.write_bytes(answer(program, ["show", "stdin", "512", "512"], DOT).out)
+            rooms = range(LEAST, 4 * MIB, MIB // 16)
+            self.check_limits(program, ["play", "stdin", certificate, "512", "512"], rooms)
+            self.check_limits(program, ["over", "stdin", certificate, image], rooms)
+
+    def check_limits(self, program, words, rooms):
+        """A small file is played as with ample memory, or want of it is told, under the limits that leave so much room; both happen."""
+        ample, found = answer(program, words, DOT), set()
+        for room in rooms:
             answered = answer_within(bare(program) + room, program, words, DOT)
             found.add(answered.status)
-            self.assertEqual(answered, OUT_OF_MEMORY if answered.status else ample, room)
+            self.assertEqual(answered, OUT_OF_MEMORY if answered.status else ample, (words, room))
         self.assertEqual(found, {0, 4})
 
 
