@@ -6,7 +6,7 @@
 //! - A canvas can be shown again on other rows, in one colour: it keeps its count and takes no memory (`Canvas::again`).
 //! - A write changes the pixel that it names and no other, and is counted once (`Canvas::put`).
 //! - A call that writes a part of a row writes the pixels of the row that it names, each with the colour that
-//!   it says, leaves every other pixel as it is and counts each write (`Canvas::put_span`, `put_pattern`,
+//!   it says, leaves every other pixel as it is and counts each write (`Canvas::put_span`, `put_swatch`, `put_pattern`,
 //!   `put_row`, `mix_span`, `mix_row`, `mix_cells`, `mix`, by `Repaints`).
 //! - Pixels that a source gives one after another, none twice, are written in one colour, each counted once
 //!   (`Canvas::put_each`, `PixelSource`).
@@ -36,6 +36,7 @@ mod ppm_counted;
 mod reading;
 mod sending;
 mod surface;
+mod swatch;
 mod writing;
 
 pub use canvas_error::{ImageError, OutOfMemory, WriteFault};
@@ -47,3 +48,4 @@ pub use ppm::write_header;
 pub use ppm_counted::write_header_to;
 pub use sending::send;
 pub use surface::Canvas;
+pub use swatch::Swatch;

@@ -7,6 +7,7 @@ ghost use Rattle.mapping.specs.Mixes.{mixed_by};
 ghost use Rattle.mapping.specs.Pixels.{count_indexes, is_cell};
 ghost use Rattle.canvas.specs.MixRows.{mix_at};
 
+use crate::swatch::Swatch;
 use mapping::{Colour, Mix};
 
 /// How many colours repeat.
@@ -40,11 +41,26 @@ fn fill_few(part: &mut [Colour], column: u32, pattern: &[Colour; 8])
     }
 }
 
-/// Fills the part with one colour.
-pub(crate) fn fill_with(part: &mut [Colour], colour: Colour)
+/// Fills the part with one colour: by copies of eight, the last of which goes to its end, wherever it begins.
+pub(crate) fn fill_with(part: &mut [Colour], swatch: &Swatch)
+    ensures { (k : ℕ) (d : Colour) → k < length part.old → slice_index_or part.new k d ≡ swatch.now.colour }
+{
+    if part.len() < PERIOD {
+        put_few(part, swatch.colour);
+        return;
+    }
+    repeat_whole(part, &swatch.eight);
+    let last = part.len() - PERIOD;
+    copy_at(part, last, &swatch.eight);
+}
+
+/// Gives each of a few colours this one.
+fn put_few(part: &mut [Colour], colour: Colour)
     ensures { (k : ℕ) (d : Colour) → k < length part.old → slice_index_or part.new k d ≡ colour }
 {
-    repeat(part, &[colour; 8]);
+    for k in 0..part.len() {
+        part[k] = colour;
+    }
 }
 
 /// Fills the part with these eight colours, again and again. All but the last few go in by copies of eight,
@@ -61,6 +77,7 @@ fn repeat(part: &mut [Colour], colours: &[Colour; 8])
 /// Fills as much of the part as whole copies of the colours take, and tells how many that is.
 fn repeat_whole(part: &mut [Colour], colours: &[Colour; 8]) -> usize
     ensures within { result ≤ length part.old }
+    ensures all_but_few { length part.old < result + 8 }
     ensures colours { (k : ℕ) (d : Colour) → k < result → slice_index_or part.new k d ≡ slice_index_or colours.now (k % 8) d }
 {
     let mut filled = 0;

@@ -7,6 +7,7 @@ ghost use Rattle.canvas.specs.Writing.{Repaints, in_cells, in_row, in_row_span, 
 
 use crate::parts::{fill_with, fill_with_pattern, mix_all, mix_cells_of, mix_each};
 use crate::surface::{Canvas, place};
+use crate::swatch::Swatch;
 use mapping::{Colour, Mix};
 
 impl Canvas {
@@ -19,9 +20,21 @@ impl Canvas {
         ensures pixels { Repaints (in_row_span y x_from x_to) (λ column row old. colour) self.old self.new }
         ensures count { self.new.writes ≡ self.old.writes + (x_to - x_from) }
     {
+        self.put_swatch(x_from, x_to, y, &Swatch::new(colour));
+    }
+
+    /// The same in the colour of a swatch, which is made once for many spans.
+    pub fn put_swatch(&mut self, x_from: u32, x_to: u32, y: u32, swatch: &Swatch)
+        requires columns { x_from ≤ x_to }
+        requires width { x_to ≤ self.old.width }
+        requires row { HasRow self.old y }
+        requires countable { self.old.writes + (x_to - x_from) < 2 ^ 64 }
+        ensures pixels { Repaints (in_row_span y x_from x_to) (λ column row old. swatch.now.colour) self.old self.new }
+        ensures count { self.new.writes ≡ self.old.writes + (x_to - x_from) }
+    {
         let start = place(self.stride, y - self.first, x_from);
         let end = start + (x_to - x_from) as usize;
-        fill_with(&mut self.colours[start..end], colour);
+        fill_with(&mut self.colours[start..end], swatch);
         self.writes += u64::from(x_to - x_from);
     }
 

@@ -12,14 +12,15 @@ use Rattle.mapping.specs.declared.mix.Mix.{Mix}
 use Rattle.mapping.specs.Mixes.{mixed_by}
 use Rattle.mapping.specs.Pixels.{is_cell}
 use Rattle.canvas.specs.CanvasState.{CanvasState, HasRow}
-use Rattle.canvas.specs.Writing.{Repaints, in_cells, in_row_span, put_by_pattern}
+use Rattle.canvas.specs.Writing.{Repaints, in_cells, in_row_span}
 use Rattle.canvas.specs.WritingLaws.{IsWhole, WritingLaws}
+use Rattle.canvas.specs.declared.swatch.Swatch.{Swatch}
 use Rattle.dc_stack.specs.Clip.{in_box, is_from_to}
 use Rattle.span_fill.specs.declared.span.Span.{Span}
 use Rattle.span_fill.specs.Spans.{AreApart, in_spans}
 use Rattle.player.specs.RowInks.{inked, is_inked}
 use Rattle.player.specs.declared.row_ink.RowInk.{RowInk}
-use Rattle.player.specs.declared.row_ink.RowInk.TheVariants.{Nothing, Pattern}
+use Rattle.player.specs.declared.row_ink.RowInk.TheVariants.{Full, Nothing}
 use Rattle.player.specs.Strips.{MayPaint, is_painted, is_uncut}
 use Rattle.player.proofs.TestLemmas.{is_column}
 
@@ -312,13 +313,13 @@ next_span spans place there =
     let next : suc place ≡ place + 1 = omega arith in
     drop-cons spans place record { from = 0; to = 0 } there ∙ ap (λ n. get_or spans place record { from = 0; to = 0 } ∷ drop n spans) next
 
--- a span of a pattern, where nothing is cut out
-pub pattern_span :
-    WritingLaws → (pattern : List Colour) (y from to : ℕ) (now new : CanvasState) → IsWhole now
-    → Repaints (in_row_span y from to) (put_by_pattern pattern) now new
-    → Repaints (is_painted (Pattern pattern) [] y (is_column from to)) (by_ink (Pattern pattern)) now new
-pattern_span laws pattern y from to now new whole r =
-    laws.same (in_row_span y from to) (is_painted (Pattern pattern) [] y (is_column from to)) (put_by_pattern pattern) (by_ink (Pattern pattern)) now new whole
+-- a span of one colour, where nothing is cut out
+pub full_span :
+    WritingLaws → (swatch : Swatch) (y from to : ℕ) (now new : CanvasState) → IsWhole now
+    → Repaints (in_row_span y from to) (λ column row old. swatch.colour) now new
+    → Repaints (is_painted (Full swatch) [] y (is_column from to)) (by_ink (Full swatch)) now new
+full_span laws swatch y from to now new whole r =
+    laws.same (in_row_span y from to) (is_painted (Full swatch) [] y (is_column from to)) (λ x row old. swatch.colour) (by_ink (Full swatch)) now new whole
     (λ x row at. alike (eqb row y) (leb from x) (ltb x to))
     (λ x row c at t. refl)
     r

@@ -5,11 +5,12 @@ use Rattle.mapping.specs.Mixes.{mixed_by}
 use Rattle.mapping.specs.Pixels.{is_cell}
 use Rattle.canvas.specs.MixRows.{mix_at}
 use Rattle.player.specs.declared.row_ink.RowInk.{RowInk}
-use Rattle.player.specs.declared.row_ink.RowInk.TheVariants.{Nothing, Pattern, Mixed, Cells, Row, MixRow, MixCells}
+use Rattle.player.specs.declared.row_ink.RowInk.TheVariants.{Nothing, Full, Pattern, Mixed, Cells, Row, MixRow, MixCells}
 
 -- the ink writes the pixel in column x
 abbrev pub is_inked : RowInk → ℕ → Bool
 is_inked Nothing x = false
+is_inked (Full swatch) x = true
 is_inked (Pattern colours) x = true
 is_inked (Mixed mix) x = true
 is_inked (Cells cells mix None) x = is_cell cells x
@@ -21,6 +22,7 @@ is_inked (MixCells cells keeps flips) x = is_cell cells x
 -- and makes this of its old colour
 abbrev pub inked : RowInk → ℕ → Colour → Colour
 inked Nothing x old = old
+inked (Full swatch) x old = swatch.colour
 inked (Pattern colours) x old = slice_index_or colours (x % 8) old
 inked (Mixed mix) x old = mixed_by mix old
 inked (Cells cells mix None) x old = mixed_by mix old

@@ -13,6 +13,7 @@ ghost use Rattle.raster_ops.specs.Bytes.{HasBytes};
 ghost use Rattle.raster_ops.specs.TernaryOps.{ternary_colour};
 
 use crate::ink_room::{BLACK, MAX_SIDE, MixRoom};
+use canvas::Swatch;
 use draw_ops::TernaryOp;
 use mapping::{Colour, Mix};
 use raster_ops::{BrushRow, TernaryMixer, copy_law, gather_pattern, pattern};
@@ -29,7 +30,9 @@ const SRCCOPY: u8 = 0xcc;
 pub(crate) enum RowInk<'r> {
     /// None is written.
     Nothing,
-    /// Each becomes the colour at its column modulo 8, where one colour is eight times the same: they are made once for all rows.
+    /// Each becomes this colour.
+    Full(Swatch),
+    /// Each becomes the colour at its column modulo 8.
     Pattern([Colour; 8]),
     /// Each is mixed.
     Mixed(Mix),
@@ -214,7 +217,7 @@ pub(crate) fn full(mix: Mix) -> RowInk<'static>
     ensures ink { (x : ℕ) (old : Colour) → inked result x old ≡ mixed_by mix old }
 {
     match mix.constant() {
-        Some(colour) => RowInk::Pattern([colour; 8]),
+        Some(colour) => RowInk::Full(Swatch::new(colour)),
         None => RowInk::Mixed(mix),
     }
 }

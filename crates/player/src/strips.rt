@@ -13,11 +13,11 @@ ghost use Rattle.dc_stack.specs.declared.clip.ClipBox.{ClipBox};
 ghost use Rattle.span_fill.specs.Spans.{AreApart, in_span, in_spans};
 ghost use Rattle.player.specs.RowInks.{inked};
 ghost use Rattle.player.specs.Strips.{CountsOnce, MayPaint, in_columns, is_painted};
-ghost use Rattle.player.specs.declared.row_ink.RowInk.TheVariants.{Pattern};
+ghost use Rattle.player.specs.declared.row_ink.RowInk.TheVariants.{Full};
 
 use crate::ink_room::MAX_SIDE;
 use crate::row_ink::RowInk;
-use canvas::{Canvas, writing_law};
+use canvas::{Canvas, Swatch, writing_law};
 use dc_stack::ClipBox;
 use mapping::{Colour, Mix, Rect};
 use span_fill::Span;
@@ -31,6 +31,7 @@ fn put_ink(canvas: &mut Canvas, ink: &RowInk<'_>, y: u32, columns: Span)
     writing_law();
     match ink {
         RowInk::Nothing => {}
+        RowInk::Full(swatch) => canvas.put_swatch(columns.from, columns.to, y, swatch),
         RowInk::Pattern(pattern) => canvas.put_pattern(columns.from, columns.to, y, pattern),
         RowInk::Mixed(mix) => canvas.mix_span(columns.from, columns.to, y, *mix),
         RowInk::Cells {
@@ -203,8 +204,8 @@ pub(crate) fn put_spans(
     writing_law();
     // (the ink is looked at where it lies: a copy of it would be waited for in each row)
     if cuts.is_empty() {
-        if let RowInk::Pattern(pattern) = ink {
-            put_patterns(canvas, pattern, y, spans);
+        if let RowInk::Full(swatch) = ink {
+            put_full(canvas, swatch, y, spans);
             return;
         }
     }
@@ -213,17 +214,17 @@ pub(crate) fn put_spans(
     }
 }
 
-/// Gives the pixels in the spans of a row the colours of a pattern.
-fn put_patterns(canvas: &mut Canvas, pattern: &[Colour; 8], y: u32, spans: &[Span])
+/// Gives the pixels in the spans of a row one colour.
+fn put_full(canvas: &mut Canvas, swatch: &Swatch, y: u32, spans: &[Span])
     requires whole { IsWhole canvas.old }
     requires spans { AreApart 0 canvas.old.width spans.now }
     requires row { HasRow canvas.old y }
     requires countable { canvas.old.writes + 2 * canvas.old.width < 2 ^ 64 }
-    ensures pixels { Repaints (is_painted (Pattern pattern.now) [] y (in_spans spans.now)) (λ column row old. inked (Pattern pattern.now) column old) canvas.old canvas.new }
+    ensures pixels { Repaints (is_painted (Full swatch.now) [] y (in_spans spans.now)) (λ column row old. swatch.now.colour) canvas.old canvas.new }
     ensures count { canvas.new.writes ≤ canvas.old.writes + canvas.old.width }
 {
     writing_law();
     for span in spans {
-        canvas.put_pattern(span.from, span.to, y, pattern);
+        canvas.put_swatch(span.from, span.to, y, swatch);
     }
 }

@@ -3,7 +3,7 @@ use Rattle.std.proofs.lemmas.List.{with_items_is}
 use Rattle.canvas.specs.Rows.{row_colours}
 use Rattle.canvas.proofs.CallLemmas.{helped_span}
 use Rattle.canvas.proofs.FieldLemmas.{lies_inside}
-use Rattle.canvas.proofs.surface.Canvas.put_span.Goals as goal
+use Rattle.canvas.proofs.surface.Canvas.put_swatch.Goals as goal
 
 pub returns-clause-pixels : goal.returns-clause-pixels
 returns-clause-pixels c =
