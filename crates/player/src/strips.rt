@@ -160,13 +160,7 @@ fn within(coordinate: i32, least: u32, most: u32) -> u32
 }
 
 /// Writes what an ink makes of those columns of a row that no box cuts out.
-fn put_uncut(
-    canvas: &mut Canvas,
-    ink: &RowInk<'_>,
-    y: u32,
-    columns: Span,
-    cuts: &[ClipBox],
-)
+fn put_uncut(canvas: &mut Canvas, ink: &RowInk<'_>, y: u32, columns: Span, cuts: &[ClipBox])
     requires { MayPaint canvas.old y columns }
     ensures pixels { Repaints (is_painted ink.now (map (λ (b : ClipBox). b.placed) cuts.now) y (in_span columns)) (λ column row old. inked ink.now column old) canvas.old canvas.new }
     ensures count { CountsOnce columns canvas.old canvas.new }

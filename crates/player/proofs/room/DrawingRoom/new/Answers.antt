@@ -5,4 +5,4 @@ use Rattle.player.proofs.room.DrawingRoom.new.Goals as goal
 
 pub returns : goal.returns
 unfolding edge_limit
-returns c = record { full = IfOk-weaker c.for_lines.result _ _ (λ room h. elim h [ | inl all ↦ all | inr many ↦ many ]) c.for_lines.ensures.room }
+returns c = record { full = IfOk-weaker c.for_lines.result _ _ (λ room h. elim h [ inl all ↦ all | inr many ↦ many ]) c.for_lines.ensures.room }
