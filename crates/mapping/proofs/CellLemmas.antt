@@ -1,19 +1,19 @@
 -- How many columns lie from where one coordinate lands to where another does.
-use Rattle.std.proofs.Common.{◌≡◌, ◌≢◌, ℕ, zero, suc, ◌+◌, ◌-◌, ◌*◌, ◌/◌, ◌<◌, ◌≤◌, ℤ, pos, negsuc, ◌*ℤ◌, ◌≤ℤ◌, ◌<ℤ◌, Bool, true, false, ◌&&◌, ◌||◌, int_le, int_lt, cond, refl, ap, ◌∙◌, sym, subst, arith}
-use Rattle.std.specs.Prelude.{max, min}
+use Rattle.std.proofs.Common.{◌≡◌, ◌≢◌, ℕ, zero, suc, ◌+◌, ◌-◌, ◌*◌, ◌/◌, ◌<◌, ◌≤◌, ℤ, pos, negsuc, ◌*ℤ◌, ◌≤ℤ◌, ◌<ℤ◌, Bool, true, false, ◌||◌, int_le, int_lt, cond, refl, ap, ◌∙◌, sym, arith}
+use Rattle.std.specs.Prelude.{min}
 use Rattle.std.proofs.Math.Nat.{mul-le-mul_left, mul-le-mul_right, mul-div_cancel_left, div-mul-le_self, lt-div-mul-add, zero-div, add-mul}
 use Rattle.std.proofs.lemmas.Bool.{and_parts, false_from_ne_true}
 use Rattle.std.proofs.lemmas.Int.{ints, by_lt_z}
 use Rattle.std.proofs.lemmas.Nat.{le-div}
 use Rattle.mapping.proofs.FloorLemmas.{floor_is_greatest}
-use Rattle.mapping.proofs.IntTestLemmas.{int_le-true, int_le-false, int_le-from, int_lt-true, int_lt-false, int_le-not}
+use Rattle.mapping.proofs.IntTestLemmas.{int_le-true, int_le-false, int_lt-true, int_lt-false, int_le-not}
 use Rattle.mapping.specs.Floor.{floor_div}
 use Rattle.mapping.specs.Limits.{IsFrameSide}
 use Rattle.mapping.specs.Pixels.{count_indexes}
 use Rattle.mapping.specs.Surface.{placed}
 use Rattle.mapping.specs.Cells.{cells, count_of, is_away, lies_from_to, rounded_up}
 use Rattle.mapping.specs.CellLaws.{CellLaws}
-use Rattle.mapping.proofs.CountLemmas.{by_bool, count_at_most, count_between, count_nothing, pixels_few}
+use Rattle.mapping.proofs.CountLemmas.{count_at_most, count_between, count_nothing, pixels_few}
 
 -- a number that isn't below 0 has no multiple that is below 0
 below_not : (n : ℕ) (q : ℤ) (w side : ℕ) → 1 ≤ w → pos 0 ≤ℤ q → (q *ℤ pos side) ≤ℤ (negsuc n *ℤ pos w) → ⊥

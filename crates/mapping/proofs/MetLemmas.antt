@@ -1,8 +1,8 @@
 -- Cells between two places of the frame.
-use Rattle.std.proofs.Common.{◌≡◌, ℕ, ◌+◌, ◌-◌, ◌*◌, ◌≤◌, ℤ, pos, negsuc, ◌≤ℤ◌, ◌<ℤ◌, Bool, true, false, ◌||◌, int_le, int_lt, refl, ap, sym, ◌∙◌, arith}
+use Rattle.std.proofs.Common.{◌≡◌, ℕ, ◌≤◌, ℤ, pos, ◌≤ℤ◌, ◌<ℤ◌, true, false, ◌||◌, int_le, int_lt, sym, ◌∙◌, arith}
 use Rattle.std.specs.Prelude.{min}
 use Rattle.std.proofs.lemmas.Int.{ints}
-use Rattle.mapping.specs.Cells.{cells, count_of, is_away, rounded_up}
+use Rattle.mapping.specs.Cells.{count_of, is_away}
 use Rattle.std.proofs.lemmas.Bool.{or_left, or_right, true≢false}
 use Rattle.mapping.proofs.IntTestLemmas.{int_le-from}
 use Rattle.mapping.proofs.CellLemmas.{by_away, counts_ordered}
