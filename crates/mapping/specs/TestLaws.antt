@@ -1,5 +1,5 @@
 -- What tests tell: those of whole numbers, and those that are put together. `Rattle.std.proofs.lemmas.Bool` has them for counts.
-use Rattle.std.specs.Prelude.{◌≡◌, ℤ, pos, negsuc, ◌≤ℤ◌, ◌<ℤ◌, Bool, true, false, T, int_le, int_lt}
+use Rattle.std.specs.Prelude.{◌≡◌, ℤ, pos, negsuc, ◌≤ℤ◌, ◌<ℤ◌, Bool, true, false, ◌||◌, T, int_le, int_lt}
 use Rattle.std.proofs.Common.{refl, sym, subst}
 use Rattle.std.proofs.lemmas.Bool.{false_from_ne_true, le-leb, le-ltb, leb-false, leb-true, lt-ltb, ltb-false, true≢false}
 
@@ -56,3 +56,8 @@ same_test false false there back = refl
 pub by_test : {P : Type 0} (test : Bool) → (test ≡ true → P) → (test ≡ false → P) → P
 by_test true holds fails = holds refl
 by_test false holds fails = fails refl
+
+-- by which of two tests passes
+pub by_either : {P : Type 0} (a b : Bool) → (a || b) ≡ true → (a ≡ true → P) → (b ≡ true → P) → P
+by_either true b e first second = first refl
+by_either false b e first second = second e
