@@ -1,19 +1,19 @@
 -- How many columns lie from where one coordinate lands to where another does.
-use Rattle.std.proofs.Common.{◌≡◌, ◌≢◌, ℕ, zero, suc, ◌+◌, ◌-◌, ◌*◌, ◌/◌, ◌<◌, ◌≤◌, ℤ, pos, negsuc, ◌*ℤ◌, ◌≤ℤ◌, ◌<ℤ◌, Bool, true, false, ◌&&◌, ◌||◌, int_le, int_lt, cond, refl, ap, ◌∙◌, sym, subst, arith}
-use Rattle.std.specs.Prelude.{max, min}
+use Rattle.std.proofs.Common.{◌≡◌, ◌≢◌, ℕ, zero, suc, ◌+◌, ◌-◌, ◌*◌, ◌/◌, ◌<◌, ◌≤◌, ℤ, pos, negsuc, ◌*ℤ◌, ◌≤ℤ◌, ◌<ℤ◌, Bool, true, false, ◌||◌, int_le, int_lt, cond, refl, ap, ◌∙◌, sym, arith}
+use Rattle.std.specs.Prelude.{min}
 use Rattle.std.proofs.Math.Nat.{mul-le-mul_left, mul-le-mul_right, mul-div_cancel_left, div-mul-le_self, lt-div-mul-add, zero-div, add-mul}
 use Rattle.std.proofs.lemmas.Bool.{and_parts, false_from_ne_true}
 use Rattle.std.proofs.lemmas.Int.{ints, by_lt_z}
 use Rattle.std.proofs.lemmas.Nat.{le-div}
 use Rattle.mapping.proofs.FloorLemmas.{floor_is_greatest}
-use Rattle.mapping.proofs.IntTestLemmas.{int_le-true, int_le-false, int_le-from, int_lt-true, int_lt-false, int_le-not}
 use Rattle.mapping.specs.Floor.{floor_div}
 use Rattle.mapping.specs.Limits.{IsFrameSide}
 use Rattle.mapping.specs.Pixels.{count_indexes}
 use Rattle.mapping.specs.Surface.{placed}
 use Rattle.mapping.specs.Cells.{cells, count_of, is_away, lies_from_to, rounded_up}
 use Rattle.mapping.specs.CellLaws.{CellLaws}
-use Rattle.mapping.proofs.CountLemmas.{by_bool, count_at_most, count_between, count_nothing, pixels_few}
+use Rattle.mapping.proofs.CountLemmas.{count_at_most, count_between, count_nothing, pixels_few}
+use Rattle.mapping.specs.TestLaws.{int_le-false, int_le-not, int_le-true, int_lt-false, int_lt-not}
 
 -- a number that isn't below 0 has no multiple that is below 0
 below_not : (n : ℕ) (q : ℤ) (w side : ℕ) → 1 ≤ w → pos 0 ≤ℤ q → (q *ℤ pos side) ≤ℤ (negsuc n *ℤ pos w) → ⊥
@@ -124,13 +124,10 @@ pub by_away : {P : Type 0} (l r : ℤ) (side : ℕ) → (r <ℤ l → P) → (r 
 by_away l r side empty before behind near =
     by_lt_z r l empty (λ (order : l ≤ℤ r). by_lt_z r (pos 0) before (λ (reaches : pos 0 ≤ℤ r). by_lt_z l (pos side) (λ (g : l <ℤ pos side). near order reaches g) behind))
 
-not_less : (u v : ℤ) → v ≤ℤ u → int_lt u v ≡ false
-not_less u v h = false_from_ne_true (int_lt u v) (λ t. let k = int_lt-true u v t in omega (arith, ints, h, k))
-
 pub isnt_away : (l r : ℤ) (side : ℕ) → l ≤ℤ r → pos 0 ≤ℤ r → l <ℤ pos side → is_away l r side ≡ false
 isnt_away l r side a b c =
-    let empty : int_lt r l ≡ false = not_less r l a in
-    let before : int_lt r (pos 0) ≡ false = not_less r (pos 0) b in
+    let empty : int_lt r l ≡ false = int_lt-not r l a in
+    let before : int_lt r (pos 0) ≡ false = int_lt-not r (pos 0) b in
     let behind : int_le (pos side) l ≡ false = int_le-not (pos side) l (λ k. omega (arith, ints, k, c)) in
     rw (empty, before, behind) refl
 

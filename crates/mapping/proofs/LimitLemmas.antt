@@ -1,22 +1,16 @@
 -- Limits as facts and as tests.
-use Rattle.std.proofs.Common.{◌≡◌, ℕ, ◌≤◌, ℤ, pos, neg_ℤ, ◌≤ℤ◌, int_le, nat_le, true, ◌&&◌, arith}
-use Rattle.std.proofs.lemmas.Int.{ints}
+use Rattle.std.proofs.Common.{◌≡◌, ℕ, ◌≤◌, ℤ, pos, neg_ℤ, int_le, nat_le, true, ◌&&◌}
 use Rattle.std.proofs.lemmas.Bool.{and_parts, and_from, le-leb, leb-true}
 use Rattle.mapping.specs.Limits.{IsWithin, is_within, plane_limit, place_limit, surface_side_limit, frame_side_limit}
 use Rattle.mapping.specs.LimitTests.{TestsAreLimits}
-
-le_true : (a b : ℤ) → a ≤ℤ b → int_le a b ≡ true
-le_true a b h = grind (arith, ints)
-
-true_le : (a b : ℤ) → int_le a b ≡ true → a ≤ℤ b
-true_le a b h = grind (arith, ints)
+use Rattle.mapping.specs.TestLaws.{int_le-from, int_le-true}
 
 within_parts : (limit : ℕ) (v : ℤ) → is_within limit v ≡ true → IsWithin limit v
 within_parts limit v t =
-    let parts = and_parts (int_le (neg_ℤ (pos limit)) v) (int_le v (pos limit)) t in record { low = true_le _ _ parts.0; high = true_le _ _ parts.1 }
+    let parts = and_parts (int_le (neg_ℤ (pos limit)) v) (int_le v (pos limit)) t in record { low = int_le-true _ _ parts.0; high = int_le-true _ _ parts.1 }
 
 parts_within : (limit : ℕ) (v : ℤ) → IsWithin limit v → is_within limit v ≡ true
-parts_within limit v h = and_from (int_le (neg_ℤ (pos limit)) v) (int_le v (pos limit)) (le_true _ _ h.low) (le_true _ _ h.high)
+parts_within limit v h = and_from (int_le (neg_ℤ (pos limit)) v) (int_le v (pos limit)) (int_le-from _ _ h.low) (int_le-from _ _ h.high)
 
 both_within : (limit : ℕ) (v w : ℤ) → is_within limit v && is_within limit w ≡ true → IsWithin limit v × IsWithin limit w
 both_within limit v w t =
