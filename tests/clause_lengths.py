@@ -32,6 +32,9 @@ CLAUSE = re.compile(r"(?m)^ *(?:requires|ensures)\*?(?: \w+)? \{")
 
 FUNCTION = re.compile(r"(?m)^(?P<indent> *)(?:pub(?:\([^)]*\))? )?(?:const |unsafe )*fn (?P<name>\w+)")
 
+# What the lines in front of a function's body end with: its brace, an empty body, or the end of what has none.
+HEAD = re.compile(r"(?m)(\{\}|;|\{) *$")
+
 RECEIVER = re.compile(r"&?(?:'\w+ )?(?:mut )?self\b(?!\w)")
 
 
@@ -101,14 +104,20 @@ def words_between_commas(text, start):
     return [word.strip() for word in words if word.strip()]
 
 
+def end_of_function(code, start, indent):
+    """Where a function ends whose first line has this indent: with its body, with an empty one, or with its contract where it has none."""
+    head = HEAD.search(code, start)
+    end = re.compile(rf"(?m)^{indent}\}}").search(code, head.end()) if head and head[1] == "{" else head
+    return end.start() if end else len(code)
+
+
 def functions_in(text):
     """The functions of a file, those of traits too."""
     code = without_comments(text)
     for found in FUNCTION.finditer(code):
         start = start_of_parameters(code, found.end())
         parameters = [it for it in words_between_commas(code, start) if not RECEIVER.fullmatch(it)]
-        end = re.compile(rf"(?m)^{found['indent']}(?:\{{\}}$|\}})").search(code, start)
-        lines = code.count("\n", found.start(), end.start() if end else len(code)) + 1
+        lines = code.count("\n", found.start(), end_of_function(code, start, found["indent"])) + 1
         yield Function(found.start(), found["name"], len(parameters), lines)
 
 

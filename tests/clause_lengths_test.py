@@ -33,6 +33,13 @@ SOURCE = """impl<'a, T: Table<'a>> Machine<'a, T> {
     }
 
     fn named(&'a self) {}
+
+    fn declared(self)
+        ensures { one };
+
+    fn given(self)
+        ensures { one }
+    {}
 }
 
 fn free() -> u8 {
@@ -45,14 +52,14 @@ class Measures(unittest.TestCase):
     """What is measured of a text."""
 
     def test_a_clause_runs_to_its_closing_brace_and_its_lines_are_joined(self):
-        wanted = ["        requires { some { inner } }", "        ensures plays { first ≡ second }"]
-        self.assertEqual([clause for _, clause in clauses_in(SOURCE)], wanted)
+        wanted = ["requires { some { inner } }", "ensures plays { first ≡ second }", "ensures { one }", "ensures { one }"]
+        self.assertEqual([clause for _, clause in clauses_in(SOURCE)], [f"        {clause}" for clause in wanted])
 
     def test_parameters_are_counted_without_self_and_commas_in_types(self):
-        self.assertEqual([(it.name, it.parameters) for it in functions_in(SOURCE)], [("play", 3), ("named", 0), ("free", 0)])
+        self.assertEqual([(it.name, it.parameters) for it in functions_in(SOURCE)], [("play", 3), ("named", 0), ("declared", 0), ("given", 0), ("free", 0)])
 
     def test_a_function_s_lines_include_its_contract(self):
-        self.assertEqual([it.lines for it in functions_in(SOURCE)], [13, 1, 3])
+        self.assertEqual([it.lines for it in functions_in(SOURCE)], [12, 1, 2, 3, 3])
 
 
 @unittest.skipUnless(ARE_LIMITS_ON, "the limits don't hold yet")
