@@ -1,6 +1,6 @@
 #!/usr/bin/env python3
 """The gate: runs `rt ci`, beside it tries the edits of each crate as soon as the libraries below the crate are proved, and then runs the
-tests over the built programs, beside the edits that are left.
+tests over the built programs, beside the edits that are left. Which edits it tries depends on edits/judged.json (judged.py).
 
 `rt ci` proves crates in a chain, and leaves processors idle: the edits take those. They are the less urgent work, and give way to it.
 Where something was built before, `rt ci` has its old libraries back in the end; the edits then wait for that, and have them built anew.
@@ -21,6 +21,8 @@ import run
 
 # A crate is proved by this run, or an earlier one proved the same files on this machine.
 PROVED = re.compile(r"rt: (\w+) (?:proved|is kept: .*)")
+
+CI = ["rt", "ci"]
 
 # The memory that `rt ci` may take, in bytes.
 CI_MEMORY = 10_000_000_000
@@ -53,11 +55,17 @@ class Beside:
         self.begun += [self.pool.submit(self.try_next) for _ in ready]
 
     def try_next(self):
-        """Tries one of the parts that are ready."""
+        """Tries one of the parts that are ready, if there is one still."""
         with self.taking:
+            if not self.ready:
+                return []
             part = max(self.ready, key=lambda it: len(it.crate.below()))
             self.ready.remove(part)
         return self.trying(part)
+
+    def share(self, pool):
+        """Has another pool try what is ready too."""
+        self.begun += [pool.submit(self.try_next) for _ in self.ready]
 
     def follow(self, lines):
         """Passes on lines of `rt ci`, and begins what each lets begin."""
@@ -107,23 +115,33 @@ def say_status(clock, what, status):
     return status
 
 
-def in_turn(clock):
+def in_turn(clock, parts):
     """Runs the steps one after the other, and answers the status of the first that fails, else 0."""
-    steps = {"rt ci": lambda: subprocess.call(["rt", "ci"]), "edits": lambda: edits.try_all([]), "tests": run.run_all}
+    steps = {"rt ci": lambda: subprocess.call(CI), "edits": lambda: edits.try_parts(parts, []), "tests": run.run_all}
     return next((status for name, step in steps.items() if (status := say_status(clock, name, step()))), 0)
 
 
-def beside(clock, parts, wrong):
-    """Runs `rt ci` and then the tests with these parts beside them, and answers the status."""
-    ci = subprocess.Popen(["rt", "ci"], stdout=subprocess.PIPE, text=True, errors="replace", env={**os.environ, "PYTHONUNBUFFERED": "1"})
-    with ThreadPoolExecutor(edits.lanes(CI_MEMORY), initializer=lambda: os.setpriority(os.PRIO_PROCESS, threading.get_native_id(), NICENESS)) as pool:
+def lanes(number):
+    """What tries so many parts side by side, and gives way to other work."""
+    return ThreadPoolExecutor(number, initializer=lambda: os.setpriority(os.PRIO_PROCESS, threading.get_native_id(), NICENESS))
+
+
+def beside(clock, parts):
+    """Runs `rt ci` and then the tests with these parts beside them, and answers the status. Parts get the memory of `rt ci` when that has ended."""
+    ci = subprocess.Popen(CI, stdout=subprocess.PIPE, text=True, errors="replace", env={**os.environ, "PYTHONUNBUFFERED": "1"})
+    number = edits.lanes(CI_MEMORY)
+    with lanes(number) as pool, lanes(max(1, edits.rt.processors() - number)) as more:
         trying = Beside(parts, pool)
         trying.follow(ci.stdout)
-        status = say_status(clock, "rt ci", ci.wait()) or say_status(clock, "tests", run.run_all())
+        status = say_status(clock, "rt ci", ci.wait())
+        if not status and number < edits.lanes():
+            trying.share(more)
+        status = status or say_status(clock, "tests", run.run_all())
         if status:
+            more.shutdown(wait=False, cancel_futures=True)
             pool.shutdown(cancel_futures=True)
             return status
-        wrong += [f"{part.name} was not tried" for part in trying.waiting]
+        wrong = [f"{part.name} was not tried" for part in trying.waiting]
         return say_status(clock, "edits", edits.ended(parts, [*wrong, *(said for it in trying.begun for said in it.result())]))
 
 
@@ -131,11 +149,11 @@ def main():
     """Answers the status."""
     os.chdir(edits.ROOT)
     clock = Clock()
-    if is_built():
-        return in_turn(clock)
-    parts, wrong = edits.parts_of_crates([])
+    parts, wrong = edits.parts_on_record()
+    if wrong:
+        return edits.ended([], wrong)
     edits.rt.rtlib.guarded()
-    return beside(clock, parts, wrong)
+    return in_turn(clock, parts) if is_built() else beside(clock, parts)
 
 
 if __name__ == "__main__":

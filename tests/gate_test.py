@@ -68,6 +68,14 @@ class BesideTest(unittest.TestCase):
         in_order = ["high 1", "high 2", "middle 1", "low 1"]
         self.assertEqual(self.begun("== low", "rt: low proved", "rt: middle proved"), (in_order, []))
 
+    def test_another_pool_tries_what_is_ready(self):
+        pool, more = Pool(), Pool()
+        beside = Beside([Part("low 1", LOW), Part("low 2", LOW), Part("high 1", HIGH)], pool, lambda part: [part.name])
+        self.assertEqual(pool.given[0](), ["low 1"])
+        beside.share(more)
+        self.assertEqual([trying() for trying in [*more.given, *pool.given[1:]]], [["low 2"], []])
+        self.assertEqual(len(beside.begun), 3)
+
     def test_no_other_line_says_that_a_crate_is_proved(self):
         for line in ("rt: low NOT PROVED", "rt: low: its tests are proved", "fn low: proved", "rt: low proved?", "note: rt: low proved"):
             with self.subTest(line=line):
