@@ -2,7 +2,7 @@ use Rattle.std.proofs.Common.{◌≡◌, ℕ, ◌<◌, ◌≤◌, get_or}
 use Rattle.mapping.specs.declared.geometry.Colour.{Colour}
 use Rattle.mapping.specs.Mixes.{mixed_by}
 use Rattle.canvas.specs.MixRows.{mix_at}
-use Rattle.canvas.proofs.parts.mix_each.Given as goal
+use Rattle.canvas.proofs.parts.mix_all_by.Given as goal
 
 -- the colours so far are changed, and the others aren't yet
 abbrev pub invariant-loop-k : goal.invariant-loop-k
