@@ -1,6 +1,6 @@
 pub mod Floor
-pub mod Limits
 pub mod TestLaws
+pub mod Limits
 pub mod MapMode
 pub mod Plane
 pub mod Surface
