@@ -119,6 +119,13 @@ def parts_of_all(found):
     return sorted(parts, key=lambda part: -part.work()), [why for it in found for why in it.wrong]
 
 
+def parts_of_crates(names):
+    """The same of these crates, or of all, and then also what is wrong with the number of edits."""
+    found = bodies_of(names)
+    parts, wrong = parts_of_all(found)
+    return parts, [*wrong, *([] if names else lost(found))]
+
+
 def parts_on_record():
     """The parts of the edits that the gate tries, those with most work first, and what is wrong with the edits, their number or the record. Says of
     each crate which of its edits these are."""
@@ -188,18 +195,6 @@ def try_parts(parts, wrong):
     with ThreadPoolExecutor(lanes()) as pool:
         tried = list(pool.map(try_part, parts))
     return ended(parts, [*wrong, *(said for its in tried for said in its)])
-
-
-def try_all(names):
-    """Tries all edits of these crates, or of all, and answers the status."""
-    found = bodies_of(names)
-    parts, wrong = parts_of_all(found)
-    return try_parts(parts, [*wrong, *([] if names else lost(found))])
-
-
-def try_on_record():
-    """Tries what the gate tries, and answers the status."""
-    return try_parts(*parts_on_record())
 
 
 def put_on_record(bodies, entry):
@@ -282,7 +277,7 @@ def main():
         return try_each(asked.each)
     if asked.record:
         return record(asked.crates)
-    return try_all(asked.crates) if asked.all or asked.crates else try_on_record()
+    return try_parts(*(parts_of_crates(asked.crates) if asked.all or asked.crates else parts_on_record()))
 
 
 if __name__ == "__main__":

@@ -1,11 +1,17 @@
 #!/usr/bin/env python3
-"""The gate: runs `rt ci`, beside it tries the edits of each crate as soon as the libraries below the crate are proved, and then runs the
-tests over the built programs, beside the edits that are left. Which edits it tries depends on edits/judged.json (judged.py).
+"""The gate.
+
+    gate.py          proves what earlier runs on this machine didn't, and tries the edits that edits/judged.json leaves to try (judged.py)
+    gate.py --anew   proves everything, and tries every edit
+
+It runs `rt ci`, beside it tries the edits of each crate as soon as the libraries below the crate are proved, and then runs the
+tests over the built programs, beside the edits that are left.
 
 `rt ci` proves crates in a chain, and leaves processors idle: the edits take those. They are the less urgent work, and give way to it.
 Where something was built before, `rt ci` has its old libraries back in the end; the edits then wait for that, and have them built anew.
 """
 
+import argparse
 import os
 import pathlib
 import re
@@ -21,8 +27,6 @@ import run
 
 # A crate is proved by this run, or an earlier one proved the same files on this machine.
 PROVED = re.compile(r"rt: (\w+) (?:proved|is kept: .*)")
-
-CI = ["rt", "ci"]
 
 # The memory that `rt ci` may take, in bytes.
 CI_MEMORY = 10_000_000_000
@@ -115,9 +119,9 @@ def say_status(clock, what, status):
     return status
 
 
-def in_turn(clock, parts):
+def in_turn(clock, words, parts):
     """Runs the steps one after the other, and answers the status of the first that fails, else 0."""
-    steps = {"rt ci": lambda: subprocess.call(CI), "edits": lambda: edits.try_parts(parts, []), "tests": run.run_all}
+    steps = {"rt ci": lambda: subprocess.call(words), "edits": lambda: edits.try_parts(parts, []), "tests": run.run_all}
     return next((status for name, step in steps.items() if (status := say_status(clock, name, step()))), 0)
 
 
@@ -126,9 +130,9 @@ def lanes(number):
     return ThreadPoolExecutor(number, initializer=lambda: os.setpriority(os.PRIO_PROCESS, threading.get_native_id(), NICENESS))
 
 
-def beside(clock, parts):
+def beside(clock, words, parts):
     """Runs `rt ci` and then the tests with these parts beside them, and answers the status. Parts get the memory of `rt ci` when that has ended."""
-    ci = subprocess.Popen(CI, stdout=subprocess.PIPE, text=True, errors="replace", env={**os.environ, "PYTHONUNBUFFERED": "1"})
+    ci = subprocess.Popen(words, stdout=subprocess.PIPE, text=True, errors="replace", env={**os.environ, "PYTHONUNBUFFERED": "1"})
     number = edits.lanes(CI_MEMORY)
     with lanes(number) as pool, lanes(max(1, edits.rt.processors() - number)) as more:
         trying = Beside(parts, pool)
@@ -146,14 +150,18 @@ def beside(clock, parts):
 
 
 def main():
-    """Answers the status."""
+    """Answers the status. What is wrong with the edits or their record is said before anything runs."""
+    words = argparse.ArgumentParser(description=__doc__, formatter_class=argparse.RawDescriptionHelpFormatter)
+    words.add_argument("--anew", action="store_true")
+    is_anew = words.parse_args().anew
     os.chdir(edits.ROOT)
     clock = Clock()
-    parts, wrong = edits.parts_on_record()
+    parts, wrong = edits.parts_of_crates([]) if is_anew else edits.parts_on_record()
     if wrong:
         return edits.ended([], wrong)
     edits.rt.rtlib.guarded()
-    return in_turn(clock, parts) if is_built() else beside(clock, parts)
+    ci = ["rt", "ci", *["--anew"] * is_anew]
+    return in_turn(clock, ci, parts) if is_built() else beside(clock, ci, parts)
 
 
 if __name__ == "__main__":
