@@ -145,7 +145,7 @@ class Trying:
         """Judges these edits, those of functions in rounds, and gives what came of each and what else was wrong."""
         whole = None
         for this in rounds_of([edit for edit in edits if not edit.is_alone], self.sources):
-            whole = beside(this, whole.edits if whole else [])
+            whole = beside(this, whole.edits if whole else [], self.sources)
             yield from self.together(this.edits, whole)
         for edit in edits:
             if edit.is_alone:
