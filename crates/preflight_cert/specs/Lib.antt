@@ -1,6 +1,7 @@
 pub mod Outlines
 pub mod FigureLines
 pub mod Rectangles
+pub mod StrokedOutline
 pub mod Shape
 pub mod Paint
 pub mod Mixing

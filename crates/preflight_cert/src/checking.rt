@@ -79,7 +79,6 @@ fn check_opened<'a>(
     let totals = match check_steps(
         &mut opened.source(),
         &mut machine,
-        place,
         certificate.entries,
         Notes::of(opened.notes),
     ) {

@@ -80,13 +80,7 @@ pub(crate) fn prepare_opened(
     let mut machine = Machine::new(alloc, &opened, place, table);
     let mut entries = Vec::new(alloc);
     let noted = Notes::of(opened.notes);
-    let totals = match gather(
-        &mut opened.source(),
-        &mut machine,
-        place,
-        noted,
-        &mut entries,
-    ) {
+    let totals = match gather(&mut opened.source(), &mut machine, noted, &mut entries) {
         Ok(totals) => totals,
         Err(refusal) => return Err(refusal),
     };
