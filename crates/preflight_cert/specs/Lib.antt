@@ -35,5 +35,6 @@ pub mod Reached
 pub mod PreparationLaws
 pub mod Gathered
 pub mod StoppedRecords
+pub mod OpenedRecords
 pub mod ClearedFacts
 pub mod ObjectOrder
