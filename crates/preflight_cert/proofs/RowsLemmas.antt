@@ -1,5 +1,5 @@
 -- Layers and drawings on rows that are laid together.
-use Rattle.std.proofs.Common.{◌≡◌, ℕ, zero, suc, ◌+◌, ◌*◌, ◌≤◌, Bool, List, [], ◌∷◌, ◌++◌, length, refl, sym, ap, ◌∙◌, arith}
+use Rattle.std.proofs.Common.{◌≡◌, ℕ, suc, ◌+◌, List, [], ◌∷◌, ◌++◌, length, refl, sym, ap, ◌∙◌, arith}
 use Rattle.mapping.specs.Image.{Image}
 use Rattle.mapping.specs.Pixels.{map_indexed, repainted}
 use Rattle.mapping.specs.Surface.{Surface}

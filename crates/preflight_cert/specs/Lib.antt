@@ -1,6 +1,7 @@
 pub mod Outlines
 pub mod FigureLines
 pub mod Rectangles
+pub mod StrokedOutline
 pub mod Shape
 pub mod Paint
 pub mod Mixing
@@ -34,5 +35,6 @@ pub mod Reached
 pub mod PreparationLaws
 pub mod Gathered
 pub mod StoppedRecords
+pub mod OpenedRecords
 pub mod ClearedFacts
 pub mod ObjectOrder
