@@ -132,9 +132,9 @@ def lanes(number):
 
 def beside(clock, words, parts):
     """Runs `rt ci` and then the tests with these parts beside them, and answers the status. Parts get the memory of `rt ci` when that has ended."""
-    ci = subprocess.Popen(words, stdout=subprocess.PIPE, text=True, errors="replace", env={**os.environ, "PYTHONUNBUFFERED": "1"})
+    how = {"stdout": subprocess.PIPE, "text": True, "errors": "replace", "env": {**os.environ, "PYTHONUNBUFFERED": "1"}}
     number = edits.lanes(CI_MEMORY)
-    with lanes(number) as pool, lanes(max(1, edits.rt.processors() - number)) as more:
+    with subprocess.Popen(words, **how) as ci, lanes(number) as pool, lanes(max(1, edits.rt.processors() - number)) as more:
         trying = Beside(parts, pool)
         trying.follow(ci.stdout)
         status = say_status(clock, "rt ci", ci.wait())
