@@ -1,12 +1,12 @@
 -- The pixels of lines lie in each box that has the lines.
-use Rattle.std.proofs.Common.{◌≡◌, ℕ, zero, suc, ◌+◌, ◌*◌, ◌%◌, ◌≤◌, ℤ, pos, ◌+ℤ◌, ◌-ℤ◌, ◌*ℤ◌, ◌≤ℤ◌, ◌<ℤ◌, Bool, true, false, ◌&&◌, ◌||◌, ◌==◌, not, int_le, int_lt, cond, List, [], ◌∷◌, inl, inr, ◌⊎◌, refl, ap, ◌∙◌, sym, subst, arith}
-use Rattle.std.specs.List.{All, list_any}
+use Rattle.std.proofs.Common.{◌≡◌, ℕ, ◌+◌, ◌*◌, ◌%◌, ℤ, pos, ◌+ℤ◌, ◌-ℤ◌, ◌*ℤ◌, ◌≤ℤ◌, ◌<ℤ◌, Bool, true, false, ◌||◌, ◌==◌, not, int_le, int_lt, List, [], ◌∷◌, inl, inr, refl, ap, ◌∙◌, sym, arith}
+use Rattle.std.specs.List.{All}
 use Rattle.std.proofs.lemmas.Bool.{and_parts, and_from, eq-eqb, eqb-true, false_from_ne_true, true≢false}
 use Rattle.std.proofs.lemmas.Int.{ints, by_lt_z}
 use Rattle.std.proofs.lemmas.List.Elements.{All-head, All-tail, All-weaker}
 use Rattle.mapping.specs.declared.geometry.Point.{Point}
 use Rattle.mapping.specs.declared.geometry.Rect.{Rect}
-use Rattle.span_fill.specs.Fill.{across, crossed_downwards, crossed_upwards, crossing_dividend, down, has_row, in_fill, is_crossed, is_inside}
+use Rattle.span_fill.specs.Fill.{crossed_downwards, crossed_upwards, crossing_dividend, down, has_row, in_fill, is_crossed, is_inside}
 use Rattle.span_fill.specs.Strokes.{in_stroke, is_along, is_steep, is_towards, on_line}
 use Rattle.span_fill.specs.declared.fill_rule.FillRule.{FillRule}
 use Rattle.span_fill.specs.declared.fill_rule.FillRule.TheVariants.{EvenOdd, NonZero}
@@ -16,7 +16,7 @@ use Rattle.span_fill.proofs.EdgeLemmas.{int_le-true, int_lt-true, int_le-from}
 use Rattle.span_fill.specs.RowLaws.{LiesBetween}
 use Rattle.span_fill.proofs.RowLawLemmas.{row_law}
 use Rattle.span_fill.proofs.LineLaw.{by_axis, on_flat, on_steep}
-use Rattle.span_fill.proofs.Products.{add_mul, mul_add, mul_comm_ℤ, mul_one, mul_order, mul_sub, mul_twice, sub_mul, twice_mul}
+use Rattle.span_fill.proofs.Products.{mul_add, mul_comm_ℤ, mul_one, mul_order, mul_sub, mul_twice, sub_mul, twice_mul}
 use Rattle.span_fill.proofs.StepLemmas.{along_parts, by_towards}
 use Rattle.mapping.specs.Boxes.{HasPoint}
 use Rattle.mapping.specs.PixelBoxes.{BoxHasPixel}

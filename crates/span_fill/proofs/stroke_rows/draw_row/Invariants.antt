@@ -1,5 +1,5 @@
 -- So far the columns and the strips one row on are those of the strips before.
-use Rattle.std.proofs.Common.{◌≡◌, ℕ, ◌+◌, ◌<◌, ◌≤◌, ℤ, pos, take, vec_len, vec_capacity}
+use Rattle.std.proofs.Common.{◌≡◌, ℕ, ◌+◌, ◌<◌, ◌≤◌, pos, take, vec_len, vec_capacity}
 use Rattle.std.specs.List.{All}
 use Rattle.span_fill.specs.Spans.{in_spans}
 use Rattle.span_fill.specs.StrokeRows.{HaveSameFrom, IsActive, strips_have}

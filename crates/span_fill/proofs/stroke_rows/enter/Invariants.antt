@@ -1,5 +1,5 @@
 -- What begins is behind what is there, and what waits still waits.
-use Rattle.std.proofs.Common.{◌≡◌, ℕ, ◌+◌, ◌-◌, ◌≤◌, ◌||◌, ℤ, drop, length, vec_len, vec_capacity}
+use Rattle.std.proofs.Common.{◌≡◌, ◌+◌, ◌-◌, ◌≤◌, drop, length, vec_len, vec_capacity}
 use Rattle.std.specs.List.{All}
 use Rattle.span_fill.specs.StrokeRows.{HaveTogether, IsActive, IsWaiting}
 use Rattle.span_fill.proofs.stroke_rows.enter.Given as goal
