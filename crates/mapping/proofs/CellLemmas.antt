@@ -12,7 +12,8 @@ use Rattle.mapping.specs.Pixels.{count_indexes}
 use Rattle.mapping.specs.Surface.{placed}
 use Rattle.mapping.specs.Cells.{cells, count_of, is_away, lies_from_to, rounded_up}
 use Rattle.mapping.specs.CellLaws.{CellLaws}
-use Rattle.mapping.proofs.CountLemmas.{count_at_most, count_between, count_nothing, pixels_few}
+use Rattle.mapping.proofs.CountLemmas.{count_between, pixels_few}
+use Rattle.mapping.specs.IndexLaws.{count_indexes_most, count_indexes_none}
 use Rattle.mapping.specs.TestLaws.{int_le-false, int_le-not, int_le-true, int_lt-false, int_lt-not}
 
 -- a number that isn't below 0 has no multiple that is below 0
@@ -71,14 +72,14 @@ none_before : (l r : ℤ) (w side : ℕ) → 1 ≤ side → r <ℤ pos 0 → cou
 none_before l r zero side one h = refl
 none_before l r (suc w) side one h =
     let before = lands_before r (suc w) side one (omega arith) h in
-    count_nothing (lies_from_to l r (suc w) side) 0 (suc w)
-    (λ x small. false_from_ne_true _ (λ t. let high = (span_parts l r (suc w) side x t).1 in omega (arith, ints, high, before)))
+    count_indexes_none (lies_from_to l r (suc w) side) 0 (suc w)
+    (λ x low small. false_from_ne_true _ (λ t. let high = (span_parts l r (suc w) side x t).1 in omega (arith, ints, high, before)))
 
 none_behind : (l r : ℤ) (w side : ℕ) → 1 ≤ side → pos side ≤ℤ l → count_indexes (lies_from_to l r w side) 0 w ≡ 0
 none_behind l r w side one h =
     let behind = lands_behind l w side one h in
-    count_nothing (lies_from_to l r w side) 0 w
-    (λ x small. false_from_ne_true _ (λ t. let low = (span_parts l r w side x t).0 in omega (arith, ints, low, behind, small)))
+    count_indexes_none (lies_from_to l r w side) 0 w
+    (λ x first small. false_from_ne_true _ (λ t. let low = (span_parts l r w side x t).0 in omega (arith, ints, low, behind, small)))
 
 -- the first column is not before where l lands, or column 0
 first_from : (l : ℤ) (w side x : ℕ) → 1 ≤ side → placed l w side ≤ℤ pos x → count_of l * w / side ≤ x
@@ -110,7 +111,7 @@ floors_apart m n w side one h =
 -- where the box isn't away
 near_few : (l r : ℤ) (w side : ℕ) → 1 ≤ side → l ≤ℤ r → pos 0 ≤ℤ r → l <ℤ pos side → count_indexes (lies_from_to l r w side) 0 w ≤ min w (rounded_up ((min (count_of r) side - count_of l) * w) side + 1)
 near_few l r w side one order reaches before =
-    let all = count_at_most (lies_from_to l r w side) 0 w in
+    let all = count_indexes_most (lies_from_to l r w side) 0 w in
     let a : ℕ = count_of l * w / side in
     let b : ℕ = min (count_of r) side * w / side in
     let between = count_between (lies_from_to l r w side) (count_of l * w / side) (min (count_of r) side * w / side) 0 w

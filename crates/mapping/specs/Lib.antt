@@ -12,6 +12,7 @@ pub mod PlaceOf
 pub mod MapSettings
 pub mod PlacingLaws
 pub mod Pixels
+pub mod IndexLaws
 pub mod Mixes
 pub mod Boxes
 pub mod BoxLaws

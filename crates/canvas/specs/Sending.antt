@@ -1,9 +1,15 @@
--- A text on its way to a writer, one part after another.
-use Rattle.std.proofs.Common.{◌≡◌, ℕ, List, [], ◌++◌, Option, Some, None, refl, sym, ◌∙◌, ap, subst}
+-- A text on its way to a writer: what was sent is a front of it, and the rest is left.
+use Rattle.std.specs.Prelude.{◌≡◌, ℕ, List, [], ◌++◌, Option, Some, None}
+use Rattle.std.specs.Io.KnownBytes.{Appends, Keeps}
+use Rattle.std.proofs.Common.{refl, sym, ◌∙◌, ap, subst}
 use Rattle.std.proofs.lemmas.List.{append_assoc, append-nil}
-use Rattle.std.specs.Io.KnownBytes.{Appends}
 use Rattle.canvas.specs.Ppm.{AppendsFront}
-use Rattle.listing.specs.Sending.{Sending}
+
+-- known bytes grow by a front of the text, and the rest of it is left
+pub record Sending (old new : Option (List ℕ)) (text rest : List ℕ) : Type 0 where
+  pub sent : List ℕ
+  pub front : text ≡ sent ++ rest
+  pub appended : Appends old new sent
 
 -- nothing was sent yet
 Appends-nil : (known : Option (List ℕ)) → Appends known known []
@@ -20,6 +26,12 @@ Appends-append (Some xs) None new first second p q = absurd p
 Appends-append (Some xs) (Some ys) None first second p q = absurd q
 Appends-append (Some xs) (Some ys) (Some zs) first second p q = q ∙ ap (λ s. s ++ second) p ∙ append_assoc xs first second
 
+Appends-keeps : (old mid new : Option (List ℕ)) (first : List ℕ) → Appends old mid first → Keeps mid new → Appends old new first
+Appends-keeps None mid new first p q = tt
+Appends-keeps (Some xs) None new first p q = absurd p
+Appends-keeps (Some xs) (Some ys) None first p q = absurd q
+Appends-keeps (Some xs) (Some ys) (Some zs) first p q = q ∙ p
+
 -- a writer took the first bytes of the rest
 pub sending_more : {old mid new : Option (List ℕ)} {text rest : List ℕ} (next left : List ℕ) → Sending old mid text rest → rest ≡ next ++ left → Appends mid new next → Sending old new text left
 sending_more {old} {mid} {new} next left s e a = record {
@@ -27,6 +39,10 @@ sending_more {old} {mid} {new} next left s e a = record {
   front = s.front ∙ ap (λ r. s.sent ++ r) e ∙ sym (append_assoc s.sent next left);
   appended = Appends-append old mid new s.sent next s.appended a;
 }
+
+-- a writer took nothing
+pub sending_kept : {old mid new : Option (List ℕ)} {text rest : List ℕ} → Sending old mid text rest → Keeps mid new → Sending old new text rest
+sending_kept {old} {mid} {new} s k = record { sent = s.sent; front = s.front; appended = Appends-keeps old mid new s.sent s.appended k }
 
 -- nothing is left
 pub sending_all : {old new : Option (List ℕ)} {text : List ℕ} → Sending old new text [] → Appends old new text
