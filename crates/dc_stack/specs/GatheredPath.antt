@@ -1,15 +1,16 @@
 -- The value of a path as a machine gathers it.
-use Rattle.std.specs.Prelude.{◌≡◌, ◌≢◌, ◌⊎◌, ⊤, ℕ, ◌<◌, ◌≤◌, Option, Some, None, Result, Ok, Err, Bool, true, false, List, [], length, vec_capacity}
+use Rattle.std.specs.Prelude.{◌≡◌, ◌≢◌, ◌⊎◌, ℕ, ◌+◌, ◌<◌, ◌≤◌, Option, Some, None, Result, Ok, Err, Bool, true, false, List, [], length, vec_capacity}
 use Rattle.std.specs.Option.{option_map, option_or}
-use Rattle.mapping.specs.Boxes.{IsBoxOf}
 use Rattle.mapping.specs.Plane.{MapNumbers}
 use Rattle.mapping.specs.Surface.{Surface}
 use Rattle.mapping.specs.declared.geometry.Point.{Point}
+use Rattle.mapping.specs.declared.geometry.Rect.{Rect}
 use Rattle.mapping.specs.declared.page_map.PageMap.{PageMap}
 use Rattle.draw_ops.specs.declared.fault.Fault.{Fault}
 use Rattle.draw_ops.specs.declared.fault.Fault.TheVariants.{OutOfMemory, Record}
 use Rattle.draw_ops.specs.declared.record_fault.RecordFault.{RecordFault}
 use Rattle.dc_stack.specs.Drawing.{points_of_lists}
+use Rattle.dc_stack.specs.Extents.{IsExtent}
 use Rattle.dc_stack.specs.Figures.{all_figures, points_gone_on, points_of_figures}
 use Rattle.dc_stack.specs.Mapped.{mapped_list, mapped_point}
 use Rattle.dc_stack.specs.OperationFault.{off_plane_fault}
@@ -76,10 +77,10 @@ pub record IsGathered (path : GatheredPath) : Type 0 where
 abbrev pub gathered_points : List Piece → List Point
 gathered_points pieces = points_of_figures (all_figures (figures_of pieces))
 
--- all points land on a surface, and the bounds are the least box around them on the plane
+-- all points land on a surface, and the bounds are their extent on the plane
 pub record LandsInside (s : Surface) (path : GatheredPath) : Type 0 where
   pub pieces : AllLandOn s path.pieces.items
-  pub least : IsBoxOf path.bounds (gathered_points path.pieces.items)
+  pub least : IsExtent path.bounds (gathered_points path.pieces.items)
 
 -- paths that differ in their room alone
 pub record IsSamePath (old new : GatheredPath) : Type 0 where
@@ -98,21 +99,36 @@ pub record WantsPieceRoom (first : Option RecordFault) (fault : Fault) (Lacks : 
   pub memory : fault ≡ OutOfMemory
   pub lacks : Lacks
 
--- an addition is accepted where it has no fault, and refused by its first fault, or for want of memory
-abbrev pub AnswersAddition : Result ⊤ Fault → Option RecordFault → Type 0 → Type 0
-AnswersAddition (Ok done) first Lacks = first ≡ None
-AnswersAddition (Err fault) first Lacks = (option_map Record first ≡ Some fault) ⊎ WantsPieceRoom first fault Lacks
+-- there is no fault, and this is the extent of the points
+pub record IsAccepted (told : Option Rect) (points : List Point) (first : Option RecordFault) : Type 0 where
+  pub no_fault : first ≡ None
+  pub extent : IsExtent told points
+
+-- an addition of points is accepted where it has no fault, and refused by its first fault, or for want of memory
+abbrev pub AnswersAddition : Result (Option Rect) Fault → List Point → Option RecordFault → Type 0 → Type 0
+AnswersAddition (Ok extent) points first Lacks = IsAccepted extent points first
+AnswersAddition (Err fault) points first Lacks = (option_map Record first ≡ Some fault) ⊎ WantsPieceRoom first fault Lacks
+
+-- the answer to so many pieces more of these points
+abbrev pub AddsPieces : ℕ → List Point → GatheredPath → Surface → Result (Option Rect) Fault → Type 0
+AddsPieces more points old s result =
+    let count = length old.pieces.items + more in
+    AnswersAddition result points (addition_fault count points s) (vec_capacity old.pieces < count)
 
 -- what lists that are figures of their own do to a path: lines of one list go on with it
 abbrev pub after_lists : Joining → List (List Point) → Path → Path
 after_lists joining lists path = with_figures (with_lists joining lists) (λ figures. piece_for (points_of_lists lists)) path
 
 -- the answer to lines from a position through points of the page
-abbrev pub AnswersLines : MapNumbers → Point → List Point → GatheredPath → Surface → Result ⊤ Fault → Type 0
+abbrev pub AnswersLines : MapNumbers → Point → List Point → GatheredPath → Surface → Result (Option Rect) Fault → Type 0
 AnswersLines map position points old s result =
     let start = mapped_point map position in
     let through = mapped_list map points in
     let path = path_of old in
-    AnswersAddition result
-    (option_or (pieces_fault (piece_count (after_lines start through path))) (off_plane_fault (points_if_open path (λ figures. points_gone_on start figures.current through)) s))
-    (vec_capacity old.pieces < piece_count (after_lines start through path))
+    let added = points_if_open path (λ figures. points_gone_on start figures.current through) in
+    let count = piece_count (after_lines start through path) in
+    AnswersAddition result added (addition_fault count added s) (vec_capacity old.pieces < count)
+
+-- a path's points land on a surface still
+abbrev pub StaysInside : Surface → GatheredPath → GatheredPath → Type 0
+StaysInside s old new = LandsInside s old → LandsInside s new

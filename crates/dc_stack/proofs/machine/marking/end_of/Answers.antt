@@ -1,7 +1,7 @@
 use Rattle.std.proofs.Common.{arith}
 use Rattle.point_views.specs.Points.{points_of}
 use Rattle.dc_stack.proofs.ListLemmas.{end_at, has_points}
-use Rattle.dc_stack.proofs.machine.drawing.end_of.Goals as goal
+use Rattle.dc_stack.proofs.machine.marking.end_of.Goals as goal
 
 pub returns : goal.returns
 returns c =
