@@ -19,7 +19,6 @@ OTHERS = {
     "#": "a sign of pictures",
     "Display": "a trait of the toolchain's",
     "assert_eq!": "a macro of the toolchain's",
-    "Err": "a variant of the toolchain's",
     "Global": "a type of the toolchain's",
     "MPC1": "bytes of a certificate",
     "Ok": "a variant of the toolchain's",

@@ -18,7 +18,8 @@ use Rattle.preflight_cert.specs.Preparation.{Prepares, PreparesIfOpened, Prepare
 use Rattle.preflight_cert.specs.Run.{Refused}
 use Rattle.preflight_cert.specs.declared.certificate.Certificate.{Certificate}
 use Rattle.preflight_cert.specs.declared.refusal.Refusal.{Refusal}
-use Rattle.commands.specs.ClearedFiles.{IsWithinBound, RefusesSurface}
+use Rattle.player.specs.Bounds.{IsWithinBound}
+use Rattle.commands.specs.ClearedFiles.{RefusesSurface}
 use Rattle.preflight_cert.specs.Reached.{OpensBoth}
 
 -- a fault is no certificate
@@ -108,16 +109,6 @@ prepared_within file width height bytes prepared wide high c read =
     let is_wide : c.max_width ≡ width = prepared_wide file width height bytes prepared (certificate_of c) read wide.within in
     let is_high : c.max_height ≡ height = prepared_high file width height bytes prepared (certificate_of c) read high.within in
     record { wide = omega (arith, is_wide); high = omega (arith, is_high) }
-
--- a surface that isn't above the bound is refused for memory alone
-pub never_above : (c : Certificate) (width height : ℕ) (fault : Fault) → IsWithinBound c width height → RefusesSurface c width height fault
-    → (fault ≡ OutOfMemory → ⊥) → ⊥
-never_above c width height fault within (inr want) other = other want
-never_above c width height fault within (inl above) other = go above.larger
-  where
-    go : (c.max_width < width ⊎ c.max_height < height) → ⊥
-    go (inl less) = let h = within.wide in absurd (omega (arith, less, h))
-    go (inr less) = let h = within.high in absurd (omega (arith, less, h))
 
 -- of sides that a surface may have, the refusal is the run's
 pub run_refused : (file : List ℕ) (width height : ℕ) → IsSurfaceSide width → IsSurfaceSide height → (r : Refusal)

@@ -1,4 +1,3 @@
-pub mod WorkedRows
 pub mod StepLemmas
 pub mod AfterLemmas
 pub mod ClearedLemmas
@@ -6,3 +5,4 @@ pub mod WholeSurfaceLemmas
 pub mod BandLemmas
 pub mod BandTextLemmas
 pub mod ClearedBandLemmas
+pub mod ReadyLemmas

@@ -28,3 +28,4 @@ pub mod ObjectLemmas
 pub mod RowsLemmas
 pub mod RefusalLemmas
 pub mod MissedLemmas
+mod WorkedRows
