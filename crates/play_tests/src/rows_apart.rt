@@ -8,7 +8,8 @@ use dc_stack::{MAX_PIECES, Machine};
 use mapping::{Colour, Place};
 use meta_headers::open_file;
 use object_tables::LowestFree;
-use player::{DrawingRoom, play_on};
+use painting::DrawingRoom;
+use player::play_on;
 use std::alloc::Global;
 use std::test::Fail;
 

@@ -26,27 +26,6 @@ pub record WantsMemory (file : List ℕ) (r : Refusal) : Type 0 where
   pub opens : Opens file
   pub wants : IsWantOfMemory r
 
--- the canvas holds rows of a surface
-pub record HoldsRows (canvas : CanvasState) (s : Surface) : Type 0 where
-  pub width : canvas.width ≡ s.width
-  pub within : canvas.first + canvas.rows ≤ s.height
-
--- the canvas holds the same rows of the same surface
-pub record SameRows (old new : CanvasState) : Type 0 where
-  pub width : new.width ≡ old.width
-  pub first : new.first ≡ old.first
-  pub rows : new.rows ≡ old.rows
-  pub most : new.most ≡ old.most
-
--- layers were drawn: on the image of the rows held, and their pixels there on the count
-pub record DrawsLayers (layers : List Layer) (s : Surface) (old new : CanvasState) : Type 0 where
-  pub image : image_of new ≡ apply_all layers s old.first (image_of old)
-  pub writes : new.writes ≡ old.writes + writes_of_layers layers s old.first old.rows
-
--- a drawing was drawn, if there is one
-abbrev pub DrawsDrawing : Option Drawing → Surface → CanvasState → CanvasState → Type 0
-DrawsDrawing drawing s old new = DrawsLayers (layers_if_drawn drawing) s old new
-
 -- all steps of the content were played from one machine to another, and none has a fault
 pub record RunsThrough (content : Content) (start end : MachineState) : Type 0 where
   pub unstopped : stop_of content start.state start.surface ≡ None

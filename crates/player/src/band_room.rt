@@ -5,11 +5,11 @@ ghost use Rattle.meta_headers.specs.OpenedOf.{opened_of};
 ghost use Rattle.meta_headers.specs.Opening.{surface_for};
 ghost use Rattle.player.specs.Bands.{IsReadyToPlay};
 
-use crate::room::DrawingRoom;
 use canvas::Canvas;
 use dc_stack::Machine;
 use mapping::{Colour, Place};
 use object_tables::FileTable;
+use painting::DrawingRoom;
 use preflight_cert::Cleared;
 use span_fill::OutOfMemory;
 use std::alloc::Global;

@@ -11,12 +11,12 @@ ghost use Rattle.player.specs.Counts.{CountsFile, HasRoomForFile};
 
 use crate::band_room::{BandRoom, band_room};
 use crate::cleared_play::play_rows;
-use crate::room::DrawingRoom;
 use canvas::{Canvas, WriteFault, write_header};
 use dc_stack::Machine;
 use draw_ops::{Fault, content_law};
 use mapping::Colour;
 use object_tables::Table;
+use painting::DrawingRoom;
 use preflight_cert::{Cleared, answer_law, rows_law, size_law};
 use std::alloc::Global;
 use std::io::Write;

@@ -10,12 +10,12 @@ ghost use Rattle.player.specs.Bands.{IsWriteFault, WritesFrontTo, WritesRows, Wr
 
 use crate::band_room::{BandRoom, band_room};
 use crate::bands::show_band;
-use crate::room::DrawingRoom;
 use canvas::{Canvas, FaultCount, WriteFault, write_header_to};
 use dc_stack::Machine;
 use draw_ops::{Fault, content_law};
 use mapping::Colour;
 use object_tables::Table;
+use painting::DrawingRoom;
 use preflight_cert::{Cleared, answer_law, rows_law, size_law};
 use std::alloc::Global;
 

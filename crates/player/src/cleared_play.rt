@@ -13,16 +13,17 @@ ghost use Rattle.preflight_cert.specs.Answer.{bound_of};
 ghost use Rattle.preflight_cert.specs.CertificateOf.{certificate_of};
 ghost use Rattle.player.specs.ClearedPlay.{AreRunWrites, IsTooLarge, IsCanvasWithin, LeavesRun};
 ghost use Rattle.player.specs.Counts.{CountsFile, HasRoomForFile};
-ghost use Rattle.player.specs.Plays.{HoldsRows, PlaysFile, PlaysOpened, SameRows};
+ghost use Rattle.painting.specs.Drawn.{HoldsRows, SameRows};
+ghost use Rattle.player.specs.Plays.{PlaysFile, PlaysOpened};
 ghost use Rattle.preflight_cert.specs.NeedLaws.{HasRoomFor};
 
 use crate::playing::play_records;
-use crate::room::DrawingRoom;
 use canvas::Canvas;
 use dc_stack::Machine;
 use draw_ops::Fault;
 use mapping::Place;
 use object_tables::{FileTable, Table};
+use painting::DrawingRoom;
 use preflight_cert::{Cleared, answer_law, size_law};
 use std::alloc::Global;
 

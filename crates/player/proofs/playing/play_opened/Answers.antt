@@ -1,6 +1,6 @@
 use Rattle.std.proofs.Common.{◌≡◌, arith, rules}
 use Rattle.player.specs.After.{HasLinesForRecords, HasRoomForRecords}
-use Rattle.player.specs.Plays.{HoldsRows}
+use Rattle.painting.specs.Drawn.{HoldsRows}
 use Rattle.player.proofs.AfterLemmas.{lines_for_records}
 use Rattle.player.proofs.playing.play_opened.Goals as goal
 

@@ -7,7 +7,7 @@ use Rattle.player.specs.Leaving.{left_by}
 use Rattle.preflight_cert.specs.After.{needs_after, state_after}
 use Rattle.preflight_cert.specs.Apply.{rows_after}
 use Rattle.preflight_cert.specs.Drawings.{drawings_of}
-use Rattle.player.specs.Plays.{HoldsRows, SameRows}
+use Rattle.painting.specs.Drawn.{HoldsRows, SameRows}
 use Rattle.preflight_cert.specs.Stop.{broken_behind, stop_of, stopped}
 use Rattle.preflight_cert.specs.Writes.{writes_of_drawings}
 use Rattle.player.proofs.playing.play_steps.Given as goal
