@@ -10,6 +10,7 @@ ghost use Rattle.preflight_cert.specs.Refusal.{IsWantOfMemory, TellsNumber};
 use crate::budget::drawing_budget;
 use crate::entry::Entry;
 use crate::refusal::Refusal;
+use crate::stepping::play_next;
 use crate::walk::Totals;
 use crate::writing::put_entry;
 use dc_stack::{Draw, Machine};
@@ -41,16 +42,12 @@ pub(crate) fn gather<'a, S: OpSource<'a>, T: Table<'a>>(
     let mut step: Step<'a> = Step::without_effect();
     let mut drawn: Option<Draw<'a>> = None;
     loop {
-        let is_put = match source.next_into(&mut step) {
-            Ok(is_put) => is_put,
-            Err(fault) => return Err(Refusal::at(totals.records, fault)),
+        let is_played = match play_next(source, machine, totals.records, &mut step, &mut drawn) {
+            Ok(is_played) => is_played,
+            Err(refusal) => return Err(refusal),
         };
-        if !is_put {
+        if !is_played {
             return Ok(totals);
-        }
-        match machine.step_into(&step.op, &mut drawn) {
-            Ok(()) => {}
-            Err(fault) => return Err(Refusal::of_step(step.number, fault)),
         }
         match add_entry(step.number, &drawn, machine, entries) {
             Ok(more) => totals.writes += more,
