@@ -3,7 +3,7 @@
 ghost use Rattle.std.specs.Prelude.{◌≡◌, ◌≤◌, ◌⊎◌, ◌+◌, ◌*◌, ◌^◌, ◌++◌, IfErr, IfOk, IfSome, OnOk, length};
 ghost use Rattle.draw_ops.specs.Records.{record_limit};
 ghost use Rattle.dc_stack.specs.Draws.{IsPlacedDraw};
-ghost use Rattle.preflight_cert.specs.Drawings.{drawing_if_drawn};
+ghost use Rattle.preflight_cert.specs.Drawings.{drawn_by};
 ghost use Rattle.preflight_cert.specs.Gathered.{FitsEntry, Gathers, StopsGathering, drawing_text, least_drawing_budget};
 ghost use Rattle.preflight_cert.specs.Refusal.{IsWantOfMemory, TellsNumber};
 
@@ -67,10 +67,10 @@ fn add_entry<'a, T: Table<'a>>(
 ) -> Result<u64, OutOfMemory>
     requires placed { IfSome drawn.now (IsPlacedDraw machine.now.surface machine.now.painted) }
     ensures text { OnOk result
-        (entries.new.items ≡ entries.old.items ++ drawing_text number (drawing_if_drawn machine.now drawn.now)) }
-    ensures fits { OnOk result (FitsEntry number (drawing_if_drawn machine.now drawn.now)) }
+        (entries.new.items ≡ entries.old.items ++ drawing_text number (drawn_by machine.now drawn.now)) }
+    ensures fits { OnOk result (FitsEntry number (drawn_by machine.now drawn.now)) }
     ensures budget { IfOk result
-        (λ n. n ≡ least_drawing_budget (drawing_if_drawn machine.now drawn.now) machine.now.surface) }
+        (λ n. n ≡ least_drawing_budget (drawn_by machine.now drawn.now) machine.now.surface) }
     ensures few { IfOk result (λ n. n ≤ 134217728) }
     ensures most { OnOk result (length entries.new.items ≤ length entries.old.items + 20) }
 {

@@ -3,7 +3,7 @@ use Rattle.std.proofs.Common.{ℕ, List, Ok, ap, sym, ◌∙◌, arith, rules}
 use Rattle.draw_ops.specs.Content.{Content}
 use Rattle.draw_ops.specs.Records.{record_limit}
 use Rattle.preflight_cert.specs.After.{notes_after}
-use Rattle.preflight_cert.specs.Drawings.{drawing_if_drawn}
+use Rattle.preflight_cert.specs.Drawings.{drawn_by}
 use Rattle.preflight_cert.specs.NextStep.{HasPlayedStep}
 use Rattle.preflight_cert.proofs.GatheredLemmas.{budget_then, step_entries, step_texts}
 use Rattle.preflight_cert.proofs.RefusalLemmas.{gathering_stops}
@@ -48,10 +48,10 @@ loop-is_played-preserved g c =
       fault = search (begins, rules);
       stops = search (begins, stepped, rules);
       texts = c.loop-is_played.invariant.texts ∙
-          step_texts (content c.loop-is_played.source) rest step old.state new.state (drawing_if_drawn new next.drawn) c.loop-is_played.entries.items c.add_entry.new.entries.items
+          step_texts (content c.loop-is_played.source) rest step old.state new.state (drawn_by new next.drawn) c.loop-is_played.entries.items c.add_entry.new.entries.items
           begins stepped.state drawn c.in-Ok-add_entry.ensures.text;
       are_entries = λ all. c.loop-is_played.invariant.are_entries
-          (step_entries (content c.loop-is_played.source) rest step old.state new.state (drawing_if_drawn new next.drawn) begins stepped.state drawn c.in-Ok-add_entry.ensures.fits all);
+          (step_entries (content c.loop-is_played.source) rest step old.state new.state (drawn_by new next.drawn) begins stepped.state drawn c.in-Ok-add_entry.ensures.fits all);
       budget = search (begins, stepped, drawn, rules, budget_then);
       notes = c.loop-is_played.invariant.notes ∙ ap (λ (k : Content). notes_after k.steps counts) begins
           ∙ ap (λ (n : List ℕ). notes_after rest.steps n) (sym c.with_all-totals.ensures);
