@@ -21,12 +21,9 @@ module _ (s : Surface) where
   abbrev all_lands : List Point → Bool
   all_lands points = list_all (λ p. lands_within_limits p s) points
 
-  -- where no point is off the plane, all land, and the other way round
+  -- where no point is off the plane, all land
   pub all_land : (points : List Point) → None ≡ off_plane_fault points s → all_lands points ≡ true
   all_land points h = passed (all_lands points) h
-
-  pub none_off : (points : List Point) → all_lands points ≡ true → None ≡ off_plane_fault points s
-  none_off points h = rw h refl
 
   -- the fault of a point and others, of which one may be off
   pub first_point_off : (p : Point) (points : List Point) (fault : RecordFault) → Some fault ≡ off_plane_fault (p ∷ []) s → Some fault ≡ off_plane_fault (p ∷ points) s

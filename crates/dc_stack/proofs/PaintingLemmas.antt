@@ -26,7 +26,7 @@ use Rattle.dc_stack.specs.Marking.{HasMarked, HasNotMarked}
 use Rattle.dc_stack.specs.Mapped.{left_top, mapped_box, mapped_corners, mapped_list, right_bottom}
 use Rattle.dc_stack.specs.Needs.{greater_needs, needs_of, points_needed}
 use Rattle.dc_stack.specs.Next.{next}
-use Rattle.dc_stack.specs.OperationFault.{fault_of, off_plane_fault}
+use Rattle.dc_stack.specs.OperationFault.{fault_of, off_plane_fault, plane_points as placed_points}
 use Rattle.dc_stack.specs.Path.{finished_path, no_path}
 use Rattle.dc_stack.specs.Pieces.{AllLandOn, LandsOn, figures_of, page_points, plane_lists}
 use Rattle.dc_stack.specs.State.{State, with_path}
@@ -41,7 +41,6 @@ use Rattle.dc_stack.specs.declared.piece.PiecePoints.{PiecePoints}
 use Rattle.dc_stack.specs.declared.piece.PiecePoints.TheVariants.{Point as OnePoint, List as OneList, Lists, Corners}
 use Rattle.dc_stack.proofs.CornerLemmas.{of_greater, of_lesser}
 use Rattle.dc_stack.proofs.FigureLemmas.{plane_points, points_gathered}
-use Rattle.dc_stack.proofs.PlacedPointLemmas.{painting_points}
 use Rattle.dc_stack.proofs.PlaneBoxLemmas.{least_of_extent}
 use Rattle.dc_stack.proofs.ListLemmas.{mapped_joined}
 
@@ -70,6 +69,11 @@ module _ (state : State) (figures : List Figure) (at : state.path ≡ finished_p
   painting_needs Fill = rw at refl
   painting_needs Stroke = rw at refl
   painting_needs StrokeAndFill = rw at refl
+
+  painting_points : (painting : Painting) → placed_points (painting_operation painting) state ≡ points_of_figures figures
+  painting_points Fill = rw at refl
+  painting_points Stroke = rw at refl
+  painting_points StrokeAndFill = rw at refl
 
 -- the points of pieces on the plane land, where those of the page do
 module _ (s : Surface) where
@@ -168,7 +172,7 @@ module _ (old new : MachineState) (painting : Painting) (extent : Option Rect) (
           within = gathered_lands old.surface pieces land;
           few = rw same few;
         });
-        extent = subst (IsExtent extent) (sym (painting_points old.state painting figures at)) boxed;
+        extent = subst (IsExtent extent) (sym (painting_points old.state figures at painting)) boxed;
         figures = λ e. rw (lent, at, same) refl;
       })
 

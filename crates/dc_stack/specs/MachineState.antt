@@ -150,6 +150,11 @@ outcome (Err fault) draw = Err fault
 abbrev pub undrawn : Result (Option Rect) Fault → Result Outcome Fault
 undrawn result = outcome result None
 
+-- a step tells this where it answers with the extent and draws nothing
+abbrev pub TellsUndrawn : Result (Option Rect) Fault → Result (Option Rect) Fault → Option Draw → Type 0
+TellsUndrawn answer result draw =
+    (operation : Operation) (old new : MachineState) → Plays operation old (undrawn answer) new → Plays operation old (outcome result draw) new
+
 -- the operation of a painting
 abbrev pub painting_operation : Painting → Operation
 painting_operation Fill = fill_path

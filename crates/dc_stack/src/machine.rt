@@ -6,7 +6,7 @@ ghost use Rattle.mapping.specs.PlaceOf.{surface_of};
 ghost use Rattle.draw_ops.specs.Operation.{Operation};
 ghost use Rattle.draw_ops.specs.OperationOf.{operation_of};
 ghost use Rattle.draw_ops.specs.declared.fault.Fault.TheVariants.{OutOfMemory};
-ghost use Rattle.dc_stack.specs.MachineState.{GoesOn, HasStepped, IsDrawingOf, IsExtentOf, IsUnchanged, LacksRoom, LendsPainted, MachineState, Plays, RefusesStep, outcome, undrawn};
+ghost use Rattle.dc_stack.specs.MachineState.{GoesOn, HasStepped, IsDrawingOf, IsExtentOf, IsUnchanged, LacksRoom, LendsPainted, MachineState, Plays, RefusesStep, TellsUndrawn, outcome};
 ghost use Rattle.dc_stack.specs.Draws.{IsPlacedDraw};
 ghost use Rattle.dc_stack.specs.Needs.{no_needs};
 ghost use Rattle.dc_stack.specs.State.{start_state};
@@ -277,8 +277,7 @@ fn draw_nothing<'a>(
     answer: Result<Option<Rect>, Fault>,
     drawn: &mut Option<Draw<'a>>,
 ) -> Result<Option<Rect>, Fault>
-    ensures { (operation : Operation) (old new : MachineState) → Plays operation old (undrawn answer) new
-        → Plays operation old (outcome result drawn.new) new }
+    ensures { TellsUndrawn answer result drawn.new }
 {
     *drawn = None;
     answer

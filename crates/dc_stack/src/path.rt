@@ -1,11 +1,11 @@
 //! The path that records gather.
 
-ghost use Rattle.std.specs.Prelude.{◌≡◌, ◌≢◌, ◌+◌, ◌<◌, ◌≤◌, [], ◌∷◌, ◌++◌, Bool, true, length, nat_le, None, vec_capacity, OnOk, OnErr, IfErr, IsFalse, IsTrue};
+ghost use Rattle.std.specs.Prelude.{◌≡◌, ◌≢◌, ◌+◌, ◌<◌, ◌≤◌, [], ◌∷◌, ◌++◌, Bool, true, length, nat_le, None, vec_capacity, OnOk, OnErr, IfErr, IsTrue};
 ghost use Rattle.mapping.specs.Surface.{Surface};
 ghost use Rattle.draw_ops.specs.declared.fault.Fault.TheVariants.{OutOfMemory};
 ghost use Rattle.dc_stack.specs.Figures.{no_figures};
 ghost use Rattle.dc_stack.specs.GatheredPath.{IsGathered, IsSamePath, StaysInside, is_open_phase, open_piece, painted_of, path_of, phase_behind};
-ghost use Rattle.dc_stack.specs.Path.{after_closing, after_ending, after_moving, current_points, is_finished, is_open, no_path, open_path, piece_limit};
+ghost use Rattle.dc_stack.specs.Path.{after_closing, after_ending, after_moving, is_finished, is_open, no_path, open_path, piece_limit};
 ghost use Rattle.dc_stack.specs.Pieces.{figures_of, with_end};
 ghost use Rattle.dc_stack.specs.declared.path.PathPhase.TheVariants.{BetweenFigures, Finished, InFigure};
 ghost use Rattle.dc_stack.specs.declared.piece.FigureEnd.TheVariants.{Open};
@@ -94,15 +94,6 @@ impl<'a> GatheredPath<'a> {
             PathPhase::BetweenFigures | PathPhase::InFigure => true,
             PathPhase::NoPath | PathPhase::Finished | PathPhase::Painted => false,
         }
-    }
-
-    /// Whether a figure is open, with which lines go on.
-    pub(crate) fn has_open_figure(&self) -> bool
-        requires gathered { IsGathered self.now }
-        ensures some { IsTrue result → current_points (path_of self.now) ≢ [] }
-        ensures none { IsFalse result → current_points (path_of self.now) ≡ [] }
-    {
-        self.phase == PathPhase::InFigure
     }
 
     /// Whether the path waits to be painted.

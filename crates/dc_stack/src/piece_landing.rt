@@ -4,13 +4,11 @@ ghost use Rattle.std.specs.Prelude.{◌≡◌, [], ◌∷◌, IfErr, IfOk};
 ghost use Rattle.std.specs.Result.{result_err};
 ghost use Rattle.mapping.specs.PageMap.{map_numbers};
 ghost use Rattle.mapping.specs.PlaceOf.{surface_of};
-ghost use Rattle.dc_stack.specs.Drawing.{points_of_lists};
 ghost use Rattle.dc_stack.specs.Extents.{IsExtent, IsOffPlane};
 ghost use Rattle.dc_stack.specs.Figures.{box_corners};
 ghost use Rattle.dc_stack.specs.Mapped.{mapped_box, mapped_corners};
 ghost use Rattle.dc_stack.specs.OperationFault.{off_plane_fault};
-ghost use Rattle.dc_stack.specs.Pieces.{page_points, plane_lists};
-ghost use Rattle.dc_stack.specs.Placing.{plane_list};
+ghost use Rattle.dc_stack.specs.Placing.{mapped_piece, plane_list, whole_piece};
 
 use crate::piece::PiecePoints;
 use crate::placing::{plane_point, plane_rect};
@@ -25,9 +23,9 @@ pub(crate) fn land_piece(
     by: &Projection,
     points: PiecePoints<'_>,
 ) -> Result<Option<Rect>, RecordFault>
-    ensures fault { result_err result ≡ off_plane_fault (plane_list by.now.map (page_points points.entry)) (surface_of by.now.place) }
-    ensures page { IfOk result (λ extent. IsExtent extent (plane_list by.now.map (page_points points.entry))) }
-    ensures plane { IfOk result (λ extent. IsExtent extent (points_of_lists (plane_lists (map_numbers by.now.map) points.entry))) }
+    ensures fault { result_err result ≡ off_plane_fault (mapped_piece by.now.map points.entry) (surface_of by.now.place) }
+    ensures page { IfOk result (λ extent. IsExtent extent (mapped_piece by.now.map points.entry)) }
+    ensures plane { IfOk result (λ extent. IsExtent extent (whole_piece by.now.map points.entry)) }
 {
     match piece_box(&by.map, points) {
         Ok(extent) => {
@@ -43,9 +41,9 @@ pub(crate) fn land_piece(
 
 /// The same without a surface: `OffPlane` where a point leaves the plane.
 fn piece_box(map: &PageMap, points: PiecePoints<'_>) -> Result<Option<Rect>, RecordFault>
-    ensures off { IfErr result (IsOffPlane (plane_list map.now (page_points points.entry))) }
-    ensures page { IfOk result (λ extent. IsExtent extent (plane_list map.now (page_points points.entry))) }
-    ensures plane { IfOk result (λ extent. IsExtent extent (points_of_lists (plane_lists (map_numbers map.now) points.entry))) }
+    ensures off { IfErr result (IsOffPlane (mapped_piece map.now points.entry)) }
+    ensures page { IfOk result (λ extent. IsExtent extent (mapped_piece map.now points.entry)) }
+    ensures plane { IfOk result (λ extent. IsExtent extent (whole_piece map.now points.entry)) }
 {
     match points {
         PiecePoints::Point(point) => point_box(map, point),

@@ -12,7 +12,7 @@ ghost use Rattle.draw_ops.specs.Blits.{blit_value_of};
 ghost use Rattle.dc_stack.specs.Clip.{placed_box};
 ghost use Rattle.dc_stack.specs.Drawing.{edge_limit};
 ghost use Rattle.dc_stack.specs.Extents.{IsExtent, IsOffPlane, IsPlaneBox, IsRefused};
-ghost use Rattle.dc_stack.specs.Mapped.{blit_corners, opposite_corner, left_top_of, mapped_box, mapped_corners, mapped_point, right_bottom_of};
+ghost use Rattle.dc_stack.specs.Mapped.{blit_corners, opposite_corner, left_top_of, mapped_box, mapped_corners, mapped_opposite, mapped_point, right_bottom_of};
 ghost use Rattle.dc_stack.specs.OperationFault.{off_plane_fault};
 ghost use Rattle.dc_stack.specs.Placing.{joined_plane_list, plane_list};
 
@@ -90,7 +90,7 @@ pub(crate) fn plane_pair(
 pub(crate) fn plane_blit(map: &PageMap, asked: &Blit<'_>) -> Result<(Point, Point), RecordFault>
     ensures off { IfErr result (IsOffPlane (blit_corners (map_numbers map.now) (blit_value_of asked.now))) }
     ensures first { IfOk result (λ r. r.0 ≡ mapped_point (map_numbers map.now) asked.now.corner) }
-    ensures second { IfOk result (λ r. r.1 ≡ mapped_point (map_numbers map.now) (opposite_corner (blit_value_of asked.now))) }
+    ensures second { IfOk result (λ r. r.1 ≡ mapped_opposite (map_numbers map.now) (blit_value_of asked.now)) }
     ensures extent { IfOk result (λ r. IsPlaneBox (box_between r.0 r.1) (r.0 ∷ r.1 ∷ [])) }
 {
     box_law();

@@ -1,12 +1,10 @@
 //! Least boxes around points on the plane, and whether their points land on a surface: two corners tell for all.
 
-ghost use Rattle.std.specs.Prelude.{◌≡◌, ◌++◌, ◌&&◌, List, IfErr, IfOk};
-ghost use Rattle.mapping.specs.Boxes.{IsLeastBox, far_corner, near_corner};
+ghost use Rattle.std.specs.Prelude.{◌≡◌, List, IfErr, IfOk};
 ghost use Rattle.mapping.specs.PlaceOf.{surface_of};
-ghost use Rattle.mapping.specs.Surface.{fits_place, placed_point};
 ghost use Rattle.mapping.specs.declared.geometry.Point.{Point as ThePoint};
 ghost use Rattle.point_views.specs.Points.{points_of};
-ghost use Rattle.dc_stack.specs.Extents.{IsExtent, IsOffPlane, box_of};
+ghost use Rattle.dc_stack.specs.Extents.{IsExtent, IsOffPlane, JoinsExtents, box_of, do_corners_fit};
 ghost use Rattle.dc_stack.specs.OperationFault.{all_land_within};
 ghost use Rattle.dc_stack.specs.Placing.{plane_list};
 
@@ -33,7 +31,7 @@ pub(crate) fn plane_box(map: &PageMap, points: Points<'_>) -> Result<Option<Rect
 
 /// The box around the boxes of two lists of points.
 pub(crate) fn joined(first: Option<Rect>, second: Option<Rect>) -> Option<Rect>
-    ensures { (points others : List ThePoint) → IsExtent first points → IsExtent second others → IsExtent result (points ++ others) }
+    ensures { JoinsExtents first second result }
 {
     box_law();
     match (first, second) {
@@ -67,8 +65,7 @@ pub fn fits(extent: Option<Rect>, place: Place) -> bool
 
 /// Whether the left top and the right bottom of a box of the plane land within the limits.
 fn box_fits(bounds: Rect, place: Place) -> bool
-    ensures { let s = surface_of place in result
-        ≡ (fits_place (placed_point (near_corner bounds) s) && fits_place (placed_point (far_corner bounds) s)) }
+    ensures { result ≡ do_corners_fit bounds (surface_of place) }
 {
     let near = left_top_of(bounds);
     let far = right_bottom_of(bounds);

@@ -1,4 +1,4 @@
-use Rattle.std.proofs.Common.{◌+◌, suc, [], ◌∷◌, Some, ap, arith, ◌∙◌}
+use Rattle.std.proofs.Common.{◌+◌, suc, [], ◌∷◌, ap, arith, ◌∙◌}
 use Rattle.mapping.specs.PageMap.{map_numbers}
 use Rattle.point_views.specs.Points.{points_of}
 use Rattle.dc_stack.specs.Extents.{IsPlaneBox}

@@ -1,5 +1,5 @@
 -- Two corners of a box tell whether all points land.
-use Rattle.std.proofs.Common.{refl, ◌∙◌}
+use Rattle.std.proofs.Common.{◌∙◌}
 use Rattle.mapping.specs.PlaceOf.{surface_of}
 use Rattle.mapping.specs.PlacingLaws.{ShowsFrame}
 use Rattle.dc_stack.specs.Extents.{IsPlaneBox}

@@ -1,4 +1,4 @@
-use Rattle.std.proofs.Common.{◌≡◌, [], ◌∷◌, None, arith, inl, refl, rules, sym, ap, ◌∙◌}
+use Rattle.std.proofs.Common.{◌≡◌, [], ◌∷◌, None, arith, inl, refl, rules, sym, ap}
 use Rattle.std.specs.Option.{option_map}
 use Rattle.draw_ops.specs.Blits.{blit_value_of, source_of}
 use Rattle.draw_ops.specs.Operation.{blit}

@@ -1,5 +1,4 @@
 use Rattle.std.proofs.Common.{◌≡◌, true, false, length, nat_lt, refl, rules, sym}
-use Rattle.mapping.specs.PlaceOf.{surface_of}
 use Rattle.dc_stack.specs.Clip.{cut_limit}
 use Rattle.dc_stack.specs.Values.{clip_value}
 use Rattle.dc_stack.proofs.machine.Machine.exclude_clip.Goals as goal
