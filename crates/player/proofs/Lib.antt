@@ -7,3 +7,4 @@ pub mod BandLemmas
 pub mod BandTextLemmas
 pub mod ClearedBandLemmas
 pub mod ReadyLemmas
+pub mod WriterLemmas
