@@ -31,7 +31,6 @@ OTHERS = {
     "realloc": "a call of the C library's",
     "rattle-kit-13b logic dac8208d650f15bf": "a version of the toolchain",
     "rt": "a program",
-    "rt plant": "a program",
     "rt version": "a program",
     "search rules": "an answer of a proof",
     "serde_json": "a library",
