@@ -1,3 +1,4 @@
+pub mod WorkedRows
 pub mod StepLemmas
 pub mod AfterLemmas
 pub mod ClearedLemmas
