@@ -12,7 +12,7 @@ ghost use Rattle.raster_ops.specs.Sources.{is_readable, source_colour};
 ghost use Rattle.raster_ops.specs.TernaryOps.{ternary_colour, uses_source};
 ghost use Rattle.painting.specs.Blits.{blit_made, blit_paints};
 ghost use Rattle.painting.specs.Counts.{CountsLayer, HasRoomForLayer};
-ghost use Rattle.painting.specs.Painted.{colour_seen};
+ghost use Rattle.painting.specs.Brushings.{colour_seen};
 ghost use Rattle.painting.specs.SourceRows.{ReadsBox};
 
 use crate::brushing::Brushing;
