@@ -30,7 +30,7 @@ pen_style_of code = row_with pen_styles (code % 16)
 abbrev fields_of : ℕ → Bool → PenStyle → PenFields
 fields_of width is_wide style = record { style = style; width = width; is_wide = is_wide }
 
--- the fields of a LogPen ([MS-EMF] 2.2.19, [MS-WMF] 2.2.1.4): a negative width counts by its absolute value, and isn't noted
+-- the fields of a LogPen ([MS-EMF] 2.2.19, [MS-WMF] 2.2.1.4): a width below 0 counts by its distance from 0, and isn't noted
 abbrev pub log_pen_fields : ℕ → ℤ → Option PenFields
 log_pen_fields style width = option_map (fields_of (unsigned_abs width) (int_lt (pos 1) width)) (pen_style_of style)
 

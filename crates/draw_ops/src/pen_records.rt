@@ -61,7 +61,7 @@ pub struct PenFields {
 const PS_GEOMETRIC: u32 = 0x0001_0000;
 
 impl PenFields {
-    /// The fields of a LogPen: none exactly where the standard has no such style. A negative width counts by its absolute value, and isn't
+    /// The fields of a LogPen: none exactly where the standard has no such style. A width below 0 counts by its distance from 0, and isn't
     /// noted.
     pub fn log_pen(style: u32, width: i32) -> Option<PenFields>
         ensures { result ≡ log_pen_fields style width }
