@@ -1,36 +1,8 @@
-pub mod MixLemmas
-pub mod StripLemmas
-pub mod LineStepLemmas
-pub mod LinePixelLemmas
-pub mod StampLemmas
-pub mod StampingLemmas
-pub mod StrokedLemmas
-pub mod TestLemmas
-pub mod WorkedRows
-mod WorkedLayers
-mod WorkedBlits
 pub mod StepLemmas
 pub mod AfterLemmas
-pub mod RowLemmas
-pub mod LandingLemmas
-pub mod LandedBoxLemmas
-pub mod MissedLemmas
-pub mod CountLemmas
-pub mod OutlineLemmas
-pub mod DrawingLemmas
-pub mod DotLemmas
-pub mod BlitLemmas
-pub mod RegionLemmas
-pub mod SourceLemmas
-pub mod RectangleLemmas
-pub mod MoveLemmas
-pub mod PieceLemmas
-pub mod FigureLemmas
-pub mod PaintedFigureLemmas
-pub mod WorkedPaths
-pub mod WorkedFigures
 pub mod ClearedLemmas
 pub mod WholeSurfaceLemmas
 pub mod BandLemmas
 pub mod BandTextLemmas
 pub mod ClearedBandLemmas
+pub mod ReadyLemmas

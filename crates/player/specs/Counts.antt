@@ -1,32 +1,11 @@
--- What a canvas's count of writes has room for, and what is added to it.
-use Rattle.std.specs.Prelude.{◌+◌, ◌<◌, ◌≤◌, ◌^◌}
+-- What a canvas's count of writes has room for, and what a file adds to it.
+use Rattle.std.specs.Prelude.{◌+◌, ◌≤◌, ◌^◌}
 use Rattle.canvas.specs.CanvasState.{CanvasState}
-use Rattle.span_fill.specs.RowState.{RowState}
 
 -- room for a file: 2^20 records, each with two layers, each of at most 2^26 pixels
 abbrev pub HasRoomForFile : CanvasState → Type 0
 HasRoomForFile canvas = canvas.writes ≤ 2 ^ 63
 
--- room for a drawing's two layers, and as much beside
-abbrev pub HasRoomForDrawing : CanvasState → Type 0
-HasRoomForDrawing canvas = canvas.writes + 2 ^ 28 < 2 ^ 64
-
--- room for a layer, and twice as much beside
-abbrev pub HasRoomForLayer : CanvasState → Type 0
-HasRoomForLayer canvas = canvas.writes + 2 ^ 27 + 2 ^ 26 < 2 ^ 64
-
 -- at most the writes of a file were counted: of 2^20 records with two layers each
 abbrev pub CountsFile : CanvasState → CanvasState → Type 0
 CountsFile old new = new.writes ≤ old.writes + 2 ^ 47
-
--- at most the writes of a drawing were counted: each pixel of a surface of 8,192 by 8,192 twice
-abbrev pub CountsDrawing : CanvasState → CanvasState → Type 0
-CountsDrawing old new = new.writes ≤ old.writes + 2 ^ 27
-
--- at most those of a layer: each pixel once
-abbrev pub CountsLayer : CanvasState → CanvasState → Type 0
-CountsLayer old new = new.writes ≤ old.writes + 2 ^ 26
-
--- rows have room for the lines of any drawing, of which there are at most 2^20
-abbrev pub HasFullLines : RowState → Type 0
-HasFullLines rows = 2 ^ 20 ≤ rows.room

@@ -1,6 +1,6 @@
-use Rattle.std.proofs.Common.{◌≡◌, ◌+◌, sym, arith, ap, ◌∙◌, w64, Fits}
+use Rattle.std.proofs.Common.{arith, ap}
 use Rattle.canvas.specs.CanvasState.{CanvasState}
-use Rattle.canvas.proofs.EachLemmas.{all_put, held_now, may_count, none_put, one_put, sum_fits, was_to_come}
+use Rattle.canvas.proofs.EachLemmas.{held_now, may_count, none_put, one_put, sum_fits, was_to_come}
 use Rattle.canvas.proofs.surface.Canvas.put_each.Goals as goal
 
 pub loop-pixel-init : goal.loop-pixel-init

@@ -1,5 +1,4 @@
 use Rattle.std.proofs.Common.{refl}
-use Rattle.canvas.specs.PixelSources.{counted}
 use Rattle.canvas.proofs.CallLemmas.{wrote_pixel}
 use Rattle.canvas.proofs.FieldLemmas.{lies_inside}
 use Rattle.canvas.proofs.surface.Canvas.set.Goals as goal

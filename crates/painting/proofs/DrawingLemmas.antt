@@ -1,0 +1,135 @@
+-- What is painted under a shape is a layer, and layers follow one another.
+use Rattle.std.proofs.Common.{◌≡◌, ℕ, ◌+◌, pos, Bool, true, false, ◌&&◌, ◌||◌, List, [], ◌∷◌, ◌++◌, Option, Some, None, is_some, refl, sym, ◌∙◌, ap, arith}
+use Rattle.std.proofs.Math.Bool.{and-true}
+use Rattle.mapping.specs.Surface.{Surface, is_pixel, placed_point}
+use Rattle.mapping.specs.declared.geometry.Colour.{Colour}
+use Rattle.mapping.specs.declared.geometry.Point.{Point}
+use Rattle.mapping.specs.Image.{Image}
+use Rattle.mapping.specs.Pixels.{count_pixels}
+use Rattle.draw_ops.specs.Objects.{brush_value_of}
+use Rattle.draw_ops.specs.declared.objects.Brush.{Brush}
+use Rattle.draw_ops.specs.declared.objects.Brush.TheVariants.{Hatched, Null, Solid, Tiled}
+use Rattle.draw_ops.specs.declared.objects.Pen.TheVariants.{Solid as SolidPen}
+use Rattle.draw_ops.specs.declared.raster_op.RasterOp.{RasterOp}
+use Rattle.raster_ops.specs.RasterOps.{BinaryIsTernary, binary_table}
+use Rattle.canvas.specs.CanvasState.{CanvasState, image_of}
+use Rattle.canvas.specs.Writing.{Repaints}
+use Rattle.canvas.specs.WritingLaws.{WritingLaws, IsWhole}
+use Rattle.dc_stack.specs.Clip.{ClipValue, in_boxes, placed_clip}
+use Rattle.dc_stack.specs.Drawing.{Tools}
+use Rattle.dc_stack.specs.State.{DcValue}
+use Rattle.dc_stack.specs.Values.{IsPlacedOn, dc_value, placed_value}
+use Rattle.dc_stack.specs.declared.clip.Clip.{Clip}
+use Rattle.dc_stack.specs.declared.dc.Dc.{Dc}
+use Rattle.span_fill.specs.Strokes.{in_stroke, on_line}
+use Rattle.span_fill.specs.declared.line.Line.{Line}
+use Rattle.preflight_cert.specs.Apply.{apply_all, ink_of, mixed_with}
+use Rattle.preflight_cert.specs.Layer.{Layer, brushed_now, filled, layer_now, stroked}
+use Rattle.preflight_cert.specs.Mixing.{binary, copied}
+use Rattle.preflight_cert.specs.Paint.{Paint, paint_at, solid}
+use Rattle.painting.specs.Painted.{colour_of, colour_seen, made, paints}
+use Rattle.painting.specs.Drawn.{DrawsLayers, HoldsRows, SameRows}
+use Rattle.preflight_cert.specs.Shape.{Shape, in_shape, pixel_under, stroke_of}
+use Rattle.preflight_cert.specs.StrokedOutline.{Outline}
+use Rattle.preflight_cert.specs.Writes.{writes_of_layers, writes_pixel}
+use Rattle.painting.specs.Joined.{joined_if}
+use Rattle.painting.specs.declared.brushing.Brushing.{Brushing}
+
+-- no layer draws nothing
+pub no_layer_drawn : (s : Surface) (canvas : CanvasState) → DrawsLayers [] s canvas canvas
+no_layer_drawn s canvas = record { image = refl; writes = omega arith }
+
+-- layers behind others
+applied_in_turn : (first second : List Layer) (s : Surface) (top : ℕ) (image : Image) → apply_all (first ++ second) s top image ≡ apply_all second s top (apply_all first s top image)
+applied_in_turn [] second s top image = refl
+applied_in_turn (layer ∷ first) second s top image = applied_in_turn first second s top _
+
+counted_in_turn : (first second : List Layer) (s : Surface) (top rows : ℕ) → writes_of_layers (first ++ second) s top rows ≡ writes_of_layers first s top rows + writes_of_layers second s top rows
+counted_in_turn [] second s top rows = omega arith
+counted_in_turn (layer ∷ first) second s top rows = let rest = counted_in_turn first second s top rows in omega (arith, rest)
+
+pub drawn_in_turn : (first second : List Layer) (s : Surface) (old between new : CanvasState) → SameRows old between → DrawsLayers first s old between → DrawsLayers second s between new → DrawsLayers (first ++ second) s old new
+drawn_in_turn first second s old between new same a b =
+    let a_writes = a.writes in
+    let b_image : image_of new ≡ apply_all second s old.first (image_of between) = rw same.first at b.image in
+    let b_writes : new.writes ≡ between.writes + writes_of_layers second s old.first old.rows = rw (same.first, same.rows) at b.writes in
+    let counted = counted_in_turn first second s old.first old.rows in
+    record {
+      image = b_image ∙ ap (apply_all second s old.first) a.image ∙ sym (applied_in_turn first second s old.first (image_of old));
+      writes = omega (arith, a_writes, b_writes, counted);
+    }
+
+-- a canvas holds the rows that it held
+pub same_rows : (test : ℕ → ℕ → Bool) (f : ℕ → ℕ → Colour → Colour) (old new : CanvasState) → Repaints test f old new → SameRows old new
+same_rows test f old new r = record { width = r.width; first = r.first; rows = r.rows; most = r.most }
+
+-- a paint joins the old colour by the raster operation
+joined_same : BinaryIsTernary → (op : RasterOp) (s : Surface) (x y : ℕ) (source : Colour) (paint : Option Colour) (old : Colour) → joined_if (binary_table op) source paint old ≡ mixed_with (binary op) s x y paint old
+joined_same law op s x y source None old = refl
+joined_same law op s x y source (Some paint) old = sym (law op paint source old)
+
+module _ (laws : WritingLaws) (s : Surface) (old new : CanvasState) (there : IsWhole old) (held : HoldsRows old s) where
+  -- what writes the pixels of a layer draws it
+  pub layer_drawn : (layer : Layer) → Repaints (writes_pixel layer s) (ink_of layer s) old new → DrawsLayers (layer ∷ []) s old new
+  layer_drawn layer r =
+      let writes = r.writes in
+      let counted : count_pixels (writes_pixel layer s) old.width old.first old.rows ≡ count_pixels (writes_pixel layer s) s.width old.first old.rows = ap (λ (w : ℕ). count_pixels (writes_pixel layer s) w old.first old.rows) held.width in
+      record { image = rw (r.width, r.rows, r.colours) refl; writes = omega (arith, writes, counted) }
+
+  module _ (law : BinaryIsTernary) (paint : Brushing) (tools : Tools) (modes : paint.modes ≡ tools.modes) (operation : paint.operation.op.table ≡ binary_table tools.modes.raster_op) (clip : placed_value paint.clip.now ≡ placed_clip s tools.clip) where
+    -- so does what a paint makes of a shape
+    painted_drawn : (shape : ℕ → ℕ → Bool) (drawn : Shape) (colours : Paint) → ((x y : ℕ) → shape x y ≡ in_shape drawn s x y) → ((x y : ℕ) → colour_of paint x y ≡ paint_at colours s x y) → Repaints (paints paint shape) (made paint) old new → DrawsLayers (layer_now drawn colours tools ∷ []) s old new
+    painted_drawn shape drawn colours same_shape same_colour r =
+        layer_drawn (layer_now drawn colours tools)
+        (laws.same (paints paint shape) (writes_pixel (layer_now drawn colours tools) s) (made paint) (ink_of (layer_now drawn colours tools) s) old new there
+        (λ x y held.
+        ap (λ (boxes : ClipValue). in_boxes boxes x y && shape x y && is_some (colour_of paint x y)) clip
+        ∙ ap (λ (b : Bool). in_boxes (placed_clip s tools.clip) x y && b && is_some (colour_of paint x y)) (same_shape x y)
+        ∙ ap (λ (c : Option Colour). in_boxes (placed_clip s tools.clip) x y && in_shape drawn s x y && is_some c) (same_colour x y))
+        (λ x y c held t.
+        ap (λ (table : ℕ). joined_if table (colour_seen paint.source x y) (colour_of paint x y) c) operation
+        ∙ ap (λ (p : Option Colour). joined_if (binary_table tools.modes.raster_op) (colour_seen paint.source x y) p c) (same_colour x y)
+        ∙ joined_same law tools.modes.raster_op s x y (colour_seen paint.source x y) (paint_at colours s x y) c) r)
+
+    -- by a brush
+    pub brush_drawn : (shape : ℕ → ℕ → Bool) (drawn : Shape) → brush_value_of paint.brush ≡ tools.brush → ((x y : ℕ) → shape x y ≡ in_shape drawn s x y) → Repaints (paints paint shape) (made paint) old new → DrawsLayers (layer_now drawn (brushed_now tools.brush tools) tools ∷ []) s old new
+    brush_drawn shape drawn brush same r = painted_drawn shape drawn (brushed_now tools.brush tools) same (λ x y. rw (brush, modes) refl) r
+
+    -- by a pen of a colour, along an outline
+    pub pen_drawn : (shape : ℕ → ℕ → Bool) (outline : Outline) (colour : Colour) → paint.brush ≡ Solid colour → ((x y : ℕ) → shape x y ≡ in_shape (stroke_of outline) s x y) → Repaints (paints paint shape) (made paint) old new → DrawsLayers (layer_now (stroke_of outline) (solid colour) tools ∷ []) s old new
+    pen_drawn shape outline colour brush same r = painted_drawn shape (stroke_of outline) (solid colour) same (λ x y. rw brush refl) r
+
+  -- and so does a dot
+  pub dot_drawn : (point placed : Point) (colour : Colour) (clip : Clip) (tools : Tools) → placed ≡ placed_point point s → placed_value clip ≡ placed_clip s tools.clip → Repaints (λ x y. in_boxes (placed_value clip) x y && is_pixel placed x y) (λ x y c. colour) old new → DrawsLayers (record { shape = pixel_under point; paint = solid colour; mixing = copied; clip = tools.clip } ∷ []) s old new
+  dot_drawn point placed colour clip tools lands boxes r =
+      let layer : Layer = record { shape = pixel_under point; paint = solid colour; mixing = copied; clip = tools.clip } in
+      layer_drawn layer
+      (laws.same (λ x y. in_boxes (placed_value clip) x y && is_pixel placed x y) (writes_pixel layer s) (λ x y c. colour) (ink_of layer s) old new there
+      (λ x y held.
+      ap (λ (b : ClipValue). in_boxes b x y && is_pixel placed x y) boxes
+      ∙ ap (λ (p : Point). in_boxes (placed_clip s tools.clip) x y && is_pixel p x y) lands
+      ∙ sym (and-true (in_boxes (placed_clip s tools.clip) x y && is_pixel (placed_point point s) x y)))
+      (λ x y c held t. refl) r)
+
+-- a brush that isn't the null brush fills a layer
+pub brush_fills : (brush : Brush) (shape : Shape) (tools : Tools) → (brush ≡ Null → ⊥) → brush_value_of brush ≡ tools.brush → filled shape tools ≡ layer_now shape (brushed_now tools.brush tools) tools ∷ []
+brush_fills (Solid colour) shape tools some same = rw (← same) refl
+brush_fills Null shape tools some same = absurd (some refl)
+brush_fills (Hatched hatch colour) shape tools some same = rw (← same) refl
+brush_fills (Tiled tile) shape tools some same = rw (← same) refl
+
+-- a pen of a colour strokes a layer
+pub pen_strokes : (outline : Outline) (tools : Tools) (colour : Colour) → tools.pen ≡ SolidPen colour → stroked outline tools ≡ layer_now (stroke_of outline) (solid colour) tools ∷ []
+pen_strokes outline tools colour same = rw same refl
+
+-- the clip of the moment, where it is placed on the surface
+pub clip_placed : (s : Surface) (clip : Clip) (dc : Dc) (state : DcValue) → clip ≡ dc.clip → dc_value dc ≡ state → IsPlacedOn s dc.clip → placed_value clip ≡ placed_clip s state.clip
+clip_placed s clip dc state same value placed = ap placed_value same ∙ placed ∙ ap (λ (d : DcValue). placed_clip s d.clip) value
+
+-- a lone line is a stroke
+or_nothing : (b : Bool) → b ≡ (b || false)
+or_nothing true = refl
+or_nothing false = refl
+
+pub lone_stroke : (line other : Line) (x y : ℕ) → line ≡ other → on_line line (pos x) (pos y) ≡ in_stroke (other ∷ []) x y
+lone_stroke line other x y same = ap (λ (l : Line). on_line l (pos x) (pos y)) same ∙ or_nothing (on_line other (pos x) (pos y))

@@ -1,0 +1,142 @@
+-- The pixels of a drawing lie in the box between where two corners of its least box land.
+use Rattle.std.proofs.Common.{◌≡◌, ℕ, ℤ, pos, negsuc, ◌+ℤ◌, ◌≤ℤ◌, ◌<ℤ◌, int_le, int_lt, Bool, true, false, ◌&&◌, List, [], ◌∷◌, map, arith, refl, ap, subst, sym, ◌∙◌}
+use Rattle.std.proofs.lemmas.Bool.{and_from, and_parts}
+use Rattle.std.proofs.lemmas.Int.{ints}
+use Rattle.std.proofs.lemmas.List.Elements.{All-nil}
+use Rattle.std.specs.Int.{int_max, int_min}
+use Rattle.std.specs.List.{All, list_all}
+use Rattle.mapping.specs.Boxes.{HasPoint, IsLeastBox, IsTight, box_between, far_corner, mapped_by, near_corner, no_box}
+use Rattle.mapping.specs.BoxLaws.{BoxLaws}
+use Rattle.mapping.specs.PlaceOf.{surface_of}
+use Rattle.mapping.specs.Plane.{is_on_plane}
+use Rattle.mapping.specs.PlacingLaws.{PlacingLaws, ShowsFrame}
+use Rattle.mapping.specs.Surface.{Surface, fits_place, lands_within_limits, placed_point}
+use Rattle.mapping.specs.declared.geometry.Point.{Point}
+use Rattle.mapping.specs.declared.geometry.Rect.{Rect}
+use Rattle.mapping.specs.declared.place.Place.{Place}
+use Rattle.draw_ops.specs.declared.operation.RectangleEdges.TheVariants.{Inclusive}
+use Rattle.dc_stack.specs.Clip.{in_box, is_from_to}
+use Rattle.preflight_cert.specs.DrawingBoxLaws.{DrawingBoxLaws, IsClosedShape, Reaches, shape_points}
+use Rattle.preflight_cert.specs.Rectangles.{raised}
+use Rattle.preflight_cert.specs.Shape.{Shape, in_shape}
+use Rattle.painting.specs.Regions.{HasLanded}
+use Rattle.painting.proofs.TestLemmas.{from_to_from, int_le-true, int_lt-true}
+
+least_low : (a b v : ℤ) → a ≤ℤ v → int_min a b ≤ℤ v
+least_low a b v h = grind (arith, ints)
+
+most_high : (a b v : ℤ) → v ≤ℤ b → v <ℤ (int_max a b +ℤ pos 1)
+most_high a b v h = grind (arith, ints)
+
+same_points : (points : List Point) → map (mapped_by (λ v. v) (λ v. v)) points ≡ points
+same_points [] = refl
+same_points (p ∷ ps) = ap (λ (rest : List Point). p ∷ rest) (same_points ps)
+
+pub first_off : (a b : Bool) → a ≡ false → (a && b) ≡ false
+first_off a b h = rw h refl
+
+pub second_off : (a b : Bool) → b ≡ false → (a && b) ≡ false
+second_off true b h = h
+second_off false b h = refl
+
+-- what the least box reaches lies between where its corners land
+pub reached_between : (s : Surface) (bounds : Rect) (x y : ℕ) → Reaches bounds s x y → in_box (raised Inclusive (box_between (placed_point (near_corner bounds) s) (placed_point (far_corner bounds) s))) x y ≡ true
+reached_between s bounds x y reached =
+    let near = placed_point (near_corner bounds) s in
+    let far = placed_point (far_corner bounds) s in
+    let pixel = reached.pixel in
+    and_from (is_from_to (int_min near.x far.x) (int_max near.x far.x +ℤ pos 1) x) (is_from_to (int_min near.y far.y) (int_max near.y far.y +ℤ pos 1) y)
+    (from_to_from _ _ x (least_low near.x far.x (pos x) pixel.left) (most_high near.x far.x (pos x) pixel.right))
+    (from_to_from _ _ y (least_low near.y far.y (pos y) pixel.top) (most_high near.y far.y (pos y) pixel.bottom))
+
+between_low : (a b v : ℤ) → a ≤ℤ b → int_min a b ≤ℤ v → a ≤ℤ v
+between_low a b v h k = grind (arith, ints)
+
+between_high : (a b v : ℤ) → a ≤ℤ b → v <ℤ (int_max a b +ℤ pos 1) → v ≤ℤ b
+between_high a b v h k = grind (arith, ints)
+
+from_to_parts : (from to : ℤ) (n : ℕ) → is_from_to from to n ≡ true → (from ≤ℤ pos n) × (pos n <ℤ to)
+from_to_parts from to n h = let parts = and_parts (int_le from (pos n)) (int_lt (pos n) to) h in (int_le-true from (pos n) parts.0, int_lt-true (pos n) to parts.1)
+
+-- no box has a pixel that is around no point
+pub none_in : (x y : ℕ) → in_box no_box x y ≡ true → ⊥
+none_in x y h =
+    let parts = and_parts (is_from_to (pos 0) (negsuc 0) x) (is_from_to (pos 0) (negsuc 0) y) h in
+    let inside = from_to_parts (pos 0) (negsuc 0) x parts.0 in
+    let low = inside.0 in
+    let high = inside.1 in
+    omega (arith, ints, low, high)
+
+pub shows : (place : Place) → ShowsFrame (surface_of place)
+shows place = record { wide = place.frame.wide; high = place.frame.high }
+
+module _ (laws : BoxLaws) (place : Place) (bounds : Rect) where
+  abbrev s : Surface
+  s = surface_of place
+
+  -- where all points land, so do the corners
+  corners_land : (points : List Point) → IsTight bounds points → list_all (λ point. lands_within_limits point s) points ≡ true → (lands_within_limits (near_corner bounds) s && lands_within_limits (far_corner bounds) s) ≡ true
+  corners_land points tight within =
+      let same = same_points points in
+      let laid = laws.lands (λ v. v) (λ v. v) s bounds points (shows place) (λ from v to between. between) (λ from v to between. between) tight in
+      sym laid ∙ ap (λ (ps : List Point). list_all (λ point. lands_within_limits point s) ps) same ∙ within
+
+  corner_fits : (p : Point) → lands_within_limits p s ≡ true → fits_place (placed_point p s) ≡ true
+  corner_fits p h = (and_parts (is_on_plane p) (fits_place (placed_point p s)) h).1
+
+  -- so where one doesn't, nothing is reached
+  pub none_reached :
+      (fits_place (placed_point (near_corner bounds) s) && fits_place (placed_point (far_corner bounds) s)) ≡ false
+      → (points : List Point) → IsLeastBox bounds points → list_all (λ point. lands_within_limits point s) points ≡ true → (x y : ℕ) → Reaches bounds s x y → ⊥
+  none_reached off [] least within x y reached = empty (rw least at reached.wide)
+    where
+      empty : pos 0 ≤ℤ negsuc 0 → ⊥
+      empty h = omega (arith, ints, h)
+  none_reached off (p ∷ ps) least within x y reached =
+      let both = and_parts (lands_within_limits (near_corner bounds) s) (lands_within_limits (far_corner bounds) s) (corners_land (p ∷ ps) least within) in
+      contradicts _ _ (corner_fits (near_corner bounds) both.0) (corner_fits (far_corner bounds) both.1) off
+    where
+      contradicts : (a b : Bool) → a ≡ true → b ≡ true → (a && b) ≡ false → ⊥
+      contradicts true true e f h = cc
+      contradicts true false e f h = cc
+      contradicts false b e f h = cc
+
+-- and where a box has a point, what lies between where its corners land is reached
+pub between_reached :
+    (laws : PlacingLaws) (s : Surface) → ShowsFrame s → (bounds : Rect) → bounds.l ≤ℤ bounds.r → bounds.t ≤ℤ bounds.b
+    → (x y : ℕ) → in_box (raised Inclusive (box_between (placed_point (near_corner bounds) s) (placed_point (far_corner bounds) s))) x y ≡ true
+    → Reaches bounds s x y
+between_reached laws s shown bounds wide high x y h =
+    let near = placed_point (near_corner bounds) s in
+    let far = placed_point (far_corner bounds) s in
+    let parts = and_parts (is_from_to (int_min near.x far.x) (int_max near.x far.x +ℤ pos 1) x) (is_from_to (int_min near.y far.y) (int_max near.y far.y +ℤ pos 1) y) h in
+    let column = from_to_parts _ _ x parts.0 in
+    let row = from_to_parts _ _ y parts.1 in
+    let across = laws.keeps_order s.width s.frame_width bounds.l bounds.r shown.wide wide in
+    let down = laws.keeps_order s.height s.frame_height bounds.t bounds.b shown.high high in
+    record {
+      wide = wide;
+      high = high;
+      pixel = record {
+        left = between_low near.x far.x (pos x) across column.0;
+        top = between_low near.y far.y (pos y) down row.0;
+        right = between_high near.x far.x (pos x) across column.1;
+        bottom = between_high near.y far.y (pos y) down row.1;
+      };
+    }
+
+-- the least box of points has them
+pub has_all : (bounds : Rect) (points : List Point) → IsLeastBox bounds points → All (HasPoint bounds) points
+has_all bounds [] least = All-nil (HasPoint bounds)
+has_all bounds (p ∷ ps) least = least.all
+
+-- so a shape told by them lies in the box in which what it reaches lies
+pub shape_landed :
+    DrawingBoxLaws → (place : Place) (s : Surface) → surface_of place ≡ s → (bounds box : Rect) → HasLanded (surface_of place) bounds box
+    → (points : List Point) → IsLeastBox bounds points → list_all (λ point. lands_within_limits point s) points ≡ true
+    → (shape : Shape) → IsClosedShape shape → shape_points shape ≡ points → (x y : ℕ) → in_shape shape s x y ≡ true → in_box box x y ≡ true
+shape_landed laws place s e bounds box landed points least within shape closed told x y h =
+    let here : ShowsFrame s = subst ShowsFrame e (shows place) in
+    let there : HasLanded s bounds box = subst (λ (r : Surface). HasLanded r bounds box) e landed in
+    let all : All (HasPoint bounds) (shape_points shape) = subst (All (HasPoint bounds)) (sym told) (has_all bounds points least) in
+    there.all points least within x y (laws.shape shape bounds s x y here closed all h)

@@ -1,0 +1,133 @@
+-- Points of the page that land within the limits.
+use Rattle.std.proofs.Common.{◌≡◌, ◌<◌, ℕ, zero, suc, slice_index_or, ℤ, pos, neg_ℤ, ◌≤ℤ◌, Bool, true, int_le, List, [], ◌∷◌, arith, ap, subst, sym, ◌∙◌}
+use Rattle.std.proofs.lemmas.Bool.{and_parts}
+use Rattle.std.proofs.lemmas.Int.{ints}
+use Rattle.std.proofs.lemmas.List.{append-nil}
+use Rattle.std.proofs.lemmas.List.Elements.{All-cons, All-head, All-nil, All-rest, All-same}
+use Rattle.std.proofs.lemmas.List.Folds.{list_all-append}
+use Rattle.std.specs.Bool.{IsTrue}
+use Rattle.std.specs.List.{list_all}
+use Rattle.mapping.specs.Limits.{IsWithin, is_within, place_limit}
+use Rattle.mapping.specs.PageMap.{map_numbers}
+use Rattle.mapping.specs.Plane.{is_on_plane}
+use Rattle.mapping.specs.PlaceOf.{surface_of}
+use Rattle.mapping.specs.Surface.{FitsPlace, IsPlaceCoordinate, Surface, fits_place, lands_within_limits, placed_point}
+use Rattle.mapping.specs.declared.geometry.Point.{Point}
+use Rattle.mapping.specs.declared.geometry.Rect.{Rect}
+use Rattle.mapping.specs.declared.place.Place.{Place}
+use Rattle.dc_stack.specs.Drawing.{points_of_lists}
+use Rattle.dc_stack.specs.Figures.{box_corners}
+use Rattle.dc_stack.specs.Mapped.{mapped_list, mapped_lists, mapped_point}
+use Rattle.dc_stack.specs.Projected.{is_projected, projected}
+use Rattle.dc_stack.specs.declared.projection.Projection.{Projection}
+use Rattle.span_fill.specs.Lines.{IsNear, IsNearPoint}
+use Rattle.painting.specs.PlacedLines.{AllLand, AllListsLand}
+
+true_le : (a b : ℤ) → int_le a b ≡ true → a ≤ℤ b
+true_le a b h = grind (arith, ints)
+
+one_more : (v : ℤ) → v ≤ℤ pos place_limit → v ≤ℤ pos (suc place_limit)
+one_more v h = grind (arith, ints)
+
+near : (v : ℤ) → is_within place_limit v ≡ true → IsNear v
+near v t =
+    let parts = and_parts (int_le (neg_ℤ (pos place_limit)) v) (int_le v (pos place_limit)) t in
+    record { low = true_le _ _ parts.0; high = one_more v (true_le _ _ parts.1) }
+
+-- a point of the plane that lands within the limits is near there
+pub landed_near : (s : Surface) (p : Point) → lands_within_limits p s ≡ true → IsNearPoint (placed_point p s)
+landed_near s p t =
+    let there = placed_point p s in
+    let parts = and_parts (is_on_plane p) (fits_place there) t in
+    let both = and_parts (is_within place_limit there.x) (is_within place_limit there.y) parts.1 in
+    record { x = near there.x both.0; y = near there.y both.1 }
+
+within : (v : ℤ) → is_within place_limit v ≡ true → IsWithin place_limit v
+within v t =
+    let parts = and_parts (int_le (neg_ℤ (pos place_limit)) v) (int_le v (pos place_limit)) t in
+    record { low = true_le _ _ parts.0; high = true_le _ _ parts.1 }
+
+-- and within the limits of placed coordinates
+pub landed_fits : (s : Surface) (p : Point) → lands_within_limits p s ≡ true → FitsPlace (placed_point p s)
+landed_fits s p t =
+    let there = placed_point p s in
+    let parts = and_parts (is_on_plane p) (fits_place there) t in
+    let both = and_parts (is_within place_limit there.x) (is_within place_limit there.y) parts.1 in
+    record { x = within there.x both.0; y = within there.y both.1 }
+
+-- the corners of a box whose sides are within the limits are near
+near_within : (v : ℤ) → IsPlaceCoordinate v → IsNear v
+near_within v h = record { low = h.low; high = one_more v h.high }
+
+pub corners_near : (box : Rect) → IsPlaceCoordinate box.l → IsPlaceCoordinate box.t → IsPlaceCoordinate box.r → IsPlaceCoordinate box.b → (k : ℕ) (d : Point) → k < 4 → IsNearPoint (slice_index_or (box_corners box) k d)
+corners_near box l t r b zero d h = record { x = near_within box.l l; y = near_within box.t t }
+corners_near box l t r b (suc zero) d h = record { x = near_within box.r r; y = near_within box.t t }
+corners_near box l t r b (suc (suc zero)) d h = record { x = near_within box.r r; y = near_within box.b b }
+corners_near box l t r b (suc (suc (suc zero))) d h = record { x = near_within box.l l; y = near_within box.b b }
+corners_near box l t r b (suc (suc (suc (suc k)))) d h = absurd (omega (arith, h))
+
+-- where a place's surface is this one, such a point fits there, and lands where the place tells
+pub fits_there : (place : Place) (s : Surface) (p : Point) → surface_of place ≡ s → lands_within_limits p s ≡ true → FitsPlace (placed_point p (surface_of place))
+fits_there place s p same t = subst (λ (r : Surface). FitsPlace (placed_point p r)) (sym same) (landed_fits s p t)
+
+pub lands_there : (place : Place) (s : Surface) (p there : Point) → surface_of place ≡ s → there ≡ placed_point p (surface_of place) → there ≡ placed_point p s
+lands_there place s p there same at = at ∙ ap (placed_point p) same
+
+-- of two points that land both do
+pub two_land : (s : Surface) (p q : Point) → list_all (λ r. lands_within_limits r s) (p ∷ q ∷ []) ≡ true → (lands_within_limits p s ≡ true) × (lands_within_limits q s ≡ true)
+two_land s p q t =
+    let a = and_parts (lands_within_limits p s) (list_all (λ r. lands_within_limits r s) (q ∷ [])) t in
+    (a.0, (and_parts (lands_within_limits q s) true a.1).0)
+
+module _ (by : Projection) where
+  -- so is a point of the page
+  pub projected_near : (p : Point) → IsTrue (is_projected by p) → IsNearPoint (projected by p)
+  projected_near p t = landed_near (surface_of by.place) (mapped_point (map_numbers by.map) p) t
+
+  -- the first of points that all land, and the others
+  pub first_lands : (p : Point) (ps whole : List Point) → whole ≡ p ∷ ps → AllLand by whole → IsTrue (is_projected by p)
+  first_lands p ps whole e h = All-head (λ q. IsTrue (is_projected by q)) p ps (All-same (λ q. IsTrue (is_projected by q)) (p ∷ ps) whole (sym e) h)
+
+  pub others_land : (p : Point) (ps whole : List Point) → whole ≡ p ∷ ps → AllLand by whole → AllLand by ps
+  others_land p ps whole e h = All-rest (λ q. IsTrue (is_projected by q)) p ps whole e h
+
+  pub first_near : (p : Point) (ps whole : List Point) → whole ≡ p ∷ ps → AllLand by whole → IsNearPoint (projected by p)
+  first_near p ps whole e h = projected_near p (first_lands p ps whole e h)
+
+  -- the same of lists
+  pub first_list_lands : (ps : List Point) (ls whole : List (List Point)) → whole ≡ ps ∷ ls → AllListsLand by whole → AllLand by ps
+  first_list_lands ps ls whole e h = All-head (AllLand by) ps ls (All-same (AllLand by) (ps ∷ ls) whole (sym e) h)
+
+  pub other_lists_land : (ps : List Point) (ls whole : List (List Point)) → whole ≡ ps ∷ ls → AllListsLand by whole → AllListsLand by ls
+  other_lists_land ps ls whole e h = All-rest (AllLand by) ps ls whole e h
+
+  module _ (s : Surface) (e : surface_of by.place ≡ s) where
+    -- points of the page land where their points of the plane do
+    pub list_lands : (ps : List Point) → list_all (λ p. lands_within_limits p s) (mapped_list (map_numbers by.map) ps) ≡ true → AllLand by ps
+    list_lands [] t = All-nil (λ q. IsTrue (is_projected by q))
+    list_lands (p ∷ ps) t =
+        let there = mapped_point (map_numbers by.map) p in
+        let parts = and_parts (lands_within_limits there s) (list_all (λ q. lands_within_limits q s) (mapped_list (map_numbers by.map) ps)) t in
+        All-cons (λ q. IsTrue (is_projected by q)) p ps (subst (λ (r : Surface). lands_within_limits there r ≡ true) (sym e) parts.0) (list_lands ps parts.1)
+
+    pub lists_land : (ls : List (List Point)) → list_all (λ p. lands_within_limits p s) (points_of_lists (mapped_lists (map_numbers by.map) ls)) ≡ true → AllListsLand by ls
+    lists_land [] t = All-nil (AllLand by)
+    lists_land (ps ∷ ls) t =
+        let first = mapped_list (map_numbers by.map) ps in
+        let others = points_of_lists (mapped_lists (map_numbers by.map) ls) in
+        let test : Point → Bool = λ q. lands_within_limits q s in
+        let parts = and_parts (list_all test first) (list_all test others) (sym (list_all-append test first others) ∙ t) in
+        All-cons (AllLand by) ps ls (list_lands ps parts.0) (lists_land ls parts.1)
+
+    -- so do points behind a first one, which is near where it lands
+    pub start_and_list_land : (p : Point) (ps : List Point) → list_all (λ q. lands_within_limits q s) (points_of_lists ((p ∷ mapped_list (map_numbers by.map) ps) ∷ [])) ≡ true → IsNearPoint (placed_point p s) × AllLand by ps
+    start_and_list_land p ps t =
+        let others = mapped_list (map_numbers by.map) ps in
+        let test : Point → Bool = λ q. lands_within_limits q s in
+        let all : list_all test (p ∷ others) ≡ true = ap (list_all test) (sym (append-nil (p ∷ others))) ∙ t in
+        let parts = and_parts (test p) (list_all test others) all in
+        (landed_near s p parts.0, list_lands ps parts.1)
+
+-- the points of one list are its points
+pub joined_one : (points : List Point) → points_of_lists (points ∷ []) ≡ points
+joined_one points = append-nil points

@@ -1,0 +1,93 @@
+-- What a blit reads, between where its corners land and in the part of its box that is seen.
+use Rattle.std.proofs.Common.{◌≡◌, ℕ, ◌+◌, ◌-◌, ◌<◌, ◌≤◌, ℤ, pos, ◌+ℤ◌, ◌≤ℤ◌, ◌<ℤ◌, ◌&&◌, true, List, slice_index_or, Option, Some, None, is_some, arith, refl, sym, ap, ◌∙◌}
+use Rattle.std.proofs.lemmas.Bool.{and_parts}
+use Rattle.std.proofs.lemmas.Int.{ints}
+use Rattle.std.specs.Prelude.{IfSome}
+use Rattle.std.specs.Int.{int_max, int_min}
+use Rattle.mapping.specs.Boxes.{box_between}
+use Rattle.mapping.specs.Colours.{black_colour}
+use Rattle.mapping.specs.declared.geometry.Colour.{Colour}
+use Rattle.mapping.specs.declared.geometry.Point.{Point}
+use Rattle.mapping.specs.declared.geometry.Rect.{Rect}
+use Rattle.dc_stack.specs.Clip.{is_from_to}
+use Rattle.draw_ops.specs.Blits.{SourceValue}
+use Rattle.raster_ops.specs.Readers.{ReadsSource, row_read}
+use Rattle.raster_ops.specs.Sources.{distance, source_colour}
+use Rattle.raster_ops.specs.TernaryOps.{ternary_colour}
+use Rattle.raster_ops.specs.declared.sources.SourceReader.{SourceReader}
+use Rattle.span_fill.specs.Spans.{in_span}
+use Rattle.span_fill.specs.declared.span.Region.{Region}
+use Rattle.span_fill.specs.declared.span.Span.{Span}
+use Rattle.painting.specs.Painted.{colour_seen}
+use Rattle.painting.specs.SourceRows.{HoldsRow, ReadsBox, ReadsRow}
+use Rattle.painting.proofs.TestLemmas.{column_from, from_to_true}
+
+-- the greater of two ends is as far behind the lesser as they are apart
+ends_apart : (v w : ℤ) → int_max v w ≡ int_min v w +ℤ pos (distance v w)
+ends_apart v w = grind (arith, ints)
+
+greatest_end : (v w near : ℤ) (side : ℕ) → near ≡ int_min v w → side ≡ distance v w → int_max v w ≡ near +ℤ pos side
+greatest_end v w near side same long = ends_apart v w ∙ rw (same, long) refl
+
+-- a reader between two corners reads the box between them
+pub box_read :
+    (reader : Option SourceReader) (p q : Point)
+    → IfSome reader (λ r. r.columns.near ≡ int_min p.x q.x) → IfSome reader (λ r. r.columns.side ≡ distance p.x q.x)
+    → IfSome reader (λ r. r.rows.near ≡ int_min p.y q.y) → IfSome reader (λ r. r.rows.side ≡ distance p.y q.y)
+    → IfSome reader (λ r. ReadsBox r (box_between p q))
+box_read None p q left width top height = tt
+box_read (Some r) p q left width top height = record {
+  left = left;
+  right = greatest_end p.x q.x r.columns.near r.columns.side left width;
+  top = top;
+  bottom = greatest_end p.y q.y r.rows.near r.rows.side top height;
+}
+
+-- and shows what is read, if there is one
+pub read_seen :
+    (reader : Option SourceReader) (source : Option SourceValue) (p q : Point) → IfSome reader (λ r. ReadsSource r source p q) → is_some reader ≡ true
+    → (table x y : ℕ) (paint old : Colour) → ternary_colour table paint (colour_seen reader x y) old ≡ ternary_colour table paint (source_colour source p q x y) old
+read_seen None source p q reads some table x y paint old = cc
+read_seen (Some r) source p q reads some table x y paint old = ap (λ (c : Colour). ternary_colour table paint c old) (sym (reads x y))
+
+-- columns and a row that are seen of a box lie in it
+module _ (box : Rect) (region drawn : Region)
+    (columns : (n : ℕ) → in_span drawn.columns n ≡ (in_span region.columns n && is_from_to box.l box.r n))
+    (rows : (n : ℕ) → in_span drawn.rows n ≡ (in_span region.rows n && is_from_to box.t box.b n)) where
+  in_columns : (x : ℕ) → drawn.columns.from ≤ x → x < drawn.columns.to → (box.l ≤ℤ pos x) × (pos x <ℤ box.r)
+  in_columns x low high =
+      from_to_true box.l box.r x (and_parts (in_span region.columns x) (is_from_to box.l box.r x) (sym (columns x) ∙ column_from drawn.columns.from drawn.columns.to x low high)).1
+
+  in_rows : (y : ℕ) → drawn.rows.from ≤ y → y < drawn.rows.to → (box.t ≤ℤ pos y) × (pos y <ℤ box.b)
+  in_rows y low high =
+      from_to_true box.t box.b y (and_parts (in_span region.rows y) (is_from_to box.t box.b y) (sym (rows y) ∙ column_from drawn.rows.from drawn.rows.to y low high)).1
+
+last_before : (last to : ℕ) (end : ℤ) → last + 1 ≡ to → pos last <ℤ end → pos to ≤ℤ end
+last_before last to end next h = grind (arith, ints)
+
+pub columns_read :
+    (source : Option SourceReader) (box : Rect) (region drawn : Region)
+    → ((n : ℕ) → in_span drawn.columns n ≡ (in_span region.columns n && is_from_to box.l box.r n))
+    → ((n : ℕ) → in_span drawn.rows n ≡ (in_span region.rows n && is_from_to box.t box.b n))
+    → IfSome source (λ r. ReadsBox r box) → drawn.columns.from < drawn.columns.to
+    → (y : ℕ) → drawn.rows.from ≤ y → y < drawn.rows.to → IfSome source (λ r. ReadsRow r drawn.columns y)
+columns_read None box region drawn columns rows reads some y low high = tt
+columns_read (Some r) box region drawn columns rows reads some y low high =
+    let last : ℕ = drawn.columns.to - 1 in
+    let next : last + 1 ≡ drawn.columns.to = omega (arith, some) in
+    let left = (in_columns box region drawn columns rows drawn.columns.from (omega arith) some).0 in
+    let right = last_before last drawn.columns.to box.r next (in_columns box region drawn columns rows last (omega (arith, some)) (omega (arith, some))).1 in
+    let row = in_rows box region drawn columns rows y low high in
+    record {
+      left = rw reads.left left;
+      right = rw (← reads.right) right;
+      top = rw reads.top row.0;
+      bottom = rw (← reads.bottom) row.1;
+    }
+
+-- a row of what is read that is held shows at each of its columns what is seen there
+pub held_seen :
+    (source : Option SourceReader) (columns : Span) (y : ℕ) (sources : List Colour) → IfSome source (λ r. HoldsRow r columns (row_read r y) sources) → is_some source ≡ true
+    → (x : ℕ) → columns.from ≤ x → x < columns.to → slice_index_or sources x black_colour ≡ colour_seen source x y
+held_seen None columns y sources held some x low high = cc
+held_seen (Some r) columns y sources held some x low high = held.read x black_colour low high

@@ -1,0 +1,39 @@
+-- What a blit paints, as the code tells it.
+use Rattle.std.specs.Prelude.{ℕ, Bool, ◌&&◌, if◌then◌else◌, Option, Some, is_some}
+use Rattle.mapping.specs.Colours.{black_colour}
+use Rattle.mapping.specs.declared.geometry.Colour.{Colour}
+use Rattle.draw_ops.specs.Blits.{source_of}
+use Rattle.draw_ops.specs.Objects.{brush_value_of}
+use Rattle.draw_ops.specs.declared.ternary_op.TernaryOp.{TernaryOp}
+use Rattle.raster_ops.specs.Paints.{brush_paint}
+use Rattle.raster_ops.specs.Sources.{source_colour}
+use Rattle.raster_ops.specs.TernaryOps.{uses_pattern}
+use Rattle.dc_stack.specs.Clip.{in_box, in_boxes}
+use Rattle.dc_stack.specs.Drawing.{MarkValue, blit_between}
+use Rattle.mapping.specs.Boxes.{box_between}
+use Rattle.mapping.specs.Surface.{Surface, placed_point}
+use Rattle.dc_stack.specs.Values.{placed_value}
+use Rattle.dc_stack.specs.declared.dc.Dc.{Dc}
+use Rattle.dc_stack.specs.declared.draw.PlaneBlit.{PlaneBlit}
+use Rattle.painting.specs.Joined.{joined_if}
+
+-- the mark of a blit
+abbrev pub blit_mark : PlaneBlit → MarkValue
+blit_mark blit = blit_between blit.first blit.second blit.operation.table (source_of blit.source)
+
+-- the colour that the brush gives a pixel, or nothing: any, where the operation doesn't depend on the pattern
+abbrev pub blit_colour : TernaryOp → Dc → ℕ → ℕ → Option Colour
+blit_colour operation dc x y =
+    if uses_pattern operation.table
+    then brush_paint (brush_value_of dc.selected.brush) dc.modes.background_mode dc.modes.background_colour x y
+    else Some black_colour
+
+-- the pixel is one of the box, the clip has it, and the brush doesn't give nothing
+abbrev pub blit_paints : PlaneBlit → Surface → Dc → ℕ → ℕ → Bool
+blit_paints blit s dc x y =
+    in_boxes (placed_value dc.clip) x y && in_box (box_between (placed_point blit.first s) (placed_point blit.second s)) x y && is_some (blit_colour blit.operation dc x y)
+
+-- and becomes this
+abbrev pub blit_made : PlaneBlit → Surface → Dc → ℕ → ℕ → Colour → Colour
+blit_made blit s dc x y old =
+    joined_if blit.operation.table (source_colour (source_of blit.source) (placed_point blit.first s) (placed_point blit.second s) x y) (blit_colour blit.operation dc x y) old

@@ -1,0 +1,12 @@
+-- The lines of figures that are to come.
+use Rattle.std.specs.Prelude.{List}
+use Rattle.span_fill.specs.declared.line.Line.{Line}
+use Rattle.painting.specs.FiguresToCome.{piece_lines_left}
+use Rattle.painting.specs.LinesToCome.{lines_to_come}
+use Rattle.painting.specs.declared.figure_outline.FigureOutline.{FigureOutline}
+use Rattle.painting.specs.declared.figure_outline.FigureOutline.TheVariants.{Lists, Pieces}
+
+-- of lists of points, or of pieces
+abbrev pub outline_left : FigureOutline → List Line
+outline_left (Lists lines) = lines_to_come lines
+outline_left (Pieces lines) = piece_lines_left lines

@@ -1,0 +1,32 @@
+-- What an ink makes of the pixels of its row.
+use Rattle.std.specs.Prelude.{ℕ, ◌%◌, Bool, true, false, if◌then◌else◌, slice_index_or, Some, None}
+use Rattle.mapping.specs.declared.geometry.Colour.{Colour}
+use Rattle.mapping.specs.Mixes.{mixed_by}
+use Rattle.mapping.specs.Pixels.{is_cell}
+use Rattle.canvas.specs.MixRows.{mix_at}
+use Rattle.painting.specs.declared.row_ink.RowInk.{RowInk}
+use Rattle.painting.specs.declared.row_ink.RowInk.TheVariants.{Nothing, Full, Pattern, Mixed, Cells, Row, MixRow, MixCells}
+
+-- the ink writes the pixel in column x
+abbrev pub is_inked : RowInk → ℕ → Bool
+is_inked Nothing x = false
+is_inked (Full swatch) x = true
+is_inked (Pattern colours) x = true
+is_inked (Mixed mix) x = true
+is_inked (Cells cells mix None) x = is_cell cells x
+is_inked (Cells cells mix (Some gaps)) x = true
+is_inked (Row colours) x = true
+is_inked (MixRow keeps flips) x = true
+is_inked (MixCells cells keeps flips) x = is_cell cells x
+
+-- and makes this of its old colour
+abbrev pub inked : RowInk → ℕ → Colour → Colour
+inked Nothing x old = old
+inked (Full swatch) x old = swatch.colour
+inked (Pattern colours) x old = slice_index_or colours (x % 8) old
+inked (Mixed mix) x old = mixed_by mix old
+inked (Cells cells mix None) x old = mixed_by mix old
+inked (Cells cells mix (Some gaps)) x old = if is_cell cells x then mixed_by mix old else mixed_by gaps old
+inked (Row colours) x old = slice_index_or colours.now x old
+inked (MixRow keeps flips) x old = mixed_by (mix_at keeps.now flips.now x) old
+inked (MixCells cells keeps flips) x old = mixed_by (mix_at keeps.now flips.now x) old

@@ -1,0 +1,87 @@
+//! The lines of figures that are painted, where they land.
+
+ghost use Rattle.std.specs.Prelude.{◌≡◌, ◌<◌, ◌^◌, IsTrue, length};
+ghost use Rattle.std.specs.List.{list_all};
+ghost use Rattle.mapping.specs.Surface.{lands_within_limits};
+ghost use Rattle.dc_stack.specs.Draws.{LendsLanded, figures_drawn};
+ghost use Rattle.dc_stack.specs.Figures.{points_of_figures};
+ghost use Rattle.painting.specs.FigureEnds.{lines_of_figures, stroked_ends};
+ghost use Rattle.preflight_cert.specs.FigureLines.{placed_figures};
+
+use crate::list_lines::Ends;
+use crate::piece_lines::PieceLines;
+use crate::placed_lines::PlacedLines;
+use dc_stack::{FigurePoints, Machine, Painting, Projection};
+use object_tables::Table;
+use span_fill::{Line, Outline};
+
+/// The lines of figures that are to come.
+#[derive(Clone, Copy, Debug, Drop)]
+pub(crate) enum FigureOutline<'p, 'a> {
+    /// Of lists of points.
+    Lists(PlacedLines<'a>),
+    /// Of the pieces of a path.
+    Pieces(PieceLines<'p, 'a>),
+}
+
+impl<'p, 'a> FigureOutline<'p, 'a> {
+    ghost use Rattle.painting.specs.FigureOutlines.{outline_left};
+
+    /// The lines of figures that a machine draws: all are closed, or those that say so.
+    pub(crate) fn new<T: Table<'a>>(
+        points: FigurePoints<'a>,
+        ends: Ends,
+        machine: &'p Machine<'a, T>,
+    ) -> FigureOutline<'p, 'a>
+        requires lent { LendsLanded machine.now.surface machine.now.painted points }
+        requires land { IsTrue (list_all (λ p. lands_within_limits p machine.now.surface) (points_of_figures (figures_drawn machine.now.painted points))) }
+        requires few { length (points_of_figures (figures_drawn machine.now.painted points)) < 2 ^ 64 }
+        ensures { outline_left result ≡ lines_of_figures ends (placed_figures machine.now.surface (figures_drawn machine.now.painted points.entry)) }
+    {
+        let place = machine.place();
+        match points {
+            FigurePoints::Through { from, points, map } => {
+                let by = Projection { map, place };
+                FigureOutline::Lists(PlacedLines::from(place.at(from), ends, by, points))
+            }
+            FigurePoints::Lists { lists, map } => {
+                let by = Projection { map, place };
+                FigureOutline::Lists(PlacedLines::of_lists(by, ends, lists))
+            }
+            FigurePoints::Path => {
+                FigureOutline::Pieces(PieceLines::new(place, ends, machine.painted()))
+            }
+        }
+    }
+}
+
+impl<'p, 'a> Outline for FigureOutline<'p, 'a> {
+    ghost use Rattle.painting.specs.FigureOutlines.{outline_left};
+
+    ghost lines = { outline_left };
+
+    fn count(&self) -> usize {
+        match self {
+            FigureOutline::Lists(lines) => lines.count(),
+            FigureOutline::Pieces(lines) => lines.count(),
+        }
+    }
+
+    fn next_line(&mut self) -> Option<Line> {
+        match self {
+            FigureOutline::Lists(lines) => lines.next_line(),
+            FigureOutline::Pieces(lines) => lines.next_line(),
+        }
+    }
+}
+
+/// Whether the figures that a painting strokes are all closed, if it strokes them.
+pub(crate) fn stroked_ends(painting: Painting) -> Option<Ends>
+    ensures { result ≡ stroked_ends painting }
+{
+    match painting {
+        Painting::Fill => None,
+        Painting::Stroke => Some(Ends::Open),
+        Painting::StrokeAndFill => Some(Ends::Closed),
+    }
+}

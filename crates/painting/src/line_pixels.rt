@@ -1,0 +1,31 @@
+//! The pixels of a line's steps, as a canvas takes them.
+
+ghost use Rattle.std.specs.Prelude.{◌-◌};
+ghost use Rattle.painting.specs.LinePixels.{is_to_step};
+ghost use Rattle.span_fill.specs.Strokes.{OnePixelForEachStep};
+
+use canvas::{PixelAt, PixelSource};
+use span_fill::{LineSteps, line_law};
+
+/// The pixels of the steps that are left of a line.
+#[derive(Drop)]
+pub(crate) struct LinePixels {
+    pub(crate) steps: LineSteps,
+}
+
+impl PixelSource for LinePixels {
+    ghost to_come = { λ pixels. is_to_step pixels.steps };
+
+    ghost measure = { λ pixels. pixels.steps.end - pixels.steps.next };
+
+    fn next_pixel(&mut self) -> Option<PixelAt> {
+        line_law();
+        match self.steps.next() {
+            Some(pixel) => Some(PixelAt {
+                x: pixel.x,
+                y: pixel.y,
+            }),
+            None => None,
+        }
+    }
+}

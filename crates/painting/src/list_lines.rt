@@ -1,0 +1,117 @@
+//! The lines of one list of points of the page, where they land.
+
+ghost use Rattle.std.specs.Prelude.{◌≡◌, ◌<◌, ◌≤◌, ◌^◌, length, IfSome};
+ghost use Rattle.mapping.specs.declared.geometry.Point.{Point};
+ghost use Rattle.point_views.specs.Points.{points_of};
+ghost use Rattle.span_fill.specs.Lines.{GivesFirst, HasNearEnds, IsNearPoint};
+ghost use Rattle.painting.specs.PlacedLines.{AllLand, lines_of_list};
+
+use dc_stack::Projection;
+use mapping::Point;
+use point_views::Points;
+use span_fill::Line;
+
+/// Whether a list's last point is joined to its first.
+#[derive(Clone, Copy, Debug, PartialEq, Eq)]
+pub(crate) enum Ends {
+    Open,
+    Closed,
+}
+
+/// Where in a list the lines are: its first point where it lands, and the last so far.
+#[derive(Clone, Copy, Debug)]
+pub(crate) struct Traced {
+    pub(crate) first: Point,
+    pub(crate) last: Point,
+    pub(crate) ghost first_near: { IsNearPoint first },
+    pub(crate) ghost last_near: { IsNearPoint last },
+}
+
+/// The lines of a list that are to come.
+#[derive(Clone, Copy, Debug)]
+pub(crate) struct ListLines<'a> {
+    pub(crate) by: Projection,
+    pub(crate) ends: Ends,
+    /// None once the list's last line was given, or where it has none.
+    pub(crate) course: Option<Traced>,
+    /// The points of the page to come.
+    pub(crate) points: Points<'a>,
+    pub(crate) ghost land: { AllLand by (points_of points) },
+}
+
+impl<'a> ListLines<'a> {
+    ghost use Rattle.painting.specs.LinesToCome.{lines_left};
+
+    /// The lines of a list.
+    pub(crate) fn new(by: Projection, ends: Ends, points: Points<'a>) -> ListLines<'a>
+        requires { AllLand by (points_of points) }
+        ensures { lines_left result ≡ lines_of_list by ends (points_of points.entry) }
+    {
+        let Some((first, rest)) = points.split_first() else {
+            return ListLines {
+                by,
+                ends,
+                course: None,
+                points,
+            };
+        };
+        let first = by.at(first);
+        ListLines {
+            by,
+            ends,
+            course: Some(Traced { first, last: first }),
+            points: rest,
+        }
+    }
+
+    /// How many lines are to come.
+    pub(crate) fn count(&self) -> usize
+        ensures count { result ≡ length (lines_left self.now) }
+        ensures few { result ≤ 2 ^ 62 }
+    {
+        let count = count_points(self.points);
+        match (self.course, self.ends) {
+            (None, _) => 0,
+            (Some(_), Ends::Open) => count,
+            (Some(_), Ends::Closed) => count + 1,
+        }
+    }
+
+    /// The next line, or none behind the last.
+    pub(crate) fn next_line(&mut self) -> Option<Line>
+        ensures line { GivesFirst (lines_left self.old) result (lines_left self.new) }
+        ensures near { IfSome result HasNearEnds }
+    {
+        let Some(course) = self.course else {
+            return None;
+        };
+        let Some((point, rest)) = self.points.split_first() else {
+            self.course = None;
+            return match self.ends {
+                Ends::Open => None,
+                Ends::Closed => Some(Line {
+                    from: course.last,
+                    to: course.first,
+                }),
+            };
+        };
+        let last = self.by.at(point);
+        self.points = rest;
+        self.course = Some(Traced {
+            first: course.first,
+            last,
+        });
+        Some(Line {
+            from: course.last,
+            to: last,
+        })
+    }
+}
+
+/// How many points there are: fewer than 2^62, since each takes four bytes at least.
+pub(crate) fn count_points(points: Points<'_>) -> usize
+    ensures count { result ≡ length (points_of points.entry) }
+    ensures few { result < 2 ^ 62 }
+{
+    points.len()
+}

@@ -1,0 +1,195 @@
+//! The moves through the points of a list, where they land.
+
+ghost use Rattle.std.specs.Prelude.{◌≡◌, ◌↔◌, [], IfSome, IsTrue};
+ghost use Rattle.std.specs.List.{All};
+ghost use Rattle.point_views.specs.Points.{points_of};
+ghost use Rattle.span_fill.specs.Lines.{GivesFirst, IsNearPoint};
+ghost use Rattle.painting.specs.FewPoints.{few_points};
+ghost use Rattle.painting.specs.Moves.{IsNearMove, end_before, end_behind, moves_of_list};
+ghost use Rattle.painting.specs.PlacedLines.{AllLand};
+
+use dc_stack::{FigureEnd, Joining, Projection};
+use mapping::Point;
+use point_views::Points;
+
+/// What is done with the open figure.
+#[derive(Clone, Copy, Debug, PartialEq, Eq)]
+pub(crate) enum Move {
+    /// It goes on to a point, or one begins there.
+    To(Point),
+    /// What becomes of it.
+    End(FigureEnd),
+}
+
+/// Up to four points.
+#[derive(Clone, Copy, Debug, PartialEq, Eq)]
+pub(crate) enum FewPoints {
+    Zero,
+    One(Point),
+    Two(Point, Point),
+    Three(Point, Point, Point),
+    Four(Point, Point, Point, Point),
+}
+
+/// Points of the page.
+#[derive(Clone, Copy, Debug)]
+pub(crate) struct PagePoints<'a> {
+    pub(crate) by: Projection,
+    pub(crate) points: Points<'a>,
+    pub(crate) ghost land: { AllLand by (points_of points) },
+}
+
+/// Points of a surface.
+#[derive(Clone, Copy, Debug)]
+pub(crate) struct PlacedPoints {
+    pub(crate) points: FewPoints,
+    pub(crate) ghost near: { All IsNearPoint (few_points points) },
+}
+
+/// The points of a list that are to come.
+#[derive(Clone, Copy, Debug)]
+pub(crate) enum ListPoints<'a> {
+    Page(PagePoints<'a>),
+    Placed(PlacedPoints),
+}
+
+/// The moves through a list that are to come.
+#[derive(Clone, Copy, Debug)]
+pub(crate) struct ListMoves<'a> {
+    /// What becomes of the open figure before the list: none once given.
+    pub(crate) before: Option<FigureEnd>,
+    pub(crate) points: ListPoints<'a>,
+    /// And behind it.
+    pub(crate) behind: Option<FigureEnd>,
+}
+
+impl FewPoints {
+    /// The first point, or none where there is none.
+    fn next_point(&mut self) -> Option<Point>
+        ensures { GivesFirst (few_points self.old) result (few_points self.new) }
+    {
+        let (point, rest) = match *self {
+            FewPoints::Zero => return None,
+            FewPoints::One(a) => (a, FewPoints::Zero),
+            FewPoints::Two(a, b) => (a, FewPoints::One(b)),
+            FewPoints::Three(a, b, c) => (a, FewPoints::Two(b, c)),
+            FewPoints::Four(a, b, c, d) => (a, FewPoints::Three(b, c, d)),
+        };
+        *self = rest;
+        Some(point)
+    }
+}
+
+impl<'a> PagePoints<'a> {
+    ghost use Rattle.painting.specs.MovesToCome.{page_points_left};
+
+    /// Where the first point lands, or none where there is none.
+    fn next_point(&mut self) -> Option<Point>
+        ensures point { GivesFirst (page_points_left self.old) result (page_points_left self.new) }
+        ensures near { IfSome result IsNearPoint }
+    {
+        let (point, rest) = self.points.split_first()?;
+        let placed = self.by.at(point);
+        self.points = rest;
+        Some(placed)
+    }
+}
+
+impl PlacedPoints {
+    ghost use Rattle.painting.specs.MovesToCome.{placed_points_left};
+
+    /// The first point, or none where there is none.
+    fn next_point(&mut self) -> Option<Point>
+        ensures point { GivesFirst (placed_points_left self.old) result (placed_points_left self.new) }
+        ensures near { IfSome result IsNearPoint }
+    {
+        let mut points = self.points;
+        let point = points.next_point()?;
+        self.points = points;
+        Some(point)
+    }
+}
+
+impl<'a> ListPoints<'a> {
+    ghost use Rattle.painting.specs.MovesToCome.{points_left};
+
+    /// Where the first point is, or none where there is none.
+    fn next_point(&mut self) -> Option<Point>
+        ensures point { GivesFirst (points_left self.old) result (points_left self.new) }
+        ensures near { IfSome result IsNearPoint }
+    {
+        match self {
+            ListPoints::Page(list) => list.next_point(),
+            ListPoints::Placed(list) => list.next_point(),
+        }
+    }
+
+    /// Whether there is no point.
+    fn is_empty(&self) -> bool
+        ensures { IsTrue result ↔ (points_left self.now ≡ []) }
+    {
+        match self {
+            ListPoints::Page(list) => list.points.is_empty(),
+            ListPoints::Placed(list) => matches!(list.points, FewPoints::Zero),
+        }
+    }
+}
+
+/// What becomes of the open figure before a list.
+fn end_before_list(joining: Joining) -> FigureEnd
+    ensures { result ≡ end_before joining }
+{
+    match joining {
+        Joining::GoesOn => FigureEnd::Open,
+        Joining::Polylines | Joining::Polygons => FigureEnd::Ended,
+    }
+}
+
+/// What becomes of the open figure behind a list.
+fn end_behind_list(joining: Joining) -> FigureEnd
+    ensures { result ≡ end_behind joining }
+{
+    match joining {
+        Joining::GoesOn | Joining::Polylines => FigureEnd::Open,
+        Joining::Polygons => FigureEnd::Closed,
+    }
+}
+
+impl<'a> ListMoves<'a> {
+    ghost use Rattle.painting.specs.MovesToCome.{list_moves_left, points_left};
+
+    /// The moves through a list.
+    pub(crate) fn new(joining: Joining, points: ListPoints<'a>) -> ListMoves<'a>
+        ensures { list_moves_left result ≡ moves_of_list joining (points_left points.entry) }
+    {
+        if points.is_empty() {
+            return ListMoves {
+                before: None,
+                points,
+                behind: None,
+            };
+        }
+        ListMoves {
+            before: Some(end_before_list(joining)),
+            points,
+            behind: Some(end_behind_list(joining)),
+        }
+    }
+
+    /// The next move, or none behind the last.
+    pub(crate) fn next_move(&mut self) -> Option<Move>
+        ensures next { GivesFirst (list_moves_left self.old) result (list_moves_left self.new) }
+        ensures near { IfSome result IsNearMove }
+    {
+        if let Some(end) = self.before {
+            self.before = None;
+            return Some(Move::End(end));
+        }
+        if let Some(point) = self.points.next_point() {
+            return Some(Move::To(point));
+        }
+        let end = self.behind?;
+        self.behind = None;
+        Some(Move::End(end))
+    }
+}

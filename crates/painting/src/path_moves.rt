@@ -1,0 +1,213 @@
+//! The moves through the points of pieces, where they land.
+
+ghost use Rattle.std.specs.Prelude.{◌≡◌, [], ◌∷◌, IfSome, IsTrue};
+ghost use Rattle.mapping.specs.PlaceOf.{surface_of};
+ghost use Rattle.point_views.specs.Polys.{lists_of};
+ghost use Rattle.mapping.specs.Boxes.{box_between};
+ghost use Rattle.dc_stack.specs.Figures.{box_corners};
+ghost use Rattle.dc_stack.specs.Mapped.{left_top_of, right_bottom_of};
+ghost use Rattle.dc_stack.specs.Pieces.{AllLandOn, LandsOn, page_lists};
+ghost use Rattle.dc_stack.specs.Projected.{is_projected, projected};
+ghost use Rattle.span_fill.specs.Lines.{GivesFirst};
+ghost use Rattle.painting.specs.FewPoints.{few_points};
+ghost use Rattle.painting.specs.Moves.{IsNearMove, moves_of_piece, moves_of_pieces};
+ghost use Rattle.painting.specs.PieceParts.{page_part, placed_part};
+ghost use Rattle.painting.specs.PlacedLines.{AllListsLand};
+
+use crate::moves::{FewPoints, ListMoves, ListPoints, Move, PagePoints, PlacedPoints};
+use crate::rectangles::between;
+use dc_stack::{FigureEnd, Joining, Piece, PiecePoints, Projection};
+use mapping::{Place, Point, Rect, placing_law};
+use point_views::Polys;
+
+/// The moves through a piece that are to come.
+#[derive(Clone, Copy, Debug)]
+pub(crate) struct PieceMoves<'a> {
+    pub(crate) by: Projection,
+    pub(crate) joining: Joining,
+    /// Those through the list where they are.
+    pub(crate) list: ListMoves<'a>,
+    /// The lists after it.
+    pub(crate) lists: Polys<'a>,
+    /// What becomes of the open figure behind the piece: none once given.
+    pub(crate) end: Option<FigureEnd>,
+    pub(crate) ghost land: { AllListsLand by (lists_of lists) },
+}
+
+/// The moves through pieces that are to come.
+#[derive(Clone, Copy, Debug, Drop)]
+pub(crate) struct PathMoves<'p, 'a> {
+    pub(crate) place: Place,
+    /// Those through the piece where they are.
+    pub(crate) current: Option<PieceMoves<'a>>,
+    /// The pieces after it.
+    pub(crate) pieces: &'p [Piece<'a>],
+    pub(crate) ghost land: { AllLandOn (surface_of place) pieces.now },
+}
+
+/// The points of a piece that are placed at once: a point, or the corners of a box.
+fn place_part(by: Projection, points: PiecePoints<'_>) -> PlacedPoints
+    requires { AllListsLand by (page_lists points) }
+    ensures { few_points result.points ≡ placed_part by points.entry }
+{
+    match points {
+        PiecePoints::Point(point) => place_one(by, point),
+        PiecePoints::List(_) | PiecePoints::Lists(_) => PlacedPoints {
+            points: FewPoints::Zero,
+        },
+        PiecePoints::Corners(corners) => place_corners(by, corners),
+    }
+}
+
+/// Where a point of the page lands.
+fn place_one(by: Projection, point: Point) -> PlacedPoints
+    requires { IsTrue (is_projected by point) }
+    ensures { few_points result.points ≡ projected by point ∷ [] }
+{
+    PlacedPoints {
+        points: FewPoints::One(by.at(point)),
+    }
+}
+
+/// The corners of a box, where two of them land.
+fn place_corners(by: Projection, corners: Rect) -> PlacedPoints
+    requires first { IsTrue (is_projected by (left_top_of corners)) }
+    requires second { IsTrue (is_projected by (right_bottom_of corners)) }
+    ensures { few_points result.points ≡ box_corners (box_between (projected by (left_top_of corners)) (projected by (right_bottom_of corners))) }
+{
+    let (first, second) = two_corners(corners);
+    let inside = between(by.at(first), by.at(second));
+    PlacedPoints {
+        points: corners_of(inside),
+    }
+}
+
+/// The left top of a box, and its right bottom.
+fn two_corners(corners: Rect) -> (Point, Point)
+    ensures first { result.0 ≡ left_top_of corners }
+    ensures second { result.1 ≡ right_bottom_of corners }
+{
+    (point(corners.l, corners.t), point(corners.r, corners.b))
+}
+
+/// The corners of a box, from the left top one round by the right.
+fn corners_of(inside: Rect) -> FewPoints
+    ensures { few_points result ≡ box_corners inside }
+{
+    FewPoints::Four(
+        point(inside.l, inside.t),
+        point(inside.r, inside.t),
+        point(inside.r, inside.b),
+        point(inside.l, inside.b),
+    )
+}
+
+/// The point of two coordinates.
+fn point(x: i32, y: i32) -> Point
+    ensures x { result.x ≡ x }
+    ensures y { result.y ≡ y }
+{
+    Point { x, y }
+}
+
+/// The lists of a piece whose points are placed one after another.
+fn lists_to_place(points: PiecePoints<'_>) -> Polys<'_>
+    ensures { lists_of result ≡ page_part points.entry }
+{
+    match points {
+        PiecePoints::Point(_) | PiecePoints::Corners(_) => Polys::empty(),
+        PiecePoints::List(points) => Polys::one(points),
+        PiecePoints::Lists(parted) => Polys::Parted(parted),
+    }
+}
+
+impl<'a> PieceMoves<'a> {
+    ghost use Rattle.painting.specs.MovesToCome.{piece_moves_left};
+
+    /// The moves through a piece.
+    fn new(place: Place, piece: Piece<'a>) -> PieceMoves<'a>
+        requires { LandsOn (surface_of place) piece }
+        ensures { piece_moves_left result ≡ moves_of_piece (surface_of place) piece.entry }
+    {
+        placing_law();
+        let by = Projection {
+            map: piece.map,
+            place,
+        };
+        let first = place_part(by, piece.points);
+        PieceMoves {
+            by,
+            joining: piece.joining,
+            list: ListMoves::new(piece.joining, ListPoints::Placed(first)),
+            lists: lists_to_place(piece.points),
+            end: Some(piece.end),
+        }
+    }
+
+    /// The next move, or none behind the last.
+    fn next_move(&mut self) -> Option<Move>
+        ensures next { GivesFirst (piece_moves_left self.old) result (piece_moves_left self.new) }
+        ensures near { IfSome result IsNearMove }
+    {
+        loop {
+            if let Some(step) = self.list.next_move() {
+                return Some(step);
+            }
+            let Some((points, rest)) = self.lists.split_first() else {
+                let end = self.end?;
+                self.end = None;
+                return Some(Move::End(end));
+            };
+            let points = PagePoints {
+                by: self.by,
+                points,
+            };
+            self.list = ListMoves::new(self.joining, ListPoints::Page(points));
+            self.lists = rest;
+        }
+    }
+}
+
+impl<'p, 'a> PathMoves<'p, 'a> {
+    ghost use Rattle.painting.specs.MovesToCome.{moves_of_current, path_moves_left};
+
+    /// The moves through pieces.
+    pub(crate) fn new(place: Place, pieces: &'p [Piece<'a>]) -> PathMoves<'p, 'a>
+        requires { AllLandOn (surface_of place) pieces.now }
+        ensures { path_moves_left result ≡ moves_of_pieces (surface_of place) pieces.now }
+    {
+        PathMoves {
+            place,
+            current: None,
+            pieces,
+        }
+    }
+
+    /// The next move of a piece, or none behind its last, or where there is no piece.
+    fn next_of(current: &mut Option<PieceMoves<'a>>) -> Option<Move>
+        ensures next { GivesFirst (moves_of_current current.old) result (moves_of_current current.new) }
+        ensures near { IfSome result IsNearMove }
+    {
+        match current {
+            None => None,
+            Some(moves) => moves.next_move(),
+        }
+    }
+
+    /// The next move, or none behind the last.
+    pub(crate) fn next_move(&mut self) -> Option<Move>
+        ensures next { GivesFirst (path_moves_left self.old) result (path_moves_left self.new) }
+        ensures near { IfSome result IsNearMove }
+    {
+        loop {
+            if let Some(step) = PathMoves::next_of(&mut self.current) {
+                return Some(step);
+            }
+            let [piece, rest @ ..] = self.pieces else {
+                return None;
+            };
+            self.current = Some(PieceMoves::new(self.place, *piece));
+            self.pieces = rest;
+        }
+    }
+}

@@ -1,0 +1,151 @@
+//! The lines of the figures that pieces of a path make, where they land.
+
+ghost use Rattle.std.specs.Prelude.{◌≡◌, ◌<◌, ◌^◌, [], length, IfSome};
+ghost use Rattle.mapping.specs.PlaceOf.{surface_of};
+ghost use Rattle.dc_stack.specs.Figures.{all_figures, points_of_figures};
+ghost use Rattle.dc_stack.specs.Pieces.{AllLandOn, figures_of};
+ghost use Rattle.span_fill.specs.Lines.{GivesFirst, HasNearEnds, IsNearPoint};
+ghost use Rattle.painting.specs.FigureEnds.{lines_of_figures};
+ghost use Rattle.preflight_cert.specs.FigureLines.{placed_figures};
+ghost use Rattle.painting.specs.Moves.{IsNearMove, after_move, lines_at_end, lines_of_move};
+ghost use Rattle.painting.specs.MovesToCome.{drawn_of, figure_lines_left};
+ghost use Rattle.painting.specs.declared.moves.Move.TheVariants.{To, End};
+
+use crate::list_lines::{Ends, Traced};
+use crate::moves::Move;
+use crate::path_moves::PathMoves;
+use dc_stack::{FigureEnd, Piece};
+use mapping::{Place, Point};
+use span_fill::{Line, Outline};
+
+/// The lines that moves draw, which are to come.
+#[derive(Clone, Copy, Debug, Drop)]
+pub(crate) struct FigureLines<'p, 'a> {
+    pub(crate) ends: Ends,
+    /// The open figure, if there is one.
+    pub(crate) course: Option<Traced>,
+    pub(crate) moves: PathMoves<'p, 'a>,
+}
+
+/// The lines of the figures that pieces make, which are to come.
+#[derive(Clone, Copy, Debug, Drop)]
+pub(crate) struct PieceLines<'p, 'a> {
+    pub(crate) lines: FigureLines<'p, 'a>,
+    pub(crate) ghost few: { length (figure_lines_left lines) < 2 ^ 64 },
+}
+
+/// The open figure goes on to a point, by a line, or one begins there.
+fn go_to(course: &mut Option<Traced>, ends: Ends, point: Point) -> Option<Line>
+    requires { IsNearPoint point }
+    ensures line { GivesFirst (lines_of_move ends (To point) (drawn_of course.old)) result [] }
+    ensures near { IfSome result HasNearEnds }
+    ensures figure { drawn_of course.new ≡ after_move (To point) (drawn_of course.old) }
+{
+    let Some(figure) = *course else {
+        *course = Some(Traced {
+            first: point,
+            last: point,
+        });
+        return None;
+    };
+    *course = Some(Traced {
+        first: figure.first,
+        last: point,
+    });
+    Some(Line {
+        from: figure.last,
+        to: point,
+    })
+}
+
+/// What becomes of the open figure: a line back to its first point, where it has that.
+fn end_figure(course: &mut Option<Traced>, ends: Ends, end: FigureEnd) -> Option<Line>
+    ensures line { GivesFirst (lines_at_end ends end (drawn_of course.old)) result [] }
+    ensures near { IfSome result HasNearEnds }
+    ensures figure { drawn_of course.new ≡ after_move (End end) (drawn_of course.old) }
+{
+    let figure = (*course)?;
+    match (end, ends) {
+        (FigureEnd::Open, _) => None,
+        (FigureEnd::Ended, Ends::Open) => {
+            *course = None;
+            None
+        }
+        (FigureEnd::Ended, Ends::Closed) | (FigureEnd::Closed, _) => {
+            *course = None;
+            Some(Line {
+                from: figure.last,
+                to: figure.first,
+            })
+        }
+    }
+}
+
+impl<'p, 'a> FigureLines<'p, 'a> {
+    /// The line that a move draws, if it does.
+    fn follow(&mut self, step: Move) -> Option<Line>
+        requires { IsNearMove step }
+        ensures line { GivesFirst (lines_of_move self.old.ends step (drawn_of self.old.course)) result [] }
+        ensures near { IfSome result HasNearEnds }
+        ensures figure { drawn_of self.new.course ≡ after_move step (drawn_of self.old.course) }
+        ensures moves { self.new.moves ≡ self.old.moves }
+        ensures ends { self.new.ends ≡ self.old.ends }
+    {
+        match step {
+            Move::To(point) => go_to(&mut self.course, self.ends, point),
+            Move::End(end) => end_figure(&mut self.course, self.ends, end),
+        }
+    }
+
+    /// The next line, or none behind the last.
+    fn next_line(&mut self) -> Option<Line>
+        ensures line { GivesFirst (figure_lines_left self.old) result (figure_lines_left self.new) }
+        ensures near { IfSome result HasNearEnds }
+    {
+        while let Some(step) = self.moves.next_move() {
+            if let Some(line) = self.follow(step) {
+                return Some(line);
+            }
+        }
+        self.follow(Move::End(FigureEnd::Ended))
+    }
+}
+
+impl<'p, 'a> PieceLines<'p, 'a> {
+    ghost use Rattle.painting.specs.FiguresToCome.{piece_lines_left};
+
+    /// The lines of the figures that pieces make: all are closed, or those that say so.
+    pub(crate) fn new(place: Place, ends: Ends, pieces: &'p [Piece<'a>]) -> PieceLines<'p, 'a>
+        requires land { AllLandOn (surface_of place) pieces.now }
+        requires few { length (points_of_figures (all_figures (figures_of pieces.now))) < 2 ^ 64 }
+        ensures { piece_lines_left result
+            ≡ lines_of_figures ends (placed_figures (surface_of place) (all_figures (figures_of pieces.now))) }
+    {
+        PieceLines {
+            lines: FigureLines {
+                ends,
+                course: None,
+                moves: PathMoves::new(place, pieces),
+            },
+        }
+    }
+}
+
+impl<'p, 'a> Outline for PieceLines<'p, 'a> {
+    ghost use Rattle.painting.specs.FiguresToCome.{piece_lines_left};
+
+    ghost lines = { piece_lines_left };
+
+    fn count(&self) -> usize {
+        let mut rest = self.lines;
+        let mut count = 0;
+        while let Some(_) = rest.next_line() {
+            count += 1;
+        }
+        count
+    }
+
+    fn next_line(&mut self) -> Option<Line> {
+        self.lines.next_line()
+    }
+}

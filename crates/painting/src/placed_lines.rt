@@ -1,0 +1,134 @@
+//! The lines of lists of points of the page, where they land, one list's after another's.
+
+ghost use Rattle.std.specs.Prelude.{◌≡◌, ◌∷◌, ◌<◌, ◌^◌, length, IfSome};
+ghost use Rattle.mapping.specs.declared.geometry.Point.{Point};
+ghost use Rattle.point_views.specs.Points.{points_of};
+ghost use Rattle.point_views.specs.Polys.{lists_of};
+ghost use Rattle.span_fill.specs.Lines.{GivesFirst, HasNearEnds, IsNearPoint};
+ghost use Rattle.preflight_cert.specs.Outlines.{open_lines_of};
+ghost use Rattle.painting.specs.PlacedLines.{AllLand, AllListsLand, lines_between, lines_of_lists, projected_list};
+
+use crate::list_lines::{Ends, ListLines, Traced, count_points};
+use dc_stack::Projection;
+use mapping::Point;
+use point_views::{Points, Polys};
+use span_fill::{Line, Outline};
+
+/// The lines of lists of points that are to come.
+#[derive(Clone, Copy, Debug, Drop)]
+pub(crate) struct PlacedLines<'a> {
+    /// The list whose lines are being given.
+    pub(crate) current: Option<ListLines<'a>>,
+    pub(crate) by: Projection,
+    pub(crate) ends: Ends,
+    /// The lists after it.
+    pub(crate) lists: Polys<'a>,
+    pub(crate) ghost land: { AllListsLand by (lists_of lists) },
+}
+
+impl<'a> PlacedLines<'a> {
+    ghost use Rattle.painting.specs.LinesToCome.{lines_of_current, lines_to_come};
+
+    /// The lines of some lists.
+    pub(crate) fn of_lists(by: Projection, ends: Ends, lists: Polys<'a>) -> PlacedLines<'a>
+        requires { AllListsLand by (lists_of lists) }
+        ensures { lines_to_come result ≡ lines_of_lists by ends (lists_of lists.entry) }
+    {
+        PlacedLines {
+            current: None,
+            by,
+            ends,
+            lists,
+        }
+    }
+
+    /// The lines from a placed point through points of the page.
+    pub(crate) fn from(
+        start: Point,
+        ends: Ends,
+        by: Projection,
+        points: Points<'a>,
+    ) -> PlacedLines<'a>
+        requires near { IsNearPoint start }
+        requires land { AllLand by (points_of points) }
+        ensures { lines_to_come result ≡ lines_between ends (start ∷ projected_list by (points_of points.entry)) }
+    {
+        PlacedLines {
+            current: Some(ListLines {
+                by,
+                ends,
+                course: Some(Traced {
+                    first: start,
+                    last: start,
+                }),
+                points,
+            }),
+            by,
+            ends,
+            lists: Polys::empty(),
+        }
+    }
+
+    /// How many lines the lists have after the one whose lines are being given.
+    fn count_lists(&self) -> usize
+        ensures count { result ≡ length (lines_of_lists self.now.by self.now.ends (lists_of self.now.lists)) }
+        ensures few { result < 2 ^ 62 }
+    {
+        match self.ends {
+            Ends::Open => count_open(self.lists),
+            Ends::Closed => count_points(self.lists.points()),
+        }
+    }
+
+    /// The next line of a list, or none behind its last, or where there is no list.
+    fn next_of(current: &mut Option<ListLines<'a>>) -> Option<Line>
+        ensures line { GivesFirst (lines_of_current current.old) result (lines_of_current current.new) }
+        ensures near { IfSome result HasNearEnds }
+    {
+        match current {
+            None => None,
+            Some(lines) => lines.next_line(),
+        }
+    }
+}
+
+/// How many lines there are from point to point of each list: in a list that has points, one less than it has.
+fn count_open(lists: Polys<'_>) -> usize
+    ensures count { result ≡ length (open_lines_of (lists_of lists.entry)) }
+    ensures few { result < 2 ^ 62 }
+{
+    let mut count = count_points(lists.points());
+    let mut rest = lists;
+    while let Some((points, others)) = rest.split_first() {
+        count -= points.len().min(1);
+        rest = others;
+    }
+    count
+}
+
+impl<'a> Outline for PlacedLines<'a> {
+    ghost use Rattle.painting.specs.LinesToCome.{lines_to_come};
+
+    ghost lines = { lines_to_come };
+
+    fn count(&self) -> usize {
+        let current = match self.current {
+            None => 0,
+            Some(lines) => lines.count(),
+        };
+        current + self.count_lists()
+    }
+
+    fn next_line(&mut self) -> Option<Line> {
+        loop {
+            if let Some(line) = PlacedLines::next_of(&mut self.current) {
+                return Some(line);
+            }
+            let Some((points, rest)) = self.lists.split_first() else {
+                return None;
+            };
+            self.current = Some(ListLines::new(self.by, self.ends, points));
+            self.lists = rest;
+        }
+    }
+}

@@ -1,0 +1,57 @@
+//! The memory that drawings are painted in, all of it taken before the first is.
+
+ghost use Rattle.std.specs.Prelude.{◌≤◌, ◌⊎◌, IfOk};
+ghost use Rattle.dc_stack.specs.Drawing.{edge_limit};
+
+use crate::ink_room::InkRoom;
+use crate::stamps::Stamps;
+use span_fill::{OutOfMemory, RowBuf};
+use std::alloc::Global;
+
+/// The most lines of one drawing.
+const MAX_LINES: u32 = 1_048_576;
+
+/// The memory that drawings are painted in.
+///
+/// # Guarantees
+///
+/// - No call wants memory but those that make it.
+#[derive(Drop)]
+pub struct DrawingRoom {
+    /// The rows of a drawing's spans, which have room for so many lines.
+    pub rows: RowBuf,
+    /// Marks for strokes of several lines, where a drawing has several.
+    pub(crate) marks: Option<Stamps>,
+    /// Room for the pixels of a row.
+    pub(crate) inks: InkRoom,
+}
+
+impl DrawingRoom {
+    /// Room for drawings of so many lines, or for any, which takes 376 MiB; or `OutOfMemory` where that was refused.
+    pub fn for_lines(alloc: Global, lines: u32) -> Result<DrawingRoom, OutOfMemory>
+        ensures room { IfOk result (λ room. (edge_limit ≤ room.rows.room) ⊎ (lines ≤ room.rows.room)) }
+    {
+        let inks = InkRoom::new(alloc)?;
+        let rows = rows_for(alloc, lines)?;
+        let marks = marks_for(alloc, lines)?;
+        Ok(DrawingRoom { rows, marks, inks })
+    }
+}
+
+/// Rows with room for so many lines, or for any drawing.
+fn rows_for(alloc: Global, lines: u32) -> Result<RowBuf, OutOfMemory>
+    ensures room { IfOk result (λ rows. (edge_limit ≤ rows.room) ⊎ (lines ≤ rows.room)) }
+{
+    let mut rows = RowBuf::new(alloc);
+    rows.reserve(MAX_LINES.min(lines) as usize)?;
+    Ok(rows)
+}
+
+/// Marks, where a drawing has several lines: a lone one needs none.
+fn marks_for(alloc: Global, lines: u32) -> Result<Option<Stamps>, OutOfMemory> {
+    if lines < 2 {
+        return Ok(None);
+    }
+    let marks = Stamps::new(alloc)?;
+    Ok(Some(marks))
+}

@@ -1,0 +1,238 @@
+//! What a brush makes of the pixels of a row, by a raster operation.
+
+ghost use Rattle.std.specs.Prelude.{◌≡◌, ◌≤◌, ◌<◌, ℕ, if◌then◌else◌, true, is_some, length, slice_index_or};
+ghost use Rattle.canvas.specs.MixRows.{mix_at};
+ghost use Rattle.mapping.specs.Colours.{black_colour};
+ghost use Rattle.mapping.specs.Mixes.{mixed_by};
+ghost use Rattle.mapping.specs.Pixels.{is_cell};
+ghost use Rattle.mapping.specs.declared.geometry.Colour.{Colour};
+ghost use Rattle.painting.specs.Joined.{joined_if};
+ghost use Rattle.painting.specs.RowInks.{inked, is_inked};
+ghost use Rattle.raster_ops.specs.BrushRows.{row_paint};
+ghost use Rattle.raster_ops.specs.Bytes.{HasBytes};
+ghost use Rattle.raster_ops.specs.TernaryOps.{ternary_colour};
+
+use crate::ink_room::{BLACK, MAX_SIDE, MixRoom};
+use canvas::Swatch;
+use draw_ops::TernaryOp;
+use mapping::{Colour, Mix};
+use raster_ops::{BrushRow, TernaryMixer, copy_law, gather_pattern, pattern};
+use span_fill::Span;
+
+/// The table of the operation that copies the pattern, whatever the colour that is there is.
+const PATCOPY: u8 = 0xf0;
+
+/// The table of the operation that copies the source, whatever the pattern and the colour that is there are.
+const SRCCOPY: u8 = 0xcc;
+
+/// What the pixels of a row become, by their columns.
+#[derive(Clone, Copy, Debug)]
+pub(crate) enum RowInk<'r> {
+    /// None is written.
+    Nothing,
+    /// Each becomes this colour.
+    Full(Swatch),
+    /// Each becomes the colour at its column modulo 8.
+    Pattern([Colour; 8]),
+    /// Each is mixed.
+    Mixed(Mix),
+    /// Each whose column modulo 8 has its bit set in `cells` is mixed, and each other by `gaps`, or isn't
+    /// written.
+    Cells {
+        cells: u8,
+        mix: Mix,
+        gaps: Option<Mix>,
+    },
+    /// Each becomes the colour at its column.
+    Row(&'r [Colour; MAX_SIDE]),
+    /// Each is mixed by the mix at its column, of what is kept and what is flipped.
+    MixRow {
+        keeps: &'r [Colour; MAX_SIDE],
+        flips: &'r [Colour; MAX_SIDE],
+    },
+    /// Each whose column modulo 8 has its bit set in `cells` is mixed by the mix at its column, and no other is
+    /// written.
+    MixCells {
+        cells: u8,
+        keeps: &'r [Colour; MAX_SIDE],
+        flips: &'r [Colour; MAX_SIDE],
+    },
+}
+
+/// What a row of a brush makes of its pixels in some columns. Nothing is read.
+pub(crate) fn row_ink<'r>(
+    row: &BrushRow<'_>,
+    operation: TernaryMixer,
+    columns: Span,
+    room: &'r mut MixRoom,
+) -> RowInk<'r>
+    requires order { columns.from ≤ columns.to }
+    requires end { columns.to ≤ 8192 }
+    ensures test { (x : ℕ) → is_inked result x ≡ is_some (row_paint row.now x) }
+    ensures ink { (x : ℕ) (old : Colour) → columns.from ≤ x → x < columns.to → is_inked result x ≡ true → inked result x old ≡ joined_if operation.op.table black_colour (row_paint row.now x) old }
+{
+    match *row {
+        BrushRow::Nothing => RowInk::Nothing,
+        BrushRow::Solid(colour) => full(operation.mix(colour, BLACK)),
+        BrushRow::Hatched {
+            cells,
+            colour,
+            gaps: None,
+        } => RowInk::Cells {
+            cells,
+            mix: operation.mix(colour, BLACK),
+            gaps: None,
+        },
+        BrushRow::Hatched {
+            cells,
+            colour,
+            gaps: Some(gaps),
+        } => two(
+            cells,
+            operation.mix(colour, BLACK),
+            operation.mix(gaps, BLACK),
+        ),
+        BrushRow::Tiled(_) => tile_ink(row, operation, columns, room),
+    }
+}
+
+/// What a row of a picture that is repeated makes of those pixels: its colours, where the operation copies them.
+fn tile_ink<'r>(
+    row: &BrushRow<'_>,
+    operation: TernaryMixer,
+    columns: Span,
+    room: &'r mut MixRoom,
+) -> RowInk<'r>
+    requires order { columns.from ≤ columns.to }
+    requires end { columns.to ≤ 8192 }
+    requires tiled { (x : ℕ) → is_some (row_paint row.now x) ≡ true }
+    ensures test { (x : ℕ) → is_inked result x ≡ true }
+    ensures ink { (x : ℕ) (old : Colour) → columns.from ≤ x → x < columns.to → inked result x old ≡ joined_if operation.op.table black_colour (row_paint row.now x) old }
+{
+    let patterns = &mut *room.patterns;
+    gather_pattern(row, columns.from, columns.to, patterns);
+    if copies_pattern(operation.op) {
+        return RowInk::Row(patterns);
+    }
+    let (keeps, flips) = (&mut *room.keeps, &mut *room.flips);
+    mix_patterns(operation, columns, patterns, keeps, flips);
+    RowInk::MixRow { keeps, flips }
+}
+
+/// What a row of a brush makes of its pixels in some columns, and of what is read there, each at its column: that, where the operation
+/// copies it and the brush leaves no pixel out.
+pub(crate) fn source_ink<'r>(
+    row: &BrushRow<'_>,
+    operation: TernaryMixer,
+    columns: Span,
+    sources: &'r [Colour; MAX_SIDE],
+    room: &'r mut MixRoom,
+) -> RowInk<'r>
+    requires order { columns.from ≤ columns.to }
+    requires end { columns.to ≤ 8192 }
+    requires parts { (x : ℕ) (d : Colour) → columns.from ≤ x → x < columns.to → HasBytes (slice_index_or sources.now x d) }
+    ensures test { (x : ℕ) → is_inked result x ≡ is_some (row_paint row.now x) }
+    ensures ink { (x : ℕ) (old : Colour) → columns.from ≤ x → x < columns.to → is_inked result x ≡ true → inked result x old ≡ joined_if operation.op.table (slice_index_or sources.entry.now x black_colour) (row_paint row.now x) old }
+{
+    copy_law();
+    if let (BrushRow::Solid(_), SRCCOPY) = (*row, operation.op.table) {
+        return RowInk::Row(sources);
+    }
+    gather_mixes(row, operation, columns, sources, room);
+    mix_given(row, room)
+}
+
+/// The mixes of the columns to which a row of a brush gives a colour.
+fn mix_given<'r>(row: &BrushRow<'_>, room: &'r MixRoom) -> RowInk<'r>
+    ensures test { (x : ℕ) → is_inked result x ≡ is_some (row_paint row.now x) }
+    ensures ink { (x : ℕ) (old : Colour) → is_inked result x ≡ true → inked result x old ≡ mixed_by (mix_at room.entry.now.keeps.value room.entry.now.flips.value x) old }
+{
+    let (keeps, flips) = (&*room.keeps, &*room.flips);
+    match *row {
+        BrushRow::Nothing => RowInk::Nothing,
+        BrushRow::Solid(_) => RowInk::MixRow { keeps, flips },
+        BrushRow::Hatched {
+            cells,
+            gaps: None,
+            ..
+        } => RowInk::MixCells {
+            cells,
+            keeps,
+            flips,
+        },
+        BrushRow::Hatched { gaps: Some(_), .. } => RowInk::MixRow { keeps, flips },
+        BrushRow::Tiled(_) => RowInk::MixRow { keeps, flips },
+    }
+}
+
+/// Mixes that join what a row of a brush gives these columns and what is read there, each at its column.
+fn gather_mixes(
+    row: &BrushRow<'_>,
+    operation: TernaryMixer,
+    columns: Span,
+    sources: &[Colour; MAX_SIDE],
+    room: &mut MixRoom,
+)
+    requires order { columns.from ≤ columns.to }
+    requires end { columns.to ≤ 8192 }
+    ensures { (x : ℕ) (old : Colour) → columns.from ≤ x → x < columns.to → is_some (row_paint row.now x) ≡ true → mixed_by (mix_at room.new.keeps.value room.new.flips.value x) old ≡ joined_if operation.op.table (slice_index_or sources.now x black_colour) (row_paint row.now x) old }
+{
+    let (from, to) = (columns.from, columns.to);
+    let patterns = &mut *room.patterns;
+    let (keeps, flips) = (&mut *room.keeps, &mut *room.flips);
+    gather_pattern(row, from, to, patterns);
+    operation.gather(patterns, sources, from, to, keeps, flips);
+}
+
+/// Whether an operation is known to give every pixel the pattern.
+fn copies_pattern(operation: TernaryOp) -> bool
+    ensures { result ≡ true → (p s old : Colour) → HasBytes p → ternary_colour operation.table p s old ≡ p }
+{
+    copy_law();
+    operation.table == PATCOPY
+}
+
+/// Mixes that join the patterns of some columns, each at its column.
+fn mix_patterns(
+    operation: TernaryMixer,
+    columns: Span,
+    patterns: &[Colour; MAX_SIDE],
+    keeps: &mut [Colour; MAX_SIDE],
+    flips: &mut [Colour; MAX_SIDE],
+)
+    requires order { columns.from ≤ columns.to }
+    requires end { columns.to ≤ 8192 }
+    ensures { (x : ℕ) (d old : Colour) → columns.from ≤ x → x < columns.to → mixed_by (mix_at keeps.new flips.new x) old ≡ ternary_colour operation.op.table (slice_index_or patterns.now x d) black_colour old }
+{
+    for x in columns.from as usize..columns.to as usize {
+        let mix = operation.mix(patterns[x], BLACK);
+        keeps[x] = mix.keep;
+        flips[x] = mix.flip;
+    }
+}
+
+/// Each pixel is mixed: one colour where the mix makes one of all.
+pub(crate) fn full(mix: Mix) -> RowInk<'static>
+    ensures test { (x : ℕ) → is_inked result x ≡ true }
+    ensures ink { (x : ℕ) (old : Colour) → inked result x old ≡ mixed_by mix old }
+{
+    match mix.constant() {
+        Some(colour) => RowInk::Full(Swatch::new(colour)),
+        None => RowInk::Mixed(mix),
+    }
+}
+
+/// The cells are mixed by one mix, and the gaps by the other: a pattern where each makes one colour of all.
+fn two(cells: u8, mix: Mix, gaps: Mix) -> RowInk<'static>
+    ensures test { (x : ℕ) → is_inked result x ≡ true }
+    ensures ink { (x : ℕ) (old : Colour) → inked result x old ≡ (if is_cell cells x then mixed_by mix old else mixed_by gaps old) }
+{
+    if let (Some(colour), Some(gap)) = (mix.constant(), gaps.constant()) {
+        return RowInk::Pattern(pattern(cells, colour, gap));
+    }
+    RowInk::Cells {
+        cells,
+        mix,
+        gaps: Some(gaps),
+    }
+}

@@ -1,0 +1,160 @@
+//! Marks for the pixels of a box: which of them were taken.
+
+ghost use Rattle.std.specs.Prelude.{◌≡◌, ◌<◌, ◌≤◌, ◌||◌, ◌==◌, ℕ, IfOk, IsTrue, IsFalse, false, length, not, nat_le};
+ghost use Rattle.canvas.specs.Writing.{is_at};
+ghost use Rattle.span_fill.specs.Lines.{HasNearEnds};
+ghost use Rattle.span_fill.specs.Spans.{in_region};
+ghost use Rattle.span_fill.specs.Steps.{HasAllSteps};
+ghost use Rattle.painting.specs.Stamps.{has_bit, is_taken, pixel_count, pixel_number, span_width, stamp_limit};
+
+use span_fill::{Line, LineSteps, OutOfMemory, Region, Span};
+use std::alloc::Global;
+use std::marker::Model;
+
+/// How many words the marks have, each of 64 bits.
+const WORDS: usize = 16_384;
+
+/// The most pixels of a box.
+const MAX_PIXELS: usize = 1_048_576;
+
+/// Marks for the pixels of a box, one bit each, which is set when the pixel is taken.
+///
+/// # Guarantees
+///
+/// - No call but `new` wants memory, whatever the box.
+#[derive(Drop)]
+pub(crate) struct Stamps {
+    /// The marks, row by row, and behind them what earlier boxes left.
+    words: Vec<u64>,
+    region: Region,
+}
+
+impl Model for Stamps {
+    ghost use Rattle.painting.specs.Stamps.{StampState};
+
+    ghost Value = { StampState };
+
+    ghost use Rattle.painting.specs.StampsInside.{HasStamps, stamp_state};
+
+    ghost view = { stamp_state };
+
+    ghost invariant = { HasStamps };
+}
+
+impl Stamps {
+    /// The marks of a box without pixels, with room for those of any box: 128 KiB, or `OutOfMemory` where they were refused.
+    pub(crate) fn new(alloc: Global) -> Result<Stamps, OutOfMemory>
+        ensures { IfOk result (λ stamps. pixel_count stamps.region ≡ 0) }
+    {
+        let Ok(words) = Vec::from_elem(alloc, 0, WORDS) else {
+            return Err(OutOfMemory);
+        };
+        let none = Span { from: 0, to: 0 };
+        Ok(Stamps {
+            words,
+            region: Region {
+                columns: none,
+                rows: none,
+            },
+        })
+    }
+
+    /// Begins with a box of which no pixel is taken, if it has at most 1,048,576 pixels: tells whether it has. Else the marks stay what
+    /// they are.
+    pub(crate) fn begin(&mut self, region: Region) -> bool
+        requires columns { region.columns.to ≤ 8192 }
+        requires rows { region.rows.to ≤ 8192 }
+        ensures begun { result ≡ nat_le (pixel_count region) stamp_limit }
+        ensures region { IsTrue result → self.new.region ≡ region }
+        ensures none { IsTrue result → (x y : ℕ) → is_taken self.new x y ≡ false }
+        ensures same { IsFalse result → self.new ≡ self.old }
+    {
+        let count = pixels(region);
+        if count > MAX_PIXELS {
+            return false;
+        }
+        clear(&mut self.words[..], count);
+        self.region = region;
+        true
+    }
+
+    /// The pixels that the box has of a line, a step at a time.
+    pub(crate) fn steps(&self, line: Line) -> LineSteps
+        requires { HasNearEnds line }
+        ensures line { result.line ≡ line }
+        ensures region { result.region ≡ self.now.region }
+        ensures all { HasAllSteps result }
+    {
+        LineSteps::new(line, self.region)
+    }
+
+    /// Takes a pixel of the box, and tells whether it wasn't taken before.
+    pub(crate) fn take(&mut self, x: u32, y: u32) -> bool
+        requires { IsTrue (in_region self.old.region x y) }
+        ensures first { result ≡ not (is_taken self.old x y) }
+        ensures taken { (column row : ℕ) → is_taken self.new column row ≡ (is_taken self.old column row || is_at x y column row) }
+        ensures region { self.new.region ≡ self.old.region }
+    {
+        let number = number_in(self.region, x, y);
+        take_bit(&mut self.words[..], number)
+    }
+}
+
+/// How many numbers a span has.
+fn width(span: Span) -> usize
+    requires { span.to ≤ 8192 }
+    ensures width { result ≡ span_width span }
+    ensures few { result ≤ 8192 }
+{
+    if span.from < span.to {
+        (span.to - span.from) as usize
+    } else {
+        0
+    }
+}
+
+/// How many pixels a box has.
+pub(crate) fn pixels(region: Region) -> usize
+    requires columns { region.columns.to ≤ 8192 }
+    requires rows { region.rows.to ≤ 8192 }
+    ensures { result ≡ pixel_count region }
+{
+    width(region.columns) * width(region.rows)
+}
+
+/// The number of a pixel of a box, row by row.
+fn number_in(region: Region, x: u32, y: u32) -> usize
+    requires columns { region.columns.to ≤ 8192 }
+    requires rows { region.rows.to ≤ 8192 }
+    requires inside { IsTrue (in_region region x y) }
+    ensures number { result ≡ pixel_number region x y }
+    ensures within { result < pixel_count region }
+{
+    let columns = region.columns.to - region.columns.from;
+    let (row, column) = (y - region.rows.from, x - region.columns.from);
+    row as usize * columns as usize + column as usize
+}
+
+/// Clears so many bits, and what stands behind them in the last word.
+fn clear(words: &mut [u64], count: usize)
+    requires words { length words.old ≡ 16384 }
+    requires count { count ≤ stamp_limit }
+    ensures clear { (number : ℕ) → number < count → has_bit words.new number ≡ false }
+{
+    for at in 0..(count + 63) / 64 {
+        words[at] = 0;
+    }
+}
+
+/// Sets a bit, and tells whether it wasn't set.
+fn take_bit(words: &mut [u64], number: usize) -> bool
+    requires words { length words.old ≡ 16384 }
+    requires number { number < stamp_limit }
+    ensures first { result ≡ not (has_bit words.old number) }
+    ensures bits { (other : ℕ) → has_bit words.new other ≡ (has_bit words.old other || other == number) }
+{
+    let (at, bit) = (number / 64, number % 64);
+    let word = words[at];
+    words[at] = word | 1 << bit;
+    word >> bit & 1 == 0
+}

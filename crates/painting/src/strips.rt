@@ -1,0 +1,224 @@
+//! Parts of a row, painted: what an ink writes of some columns, of them what no box cuts out, and of a
+//! whole row's spans.
+
+ghost use Rattle.std.specs.Prelude.{◌≡◌, ◌+◌, ◌*◌, ◌<◌, ◌≤◌, ◌^◌, ◌<ℤ◌, ◌↔◌, pos, ◌&&◌, ℕ, [], if◌then◌else◌, map, slice_index_or};
+ghost use Rattle.mapping.specs.Mixes.{mixed_by};
+ghost use Rattle.mapping.specs.Pixels.{is_cell};
+ghost use Rattle.canvas.specs.CanvasState.{HasRow};
+ghost use Rattle.canvas.specs.MixRows.{mix_at};
+ghost use Rattle.canvas.specs.Writing.{Repaints, in_cells};
+ghost use Rattle.canvas.specs.WritingLaws.{IsWhole};
+ghost use Rattle.dc_stack.specs.Clip.{in_box, is_from_to};
+ghost use Rattle.dc_stack.specs.declared.clip.ClipBox.{ClipBox};
+ghost use Rattle.span_fill.specs.Spans.{AreApart, in_span, in_spans};
+ghost use Rattle.painting.specs.RowInks.{inked};
+ghost use Rattle.painting.specs.Strips.{CountsOnce, MayPaint, in_columns, is_painted};
+ghost use Rattle.painting.specs.declared.row_ink.RowInk.TheVariants.{Full};
+
+use crate::ink_room::MAX_SIDE;
+use crate::row_ink::RowInk;
+use canvas::{Canvas, Swatch, writing_law};
+use dc_stack::ClipBox;
+use mapping::{Colour, Mix, Rect};
+use span_fill::Span;
+
+/// Writes what an ink makes of some columns of a row.
+fn put_ink(canvas: &mut Canvas, ink: &RowInk<'_>, y: u32, columns: Span)
+    requires { MayPaint canvas.old y columns }
+    ensures pixels { Repaints (is_painted ink.now [] y (in_span columns)) (λ column row old. inked ink.now column old) canvas.old canvas.new }
+    ensures count { CountsOnce columns canvas.old canvas.new }
+{
+    writing_law();
+    match ink {
+        RowInk::Nothing => {}
+        RowInk::Full(swatch) => canvas.put_swatch(columns.from, columns.to, y, swatch),
+        RowInk::Pattern(pattern) => canvas.put_pattern(columns.from, columns.to, y, pattern),
+        RowInk::Mixed(mix) => canvas.mix_span(columns.from, columns.to, y, *mix),
+        RowInk::Cells {
+            cells,
+            mix,
+            gaps: None,
+        } => canvas.mix_cells(columns.from, columns.to, y, *cells, *mix),
+        RowInk::Cells {
+            cells,
+            mix,
+            gaps: Some(gaps),
+        } => put_both(canvas, *cells, *mix, *gaps, y, columns),
+        RowInk::Row(colours) => put_colours(canvas, colours, y, columns),
+        RowInk::MixRow { keeps, flips } => put_mixes(canvas, keeps, flips, y, columns),
+        RowInk::MixCells {
+            cells,
+            keeps,
+            flips,
+        } => put_cells(canvas, *cells, keeps, flips, y, columns),
+    }
+}
+
+/// Gives some columns of a row the colours at them.
+fn put_colours(canvas: &mut Canvas, colours: &[Colour; MAX_SIDE], y: u32, columns: Span)
+    requires { MayPaint canvas.old y columns }
+    ensures pixels { Repaints (in_columns y columns) (λ column row old. slice_index_or colours.now column old) canvas.old canvas.new }
+    ensures count { CountsOnce columns canvas.old canvas.new }
+{
+    writing_law();
+    canvas.width();
+    let (first, last) = (columns.from as usize, columns.to as usize);
+    canvas.put_row(columns.from, y, &colours[first..last]);
+}
+
+/// Mixes some columns of a row by the mixes at them.
+fn put_mixes(
+    canvas: &mut Canvas,
+    keeps: &[Colour; MAX_SIDE],
+    flips: &[Colour; MAX_SIDE],
+    y: u32,
+    columns: Span,
+)
+    requires { MayPaint canvas.old y columns }
+    ensures pixels { Repaints (in_columns y columns) (λ column row old. mixed_by (mix_at keeps.now flips.now column) old) canvas.old canvas.new }
+    ensures count { CountsOnce columns canvas.old canvas.new }
+{
+    writing_law();
+    canvas.width();
+    let (first, last) = (columns.from as usize, columns.to as usize);
+    canvas.mix_row(columns.from, y, &keeps[first..last], &flips[first..last]);
+}
+
+/// Mixes those of some columns of a row that are cells by the mixes at them.
+fn put_cells(
+    canvas: &mut Canvas,
+    cells: u8,
+    keeps: &[Colour; MAX_SIDE],
+    flips: &[Colour; MAX_SIDE],
+    y: u32,
+    columns: Span,
+)
+    requires { MayPaint canvas.old y columns }
+    ensures pixels { Repaints (in_cells y columns.from columns.to cells) (λ column row old. mixed_by (mix_at keeps.now flips.now column) old) canvas.old canvas.new }
+    ensures count { CountsOnce columns canvas.old canvas.new }
+{
+    writing_law();
+    canvas.width();
+    for x in columns.from..columns.to {
+        let (keep, flip) = (keeps[x as usize], flips[x as usize]);
+        canvas.mix_cells(x, x + 1, y, cells, Mix { keep, flip });
+    }
+}
+
+/// Mixes the cells by one mix and the gaps between them by another.
+fn put_both(canvas: &mut Canvas, cells: u8, mix: Mix, gaps: Mix, y: u32, columns: Span)
+    requires { MayPaint canvas.old y columns }
+    ensures pixels { Repaints (in_columns y columns) (λ column row old. if is_cell cells column then mixed_by mix old else mixed_by gaps old) canvas.old canvas.new }
+    ensures count { CountsOnce columns canvas.old canvas.new }
+{
+    writing_law();
+    canvas.mix_cells(columns.from, columns.to, y, cells, mix);
+    canvas.mix_cells(columns.from, columns.to, y, !cells, gaps);
+}
+
+/// Those of some columns that a box has in a row.
+fn hidden(cut: Rect, y: u32, columns: Span) -> Span
+    requires order { columns.from ≤ columns.to }
+    ensures hidden { (x : ℕ) → in_span columns x && in_box cut x y ≡ in_span result x }
+    ensures first { columns.from ≤ result.from }
+    ensures order { result.from ≤ result.to }
+    ensures last { result.to ≤ columns.to }
+{
+    let Span { from, to } = columns;
+    if !has_row(cut, y) {
+        return Span { from, to: from };
+    }
+    let first = within(cut.l, from, to);
+    Span {
+        from: first,
+        to: within(cut.r, first, to),
+    }
+}
+
+/// Whether a row is one of a box: from its top on, up to before its bottom.
+fn has_row(cut: Rect, y: u32) -> bool
+    ensures { result ≡ is_from_to cut.t cut.b y }
+{
+    i64::from(cut.t) <= i64::from(y) && i64::from(y) < i64::from(cut.b)
+}
+
+/// The number that is nearest to a coordinate, of those from one on up to another.
+fn within(coordinate: i32, least: u32, most: u32) -> u32
+    requires { least ≤ most }
+    ensures least { least ≤ result }
+    ensures most { result ≤ most }
+    ensures before { (x : ℕ) → least ≤ x → x < most → (x < result) ↔ (pos x <ℤ coordinate) }
+{
+    let wide = i64::from(coordinate);
+    if wide <= i64::from(least) {
+        least
+    } else if i64::from(most) <= wide {
+        most
+    } else {
+        wide as u32
+    }
+}
+
+/// Writes what an ink makes of those columns of a row that no box cuts out.
+fn put_uncut(canvas: &mut Canvas, ink: &RowInk<'_>, y: u32, columns: Span, cuts: &[ClipBox])
+    requires { MayPaint canvas.old y columns }
+    ensures pixels { Repaints (is_painted ink.now (map (λ (b : ClipBox). b.placed) cuts.now) y (in_span columns)) (λ column row old. inked ink.now column old) canvas.old canvas.new }
+    ensures count { CountsOnce columns canvas.old canvas.new }
+{
+    writing_law();
+    let Span { from, to } = columns;
+    if from == to {
+        return;
+    }
+    let Some((first, rest)) = cuts.split_first() else {
+        put_ink(canvas, ink, y, columns);
+        return;
+    };
+    let hidden = hidden(first.placed, y, columns);
+    let (before, behind) = (hidden.from, hidden.to);
+    put_uncut(canvas, ink, y, Span { from, to: before }, rest);
+    put_uncut(canvas, ink, y, Span { from: behind, to }, rest);
+}
+
+/// Writes what an ink makes of those pixels in the spans of a row that no box cuts out.
+pub(crate) fn put_spans(
+    canvas: &mut Canvas,
+    ink: &RowInk<'_>,
+    y: u32,
+    spans: &[Span],
+    cuts: &[ClipBox],
+)
+    requires whole { IsWhole canvas.old }
+    requires spans { AreApart 0 canvas.old.width spans.now }
+    requires row { HasRow canvas.old y }
+    requires countable { canvas.old.writes + 2 * canvas.old.width < 2 ^ 64 }
+    ensures pixels { Repaints (is_painted ink.now (map (λ (b : ClipBox). b.placed) cuts.now) y (in_spans spans.now)) (λ column row old. inked ink.now column old) canvas.old canvas.new }
+    ensures count { canvas.new.writes ≤ canvas.old.writes + canvas.old.width }
+{
+    writing_law();
+    // (the ink is looked at where it lies: a copy of it would be waited for in each row)
+    if cuts.is_empty() {
+        if let RowInk::Full(swatch) = ink {
+            put_full(canvas, swatch, y, spans);
+            return;
+        }
+    }
+    for span in spans {
+        put_uncut(canvas, ink, y, *span, cuts);
+    }
+}
+
+/// Gives the pixels in the spans of a row one colour.
+fn put_full(canvas: &mut Canvas, swatch: &Swatch, y: u32, spans: &[Span])
+    requires whole { IsWhole canvas.old }
+    requires spans { AreApart 0 canvas.old.width spans.now }
+    requires row { HasRow canvas.old y }
+    requires countable { canvas.old.writes + 2 * canvas.old.width < 2 ^ 64 }
+    ensures pixels { Repaints (is_painted (Full swatch.now) [] y (in_spans spans.now)) (λ column row old. swatch.now.colour) canvas.old canvas.new }
+    ensures count { canvas.new.writes ≤ canvas.old.writes + canvas.old.width }
+{
+    writing_law();
+    for span in spans {
+        canvas.put_swatch(span.from, span.to, y, swatch);
+    }
+}

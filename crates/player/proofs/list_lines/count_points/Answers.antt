@@ -1,5 +1,0 @@
-use Rattle.player.proofs.CountLemmas.{few_points}
-use Rattle.player.proofs.list_lines.count_points.Goals as goal
-
-pub returns-clause-few : goal.returns-clause-few
-returns-clause-few c = rw c.len.ensures (few_points c.args.points.width c.args.points.bytes.now c.ranges.points.0)
