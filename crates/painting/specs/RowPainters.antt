@@ -9,7 +9,6 @@ use Rattle.painting.specs.Brushings.{brushing_paint}
 use Rattle.painting.specs.Painted.{PaintValue}
 use Rattle.painting.specs.RowInks.{inked, is_inked}
 use Rattle.painting.specs.SourceRows.{HoldsRow}
-use Rattle.painting.specs.declared.brushing.Brushing.{Brushing}
 use Rattle.painting.specs.declared.row_painter.Inks.{Inks}
 use Rattle.painting.specs.declared.row_painter.Inks.TheVariants.{EachRow, Same}
 use Rattle.painting.specs.declared.row_painter.RowPainter.{RowPainter}
