@@ -2,8 +2,10 @@
 use Rattle.std.proofs.Common.{◌≡◌, ℕ, zero, suc, ◌+◌, ◌-◌, ◌/◌, ◌%◌, ◌<◌, ◌≤◌, Bool, true, false, cond, eqb, ltb, ◌&&◌, ◌||◌, refl, sym, ap, ◌∙◌, subst, arith, inl, inr}
 use Rattle.std.proofs.lemmas.Bool.{and_left, and_right, cases_eq, cases_lt, eq-eqb, le-ltb, lt-ltb, ne_eqb}
 use Rattle.std.specs.Int.{bit_at}
+use Rattle.std.proofs.Math.Bool.{or-false}
+use Rattle.mapping.specs.IndexLaws.{count_indexes-append, count_indexes_most, count_indexes_none}
 use Rattle.mapping.specs.Pixels.{count_indexes, is_cell}
-use Rattle.canvas.proofs.IndexLemmas.{count-append, count_either, count_most, count_none, count_same}
+use Rattle.canvas.proofs.IndexLemmas.{count_either, count_same}
 
 -- the columns with an eighth below n that have their bit set
 abbrev pub stage : ℕ → ℕ → ℕ → ℕ → Bool
@@ -14,15 +16,11 @@ same_cell : (cells column offset k : ℕ) → k % 8 ≡ offset → is_cell cells
 same_cell cells column offset k e =
     let m : (column + k) % 8 ≡ (column + offset) % 8 = omega arith in ap (λ (i : ℕ). eqb (bit_at cells i) 1) m
 
-or_false : (a : Bool) → (a || false) ≡ a
-or_false true = refl
-or_false false = refl
-
 pub stage_set : (cells column offset k : ℕ) → is_cell cells (column + offset) ≡ true → stage cells column (offset + 1) k ≡ (stage cells column offset k || eqb (k % 8) offset)
 stage_set cells column offset k e = elim (cases_eq (k % 8) offset) [
   | inl h ↦ rw (lt-ltb (k % 8) (offset + 1) (omega arith), le-ltb (k % 8) offset (omega arith), eq-eqb (k % 8) offset h, same_cell cells column offset k h, e) refl
   | inr ne ↦ elim (cases_lt (k % 8) offset) [
-    | inl a ↦ rw (lt-ltb (k % 8) (offset + 1) (omega arith), lt-ltb (k % 8) offset a, ne_eqb (k % 8) offset ne) (sym (or_false _))
+    | inl a ↦ rw (lt-ltb (k % 8) (offset + 1) (omega arith), lt-ltb (k % 8) offset a, ne_eqb (k % 8) offset ne) (sym (or-false _))
     | inr b ↦ rw (le-ltb (k % 8) (offset + 1) (omega arith), le-ltb (k % 8) offset b, ne_eqb (k % 8) offset ne) refl
   ]
 ]
@@ -49,14 +47,14 @@ pub stage_none : (cells column k : ℕ) → stage cells column 0 k ≡ false
 stage_none cells column k = and_left _ _ (le-ltb (k % 8) 0 (omega arith))
 
 pub count_stage_none : (cells column n : ℕ) → count_indexes (stage cells column 0) 0 n ≡ 0
-count_stage_none cells column n = count_none (stage cells column 0) 0 n (λ k a b. stage_none cells column k)
+count_stage_none cells column n = count_indexes_none (stage cells column 0) 0 n (λ k a b. stage_none cells column k)
 
 -- the counts before an eighth, and with it
 count_with : (cells column offset n : ℕ) → count_indexes (stage cells column offset) 0 n + count_indexes (λ k. eqb (k % 8) offset) 0 n ≡ count_indexes (λ k. stage cells column offset k || eqb (k % 8) offset) 0 n
 count_with cells column offset n = sym (count_either (stage cells column offset) (λ k. eqb (k % 8) offset) 0 n (λ k a b. stage_apart cells column offset k))
 
 pub stage_room : (cells column offset n : ℕ) → count_indexes (stage cells column offset) 0 n + count_indexes (λ k. eqb (k % 8) offset) 0 n ≤ n
-stage_room cells column offset n = rw (count_with cells column offset n) (count_most (λ k. stage cells column offset k || eqb (k % 8) offset) 0 n)
+stage_room cells column offset n = rw (count_with cells column offset n) (count_indexes_most (λ k. stage cells column offset k || eqb (k % 8) offset) 0 n)
 
 pub count_stage_set : (cells column offset n : ℕ) → is_cell cells (column + offset) ≡ true → count_indexes (stage cells column offset) 0 n + count_indexes (λ k. eqb (k % 8) offset) 0 n ≡ count_indexes (stage cells column (offset + 1)) 0 n
 count_stage_set cells column offset n h =
@@ -70,7 +68,7 @@ count-snoc : (p : ℕ → Bool) (n : ℕ) → count_indexes p 0 (n + 1) ≡ coun
 count-snoc p n =
     let z : 0 + n ≡ n = omega arith in
     let last : count_indexes p (0 + n) 1 ≡ cond (p n) 1 0 = ap (λ (i : ℕ). count_indexes p i 1) z ∙ omega arith in
-    count-append p 0 n 1 ∙ ap (λ (m : ℕ). count_indexes p 0 n + m) last
+    count_indexes-append p 0 n 1 ∙ ap (λ (m : ℕ). count_indexes p 0 n + m) last
 
 -- how many columns an eighth has
 one_more : (n offset : ℕ) → offset < 8 → (n + 1 + 7 - offset) / 8 ≡ (n + 7 - offset) / 8 + cond (eqb (n % 8) offset) 1 0

@@ -1,4 +1,3 @@
-pub mod SendingLemmas
 pub mod PieceLemmas
 pub mod BandLawLemmas
 pub mod ReadingLemmas

@@ -9,12 +9,13 @@ use Rattle.std.proofs.lemmas.Str.Parse.{IsNumeralModel, numerals_by_fold}
 use Rattle.std.proofs.lemmas.Fmt.{digits_decimal, digits_value-decimal, decimal_nonempty}
 use Rattle.mapping.specs.declared.geometry.Colour.{Colour}
 use Rattle.mapping.specs.Image.{Image}
-use Rattle.mapping.specs.Limits.{IsSurfaceSide, is_surface_side}
+use Rattle.mapping.specs.Limits.{is_surface_side, surface_side_from, surface_side_true}
 use Rattle.canvas.specs.Ppm.{raster, ppm_text}
 use Rattle.canvas.specs.PpmReading.{AreItems, IsGap, WritesNumber, IsPpm, is_white, ends_line, is_in_gap, behind_gap, behind_digits, front_number, number_of_digits, colours_at, ends_head, has_head, has_image, begins_ppm, pixels_of, read_ppm, width_text, height_text, most_text, space_text}
 use Rattle.canvas.specs.PpmReading.AreItems.{no_item, white_item, comment_item}
 use Rattle.canvas.specs.PpmLaws.{IsSurfaceImage, PpmLaws}
-use Rattle.canvas.proofs.PpmLawLemmas.{OneLine, white_in_gap, white_no_comment, white_no_digit, gap_no_digit, comment_goes_on, comment_ends, reads_number, gap_begins, length-raster, colours_back, length-colours_at, samples_back}
+use Rattle.canvas.proofs.PpmLawLemmas.{OneLine, white_in_gap, white_no_comment, white_no_digit, gap_no_digit, comment_goes_on, comment_ends, reads_number, gap_begins, length-raster, colours_back, samples_back}
+use Rattle.canvas.proofs.ReadingLemmas.{length-colours_at}
 
 -- a number that is there has digits
 digits_of_text : (text : List ℕ) → AllByRecursion (λ byte. is_ascii_digit byte ≡ true) (take_while is_ascii_digit text)
@@ -134,14 +135,6 @@ said text first number =
     nonempty [] e starts = absurd (true≢false (sym (subst (λ (t : List ℕ). is_ascii_digit (get_or t 0 0) ≡ true) (sym e) starts) ∙ first))
     nonempty (b ∷ items) e starts = omega arith
 
-side_passes : (side : ℕ) → IsSurfaceSide side → is_surface_side side ≡ true
-side_passes side s = and_from _ _ (le-leb _ _ s.not_empty) (le-leb _ _ s.within)
-
-side_is : (side : ℕ) → is_surface_side side ≡ true → IsSurfaceSide side
-side_is side e =
-    let p = and_parts (leb 1 side) (leb side 8192) e in
-    record { not_empty = leb-true 1 side p.0; within = leb-true side 8192 p.1 }
-
 same_image : (width height : ℕ) (colours : List Colour) (image : Image) → width ≡ image.width → height ≡ image.height → colours ≡ image.colours → record { width = width; height = height; colours = colours } ≡ image
 same_image width height colours image e f g = rw (e, f, g) refl
 
@@ -164,8 +157,8 @@ to_read text image p =
     let samples : drop 1 (space_text text) ≡ raster image.colours ++ p.behind = ap (λ (t : List ℕ). drop 1 t) fourth in
     let count : pixels_of text ≡ length image.colours = ap (λ n. n * front_number (width_text text)) hn ∙ ap (λ n. image.height * n) wn ∙ sym p.whole in
     let begins : begins_ppm text ≡ true = ap begins_ppm p.is ∙ gap_begins p.first_gap (p.width ++ t2) p.gap_first in
-    let wide : is_surface_side (front_number (width_text text)) ≡ true = ap is_surface_side wn ∙ side_passes image.width p.wide_side in
-    let high : is_surface_side (front_number (height_text text)) ≡ true = ap is_surface_side hn ∙ side_passes image.height p.high_side in
+    let wide : is_surface_side (front_number (width_text text)) ≡ true = ap is_surface_side wn ∙ surface_side_from image.width p.wide_side in
+    let high : is_surface_side (front_number (height_text text)) ≡ true = ap is_surface_side hn ∙ surface_side_from image.height p.high_side in
     let most : (front_number (most_text text) == 255) ≡ true = ap (λ n. n == 255) mn in
     let white : is_white (get_or (space_text text) 0 0) ≡ true = ap (λ (t : List ℕ). is_white (get_or t 0 0)) fourth ∙ p.white in
     let long : 3 * pixels_of text ≤ length (drop 1 (space_text text)) =
@@ -198,8 +191,8 @@ said_image text e =
     let sides = and_parts (is_surface_side (front_number (width_text text))) (is_surface_side (front_number (height_text text))) most.0 in
     let gap = and_parts ((get_or text 0 0 == 80) && (get_or text 1 0 == 54)) (is_in_gap false (get_or text 2 0)) head.0 in
     let magic = and_parts (get_or text 0 0 == 80) (get_or text 1 0 == 54) gap.0 in
-    let wide_side = side_is (front_number (width_text text)) sides.0 in
-    let high_side = side_is (front_number (height_text text)) sides.1 in
+    let wide_side = surface_side_true (front_number (width_text text)) sides.0 in
+    let high_side = surface_side_true (front_number (height_text text)) sides.1 in
     let greatest : front_number (most_text text) ≡ 255 = eqb-true (front_number (most_text text)) 255 most.1 in
     let first : is_ascii_digit (get_or (drop 2 text) 0 0) ≡ false = ap is_ascii_digit (get_or-drop 2 text 0 0) ∙ gap_no_digit (get_or text 2 0) gap.1 in
     let s1 = said (drop 2 text) first wide_side.not_empty in

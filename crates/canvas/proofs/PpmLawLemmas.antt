@@ -99,10 +99,6 @@ pub colours_back : (colours : List Colour) (behind : List ℕ) → colours_at (l
 colours_back [] behind = refl
 colours_back (c ∷ colours) behind = ap (λ cs. c ∷ cs) (colours_back colours behind)
 
-pub length-colours_at : (count : ℕ) (text : List ℕ) → length (colours_at count text) ≡ count
-length-colours_at zero text = refl
-length-colours_at (suc count) text = ap suc (length-colours_at count (drop 3 text))
-
 pub samples_back : (count : ℕ) (text : List ℕ) → 3 * count ≤ length text → raster (colours_at count text) ++ drop (3 * count) text ≡ text
 samples_back zero text h = refl
 samples_back (suc count) [] h = absurd (omega (arith, h))

@@ -1,9 +1,10 @@
 -- Parts of a P6 text: gaps, numbers and samples.
-use Rattle.std.proofs.Common.{◌≡◌, ◌==◌, ℕ, zero, suc, ◌+◌, ◌*◌, ◌<◌, ◌≤◌, Bool, true, false, ◌&&◌, leb, eqb, min, subst, List, [], ◌∷◌, ◌++◌, length, drop, get_or, refl, sym, ap, ◌∙◌, arith}
+use Rattle.std.proofs.Common.{◌≡◌, ◌==◌, ℕ, zero, suc, ◌+◌, ◌*◌, ◌<◌, Bool, true, false, ◌&&◌, leb, eqb, min, subst, List, [], ◌∷◌, ◌++◌, length, drop, get_or, refl, sym, ap, ◌∙◌, arith}
 use Rattle.std.proofs.lemmas.Bool.{leb-true, leb-false, lt-leb, eqb-true, and_parts}
 use Rattle.std.proofs.lemmas.List.{get_or-drop, drop-drop}
+use Rattle.std.proofs.Math.Bool.{and-false}
 use Rattle.mapping.specs.declared.geometry.Colour.{Colour}
-use Rattle.mapping.specs.Limits.{is_surface_side}
+use Rattle.mapping.specs.Limits.{is_surface_side, surface_side_true}
 use Rattle.canvas.specs.PpmHead.{IsHeadOf, IsNumberAt}
 use Rattle.canvas.specs.PpmReading.{begins_ppm, behind_gap, colours_at, ends_head, has_head, height_text, is_white, most_text, front_number, space_text, width_text}
 use Rattle.canvas.specs.declared.reading.NumberRead.{NumberRead}
@@ -54,10 +55,6 @@ length-colours_at zero text = refl
 length-colours_at (suc count) text = ap suc (length-colours_at count (drop 3 text))
 
 -- a number is as far from a side, and from 255, as it is where it is told as 9,999 at most
-and_false : (b : Bool) → (b && false) ≡ false
-and_false true = refl
-and_false false = refl
-
 capped_side : (n : ℕ) → is_surface_side (min n 9999) ≡ is_surface_side n
 capped_side n = go (leb n 9999) refl
   where
@@ -70,7 +67,7 @@ capped_side n = go (leb n 9999) refl
         let h = leb-false n 9999 e in
         let same : min n 9999 ≡ 9999 = omega (arith, h) in
         let high : leb n 8192 ≡ false = lt-leb n 8192 (omega (arith, h)) in
-        ap is_surface_side same ∙ sym (ap (λ b. leb 1 n && b) high ∙ and_false (leb 1 n))
+        ap is_surface_side same ∙ sym (ap (λ b. leb 1 n && b) high ∙ and-false (leb 1 n))
 
 capped_most : (n : ℕ) → (min n 9999 == 255) ≡ (n == 255)
 capped_most n = go (leb n 9999) (eqb n 255) refl refl
@@ -88,9 +85,6 @@ capped_most n = go (leb n 9999) (eqb n 255) refl refl
         let h = leb-false n 9999 e in
         let same : min n 9999 ≡ 9999 = omega (arith, h) in
         ap (λ m. m == 255) same ∙ sym f
-
-side_low : (n : ℕ) → is_surface_side n ≡ true → n ≤ 8192
-side_low n e = leb-true n 8192 (and_parts (leb 1 n) (leb n 8192) e).1
 
 -- the three numbers of a header, each behind the one before
 module _ (text : List ℕ) (w h m : NumberRead)
@@ -121,8 +115,8 @@ module _ (text : List ℕ) (w h m : NumberRead)
       let white = and_parts (is_surface_side w.value && is_surface_side h.value && (m.value == 255)) (is_white (get_or (drop m.end text) 0 0)) passes in
       let value = and_parts (is_surface_side w.value && is_surface_side h.value) (m.value == 255) white.0 in
       let sides = and_parts (is_surface_side w.value) (is_surface_side h.value) value.0 in
-      let low = side_low w.value sides.0 in
-      let lower = side_low h.value sides.1 in
+      let low = (surface_side_true w.value sides.0).within in
+      let lower = (surface_side_true h.value sides.1).within in
       let first_value = first.value in
       let high_value = high.value in
       record {

@@ -3,12 +3,13 @@ use Rattle.std.proofs.Common.{◌≡◌, ℕ, ◌+◌, ◌-◌, ◌*◌, ◌/◌
 use Rattle.std.proofs.lemmas.Bool.{both_ways, and_parts, and_from, eqb-true, leb-true, ltb-true, eq-eqb, le-leb, lt-ltb, false_from_ne_true, cases_lt, cond-false}
 use Rattle.std.proofs.lemmas.List.{same_lists}
 use Rattle.std.proofs.lemmas.Nat.{div-add-mod', div-mul-add, mod-mul-add, row_fits}
+use Rattle.mapping.specs.IndexLaws.{count_indexes-append, count_indexes_moved, count_indexes_none, length-map_indexed}
 use Rattle.mapping.specs.declared.geometry.Colour.{Colour}
 use Rattle.mapping.specs.Pixels.{count_indexes, count_pixels, repainted}
 use Rattle.canvas.specs.CanvasState.{CanvasState}
 use Rattle.canvas.specs.Writing.{Repaints, in_row_span}
 use Rattle.canvas.proofs.PartLemmas.{length-with_part, part_before, part_behind, part_here, with_part}
-use Rattle.canvas.proofs.IndexLemmas.{count-append, count_none, count_same, count_shift, get_or-map_indexed, length-map_indexed}
+use Rattle.canvas.proofs.IndexLemmas.{count_same, get_or-map_indexed}
 
 -- what it is to be in a span
 pub span_parts : (y from to column row : ℕ) → in_row_span y from to column row ≡ true → (row ≡ y) × (from ≤ column) × (column < to)
@@ -90,12 +91,12 @@ module _ (width first rows y from to : ℕ) (part : IsPart width first rows y fr
         let rest = rows * width - (start + n) in
         let within = fits in
         let all : rows * width ≡ start + (n + rest) = omega arith in
-        let first_cut = count-append at 0 start (n + rest) in
-        let second_cut = count-append at (0 + start) n rest in
-        let before = count_none at 0 start (λ i a b. fails i (λ c d. omega arith)) in
-        let behind = count_none at (0 + start + n) rest (λ i a b. fails i (λ c d. omega arith)) in
+        let first_cut = count_indexes-append at 0 start (n + rest) in
+        let second_cut = count_indexes-append at (0 + start) n rest in
+        let before = count_indexes_none at 0 start (λ i a b. fails i (λ c d. omega arith)) in
+        let behind = count_indexes_none at (0 + start + n) rest (λ i a b. fails i (λ c d. omega arith)) in
         let here : 0 + start ≡ start + 0 = omega arith in
-        let moved : count_indexes at (0 + start) n ≡ count_indexes (λ k. at (start + k)) 0 n = ap (λ (i : ℕ). count_indexes at i n) here ∙ count_shift at start 0 n in
+        let moved : count_indexes at (0 + start) n ≡ count_indexes (λ k. at (start + k)) 0 n = ap (λ (i : ℕ). count_indexes at i n) here ∙ count_indexes_moved at (λ k. at (start + k)) start 0 n (λ k. refl) in
         let same = count_same (λ k. at (start + k)) (λ k. t (from + k) y) 0 n (λ i a b. test_of i (omega arith)) in
         ap (λ (m : ℕ). count_indexes at 0 m) all ∙ omega (arith, first_cut, second_cut, before, behind, moved, same)
 

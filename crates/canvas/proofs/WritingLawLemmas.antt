@@ -2,11 +2,12 @@
 use Rattle.std.proofs.Common.{◌≡◌, ℕ, ◌+◌, ◌-◌, ◌*◌, ◌/◌, ◌%◌, ◌<◌, ◌≤◌, Bool, true, false, ◌&&◌, ◌||◌, cond, refl, sym, ap, ◌∙◌, arith}
 use Rattle.std.proofs.lemmas.Bool.{true≢false}
 use Rattle.std.proofs.lemmas.Nat.{mod_below, div_below}
+use Rattle.mapping.specs.IndexLaws.{count_indexes_most, count_indexes_none, length-map_indexed, map_indexed_none}
 use Rattle.mapping.specs.declared.geometry.Colour.{Colour}
 use Rattle.canvas.specs.CanvasState.{CanvasState, HasPixel, HasRow}
 use Rattle.canvas.specs.Writing.{Repaints, in_row_span}
 use Rattle.canvas.specs.WritingLaws.{IsWhole, PassesNone, SameTest, SameWhere, WritingLaws}
-use Rattle.canvas.proofs.IndexLemmas.{length-map_indexed, map_indexed_same, map_indexed_none, map_indexed_both, count_same, count_none, count_all, count_most, count_either}
+use Rattle.canvas.proofs.IndexLemmas.{map_indexed_same, map_indexed_both, count_same, count_all, count_either}
 use Rattle.canvas.proofs.SpanLemmas.{IsPart, count_part, span_from}
 
 -- the pixel at an index of the list of colours is held
@@ -22,7 +23,7 @@ none t f canvas whole passes =
     let long = whole.whole in
     record {
       colours = sym (map_indexed_none _ 0 canvas.colours (λ i c a b. rw (fails i (omega arith)) refl));
-      writes = omega (arith, count_none (λ i. t (i % canvas.width) (canvas.first + i / canvas.width)) 0 (canvas.rows * canvas.width) (λ i a b. fails i (omega arith)));
+      writes = omega (arith, count_indexes_none (λ i. t (i % canvas.width) (canvas.first + i / canvas.width)) 0 (canvas.rows * canvas.width) (λ i a b. fails i (omega arith)));
       width = refl;
       first = refl;
       rows = refl;
@@ -82,7 +83,7 @@ span y from to f old new whole row order within r =
 bounded : (t : ℕ → ℕ → Bool) (f : ℕ → ℕ → Colour → Colour) (old new : CanvasState) → Repaints t f old new → new.writes ≤ old.writes + old.rows * old.width
 bounded t f old new r =
     let e = r.writes in
-    omega (arith, e, count_most (λ i. t (i % old.width) (old.first + i / old.width)) 0 (old.rows * old.width))
+    omega (arith, e, count_indexes_most (λ i. t (i % old.width) (old.first + i / old.width)) 0 (old.rows * old.width))
 
 stays_whole : (t : ℕ → ℕ → Bool) (f : ℕ → ℕ → Colour → Colour) (old new : CanvasState) → Repaints t f old new → IsWhole old → IsWhole new
 stays_whole t f old new r whole =

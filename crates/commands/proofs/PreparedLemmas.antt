@@ -2,7 +2,7 @@
 use Rattle.std.proofs.Common.{◌≡◌, ◌∙◌, ◌≤◌, ◌<◌, ◌⊎◌, inl, inr, Bool, true, false, ◌||◌, cond, ℕ, List, length, Result, Ok, Err, IsOk, Option, ap, arith, refl, subst, sym}
 use Rattle.std.specs.Prelude.{◌==◌, nat_le, nat_lt, not}
 use Rattle.std.proofs.lemmas.Bool.{and_from, le-leb, true≢false}
-use Rattle.mapping.specs.Limits.{IsSurfaceSide, is_surface_side}
+use Rattle.mapping.specs.Limits.{IsSurfaceSide, is_surface_side, surface_side_from}
 use Rattle.draw_ops.specs.ExactlyOne.{ExactlyOne}
 use Rattle.draw_ops.specs.declared.fault.Fault.{Fault}
 use Rattle.draw_ops.specs.declared.fault.Fault.TheVariants.{BadBound, NotCertificate, OutOfMemory, ShortCertificate, TrailingBytes}
@@ -18,7 +18,8 @@ use Rattle.preflight_cert.specs.Preparation.{Prepares, PreparesIfOpened, Prepare
 use Rattle.preflight_cert.specs.Run.{Refused}
 use Rattle.preflight_cert.specs.declared.certificate.Certificate.{Certificate}
 use Rattle.preflight_cert.specs.declared.refusal.Refusal.{Refusal}
-use Rattle.commands.specs.ClearedFiles.{IsWithinBound, RefusesSurface}
+use Rattle.player.specs.Bounds.{IsWithinBound}
+use Rattle.commands.specs.ClearedFiles.{RefusesSurface}
 use Rattle.preflight_cert.specs.Reached.{OpensBoth}
 
 -- a fault is no certificate
@@ -109,25 +110,12 @@ prepared_within file width height bytes prepared wide high c read =
     let is_high : c.max_height ≡ height = prepared_high file width height bytes prepared (certificate_of c) read high.within in
     record { wide = omega (arith, is_wide); high = omega (arith, is_high) }
 
--- a surface that isn't above the bound is refused for memory alone
-pub never_above : (c : Certificate) (width height : ℕ) (fault : Fault) → IsWithinBound c width height → RefusesSurface c width height fault
-    → (fault ≡ OutOfMemory → ⊥) → ⊥
-never_above c width height fault within (inr want) other = other want
-never_above c width height fault within (inl above) other = go above.larger
-  where
-    go : (c.max_width < width ⊎ c.max_height < height) → ⊥
-    go (inl less) = let h = within.wide in absurd (omega (arith, less, h))
-    go (inr less) = let h = within.high in absurd (omega (arith, less, h))
-
-side_test : (side : ℕ) → IsSurfaceSide side → is_surface_side side ≡ true
-side_test side is = and_from (nat_le 1 side) (nat_le side 8192) (le-leb _ _ is.not_empty) (le-leb _ _ is.within)
-
 -- of sides that a surface may have, the refusal is the run's
 pub run_refused : (file : List ℕ) (width height : ℕ) → IsSurfaceSide width → IsSurfaceSide height → (r : Refusal)
     → (StopsPreparing file width height r ⊎ IsWantOfMemory r) → (Refused file width height r.number r.fault ⊎ IsWantOfMemory r)
 run_refused file width height wide high r (inr want) = inr want
 run_refused file width height wide high r (inl stops) =
-    let bound : is_bound width height ≡ true = and_from (is_surface_side width) (is_surface_side height) (side_test width wide) (side_test height high) in
+    let bound : is_bound width height ≡ true = and_from (is_surface_side width) (is_surface_side height) (surface_side_from width wide) (surface_side_from height high) in
     inl (subst (λ (allowed : Bool). RefusesWithin allowed file width height r.number r.fault) bound stops)
 
 -- an accepted file opens, and its certificate reads

@@ -3,7 +3,7 @@ use Rattle.std.proofs.Common.{◌≡◌, ◌∙◌, ◌⊎◌, inl, inr, ap, sub
 use Rattle.std.specs.Prelude.{◌==◌}
 use Rattle.std.specs.Cmp.Lexicographic.{slice_cmp}
 use Rattle.std.specs.Ordering.{match_ordering}
-use Rattle.std.proofs.lemmas.Bool.{or_parts}
+use Rattle.std.proofs.lemmas.Bool.{or_parts, or_from}
 use Rattle.serde_json.specs.Data.{Data, Members, boolean, member, no_members, put, string}
 use Rattle.serde_json.specs.Written.{has_float, members_have_float}
 use Rattle.draw_ops.specs.NoteCounts.{note_count}
@@ -34,20 +34,17 @@ use Rattle.meta_headers.specs.Formats.{format_name}
 use Rattle.commands.specs.CheckReport.{ReportsAccepted, ReportsRefused, accepted_report, all_kinds, needs_data, noted_kinds, notes_data, refused_report, report_text, sides, whole, whole_if, with_kind}
 use Rattle.commands.specs.ClearedFiles.{report_of}
 
-both_false : (a b : Bool) → a ≡ false → b ≡ false → (a || b) ≡ false
-both_false a b e f = rw e f
-
 put_whole : (k : List ℕ) (d : Data) (ms : Members) → has_float d ≡ false → members_have_float ms ≡ false → members_have_float (put k d ms) ≡ false
-put_whole k d no_members one others = both_false _ _ one refl
+put_whole k d no_members one others = or_from _ _ one refl
 put_whole k d (member l e ms) one others =
     let parts = or_parts (has_float e) (members_have_float ms) others in
     go (slice_cmp nat_cmp k l) parts.0 parts.1 (put_whole k d ms one parts.1)
   where
     go : (o : Ordering) → has_float e ≡ false → members_have_float ms ≡ false → members_have_float (put k d ms) ≡ false
         → members_have_float (match_ordering o (member k d (member l e ms)) (member l d ms) (member l e (put k d ms))) ≡ false
-    go Less first rest later = both_false _ _ one (both_false _ _ first rest)
-    go Equal first rest later = both_false _ _ one rest
-    go Greater first rest later = both_false _ _ first later
+    go Less first rest later = or_from _ _ one (or_from _ _ first rest)
+    go Equal first rest later = or_from _ _ one rest
+    go Greater first rest later = or_from _ _ first later
 
 kind_whole : (none : Bool) (k : List ℕ) (n : ℕ) (ms : Members) → members_have_float ms ≡ false → members_have_float (cond none ms (put k (whole n) ms)) ≡ false
 kind_whole true k n ms others = others

@@ -1,6 +1,6 @@
 -- Five words of the right form are what clap takes, and ask for a file and two sides.
 use Rattle.std.proofs.Common.{◌≡◌, ◌∙◌, ◌<◌, ◌&&◌, ◌==◌, ◌^◌, ap, sym, subst, refl, ℕ, Bool, List, [], ◌∷◌, false, true, Some, codes, length, pos, arith, nat_le, nat_lt}
-use Rattle.std.proofs.lemmas.Bool.{ne_eqb}
+use Rattle.std.proofs.lemmas.Bool.{ne_eqb, and_from}
 use Rattle.std.proofs.lemmas.Bool.Decides.{nat_tests}
 use Rattle.std.specs.Char.{digit_value}
 use Rattle.std.specs.List.{list_all}
@@ -14,9 +14,6 @@ use Rattle.clap.specs.Words.{subcommand_of, takes}
 use Rattle.clap.proofs.OnLiterals.{clap_on_literals}
 use Rattle.commands.specs.CommandLine.{AreRightWords, IsPlainWord, IsRightShow, IsSideText, metaplay_app}
 use Rattle.commands.proofs.WordLemmas.{after_file, after_wide, first_word, given_all, no_flags, no_minus, other_words, show_rules, standing, taken, walked_plain, walked_words}
-
-both_true : (a b : Bool) → a ≡ true → b ≡ true → (a && b) ≡ true
-both_true a b is_a is_b = rw is_a is_b
 
 -- a digit is no sign
 no_sign : (c sign : ℕ) → digit_value c < 10 → digit_value sign ≡ 36 → c ≡ sign → ⊥
@@ -37,7 +34,7 @@ all_digits (d ∷ ds) digits =
 numeral : (c : ℕ) (cs : Text) → AllDigits 10 (c ∷ cs) → is_numeral (c ∷ cs) ≡ true
 numeral c cs digits =
     let some : nat_lt 0 (length (c ∷ cs)) ≡ true = grind (arith, nat_tests) in
-    both_true _ _ some (all_digits (c ∷ cs) digits)
+    and_from _ _ some (all_digits (c ∷ cs) digits)
 
 -- such a text has no plus to leave out
 pub no_plus : (text : Text) → IsSideText text → without_leading_plus text ≡ text
@@ -88,10 +85,10 @@ walk_taken : (file wide high : Text) → IsPlainWord file → IsSideText wide �
 unfolding clap_on_literals
 walk_taken file wide high plain wide_side high_side =
     let wide_plain = plain_side wide wide_side in
-    let third : walk_passes show_shape [] (after_wide file wide) (high ∷ []) ≡ true = both_true _ _ (high_turn file wide high wide_side (plain_side high high_side)) refl in
+    let third : walk_passes show_shape [] (after_wide file wide) (high ∷ []) ≡ true = and_from _ _ (high_turn file wide high wide_side (plain_side high high_side)) refl in
     let second : walk_passes show_shape [] (after_file file) (wide ∷ high ∷ []) ≡ true =
-    both_true _ _ (wide_turn file wide wide_plain) (subst (λ (w : Walk). walk_passes show_shape [] w (high ∷ []) ≡ true) (sym (walked_plain show_rules (after_file file).held 2 wide wide_plain)) third) in
-    both_true _ _ (file_turn file plain) (subst (λ (w : Walk). walk_passes show_shape [] w (wide ∷ high ∷ []) ≡ true) (sym (walked_plain show_rules nothing_held 1 file plain)) second)
+    and_from _ _ (wide_turn file wide wide_plain) (subst (λ (w : Walk). walk_passes show_shape [] w (high ∷ []) ≡ true) (sym (walked_plain show_rules (after_file file).held 2 wide wide_plain)) third) in
+    and_from _ _ (file_turn file plain) (subst (λ (w : Walk). walk_passes show_shape [] w (wide ∷ high ∷ []) ≡ true) (sym (walked_plain show_rules nothing_held 1 file plain)) second)
 
 -- what is held behind the last word passes
 abbrev EndPasses : Walk → Type 0
@@ -99,12 +96,12 @@ EndPasses w = (settle_passes show_rules show_shape.args_override_self w.held && 
 
 end_taken : (file wide high : Text) → IsSideText high → EndPasses (taken (after_wide file wide) high)
 unfolding clap_on_literals
-end_taken file wide high side = both_true _ _ (ap (λ (b : Bool). b && true) (side_passes high side)) refl
+end_taken file wide high side = and_from _ _ (ap (λ (b : Bool). b && true) (side_passes high side)) refl
 
 show_taken : (file wide high : Text) → IsPlainWord file → IsSideText wide → IsSideText high → level_passes show_shape [] nothing_held (file ∷ wide ∷ high ∷ []) false ≡ true
 show_taken file wide high plain wide_side high_side =
     let end = walked_words file wide high plain (plain_side wide wide_side) (plain_side high high_side) in
-    both_true _ _ (walk_taken file wide high plain wide_side high_side) (subst EndPasses (sym end) (end_taken file wide high high_side))
+    and_from _ _ (walk_taken file wide high plain wide_side high_side) (subst EndPasses (sym end) (end_taken file wide high high_side))
 
 five_taken : (program file wide high : Text) → level_passes show_shape [] nothing_held (file ∷ wide ∷ high ∷ []) false ≡ true → takes metaplay_app (program ∷ codes "show" ∷ file ∷ wide ∷ high ∷ []) ≡ true
 unfolding clap_on_literals

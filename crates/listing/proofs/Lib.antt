@@ -1,5 +1,4 @@
 pub mod NameLemmas
-pub mod SendingLemmas
 pub mod LineLemmas
 pub mod WalkLemmas
 pub mod TextLemmas

@@ -18,9 +18,9 @@ use Rattle.listing.specs.Judging.{Judging, behind_record, fault_in_runs}
 use Rattle.listing.specs.Line.{fault_line, line_of}
 use Rattle.listing.specs.Listing.{lines_of, lines_of_framed, step_in}
 use Rattle.listing.specs.Putting.{Coming, PutsLine, PutsRest, coming, listing_left}
-use Rattle.listing.specs.Sending.{Sending}
+use Rattle.canvas.specs.Sending.{Sending}
 use Rattle.listing.specs.declared.listing_end.ListingEnd.TheVariants.{Broken, Ended}
-use Rattle.listing.proofs.SendingLemmas.{sending_none}
+use Rattle.canvas.specs.Sending.{sending_none}
 
 -- a record that doesn't end the file has the same step, whatever lies behind the end
 by_last : (b : Bool) (one other : List ℕ) (number : ℕ) (meant : Result MeantValue RecordFault) → (b ≡ true → one ≡ other) → result_map (step_meant b one number) meant ≡ result_map (step_meant b other number) meant

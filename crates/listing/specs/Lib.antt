@@ -6,7 +6,6 @@ pub mod Judging
 pub mod Line
 pub mod Listing
 pub mod ListingLaws
-pub mod Sending
 pub mod Putting
 pub mod WmfNames
 pub mod EmfNames

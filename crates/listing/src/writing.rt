@@ -7,7 +7,7 @@ ghost use Rattle.meta_headers.specs.Opening.{framing_of};
 ghost use Rattle.listing.specs.Judging.{judging_of};
 ghost use Rattle.listing.specs.Listing.{framed_records, listed_by, listed_of, listing_in, listing_of, no_format_line};
 ghost use Rattle.listing.specs.Putting.{PutsNext, coming};
-ghost use Rattle.listing.specs.Sending.{Sending};
+ghost use Rattle.canvas.specs.Sending.{Sending};
 
 use crate::formats::{first_place, records_in};
 use crate::judging::Judge;

@@ -1,19 +1,20 @@
 -- How many columns lie from where one coordinate lands to where another does.
-use Rattle.std.proofs.Common.{◌≡◌, ◌≢◌, ℕ, zero, suc, ◌+◌, ◌-◌, ◌*◌, ◌/◌, ◌<◌, ◌≤◌, ℤ, pos, negsuc, ◌*ℤ◌, ◌≤ℤ◌, ◌<ℤ◌, Bool, true, false, ◌&&◌, ◌||◌, int_le, int_lt, cond, refl, ap, ◌∙◌, sym, subst, arith}
-use Rattle.std.specs.Prelude.{max, min}
+use Rattle.std.proofs.Common.{◌≡◌, ◌≢◌, ℕ, zero, suc, ◌+◌, ◌-◌, ◌*◌, ◌/◌, ◌<◌, ◌≤◌, ℤ, pos, negsuc, ◌*ℤ◌, ◌≤ℤ◌, ◌<ℤ◌, Bool, true, false, ◌||◌, int_le, int_lt, cond, refl, ap, ◌∙◌, sym, arith}
+use Rattle.std.specs.Prelude.{min}
 use Rattle.std.proofs.Math.Nat.{mul-le-mul_left, mul-le-mul_right, mul-div_cancel_left, div-mul-le_self, lt-div-mul-add, zero-div, add-mul}
 use Rattle.std.proofs.lemmas.Bool.{and_parts, false_from_ne_true}
 use Rattle.std.proofs.lemmas.Int.{ints, by_lt_z}
 use Rattle.std.proofs.lemmas.Nat.{le-div}
 use Rattle.mapping.proofs.FloorLemmas.{floor_is_greatest}
-use Rattle.mapping.proofs.IntTestLemmas.{int_le-true, int_le-false, int_le-from, int_lt-true, int_lt-false, int_le-not}
 use Rattle.mapping.specs.Floor.{floor_div}
 use Rattle.mapping.specs.Limits.{IsFrameSide}
 use Rattle.mapping.specs.Pixels.{count_indexes}
 use Rattle.mapping.specs.Surface.{placed}
 use Rattle.mapping.specs.Cells.{cells, count_of, is_away, lies_from_to, rounded_up}
 use Rattle.mapping.specs.CellLaws.{CellLaws}
-use Rattle.mapping.proofs.CountLemmas.{by_bool, count_at_most, count_between, count_nothing, pixels_few}
+use Rattle.mapping.proofs.CountLemmas.{count_between, pixels_few}
+use Rattle.mapping.specs.IndexLaws.{count_indexes_most, count_indexes_none}
+use Rattle.mapping.specs.TestLaws.{int_le-false, int_le-not, int_le-true, int_lt-false, int_lt-not}
 
 -- a number that isn't below 0 has no multiple that is below 0
 below_not : (n : ℕ) (q : ℤ) (w side : ℕ) → 1 ≤ w → pos 0 ≤ℤ q → (q *ℤ pos side) ≤ℤ (negsuc n *ℤ pos w) → ⊥
@@ -71,14 +72,14 @@ none_before : (l r : ℤ) (w side : ℕ) → 1 ≤ side → r <ℤ pos 0 → cou
 none_before l r zero side one h = refl
 none_before l r (suc w) side one h =
     let before = lands_before r (suc w) side one (omega arith) h in
-    count_nothing (lies_from_to l r (suc w) side) 0 (suc w)
-    (λ x small. false_from_ne_true _ (λ t. let high = (span_parts l r (suc w) side x t).1 in omega (arith, ints, high, before)))
+    count_indexes_none (lies_from_to l r (suc w) side) 0 (suc w)
+    (λ x low small. false_from_ne_true _ (λ t. let high = (span_parts l r (suc w) side x t).1 in omega (arith, ints, high, before)))
 
 none_behind : (l r : ℤ) (w side : ℕ) → 1 ≤ side → pos side ≤ℤ l → count_indexes (lies_from_to l r w side) 0 w ≡ 0
 none_behind l r w side one h =
     let behind = lands_behind l w side one h in
-    count_nothing (lies_from_to l r w side) 0 w
-    (λ x small. false_from_ne_true _ (λ t. let low = (span_parts l r w side x t).0 in omega (arith, ints, low, behind, small)))
+    count_indexes_none (lies_from_to l r w side) 0 w
+    (λ x first small. false_from_ne_true _ (λ t. let low = (span_parts l r w side x t).0 in omega (arith, ints, low, behind, small)))
 
 -- the first column is not before where l lands, or column 0
 first_from : (l : ℤ) (w side x : ℕ) → 1 ≤ side → placed l w side ≤ℤ pos x → count_of l * w / side ≤ x
@@ -110,7 +111,7 @@ floors_apart m n w side one h =
 -- where the box isn't away
 near_few : (l r : ℤ) (w side : ℕ) → 1 ≤ side → l ≤ℤ r → pos 0 ≤ℤ r → l <ℤ pos side → count_indexes (lies_from_to l r w side) 0 w ≤ min w (rounded_up ((min (count_of r) side - count_of l) * w) side + 1)
 near_few l r w side one order reaches before =
-    let all = count_at_most (lies_from_to l r w side) 0 w in
+    let all = count_indexes_most (lies_from_to l r w side) 0 w in
     let a : ℕ = count_of l * w / side in
     let b : ℕ = min (count_of r) side * w / side in
     let between = count_between (lies_from_to l r w side) (count_of l * w / side) (min (count_of r) side * w / side) 0 w
@@ -124,13 +125,10 @@ pub by_away : {P : Type 0} (l r : ℤ) (side : ℕ) → (r <ℤ l → P) → (r 
 by_away l r side empty before behind near =
     by_lt_z r l empty (λ (order : l ≤ℤ r). by_lt_z r (pos 0) before (λ (reaches : pos 0 ≤ℤ r). by_lt_z l (pos side) (λ (g : l <ℤ pos side). near order reaches g) behind))
 
-not_less : (u v : ℤ) → v ≤ℤ u → int_lt u v ≡ false
-not_less u v h = false_from_ne_true (int_lt u v) (λ t. let k = int_lt-true u v t in omega (arith, ints, h, k))
-
 pub isnt_away : (l r : ℤ) (side : ℕ) → l ≤ℤ r → pos 0 ≤ℤ r → l <ℤ pos side → is_away l r side ≡ false
 isnt_away l r side a b c =
-    let empty : int_lt r l ≡ false = not_less r l a in
-    let before : int_lt r (pos 0) ≡ false = not_less r (pos 0) b in
+    let empty : int_lt r l ≡ false = int_lt-not r l a in
+    let before : int_lt r (pos 0) ≡ false = int_lt-not r (pos 0) b in
     let behind : int_le (pos side) l ≡ false = int_le-not (pos side) l (λ k. omega (arith, ints, k, c)) in
     rw (empty, before, behind) refl
 

@@ -1,21 +1,12 @@
 -- What lands within the limit of placed coordinates, without a division.
-use Rattle.std.proofs.Common.{◌≡◌, ℕ, suc, ◌≤◌, ℤ, pos, neg_ℤ, ◌*ℤ◌, ◌≤ℤ◌, ◌<ℤ◌, Bool, true, false, ◌&&◌, int_le, int_lt, arith, refl, sym, ap, ◌∙◌}
+use Rattle.std.proofs.Common.{◌≡◌, ℕ, suc, ◌≤◌, ℤ, pos, neg_ℤ, ◌*ℤ◌, ◌≤ℤ◌, ◌<ℤ◌, Bool, true, false, ◌&&◌, int_le, int_lt, arith, sym, ap, ◌∙◌}
 use Rattle.std.proofs.lemmas.Int.{ints, by_lt_z}
 use Rattle.std.proofs.lemmas.Bool.{and_parts, and_from}
 use Rattle.mapping.specs.Floor.{floor_div}
 use Rattle.mapping.specs.Limits.{is_within}
 use Rattle.mapping.proofs.FloorLemmas.{floor_is_greatest}
-use Rattle.mapping.proofs.IntTestLemmas.{int_le-false, int_le-from, int_le-not, int_le-true, int_lt-true}
 use Rattle.mapping.proofs.PlacingLemmas.{not_zero, times_count}
-
-less : (u v : ℤ) → u <ℤ v → int_lt u v ≡ true
-less u v h = grind (arith, ints)
-
--- two tests that hold of the same are the same
-same : (b c : Bool) → (b ≡ true → c ≡ true) → (c ≡ true → b ≡ true) → b ≡ c
-same true c to back = sym (to refl)
-same false true to back = back refl
-same false false to back = refl
+use Rattle.mapping.specs.TestLaws.{int_le-false, int_le-from, int_le-not, int_le-true, int_lt-true, int_lt-from, same_test}
 
 -- a fraction isn't below a limit where the dividend isn't below that many divisors
 low : (a l : ℤ) (side : ℕ) → 1 ≤ side → (l *ℤ pos side) ≤ℤ a → l ≤ℤ floor_div a (pos side)
@@ -49,9 +40,9 @@ pub record AreLimits (l side : ℕ) (from to : ℤ) : Type 0 where
 within_by : (a : ℤ) (l side : ℕ) → 1 ≤ side → (neg_ℤ (pos l) *ℤ pos side) ≤ℤ a → int_lt a (pos (suc l) *ℤ pos side) ≡ is_within l (floor_div a (pos side))
 within_by a l side one h =
     let q = floor_div a (pos side) in
-    same (int_lt a (pos (suc l) *ℤ pos side)) (is_within l q)
+    same_test (int_lt a (pos (suc l) *ℤ pos side)) (is_within l q)
     (λ t. and_from (int_le (neg_ℤ (pos l)) q) (int_le q (pos l)) (int_le-from _ _ (low a (neg_ℤ (pos l)) side one h)) (int_le-from _ _ (high a l side one (int_lt-true _ _ t))))
-    (λ t. let parts = and_parts (int_le (neg_ℤ (pos l)) q) (int_le q (pos l)) t in less _ _ (high_back a l side one (int_le-true _ _ parts.1)))
+    (λ t. let parts = and_parts (int_le (neg_ℤ (pos l)) q) (int_le q (pos l)) t in int_lt-from _ _ (high_back a l side one (int_le-true _ _ parts.1)))
 
 without : (a : ℤ) (l side : ℕ) → 1 ≤ side → a <ℤ (neg_ℤ (pos l) *ℤ pos side) → is_within l (floor_div a (pos side)) ≡ false
 without a l side one h =

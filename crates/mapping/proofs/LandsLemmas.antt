@@ -1,5 +1,5 @@
 -- Points land within the limits exactly where two corners of the least box around them do.
-use Rattle.std.proofs.Common.{◌≡◌, Bool, true, false, ◌&&◌, ℕ, ℤ, List, map, arith, inl, inr, refl, subst, sym, ◌∙◌}
+use Rattle.std.proofs.Common.{◌≡◌, true, ◌&&◌, ℕ, ℤ, List, map, arith, inl, inr, subst, ◌∙◌}
 use Rattle.std.specs.List.{All, Any, list_all}
 use Rattle.std.proofs.lemmas.Bool.{and_from, and_parts}
 use Rattle.std.proofs.lemmas.Int.{ints}
@@ -14,6 +14,7 @@ use Rattle.mapping.specs.declared.geometry.Point.{Point}
 use Rattle.mapping.specs.declared.geometry.Rect.{Rect}
 use Rattle.mapping.proofs.BetweenLemmas.{place_keeps_between}
 use Rattle.mapping.proofs.LimitLemmas.{tests_are_limits}
+use Rattle.mapping.specs.TestLaws.{same_test}
 
 -- a coordinate is one of the plane, and lands within the limit on a side
 record Lands (side frame_side : ℕ) (v : ℤ) : Type 0 where
@@ -54,12 +55,6 @@ test_from_both s point both =
 -- what all have, one has that has something else too
 met : (P Q : Point → Type 0) (R : Type 0) (xs : List Point) → All P xs → Any Q xs → ((x : Point) → P x → Q x → R) → R
 met P Q R xs all (k, x, below, at, holds) use_it = use_it x (subst P at (all k x below)) holds
-
--- two tests that pass together are one
-same_tests : (a b : Bool) → (a ≡ true → b ≡ true) → (b ≡ true → a ≡ true) → a ≡ b
-same_tests true b to from = sym (to refl)
-same_tests false true to from = from refl
-same_tests false false to from = refl
 
 module _ (f g : ℤ → ℤ) (s : Surface) (box : Rect) (points : List Point) (shows : ShowsFrame s) (of_x : KeepsBetween f) (of_y : KeepsBetween g) (tight : IsTight box points) where
   -- where each image lands
@@ -102,4 +97,4 @@ module _ (f g : ℤ → ℤ) (s : Surface) (box : Rect) (points : List Point) (s
       list_all-from_AllPass (λ point. lands_within_limits (mapped_by f g point) s) points (λ k d below. test_from_both s _ (point_lands _ (tight.all k d below) first second))
 
   pub lands_by_corners : list_all (λ point. lands_within_limits point s) (map (mapped_by f g) points) ≡ (lands_within_limits near s && lands_within_limits far s)
-  lands_by_corners = list_all-map (λ point. lands_within_limits point s) (mapped_by f g) points ∙ same_tests _ _ corners_land all_land
+  lands_by_corners = list_all-map (λ point. lands_within_limits point s) (mapped_by f g) points ∙ same_test _ _ corners_land all_land

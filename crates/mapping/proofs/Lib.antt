@@ -8,7 +8,6 @@ pub mod BetweenLemmas
 pub mod JoiningLemmas
 pub mod LandsLemmas
 pub mod BoxLemmas
-pub mod IntTestLemmas
 pub mod CountLemmas
 pub mod CellLemmas
 pub mod MetLemmas

@@ -1,5 +1,5 @@
 -- Boxes around points, and what maps of each axis do to them.
-use Rattle.std.specs.Prelude.{◌≡◌, ◌⊎◌, pos, negsuc, ℤ, ◌≤ℤ◌, List, [], ◌∷◌, Option, Some, None}
+use Rattle.std.specs.Prelude.{◌≡◌, ◌⊎◌, pos, negsuc, ℤ, ◌≤ℤ◌, Bool, ◌&&◌, int_le, List, [], ◌∷◌, Option, Some, None}
 use Rattle.std.specs.Int.{int_max, int_min}
 use Rattle.std.specs.List.{All, Any}
 use Rattle.mapping.specs.declared.geometry.Point.{Point}
@@ -56,6 +56,23 @@ near_corner box = record { x = box.l; y = box.t }
 
 abbrev pub far_corner : Rect → Point
 far_corner box = record { x = box.r; y = box.b }
+
+-- what two boxes have in common: where that is nothing, its sides are out of order
+abbrev pub common_box : Rect → Rect → Rect
+common_box first second = record {
+  l = int_max first.l second.l;
+  t = int_max first.t second.t;
+  r = int_min first.r second.r;
+  b = int_min first.b second.b;
+}
+
+-- what lies from one number to another has what lies from `low` to `high`
+abbrev pub has_part : ℤ → ℤ → ℤ → ℤ → Bool
+has_part from to low high = int_le from low && int_le high to
+
+-- a box has all of another, the right and the bottom of both included
+abbrev pub has_box : Rect → Rect → Bool
+has_box outer inner = has_part outer.l outer.r inner.l inner.r && has_part outer.t outer.b inner.t inner.b
 
 -- a box, each of its axes mapped by itself, and its sides put in order
 abbrev pub mapped_box_by : (ℤ → ℤ) → (ℤ → ℤ) → Rect → Rect

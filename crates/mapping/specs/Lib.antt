@@ -1,4 +1,5 @@
 pub mod Floor
+pub mod TestLaws
 pub mod Limits
 pub mod MapMode
 pub mod Plane
@@ -11,6 +12,7 @@ pub mod PlaceOf
 pub mod MapSettings
 pub mod PlacingLaws
 pub mod Pixels
+pub mod IndexLaws
 pub mod Mixes
 pub mod Boxes
 pub mod BoxLaws

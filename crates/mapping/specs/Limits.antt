@@ -1,5 +1,7 @@
 -- The limits on plane coordinates, placed coordinates and sides, as facts and as tests.
-use Rattle.std.specs.Prelude.{ℕ, ◌^◌, ◌≤◌, ℤ, pos, neg_ℤ, ◌≤ℤ◌, Bool, ◌&&◌, int_le, nat_le}
+use Rattle.std.specs.Prelude.{◌≡◌, ℕ, ◌^◌, ◌≤◌, ℤ, pos, neg_ℤ, ◌≤ℤ◌, Bool, true, ◌&&◌, int_le, nat_le}
+use Rattle.std.proofs.lemmas.Bool.{and_from, and_parts, le-leb, leb-true}
+use Rattle.mapping.specs.TestLaws.{int_le-from, int_le-true}
 
 -- a plane coordinate is at most this far from 0
 unfoldable pub plane_limit : ℕ
@@ -26,6 +28,14 @@ pub record IsWithin (limit : ℕ) (v : ℤ) : Type 0 where
 abbrev pub is_within : ℕ → ℤ → Bool
 is_within limit v = int_le (neg_ℤ (pos limit)) v && int_le v (pos limit)
 
+pub within_true : (limit : ℕ) (v : ℤ) → is_within limit v ≡ true → IsWithin limit v
+within_true limit v test =
+    let parts = and_parts (int_le (neg_ℤ (pos limit)) v) (int_le v (pos limit)) test in
+    record { low = int_le-true _ _ parts.0; high = int_le-true _ _ parts.1 }
+
+pub within_from : (limit : ℕ) (v : ℤ) → IsWithin limit v → is_within limit v ≡ true
+within_from limit v h = and_from (int_le (neg_ℤ (pos limit)) v) (int_le v (pos limit)) (int_le-from _ _ h.low) (int_le-from _ _ h.high)
+
 -- a surface may have this side
 pub record IsSurfaceSide (side : ℕ) : Type 0 where
   pub not_empty : 1 ≤ side
@@ -34,6 +44,14 @@ pub record IsSurfaceSide (side : ℕ) : Type 0 where
 -- the same, as a test
 abbrev pub is_surface_side : ℕ → Bool
 is_surface_side side = nat_le 1 side && nat_le side surface_side_limit
+
+pub surface_side_true : (side : ℕ) → is_surface_side side ≡ true → IsSurfaceSide side
+surface_side_true side test =
+    let parts = and_parts (nat_le 1 side) (nat_le side surface_side_limit) test in
+    record { not_empty = leb-true _ _ parts.0; within = leb-true _ _ parts.1 }
+
+pub surface_side_from : (side : ℕ) → IsSurfaceSide side → is_surface_side side ≡ true
+surface_side_from side h = and_from (nat_le 1 side) (nat_le side surface_side_limit) (le-leb _ _ h.not_empty) (le-leb _ _ h.within)
 
 -- a frame may have this side
 pub record IsFrameSide (side : ℕ) : Type 0 where

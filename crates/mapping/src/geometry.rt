@@ -3,6 +3,7 @@
 ghost use Rattle.std.specs.Prelude.{◌≡◌, ◌↔◌, IsTrue, IsSome, IfSome};
 ghost use Rattle.std.specs.Int.{int_max, int_min};
 ghost use Rattle.mapping.specs.Limits.{IsFrameSide};
+ghost use Rattle.mapping.specs.PixelBoxes.{is_from_to};
 
 use crate::limits::MAX_FRAME_SIDE;
 
@@ -14,18 +15,23 @@ pub struct Point {
     pub y: i32,
 }
 
-/// A box by its left, top, right and bottom. Whether the right and the bottom belong to it, and
-/// whether the sides are in order, is said where a box is used.
+/// A box of the page, of the plane or of a surface, by its four sides. Each use says whether the right and
+/// the bottom belong to the box, and whether the sides are in order.
 #[derive(Clone, Copy, Debug, PartialEq, Eq)]
 pub struct Rect {
+    /// The left side: the first column of the box.
     pub l: i32,
+    /// The top: the first row of the box.
     pub t: i32,
+    /// The right side: the last column of the box, or the first one after it.
     pub r: i32,
+    /// The bottom: the last row of the box, or the first one after it.
     pub b: i32,
 }
 
 impl Rect {
-    ghost use Rattle.mapping.specs.Boxes.{IsBoxOver, point_box, box_between};
+    ghost use Rattle.mapping.specs.Boxes.{IsBoxOver, box_between, common_box, far_corner, has_box, has_part, near_corner, point_box};
+    ghost use Rattle.mapping.specs.PixelBoxes.{in_box, is_from_to};
 
     /// The box around no point.
     pub const NONE: Rect = Rect {
@@ -58,23 +64,93 @@ impl Rect {
     pub fn joined(self, other: Rect) -> Rect
         ensures { IsBoxOver self other result }
     {
-        let l = lesser(self.l, other.l);
-        let t = lesser(self.t, other.t);
-        let r = greater(self.r, other.r);
-        let b = greater(self.b, other.b);
-        Rect { l, t, r, b }
+        let left_top = least(self.left_top(), other.left_top());
+        let right_bottom = most(self.right_bottom(), other.right_bottom());
+        Rect::by_corners(left_top, right_bottom)
     }
 
     /// The box between two points, whichever of them comes first, the right and the bottom included.
     pub fn between(first: Point, second: Point) -> Rect
         ensures { result ≡ box_between first second }
     {
-        Rect {
-            l: lesser(first.x, second.x),
-            t: lesser(first.y, second.y),
-            r: greater(first.x, second.x),
-            b: greater(first.y, second.y),
+        Rect::by_corners(least(first, second), most(first, second))
+    }
+
+    /// The corner at the left and the top.
+    pub fn left_top(self) -> Point
+        ensures { result ≡ near_corner self }
+    {
+        Point {
+            x: self.l,
+            y: self.t,
         }
+    }
+
+    /// The corner at the right and the bottom.
+    pub fn right_bottom(self) -> Point
+        ensures { result ≡ far_corner self }
+    {
+        Point {
+            x: self.r,
+            y: self.b,
+        }
+    }
+
+    /// What this box and another have in common.
+    pub fn common(self, other: Rect) -> Rect
+        ensures { result ≡ common_box self other }
+    {
+        let left_top = most(self.left_top(), other.left_top());
+        let right_bottom = least(self.right_bottom(), other.right_bottom());
+        Rect::by_corners(left_top, right_bottom)
+    }
+
+    /// Whether another box lies inside this one, the right and the bottom of both included.
+    pub fn contains(self, other: Rect) -> bool
+        ensures { result ≡ has_box self other }
+    {
+        self.has_columns_of(other) && self.has_rows_of(other)
+    }
+
+    /// The box with these two corners.
+    fn by_corners(left_top: Point, right_bottom: Point) -> Rect
+        ensures left_top { near_corner result ≡ left_top }
+        ensures right_bottom { far_corner result ≡ right_bottom }
+    {
+        Rect {
+            l: left_top.x,
+            t: left_top.y,
+            r: right_bottom.x,
+            b: right_bottom.y,
+        }
+    }
+
+    /// Whether each column of another box is one of this one, the right of both included.
+    fn has_columns_of(self, other: Rect) -> bool
+        ensures { result ≡ has_part self.l self.r other.l other.r }
+    {
+        self.l <= other.l && other.r <= self.r
+    }
+
+    /// Whether each row of another box is one of this one, the bottom of both included.
+    fn has_rows_of(self, other: Rect) -> bool
+        ensures { result ≡ has_part self.t self.b other.t other.b }
+    {
+        self.t <= other.t && other.b <= self.b
+    }
+
+    /// Whether the box has the pixel `(x, y)` of a surface, its right and bottom excluded.
+    pub fn has_pixel(self, x: u32, y: u32) -> bool
+        ensures { result ≡ in_box self x y }
+    {
+        is_from_to(self.l, self.r, x) && self.has_row(y)
+    }
+
+    /// Whether the box has the row `y` of a surface, its bottom excluded.
+    pub fn has_row(self, y: u32) -> bool
+        ensures { result ≡ is_from_to self.t self.b y }
+    {
+        is_from_to(self.t, self.b, y)
     }
 }
 
@@ -131,16 +207,31 @@ fn is_side(side: u32) -> bool
     1 <= side && side <= MAX_FRAME_SIDE
 }
 
-/// The lesser of two numbers.
-fn lesser(first: i32, second: i32) -> i32
-    ensures { result ≡ int_min first second }
+/// The point that has the lesser of two points' coordinates on each axis.
+fn least(first: Point, second: Point) -> Point
+    ensures x { result.x ≡ int_min first.x second.x }
+    ensures y { result.y ≡ int_min first.y second.y }
 {
-    if second < first { second } else { first }
+    Point {
+        x: first.x.min(second.x),
+        y: first.y.min(second.y),
+    }
 }
 
-/// The greater of two numbers.
-fn greater(first: i32, second: i32) -> i32
-    ensures { result ≡ int_max first second }
+/// The point that has the greater of two points' coordinates on each axis.
+fn most(first: Point, second: Point) -> Point
+    ensures x { result.x ≡ int_max first.x second.x }
+    ensures y { result.y ≡ int_max first.y second.y }
 {
-    if second < first { first } else { second }
+    Point {
+        x: first.x.max(second.x),
+        y: first.y.max(second.y),
+    }
+}
+
+/// Whether a column or a row lies from one number on, up to before another.
+fn is_from_to(from: i32, to: i32, at: u32) -> bool
+    ensures { result ≡ is_from_to from to at }
+{
+    i64::from(from) <= i64::from(at) && i64::from(at) < i64::from(to)
 }

@@ -30,7 +30,8 @@ use Rattle.painting.specs.Drawn.{DrawsLayers, HoldsRows, SameRows}
 use Rattle.painting.specs.Draws.{DrawsLayer}
 use Rattle.painting.specs.Painted.{PaintValue, PaintsShape, paints}
 use Rattle.painting.specs.PaintsOfLayers.{IsPaintOf}
-use Rattle.preflight_cert.specs.Shape.{Shape, in_shape, pixel_under}
+use Rattle.preflight_cert.specs.Shape.{Shape, in_shape, pixel_under, stroke_of}
+use Rattle.preflight_cert.specs.StrokedOutline.{Outline}
 use Rattle.preflight_cert.specs.Writes.{writes_of_layers, writes_pixel}
 use Rattle.painting.specs.Joined.{joined_if}
 
@@ -118,8 +119,8 @@ brush_fills (Hatched hatch colour) shape tools some same = rw (← same) refl
 brush_fills (Tiled tile) shape tools some same = rw (← same) refl
 
 -- a pen of a colour strokes a layer
-pub pen_strokes : (shape : Shape) (tools : Tools) (colour : Colour) → tools.pen ≡ SolidPen colour → stroked shape tools ≡ layer_now shape (solid colour) tools ∷ []
-pen_strokes shape tools colour same = rw same refl
+pub pen_strokes : (outline : Outline) (tools : Tools) (colour : Colour) → tools.pen ≡ SolidPen colour → stroked outline tools ≡ layer_now (stroke_of outline) (solid colour) tools ∷ []
+pen_strokes outline tools colour same = rw same refl
 
 -- the clip of the moment, where it is placed on the surface
 pub clip_placed : (s : Surface) (clip : Clip) (dc : Dc) (state : DcValue) → clip ≡ dc.clip → dc_value dc ≡ state → IsPlacedOn s dc.clip → placed_value clip ≡ placed_clip s state.clip

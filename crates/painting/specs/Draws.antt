@@ -6,7 +6,7 @@ use Rattle.dc_stack.specs.Drawing.{mark_edges, tools_of}
 use Rattle.dc_stack.specs.Draws.{IsPlacedDraw, mark_of}
 use Rattle.dc_stack.specs.MachineState.{MachineState, drawing_with}
 use Rattle.dc_stack.specs.declared.draw.Draw.{Draw}
-use Rattle.preflight_cert.specs.Layer.{Layer, fills_of, layers_of, outlines_of}
+use Rattle.preflight_cert.specs.Layer.{Layer, fills_of, layers_of, strokes_of}
 use Rattle.painting.specs.Counts.{CountsLayer}
 use Rattle.painting.specs.Drawn.{DrawsLayers, HoldsRows, SameRows}
 use Rattle.painting.specs.declared.room.DrawingRoom.{DrawingRoom}
@@ -29,7 +29,7 @@ Fills drawn machine old new = DrawsLayer (fills_of (mark_of machine.painted draw
 
 -- its outline was stroked
 abbrev pub Strokes : Draw → MachineState → CanvasState → CanvasState → Type 0
-Strokes drawn machine old new = DrawsLayer (outlines_of (mark_of machine.painted drawn) (tools_of machine.state.dc)) machine.surface old new
+Strokes drawn machine old new = DrawsLayer (strokes_of (mark_of machine.painted drawn) (tools_of machine.state.dc)) machine.surface old new
 
 -- all of it was drawn
 abbrev pub Draws : Draw → MachineState → CanvasState → CanvasState → Type 0

@@ -6,3 +6,5 @@ pub mod WholeSurfaceLemmas
 pub mod BandLemmas
 pub mod BandTextLemmas
 pub mod ClearedBandLemmas
+pub mod ReadyLemmas
+pub mod WriterLemmas

@@ -25,7 +25,7 @@ pub mod GatheredLemmas
 pub mod PreparedLemmas
 pub mod WorkedChecks
 pub mod ObjectLemmas
-pub mod LaidRowsLemmas
 pub mod RowsLemmas
 pub mod RefusalLemmas
 pub mod MissedLemmas
+mod WorkedRows

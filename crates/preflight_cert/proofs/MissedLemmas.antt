@@ -1,41 +1,26 @@
 -- Rows on which a drawing has nothing stay as they are.
-use Rattle.std.proofs.Common.{◌≡◌, ℕ, zero, suc, ◌+◌, ◌*◌, ◌/◌, ◌%◌, ◌<◌, ◌≤◌, ◌⊎◌, inl, inr, pos, ◌<ℤ◌, ◌≤ℤ◌, Bool, true, false, cond, List, [], ◌∷◌, length, refl, sym, ap, subst, ◌∙◌, arith}
+use Rattle.std.proofs.Common.{◌≡◌, ℕ, zero, suc, ◌+◌, ◌*◌, ◌/◌, ◌%◌, ◌<◌, ◌≤◌, inl, inr, Bool, false, cond, List, [], ◌∷◌, length, refl, ap, ◌∙◌, arith}
 use Rattle.std.proofs.Math.Nat.{div-lt_iff_lt-mul}
 use Rattle.std.proofs.lemmas.Bool.{false_from_ne_true}
 use Rattle.std.proofs.lemmas.Int.{ints}
 use Rattle.std.proofs.lemmas.List.Elements.{All-head, All-tail}
 use Rattle.std.specs.List.{All}
-use Rattle.mapping.specs.Boxes.{HasPoint}
 use Rattle.mapping.specs.CellLaws.{CellLaws}
 use Rattle.mapping.specs.Image.{Image}
-use Rattle.mapping.specs.Pixels.{count_indexes, count_pixels, map_indexed, repainted}
+use Rattle.mapping.specs.IndexLaws.{count_indexes_none, map_indexed_none}
+use Rattle.mapping.specs.Pixels.{count_pixels, repainted}
 use Rattle.mapping.specs.PlacingLaws.{PlacingLaws, ShowsFrame}
 use Rattle.mapping.specs.Surface.{Surface}
 use Rattle.mapping.specs.declared.geometry.Colour.{Colour}
 use Rattle.mapping.specs.declared.geometry.Rect.{Rect}
 use Rattle.dc_stack.specs.Clip.{placed_box}
-use Rattle.dc_stack.specs.Drawing.{Drawing, drawing_points}
 use Rattle.span_fill.specs.LineBoxes.{LineBoxLaws}
 use Rattle.preflight_cert.specs.Apply.{apply, apply_all, ink_of}
 use Rattle.preflight_cert.specs.Layer.{Layer, layers_of}
 use Rattle.preflight_cert.specs.MissedRowsLaws.{LiesBeside, MissedRowsLaws}
 use Rattle.preflight_cert.specs.RowsLaws.{IsWholeImage}
-use Rattle.preflight_cert.specs.Writes.{writes_of_layer, writes_of_layers, writes_pixel}
+use Rattle.preflight_cert.specs.Writes.{writes_of_layers, writes_pixel}
 use Rattle.preflight_cert.proofs.LayerLemmas.{IsLayerIn, layers_in, written_reaches}
-
--- a list stays where each colour does
-map_none : (f : ℕ → Colour → Colour) (k : ℕ) (colours : List Colour) → ((i : ℕ) (c : Colour) → i < k + length colours → f i c ≡ c) → map_indexed f k colours ≡ colours
-map_none f k [] h = refl
-map_none f k (c ∷ colours) h =
-    ap (λ (d : Colour). d ∷ map_indexed f (suc k) colours) (h k c (omega arith))
-    ∙ ap (λ (rest : List Colour). c ∷ rest) (map_none f (suc k) colours (λ i d less. h i d (omega (arith, less))))
-
--- and nothing is counted where no test passes
-count_none : (p : ℕ → Bool) (k n : ℕ) → ((i : ℕ) → i < k + n → p i ≡ false) → count_indexes p k n ≡ 0
-count_none p k zero h = refl
-count_none p k (suc n) h =
-    let here : p k ≡ false = h k (omega arith) in
-    rw (here, count_none p (suc k) n (λ i less. h i (omega (arith, less)))) refl
 
 module _ (cell_laws : CellLaws) (boxes : LineBoxLaws) (placing : PlacingLaws) (box : Rect) (s : Surface) (shows : ShowsFrame s) (first rows : ℕ) (beside : LiesBeside (placed_box s box) first rows) where
   -- no pixel of the rows is written
@@ -58,13 +43,13 @@ module _ (cell_laws : CellLaws) (boxes : LineBoxLaws) (placing : PlacingLaws) (b
         unwritten layer (i % width) (first + i / width) h (omega arith) (omega (arith, row))
 
     layer_leaves : (layer : Layer) (colours : List Colour) → IsLayerIn box layer → length colours ≡ rows * width → repainted (writes_pixel layer s) (ink_of layer s) width first colours ≡ colours
-    layer_leaves layer colours h long = map_none _ 0 colours
-        (λ i c less.
+    layer_leaves layer colours h long = map_indexed_none _ 0 colours
+        (λ i c low less.
         let within : i < rows * width = omega (arith, less, long) in
         ap (λ (b : Bool). cond b (ink_of layer s (i % width) (first + i / width) c) c) (at_index layer h i within))
 
     layer_counts : (layer : Layer) → IsLayerIn box layer → count_pixels (writes_pixel layer s) width first rows ≡ 0
-    layer_counts layer h = count_none _ 0 (rows * width) (λ i less. at_index layer h i (omega (arith, less)))
+    layer_counts layer h = count_indexes_none _ 0 (rows * width) (λ i low less. at_index layer h i (omega (arith, less)))
 
   layers_leave : (layers : List Layer) (image : Image) → All (IsLayerIn box) layers → IsWholeImage image → image.height ≡ rows → apply_all layers s first image ≡ image
   layers_leave [] image all whole high = refl

@@ -1,7 +1,8 @@
 -- Layers and drawings on rows that are laid together.
-use Rattle.std.proofs.Common.{◌≡◌, ℕ, zero, suc, ◌+◌, ◌*◌, ◌≤◌, Bool, List, [], ◌∷◌, ◌++◌, length, refl, sym, ap, ◌∙◌, arith}
+use Rattle.std.proofs.Common.{◌≡◌, ℕ, suc, ◌+◌, List, [], ◌∷◌, ◌++◌, length, refl, sym, ap, ◌∙◌, arith, zero, ◌*◌, ◌/◌, ◌%◌, ◌≤◌, Bool}
 use Rattle.mapping.specs.Image.{Image}
-use Rattle.mapping.specs.Pixels.{map_indexed, repainted}
+use Rattle.mapping.specs.IndexLaws.{count_pixels_laid, length-map_indexed, repainted_laid}
+use Rattle.mapping.specs.Pixels.{count_indexes, count_pixels, repainted}
 use Rattle.mapping.specs.Surface.{Surface}
 use Rattle.mapping.specs.declared.geometry.Colour.{Colour}
 use Rattle.preflight_cert.specs.Apply.{apply, apply_all, ink_of, rows_after}
@@ -9,12 +10,18 @@ use Rattle.preflight_cert.specs.Drawings.{NumberedDrawing}
 use Rattle.preflight_cert.specs.Layer.{Layer, layers_of}
 use Rattle.preflight_cert.specs.RowsLaws.{HasSidesOf, IsWholeImage, RowsLaws, laid}
 use Rattle.preflight_cert.specs.Writes.{writes_of_drawings, writes_of_layers, writes_pixel}
-use Rattle.preflight_cert.proofs.LaidRowsLemmas.{counted_always, painted}
 
--- what is changed is as long as it was
-as_long : (f : ℕ → Colour → Colour) (k : ℕ) (colours : List Colour) → length (map_indexed f k colours) ≡ length colours
-as_long f k [] = refl
-as_long f k (colour ∷ colours) = ap suc (as_long f (suc k) colours)
+-- without a column nothing is counted
+no_index : (p : ℕ → Bool) (n : ℕ) → n ≡ zero → count_indexes p 0 n ≡ 0
+no_index p n e = ap (count_indexes p 0) e
+
+counted_always : (test : ℕ → ℕ → Bool) (width first rows more : ℕ) → count_pixels test width first (rows + more) ≡ count_pixels test width first rows + count_pixels test width (first + rows) more
+counted_always test zero first rows more =
+    let all = no_index (λ k. test (k % zero) (first + k / zero)) ((rows + more) * zero) (omega arith) in
+    let upper = no_index (λ k. test (k % zero) (first + k / zero)) (rows * zero) (omega arith) in
+    let lower = no_index (λ k. test (k % zero) ((first + rows) + k / zero)) (more * zero) (omega arith) in
+    omega (arith, all, upper, lower)
+counted_always test (suc width) first rows more = count_pixels_laid (suc width) first rows (omega arith) test more
 
 -- layers and drawings keep sides
 same : (image : Image) → HasSidesOf image image
@@ -28,7 +35,7 @@ module _ (s : Surface) (first : ℕ) where
   layer_keeps layer image = record {
     width = refl;
     height = refl;
-    whole = λ h. record { wide = h.wide; whole = as_long _ 0 image.colours ∙ h.whole };
+    whole = λ h. record { wide = h.wide; whole = length-map_indexed _ 0 image.colours ∙ h.whole };
   }
 
   layers_keep : (layers : List Layer) (image : Image) → HasSidesOf image (apply_all layers s first image)
@@ -49,7 +56,7 @@ module _ (s : Surface) (first : ℕ) where
       let next : ℕ = first + upper.height in
       let there : repainted test ink upper.width next lower.colours ≡ repainted test ink lower.width next lower.colours = ap (λ (w : ℕ). repainted test ink w next lower.colours) (sym width) in
       let colours =
-      painted upper.width first upper.height whole.wide test ink upper.colours lower.colours whole.whole
+      repainted_laid upper.width first upper.height whole.wide test ink upper.colours lower.colours whole.whole
       ∙ ap (λ (rest : List Colour). repainted test ink upper.width first upper.colours ++ rest) there in
       ap (λ (all : List Colour). record { width = upper.width; height = upper.height + lower.height; colours = all }) colours
 

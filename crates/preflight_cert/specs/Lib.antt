@@ -1,6 +1,7 @@
 pub mod Outlines
 pub mod FigureLines
 pub mod Rectangles
+pub mod StrokedOutline
 pub mod Shape
 pub mod Paint
 pub mod Mixing
@@ -14,6 +15,7 @@ pub mod Refusal
 pub mod After
 pub mod Budget
 pub mod Entries
+pub mod NextStep
 pub mod Checked
 pub mod Checks
 pub mod DrawingBoxLaws
@@ -34,5 +36,6 @@ pub mod Reached
 pub mod PreparationLaws
 pub mod Gathered
 pub mod StoppedRecords
+pub mod OpenedRecords
 pub mod ClearedFacts
 pub mod ObjectOrder

@@ -30,10 +30,10 @@ mod covering;
 mod entry;
 mod gathering;
 mod laws;
-mod layer_count;
 mod prepared;
 mod preparing;
 mod refusal;
+mod stepping;
 mod walk;
 mod writing;
 

@@ -1,7 +1,6 @@
 //! Checking a certificate's entries against the records of a file.
 
 ghost use Rattle.std.specs.Prelude.{◌≡◌, ◌≤◌, ◌⊎◌, IfErr, IfOk, length};
-ghost use Rattle.mapping.specs.PlaceOf.{surface_of};
 ghost use Rattle.draw_ops.specs.Records.{record_limit};
 ghost use Rattle.preflight_cert.specs.Checks.{Checks, EndsCheck, StopsCheck};
 ghost use Rattle.preflight_cert.specs.EntriesOf.{entries_of};
@@ -10,9 +9,9 @@ ghost use Rattle.preflight_cert.specs.Refusal.{IsWantOfMemory, TellsNumber};
 use crate::covering::take_entry;
 use crate::entry::Entries;
 use crate::refusal::Refusal;
+use crate::stepping::play_next;
 use dc_stack::{Draw, Machine};
 use draw_ops::{Notes, OpSource, RecordFault, Step};
-use mapping::Place;
 use object_tables::Table;
 
 /// What the records of a file come to.
@@ -32,12 +31,10 @@ pub struct Totals {
 pub(crate) fn check_steps<'a, S: OpSource<'a>, T: Table<'a>>(
     source: &mut S,
     machine: &mut Machine<'a, T>,
-    place: Place,
     given: Entries<'_>,
     noted: Notes,
 ) -> Result<Totals, Refusal>
     requires short { length (S.content source.old).steps ≤ record_limit }
-    requires place { surface_of place ≡ machine.old.surface }
     ensures checked { IfOk result
         (λ totals. Checks (S.content source.old) machine.old (entries_of given.entry) noted.counts totals machine.new) }
     ensures refusal { IfErr result (λ r. StopsCheck (S.content source.old) machine.old (entries_of given.entry) r ⊎ IsWantOfMemory r) }
@@ -52,18 +49,14 @@ pub(crate) fn check_steps<'a, S: OpSource<'a>, T: Table<'a>>(
     let mut step: Step<'a> = Step::without_effect();
     let mut drawn: Option<Draw<'a>> = None;
     loop {
-        let is_put = match source.next_into(&mut step) {
-            Ok(is_put) => is_put,
-            Err(fault) => return Err(Refusal::at(totals.records, fault)),
+        let is_played = match play_next(source, machine, totals.records, &mut step, &mut drawn) {
+            Ok(is_played) => is_played,
+            Err(refusal) => return Err(refusal),
         };
-        if !is_put {
+        if !is_played {
             return checked_end(entries, totals);
         }
-        match machine.step_into(&step.op, &mut drawn) {
-            Ok(()) => {}
-            Err(fault) => return Err(Refusal::of_step(step.number, fault)),
-        }
-        match take_entry(step.number, &drawn, machine, place, &mut entries) {
+        match take_entry(step.number, &drawn, machine, &mut entries) {
             Ok(more) => totals.writes += more,
             Err(fault) => return Err(Refusal::at(step.number, fault)),
         }

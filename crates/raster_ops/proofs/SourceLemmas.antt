@@ -1,5 +1,5 @@
 -- Where rectangles lie in their pictures, and how far places are apart.
-use Rattle.std.proofs.Common.{◌≡◌, ℕ, ◌≤◌, ◌^◌, ℤ, pos, neg_ℤ, ◌+ℤ◌, ◌-ℤ◌, ◌≤ℤ◌, Bool, true, false, ◌&&◌, Option, Some, None, refl, ap, sym, ◌∙◌, arith}
+use Rattle.std.proofs.Common.{◌≡◌, ℕ, ◌≤◌, ◌^◌, ℤ, pos, neg_ℤ, ◌+ℤ◌, ◌-ℤ◌, ◌≤ℤ◌, Bool, true, ◌&&◌, Option, Some, None, ap, sym, ◌∙◌, arith}
 use Rattle.std.specs.Int.{int_min}
 use Rattle.std.specs.Prelude.{IfSome, unsigned_abs}
 use Rattle.std.proofs.lemmas.Option.{IfSome_then}
@@ -82,12 +82,3 @@ near_of o axis first extent p q h = IfSome_then o h (λ reader e. ap (λ (r : Re
 
 pub side_of : (o : Option SourceReader) (axis : SourceReader → AxisReading) (first extent p q : ℤ) → IfSome o (λ reader. reading_of (axis reader) ≡ axis_read first extent p q) → IfSome o (λ reader. (axis reader).side ≡ distance p q)
 side_of o axis first extent p q h = IfSome_then o h (λ reader e. ap (λ (r : Reading). r.side) e)
-
--- one test that fails, or two that hold
-pub fails : (a b : Bool) → false ≡ b → false ≡ a && b
-fails true b e = e
-fails false b e = refl
-
-pub hold : (a b : Bool) → true ≡ a → true ≡ b → true ≡ a && b
-hold true b e f = f
-hold false b e f = e

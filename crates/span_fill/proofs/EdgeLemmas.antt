@@ -1,5 +1,5 @@
 -- Where an edge crosses a row: bounds of its numbers, the step to the next row, and the columns behind it.
-use Rattle.std.proofs.Common.{FitsSigned, w64, ◌≡◌, inl, inr, if◌then◌else◌, ℕ, suc, ◌+◌, ◌*◌, ◌^◌, ◌<◌, ◌≤◌, ℤ, pos, negsuc, neg_ℤ, ◌+ℤ◌, ◌-ℤ◌, ◌*ℤ◌, ◌≤ℤ◌, ◌<ℤ◌, true, false, int_le, int_lt, nat_le, refl, sym, ap, ◌∙◌, lit≤, arith}
+use Rattle.std.proofs.Common.{FitsSigned, w64, ◌≡◌, inl, inr, if◌then◌else◌, ℕ, suc, ◌+◌, ◌*◌, ◌^◌, ◌<◌, ◌≤◌, ℤ, pos, negsuc, neg_ℤ, ◌+ℤ◌, ◌-ℤ◌, ◌*ℤ◌, ◌≤ℤ◌, ◌<ℤ◌, int_le, nat_le, refl, sym, ap, ◌∙◌, lit≤, arith}
 use Rattle.std.specs.Int.{int_div_euclid}
 use Rattle.std.proofs.lemmas.Int.{ints}
 use Rattle.std.proofs.lemmas.Bool.{cases_Bool}
@@ -8,34 +8,13 @@ use Rattle.mapping.specs.declared.geometry.Point.{Point}
 use Rattle.std.proofs.Math.Nat.{mul-le-mul}
 use Rattle.mapping.specs.Floor.{floor_div}
 use Rattle.mapping.specs.Limits.{IsWithin, place_limit}
+use Rattle.mapping.specs.TestLaws.{int_le-false, int_le-from, int_le-true, same_test}
 use Rattle.span_fill.specs.Edges.{EdgeCanMove, IsEdge, active_at, active_with, column_dividend, column_of, near_column, moved, moved_rest, remainder_of}
 use Rattle.span_fill.specs.Fill.{across, crossing_dividend, crossing_divisor, down}
 use Rattle.span_fill.specs.Lines.{IsNear}
 use Rattle.span_fill.specs.declared.edge.Edge.{Edge}
 use Rattle.span_fill.proofs.FloorLemmas.{floor_above, floor_high, floor_least, floor_low, floor_one}
 use Rattle.span_fill.proofs.Products.{add_mul, mul_comm_ℤ, mul_neg, mul_order, mul_order_back, mul_twice, order_mul, twice_mul}
-
--- what tests of whole numbers tell
-pub int_le-true : (a b : ℤ) → int_le a b ≡ true → a ≤ℤ b
-int_le-true a b h = grind (arith, ints)
-
-pub int_le-false : (a b : ℤ) → int_le a b ≡ false → b <ℤ a
-int_le-false a b h = grind (arith, ints)
-
-pub int_le-from : (a b : ℤ) → a ≤ℤ b → int_le a b ≡ true
-int_le-from a b h = grind (arith, ints)
-
-pub int_le-not : (a b : ℤ) → (a ≤ℤ b → ⊥) → int_le a b ≡ false
-int_le-not a b h = grind (arith, ints)
-
-pub int_lt-true : (a b : ℤ) → int_lt a b ≡ true → a <ℤ b
-int_lt-true a b h = grind (arith, ints)
-
-pub int_lt-false : (a b : ℤ) → int_lt a b ≡ false → b ≤ℤ a
-int_lt-false a b h = grind (arith, ints)
-
-int_lt-not : (a b : ℤ) → b <ℤ a → a ≤ℤ b → ⊥
-int_lt-not a b h k = omega (arith, ints, h, k)
 
 -- what a near coordinate is, in numbers
 pub near_within : (v : ℤ) → IsNear v → IsWithin (2 ^ 28 + 1) v
@@ -214,11 +193,7 @@ odd_times x d =
 
 -- tests that hold for the same numbers
 same_tests : (a b c d : ℤ) → (a ≤ℤ b → c ≤ℤ d) → (c ≤ℤ d → a ≤ℤ b) → int_le a b ≡ int_le c d
-same_tests a b c d there back =
-    elim (cases_Bool (int_le a b)) [
-      | inl t ↦ t ∙ sym (int_le-from c d (there (int_le-true a b t)))
-      | inr f ↦ f ∙ sym (int_le-not c d (λ h. int_lt-not a b (int_le-false a b f) (back h)))
-    ]
+same_tests a b c d there back = same_test _ _ (λ t. int_le-from c d (there (int_le-true a b t))) (λ t. int_le-from a b (back (int_le-true c d t)))
 
 -- the floor of what is half a divisor more, but for 1, is the first column that is not before
 floor_tells : (d a q r : ℤ) (x : ℕ) → pos 1 ≤ℤ d → (a +ℤ d -ℤ pos 1) ≡ q *ℤ (pos 2 *ℤ d) +ℤ r → pos 0 ≤ℤ r → r <ℤ (pos 2 *ℤ d) → int_le q (pos x) ≡ int_le a (pos (2 * x + 1) *ℤ d)

@@ -8,6 +8,7 @@ use Rattle.std.proofs.lemmas.Int.{ints}
 use Rattle.std.proofs.lemmas.List.Elements.{All-append, All-cons, All-filter, All-head, All-map, All-nil, All-tail, All-weaker, filter-append}
 use Rattle.std.proofs.lemmas.List.Recursion.{is_sum_by}
 use Rattle.std.proofs.lemmas.List.Sorted.{All-permutation, IsPermutation-append, IsPermutation-map, IsPermutation-trans, sum_by-IsPermutation}
+use Rattle.mapping.specs.TestLaws.{int_le-true, int_lt-false, int_lt-true}
 use Rattle.mapping.specs.declared.geometry.Point.{Point}
 use Rattle.span_fill.specs.Edges.{EdgeCanMove, IsEdge, active_at, active_edges, begins_behind, begins_by, column_of, crosses_row, edges_from, edges_of_line, ends_behind, edge_first_row, goes_to, moved, near_row}
 use Rattle.span_fill.specs.Fill.{crossed_downwards, crossed_upwards, has_row, in_fill, is_crossed, is_inside}
@@ -17,7 +18,7 @@ use Rattle.span_fill.specs.declared.edge.ActiveEdge.{ActiveEdge}
 use Rattle.span_fill.specs.declared.edge.Edge.{Edge}
 use Rattle.span_fill.specs.declared.fill_rule.FillRule.{FillRule}
 use Rattle.span_fill.specs.declared.line.Line.{Line}
-use Rattle.span_fill.proofs.EdgeLemmas.{can_move, column_crossed, int_le-true, int_lt-false, int_lt-true, moved_is_next}
+use Rattle.span_fill.proofs.EdgeLemmas.{can_move, column_crossed, moved_is_next}
 use Rattle.span_fill.proofs.Reordering.{IsPermutation-filter, IsPermutation-same, Splits, by_first, by_second, filter_both, filter_split, filter_twice}
 
 -- rows in place of coordinates

@@ -28,3 +28,4 @@ pub mod StrokingLemmas
 pub mod StripStart
 pub mod RowLawLemmas
 pub mod LineBoxLemmas
+pub mod SpanLemmas

@@ -1,31 +1,26 @@
 -- The pixels of lines lie in each box that has the lines.
-use Rattle.std.proofs.Common.{◌≡◌, ℕ, zero, suc, ◌+◌, ◌*◌, ◌%◌, ◌≤◌, ℤ, pos, ◌+ℤ◌, ◌-ℤ◌, ◌*ℤ◌, ◌≤ℤ◌, ◌<ℤ◌, Bool, true, false, ◌&&◌, ◌||◌, ◌==◌, not, int_le, int_lt, cond, List, [], ◌∷◌, inl, inr, ◌⊎◌, refl, ap, ◌∙◌, sym, subst, arith}
-use Rattle.std.specs.List.{All, list_any}
+use Rattle.std.proofs.Common.{◌≡◌, ℕ, ◌+◌, ◌*◌, ◌%◌, ℤ, pos, ◌+ℤ◌, ◌-ℤ◌, ◌*ℤ◌, ◌≤ℤ◌, ◌<ℤ◌, true, false, ◌==◌, not, int_le, int_lt, List, [], ◌∷◌, inl, inr, refl, ap, ◌∙◌, sym, arith, Bool, ◌||◌}
+use Rattle.std.specs.List.{All}
 use Rattle.std.proofs.lemmas.Bool.{and_parts, and_from, eq-eqb, eqb-true, false_from_ne_true, true≢false}
 use Rattle.std.proofs.lemmas.Int.{ints, by_lt_z}
 use Rattle.std.proofs.lemmas.List.Elements.{All-head, All-tail, All-weaker}
 use Rattle.mapping.specs.declared.geometry.Point.{Point}
 use Rattle.mapping.specs.declared.geometry.Rect.{Rect}
-use Rattle.span_fill.specs.Fill.{across, crossed_downwards, crossed_upwards, crossing_dividend, down, has_row, in_fill, is_crossed, is_inside}
+use Rattle.span_fill.specs.Fill.{crossed_downwards, crossed_upwards, crossing_dividend, down, has_row, in_fill, is_crossed, is_inside}
 use Rattle.span_fill.specs.Strokes.{in_stroke, is_along, is_steep, is_towards, on_line}
 use Rattle.span_fill.specs.declared.fill_rule.FillRule.{FillRule}
 use Rattle.span_fill.specs.declared.fill_rule.FillRule.TheVariants.{EvenOdd, NonZero}
 use Rattle.span_fill.specs.declared.line.Line.{Line}
 use Rattle.span_fill.proofs.HullLemmas.{fall_hull, rise_hull}
-use Rattle.span_fill.proofs.EdgeLemmas.{int_le-true, int_lt-true, int_le-from}
 use Rattle.span_fill.specs.RowLaws.{LiesBetween}
 use Rattle.span_fill.proofs.RowLawLemmas.{row_law}
 use Rattle.span_fill.proofs.LineLaw.{by_axis, on_flat, on_steep}
-use Rattle.span_fill.proofs.Products.{add_mul, mul_add, mul_comm_ℤ, mul_one, mul_order, mul_sub, mul_twice, sub_mul, twice_mul}
+use Rattle.span_fill.proofs.Products.{mul_add, mul_comm_ℤ, mul_one, mul_order, mul_sub, mul_twice, sub_mul, twice_mul}
 use Rattle.span_fill.proofs.StepLemmas.{along_parts, by_towards}
 use Rattle.mapping.specs.Boxes.{HasPoint}
 use Rattle.mapping.specs.PixelBoxes.{BoxHasPixel}
+use Rattle.mapping.specs.TestLaws.{int_le-from, int_le-true, int_lt-true, by_either, by_test}
 use Rattle.span_fill.specs.LineBoxes.{HasLine, IsBalanced, LineBoxLaws, met_downwards, met_upwards}
-
--- a test is met or it isn't
-by_bool : {P : Type 0} (b : Bool) → (b ≡ true → P) → (b ≡ false → P) → P
-by_bool true f g = f refl
-by_bool false f g = g refl
 
 -- a coordinate lies from one to another
 record LiesFromTo (low high u : ℤ) : Type 0 where
@@ -77,15 +72,10 @@ on_line_lies box line x y h t =
     let row = along_lies box.t box.b line.from.x line.from.y line.to.x line.to.y (pos x) (pos y) (in_rows box line.from h.from) (in_rows box line.to h.to) on in
     record { left = column.least; top = row.least; right = column.most; bottom = row.most })
 
--- one of two tests
-either : {P : Type 0} (a b : Bool) → (a || b) ≡ true → (a ≡ true → P) → (b ≡ true → P) → P
-either true b t f g = f refl
-either false b t f g = g t
-
 stroke_lies : (box : Rect) (lines : List Line) (x y : ℕ) → All (HasLine box) lines → in_stroke lines x y ≡ true → BoxHasPixel box x y
 stroke_lies box [] x y all t = absurd (true≢false (sym t))
 stroke_lies box (line ∷ lines) x y all t =
-    either (on_line line (pos x) (pos y)) (in_stroke lines x y) t
+    by_either (on_line line (pos x) (pos y)) (in_stroke lines x y) t
     (λ (here : on_line line (pos x) (pos y) ≡ true). on_line_lies box line x y (All-head (HasLine box) line lines all) here)
     (λ (there : in_stroke lines x y ≡ true). stroke_lies box lines x y (All-tail (HasLine box) line lines all) there)
 
@@ -158,7 +148,7 @@ left_not_crossed upper lower x y low a b left =
 -- and one to the right of both is, where the line meets the row at all
 right_crossed : (upper lower : Point) (x y : ℕ) (high : ℤ) → upper.x ≤ℤ high → lower.x ≤ℤ high → high <ℤ pos x → is_crossed upper lower x y ≡ has_row upper lower y
 right_crossed upper lower x y high a b right =
-    by_bool (has_row upper lower y)
+    by_test (has_row upper lower y)
     (λ (t : has_row upper lower y ≡ true).
     let meets = meets_row upper lower y t in
     let most = crossing_to upper lower y high meets a b in

@@ -1,6 +1,7 @@
 -- The same on both axes.
-use Rattle.std.proofs.Common.{◌≡◌, ℕ, ◌<◌, ℤ, Bool, true, false, refl, ap, sym, subst, ◌∙◌, arith}
+use Rattle.std.proofs.Common.{◌≡◌, ℕ, ◌<◌, ℤ, true, false, ap, sym, subst, ◌∙◌, arith}
 use Rattle.std.specs.Prelude.{if◌then◌else◌, IsTrue}
+use Rattle.mapping.specs.TestLaws.{by_test}
 use Rattle.mapping.specs.declared.geometry.Point.{Point}
 use Rattle.span_fill.specs.declared.line.Line.{Line}
 use Rattle.span_fill.specs.Strokes.{far, is_along, is_steep, on_line, step_at, steps_of, HasStep, OnePixelForEachStep}
@@ -55,11 +56,6 @@ each_flat line step e k =
           let same = along_only line.from.x line.from.y line.to.x line.to.y there.u there.v x y there.on (sym (on_flat line x y e) ∙ t) (there.at ∙ sym s ∙ at_flat line x y e) in
           same_point there.u there.v x y same.0 same.1;
     }
-
--- either way
-by_test : {P : Type 0} (b : Bool) → (b ≡ true → P) → (b ≡ false → P) → P
-by_test true f g = f refl
-by_test false f g = g refl
 
 pub by_axis : {P : Type 0} (line : Line) → (is_steep line ≡ true → P) → (is_steep line ≡ false → P) → P
 by_axis line f g = by_test (is_steep line) f g

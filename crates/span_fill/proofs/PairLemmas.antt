@@ -10,7 +10,7 @@ use Rattle.span_fill.specs.declared.edge.ActiveEdge.{ActiveEdge}
 use Rattle.span_fill.specs.declared.fill_rule.FillRule.{FillRule}
 use Rattle.span_fill.specs.declared.fill_rule.FillRule.TheVariants.{EvenOdd, NonZero}
 use Rattle.span_fill.specs.declared.span.Span.{Span}
-use Rattle.span_fill.proofs.SweepLemmas.{none_crossed, one_crossed, same_test}
+use Rattle.span_fill.proofs.SweepLemmas.{none_crossed, one_crossed, same_inside}
 
 -- counts with which the same is inside, whatever is counted besides
 abbrev SameTurn : FillRule → ℕ → ℕ → ℕ → ℕ → Type 0
@@ -18,12 +18,12 @@ SameTurn rule d u d' u' = (a b : ℕ) → is_inside rule (d + a) (u + b) ≡ is_
 
 at_once : (rule : FillRule) (d u d' u' : ℕ) → SameTurn rule d u d' u' → is_inside rule d u ≡ is_inside rule d' u'
 at_once rule d u d' u' h =
-    same_test rule d u (d + 0) (u + 0) (omega arith) (omega arith) ∙ h 0 0 ∙ same_test rule (d' + 0) (u' + 0) d' u' (omega arith) (omega arith)
+    same_inside rule d u (d + 0) (u + 0) (omega arith) (omega arith) ∙ h 0 0 ∙ same_inside rule (d' + 0) (u' + 0) d' u' (omega arith) (omega arith)
 
 one_more : (rule : FillRule) (d u d' u' m n : ℕ) → SameTurn rule d u d' u' → SameTurn rule (d + m) (u + n) (d' + m) (u' + n)
 one_more rule d u d' u' m n h a b =
-    same_test rule ((d + m) + a) ((u + n) + b) (d + (m + a)) (u + (n + b)) (omega arith) (omega arith) ∙ h (m + a) (n + b)
-    ∙ same_test rule (d' + (m + a)) (u' + (n + b)) ((d' + m) + a) ((u' + n) + b) (omega arith) (omega arith)
+    same_inside rule ((d + m) + a) ((u + n) + b) (d + (m + a)) (u + (n + b)) (omega arith) (omega arith) ∙ h (m + a) (n + b)
+    ∙ same_inside rule (d' + (m + a)) (u' + (n + b)) ((d' + m) + a) ((u' + n) + b) (omega arith) (omega arith)
 
 -- a sweep looks at nothing else of the counts
 swept_same : (rule : FillRule) (end : ℕ) (edges : List ActiveEdge) (at d u d' u' : ℕ) (run : Span) → SameTurn rule d u d' u' → swept rule end edges at d u run ≡ swept rule end edges at d' u' run

@@ -5,6 +5,7 @@ use Rattle.std.proofs.lemmas.Bool.{and_parts, false_from_ne_true}
 use Rattle.std.proofs.lemmas.Int.{ints, by_lt_z}
 use Rattle.std.proofs.lemmas.List.Elements.{All-head, All-tail, All-weaker}
 use Rattle.std.proofs.lemmas.List.Folds.{list_any_none}
+use Rattle.mapping.specs.TestLaws.{int_le-true, int_lt-true}
 use Rattle.mapping.specs.declared.geometry.Point.{Point}
 use Rattle.span_fill.specs.Fill.{crossed_downwards, crossed_upwards, crossing_dividend, down, has_row, in_fill, is_crossed, is_inside}
 use Rattle.span_fill.specs.RowLaws.{LiesBetween, RowLaws}
@@ -13,7 +14,6 @@ use Rattle.span_fill.specs.declared.fill_rule.FillRule.{FillRule}
 use Rattle.span_fill.specs.declared.fill_rule.FillRule.TheVariants.{EvenOdd, NonZero}
 use Rattle.span_fill.specs.declared.line.Line.{Line}
 use Rattle.span_fill.proofs.HullLemmas.{fall_hull, rise_hull}
-use Rattle.span_fill.proofs.EdgeLemmas.{int_le-true, int_lt-true}
 use Rattle.span_fill.proofs.LineLaw.{by_axis, on_flat, on_steep}
 use Rattle.span_fill.proofs.StepLemmas.{along_parts, by_towards}
 

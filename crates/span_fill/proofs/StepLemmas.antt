@@ -1,25 +1,13 @@
 -- Of a line each step along its longer axis has one pixel.
-use Rattle.std.proofs.Common.{◌≡◌, ℕ, ◌<◌, ◌≤◌, Bool, ℤ, pos, neg_ℤ, ◌+ℤ◌, ◌-ℤ◌, ◌*ℤ◌, ◌≤ℤ◌, ◌<ℤ◌, int_le, true, false, ◌&&◌, ◌||◌, arith, refl, sym, subst, ◌∙◌}
+use Rattle.std.proofs.Common.{◌≡◌, ℕ, ◌<◌, ◌≤◌, ℤ, pos, neg_ℤ, ◌+ℤ◌, ◌-ℤ◌, ◌*ℤ◌, ◌≤ℤ◌, ◌<ℤ◌, int_le, true, ◌&&◌, arith, sym, subst, ◌∙◌}
 use Rattle.std.specs.Prelude.{int_lt}
 use Rattle.std.specs.Int.{int_div_euclid}
 use Rattle.std.proofs.lemmas.Int.{ints, by_lt_z}
 use Rattle.std.proofs.lemmas.Bool.{and_parts, and_from, or_left, or_right}
+use Rattle.mapping.specs.TestLaws.{by_either, int_le-from, int_le-true, int_lt-from, int_lt-true}
 use Rattle.span_fill.specs.Strokes.{far, is_along, is_towards, is_nearest}
 use Rattle.span_fill.proofs.Products.{twice_mul}
 use Rattle.span_fill.proofs.FloorLemmas.{floor_low, floor_high, floor_one}
-
--- tests of whole numbers as facts
-le_true : (a b : ℤ) → a ≤ℤ b → int_le a b ≡ true
-le_true a b h = grind (arith, ints)
-
-true_le : (a b : ℤ) → int_le a b ≡ true → a ≤ℤ b
-true_le a b h = grind (arith, ints)
-
-lt_true : (a b : ℤ) → a <ℤ b → int_lt a b ≡ true
-lt_true a b h = grind (arith, ints)
-
-true_lt : (a b : ℤ) → int_lt a b ≡ true → a <ℤ b
-true_lt a b h = grind (arith, ints)
 
 -- how far two coordinates are apart, on either side
 pub far_up : (a b : ℤ) → a ≤ℤ b → pos (far a b) ≡ b -ℤ a
@@ -28,23 +16,18 @@ far_up a b h = omega (arith, ints)
 pub far_down : (a b : ℤ) → b ≤ℤ a → pos (far a b) ≡ a -ℤ b
 far_down a b h = omega (arith, ints)
 
--- one of two tests is met
-or_cases : {P : Type 0} (x y : Bool) → (x || y) ≡ true → (x ≡ true → P) → (y ≡ true → P) → P
-or_cases true y h f g = f refl
-or_cases false y h f g = g h
-
 -- a coordinate between the first and the last, on either side
 pub towards_up : (a b u : ℤ) → a ≤ℤ u → u <ℤ b → is_towards a b u ≡ true
-towards_up a b u h k = or_left (int_le a u && int_lt u b) (int_lt b u && int_le u a) (and_from (int_le a u) (int_lt u b) (le_true a u h) (lt_true u b k))
+towards_up a b u h k = or_left (int_le a u && int_lt u b) (int_lt b u && int_le u a) (and_from (int_le a u) (int_lt u b) (int_le-from a u h) (int_lt-from u b k))
 
 pub towards_down : (a b u : ℤ) → b <ℤ u → u ≤ℤ a → is_towards a b u ≡ true
-towards_down a b u h k = or_right (int_le a u && int_lt u b) (int_lt b u && int_le u a) (and_from (int_lt b u) (int_le u a) (lt_true b u h) (le_true u a k))
+towards_down a b u h k = or_right (int_le a u && int_lt u b) (int_lt b u && int_le u a) (and_from (int_lt b u) (int_le u a) (int_lt-from b u h) (int_le-from u a k))
 
 pub by_towards : {P : Type 0} (a b u : ℤ) → is_towards a b u ≡ true → (a ≤ℤ u → u <ℤ b → P) → (b <ℤ u → u ≤ℤ a → P) → P
 by_towards a b u t up down =
-    or_cases (int_le a u && int_lt u b) (int_lt b u && int_le u a) t
-    (λ h. let parts = and_parts (int_le a u) (int_lt u b) h in up (true_le a u parts.0) (true_lt u b parts.1))
-    (λ h. let parts = and_parts (int_lt b u) (int_le u a) h in down (true_lt b u parts.0) (true_le u a parts.1))
+    by_either (int_le a u && int_lt u b) (int_lt b u && int_le u a) t
+    (λ h. let parts = and_parts (int_le a u) (int_lt u b) h in up (int_le-true a u parts.0) (int_lt-true u b parts.1))
+    (λ h. let parts = and_parts (int_lt b u) (int_le u a) h in down (int_lt-true b u parts.0) (int_le-true u a parts.1))
 
 -- a coordinate is within as many steps as there are, and is the only one of its step
 pub towards_within : (a b u : ℤ) → is_towards a b u ≡ true → far a u < far a b
@@ -109,8 +92,8 @@ pub nearest_fact : (long : ℕ) (short : ℤ) (step : ℕ) (place : ℤ) → is_
 nearest_fact long short step place t =
     let off = twice_off long short step place in
     let parts = and_parts (int_le (neg_ℤ (pos long)) off) (int_lt off (pos long)) t in
-    let low = true_le (neg_ℤ (pos long)) off parts.0 in
-    let high = true_lt off (pos long) parts.1 in
+    let low = int_le-true (neg_ℤ (pos long)) off parts.0 in
+    let high = int_lt-true off (pos long) parts.1 in
     record { low = omega (arith, ints, low, high); high = omega (arith, ints, low, high) }
 
 pub nearest_test : (long : ℕ) (short : ℤ) (step : ℕ) (place : ℤ) → IsNearest long short step place → is_nearest long short step place ≡ true
@@ -119,8 +102,8 @@ nearest_test long short step place h =
     let low = h.low in
     let high = h.high in
     and_from (int_le (neg_ℤ (pos long)) off) (int_lt off (pos long))
-    (le_true (neg_ℤ (pos long)) off (omega (arith, ints, low, high)))
-    (lt_true off (pos long) (omega (arith, ints, low, high)))
+    (int_le-from (neg_ℤ (pos long)) off (omega (arith, ints, low, high)))
+    (int_lt-from off (pos long) (omega (arith, ints, low, high)))
 
 -- it is the floor, and the floor is it
 some_long : (long : ℕ) → 1 ≤ long → pos 1 ≤ℤ (pos 2 *ℤ pos long)

@@ -1,7 +1,7 @@
 -- A line's strip, from the rows and columns that its course has.
 use Rattle.std.proofs.Common.{◌≡◌, ℕ, ◌<◌, ◌≤◌, Bool, true, false, ℤ, pos, max, arith, refl}
 use Rattle.std.specs.Prelude.{IsTrue, ◌↔◌}
-use Rattle.std.proofs.lemmas.Bool.{both_ways}
+use Rattle.std.proofs.lemmas.Bool.{both_ways, false_from_ne_true}
 use Rattle.std.proofs.lemmas.Int.{ints}
 use Rattle.span_fill.specs.Clips.{IsIn}
 use Rattle.span_fill.specs.Courses.{IsPixelOf, course_of, length_of, pixel_row}
@@ -11,10 +11,6 @@ use Rattle.span_fill.specs.declared.line.Line.{Line}
 use Rattle.span_fill.specs.declared.span.Span.{Span}
 use Rattle.span_fill.proofs.StepLemmas.{along_within}
 use Rattle.span_fill.proofs.StepsLemmas.{pixel_line}
-
-none : (b : Bool) → (b ≡ true → ⊥) → b ≡ false
-none true h = absurd (h refl)
-none false h = refl
 
 -- a line to where it begins has no pixel
 no_pixel : (line : Line) (steep : Bool) (x y : ℤ) → steep ≡ is_steep line → length_of (course_of steep line) ≡ 0 → IsTrue (on_line line x y) → ⊥
@@ -26,7 +22,7 @@ no_pixel line false x y axis zero t =
     omega (arith, within, zero)
 
 pub past_point : (row : ℕ) (line : Line) (steep : Bool) → steep ≡ is_steep line → length_of (course_of steep line) ≡ 0 → IsPast row line
-past_point row line steep axis zero = λ x y h k. none (on_line line x (pos y)) (no_pixel line steep x (pos y) axis zero)
+past_point row line steep axis zero = λ x y h k. false_from_ne_true (on_line line x (pos y)) (no_pixel line steep x (pos y) axis zero)
 
 -- the rows that the course has are the line's
 abbrev HasAllRows : Line → Bool → Span → Type 0
@@ -43,7 +39,7 @@ kept_line row line steep rows kept axis all from to x y h seen t =
 
 pub past_rows : (row : ℕ) (line : Line) (steep : Bool) (rows kept : Span) → steep ≡ is_steep line → HasAllRows line steep rows → kept.from ≡ max rows.from row → kept.to ≡ rows.to → kept.to ≤ kept.from → IsPast row line
 past_rows row line steep rows kept axis all from to ends = λ x y h k.
-    none (on_line line x (pos y)) (λ t. let inside = kept_line row line steep rows kept axis all from to x y h k t in omega (arith, inside.0, inside.1, ends))
+    false_from_ne_true (on_line line x (pos y)) (λ t. let inside = kept_line row line steep rows kept axis all from to x y h k t in omega (arith, inside.0, inside.1, ends))
 
 -- the columns and the rows of the longer axis
 pub columns_line : (line : Line) (steep : Bool) (columns : Span) →

@@ -1,15 +1,17 @@
 -- Strips from row to row: those that wait, those that have the row, and those that are past.
-use Rattle.std.proofs.Common.{◌≡◌, ℕ, ◌+◌, ◌^◌, ◌<◌, ◌≤◌, Bool, ℤ, pos, ◌-ℤ◌, ◌*ℤ◌, true, false, ◌||◌, List, [], ◌∷◌, ◌++◌, drop, take, length, get_or, arith, refl, ap, sym, subst, ◌∙◌}
+use Rattle.std.proofs.Common.{◌≡◌, ℕ, ◌+◌, ◌^◌, ◌<◌, ◌≤◌, Bool, ℤ, pos, ◌-ℤ◌, ◌*ℤ◌, false, ◌||◌, List, [], ◌∷◌, ◌++◌, drop, take, length, get_or, arith, ap, sym, subst, ◌∙◌}
 use Rattle.std.specs.Prelude.{nat_le, nat_lt, ◌↔◌, IsTrue, unsigned_abs}
 use Rattle.std.specs.List.{All}
 use Rattle.std.specs.List.Sorted.{IsNonDecreasingBy}
-use Rattle.std.proofs.lemmas.Bool.{and_parts, and_from, le-leb, leb-true, lt-ltb, ltb-true}
+use Rattle.std.proofs.lemmas.Bool.{and_parts, and_from, le-leb, leb-true, lt-ltb, ltb-true, false_from_ne_true}
 use Rattle.std.proofs.lemmas.Int.{ints, unsigned_abs-mul}
 use Rattle.std.proofs.lemmas.Nat.{mul-le}
 use Rattle.std.proofs.lemmas.List.{drop_more}
 use Rattle.std.proofs.lemmas.List.Elements.{All-head, All-same}
 use Rattle.std.proofs.lemmas.List.Folds.{list_any-append, list_any_more, list_any_none}
 use Rattle.std.proofs.lemmas.List.Sorted.{IsNonDecreasingBy-drop}
+use Rattle.std.proofs.Math.Bool.{or-false, or_assoc}
+use Rattle.mapping.specs.TestLaws.{same_test}
 use Rattle.mapping.specs.declared.geometry.Point.{Point}
 use Rattle.span_fill.specs.Clips.{IsIn}
 use Rattle.span_fill.specs.Cuts.{CutCanMove, IsMovedCut}
@@ -27,15 +29,6 @@ use Rattle.span_fill.specs.declared.strip.Strip.{Strip}
 use Rattle.span_fill.proofs.CourseLemmas.{near_place}
 use Rattle.span_fill.proofs.CutLemmas.{cut_can_move}
 use Rattle.span_fill.proofs.StripExact.{strip_exact, strip_moved}
-
--- tests
-none : (b : Bool) → (b ≡ true → ⊥) → b ≡ false
-none true h = absurd (h refl)
-none false h = refl
-
-or_none : (b : Bool) → (b || false) ≡ b
-or_none true = refl
-or_none false = refl
 
 -- bounds hold of fewer rows, and of any cut
 bounds_later : (first later : ℕ) (s : Strip) → first ≤ later → HasBounds first s → HasBounds later s
@@ -123,7 +116,7 @@ passed_active row s passed more = record {
 
 pub passed_past : (row : ℕ) (s : Strip) → IsPassed row s → s.rows.to ≤ row + 1 → (x : ℤ) (y : ℕ) → row < y → y < 8192 → on_line s.line x (pos y) ≡ false
 passed_past row s passed ends x y behind seen =
-    none (on_line s.line x (pos y)) (λ t. let inside = passed.bounds.all_rows x y (omega (arith, behind)) seen t in omega (arith, inside.1, ends, behind))
+    false_from_ne_true (on_line s.line x (pos y)) (λ t. let inside = passed.bounds.all_rows x y (omega (arith, behind)) seen t in omega (arith, inside.1, ends, behind))
 
 -- a strip that waits begins, or goes on waiting
 pub waiting_active : (row : ℕ) (s : Strip) → IsWaiting row s → s.rows.from ≤ row → IsActive row s
@@ -148,7 +141,7 @@ waiting_behind row s waiting behind = record {
 -- a strip that waits has no pixel in the row
 pub behind_past : (row : ℕ) (s : Strip) → IsWaiting row s → row < s.rows.from → (x : ℤ) → row < 8192 → on_line s.line x (pos row) ≡ false
 behind_past row s waiting behind x seen =
-    none (on_line s.line x (pos row)) (λ t. let inside = waiting.bounds.all_rows x row (omega arith) seen t in omega (arith, inside.0, behind))
+    false_from_ne_true (on_line s.line x (pos row)) (λ t. let inside = waiting.bounds.all_rows x row (omega arith) seen t in omega (arith, inside.0, behind))
 
 -- the next strip of those that wait
 first_waits : (strips : List Strip) (next row : ℕ) (d : Strip) → next < length strips → All (IsWaiting row) (drop next strips) → (drop next strips ≡ get_or strips next d ∷ drop (next + 1) strips) × IsWaiting row (get_or strips next d)
@@ -187,30 +180,19 @@ passed_more strips i d old new line x y within same e f =
 
 -- one strip more that has pixels
 pub have_more : (strips : List Strip) (s : Strip) (x : ℤ) (y : ℕ) → strips_have (strips ++ s ∷ []) x y ≡ (strips_have strips x y || on_line s.line x (pos y))
-have_more strips s x y = list_any-append (λ strip. on_line strip.line x (pos y)) strips (s ∷ []) ∙ ap (λ t. strips_have strips x y || t) (or_none (on_line s.line x (pos y)))
-
--- one strip moved from the list of those that wait
-or_moved : (a b c : Bool) → ((a || b) || c) ≡ (a || (b || c))
-or_moved true b c = refl
-or_moved false b c = refl
+have_more strips s x y = list_any-append (λ strip. on_line strip.line x (pos y)) strips (s ∷ []) ∙ ap (λ t. strips_have strips x y || t) (or-false (on_line s.line x (pos y)))
 
 pub have_moved : (active new waiting rest : List Strip) (s : Strip) (x : ℤ) (y : ℕ) → new ≡ active ++ s ∷ [] → waiting ≡ s ∷ rest → (strips_have new x y || strips_have rest x y) ≡ (strips_have active x y || strips_have waiting x y)
 have_moved active new waiting rest s x y e f =
     ap (λ l. strips_have l x y || strips_have rest x y) e
     ∙ ap (λ t. t || strips_have rest x y) (have_more active s x y)
-    ∙ or_moved (strips_have active x y) (on_line s.line x (pos y)) (strips_have rest x y)
+    ∙ or_assoc (strips_have active x y) (on_line s.line x (pos y)) (strips_have rest x y)
     ∙ ap (λ l. strips_have active x y || strips_have l x y) (sym f)
 
 -- one span more
 pub in_spans_more : (spans : List Span) (s : Span) (x : ℕ) → in_spans (spans ++ s ∷ []) x ≡ (in_spans spans x || in_span s x)
-in_spans_more [] s x = or_none (in_span s x)
-in_spans_more (t ∷ spans) s x = ap (λ b. in_span t x || b) (in_spans_more spans s x) ∙ sym (or_moved (in_span t x) (in_spans spans x) (in_span s x))
-
--- a span that has what a test has
-same_test : (a b : Bool) → (a ≡ true → b ≡ true) → (b ≡ true → a ≡ true) → a ≡ b
-same_test true b f g = sym (f refl)
-same_test false true f g = g refl
-same_test false false f g = refl
+in_spans_more [] s x = or-false (in_span s x)
+in_spans_more (t ∷ spans) s x = ap (λ b. in_span t x || b) (in_spans_more spans s x) ∙ sym (or_assoc (in_span t x) (in_spans spans x) (in_span s x))
 
 pub span_test : (span : Span) (x : ℕ) (b : Bool) → IsIn span x ↔ IsTrue b → in_span span x ≡ b
 span_test span x b iff =

@@ -68,13 +68,13 @@ none_up [] column x h l = refl
 none_up (e ∷ edges) column x h l = let t = none_up edges column x h.1 l in let first = h.0 in grind (arith, nat_tests)
 
 -- the same test at the same counts
-pub same_test : (rule : FillRule) (d u d' u' : ℕ) → d ≡ d' → u ≡ u' → is_inside rule d u ≡ is_inside rule d' u'
-same_test rule d u d' u' e f = ap (λ n. is_inside rule n u) e ∙ ap (λ n. is_inside rule d' n) f
+pub same_inside : (rule : FillRule) (d u d' u' : ℕ) → d ≡ d' → u ≡ u' → is_inside rule d u ≡ is_inside rule d' u'
+same_inside rule d u d' u' e f = ap (λ n. is_inside rule n u) e ∙ ap (λ n. is_inside rule d' n) f
 
 -- a pixel is in a swept span or in the run exactly where it is inside
 pub swept_exact : (rule : FillRule) (end : ℕ) (edges : List ActiveEdge) (at d u : ℕ) (run : Span) → AreSorted edges → run.from ≤ run.to → run.to ≤ at → at ≤ end → (x : ℕ) → x < end → in_spans (swept rule end edges at d u run) x ≡ (in_span run x || (nat_le at x && is_inside rule (d + downwards_at edges x) (u + upwards_at edges x)))
 swept_exact rule end [] at d u run sorted h k l x below =
-    let e : is_inside rule d u ≡ is_inside rule (d + 0) (u + 0) = same_test rule d u (d + 0) (u + 0) (omega arith) (omega arith) in
+    let e : is_inside rule d u ≡ is_inside rule (d + 0) (u + 0) = same_inside rule d u (d + 0) (u + 0) (omega arith) (omega arith) in
     last_part (is_inside rule d u) run at end x h k below ∙ ap (λ t. in_span run x || (nat_le at x && t)) e
 swept_exact rule end (edge ∷ edges) at d u run sorted h k l x below =
     let order = longer_order (is_inside rule d u) run at (max at (min (column_of edge) end)) h k (omega arith) in
@@ -83,9 +83,9 @@ swept_exact rule end (edge ∷ edges) at d u run sorted h k l x below =
     (λ before from. let left : x < (column_of edge) = omega arith in
     let a = none_down edges (column_of edge) x sorted.0 left in
     let b = none_up edges (column_of edge) x sorted.0 left in
-    same_test rule _ _ _ _ (grind (arith, nat_tests)) (grind (arith, nat_tests)))
+    same_inside rule _ _ _ _ (grind (arith, nat_tests)) (grind (arith, nat_tests)))
     (λ behind. let right : (column_of edge) ≤ x = omega arith in
-    same_test rule _ _ _ _ (grind (arith, nat_tests)) (grind (arith, nat_tests)))
+    same_inside rule _ _ _ _ (grind (arith, nat_tests)) (grind (arith, nat_tests)))
 
 -- spans that begin later
 apart_lower : (low first last : ℕ) (spans : List Span) → low ≤ first → AreApart first last spans → AreApart low last spans
@@ -131,7 +131,7 @@ swept_is_row rule interval edges sorted h = record {
   exact = λ x low high.
       let e = swept_exact rule interval.to edges interval.from 0 0 (record { from = interval.from; to = interval.from }) sorted (omega arith) (omega arith) h x high in
       let t : (in_span (record { from = interval.from; to = interval.from }) x || (nat_le interval.from x && is_inside rule (0 + downwards_at edges x) (0 + upwards_at edges x))) ≡ is_inside rule (0 + downwards_at edges x) (0 + upwards_at edges x) = grind (arith, nat_tests) in
-      e ∙ t ∙ same_test rule _ _ _ _ (omega arith) (omega arith);
+      e ∙ t ∙ same_inside rule _ _ _ _ (omega arith) (omega arith);
 }
 
 -- where only the columns between two are inside, and no run before them, they are the one span

@@ -82,11 +82,11 @@ impl Strip {
     {
         let column = self.cut.column;
         if self.steep {
-            between(self.columns, column, column + 1)
+            self.columns.between(column, column + 1)
         } else if column <= next {
-            between(self.columns, column, next)
+            self.columns.between(column, next)
         } else {
-            between(self.columns, next, column)
+            self.columns.between(next, column)
         }
     }
 }
@@ -114,31 +114,4 @@ fn cut_at(from: Point, course: Course, steep: bool, row: u32) -> Cut
 {
     let slant = Slant::new(course, steep);
     Cut::new(slant.total(from, row), slant.step, slant.divisor)
-}
-
-/// What a span has between two columns.
-fn between(columns: Span, low: i64, high: i64) -> Span
-    requires { columns.from ≤ columns.to }
-    ensures { (x : ℕ) → (IsIn result x ↔ (IsIn columns x × (low ≤ℤ pos x) × (pos x <ℤ high))) }
-{
-    Span {
-        from: clamped(low, columns),
-        to: clamped(high, columns),
-    }
-}
-
-/// A column, or the nearest end of the span.
-fn clamped(column: i64, columns: Span) -> u32
-    requires { columns.from ≤ columns.to }
-    ensures exact { (x : ℕ) → IsIn columns x → (result ≤ x ↔ (column ≤ℤ pos x)) }
-    ensures low { columns.from ≤ result }
-    ensures high { result ≤ columns.to }
-{
-    if column <= i64::from(columns.from) {
-        columns.from
-    } else if column >= i64::from(columns.to) {
-        columns.to
-    } else {
-        column as u32
-    }
 }

@@ -1,7 +1,7 @@
 use Rattle.std.proofs.Common.{◌≡◌, ◌+◌, ◌∙◌, ◌&&◌, ℕ, Bool, true, false, cond, eqb, ap, refl, sym, rules, arith}
 use Rattle.std.proofs.lemmas.Bool.{eqb-true}
 use Rattle.std.proofs.lemmas.List.{take-append-drop, take_rest}
-use Rattle.canvas.proofs.SendingLemmas.{sending_more}
+use Rattle.canvas.specs.Sending.{sending_more}
 use Rattle.canvas.proofs.counted_sending.send_counted.Goals as goal
 
 -- a write that took a byte is no fault

@@ -1,5 +1,5 @@
 use Rattle.std.proofs.Common.{◌+◌, ◌-◌, ◌^◌, ◌<◌, ◌≤◌, length}
-use Rattle.canvas.proofs.SendingLemmas.{Sending}
+use Rattle.canvas.specs.Sending.{Sending}
 use Rattle.canvas.proofs.counted_sending.send_counted.Given as goal
 
 -- what isn't left was sent, and there is room for one more fault

@@ -1,10 +1,10 @@
 use Rattle.std.proofs.Common.{◌≡◌, ℕ, ◌+◌, eqb, ◌%◌, refl, length, ap, arith, sym, ◌∙◌}
 use Rattle.std.proofs.lemmas.Bool.{cond-false}
 use Rattle.std.specs.Int.{bit_at}
+use Rattle.mapping.specs.IndexLaws.{count_indexes_most}
 use Rattle.mapping.specs.Mixes.{mixed_by}
 use Rattle.mapping.specs.Pixels.{is_cell}
 use Rattle.canvas.proofs.CellLemmas.{count_stage_none, count_stage_set, count_stage_unset, stage, stage_apart, stage_none, stage_room, stage_set, stage_unset}
-use Rattle.canvas.proofs.IndexLemmas.{count_most}
 use Rattle.canvas.proofs.WritingLawLemmas.{either_one}
 use Rattle.canvas.proofs.parts.mix_cells_of.Goals as goal
 use Rattle.canvas.proofs.parts.mix_cells_of.Goals.{then-has_bit, else-has_bit}
@@ -49,4 +49,4 @@ pub returns-clause-most : goal.returns-clause-most
 returns-clause-most c =
     let counted = c.loop-offset.invariant.count in
     let long = c.loop-offset.auto.part in
-    omega (arith, counted, long, count_most (stage c.args.cells c.args.column c.loop-offset.offset) 0 (length c.loop-offset.part))
+    omega (arith, counted, long, count_indexes_most (stage c.args.cells c.args.column c.loop-offset.offset) 0 (length c.loop-offset.part))

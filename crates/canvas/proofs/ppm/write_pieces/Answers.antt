@@ -1,6 +1,6 @@
 use Rattle.std.proofs.Common.{arith, refl, take}
 use Rattle.std.proofs.lemmas.Result.{err_from_is_err_and, on_err_weaker}
-use Rattle.canvas.proofs.SendingLemmas.{sending_more, sending_front_more}
+use Rattle.canvas.specs.Sending.{sending_more, sending_front_more}
 use Rattle.canvas.proofs.PieceLemmas.{cut_at}
 use Rattle.canvas.proofs.ppm.write_pieces.Goals as goal
 

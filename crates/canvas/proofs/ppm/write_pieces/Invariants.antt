@@ -1,6 +1,6 @@
 use Rattle.std.proofs.Common.{◌≤◌, ◌-◌, ◌++◌, drop, take}
 use Rattle.canvas.specs.Ppm.{raster}
-use Rattle.canvas.proofs.SendingLemmas.{Sending}
+use Rattle.canvas.specs.Sending.{Sending}
 use Rattle.canvas.proofs.ppm.write_pieces.Given as goal
 
 -- what is in the piece and what is left to put into one wasn't sent, and the rest of the text was

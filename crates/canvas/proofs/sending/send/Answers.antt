@@ -1,7 +1,7 @@
 use Rattle.std.proofs.Common.{◌≡◌, List, ℕ, drop, sym, ap, ◌∙◌}
 use Rattle.std.specs.Borrow.{Bor}
 use Rattle.std.proofs.lemmas.List.{take-append-drop, take_rest}
-use Rattle.canvas.proofs.SendingLemmas.{sending_more, sending_kept}
+use Rattle.canvas.specs.Sending.{sending_more, sending_kept}
 use Rattle.canvas.proofs.sending.send.Goals as goal
 use Rattle.canvas.proofs.sending.send.Goals.{in-Ok, in-Err}
 

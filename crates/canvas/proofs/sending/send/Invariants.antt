@@ -1,4 +1,4 @@
-use Rattle.canvas.proofs.SendingLemmas.{Sending}
+use Rattle.canvas.specs.Sending.{Sending}
 use Rattle.canvas.proofs.sending.send.Given as goal
 
 -- what isn't left was sent

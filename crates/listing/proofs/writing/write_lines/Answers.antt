@@ -6,7 +6,7 @@ use Rattle.listing.specs.Judging.{judging_of}
 use Rattle.listing.specs.Listing.{framed_records, listed_by}
 use Rattle.listing.specs.Putting.{PutsLine, PutsRest, coming, listing_left}
 use Rattle.listing.proofs.LineLemmas.{begins}
-use Rattle.listing.proofs.SendingLemmas.{sending_front_more, sending_part, sending_rest_front, sending_same}
+use Rattle.canvas.specs.Sending.{sending_front_more, sending_part, sending_rest_front, sending_same}
 use Rattle.listing.proofs.writing.write_lines.Goals as goal
 
 pub loop-page-init : goal.loop-page-init

@@ -1,7 +1,7 @@
 use Rattle.std.proofs.Common.{◌≡◌, ◌++◌, length}
 use Rattle.listing.specs.Listing.{framed_records, listed_by, listing_in}
 use Rattle.listing.specs.Putting.{coming, listing_left}
-use Rattle.listing.specs.Sending.{Sending}
+use Rattle.canvas.specs.Sending.{Sending}
 use Rattle.listing.proofs.writing.write_lines.Given as goal
 
 -- what is on the page and what the walk has left wasn't sent, and the rest of the listing was; the records end as from the start

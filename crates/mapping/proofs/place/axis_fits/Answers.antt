@@ -1,5 +1,5 @@
 -- The products lie between the limits where the placed coordinate does.
-use Rattle.std.proofs.Common.{◌≡◌, ℤ, pos, ◌*ℤ◌, refl, rules}
+use Rattle.std.proofs.Common.{◌≡◌, pos, ◌*ℤ◌, refl, rules}
 use Rattle.std.specs.Prelude.{FitsSigned}
 use Rattle.std.specs.Int.{w32, w64}
 use Rattle.std.proofs.lemmas.Int.{to_z-of_z}

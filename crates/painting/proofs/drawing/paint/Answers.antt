@@ -2,7 +2,7 @@ use Rattle.std.proofs.Common.{◌≡◌, ◌++◌, List, [], inl, inr, arith, su
 use Rattle.dc_stack.specs.Drawing.{tools_of}
 use Rattle.dc_stack.specs.Draws.{mark_of}
 use Rattle.dc_stack.specs.State.{DcValue}
-use Rattle.preflight_cert.specs.Layer.{Layer, fills_of, outlines_of, plain_layers_of}
+use Rattle.preflight_cert.specs.Layer.{Layer, fills_of, strokes_of, plain_layers_of}
 use Rattle.painting.specs.Drawn.{DrawsLayers}
 use Rattle.painting.proofs.LandingLemmas.{fits_there, lands_there, two_land}
 use Rattle.painting.proofs.BlitLemmas.{blit_drawn}
@@ -61,8 +61,8 @@ returns-in-Line g c =
     let fill_few = filled.few in
     let stroke_few = stroked.few in
     record {
-      drawn = subst (λ (plain : List Layer). DrawsLayers (fills_of mark tools ++ (plain ++ outlines_of mark tools)) machine.surface c.args.canvas.now c.stroke.new.canvas) (sym alone)
-          (drawn_in_turn (fills_of mark tools) (outlines_of mark tools) machine.surface c.args.canvas.now c.fill.new.canvas c.stroke.new.canvas filled.rows filled.drawn stroked.drawn);
+      drawn = subst (λ (plain : List Layer). DrawsLayers (fills_of mark tools ++ (plain ++ strokes_of mark tools)) machine.surface c.args.canvas.now c.stroke.new.canvas) (sym alone)
+          (drawn_in_turn (fills_of mark tools) (strokes_of mark tools) machine.surface c.args.canvas.now c.fill.new.canvas c.stroke.new.canvas filled.rows filled.drawn stroked.drawn);
       rows = record {
         width = stroked.rows.width ∙ filled.rows.width;
         first = stroked.rows.first ∙ filled.rows.first;

@@ -7,7 +7,8 @@ use Rattle.dc_stack.specs.Figures.{figures_of_lists, points_of_figures}
 use Rattle.preflight_cert.specs.Outlines.{line_from}
 use Rattle.preflight_cert.specs.Paint.{solid}
 use Rattle.preflight_cert.specs.Rectangles.{rectangle_lines, rectangle_on}
-use Rattle.preflight_cert.specs.Shape.{along_figures, round_rectangle}
+use Rattle.preflight_cert.specs.Shape.{stroke_of}
+use Rattle.preflight_cert.specs.StrokedOutline.{along, round}
 use Rattle.span_fill.specs.Strokes.{in_stroke}
 use Rattle.span_fill.specs.declared.line.Line.{Line}
 use Rattle.painting.specs.FigureEnds.{stroked_ends}
@@ -16,7 +17,7 @@ use Rattle.painting.specs.PenStrokes.{stroke_paint}
 use Rattle.painting.proofs.DrawingLemmas.{painted_layer, pen_strokes}
 use Rattle.painting.proofs.LandedBoxLemmas.{shape_landed}
 use Rattle.painting.proofs.LandingLemmas.{lands_place, two_land}
-use Rattle.painting.proofs.PaintedFigureLemmas.{few_to_count, lines_few, stroke_closed, stroke_told, stroked_lines, stroked_shape, strokes_figures}
+use Rattle.painting.proofs.PaintedFigureLemmas.{few_to_count, lines_few, stroke_told, stroked_lines, stroked_outline, strokes_figures}
 use Rattle.painting.proofs.drawing.stroke_outline.Goals as goal
 
 pub new-requires-clause-to : goal.new-requires-clause-to
@@ -33,7 +34,7 @@ stroke_lines-requires-clause-within g c =
     let lines = c.new.ensures ∙ ap (λ (r : Surface). line_from (placed_point c.in-Line.from r) (placed_point c.in-Line.to r) ∷ []) c.place-place.ensures in
     λ x y h.
     shape_landed c.drawing_box_law.ensures c.place-place.result s c.place-place.ensures c.args.drawn.bounds c.landed_box-landed.result c.landed_box-landed.ensures (points_of_figures figures) least within
-    (along_figures figures) tt refl x y (sym (ap (λ (list : List Line). in_stroke list x y) lines) ∙ h)
+    (stroke_of (along figures)) tt refl x y (sym (ap (λ (list : List Line). in_stroke list x y) lines) ∙ h)
 
 pub new-outline-requires : goal.new-outline-requires
 new-outline-requires g c =
@@ -58,7 +59,7 @@ stroke_lines-requires-in-Some-clause-within g c =
     λ x y h.
     let same = ap (λ (list : List Line). in_stroke list x y) c.new-outline.ensures ∙ stroked_lines s ends figures x y in
     shape_landed c.drawing_box_law.ensures c.place-place.result s c.place-place.ensures c.args.drawn.bounds c.landed_box-landed-in-Some.result c.landed_box-landed-in-Some.ensures (points_of_figures figures) least within
-    (stroked_shape ends figures) (stroke_closed ends figures) (stroke_told ends figures) x y (sym same ∙ h)
+    (stroke_of (stroked_outline ends figures)) tt (stroke_told ends figures) x y (sym same ∙ h)
 
 pub placed_box-requires-clause-second : goal.placed_box-requires-clause-second
 placed_box-requires-clause-second g c =
@@ -70,11 +71,11 @@ returns-in-Line-clause-drawn g c =
     let s = c.args.machine.now.surface in
     let tools = tools_of c.args.machine.now.state.dc in
     let pen = c.requires.pen in
-    let shape = along_figures (figures_of_lists ((c.in-Line.from ∷ c.in-Line.to ∷ []) ∷ [])) in
+    let outline = along (figures_of_lists ((c.in-Line.from ∷ c.in-Line.to ∷ []) ∷ [])) in
     let lines = c.new.ensures ∙ ap (λ (r : Surface). line_from (placed_point c.in-Line.from r) (placed_point c.in-Line.to r) ∷ []) c.place-place.ensures in
-    let drawn = painted_layer c.writing_law.ensures s c.args.canvas.now c.stroke_lines.new.canvas c.whole_law.ensures.whole c.requires.may.held (solid pen.colour) tools (stroke_paint c.args.stroke.now) pen.paint _ shape
+    let drawn = painted_layer c.writing_law.ensures s c.args.canvas.now c.stroke_lines.new.canvas c.whole_law.ensures.whole c.requires.may.held (solid pen.colour) tools (stroke_paint c.args.stroke.now) pen.paint _ (stroke_of outline)
     (λ x y. ap (λ (list : List Line). in_stroke list x y) lines) c.stroke_lines.ensures.pixels c.stroke_lines.ensures.few in
-    rw (c.in-Line.is, pen_strokes shape tools pen.colour pen.pen) drawn
+    rw (c.in-Line.is, pen_strokes outline tools pen.colour pen.pen) drawn
 
 pub returns-in-Some-clause-drawn : goal.returns-in-Some-clause-drawn
 returns-in-Some-clause-drawn g c =
@@ -84,17 +85,17 @@ returns-in-Some-clause-drawn g c =
     let ends = c.in-Some.ends in
     let figures = figures_drawn c.args.machine.now.painted c.in-Figures.points in
     let asked : stroked_ends c.in-Figures.painting ≡ Some ends = search rules in
-    let shape = stroked_shape ends figures in
-    let drawn = painted_layer c.writing_law.ensures s c.args.canvas.now c.stroke_lines-in-Some.new.canvas c.whole_law.ensures.whole c.requires.may.held (solid pen.colour) tools (stroke_paint c.args.stroke.now) pen.paint _ shape
+    let outline = stroked_outline ends figures in
+    let drawn = painted_layer c.writing_law.ensures s c.args.canvas.now c.stroke_lines-in-Some.new.canvas c.whole_law.ensures.whole c.requires.may.held (solid pen.colour) tools (stroke_paint c.args.stroke.now) pen.paint _ (stroke_of outline)
     (λ x y. ap (λ (list : List Line). in_stroke list x y) c.new-outline.ensures ∙ stroked_lines s ends figures x y) c.stroke_lines-in-Some.ensures.pixels c.stroke_lines-in-Some.ensures.few in
-    rw (c.in-Figures.is, strokes_figures c.in-Figures.painting ends figures tools asked, pen_strokes shape tools pen.colour pen.pen) drawn
+    rw (c.in-Figures.is, strokes_figures c.in-Figures.painting ends figures tools asked, pen_strokes outline tools pen.colour pen.pen) drawn
 
 pub returns-in-Rectangle-clause-drawn : goal.returns-in-Rectangle-clause-drawn
 returns-in-Rectangle-clause-drawn g c =
     let s = c.args.machine.now.surface in
     let tools = tools_of c.args.machine.now.state.dc in
     let pen = c.requires.pen in
-    let shape = round_rectangle c.in-Rectangle.first c.in-Rectangle.second c.in-Rectangle.edges in
-    let drawn = painted_layer c.writing_law.ensures s c.args.canvas.now c.stroke_box.new.canvas c.whole_law.ensures.whole c.requires.may.held (solid pen.colour) tools (stroke_paint c.args.stroke.now) pen.paint _ shape
+    let outline = round c.in-Rectangle.first c.in-Rectangle.second c.in-Rectangle.edges in
+    let drawn = painted_layer c.writing_law.ensures s c.args.canvas.now c.stroke_box.new.canvas c.whole_law.ensures.whole c.requires.may.held (solid pen.colour) tools (stroke_paint c.args.stroke.now) pen.paint _ (stroke_of outline)
     (λ x y. ap (λ (box : Rect). in_stroke (rectangle_lines box) x y) c.placed_box.ensures.value ∙ ap (λ (r : Surface). in_stroke (rectangle_lines (rectangle_on r c.in-Rectangle.first c.in-Rectangle.second c.in-Rectangle.edges)) x y) c.place-place.ensures) c.stroke_box.ensures.pixels c.stroke_box.ensures.few in
-    rw (c.in-Rectangle.is, pen_strokes shape tools pen.colour pen.pen) drawn
+    rw (c.in-Rectangle.is, pen_strokes outline tools pen.colour pen.pen) drawn

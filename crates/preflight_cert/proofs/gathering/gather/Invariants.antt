@@ -1,6 +1,5 @@
 use Rattle.std.proofs.Common.{◌≡◌, ◌+◌, ◌*◌, ◌≤◌, ◌++◌, length}
 use Rattle.std.specs.List.{All}
-use Rattle.mapping.specs.PlaceOf.{surface_of}
 use Rattle.draw_ops.specs.Records.{record_limit}
 use Rattle.preflight_cert.specs.After.{needs_after, notes_after}
 use Rattle.preflight_cert.specs.Drawings.{drawings_of}
@@ -10,8 +9,8 @@ use Rattle.preflight_cert.specs.TextLaws.{IsEntry}
 use Rattle.preflight_cert.proofs.gathering.gather.Given as goal
 
 -- what is left is gathered as the whole is
-abbrev pub invariant-loop-is_put : goal.invariant-loop-is_put
-invariant-loop-is_put g l =
+abbrev pub invariant-loop-is_played : goal.invariant-loop-is_played
+invariant-loop-is_played g l =
     let content = g.S.HasContent.content in
     let whole = content l.fn.source in
     let left = content l.source in
@@ -21,7 +20,6 @@ invariant-loop-is_put g l =
       few : l.totals.writes ≤ 134217728 * l.totals.records;
       lengths : length l.entries.items ≤ length l.fn.entries.items + 20 * l.totals.records;
       same_surface : l.machine.surface ≡ start;
-      place : surface_of l.place ≡ start;
       counted : l.totals.records + length left.steps ≡ length whole.steps;
       fault : left.fault ≡ whole.fault;
       stops : stop_of whole l.fn.machine.state start ≡ stopped left.steps (broken_behind (length whole.steps) whole.fault) l.machine.state start;
@@ -32,5 +30,5 @@ invariant-loop-is_put g l =
       needs : needs_after whole.steps l.fn.machine.state l.fn.machine.needs ≡ needs_after left.steps l.machine.state l.machine.needs;
     }
 
-abbrev pub decreases-loop-is_put : goal.decreases-loop-is_put
-decreases-loop-is_put g l = length (g.S.HasContent.content l.source).steps
+abbrev pub decreases-loop-is_played : goal.decreases-loop-is_played
+decreases-loop-is_played g l = length (g.S.HasContent.content l.source).steps

@@ -1,5 +1,4 @@
 use Rattle.std.proofs.Common.{◌≡◌, ◌+◌, ◌*◌, ◌≤◌, length}
-use Rattle.mapping.specs.PlaceOf.{surface_of}
 use Rattle.draw_ops.specs.Records.{record_limit}
 use Rattle.preflight_cert.specs.After.{needs_after, notes_after}
 use Rattle.preflight_cert.specs.Checked.{check_of, checked}
@@ -10,15 +9,14 @@ use Rattle.preflight_cert.specs.Stop.{broken_behind}
 use Rattle.preflight_cert.proofs.walk.check_steps.Given as goal
 
 -- what is left is checked as the whole is
-abbrev pub invariant-loop-is_put : goal.invariant-loop-is_put
-invariant-loop-is_put g l =
+abbrev pub invariant-loop-is_played : goal.invariant-loop-is_played
+invariant-loop-is_played g l =
     let content = g.S.HasContent.content in
     let start = l.fn.machine.surface in
     record {
       short : l.totals.records + length (content l.source).steps ≤ record_limit;
       few : l.totals.writes ≤ 134217728 * l.totals.records;
       same_surface : l.machine.surface ≡ start;
-      place : surface_of l.place ≡ start;
       counted : length (content l.fn.source).steps ≡ l.totals.records + length (content l.source).steps;
       fault : (content l.source).fault ≡ (content l.fn.source).fault;
       order : check_of (content l.fn.source) l.fn.machine.state start (entries_of l.fn.given) ≡ checked (content l.source).steps (broken_behind (length (content l.fn.source).steps) (content l.fn.source).fault) (length (content l.fn.source).steps) l.machine.state start (entries_of l.entries);
@@ -27,5 +25,5 @@ invariant-loop-is_put g l =
       needs : needs_after (content l.fn.source).steps l.fn.machine.state l.fn.machine.needs ≡ needs_after (content l.source).steps l.machine.state l.machine.needs;
     }
 
-abbrev pub decreases-loop-is_put : goal.decreases-loop-is_put
-decreases-loop-is_put g l = length (g.S.HasContent.content l.source).steps
+abbrev pub decreases-loop-is_played : goal.decreases-loop-is_played
+decreases-loop-is_played g l = length (g.S.HasContent.content l.source).steps

@@ -1,7 +1,7 @@
-use Rattle.std.proofs.Common.{◌∙◌, ap, rules, FitsSigned}
+use Rattle.std.proofs.Common.{◌∙◌, ap, rules, sym, FitsSigned}
 use Rattle.std.specs.Int.{w32, w64}
+use Rattle.std.proofs.lemmas.Bool.{and_from, and_right}
 use Rattle.std.proofs.lemmas.Int.{to_z-of_z}
-use Rattle.raster_ops.proofs.SourceLemmas.{fails, hold}
 use Rattle.raster_ops.specs.Sources.{axis_read, is_axis_inside, least_end}
 use Rattle.raster_ops.proofs.sources.SourceReader.of_rectangle.Goals as goal
 
@@ -11,7 +11,7 @@ returns-in_default-new-clause-some c =
     let row = c.ranges.row in
     let r = c.args.rectangle.now in
     let h = simp to_z-of_z at (c.in_default-new.ensures {u = tt}).some in
-    fails _ _ (h ∙ ap (λ n. is_axis_inside c.args.row r.extent.y n) c.height-height.ensures)
+    sym (and_right _ _ (sym (h ∙ ap (λ n. is_axis_inside c.args.row r.extent.y n) c.height-height.ensures)))
 
 pub returns-clause-some : goal.returns-clause-some
 returns-clause-some c =
@@ -24,9 +24,9 @@ returns-clause-some c =
     let r = c.args.rectangle.now in
     let g = simp to_z-of_z at (c.in-Some.ensures {u = tt}).some in
     let h = simp to_z-of_z at (c.in-Some-new.ensures {u = tt}).some in
-    hold _ _
-    (g ∙ ap (λ n. is_axis_inside n r.extent.x c.width-width.result) end ∙ ap (λ n. is_axis_inside (least_end r.corner.x r.extent.x) r.extent.x n) c.width-width.ensures)
-    (h ∙ ap (λ n. is_axis_inside c.args.row r.extent.y n) c.height-height.ensures)
+    let across = g ∙ ap (λ n. is_axis_inside n r.extent.x c.width-width.result) end ∙ ap (λ n. is_axis_inside (least_end r.corner.x r.extent.x) r.extent.x n) c.width-width.ensures in
+    let down = h ∙ ap (λ n. is_axis_inside c.args.row r.extent.y n) c.height-height.ensures in
+    sym (and_from _ _ (sym across) (sym down))
 
 pub returns-clause-columns : goal.returns-clause-columns
 returns-clause-columns c =
