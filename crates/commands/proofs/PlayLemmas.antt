@@ -98,14 +98,14 @@ show_fails file cleared width height contents old new why.CannotWrite from withi
 show_fails file cleared width height contents old new why.OutOfMemory from within p = p
 
 at_most : (a b : ℕ) → (a < b → ⊥) → b ≤ a
-at_most a b no = let h : b < suc a = lt_of_not-le no in omega (arith, h)
+at_most a b never = let h : b < suc a = lt_of_not-le never in omega (arith, h)
 
 module _ (c : Certificate) (width height : ℕ) (result : Result ℕ Fault) (bound : (result ≡ Err SurfaceTooLarge) ↔ IsAboveBound width height c) where
   -- what isn't refused for its sides is within the bound
   pub within_bound : (result ≡ Err SurfaceTooLarge → ⊥) → IsWithinBound c width height
-  within_bound no = record {
-    wide = at_most c.max_width width (λ less. no (bound.1 (inl less)));
-    high = at_most c.max_height height (λ less. no (bound.1 (inr less)));
+  within_bound never = record {
+    wide = at_most c.max_width width (λ less. never (bound.1 (inl less)));
+    high = at_most c.max_height height (λ less. never (bound.1 (inr less)));
   }
 
   pub within_where_done : (n : ℕ) → result ≡ Ok n → IsWithinBound c width height

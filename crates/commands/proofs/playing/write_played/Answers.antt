@@ -1,7 +1,9 @@
 -- A text that was written whole before the output failed is a front of itself.
-use Rattle.std.proofs.Common.{rules}
+use Rattle.std.proofs.Common.{[], rules, sym}
+use Rattle.std.proofs.lemmas.List.{append-nil}
+use Rattle.std.specs.Io.KnownBytes.{Appends}
 use Rattle.mapping.specs.Colours.{white_colour}
-use Rattle.player.specs.Bands.{WritesRunFront}
+use Rattle.player.specs.Bands.{WritesRun}
 use Rattle.commands.proofs.PlayLemmas.{within_where_done}
 use Rattle.commands.proofs.playing.write_played.Goals as goal
 
@@ -9,8 +11,14 @@ pub returns-in-Err-flush-clause-failed : goal.returns-in-Err-flush-clause-failed
 returns-in-Err-flush-clause-failed g c =
     let cleared = c.args.cleared.now in
     let plan = c.args.plan in
-    let written : WritesRunFront cleared plan.width plan.height white_colour (g.O.Write.contents c.args.out.now) (g.O.Write.contents c.flush.new.self) = search rules in
+    let before = g.O.Write.contents c.args.out.now in
+    let done : WritesRun cleared plan.width plan.height white_colour before (g.O.Write.contents c.play_bands.new.out) = rw c.requires.white at c.in-Ok.ensures.text in
+    let appended : Appends before (g.O.Write.contents c.flush.new.self) done.text = search (done.appended, c.flush.ensures.bytes, rules) in
     record {
       within = within_where_done cleared.certificate plan.width plan.height c.play_bands.result c.play_bands.ensures.too_large c.in-Ok.field-0 c.in-Ok.is;
-      written = written;
+      written = record {
+        text = done.text;
+        of_run = done.of_run;
+        appended = record { sent = done.text; unsent = []; front = sym (append-nil done.text); appended = appended };
+      };
     }
