@@ -90,19 +90,6 @@ show_fails file cleared width height contents old new (why.Refused r) from p = a
 show_fails file cleared width height contents old new why.CannotWrite from p = record { text = p.text; fact = p.of_run file from; written = p.appended }
 show_fails file cleared width height contents old new why.OutOfMemory from p = p
 
--- a surface within the bound is refused for want of memory alone, or since the writer failed
-pub never_refused_within :
-    (c : Certificate) (width height : ℕ) (result : Result ℕ Fault) (fault : Fault) → IsWithinBound c width height → result ≡ Err fault
-    → ((result ≡ Err SurfaceTooLarge) ↔ TheBound.IsAboveBound width height c) → (fault ≡ SurfaceTooLarge ⊎ (fault ≡ OutOfMemory ⊎ fault ≡ WriteFault))
-    → (fault ≡ OutOfMemory → ⊥) → (fault ≡ WriteFault → ⊥) → ⊥
-never_refused_within c width height result fault within is bound (inl large) memory writing = above (bound.0 (is ∙ ap (λ (f : Fault). Err f) large))
-  where
-    above : (c.max_width < width ⊎ c.max_height < height) → ⊥
-    above (inl less) = let h = within.wide in absurd (omega (arith, less, h))
-    above (inr less) = let h = within.high in absurd (omega (arith, less, h))
-never_refused_within c width height result fault within is bound (inr (inl want)) memory writing = memory want
-never_refused_within c width height result fault within is bound (inr (inr failed)) memory writing = writing failed
-
 pub over_check_refuses : (file bytes image : List ℕ) (r : Refusal) → (IsAnswer file bytes (refuses r.number r.fault) ⊎ IsWantOfMemory r)
     → (RefusesOver file bytes image r.number r.fault ⊎ IsWantOfMemory r)
 over_check_refuses file bytes image r (inl denies) = inl (inl (inl denies))

@@ -109,16 +109,6 @@ prepared_within file width height bytes prepared wide high c read =
     let is_high : c.max_height ≡ height = prepared_high file width height bytes prepared (certificate_of c) read high.within in
     record { wide = omega (arith, is_wide); high = omega (arith, is_high) }
 
--- a surface that isn't above the bound is refused for memory alone
-pub never_above : (c : Certificate) (width height : ℕ) (fault : Fault) → IsWithinBound c width height → RefusesSurface c width height fault
-    → (fault ≡ OutOfMemory → ⊥) → ⊥
-never_above c width height fault within (inr want) other = other want
-never_above c width height fault within (inl above) other = go above.larger
-  where
-    go : (c.max_width < width ⊎ c.max_height < height) → ⊥
-    go (inl less) = let h = within.wide in absurd (omega (arith, less, h))
-    go (inr less) = let h = within.high in absurd (omega (arith, less, h))
-
 -- of sides that a surface may have, the refusal is the run's
 pub run_refused : (file : List ℕ) (width height : ℕ) → IsSurfaceSide width → IsSurfaceSide height → (r : Refusal)
     → (StopsPreparing file width height r ⊎ IsWantOfMemory r) → (Refused file width height r.number r.fault ⊎ IsWantOfMemory r)

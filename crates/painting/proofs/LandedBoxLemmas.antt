@@ -7,6 +7,7 @@ use Rattle.std.specs.Int.{int_max, int_min}
 use Rattle.std.specs.List.{All, list_all}
 use Rattle.mapping.specs.Boxes.{HasPoint, IsLeastBox, IsTight, box_between, far_corner, mapped_by, near_corner, no_box}
 use Rattle.mapping.specs.BoxLaws.{BoxLaws}
+use Rattle.mapping.specs.PixelBoxes.{from_to_true}
 use Rattle.mapping.specs.PlaceOf.{surface_of}
 use Rattle.mapping.specs.Plane.{is_on_plane}
 use Rattle.mapping.specs.PlacingLaws.{PlacingLaws, ShowsFrame}
@@ -32,13 +33,6 @@ same_points : (points : List Point) → map (mapped_by (λ v. v) (λ v. v)) poin
 same_points [] = refl
 same_points (p ∷ ps) = ap (λ (rest : List Point). p ∷ rest) (same_points ps)
 
-pub first_off : (a b : Bool) → a ≡ false → (a && b) ≡ false
-first_off a b h = rw h refl
-
-pub second_off : (a b : Bool) → b ≡ false → (a && b) ≡ false
-second_off true b h = h
-second_off false b h = refl
-
 -- what the least box reaches lies between where its corners land
 pub reached_between : (s : Surface) (bounds : Rect) (x y : ℕ) → Reaches bounds s x y → in_box (raised Inclusive (box_between (placed_point (near_corner bounds) s) (placed_point (far_corner bounds) s))) x y ≡ true
 reached_between s bounds x y reached =
@@ -55,14 +49,11 @@ between_low a b v h k = grind (arith, ints)
 between_high : (a b v : ℤ) → a ≤ℤ b → v <ℤ (int_max a b +ℤ pos 1) → v ≤ℤ b
 between_high a b v h k = grind (arith, ints)
 
-from_to_parts : (from to : ℤ) (n : ℕ) → is_from_to from to n ≡ true → (from ≤ℤ pos n) × (pos n <ℤ to)
-from_to_parts from to n h = let parts = and_parts (int_le from (pos n)) (int_lt (pos n) to) h in (int_le-true from (pos n) parts.0, int_lt-true (pos n) to parts.1)
-
 -- no box has a pixel that is around no point
 pub none_in : (x y : ℕ) → in_box no_box x y ≡ true → ⊥
 none_in x y h =
     let parts = and_parts (is_from_to (pos 0) (negsuc 0) x) (is_from_to (pos 0) (negsuc 0) y) h in
-    let inside = from_to_parts (pos 0) (negsuc 0) x parts.0 in
+    let inside = from_to_true (pos 0) (negsuc 0) x parts.0 in
     let low = inside.0 in
     let high = inside.1 in
     omega (arith, ints, low, high)
@@ -110,8 +101,8 @@ between_reached laws s shown bounds wide high x y h =
     let near = placed_point (near_corner bounds) s in
     let far = placed_point (far_corner bounds) s in
     let parts = and_parts (is_from_to (int_min near.x far.x) (int_max near.x far.x +ℤ pos 1) x) (is_from_to (int_min near.y far.y) (int_max near.y far.y +ℤ pos 1) y) h in
-    let column = from_to_parts _ _ x parts.0 in
-    let row = from_to_parts _ _ y parts.1 in
+    let column = from_to_true _ _ x parts.0 in
+    let row = from_to_true _ _ y parts.1 in
     let across = laws.keeps_order s.width s.frame_width bounds.l bounds.r shown.wide wide in
     let down = laws.keeps_order s.height s.frame_height bounds.t bounds.b shown.high high in
     record {

@@ -21,9 +21,6 @@ no_pixel line false x y axis zero t =
     let within = along_within line.from.x line.from.y line.to.x line.to.y x y (pixel_line line false x y x y axis refl refl t) in
     omega (arith, within, zero)
 
-pub past_point : (row : ℕ) (line : Line) (steep : Bool) → steep ≡ is_steep line → length_of (course_of steep line) ≡ 0 → IsPast row line
-past_point row line steep axis zero = λ x y h k. false_from_ne_true (on_line line x (pos y)) (no_pixel line steep x (pos y) axis zero)
-
 -- the rows that the course has are the line's
 abbrev HasAllRows : Line → Bool → Span → Type 0
 HasAllRows line steep rows = (u v : ℤ) (y : ℕ) → IsPixelOf (course_of steep line) u v → y < 8192 → pos y ≡ pixel_row steep u v → IsIn rows y

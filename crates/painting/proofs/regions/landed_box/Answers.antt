@@ -1,6 +1,7 @@
 use Rattle.std.proofs.Common.{◌≡◌, arith, rules, subst, sym, ap, ◌∙◌, w32, to_z, of_z}
 use Rattle.std.proofs.lemmas.Int.{ints}
 use Rattle.std.specs.Prelude.{is_some}
+use Rattle.std.proofs.lemmas.Bool.{and_left, and_right}
 use Rattle.mapping.specs.Boxes.{box_between, far_corner, near_corner}
 use Rattle.mapping.specs.PlaceOf.{surface_of}
 use Rattle.mapping.specs.Surface.{placed_point}
@@ -8,7 +9,7 @@ use Rattle.mapping.specs.declared.geometry.Rect.{Rect}
 use Rattle.draw_ops.specs.declared.operation.RectangleEdges.TheVariants.{Inclusive}
 use Rattle.preflight_cert.specs.Rectangles.{raised}
 use Rattle.painting.specs.Regions.{HasLanded}
-use Rattle.painting.proofs.LandedBoxLemmas.{between_reached, first_off, none_in, none_reached, reached_between, second_off, shows}
+use Rattle.painting.proofs.LandedBoxLemmas.{between_reached, none_in, none_reached, reached_between, shows}
 use Rattle.painting.proofs.regions.landed_box.Goals as goal
 
 pub returns-in-Some-Some : goal.returns-in-Some-Some
@@ -31,7 +32,7 @@ returns-in_default c =
     let b : to_z w32 (of_z w32 bounds.b) ≡ bounds.b = omega (arith, ints) in
     let off = sym (rw (r, b) at c.place-far.ensures.test) ∙ ap is_some c.in_default.is-1 in
     record {
-      all = λ points least within x y reached. absurd (none_reached c.box_law.ensures c.args.place bounds (second_off _ _ off) points least within x y reached);
+      all = λ points least within x y reached. absurd (none_reached c.box_law.ensures c.args.place bounds (and_right _ _ off) points least within x y reached);
       no_other = λ wide high x y inside. absurd (none_in x y inside);
     }
 
@@ -42,6 +43,6 @@ returns-in_default-2 c =
     let t : to_z w32 (of_z w32 bounds.t) ≡ bounds.t = omega (arith, ints) in
     let off = sym (rw (l, t) at c.place-near.ensures.test) ∙ ap is_some c.in_default.is-0 in
     record {
-      all = λ points least within x y reached. absurd (none_reached c.box_law.ensures c.args.place bounds (first_off _ _ off) points least within x y reached);
+      all = λ points least within x y reached. absurd (none_reached c.box_law.ensures c.args.place bounds (and_left _ _ off) points least within x y reached);
       no_other = λ wide high x y inside. absurd (none_in x y inside);
     }
