@@ -12,7 +12,7 @@ use Rattle.draw_ops.specs.declared.fault.Fault.TheVariants.{BadBound, NotCertifi
 use Rattle.point_views.specs.Numbers.{number_at}
 use Rattle.dc_stack.specs.Drawing.{edge_limit}
 use Rattle.dc_stack.specs.Path.{piece_limit}
-use Rattle.preflight_cert.specs.CertificateReading.{CertificateValue, are_bounded_needs, count_in, entries_in, entry_limit, first_entry, is_bounded, mark, needs_in, read_certificate, read_whole, value_in, whole_size}
+use Rattle.preflight_cert.specs.CertificateReading.{CertificateValue, are_bounded_needs, count_in, entries_in, entry_limit, entry_size, first_entry, is_bounded, mark, needs_in, read_certificate, read_whole, value_in, whole_size}
 use Rattle.preflight_cert.specs.CertificateText.{certificate_text, entry_text, number_text, text_with}
 use Rattle.preflight_cert.specs.TextLaws.{AreBytes, IsCertificate, IsEntry}
 use Rattle.preflight_cert.proofs.EntryLemmas.{length-entries_in}
@@ -27,7 +27,7 @@ entry_again bytes rest all some e =
     (signed_number_again 12 bytes all _ (omega (arith, some))
     (signed_number_again 16 bytes all rest (omega (arith, some)) e))))
 
-entries_again : (n : ℕ) (bytes : List ℕ) → AreBytes bytes → length bytes ≡ 20 * n → flat_map entry_text (entries_in n bytes) ≡ bytes
+entries_again : (n : ℕ) (bytes : List ℕ) → AreBytes bytes → length bytes ≡ 20 * n → flat_map entry_text (entries_in entry_size n bytes) ≡ bytes
 entries_again zero [] all whole = refl
 entries_again zero (b ∷ bytes) all whole = absurd (omega (arith, whole))
 entries_again (suc n) bytes all whole =
@@ -43,11 +43,11 @@ entry_read bytes all some = record {
   bottom = signed_fits (number_at bytes 16 4) (number_small 16 bytes all (omega (arith, some)));
 }
 
-entries_read : (n : ℕ) (bytes : List ℕ) → AreBytes bytes → length bytes ≡ 20 * n → All IsEntry (entries_in n bytes)
+entries_read : (n : ℕ) (bytes : List ℕ) → AreBytes bytes → length bytes ≡ 20 * n → All IsEntry (entries_in entry_size n bytes)
 entries_read zero bytes all whole = All-nil IsEntry
 entries_read (suc n) bytes all whole =
     let len = length-drop 20 bytes in
-    All-cons IsEntry (first_entry bytes) (entries_in n (drop 20 bytes)) (entry_read bytes all (omega (arith, whole)))
+    All-cons IsEntry (first_entry bytes) (entries_in entry_size n (drop 20 bytes)) (entry_read bytes all (omega (arith, whole)))
     (entries_read n (drop 20 bytes) (All-drop (λ byte. byte < 2 ^ 8) 20 bytes all) (omega (arith, whole, len)))
 
 -- a fault is no certificate
@@ -95,18 +95,18 @@ pub record IsRead (bytes : List ℕ) (c : CertificateValue) : Type 0 where
   pub marked : number_at bytes 0 4 ≡ mark
   pub head : 40 ≤ length bytes
   pub bounded : is_bounded bytes ≡ true
-  pub whole : length bytes ≡ whole_size bytes
-  pub value : value_in bytes ≡ c
+  pub whole : length bytes ≡ whole_size entry_size bytes
+  pub value : value_in entry_size bytes ≡ c
 
 is_read : (bytes : List ℕ) (c : CertificateValue) → read_certificate bytes ≡ Ok c → IsRead bytes c
 is_read bytes c e =
-    let p = passed (nat_lt (length bytes) 4) (number_at bytes 0 4 == mark) (nat_lt (length bytes) 40) (is_bounded bytes) (read_whole bytes) c e in
-    let q = ended (nat_lt (length bytes) (whole_size bytes)) (nat_lt (whole_size bytes) (length bytes)) (value_in bytes) c p.3 in
+    let p = passed (nat_lt (length bytes) 4) (number_at bytes 0 4 == mark) (nat_lt (length bytes) 40) (is_bounded bytes) (read_whole entry_size bytes) c e in
+    let q = ended (nat_lt (length bytes) (whole_size entry_size bytes)) (nat_lt (whole_size entry_size bytes) (length bytes)) (value_in entry_size bytes) c p.3 in
     record {
       marked = eqb-true _ _ p.0;
       head = ltb-false (length bytes) 40 p.1;
       bounded = p.2;
-      whole = between (length bytes) (whole_size bytes) q.0 q.1;
+      whole = between (length bytes) (whole_size entry_size bytes) q.0 q.1;
       value = q.2;
     }
 
@@ -130,13 +130,13 @@ module _ (bytes : List ℕ) (c : CertificateValue) (all : AreBytes bytes) (h : I
       (number_again 32 bytes all _ (omega (arith, head))
       (number_again 36 bytes all rest (omega (arith, head)) e)))))))))
 
-  pub value_text : certificate_text (value_in bytes) ≡ bytes
+  pub value_text : certificate_text (value_in entry_size bytes) ≡ bytes
   value_text =
-      ap (λ (n : ℕ). text_with (number_at bytes 4 4) (number_at bytes 8 4) (number_at bytes 12 8) (needs_in bytes) n (flat_map entry_text (value_in bytes).entries))
-      (length-entries_in (count_in bytes) (drop 40 bytes))
+      ap (λ (n : ℕ). text_with (number_at bytes 4 4) (number_at bytes 8 4) (number_at bytes 12 8) (needs_in bytes) n (flat_map entry_text (value_in entry_size bytes).entries))
+      (length-entries_in entry_size (count_in bytes) (drop 40 bytes))
       ∙ front_again _ (entries_again (count_in bytes) (drop 40 bytes) (All-drop (λ byte. byte < 2 ^ 8) 40 bytes all) behind)
 
-  value_is_certificate : IsCertificate (value_in bytes)
+  value_is_certificate : IsCertificate (value_in entry_size bytes)
   value_is_certificate =
       let head = h.head in
       let count = and_parts (is_surface_side (number_at bytes 4 4) && is_surface_side (number_at bytes 8 4) && are_bounded_needs (needs_in bytes)) (nat_le (count_in bytes) entry_limit) h.bounded in
@@ -153,7 +153,7 @@ module _ (bytes : List ℕ) (c : CertificateValue) (all : AreBytes bytes) (h : I
         slots = leb-true _ _ depth.1;
         edges = leb-true _ _ edges.1;
         pieces = leb-true _ _ pieces.1;
-        few = subst (λ (n : ℕ). n ≤ entry_limit) (sym (length-entries_in (count_in bytes) (drop 40 bytes))) (leb-true _ _ count.1);
+        few = subst (λ (n : ℕ). n ≤ entry_limit) (sym (length-entries_in entry_size (count_in bytes) (drop 40 bytes))) (leb-true _ _ count.1);
         entries = entries_read (count_in bytes) (drop 40 bytes) (All-drop (λ byte. byte < 2 ^ 8) 40 bytes all) behind;
       }
 

@@ -12,7 +12,7 @@ use Rattle.draw_ops.specs.declared.fault.Fault.TheVariants.{BadBound, NotCertifi
 use Rattle.point_views.specs.Numbers.{number_at}
 use Rattle.dc_stack.specs.Drawing.{edge_limit}
 use Rattle.dc_stack.specs.Path.{piece_limit}
-use Rattle.preflight_cert.specs.CertificateReading.{CertificateValue, are_bounded_needs, count_in, entries_in, entry_limit, first_entry, is_bounded, mark, needs_in, read_certificate, value_in, whole_size}
+use Rattle.preflight_cert.specs.CertificateReading.{CertificateValue, are_bounded_needs, count_in, entries_in, entry_limit, entry_size, first_entry, is_bounded, mark, needs_in, read_certificate, value_in, whole_size}
 use Rattle.preflight_cert.specs.CertificateText.{certificate_text, entry_text, number_text}
 use Rattle.preflight_cert.specs.TextLaws.{IsCertificate, IsEntry}
 use Rattle.preflight_cert.specs.declared.entry.Entry.{Entry}
@@ -42,7 +42,7 @@ entry_back entry rest h =
     let b = signed_back entry.bounds.b rest h.bottom in
     same_entry _ entry.number _ entry.bounds.l _ entry.bounds.t _ entry.bounds.r _ entry.bounds.b n l t r b
 
-entries_back : (entries : List Entry) → All IsEntry entries → entries_in (length entries) (flat_map entry_text entries) ≡ entries
+entries_back : (entries : List Entry) → All IsEntry entries → entries_in entry_size (length entries) (flat_map entry_text entries) ≡ entries
 entries_back [] all = refl
 entries_back (entry ∷ entries) all =
     same_list (entry_back entry (flat_map entry_text entries) (All-head IsEntry entry entries all)) (entries_back entries (All-tail IsEntry entry entries all))
@@ -88,8 +88,8 @@ module _ (c : CertificateValue) (h : IsCertificate c) where
   count_back : count_in (certificate_text c) ≡ length c.entries
   count_back = let one = h.few in let two = limits_small.2 in omega (arith, one, two)
 
-  entries_are : entries_in (count_in (certificate_text c)) (drop 40 (certificate_text c)) ≡ c.entries
-  entries_are = ap (λ (k : ℕ). entries_in k (flat_map entry_text c.entries)) count_back ∙ entries_back c.entries h.entries
+  entries_are : entries_in entry_size (count_in (certificate_text c)) (drop 40 (certificate_text c)) ≡ c.entries
+  entries_are = ap (λ (k : ℕ). entries_in entry_size k (flat_map entry_text c.entries)) count_back ∙ entries_back c.entries h.entries
 
   needs_back : needs_in (certificate_text c) ≡ c.needs
   needs_back = rw (depth_back, slots_back, edges_back, pieces_back) refl
@@ -105,10 +105,10 @@ module _ (c : CertificateValue) (h : IsCertificate c) where
       (and_from _ (nat_le (length c.entries) entry_limit) (and_from _ (are_bounded_needs c.needs) (and_from (is_surface_side c.max_width) (is_surface_side c.max_height)
       ((tests_are_limits.surface_side c.max_width).1 h.wide) ((tests_are_limits.surface_side c.max_height).1 h.high)) needs_bounded) (le-leb _ _ h.few))
 
-  value_back : value_in (certificate_text c) ≡ c
+  value_back : value_in entry_size (certificate_text c) ≡ c
   value_back = rw (wide_back, high_back, writes_back, needs_back, entries_are) refl
 
-  is_whole : length (certificate_text c) ≡ whole_size (certificate_text c)
+  is_whole : length (certificate_text c) ≡ whole_size entry_size (certificate_text c)
   is_whole = let len = length-text c in let n = count_back in omega (arith, len, n)
 
   pub reads_back : read_certificate (certificate_text c) ≡ Ok c
@@ -117,4 +117,4 @@ module _ (c : CertificateValue) (h : IsCertificate c) where
       let len = length-text c in
       let few : nat_lt (length (certificate_text c)) 4 ≡ false = le-ltb (length (certificate_text c)) 4 (omega (arith, len)) in
       let short : nat_lt (length (certificate_text c)) 40 ≡ false = le-ltb (length (certificate_text c)) 40 (omega (arith, len)) in
-      passes _ _ _ _ _ few refl short bounded_back ∙ ends_with_entries (certificate_text c) is_whole ∙ ap (λ (v : CertificateValue). Ok v) value_back
+      passes _ _ _ _ _ few refl short bounded_back ∙ ends_with_entries entry_size (certificate_text c) is_whole ∙ ap (λ (v : CertificateValue). Ok v) value_back

@@ -1,5 +1,5 @@
 -- The layers of a drawing write no more pixels than a box that has its points meets.
-use Rattle.std.proofs.Common.{◌≡◌, ℕ, zero, suc, ◌*◌, ◌≤◌, pos, ◌≤ℤ◌, ◌<ℤ◌, Bool, true, false, ◌&&◌, List, [], ◌∷◌, is_some, refl, sym, subst, arith}
+use Rattle.std.proofs.Common.{◌≡◌, ℕ, zero, suc, ◌*◌, ◌≤◌, pos, ◌≤ℤ◌, ◌<ℤ◌, Bool, true, false, ◌&&◌, List, [], ◌∷◌, ◌++◌, is_some, refl, sym, subst, arith}
 use Rattle.std.specs.List.{All}
 use Rattle.std.proofs.Math.Nat.{mul-le-mul}
 use Rattle.std.proofs.lemmas.Bool.{and_parts, and_from}
@@ -19,19 +19,20 @@ use Rattle.dc_stack.specs.Drawing.{Drawing, MarkValue, Tools, blit_between, dot,
 use Rattle.dc_stack.specs.Figures.{Figure, points_of_figures}
 use Rattle.dc_stack.specs.declared.draw.Painting.{Painting}
 use Rattle.dc_stack.specs.declared.draw.Painting.TheVariants.{Fill, Stroke, StrokeAndFill}
-use Rattle.preflight_cert.specs.Budget.{box_cells, layers_budget}
+use Rattle.preflight_cert.specs.Budget.{layer_cells, layers_budget}
 use Rattle.mapping.specs.CellLaws.{CellLaws}
 use Rattle.mapping.specs.Cells.{lies_from_to}
+use Rattle.mapping.specs.TestLaws.{int_le-from}
 use Rattle.preflight_cert.specs.DrawingBoxLaws.{DrawingBoxLaws, IsClosedShape, Reaches, shape_points}
 use Rattle.preflight_cert.specs.FigureLines.{all_closed}
-use Rattle.preflight_cert.specs.Layer.{Layer, figures_filled, figures_stroked, fills_of, filled_with, layers_of, outlines_of, plain_layers_of, stroked_with, strokes_of}
+use Rattle.preflight_cert.specs.Layer.{Layer, figures_filled, figures_stroked, fills_of, filled_with, layers_of, plain_layers_of, stroked_with, strokes_of}
 use Rattle.span_fill.specs.LineBoxes.{LineBoxLaws}
 use Rattle.preflight_cert.specs.Paint.{paint_at}
 use Rattle.preflight_cert.specs.Shape.{Shape, in_shape}
+use Rattle.preflight_cert.specs.StrokedOutline.{Outline, along, outline_points, round}
 use Rattle.preflight_cert.specs.Writes.{writes_of_layer, writes_of_layers, writes_pixel}
 use Rattle.preflight_cert.proofs.OutlineLemmas.{closed_all, closed_points}
 use Rattle.preflight_cert.proofs.ShapeLemmas.{shape_reaches}
-use Rattle.preflight_cert.proofs.TestLemmas.{int_le-from}
 
 -- a box has the points of a shape that isn't the inside of open figures
 pub record IsShapeIn (box : Rect) (shape : Shape) : Type 0 where
@@ -44,9 +45,9 @@ IsLayerIn box layer = IsShapeIn box layer.shape
 
 -- a box that has the points of a mark has those of each of its layers
 module _ (box : Rect) (tools : Tools) where
-  stroked_in : (pen : Pen) (shape : Shape) → IsShapeIn box shape → All (IsLayerIn box) (stroked_with pen shape tools)
-  stroked_in Null shape h = All-nil (IsLayerIn box)
-  stroked_in (Solid colour) shape h = All-cons (IsLayerIn box) _ [] h (All-nil (IsLayerIn box))
+  stroked_in : (pen : Pen) (outline : Outline) → All (HasPoint box) (outline_points outline) → All (IsLayerIn box) (stroked_with pen outline tools)
+  stroked_in Null outline all = All-nil (IsLayerIn box)
+  stroked_in (Solid colour) outline all = All-cons (IsLayerIn box) _ [] (record { closed = tt; points = all }) (All-nil (IsLayerIn box))
 
   filled_in : (brush : BrushValue) (shape : Shape) → IsShapeIn box shape → All (IsLayerIn box) (filled_with brush shape tools)
   filled_in null_brush shape h = All-nil (IsLayerIn box)
@@ -65,8 +66,8 @@ module _ (box : Rect) (tools : Tools) where
 
   figures_stroked_in : (painting : Painting) (figures : List Figure) → All (HasPoint box) (points_of_figures figures) → All (IsLayerIn box) (figures_stroked painting figures tools)
   figures_stroked_in Fill figures all = All-nil (IsLayerIn box)
-  figures_stroked_in Stroke figures all = stroked_in tools.pen _ (record { closed = tt; points = all })
-  figures_stroked_in StrokeAndFill figures all = stroked_in tools.pen _ (record { closed = tt; points = points_closed figures all })
+  figures_stroked_in Stroke figures all = stroked_in tools.pen (along figures) all
+  figures_stroked_in StrokeAndFill figures all = stroked_in tools.pen (along (all_closed figures)) (points_closed figures all)
 
   fills_in : (mark : MarkValue) → All (HasPoint box) (mark_points mark) → All (IsLayerIn box) (fills_of mark tools)
   fills_in (dot point colour) all = All-nil (IsLayerIn box)
@@ -74,11 +75,11 @@ module _ (box : Rect) (tools : Tools) where
   fills_in (rectangle_between p q edges) all = filled_in tools.brush _ (record { closed = tt; points = all })
   fills_in (blit_between p q table source) all = All-nil (IsLayerIn box)
 
-  outlines_in : (mark : MarkValue) → All (HasPoint box) (mark_points mark) → All (IsLayerIn box) (outlines_of mark tools)
-  outlines_in (dot point colour) all = All-nil (IsLayerIn box)
-  outlines_in (figures_painted painting figures) all = figures_stroked_in painting figures all
-  outlines_in (rectangle_between p q edges) all = stroked_in tools.pen _ (record { closed = tt; points = all })
-  outlines_in (blit_between p q table source) all = All-nil (IsLayerIn box)
+  strokes_in : (mark : MarkValue) → All (HasPoint box) (mark_points mark) → All (IsLayerIn box) (strokes_of mark tools)
+  strokes_in (dot point colour) all = All-nil (IsLayerIn box)
+  strokes_in (figures_painted painting figures) all = figures_stroked_in painting figures all
+  strokes_in (rectangle_between p q edges) all = stroked_in tools.pen (round p q edges) all
+  strokes_in (blit_between p q table source) all = All-nil (IsLayerIn box)
 
   plain_in : (mark : MarkValue) → All (HasPoint box) (mark_points mark) → All (IsLayerIn box) (plain_layers_of mark tools)
   plain_in (dot point colour) all = All-cons (IsLayerIn box) _ [] (record { closed = tt; points = all }) (All-nil (IsLayerIn box))
@@ -89,9 +90,10 @@ module _ (box : Rect) (tools : Tools) where
 -- the box has the points of all layers of the drawing
 pub layers_in : (box : Rect) (drawing : Drawing) → All (HasPoint box) (drawing_points drawing) → All (IsLayerIn box) (layers_of drawing)
 layers_in box drawing all =
-    All-append (IsLayerIn box) (fills_of drawing.mark drawing.tools) (strokes_of drawing.mark drawing.tools) (fills_in box drawing.tools drawing.mark all)
-    (All-append (IsLayerIn box) (plain_layers_of drawing.mark drawing.tools) (outlines_of drawing.mark drawing.tools)
-    (plain_in box drawing.tools drawing.mark all) (outlines_in box drawing.tools drawing.mark all))
+    All-append (IsLayerIn box) (fills_of drawing.mark drawing.tools) (plain_layers_of drawing.mark drawing.tools ++ strokes_of drawing.mark drawing.tools)
+    (fills_in box drawing.tools drawing.mark all)
+    (All-append (IsLayerIn box) (plain_layers_of drawing.mark drawing.tools) (strokes_of drawing.mark drawing.tools)
+    (plain_in box drawing.tools drawing.mark all) (strokes_in box drawing.tools drawing.mark all))
 
 -- where no pixel passes a test, none is counted
 no_index : (k n : ℕ) → count_indexes (λ i. false) k n ≡ 0
@@ -125,7 +127,7 @@ module _ (cell_laws : CellLaws) (boxes : LineBoxLaws) (placing : PlacingLaws) (b
         and_from _ _ (int_le-from (placed box.t s.height s.frame_height) (pos y) p.top) (int_le-from (pos y) (placed box.b s.height s.frame_height) p.bottom),
       )
 
-  layer_few : (layer : Layer) → IsLayerIn box layer → writes_of_layer layer s 0 s.height ≤ box_cells box s
+  layer_few : (layer : Layer) → IsLayerIn box layer → writes_of_layer layer s 0 s.height ≤ layer_cells layer box s
   layer_few layer h =
       by_lt_z box.r box.l
       (λ (g : box.r <ℤ box.l).
@@ -148,15 +150,15 @@ module _ (cell_laws : CellLaws) (boxes : LineBoxLaws) (placing : PlacingLaws) (b
 
 -- a box meets no fewer pixels of a larger surface
 module _ (cell_laws : CellLaws) (box : Rect) (smaller larger : Surface) (shows : ShowsFrame larger) (no_larger : IsNoLarger smaller larger) where
-  cells_grow : box_cells box smaller ≤ box_cells box larger
-  cells_grow =
+  cells_grow : (layer : Layer) → layer_cells layer box smaller ≤ layer_cells layer box larger
+  cells_grow layer =
       let columns = cell_laws.grows box.l box.r smaller.width larger.width larger.frame_width shows.wide no_larger.width in
       let rows = cell_laws.grows box.t box.b smaller.height larger.height larger.frame_height shows.high no_larger.height in
       rw (no_larger.frame_width, no_larger.frame_height) (mul-le-mul columns rows)
 
   budget_grows : (layers : List Layer) → layers_budget layers box smaller ≤ layers_budget layers box larger
   budget_grows [] = omega arith
-  budget_grows (layer ∷ layers) = let first = cells_grow in let rest = budget_grows layers in omega (arith, first, rest)
+  budget_grows (layer ∷ layers) = let first = cells_grow layer in let rest = budget_grows layers in omega (arith, first, rest)
 
 -- a smaller surface shows the same frame
 shows_smaller : (smaller larger : Surface) → ShowsFrame larger → IsNoLarger smaller larger → ShowsFrame smaller

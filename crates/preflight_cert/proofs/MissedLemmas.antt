@@ -1,11 +1,10 @@
 -- Rows on which a drawing has nothing stay as they are.
-use Rattle.std.proofs.Common.{◌≡◌, ℕ, zero, suc, ◌+◌, ◌*◌, ◌/◌, ◌%◌, ◌<◌, ◌≤◌, ◌⊎◌, inl, inr, pos, ◌<ℤ◌, ◌≤ℤ◌, Bool, true, false, cond, List, [], ◌∷◌, length, refl, sym, ap, subst, ◌∙◌, arith}
+use Rattle.std.proofs.Common.{◌≡◌, ℕ, zero, suc, ◌+◌, ◌*◌, ◌/◌, ◌%◌, ◌<◌, ◌≤◌, inl, inr, Bool, false, cond, List, [], ◌∷◌, length, refl, ap, ◌∙◌, arith}
 use Rattle.std.proofs.Math.Nat.{div-lt_iff_lt-mul}
 use Rattle.std.proofs.lemmas.Bool.{false_from_ne_true}
 use Rattle.std.proofs.lemmas.Int.{ints}
 use Rattle.std.proofs.lemmas.List.Elements.{All-head, All-tail}
 use Rattle.std.specs.List.{All}
-use Rattle.mapping.specs.Boxes.{HasPoint}
 use Rattle.mapping.specs.CellLaws.{CellLaws}
 use Rattle.mapping.specs.Image.{Image}
 use Rattle.mapping.specs.IndexLaws.{count_indexes_none, map_indexed_none}
@@ -15,13 +14,12 @@ use Rattle.mapping.specs.Surface.{Surface}
 use Rattle.mapping.specs.declared.geometry.Colour.{Colour}
 use Rattle.mapping.specs.declared.geometry.Rect.{Rect}
 use Rattle.dc_stack.specs.Clip.{placed_box}
-use Rattle.dc_stack.specs.Drawing.{Drawing, drawing_points}
 use Rattle.span_fill.specs.LineBoxes.{LineBoxLaws}
 use Rattle.preflight_cert.specs.Apply.{apply, apply_all, ink_of}
 use Rattle.preflight_cert.specs.Layer.{Layer, layers_of}
 use Rattle.preflight_cert.specs.MissedRowsLaws.{LiesBeside, MissedRowsLaws}
 use Rattle.preflight_cert.specs.RowsLaws.{IsWholeImage}
-use Rattle.preflight_cert.specs.Writes.{writes_of_layer, writes_of_layers, writes_pixel}
+use Rattle.preflight_cert.specs.Writes.{writes_of_layers, writes_pixel}
 use Rattle.preflight_cert.proofs.LayerLemmas.{IsLayerIn, layers_in, written_reaches}
 
 module _ (cell_laws : CellLaws) (boxes : LineBoxLaws) (placing : PlacingLaws) (box : Rect) (s : Surface) (shows : ShowsFrame s) (first rows : ℕ) (beside : LiesBeside (placed_box s box) first rows) where

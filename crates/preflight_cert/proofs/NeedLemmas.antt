@@ -1,5 +1,5 @@
 -- Room for what an operation needs is enough for it.
-use Rattle.std.proofs.Common.{◌≡◌, List, [], ◌∷◌, None, inl, inr, arith}
+use Rattle.std.proofs.Common.{List, [], ◌∷◌, inl, inr, arith}
 use Rattle.draw_ops.specs.Content.{StepValue}
 use Rattle.draw_ops.specs.Operation.{Operation}
 use Rattle.object_tables.specs.Table.{CreatedIndexIsBelowBound}

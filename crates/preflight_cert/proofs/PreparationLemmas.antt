@@ -17,7 +17,7 @@ use Rattle.meta_headers.specs.Headers.{OpenedValue}
 use Rattle.meta_headers.specs.Opening.{surface_for}
 use Rattle.preflight_cert.specs.After.{file_needs}
 use Rattle.preflight_cert.specs.Answer.{Fits, bound_of, file_budget}
-use Rattle.preflight_cert.specs.Budget.{box_cells, layers_budget}
+use Rattle.preflight_cert.specs.Budget.{layer_cells, layers_budget}
 use Rattle.preflight_cert.specs.CertificateReading.{CertificateValue}
 use Rattle.preflight_cert.specs.Drawings.{NumberedDrawing, drawings_of}
 use Rattle.preflight_cert.specs.Entries.{AreCovered, budget_of}
@@ -74,24 +74,25 @@ product_grows a b c d h k =
     let second : c * b ≤ c * d = mul-le-mul_left c k in omega (arith, first, second)
 
 module _ (laws : CellLaws) (s : Surface) (frame : ShowsFrame s) where
-  cells_grow : (box least : Rect) (points : List Point) → IsLeastBox least points → All (HasPoint box) points → box_cells least s ≤ box_cells box s
-  cells_grow box least [] is all = rw is (omega arith)
-  cells_grow box least (point ∷ points) is all =
+  cells_grow : (layer : Layer) (box least : Rect) (points : List Point) → IsLeastBox least points → All (HasPoint box) points → layer_cells layer least s ≤ layer_cells layer box s
+  cells_grow layer box least [] is all = rw is (omega arith)
+  cells_grow layer box least (point ∷ points) is all =
       let c = corners box least (point ∷ points) is all in
       product_grows (cells least.l least.r s.width s.frame_width) (cells least.t least.b s.height s.frame_height) (cells box.l box.r s.width s.frame_width) (cells box.t box.b s.height s.frame_height)
       (laws.widens box.l least.l box.r least.r s.width s.frame_width frame.wide c.left c.right)
       (laws.widens box.t least.t box.b least.b s.height s.frame_height frame.high c.top c.bottom)
 
-  layers_grow : (layers : List Layer) (box least : Rect) → box_cells least s ≤ box_cells box s → layers_budget layers least s ≤ layers_budget layers box s
-  layers_grow [] box least h = omega arith
-  layers_grow (layer ∷ layers) box least h = let rest = layers_grow layers box least h in omega (arith, h, rest)
+  layers_grow : (layers : List Layer) (box least : Rect) (points : List Point) → IsLeastBox least points → All (HasPoint box) points → layers_budget layers least s ≤ layers_budget layers box s
+  layers_grow [] box least points is all = omega arith
+  layers_grow (layer ∷ layers) box least points is all =
+      let first = cells_grow layer box least points is all in let rest = layers_grow layers box least points is all in omega (arith, first, rest)
 
   budget_grows : (drawings : List NumberedDrawing) (entries others : List Entry) → AreLeast drawings entries → AreCovered drawings others → budget_of drawings entries s ≤ budget_of drawings others s
   budget_grows [] entries others least covered = omega arith
   budget_grows (one ∷ later) [] others least covered = omega arith
   budget_grows (one ∷ later) (entry ∷ entries) [] least covered = absurd covered
   budget_grows (one ∷ later) (entry ∷ entries) (second ∷ others) least covered =
-      let first = layers_grow (layers_of one.drawing) second.bounds entry.bounds (cells_grow second.bounds entry.bounds (drawing_points one.drawing) least.0.box covered.0.box) in
+      let first = layers_grow (layers_of one.drawing) second.bounds entry.bounds (drawing_points one.drawing) least.0.box covered.0.box in
       let rest = budget_grows later entries others least.1 covered.1 in omega (arith, first, rest)
 
 -- the bound that is asked for

@@ -13,7 +13,7 @@ use Rattle.meta_headers.specs.Opening.{opened, surface_for}
 use Rattle.dc_stack.specs.State.{start_of}
 use Rattle.preflight_cert.specs.Stop.{Stop, stop_of}
 use Rattle.preflight_cert.specs.Writes.{writes_after}
-use Rattle.preflight_cert.specs.Run.{Outcome, shown, refused, Run, RunEndsInOneWay, RefusedOverAnyImage, ShowsImage, RunWrites, WritesAreOne}
+use Rattle.preflight_cert.specs.Run.{Outcome, shown, refused, Run, RunEndsInOneWay, RefusedOverAnyImage, WritesAreOne}
 
 -- opening answers one thing
 pub opens_or_not : (answer : Result OpenedValue Fault) (headers : OpenedValue) (fault : Fault) → answer ≡ Ok headers → answer ≡ Err fault → ⊥

@@ -23,10 +23,11 @@ use Rattle.preflight_cert.specs.FigureLines.{lines_along, placed_figures}
 use Rattle.span_fill.specs.LineBoxes.{HasLine, IsBalanced, LineBoxLaws}
 use Rattle.preflight_cert.specs.Outlines.{closed_lines}
 use Rattle.mapping.specs.PixelBoxes.{BoxHasPixel}
+use Rattle.mapping.specs.TestLaws.{int_le-true, int_lt-true}
 use Rattle.preflight_cert.specs.Rectangles.{corner_pixels, has_inside, raised, rectangle_on}
-use Rattle.preflight_cert.specs.Shape.{Shape, along_figures, fill_rule_of, in_shape, inside_figures, inside_rectangle, pixel_under, round_rectangle}
+use Rattle.preflight_cert.specs.Shape.{Shape, fill_rule_of, in_shape, inside_figures, inside_rectangle, pixel_under, stroke_of}
+use Rattle.preflight_cert.specs.StrokedOutline.{Outline, along, outline_lines, outline_points, round}
 use Rattle.preflight_cert.proofs.OutlineLemmas.{BothEnds, ends_along, ends_closed, figures_balanced}
-use Rattle.preflight_cert.proofs.TestLemmas.{int_le-true, int_lt-true}
 
 -- a placed point of a box: the box has something, and where it lands it has the point
 record IsIn (box : Rect) (s : Surface) (point : Point) : Type 0 where
@@ -145,6 +146,16 @@ module _ (box : Rect) (s : Surface) where
       (corner_in (rectangle.r -ℤ pos 1) (rectangle.b -ℤ pos 1) wide high r_least b_least r_most b_most)
       (corner_in rectangle.l (rectangle.b -ℤ pos 1) wide high l b_least l_most b_most)
 
+  -- the ends of the lines round it
+  round_in : (rectangle : Rect) (inside : Bool) → box.l ≤ℤ box.r → box.t ≤ℤ box.b → IsRectangleIn rectangle → has_inside rectangle ≡ inside →
+      All (AreIn box s) (cond inside (closed_lines (corner_pixels rectangle)) [])
+  round_in rectangle false wide high h e = All-nil (AreIn box s)
+  round_in rectangle true wide high h e =
+      let parts = and_parts (int_lt rectangle.l rectangle.r) (int_lt rectangle.t rectangle.b) e in
+      let a = int_lt-true rectangle.l rectangle.r parts.0 in
+      let b = int_lt-true rectangle.t rectangle.b parts.1 in
+      ends_closed (IsIn box s) (corner_pixels rectangle) (corners_in rectangle wide high h a b)
+
 -- nothing is inside of no lines
 nothing_inside : (rule : FillRule) (x y : ℕ) → in_fill rule [] x y ≡ false
 nothing_inside EvenOdd x y = refl
@@ -169,21 +180,22 @@ module _ (boxes : LineBoxLaws) (box : Rect) (s : Surface) where
       reached line lines x y all
       (boxes.fill rule (placed_box s box) (line ∷ lines) x y balanced (All-weaker (AreIn box s) (HasLine (placed_box s box)) (has_line box s) (line ∷ lines) all) t)
 
-  -- the lines round a rectangle
-  outline_reaches : (rectangle : Rect) (inside : Bool) (x y : ℕ) → box.l ≤ℤ box.r → box.t ≤ℤ box.b → IsRectangleIn box s rectangle → has_inside rectangle ≡ inside →
-      in_stroke (cond inside (closed_lines (corner_pixels rectangle)) []) x y ≡ true → Reaches box s x y
-  outline_reaches rectangle false x y wide high h e t = absurd (true≢false (sym t))
-  outline_reaches rectangle true x y wide high h e t =
-      let parts = and_parts (int_lt rectangle.l rectangle.r) (int_lt rectangle.t rectangle.b) e in
-      let a = int_lt-true rectangle.l rectangle.r parts.0 in
-      let b = int_lt-true rectangle.t rectangle.b parts.1 in
-      stroke_reaches (closed_lines (corner_pixels rectangle)) x y
-      (ends_closed (IsIn box s) (corner_pixels rectangle) (corners_in box s rectangle wide high h a b)) t
-
 -- pixels of each shape
 module _ (placing : PlacingLaws) (boxes : LineBoxLaws) (box : Rect) (s : Surface) (shows : ShowsFrame s) where
   abbrev lands : (p : Point) → HasPoint box p → IsIn box s (placed_point p s)
   lands p h = point_lands placing s shows box p h
+
+  abbrev between : (p q : Point) (edges : RectangleEdges) → All (HasPoint box) (p ∷ q ∷ []) → IsRectangleIn box s (rectangle_on s p q edges)
+  between p q edges all =
+      between_in box s (placed_point p s) (placed_point q s) edges
+      (lands p (All-head (HasPoint box) p (q ∷ []) all)) (lands q (All-head (HasPoint box) q [] (All-tail (HasPoint box) p (q ∷ []) all)))
+
+  -- the lines of an outline whose points the box has lie where it lands
+  outline_in : (outline : Outline) → All (HasPoint box) (outline_points outline) → All (AreIn box s) (outline_lines outline s)
+  outline_in (along figures) all = ends_along s (HasPoint box) (IsIn box s) lands figures all
+  outline_in (round p q edges) all =
+      let a = lands p (All-head (HasPoint box) p (q ∷ []) all) in
+      round_in box s (rectangle_on s p q edges) (has_inside (rectangle_on s p q edges)) a.wide a.high (between p q edges all) refl
 
   pub shape_reaches : (shape : Shape) (x y : ℕ) → IsClosedShape shape → All (HasPoint box) (shape_points shape) → in_shape shape s x y ≡ true → Reaches box s x y
   shape_reaches (pixel_under p) x y closed all t = dot_reaches box s (placed_point p s) x y (lands p (All-head (HasPoint box) p [] all)) t
@@ -192,12 +204,5 @@ module _ (placing : PlacingLaws) (boxes : LineBoxLaws) (box : Rect) (s : Surface
       (ends_along s (HasPoint box) (IsIn box s) lands figures all) t
   shape_reaches (inside_rectangle p q edges) x y closed all t =
       let a = lands p (All-head (HasPoint box) p (q ∷ []) all) in
-      let b = lands q (All-head (HasPoint box) q [] (All-tail (HasPoint box) p (q ∷ []) all)) in
-      inside_reaches box s (rectangle_on s p q edges) x y a.wide a.high (between_in box s (placed_point p s) (placed_point q s) edges a b) t
-  shape_reaches (along_figures figures) x y closed all t =
-      stroke_reaches boxes box s (lines_along (placed_figures s figures)) x y (ends_along s (HasPoint box) (IsIn box s) lands figures all) t
-  shape_reaches (round_rectangle p q edges) x y closed all t =
-      let a = lands p (All-head (HasPoint box) p (q ∷ []) all) in
-      let b = lands q (All-head (HasPoint box) q [] (All-tail (HasPoint box) p (q ∷ []) all)) in
-      outline_reaches boxes box s (rectangle_on s p q edges) (has_inside (rectangle_on s p q edges)) x y a.wide a.high
-      (between_in box s (placed_point p s) (placed_point q s) edges a b) refl t
+      inside_reaches box s (rectangle_on s p q edges) x y a.wide a.high (between p q edges all) t
+  shape_reaches (stroke_of outline) x y closed all t = stroke_reaches boxes box s (outline_lines outline s) x y (outline_in outline all) t

@@ -5,7 +5,7 @@ use Rattle.mapping.specs.Limits.{place_limit, plane_limit}
 use Rattle.mapping.specs.PageMap.{unscaled_map}
 use Rattle.mapping.specs.Surface.{Surface}
 use Rattle.mapping.specs.declared.geometry.Point.{Point}
-use Rattle.draw_ops.specs.Content.{Content, StepValue}
+use Rattle.draw_ops.specs.Content.{StepValue}
 use Rattle.draw_ops.specs.NoteCounts.{no_notes}
 use Rattle.draw_ops.specs.Operation.{Operation, line_to, no_effect, pixel}
 use Rattle.draw_ops.specs.declared.record_fault.RecordFault.{RecordFault}

@@ -1,5 +1,5 @@
 -- The bytes of a certificate, and what they say.
-use Rattle.std.specs.Prelude.{ℕ, zero, suc, ◌+◌, ◌*◌, Bool, ◌&&◌, ◌||◌, ◌==◌, not, nat_le, nat_lt, if◌then◌else◌, List, [], ◌∷◌, length, drop, codes, Result, Ok, Err}
+use Rattle.std.specs.Prelude.{◌<◌, ◌≤◌, ℕ, zero, suc, ◌+◌, ◌*◌, ◌^◌, Bool, ◌&&◌, ◌||◌, ◌==◌, not, nat_le, nat_lt, if◌then◌else◌, List, [], ◌∷◌, length, drop, codes, Result, Ok, Err}
 use Rattle.mapping.specs.Limits.{is_surface_side}
 use Rattle.point_views.specs.Numbers.{i32_at, number_at}
 use Rattle.draw_ops.specs.declared.fault.Fault.{Fault}
@@ -34,9 +34,14 @@ entry_limit = 1048576
 abbrev pub head_size : ℕ
 head_size = 40
 
--- how many bytes an entry takes
+-- how many bytes an entry takes: a number and a box
 abbrev pub entry_size : ℕ
 entry_size = 20
+
+-- an entry of so many bytes has at least those, and so few that sizes of certificates can be counted
+pub record IsEntrySize (size : ℕ) : Type 0 where
+  pub least : entry_size ≤ size
+  pub few : size < 2 ^ 16
 
 -- how many entries there are to be
 abbrev pub count_in : List ℕ → ℕ
@@ -58,10 +63,10 @@ first_entry bytes = record {
   bounds = record { l = i32_at bytes 4; t = i32_at bytes 8; r = i32_at bytes 12; b = i32_at bytes 16 };
 }
 
--- so many entries, one after another
-abbrev pub entries_in : ℕ → List ℕ → List Entry
-entries_in zero bytes = []
-entries_in (suc n) bytes = first_entry bytes ∷ entries_in n (drop entry_size bytes)
+-- so many entries, one after another, each of so many bytes
+abbrev pub entries_in : ℕ → ℕ → List ℕ → List Entry
+entries_in size zero bytes = []
+entries_in size (suc n) bytes = first_entry bytes ∷ entries_in size n (drop size bytes)
 
 -- needs are within their limits
 abbrev pub are_bounded_needs : Needs → Bool
@@ -75,29 +80,29 @@ is_bounded bytes =
     is_surface_side (number_at bytes 4 4) && is_surface_side (number_at bytes 8 4) && are_bounded_needs (needs_in bytes)
     && nat_le (count_in bytes) entry_limit
 
--- what the bytes of a whole certificate say
-abbrev pub value_in : List ℕ → CertificateValue
-value_in bytes = record {
+-- what the bytes of a whole certificate say, whose entries have this size
+abbrev pub value_in : ℕ → List ℕ → CertificateValue
+value_in size bytes = record {
   max_width = number_at bytes 4 4;
   max_height = number_at bytes 8 4;
   writes = number_at bytes 12 8;
   needs = needs_in bytes;
-  entries = entries_in (count_in bytes) (drop head_size bytes);
+  entries = entries_in size (count_in bytes) (drop head_size bytes);
 }
 
 -- how many bytes a certificate has with the entries that it tells
-abbrev pub whole_size : List ℕ → ℕ
-whole_size bytes = head_size + entry_size * count_in bytes
+abbrev pub whole_size : ℕ → List ℕ → ℕ
+whole_size size bytes = head_size + size * count_in bytes
 
 -- what the bytes say, if they end where the entries do
-abbrev pub read_whole : List ℕ → Result CertificateValue Fault
-read_whole bytes =
-    if nat_lt (length bytes) (whole_size bytes) then Err ShortCertificate
-    else (if nat_lt (whole_size bytes) (length bytes) then Err TrailingBytes else Ok (value_in bytes))
+abbrev pub read_whole : ℕ → List ℕ → Result CertificateValue Fault
+read_whole size bytes =
+    if nat_lt (length bytes) (whole_size size bytes) then Err ShortCertificate
+    else (if nat_lt (whole_size size bytes) (length bytes) then Err TrailingBytes else Ok (value_in size bytes))
 
 -- the first fault of a certificate's bytes, or what they say
 abbrev pub read_certificate : List ℕ → Result CertificateValue Fault
 read_certificate bytes =
     if nat_lt (length bytes) 4 || not (number_at bytes 0 4 == mark) then Err NotCertificate
     else (if nat_lt (length bytes) head_size then Err ShortCertificate
-    else (if not (is_bounded bytes) then Err BadBound else read_whole bytes))
+    else (if not (is_bounded bytes) then Err BadBound else read_whole entry_size bytes))

@@ -12,7 +12,8 @@ use Rattle.dc_stack.specs.Figures.{Figure, points_of_figures}
 use Rattle.preflight_cert.specs.Budget.{layers_budget}
 use Rattle.preflight_cert.specs.Layer.{layers_of}
 use Rattle.mapping.specs.PixelBoxes.{BoxHasPixel}
-use Rattle.preflight_cert.specs.Shape.{Shape, along_figures, in_shape, inside_figures, inside_rectangle, pixel_under, round_rectangle}
+use Rattle.preflight_cert.specs.Shape.{Shape, in_shape, inside_figures, inside_rectangle, pixel_under, stroke_of}
+use Rattle.preflight_cert.specs.StrokedOutline.{outline_points}
 use Rattle.preflight_cert.specs.Writes.{writes_of_layers}
 
 -- the points of the plane by which a shape is told
@@ -20,8 +21,7 @@ abbrev pub shape_points : Shape → List Point
 shape_points (pixel_under point) = point ∷ []
 shape_points (inside_figures mode figures) = points_of_figures figures
 shape_points (inside_rectangle p q edges) = p ∷ q ∷ []
-shape_points (along_figures figures) = points_of_figures figures
-shape_points (round_rectangle p q edges) = p ∷ q ∷ []
+shape_points (stroke_of outline) = outline_points outline
 
 -- a figure is closed
 abbrev pub IsClosedFigure : Figure → Type 0
@@ -32,8 +32,7 @@ abbrev pub IsClosedShape : Shape → Type 0
 IsClosedShape (pixel_under point) = Unit
 IsClosedShape (inside_figures mode figures) = All IsClosedFigure figures
 IsClosedShape (inside_rectangle p q edges) = Unit
-IsClosedShape (along_figures figures) = Unit
-IsClosedShape (round_rectangle p q edges) = Unit
+IsClosedShape (stroke_of outline) = Unit
 
 -- a box of the plane has a point, and where it lands it has the pixel
 pub record Reaches (box : Rect) (s : Surface) (x y : ℕ) : Type 0 where

@@ -1,14 +1,21 @@
 -- The drawings of a run, a list that knows no surface.
 use Rattle.std.specs.Prelude.{ℕ, List, [], ◌∷◌, Option, Some, None}
+use Rattle.std.specs.Option.{option_map}
 use Rattle.draw_ops.specs.Content.{StepValue}
 use Rattle.dc_stack.specs.Drawing.{Drawing, drawing_of}
+use Rattle.dc_stack.specs.MachineState.{MachineState, drawing_with}
 use Rattle.dc_stack.specs.Next.{next}
 use Rattle.dc_stack.specs.State.{State}
+use Rattle.dc_stack.specs.declared.draw.Draw.{Draw}
 
 -- a drawing, and the number of the record that draws it
 pub record NumberedDrawing : Type 0 where
   pub number : ℕ
   pub drawing : Drawing
+
+-- the drawing of what a step draws, if it draws, with the tools of the moment
+abbrev pub drawing_if_drawn : MachineState → Option Draw → Option Drawing
+drawing_if_drawn m draw = option_map (drawing_with m) draw
 
 -- the drawing of the record with this number, if there is one, and the later ones
 abbrev pub drawing_then : ℕ → Option Drawing → List NumberedDrawing → List NumberedDrawing

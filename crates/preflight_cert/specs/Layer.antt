@@ -16,7 +16,8 @@ use Rattle.raster_ops.specs.TernaryOps.{uses_pattern}
 use Rattle.preflight_cert.specs.Mixing.{Mixing, binary, copied, ternary}
 use Rattle.preflight_cert.specs.Paint.{Paint, brushed, solid}
 use Rattle.preflight_cert.specs.FigureLines.{all_closed}
-use Rattle.preflight_cert.specs.Shape.{Shape, along_figures, inside_figures, inside_rectangle, pixel_under, round_rectangle}
+use Rattle.preflight_cert.specs.Shape.{Shape, inside_figures, inside_rectangle, pixel_under, stroke_of}
+use Rattle.preflight_cert.specs.StrokedOutline.{Outline, along, round}
 
 -- which pixels, in which paint, joined how, within which clip
 pub record Layer : Type 0 where
@@ -29,10 +30,10 @@ pub record Layer : Type 0 where
 abbrev pub layer_now : Shape → Paint → Tools → Layer
 layer_now shape paint tools = record { shape = shape; paint = paint; mixing = binary tools.modes.raster_op; clip = tools.clip }
 
--- a layer in the pen's colour, or none by a null pen
-abbrev pub stroked_with : Pen → Shape → Tools → List Layer
-stroked_with Null shape tools = []
-stroked_with (Solid colour) shape tools = layer_now shape (solid colour) tools ∷ []
+-- a layer along an outline in the pen's colour, or none by a null pen
+abbrev pub stroked_with : Pen → Outline → Tools → List Layer
+stroked_with Null outline tools = []
+stroked_with (Solid colour) outline tools = layer_now (stroke_of outline) (solid colour) tools ∷ []
 
 -- what a brush paints, by the background of the moment
 abbrev pub brushed_now : BrushValue → Tools → Paint
@@ -46,8 +47,8 @@ filled_with (hatched_brush hatch colour) shape tools = layer_now shape (brushed_
 filled_with (tile_brush picture) shape tools = layer_now shape (brushed_now (tile_brush picture) tools) tools ∷ []
 
 -- a layer that a pen strokes: none where it draws nothing
-abbrev pub stroked : Shape → Tools → List Layer
-stroked shape tools = stroked_with tools.pen shape tools
+abbrev pub stroked : Outline → Tools → List Layer
+stroked outline tools = stroked_with tools.pen outline tools
 
 -- a layer that a brush fills: none where it paints nothing
 abbrev pub filled : Shape → Tools → List Layer
@@ -62,8 +63,8 @@ figures_filled StrokeAndFill figures tools = filled (inside_figures tools.modes.
 -- what of them is stroked: each is closed where it is filled, too
 abbrev pub figures_stroked : Painting → List Figure → Tools → List Layer
 figures_stroked Fill figures tools = []
-figures_stroked Stroke figures tools = stroked (along_figures figures) tools
-figures_stroked StrokeAndFill figures tools = stroked (along_figures (all_closed figures)) tools
+figures_stroked Stroke figures tools = stroked (along figures) tools
+figures_stroked StrokeAndFill figures tools = stroked (along (all_closed figures)) tools
 
 -- what of a mark is filled
 abbrev pub fills_of : MarkValue → Tools → List Layer
@@ -72,12 +73,12 @@ fills_of (figures_painted painting figures) tools = figures_filled painting figu
 fills_of (rectangle_between p q edges) tools = filled (inside_rectangle p q edges) tools
 fills_of (blit_between p q table source) tools = []
 
--- its outline, which a pen strokes: a dot and a blit have none
-abbrev pub outlines_of : MarkValue → Tools → List Layer
-outlines_of (dot point colour) tools = []
-outlines_of (figures_painted painting figures) tools = figures_stroked painting figures tools
-outlines_of (rectangle_between p q edges) tools = stroked (round_rectangle p q edges) tools
-outlines_of (blit_between p q table source) tools = []
+-- what of it a pen strokes
+abbrev pub strokes_of : MarkValue → Tools → List Layer
+strokes_of (dot point colour) tools = []
+strokes_of (figures_painted painting figures) tools = figures_stroked painting figures tools
+strokes_of (rectangle_between p q edges) tools = stroked (round p q edges) tools
+strokes_of (blit_between p q table source) tools = []
 
 -- what a blit paints: what the brush gives, where its operation depends on the pattern, and else a colour that it doesn't look at
 abbrev pub blit_paint : ℕ → Tools → Paint
@@ -88,20 +89,17 @@ abbrev pub blit_layer : Point → Point → ℕ → Option SourceValue → Tools
 blit_layer p q table source tools =
     record { shape = inside_rectangle p q HalfOpen; paint = blit_paint table tools; mixing = ternary table source p q; clip = tools.clip }
 
--- what has neither an inside nor an outline: a dot is a pixel in its own colour, whatever is there, and a blit a box
+-- what of it is plain, having neither an inside nor an outline: a dot is a pixel in its own colour, whatever is there, and a blit a box
 abbrev pub plain_layers_of : MarkValue → Tools → List Layer
 plain_layers_of (dot point colour) tools = record { shape = pixel_under point; paint = solid colour; mixing = copied; clip = tools.clip } ∷ []
 plain_layers_of (figures_painted painting figures) tools = []
 plain_layers_of (rectangle_between p q edges) tools = []
 plain_layers_of (blit_between p q table source) tools = blit_layer p q table source tools ∷ []
 
--- what of it is drawn above what is filled: a dot, a blit or an outline
-abbrev pub strokes_of : MarkValue → Tools → List Layer
-strokes_of mark tools = plain_layers_of mark tools ++ outlines_of mark tools
-
--- the layers of a drawing, the first drawn first: what is filled, and then what is stroked
+-- the layers of a drawing, the first drawn first: what is filled, what is plain, and then what is stroked
 abbrev pub layers_of : Drawing → List Layer
-layers_of drawing = fills_of drawing.mark drawing.tools ++ strokes_of drawing.mark drawing.tools
+layers_of drawing =
+    fills_of drawing.mark drawing.tools ++ (plain_layers_of drawing.mark drawing.tools ++ strokes_of drawing.mark drawing.tools)
 
 -- the layers of a drawing, if there is one
 abbrev pub layers_if_drawn : Option Drawing → List Layer

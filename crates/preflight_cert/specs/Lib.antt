@@ -1,6 +1,7 @@
 pub mod Outlines
 pub mod FigureLines
 pub mod Rectangles
+pub mod StrokedOutline
 pub mod Shape
 pub mod Paint
 pub mod Mixing
@@ -27,12 +28,12 @@ pub mod CertificateOf
 pub mod CertificateText
 pub mod TextLaws
 pub mod TextParts
-pub mod Corners
 pub mod Answer
 pub mod Preparation
 pub mod Reached
 pub mod PreparationLaws
 pub mod Gathered
 pub mod StoppedRecords
+pub mod OpenedRecords
 pub mod ClearedFacts
 pub mod ObjectOrder

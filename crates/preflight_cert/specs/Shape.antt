@@ -13,16 +13,15 @@ use Rattle.span_fill.specs.Strokes.{in_stroke}
 use Rattle.span_fill.specs.declared.fill_rule.FillRule.{FillRule}
 use Rattle.span_fill.specs.declared.fill_rule.FillRule.TheVariants.{EvenOdd, NonZero}
 use Rattle.preflight_cert.specs.FigureLines.{lines_along, placed_figures}
-use Rattle.preflight_cert.specs.Rectangles.{rectangle_lines, rectangle_on}
+use Rattle.preflight_cert.specs.Rectangles.{rectangle_on}
+use Rattle.preflight_cert.specs.StrokedOutline.{Outline, outline_lines}
 
--- by points of the plane: the pixel on which one lands, what is inside of figures or of a rectangle, and what is on the lines along figures
--- or round a rectangle
+-- by points of the plane: the pixel on which one lands, what is inside of figures or of a rectangle, and what a pen strokes along an outline
 pub data Shape : Type 0 where
   pixel_under : Point → Shape
   inside_figures : FillMode → List Figure → Shape
   inside_rectangle : Point → Point → RectangleEdges → Shape
-  along_figures : List Figure → Shape
-  round_rectangle : Point → Point → RectangleEdges → Shape
+  stroke_of : Outline → Shape
 
 -- what a fill mode says is inside ([MS-WMF] 2.1.1.25)
 abbrev pub fill_rule_of : FillMode → FillRule
@@ -38,5 +37,4 @@ abbrev pub in_shape : Shape → Surface → ℕ → ℕ → Bool
 in_shape (pixel_under point) s x y = is_pixel (placed_point point s) x y
 in_shape (inside_figures mode figures) s x y = in_fill (fill_rule_of mode) (lines_along (placed_figures s figures)) x y
 in_shape (inside_rectangle p q edges) s x y = in_box (rectangle_on s p q edges) x y
-in_shape (along_figures figures) s x y = in_stroke (lines_along (placed_figures s figures)) x y
-in_shape (round_rectangle p q edges) s x y = in_stroke (rectangle_lines (rectangle_on s p q edges)) x y
+in_shape (stroke_of outline) s x y = in_stroke (outline_lines outline s) x y

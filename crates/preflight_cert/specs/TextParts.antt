@@ -2,8 +2,9 @@
 use Rattle.std.specs.Prelude.{ℕ, ◌/◌, List, [], ◌++◌, length}
 use Rattle.std.specs.Int.{w64, to_le_bytes}
 use Rattle.dc_stack.specs.declared.needs.Needs.{Needs}
-use Rattle.preflight_cert.specs.CertificateReading.{entry_size}
+use Rattle.preflight_cert.specs.CertificateReading.{entries_in}
 use Rattle.preflight_cert.specs.CertificateText.{needs_text, number_text, text_with}
+use Rattle.preflight_cert.specs.declared.writing.Head.{Head}
 
 -- four numbers
 abbrev pub four_text : ℕ → ℕ → ℕ → ℕ → List ℕ
@@ -17,7 +18,7 @@ bound_text max_width max_height = number_text 0x3143504d ++ (number_text max_wid
 abbrev pub totals_text : ℕ → Needs → ℕ → List ℕ
 totals_text writes needs count = to_le_bytes w64 writes ++ (needs_text needs [] ++ number_text count)
 
--- the whole, whose entries have these bytes
-abbrev pub full_text : ℕ → ℕ → ℕ → Needs → List ℕ → List ℕ
-full_text max_width max_height writes needs entries =
-    text_with max_width max_height writes needs (length entries / entry_size) entries
+-- the whole, whose entries have this size and these bytes
+abbrev pub full_text : Head → ℕ → List ℕ → List ℕ
+full_text head size entries =
+    text_with head.max_width head.max_height head.writes head.needs (length (entries_in size (length entries / size) entries)) entries

@@ -4,7 +4,7 @@ ghost use Rattle.std.specs.Prelude.{◌≡◌, ◌<◌, length, IfErr, Some, sli
 ghost use Rattle.mapping.specs.Limits.{IsSurfaceSide};
 
 use crate::certificate_reading::{HEAD_SIZE, is_bounded, read_whole};
-use crate::entry::{Entries, Entry};
+use crate::entry::{ENTRY_SIZE, Entries, Entry};
 use dc_stack::Needs;
 use draw_ops::Fault;
 use point_views::u32_at;
@@ -54,7 +54,7 @@ impl<'a> Certificate<'a> {
         if !is_bounded(bytes) {
             return Err(Fault::BadBound);
         }
-        read_whole(bytes)
+        read_whole(bytes, ENTRY_SIZE)
     }
 
     /// How many entries there are.

@@ -1,6 +1,6 @@
 //! The parts of a certificate's bytes.
 
-ghost use Rattle.std.specs.Prelude.{◌≡◌, ◌≤◌, ◌+◌, length, IfErr, IsTrue, nat_le};
+ghost use Rattle.std.specs.Prelude.{◌≡◌, ◌<◌, ◌≤◌, ◌+◌, ◌*◌, length, IfErr, IsTrue, nat_le};
 ghost use Rattle.mapping.specs.Limits.{IsSurfaceSide, is_surface_side};
 ghost use Rattle.point_views.specs.Numbers.{number_at};
 ghost use Rattle.draw_ops.specs.Fault.{IsInRecord};
@@ -8,10 +8,10 @@ ghost use Rattle.draw_ops.specs.Results.{result_map};
 ghost use Rattle.dc_stack.specs.Drawing.{edge_limit};
 ghost use Rattle.dc_stack.specs.Path.{piece_limit};
 ghost use Rattle.preflight_cert.specs.CertificateOf.{certificate_of};
-ghost use Rattle.preflight_cert.specs.CertificateReading.{are_bounded_needs, count_in, entry_limit, head_size, is_bounded, needs_in, read_whole};
+ghost use Rattle.preflight_cert.specs.CertificateReading.{IsEntrySize, are_bounded_needs, count_in, entry_limit, head_size, is_bounded, needs_in, read_whole};
 
 use crate::certificate::Certificate;
-use crate::entry::{ENTRY_SIZE, Entries};
+use crate::entry::Entries;
 use byteorder::{ByteOrder, LittleEndian};
 use dc_stack::{MAX_PIECES, MAX_SAVED_STATES, Needs};
 use draw_ops::Fault;
@@ -84,16 +84,17 @@ pub(crate) fn is_side(side: u32) -> bool
     1 <= side && side <= MAX_SURFACE_SIDE
 }
 
-/// What the bytes of a certificate say, if they end where the entries do.
-pub(crate) fn read_whole(bytes: &[u8]) -> Result<Certificate<'_>, Fault>
+/// What the bytes of a certificate say, if they end where the entries do, each of which takes so many bytes.
+pub(crate) fn read_whole(bytes: &[u8], entry_size: usize) -> Result<Certificate<'_>, Fault>
     requires head { head_size ≤ length bytes.now }
     requires wide { IsSurfaceSide (number_at bytes.now 4 4) }
     requires high { IsSurfaceSide (number_at bytes.now 8 4) }
-    ensures value { read_whole bytes.now ≡ result_map certificate_of result }
+    requires size { IsEntrySize entry_size }
+    ensures value { read_whole entry_size bytes.now ≡ result_map certificate_of result }
     ensures in_no_record { IfErr result (λ fault. IsInRecord fault → ⊥) }
     ensures no_memory { IfErr result (λ fault. fault ≡ Fault.OutOfMemory → ⊥) }
 {
-    let end = HEAD_SIZE + ENTRY_SIZE * u32_at(bytes, 36) as usize;
+    let end = HEAD_SIZE + product(entry_size, u32_at(bytes, 36));
     if bytes.len() < end {
         return Err(Fault::ShortCertificate);
     }
@@ -107,8 +108,18 @@ pub(crate) fn read_whole(bytes: &[u8]) -> Result<Certificate<'_>, Fault>
         needs: needs_in(bytes),
         entries: Entries {
             bytes: &bytes[HEAD_SIZE..],
+            entry_size,
         },
     })
+}
+
+/// How many bytes so many entries of a size take.
+fn product(entry_size: usize, count: u32) -> usize
+    requires few { entry_size < 65536 }
+    ensures product { result ≡ entry_size * count }
+    ensures few { result < 281474976710656 }
+{
+    entry_size * count as usize
 }
 
 /// What is needed.

@@ -3,11 +3,11 @@
 ghost use Rattle.std.specs.Prelude.{◌≡◌, ◌⊎◌, Ok, IfErr, IfOk, IfSome, OnOk};
 ghost use Rattle.draw_ops.specs.Fault.{IsInRecord};
 ghost use Rattle.meta_headers.specs.File.{IsOpenedFrom};
-ghost use Rattle.meta_headers.specs.OpenedOf.{opened_of};
-ghost use Rattle.preflight_cert.specs.Answer.{CountsRecords, IsAnswer, IsRefusedWith, RecordsAnswer, accepted, are_within, refuses, total_fault};
+ghost use Rattle.preflight_cert.specs.Answer.{IsAnswer, IsRefusedWith, accepted, are_within, refuses, total_fault};
 ghost use Rattle.preflight_cert.specs.CertificateOf.{certificate_of};
 ghost use Rattle.preflight_cert.specs.ClearedFacts.{CountsItsRecords, IsSoundFor};
 ghost use Rattle.preflight_cert.specs.CertificateReading.{read_certificate};
+ghost use Rattle.preflight_cert.specs.OpenedRecords.{AnswersRecordsOf, CountsRecordsOf};
 ghost use Rattle.preflight_cert.specs.Reached.{OpensBoth};
 ghost use Rattle.preflight_cert.specs.Refusal.{IsWantOfMemory, TellsNumber};
 
@@ -65,11 +65,10 @@ fn check_opened<'a>(
 ) -> Result<Cleared<'a>, Refusal>
     ensures opened { IfOk result (λ c. c.opened ≡ opened.entry) }
     ensures certificate { IfOk result (λ c. c.certificate ≡ certificate.entry) }
-    ensures counts { IfOk result (λ c. CountsRecords (opened_of opened.entry) opened.entry.records.now c.records c.notes.counts) }
-    ensures accepted { OnOk result
-        (RecordsAnswer (opened_of opened.entry) opened.entry.records.now (certificate_of certificate.entry) accepted) }
+    ensures counts { IfOk result (λ c. CountsRecordsOf opened.entry c.records c.notes.counts) }
+    ensures accepted { OnOk result (AnswersRecordsOf opened.entry certificate.entry accepted) }
     ensures refusal { IfErr result
-        (λ r. RecordsAnswer (opened_of opened.entry) opened.entry.records.now (certificate_of certificate.entry) (refuses r.number r.fault) ⊎ IsWantOfMemory r) }
+        (λ r. AnswersRecordsOf opened.entry certificate.entry (refuses r.number r.fault) ⊎ IsWantOfMemory r) }
     ensures number_told { IfErr result TellsNumber }
 {
     content_law();
@@ -79,7 +78,6 @@ fn check_opened<'a>(
     let totals = match check_steps(
         &mut opened.source(),
         &mut machine,
-        place,
         certificate.entries,
         Notes::of(opened.notes),
     ) {

@@ -1,43 +1,36 @@
 //! Entries against drawings.
 
-ghost use Rattle.std.specs.Prelude.{◌≡◌, ◌≤◌, ◌*◌, IfOk, IfSome, List, OnOk};
-ghost use Rattle.std.specs.Option.{option_map};
+ghost use Rattle.std.specs.Prelude.{◌≡◌, ◌≤◌, IfOk, IfSome, List, OnOk};
 ghost use Rattle.std.specs.Result.{result_err};
 ghost use Rattle.mapping.specs.Boxes.{IsLeastBox};
-ghost use Rattle.mapping.specs.PlaceOf.{surface_of};
 ghost use Rattle.mapping.specs.declared.geometry.Point.{Point};
 ghost use Rattle.dc_stack.specs.Draws.{IsPlacedDraw};
-ghost use Rattle.dc_stack.specs.MachineState.{drawing_with};
-ghost use Rattle.preflight_cert.specs.Corners.{has_corners, has_span};
+ghost use Rattle.preflight_cert.specs.Drawings.{drawing_if_drawn};
 ghost use Rattle.preflight_cert.specs.Entries.{covers, drawing_budget, entries_behind, entry_fault};
 ghost use Rattle.preflight_cert.specs.EntriesOf.{entries_of};
 
-use crate::budget::box_cells;
+use crate::budget::drawing_budget;
 use crate::entry::Entries;
-use crate::layer_count::layer_count;
 use dc_stack::{Draw, Machine};
 use draw_ops::RecordFault;
-use mapping::{Place, Rect};
+use mapping::Rect;
 use object_tables::Table;
 
 /// Takes the entry of what a record draws, if it draws, and tells how many pixels its layers write at most: `WrongEntry`
 /// where the next entry is of another record, or there is none, and `BoxTooSmall` where its box lacks a point.
-#[tactic(auto, using(crate::proofs::BudgetLemmas::budgets))]
 pub(crate) fn take_entry<'a, T: Table<'a>>(
     number: u32,
     drawn: &Option<Draw<'a>>,
     machine: &Machine<'a, T>,
-    place: Place,
     entries: &mut Entries<'_>,
 ) -> Result<u64, RecordFault>
-    requires place { surface_of place ≡ machine.now.surface }
     requires placed { IfSome drawn.now (IsPlacedDraw machine.now.surface machine.now.painted) }
-    ensures fault { result_err result ≡ entry_fault number (option_map (drawing_with machine.now) drawn.now) (entries_of entries.old) }
+    ensures fault { result_err result ≡ entry_fault number (drawing_if_drawn machine.now drawn.now) (entries_of entries.old) }
     ensures budget { IfOk result
-        (λ n. n ≡ drawing_budget (option_map (drawing_with machine.now) drawn.now) (entries_of entries.old) machine.now.surface) }
+        (λ n. n ≡ drawing_budget (drawing_if_drawn machine.now drawn.now) (entries_of entries.old) machine.now.surface) }
     ensures few { IfOk result (λ n. n ≤ 134217728) }
     ensures behind { OnOk result
-        (entries_of entries.new ≡ entries_behind (option_map (drawing_with machine.now) drawn.now) (entries_of entries.old)) }
+        (entries_of entries.new ≡ entries_behind (drawing_if_drawn machine.now drawn.now) (entries_of entries.old)) }
 {
     let Some(drawn) = drawn else {
         return Ok(0);
@@ -52,20 +45,10 @@ pub(crate) fn take_entry<'a, T: Table<'a>>(
         return Err(RecordFault::BoxTooSmall);
     }
     *entries = rest;
-    Ok(pixel_budget(layer_count(drawn, machine), box_cells(entry.bounds, place)))
+    Ok(drawing_budget(drawn, machine, entry.bounds))
 }
 
-/// How many pixels so many layers write at most, each at most so many.
-pub(crate) fn pixel_budget(layers: u64, cells: u64) -> u64
-    requires layers { layers ≤ 2 }
-    requires cells { cells ≤ 67108864 }
-    ensures product { result ≡ layers * cells }
-    ensures few { result ≤ 134217728 }
-{
-    layers * cells
-}
-
-/// Whether a box of the plane has all points around which another is the least: that is so where it has two corners of
+/// Whether a box of the plane has all points around which another is the least: that is so where it contains
 /// the other, or there is no point.
 #[tactic(auto, using(crate::proofs::CoverLemmas::covering))]
 fn covers(bounds: Rect, least: Rect) -> bool
@@ -74,19 +57,5 @@ fn covers(bounds: Rect, least: Rect) -> bool
     if least.r < least.l {
         return true;
     }
-    has_corners(bounds, least)
-}
-
-/// Whether a box has two corners of another.
-fn has_corners(bounds: Rect, least: Rect) -> bool
-    ensures { result ≡ has_corners bounds least }
-{
-    has_span(bounds.l, least.l, least.r, bounds.r) && has_span(bounds.t, least.t, least.b, bounds.b)
-}
-
-/// Whether what lies from `low` to `high` lies from `from` to `to`.
-fn has_span(from: i32, low: i32, high: i32, to: i32) -> bool
-    ensures { result ≡ has_span from low high to }
-{
-    from <= low && high <= to
+    bounds.contains(least)
 }

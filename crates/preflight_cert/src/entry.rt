@@ -1,12 +1,12 @@
 //! The entries of a certificate, read in place.
 
 ghost use Rattle.std.specs.Prelude.{◌≡◌, ◌+◌, ◌<◌, ◌≤◌, ◌%◌, ◌∷◌, ◌↔◌, [], length, IsNone, IsTrue, IfSome, Some, slice_get};
-ghost use Rattle.preflight_cert.specs.CertificateReading.{entry_size, first_entry};
+ghost use Rattle.preflight_cert.specs.CertificateReading.{IsEntrySize, first_entry};
 
 use mapping::Rect;
 use point_views::{i32_at, u32_at};
 
-/// How many bytes an entry takes.
+/// How many bytes an entry takes: a number and a box.
 pub(crate) const ENTRY_SIZE: usize = 20;
 
 /// An entry of a certificate: the number of a record that draws, and a box of the plane that has the points of its
@@ -17,15 +17,18 @@ pub struct Entry {
     pub bounds: Rect,
 }
 
-/// Entries, one after another in a certificate's bytes.
+/// Entries, one after another in a certificate's bytes, each of the same size.
 ///
 /// # Guarantees
 ///
-/// - `bytes` holds the entries and nothing else, so two views are equal exactly where their bytes are.
+/// - `bytes` holds the entries and nothing else, so two views of one size are equal exactly where their bytes are.
 #[derive(Clone, Copy, Debug, PartialEq, Eq)]
 pub struct Entries<'a> {
     /// The entries' bytes.
     pub bytes: &'a [u8],
+    /// How many bytes each of them takes.
+    pub entry_size: usize,
+    pub ghost sized: { IsEntrySize entry_size },
     pub ghost whole: { length bytes.now % entry_size ≡ 0 },
 }
 
@@ -37,7 +40,7 @@ impl<'a> Entries<'a> {
     pub fn len(self) -> usize
         ensures { result ≡ length (entries_of self.entry) }
     {
-        self.bytes.len() / ENTRY_SIZE
+        self.bytes.len() / self.entry_size
     }
 
     /// Whether there is no entry.
@@ -52,7 +55,7 @@ impl<'a> Entries<'a> {
         requires { i < length (entries_of self) }
         ensures { slice_get (entries_of self.entry) i ≡ Some result }
     {
-        first_entry(&self.bytes[ENTRY_SIZE * i..])
+        first_entry(&self.bytes[self.entry_size * i..])
     }
 
     /// The first entry, and the entries after it: none exactly where there is no entry.
@@ -60,11 +63,12 @@ impl<'a> Entries<'a> {
         ensures none { IsNone result ↔ (entries_of self.entry ≡ []) }
         ensures entries { IfSome result (λ split. entries_of self.entry ≡ split.0 ∷ entries_of split.1) }
     {
-        if self.bytes.len() < ENTRY_SIZE {
+        if self.bytes.len() < self.entry_size {
             return None;
         }
         let rest = Entries {
-            bytes: &self.bytes[ENTRY_SIZE..],
+            bytes: &self.bytes[self.entry_size..],
+            entry_size: self.entry_size,
         };
         Some((first_entry(self.bytes), rest))
     }
@@ -72,7 +76,7 @@ impl<'a> Entries<'a> {
 
 /// The entry in the first bytes.
 fn first_entry(bytes: &[u8]) -> Entry
-    requires { entry_size ≤ length bytes.now }
+    requires { 20 ≤ length bytes.now }
     ensures { result ≡ first_entry bytes.now }
 {
     Entry {

@@ -1,24 +1,20 @@
 //! Gathering the entries of a file's drawings.
 
 ghost use Rattle.std.specs.Prelude.{◌≡◌, ◌≤◌, ◌⊎◌, ◌+◌, ◌*◌, ◌^◌, ◌++◌, IfErr, IfOk, IfSome, OnOk, length};
-ghost use Rattle.std.specs.Option.{option_map};
-ghost use Rattle.mapping.specs.PlaceOf.{surface_of};
 ghost use Rattle.draw_ops.specs.Records.{record_limit};
 ghost use Rattle.dc_stack.specs.Draws.{IsPlacedDraw};
-ghost use Rattle.dc_stack.specs.MachineState.{drawing_with};
+ghost use Rattle.preflight_cert.specs.Drawings.{drawing_if_drawn};
 ghost use Rattle.preflight_cert.specs.Gathered.{FitsEntry, Gathers, StopsGathering, drawing_text, least_drawing_budget};
 ghost use Rattle.preflight_cert.specs.Refusal.{IsWantOfMemory, TellsNumber};
 
-use crate::budget::box_cells;
-use crate::covering::pixel_budget;
+use crate::budget::drawing_budget;
 use crate::entry::Entry;
-use crate::layer_count::layer_count;
 use crate::refusal::Refusal;
 use crate::walk::Totals;
 use crate::writing::put_entry;
 use dc_stack::{Draw, Machine};
 use draw_ops::{Fault, Notes, OpSource, Step};
-use mapping::{Place, box_law};
+use mapping::box_law;
 use object_tables::Table;
 use span_fill::OutOfMemory;
 
@@ -27,12 +23,10 @@ use span_fill::OutOfMemory;
 pub(crate) fn gather<'a, S: OpSource<'a>, T: Table<'a>>(
     source: &mut S,
     machine: &mut Machine<'a, T>,
-    place: Place,
     noted: Notes,
     entries: &mut Vec<u8>,
 ) -> Result<Totals, Refusal>
     requires short { length (S.content source.old).steps ≤ record_limit }
-    requires place { surface_of place ≡ machine.old.surface }
     ensures gathers { IfOk result
         (λ totals. Gathers (S.content source.old) machine.old entries.old.items noted.counts totals machine.new entries.new.items) }
     ensures few { OnOk result (length entries.new.items ≤ length entries.old.items + 20 * 2 ^ 20) }
@@ -58,7 +52,7 @@ pub(crate) fn gather<'a, S: OpSource<'a>, T: Table<'a>>(
             Ok(()) => {}
             Err(fault) => return Err(Refusal::of_step(step.number, fault)),
         }
-        match add_entry(step.number, &drawn, machine, place, entries) {
+        match add_entry(step.number, &drawn, machine, entries) {
             Ok(more) => totals.writes += more,
             Err(OutOfMemory) => return Err(Refusal::of_file(Fault::OutOfMemory)),
         }
@@ -68,21 +62,18 @@ pub(crate) fn gather<'a, S: OpSource<'a>, T: Table<'a>>(
 }
 
 /// Appends the entry of what a record draws, if it draws, with the least box, and tells how many pixels it lets a run write at most.
-#[tactic(auto, using(crate::proofs::BudgetLemmas::budgets))]
 fn add_entry<'a, T: Table<'a>>(
     number: u32,
     drawn: &Option<Draw<'a>>,
     machine: &Machine<'a, T>,
-    place: Place,
     entries: &mut Vec<u8>,
 ) -> Result<u64, OutOfMemory>
-    requires place { surface_of place ≡ machine.now.surface }
     requires placed { IfSome drawn.now (IsPlacedDraw machine.now.surface machine.now.painted) }
     ensures text { OnOk result
-        (entries.new.items ≡ entries.old.items ++ drawing_text number (option_map (drawing_with machine.now) drawn.now)) }
-    ensures fits { OnOk result (FitsEntry number (option_map (drawing_with machine.now) drawn.now)) }
+        (entries.new.items ≡ entries.old.items ++ drawing_text number (drawing_if_drawn machine.now drawn.now)) }
+    ensures fits { OnOk result (FitsEntry number (drawing_if_drawn machine.now drawn.now)) }
     ensures budget { IfOk result
-        (λ n. n ≡ least_drawing_budget (option_map (drawing_with machine.now) drawn.now) machine.now.surface) }
+        (λ n. n ≡ least_drawing_budget (drawing_if_drawn machine.now drawn.now) machine.now.surface) }
     ensures few { IfOk result (λ n. n ≤ 134217728) }
     ensures most { OnOk result (length entries.new.items ≤ length entries.old.items + 20) }
 {
@@ -92,5 +83,5 @@ fn add_entry<'a, T: Table<'a>>(
     box_law();
     let bounds = drawn.bounds;
     put_entry(entries, Entry { number, bounds })?;
-    Ok(pixel_budget(layer_count(drawn, machine), box_cells(bounds, place)))
+    Ok(drawing_budget(drawn, machine, bounds))
 }

@@ -30,7 +30,6 @@ mod covering;
 mod entry;
 mod gathering;
 mod laws;
-mod layer_count;
 mod prepared;
 mod preparing;
 mod refusal;

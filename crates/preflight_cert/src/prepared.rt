@@ -5,9 +5,10 @@ ghost use Rattle.std.specs.Result.{ForOk};
 ghost use Rattle.draw_ops.specs.declared.fault.Fault.TheVariants.{BadBound};
 ghost use Rattle.meta_headers.specs.File.{IsOpenedFrom};
 ghost use Rattle.meta_headers.specs.OpenedOf.{opened_of};
-ghost use Rattle.preflight_cert.specs.Answer.{CountsRecords, IsAnswer, IsCleared, accepted};
+ghost use Rattle.preflight_cert.specs.Answer.{IsAnswer, IsCleared, accepted};
 ghost use Rattle.preflight_cert.specs.CertificateOf.{certificate_of};
 ghost use Rattle.preflight_cert.specs.CertificateReading.{read_certificate};
+ghost use Rattle.preflight_cert.specs.OpenedRecords.{CountsRecordsOf};
 ghost use Rattle.preflight_cert.specs.Preparation.{Prepares, StopsPreparing, is_bound};
 ghost use Rattle.preflight_cert.specs.Reached.{OpensAt};
 ghost use Rattle.preflight_cert.specs.Refusal.{IsWantOfMemory, TellsNumber};
@@ -50,8 +51,7 @@ impl<'a> Prepared<'a> {
         ensures text { IfOk result (λ prepared. Prepares file.now max_width max_height prepared.text.items) }
         ensures accepted { IfOk result (λ prepared. IsAnswer file.now prepared.text.items accepted) }
         ensures opened { IfOk result (λ prepared. IsOpenedFrom file.now prepared.opened) }
-        ensures counts { IfOk result
-            (λ prepared. CountsRecords (opened_of prepared.opened) prepared.opened.records.now prepared.records prepared.notes.counts) }
+        ensures counts { IfOk result (λ prepared. CountsRecordsOf prepared.opened prepared.records prepared.notes.counts) }
         ensures refusal { IfErr result (λ r. StopsPreparing file.now max_width max_height r ⊎ IsWantOfMemory r) }
         ensures bound { IfErr result (λ r. is_bound max_width max_height ≡ false → r.fault ≡ BadBound) }
         ensures memory { IfErr result (λ r. r.fault ≡ Fault.OutOfMemory → OpensAt file.now max_width max_height) }

@@ -3,14 +3,13 @@
 ghost use Rattle.std.specs.Prelude.{◌≡◌, ◌⊎◌, IfErr, IfOk, false};
 ghost use Rattle.draw_ops.specs.declared.fault.Fault.TheVariants.{BadBound};
 ghost use Rattle.mapping.specs.Limits.{IsSurfaceSide};
-ghost use Rattle.meta_headers.specs.OpenedOf.{opened_of};
-ghost use Rattle.preflight_cert.specs.Answer.{AnswersRead, CountsRecords, IsAnswer, accepted};
-ghost use Rattle.preflight_cert.specs.CertificateReading.{read_certificate};
-ghost use Rattle.preflight_cert.specs.Preparation.{Prepares, PreparesRecords, StopsPreparing, is_bound};
+ghost use Rattle.preflight_cert.specs.Answer.{IsAnswer, accepted};
+ghost use Rattle.preflight_cert.specs.OpenedRecords.{AnswersBytesOf, CountsRecordsOf, PreparesRecordsOf, StopsRecordsOf};
+ghost use Rattle.preflight_cert.specs.Preparation.{Prepares, StopsPreparing, is_bound};
 ghost use Rattle.preflight_cert.specs.Reached.{OpensAt};
 ghost use Rattle.preflight_cert.specs.Refusal.{IsWantOfMemory, TellsNumber};
-ghost use Rattle.preflight_cert.specs.StoppedRecords.{StopsOpened};
 
+use crate::entry::{ENTRY_SIZE, Entries};
 use crate::gathering::gather;
 use crate::laws::{answer_law, need_law, preparation_law, text_law};
 use crate::prepared::Prepared;
@@ -59,14 +58,10 @@ pub(crate) fn prepare_opened(
 ) -> Result<(Vec<u8>, Totals), Refusal>
     requires wide { IsSurfaceSide max_width }
     requires high { IsSurfaceSide max_height }
-    ensures text { IfOk result
-        (λ made. PreparesRecords (opened_of opened.entry) opened.entry.records.now max_width max_height made.0.items) }
-    ensures accepted { IfOk result
-        (λ made. AnswersRead (read_certificate made.0.items) (opened_of opened.entry) opened.entry.records.now accepted) }
-    ensures counts { IfOk result
-        (λ made. CountsRecords (opened_of opened.entry) opened.entry.records.now made.1.records made.1.notes.counts) }
-    ensures refusal { IfErr result
-        (λ r. StopsOpened (opened_of opened.entry) opened.entry.records.now max_width max_height r ⊎ IsWantOfMemory r) }
+    ensures text { IfOk result (λ made. PreparesRecordsOf opened.entry max_width max_height made.0.items) }
+    ensures accepted { IfOk result (λ made. AnswersBytesOf opened.entry made.0.items accepted) }
+    ensures counts { IfOk result (λ made. CountsRecordsOf opened.entry made.1.records made.1.notes.counts) }
+    ensures refusal { IfErr result (λ r. StopsRecordsOf opened.entry max_width max_height r ⊎ IsWantOfMemory r) }
     ensures number_told { IfErr result TellsNumber }
 {
     answer_law();
@@ -80,13 +75,7 @@ pub(crate) fn prepare_opened(
     let mut machine = Machine::new(alloc, &opened, place, table);
     let mut entries = Vec::new(alloc);
     let noted = Notes::of(opened.notes);
-    let totals = match gather(
-        &mut opened.source(),
-        &mut machine,
-        place,
-        noted,
-        &mut entries,
-    ) {
+    let totals = match gather(&mut opened.source(), &mut machine, noted, &mut entries) {
         Ok(totals) => totals,
         Err(refusal) => return Err(refusal),
     };
@@ -96,7 +85,11 @@ pub(crate) fn prepare_opened(
         writes: totals.writes,
         needs: machine.needs(),
     };
-    match put_text(alloc, head, &entries) {
+    let entries = Entries {
+        bytes: &entries[..],
+        entry_size: ENTRY_SIZE,
+    };
+    match put_text(alloc, head, entries) {
         Ok(text) => Ok((text, totals)),
         Err(OutOfMemory) => Err(Refusal::of_file(Fault::OutOfMemory)),
     }

@@ -1,7 +1,6 @@
 //! Checking a certificate's entries against the records of a file.
 
 ghost use Rattle.std.specs.Prelude.{◌≡◌, ◌≤◌, ◌⊎◌, IfErr, IfOk, length};
-ghost use Rattle.mapping.specs.PlaceOf.{surface_of};
 ghost use Rattle.draw_ops.specs.Records.{record_limit};
 ghost use Rattle.preflight_cert.specs.Checks.{Checks, EndsCheck, StopsCheck};
 ghost use Rattle.preflight_cert.specs.EntriesOf.{entries_of};
@@ -12,7 +11,6 @@ use crate::entry::Entries;
 use crate::refusal::Refusal;
 use dc_stack::{Draw, Machine};
 use draw_ops::{Notes, OpSource, RecordFault, Step};
-use mapping::Place;
 use object_tables::Table;
 
 /// What the records of a file come to.
@@ -32,12 +30,10 @@ pub struct Totals {
 pub(crate) fn check_steps<'a, S: OpSource<'a>, T: Table<'a>>(
     source: &mut S,
     machine: &mut Machine<'a, T>,
-    place: Place,
     given: Entries<'_>,
     noted: Notes,
 ) -> Result<Totals, Refusal>
     requires short { length (S.content source.old).steps ≤ record_limit }
-    requires place { surface_of place ≡ machine.old.surface }
     ensures checked { IfOk result
         (λ totals. Checks (S.content source.old) machine.old (entries_of given.entry) noted.counts totals machine.new) }
     ensures refusal { IfErr result (λ r. StopsCheck (S.content source.old) machine.old (entries_of given.entry) r ⊎ IsWantOfMemory r) }
@@ -63,7 +59,7 @@ pub(crate) fn check_steps<'a, S: OpSource<'a>, T: Table<'a>>(
             Ok(()) => {}
             Err(fault) => return Err(Refusal::of_step(step.number, fault)),
         }
-        match take_entry(step.number, &drawn, machine, place, &mut entries) {
+        match take_entry(step.number, &drawn, machine, &mut entries) {
             Ok(more) => totals.writes += more,
             Err(fault) => return Err(Refusal::at(step.number, fault)),
         }

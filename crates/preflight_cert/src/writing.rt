@@ -1,14 +1,14 @@
 //! Writing the text of a certificate.
 
-ghost use Rattle.std.specs.Prelude.{◌≡◌, ◌<◌, ◌^◌, ◌/◌, ◌++◌, [], IfOk, OnOk, length};
+ghost use Rattle.std.specs.Prelude.{◌≡◌, ◌<◌, ◌^◌, ◌++◌, [], IfOk, OnOk, length};
 ghost use Rattle.std.specs.Int.{to_le_bytes, w64};
-ghost use Rattle.preflight_cert.specs.CertificateReading.{entry_size};
 ghost use Rattle.preflight_cert.specs.CertificateText.{box_text, entry_text, needs_text, number_text};
+ghost use Rattle.preflight_cert.specs.EntriesOf.{entries_of};
 ghost use Rattle.preflight_cert.specs.TextLaws.{IsEntry};
 ghost use Rattle.preflight_cert.specs.TextParts.{bound_text, four_text, full_text, totals_text};
 
 use crate::certificate::MARK;
-use crate::entry::{ENTRY_SIZE, Entry};
+use crate::entry::{Entries, Entry};
 use dc_stack::Needs;
 use mapping::Rect;
 use span_fill::OutOfMemory;
@@ -114,21 +114,20 @@ fn put_totals(text: &mut Vec<u8>, writes: u64, needs: Needs, count: u32) -> Resu
     put_counts(text, needs, count)
 }
 
-/// The text of a certificate whose entries have these bytes.
+/// The text of a certificate with these entries.
 #[tactic(auto, using(crate::proofs::TextPartLemmas::parts))]
-pub(crate) fn put_text(alloc: Global, head: Head, entries: &[u8]) -> Result<Vec<u8>, OutOfMemory>
-    requires { length entries.now / entry_size < 2 ^ 32 }
-    ensures { IfOk result (λ v. v.items ≡ full_text head.max_width head.max_height head.writes head.needs entries.now) }
+pub(crate) fn put_text(
+    alloc: Global,
+    head: Head,
+    entries: Entries<'_>,
+) -> Result<Vec<u8>, OutOfMemory>
+    requires { length (entries_of entries) < 2 ^ 32 }
+    ensures { IfOk result (λ v. v.items ≡ full_text head entries.entry.entry_size entries.entry.bytes.now) }
 {
     let mut text = Vec::new(alloc);
     put_bound(&mut text, head.max_width, head.max_height)?;
-    put_totals(
-        &mut text,
-        head.writes,
-        head.needs,
-        (entries.len() / ENTRY_SIZE) as u32,
-    )?;
-    match text.extend_from_slice(entries) {
+    put_totals(&mut text, head.writes, head.needs, entries.len() as u32)?;
+    match text.extend_from_slice(entries.bytes) {
         Ok(()) => Ok(text),
         Err(_) => Err(OutOfMemory),
     }

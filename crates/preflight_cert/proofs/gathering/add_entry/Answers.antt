@@ -1,15 +1,13 @@
 -- The box that a draw is told with is the least one.
-use Rattle.std.proofs.Common.{◌≡◌, ℕ, ◌*◌, ◌++◌, length, ap, sym, subst, ◌∙◌, rules}
-use Rattle.mapping.specs.Surface.{Surface}
+use Rattle.std.proofs.Common.{◌≡◌, ◌++◌, ap, subst, ◌∙◌}
 use Rattle.mapping.specs.declared.geometry.Rect.{Rect}
 use Rattle.dc_stack.specs.Drawing.{mark_points}
 use Rattle.dc_stack.specs.Draws.{IsPlacedDraw, mark_of}
 use Rattle.dc_stack.specs.MachineState.{drawing_with}
-use Rattle.preflight_cert.specs.Budget.{box_cells, layers_budget}
+use Rattle.preflight_cert.specs.Budget.{layers_budget}
 use Rattle.preflight_cert.specs.CertificateText.{entry_text}
 use Rattle.preflight_cert.specs.Layer.{layers_of}
 use Rattle.preflight_cert.specs.TextLaws.{IsEntry}
-use Rattle.preflight_cert.proofs.BudgetLemmas.{layers_are}
 use Rattle.preflight_cert.proofs.LeastBoxLemmas.{least_is}
 use Rattle.preflight_cert.proofs.gathering.add_entry.Goals as goal
 
@@ -35,9 +33,4 @@ returns-clause-budget g c =
     let m = c.args.machine.now in
     let placed : IsPlacedDraw m.surface m.painted d = rw c.in-Some.is at c.requires.placed in
     let least = least_is c.box_law.ensures d.bounds (mark_points (mark_of m.painted d)) placed.least in
-    let layers = layers_of (drawing_with m d) in
-    let cells : c.box_cells.result ≡ box_cells d.bounds m.surface = c.box_cells.ensures.cells ∙ ap (λ (s : Surface). box_cells d.bounds s) c.requires.place in
-    let count : c.pixel_budget.result ≡ layers_budget layers d.bounds m.surface =
-    c.pixel_budget.ensures.product ∙ ap (λ (n : ℕ). n * c.box_cells.result) c.layer_count.ensures.count
-    ∙ ap (λ (n : ℕ). length layers * n) cells ∙ sym (layers_are layers d.bounds m.surface) in
-    rw c.in-Some.is (count ∙ ap (λ (box : Rect). layers_budget layers box m.surface) least)
+    rw c.in-Some.is (c.drawing_budget.ensures.layers ∙ ap (λ (box : Rect). layers_budget (layers_of (drawing_with m d)) box m.surface) least)

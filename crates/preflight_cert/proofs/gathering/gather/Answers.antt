@@ -41,7 +41,6 @@ loop-is_put-preserved g c =
       few = search rules;
       lengths = search rules;
       same_surface = search rules;
-      place = search rules;
       counted = search (begins, rules);
       fault = search (begins, rules);
       stops = search (begins, stepped, rules);

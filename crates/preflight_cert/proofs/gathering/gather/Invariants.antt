@@ -1,6 +1,5 @@
 use Rattle.std.proofs.Common.{◌≡◌, ◌+◌, ◌*◌, ◌≤◌, ◌++◌, length}
 use Rattle.std.specs.List.{All}
-use Rattle.mapping.specs.PlaceOf.{surface_of}
 use Rattle.draw_ops.specs.Records.{record_limit}
 use Rattle.preflight_cert.specs.After.{needs_after, notes_after}
 use Rattle.preflight_cert.specs.Drawings.{drawings_of}
@@ -21,7 +20,6 @@ invariant-loop-is_put g l =
       few : l.totals.writes ≤ 134217728 * l.totals.records;
       lengths : length l.entries.items ≤ length l.fn.entries.items + 20 * l.totals.records;
       same_surface : l.machine.surface ≡ start;
-      place : surface_of l.place ≡ start;
       counted : l.totals.records + length left.steps ≡ length whole.steps;
       fault : left.fault ≡ whole.fault;
       stops : stop_of whole l.fn.machine.state start ≡ stopped left.steps (broken_behind (length whole.steps) whole.fault) l.machine.state start;

@@ -34,7 +34,6 @@ loop-is_put-preserved g c =
       short = search (begins, rules);
       few = search rules;
       same_surface = search rules;
-      place = search rules;
       counted = search (begins, rules);
       fault = search (begins, rules);
       order = search (begins, stepped, drawn, rules);

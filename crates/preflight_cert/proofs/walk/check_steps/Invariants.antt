@@ -1,5 +1,4 @@
 use Rattle.std.proofs.Common.{◌≡◌, ◌+◌, ◌*◌, ◌≤◌, length}
-use Rattle.mapping.specs.PlaceOf.{surface_of}
 use Rattle.draw_ops.specs.Records.{record_limit}
 use Rattle.preflight_cert.specs.After.{needs_after, notes_after}
 use Rattle.preflight_cert.specs.Checked.{check_of, checked}
@@ -18,7 +17,6 @@ invariant-loop-is_put g l =
       short : l.totals.records + length (content l.source).steps ≤ record_limit;
       few : l.totals.writes ≤ 134217728 * l.totals.records;
       same_surface : l.machine.surface ≡ start;
-      place : surface_of l.place ≡ start;
       counted : length (content l.fn.source).steps ≡ l.totals.records + length (content l.source).steps;
       fault : (content l.source).fault ≡ (content l.fn.source).fault;
       order : check_of (content l.fn.source) l.fn.machine.state start (entries_of l.fn.given) ≡ checked (content l.source).steps (broken_behind (length (content l.fn.source).steps) (content l.fn.source).fault) (length (content l.fn.source).steps) l.machine.state start (entries_of l.entries);

@@ -1,0 +1,31 @@
+-- What is told of the records of an opened file.
+use Rattle.std.specs.Prelude.{ℕ, List}
+use Rattle.meta_headers.specs.OpenedOf.{opened_of}
+use Rattle.meta_headers.specs.declared.opened.Opened.{Opened}
+use Rattle.preflight_cert.specs.Answer.{Answer, AnswersRead, CountsRecords, RecordsAnswer}
+use Rattle.preflight_cert.specs.CertificateOf.{certificate_of}
+use Rattle.preflight_cert.specs.CertificateReading.{read_certificate}
+use Rattle.preflight_cert.specs.Preparation.{PreparesRecords}
+use Rattle.preflight_cert.specs.StoppedRecords.{StopsOpened}
+use Rattle.preflight_cert.specs.declared.certificate.Certificate.{Certificate}
+use Rattle.preflight_cert.specs.declared.refusal.Refusal.{Refusal}
+
+-- there are so many, and so often is each kind noted of the file
+abbrev pub CountsRecordsOf : Opened → ℕ → List ℕ → Type 0
+CountsRecordsOf opened count noted = CountsRecords (opened_of opened) opened.records.now count noted
+
+-- they are answered so, with a certificate
+abbrev pub AnswersRecordsOf : Opened → Certificate → Answer → Type 0
+AnswersRecordsOf opened certificate answer = RecordsAnswer (opened_of opened) opened.records.now (certificate_of certificate) answer
+
+-- and with a certificate of these bytes
+abbrev pub AnswersBytesOf : Opened → List ℕ → Answer → Type 0
+AnswersBytesOf opened bytes answer = AnswersRead (read_certificate bytes) (opened_of opened) opened.records.now answer
+
+-- the bytes are the certificate that is prepared for them at a bound
+abbrev pub PreparesRecordsOf : Opened → ℕ → ℕ → List ℕ → Type 0
+PreparesRecordsOf opened width height bytes = PreparesRecords (opened_of opened) opened.records.now width height bytes
+
+-- they stop on a surface of these sides, and the refusal tells where
+abbrev pub StopsRecordsOf : Opened → ℕ → ℕ → Refusal → Type 0
+StopsRecordsOf opened width height r = StopsOpened (opened_of opened) opened.records.now width height r
