@@ -1,30 +1,32 @@
 -- What adding to an open path does to a machine.
-use Rattle.std.proofs.Common.{◌≡◌, ◌≢◌, ◌⊎◌, ℕ, ◌+◌, ◌<◌, ◌≤◌, true, false, List, [], ◌∷◌, ◌++◌, length, Option, Some, None, Result, Ok, Err, inl, inr, arith, refl, ap, sym, ◌∙◌}
+use Rattle.std.proofs.Common.{◌≡◌, ◌≢◌, ◌⊎◌, ℕ, ◌+◌, ◌<◌, ◌≤◌, true, false, List, [], ◌∷◌, ◌++◌, length, Option, Some, None, Result, Ok, Err, inl, inr, arith, refl, ap, subst, sym, ◌∙◌}
 use Rattle.std.proofs.lemmas.Bool.{le-leb}
 use Rattle.std.proofs.lemmas.List.{append-nil}
 use Rattle.std.specs.Option.{option_map, option_or}
 use Rattle.mapping.specs.Plane.{MapNumbers}
 use Rattle.mapping.specs.Surface.{Surface}
 use Rattle.mapping.specs.declared.geometry.Point.{Point}
+use Rattle.mapping.specs.declared.geometry.Rect.{Rect}
 use Rattle.draw_ops.specs.declared.fault.Fault.{Fault}
 use Rattle.draw_ops.specs.declared.fault.Fault.TheVariants.{Record}
 use Rattle.draw_ops.specs.declared.record_fault.RecordFault.{RecordFault}
 use Rattle.point_views.specs.PartedPoints.{parts_of}
 use Rattle.point_views.specs.Points.{points_of}
-use Rattle.draw_ops.specs.Operation.{Operation, polygon, polyline}
-use Rattle.dc_stack.specs.Adding.{Adds, AddsLists, HasNotAdded}
-use Rattle.dc_stack.specs.Drawing.{Drawing, drawing_now, drawing_of, edge_limit, points_of_lists, lists_painted}
-use Rattle.dc_stack.specs.Figures.{Figures, points_gone_on}
+use Rattle.draw_ops.specs.Operation.{Operation, line_to, polygon, polyline, polyline_to, rectangle}
+use Rattle.draw_ops.specs.declared.operation.RectangleEdges.{RectangleEdges}
+use Rattle.dc_stack.specs.Adding.{Adds, AddsLines, AddsLists, HasNotAdded, adding_fault}
+use Rattle.dc_stack.specs.Drawing.{Drawing, drawing_now, drawing_of, edge_limit, lines_mark, lists_mark, points_of_lists, rectangle_mark}
+use Rattle.dc_stack.specs.Extents.{IsExtent}
+use Rattle.dc_stack.specs.Figures.{Figures, box_corners, points_gone_on}
 use Rattle.dc_stack.specs.GatheredPath.{WantsPieceRoom, after_lists, path_in}
-use Rattle.dc_stack.specs.MachineState.{IsUnchanged, MachineState, Plays}
-use Rattle.dc_stack.specs.Mapped.{mapped_list, mapped_lists}
-use Rattle.dc_stack.specs.Needs.{greater_needs, needs_of, pieces_needed}
-use Rattle.dc_stack.specs.Next.{next}
-use Rattle.dc_stack.specs.OperationFault.{edges_fault, fault_of, off_plane_fault, points_drawn}
+use Rattle.dc_stack.specs.MachineState.{IsUnchanged, MachineState, Plays, undrawn}
+use Rattle.dc_stack.specs.Mapped.{mapped_box, mapped_corners, mapped_list, mapped_lists, mapped_point}
+use Rattle.dc_stack.specs.Needs.{drawing_needs, greater_needs, needs_of, pieces_needed}
+use Rattle.dc_stack.specs.Next.{end_of, next}
+use Rattle.dc_stack.specs.OperationFault.{edges_fault, fault_of, off_plane_fault, plain_fault, plane_points, points_drawn}
 use Rattle.dc_stack.specs.Path.{Path, after_lines, after_polygons, after_polylines, finished_path, is_open, no_path, open_path, piece_count, piece_limit, pieces_fault, pieces_of_lines, points_if_open, unless_open}
 use Rattle.dc_stack.specs.Pieces.{page_points, plane_lists, with_lists}
-use Rattle.dc_stack.specs.State.{with_path, with_position}
-use Rattle.dc_stack.specs.declared.draw.Draw.{Draw}
+use Rattle.dc_stack.specs.State.{State, with_path, with_position}
 use Rattle.dc_stack.specs.declared.draw.Painting.TheVariants.{Stroke, StrokeAndFill}
 use Rattle.dc_stack.specs.declared.path.PathPhase.{PathPhase}
 use Rattle.dc_stack.specs.declared.path.PathPhase.TheVariants.{NoPath, BetweenFigures, InFigure, Finished, Painted}
@@ -113,7 +115,7 @@ pieces_counted InFigure pieces h = refl
 pieces_counted Finished pieces h = cc
 pieces_counted Painted pieces h = cc
 
--- lists that are added to an open path in place of a drawing
+-- what is added to an open path in place of a drawing
 module _ (path : Path) (at : is_open path ≡ true) where
   kept_points : (points : List Point) → points_if_open path (λ figures. points) ≡ points
   kept_points points = by_path path at
@@ -127,26 +129,30 @@ module _ (path : Path) (at : is_open path ≡ true) where
   or_none None = refl
   or_none (Some fault) = refl
 
-  pub added_fault : (count : ℕ) (points : List Point) (drawing : Option Drawing) (s : Surface) → option_or (option_or (pieces_fault count) (edges_fault (unless_open path drawing))) (off_plane_fault (points_if_open path (λ figures. points) ++ points_drawn (unless_open path drawing)) s) ≡ option_or (pieces_fault count) (off_plane_fault points s)
-  added_fault count points drawing s =
-      rw (at, le-leb 0 edge_limit (omega arith), or_none (pieces_fault count), append-nil (points_if_open path (λ figures. points)), kept_points points) refl
-
-  pub nothing_drawn : (drawing : Option Drawing) → unless_open path drawing ≡ None
+  nothing_drawn : (drawing : Option Drawing) → unless_open path drawing ≡ None
   nothing_drawn drawing = rw at refl
 
+  -- of a drawing that isn't made there are no points
+  undrawn_points : (points : List Point) (drawing : Option Drawing) → points ++ points_drawn (unless_open path drawing) ≡ points
+  undrawn_points points drawing = rw at (append-nil points)
+
+  undrawn_fault : (count : ℕ) (points : List Point) (drawing : Option Drawing) (s : Surface) → option_or (option_or (pieces_fault count) (edges_fault (unless_open path drawing))) (off_plane_fault (points ++ points_drawn (unless_open path drawing)) s) ≡ option_or (pieces_fault count) (off_plane_fault points s)
+  undrawn_fault count points drawing s = rw (at, le-leb 0 edge_limit (omega arith), or_none (pieces_fault count), append-nil points) refl
+
 -- an operation that adds points is played
-pub plays_added : (operation : Operation) (after : Path) (points : List Point) (position : Point) (old : MachineState) (result : Result (Option Draw) Fault) (new : MachineState) → next operation old.state ≡ with_position position (with_path after old.state) → needs_of operation old.state ≡ pieces_needed (piece_count after) → drawing_of operation old.state ≡ None → fault_of operation old.state old.surface ≡ option_or (pieces_fault (piece_count after)) (off_plane_fault points old.surface) → Adds after points position old result new → Plays operation old result new
-plays_added operation after points position old (Ok draw) new state needs drawing fault h = record {
+pub plays_added : (operation : Operation) (after : Path) (points : List Point) (position : Point) (old : MachineState) (result : Result (Option Rect) Fault) (new : MachineState) → next operation old.state ≡ with_position position (with_path after old.state) → needs_of operation old.state ≡ pieces_needed (piece_count after) → drawing_of operation old.state ≡ None → fault_of operation old.state old.surface ≡ adding_fault after points old.surface → plane_points operation old.state ≡ points → Adds after points position old result new → Plays operation old (undrawn result) new
+plays_added operation after points position old (Ok extent) new state needs drawing fault placed h = record {
   stepped = record {
     no_fault = fault ∙ h.no_fault;
     state = h.state ∙ sym state;
     needs = h.needs ∙ ap (greater_needs old.needs) (sym needs);
   };
-  drawn = rw (h.nothing, drawing) refl;
-  placed = rw h.nothing tt;
-  figures = rw h.nothing (λ (e : false ≡ true). cc);
+  drawn = sym drawing;
+  placed = tt;
+  extent = subst (IsExtent extent) (sym placed) h.extent;
+  figures = λ (e : false ≡ true). cc;
 }
-plays_added operation after points position old (Err e) new state needs drawing fault h = record {
+plays_added operation after points position old (Err e) new state needs drawing fault placed h = record {
   refused = elim h.refused [
     | inl first ↦ inl (ap (option_map Record) fault ∙ first)
     | inr wants ↦ inr (record {
@@ -158,27 +164,57 @@ plays_added operation after points position old (Err e) new state needs drawing 
   kept = h.kept;
 }
 
--- so are lists
-module _ (old new : MachineState) (at : is_open old.state.path ≡ true) (points : PiecePoints) (lists : List (List Point)) (plane : plane_lists old.state.dc.map points ≡ mapped_lists old.state.dc.map lists) (page : page_points points ≡ points_of_lists lists) (result : Result (Option Draw) Fault) where
-  same_points : mapped_list old.state.dc.map (page_points points) ≡ points_of_lists (mapped_lists old.state.dc.map lists)
-  same_points = ap (mapped_list old.state.dc.map) page ∙ sym (mapped_joined old.state.dc.map lists)
+module _ (old new : MachineState) (at : is_open old.state.path ≡ true) (result : Result (Option Rect) Fault) where
+  -- points are added by the figures of the path
+  pub plays_kept : (operation : Operation) (after : Path) (kept : Figures → List Point) (position : Point) (drawing : Option Drawing) → next operation old.state ≡ with_position position (with_path after old.state) → needs_of operation old.state ≡ drawing_needs operation old.state → drawing_of operation old.state ≡ unless_open old.state.path drawing → plain_fault operation old.state ≡ option_or (pieces_fault (piece_count (next operation old.state).path)) (edges_fault (drawing_of operation old.state)) → plane_points operation old.state ≡ points_if_open old.state.path kept ++ points_drawn (drawing_of operation old.state) → Adds after (points_if_open old.state.path kept) position old result new → Plays operation old (undrawn result) new
+  plays_kept operation after kept position drawing next_is needs draws plain placed h =
+      let points = points_if_open old.state.path kept in
+      let none = draws ∙ nothing_drawn old.state.path at drawing in
+      let count = ap (λ (s : State). piece_count s.path) next_is in
+      plays_added operation after points position old result new next_is
+      (needs ∙ rw (none, count) refl)
+      none
+      (ap (λ fault. option_or fault (off_plane_fault (plane_points operation old.state) old.surface)) (plain ∙ rw (count, draws) refl)
+      ∙ ap (λ ps. option_or (option_or (pieces_fault (piece_count after)) (edges_fault (unless_open old.state.path drawing))) (off_plane_fault ps old.surface)) (placed ∙ rw draws refl)
+      ∙ undrawn_fault old.state.path at (piece_count after) points drawing old.surface)
+      (placed ∙ rw draws (undrawn_points old.state.path at points drawing))
+      h
 
-  pub plays_polylines : AddsLists Polylines points old result new → Plays (polyline lists) old result new
-  plays_polylines h =
-      let on_plane = mapped_lists old.state.dc.map lists in
-      let after = after_polylines on_plane old.state.path in
-      plays_added (polyline lists) after (points_of_lists on_plane) old.state.dc.position old result new refl
-      (rw (nothing_drawn old.state.path at (drawing_now (lists_painted Stroke on_plane) old.state)) refl)
-      (nothing_drawn old.state.path at (drawing_now (lists_painted Stroke on_plane) old.state))
-      (added_fault old.state.path at (piece_count after) (points_of_lists on_plane) (drawing_now (lists_painted Stroke on_plane) old.state) old.surface)
-      (rw (plane, same_points) at h)
+  -- lines from the position through points, and lines to one
+  pub plays_lines : (points : List Point) → AddsLines points (end_of old.state.dc.position points) old result new → Plays (polyline_to points) old (undrawn result) new
+  plays_lines points h =
+      let start = mapped_point old.state.dc.map old.state.dc.position in
+      let through = mapped_list old.state.dc.map points in
+      plays_kept (polyline_to points) (after_lines start through old.state.path) (λ figures. points_gone_on start figures.current through) (end_of old.state.dc.position points) (drawing_now (lines_mark points old.state) old.state)
+      refl refl refl refl refl h
 
-  pub plays_polygons : AddsLists Polygons points old result new → Plays (polygon lists) old result new
-  plays_polygons h =
-      let on_plane = mapped_lists old.state.dc.map lists in
-      let after = after_polygons on_plane old.state.path in
-      plays_added (polygon lists) after (points_of_lists on_plane) old.state.dc.position old result new refl
-      (rw (nothing_drawn old.state.path at (drawing_now (lists_painted StrokeAndFill on_plane) old.state)) refl)
-      (nothing_drawn old.state.path at (drawing_now (lists_painted StrokeAndFill on_plane) old.state))
-      (added_fault old.state.path at (piece_count after) (points_of_lists on_plane) (drawing_now (lists_painted StrokeAndFill on_plane) old.state) old.surface)
-      (rw (plane, same_points) at h)
+  pub plays_line : (point : Point) → AddsLines (point ∷ []) point old result new → Plays (line_to point) old (undrawn result) new
+  plays_line point h =
+      let start = mapped_point old.state.dc.map old.state.dc.position in
+      let through = mapped_list old.state.dc.map (point ∷ []) in
+      plays_kept (line_to point) (after_lines start through old.state.path) (λ figures. points_gone_on start figures.current through) point (drawing_now (lines_mark (point ∷ []) old.state) old.state)
+      refl refl refl refl refl h
+
+  -- lists, and the corners of a rectangle
+  module _ (points : PiecePoints) (lists : List (List Point)) (plane : plane_lists old.state.dc.map points ≡ mapped_lists old.state.dc.map lists) (page : page_points points ≡ points_of_lists lists) where
+    abbrev on_plane : List (List Point)
+    on_plane = mapped_lists old.state.dc.map lists
+
+    listed : points_if_open old.state.path (λ figures. points_of_lists on_plane) ≡ mapped_list old.state.dc.map (page_points points)
+    listed = kept_points old.state.path at (points_of_lists on_plane) ∙ mapped_joined old.state.dc.map lists ∙ ap (mapped_list old.state.dc.map) (sym page)
+
+    pub plays_polylines : AddsLists Polylines points old result new → Plays (polyline lists) old (undrawn result) new
+    plays_polylines h =
+        plays_kept (polyline lists) (after_polylines on_plane old.state.path) (λ figures. points_of_lists on_plane) old.state.dc.position (drawing_now (lists_mark Stroke lists old.state) old.state)
+        refl refl refl refl refl (rw listed (rw plane at h))
+
+    pub plays_polygons : AddsLists Polygons points old result new → Plays (polygon lists) old (undrawn result) new
+    plays_polygons h =
+        plays_kept (polygon lists) (after_polygons on_plane old.state.path) (λ figures. points_of_lists on_plane) old.state.dc.position (drawing_now (lists_mark StrokeAndFill lists old.state) old.state)
+        refl refl refl refl refl (rw listed (rw plane at h))
+
+  pub plays_rectangle : (corners : Rect) (edges : RectangleEdges) → AddsLists Polygons (Corners corners) old result new → Plays (rectangle corners edges) old (undrawn result) new
+  plays_rectangle corners edges h =
+      let map = old.state.dc.map in
+      plays_kept (rectangle corners edges) (after_polygons (box_corners (mapped_box map corners) ∷ []) old.state.path) (λ figures. mapped_corners map corners) old.state.dc.position (drawing_now (rectangle_mark corners edges old.state) old.state)
+      refl refl refl refl refl (rw (kept_points old.state.path at (mapped_corners map corners)) h)

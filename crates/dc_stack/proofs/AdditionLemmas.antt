@@ -1,17 +1,19 @@
 -- What pieces that are added do to an open path.
 use Rattle.std.proofs.Common.{◌≡◌, ◌≢◌, ◌⊎◌, ℕ, ◌+◌, ◌<◌, ◌≤◌, true, List, [], ◌∷◌, ◌++◌, length, Option, Result, Ok, Err, inl, inr, arith, refl, ap, subst, sym, ◌∙◌}
 use Rattle.draw_ops.specs.declared.fault.Fault.TheVariants.{Record}
-use Rattle.std.specs.Prelude.{⊤, OnOk}
+use Rattle.std.specs.Prelude.{OnOk}
 use Rattle.std.specs.Option.{option_map, option_or}
 use Rattle.std.proofs.lemmas.List.{append_assoc, length-append}
 use Rattle.mapping.specs.PageMap.{map_numbers}
 use Rattle.mapping.specs.Plane.{MapNumbers}
 use Rattle.mapping.specs.Surface.{Surface}
 use Rattle.mapping.specs.declared.geometry.Point.{Point}
+use Rattle.mapping.specs.declared.geometry.Rect.{Rect}
 use Rattle.mapping.specs.declared.page_map.PageMap.{PageMap}
 use Rattle.draw_ops.specs.declared.fault.Fault.{Fault}
 use Rattle.draw_ops.specs.declared.record_fault.RecordFault.{RecordFault}
 use Rattle.dc_stack.specs.Drawing.{points_of_lists}
+use Rattle.dc_stack.specs.Extents.{IsExtent}
 use Rattle.dc_stack.specs.Figures.{Figures, no_figures, points_gone_on, with_polygon, with_polygons, with_polyline, with_polylines}
 use Rattle.dc_stack.specs.GatheredPath.{AnswersAddition, IsGathered, addition_fault, after_lists, is_open_phase, open_piece, path_in, path_of, phase_behind}
 use Rattle.dc_stack.specs.Mapped.{mapped_list, mapped_point}
@@ -39,10 +41,10 @@ pub of_three : {T E A B C D : Type 0} (r : Result T E) → (A → B → C → D)
 of_three (Ok x) f a b c = f a b c
 of_three (Err e) f a b c = tt
 
--- the same fault and the same want of room are the same answer
-pub same_answer : (r : Result ⊤ Fault) (f g : Option RecordFault) (L M : Type 0) → f ≡ g → (L → M) → AnswersAddition r f L → AnswersAddition r g M
-same_answer (Ok x) f g L M e lacks h = sym e ∙ h
-same_answer (Err fault) f g L M e lacks h = elim h [
+-- the same points, the same fault and the same want of room are the same answer
+pub same_answer : (r : Result (Option Rect) Fault) (ps qs : List Point) (f g : Option RecordFault) (L M : Type 0) → ps ≡ qs → f ≡ g → (L → M) → AnswersAddition r ps f L → AnswersAddition r qs g M
+same_answer (Ok extent) ps qs f g L M same e lacks h = record { no_fault = sym e ∙ h.no_fault; extent = subst (IsExtent extent) same h.extent }
+same_answer (Err fault) ps qs f g L M same e lacks h = elim h [
   | inl first ↦ inl (ap (option_map Record) (sym e) ∙ first)
   | inr wants ↦ inr (record { no_fault = sym e ∙ wants.no_fault; memory = wants.memory; lacks = lacks wants.lacks })
 ]
@@ -189,6 +191,13 @@ module _ (start : Point) (ps : List Point) (some : ps ≢ []) where
         ap (after_lines start ps) at
         ∙ rw (beginning f.current h, two_more f.current h, append_assoc f.current (start ∷ []) ps) refl
 
+    -- which points they add
+    pub points_gone : f.current ≢ [] → ps ≡ points_if_open path (λ figures. points_gone_on start figures.current ps)
+    points_gone h = rw (at, going_on f.current h) refl
+
+    pub points_begun : f.current ≡ [] → start ∷ ps ≡ points_if_open path (λ figures. points_gone_on start figures.current ps)
+    points_begun h = rw (at, beginning f.current h) refl
+
     -- and the first fault
     pub fault_gone_on : (s : Surface) → f.current ≢ [] → addition_fault (n + 1) ps s ≡ option_or (pieces_fault (piece_count (after_lines start ps path))) (off_plane_fault (points_if_open path (λ figures. points_gone_on start figures.current ps)) s)
     fault_gone_on s h = rw (path_gone_on h, at, going_on f.current h) refl
@@ -252,6 +261,9 @@ module _ (old new : GatheredPath) (start : Point) (points : PiecePoints) (map : 
   abbrev count : ℕ
   count = length old.pieces.items
 
+  abbrev added : List Point
+  added = points_if_open (path_of old) (λ figures. points_gone_on start figures.current through)
+
   some_through : through ≢ []
   some_through = some_mapped (map_numbers map) (page_points points) some
 
@@ -266,9 +278,9 @@ module _ (old new : GatheredPath) (start : Point) (points : PiecePoints) (map : 
 
   -- in a figure they are one piece
   module _ (at : old.phase ≡ InFigure) where
-    pub answer_within : (r : Result ⊤ Fault) (s : Surface) (room : ℕ) → AnswersAddition r (addition_fault (count + 1) through s) (room < count + 1) → AnswersAddition r (option_or (pieces_fault (piece_count (after_lines start through (path_of old)))) (off_plane_fault (points_if_open (path_of old) (λ figures. points_gone_on start figures.current through)) s)) (room < piece_count (after_lines start through (path_of old)))
+    pub answer_within : (r : Result (Option Rect) Fault) (s : Surface) (room : ℕ) → AnswersAddition r through (addition_fault (count + 1) through s) (room < count + 1) → AnswersAddition r added (addition_fault (piece_count (after_lines start through (path_of old))) added s) (room < piece_count (after_lines start through (path_of old)))
     answer_within r s room h =
-        same_answer r _ _ _ _ (fault_gone_on start through some_through (path_of old) before count (within at) s (whole.within at))
+        same_answer r _ _ _ _ _ _ (points_gone start through some_through (path_of old) before count (within at) (whole.within at)) (fault_gone_on start through some_through (path_of old) before count (within at) s (whole.within at))
         (λ (lacks : room < count + 1). subst (λ (n : ℕ). room < n) (sym (count_gone_on start through some_through (path_of old) before count (within at) (whole.within at))) lacks) h
 
     module _ (items : new.pieces.items ≡ old.pieces.items ++ open_piece points map GoesOn ∷ []) (phase : new.phase ≡ InFigure) where
@@ -283,9 +295,9 @@ module _ (old new : GatheredPath) (start : Point) (points : PiecePoints) (map : 
 
   -- and where none is open, two
   module _ (at : old.phase ≡ BetweenFigures) where
-    pub answer_between : (r : Result ⊤ Fault) (s : Surface) (room : ℕ) → AnswersAddition r (addition_fault (count + 2) (start ∷ through) s) (room < count + 2) → AnswersAddition r (option_or (pieces_fault (piece_count (after_lines start through (path_of old)))) (off_plane_fault (points_if_open (path_of old) (λ figures. points_gone_on start figures.current through)) s)) (room < piece_count (after_lines start through (path_of old)))
+    pub answer_between : (r : Result (Option Rect) Fault) (s : Surface) (room : ℕ) → AnswersAddition r (start ∷ through) (addition_fault (count + 2) (start ∷ through) s) (room < count + 2) → AnswersAddition r added (addition_fault (piece_count (after_lines start through (path_of old))) added s) (room < piece_count (after_lines start through (path_of old)))
     answer_between r s room h =
-        same_answer r _ _ _ _ (fault_begun start through some_through (path_of old) before count (between at) s (whole.between at))
+        same_answer r _ _ _ _ _ _ (points_begun start through some_through (path_of old) before count (between at) (whole.between at)) (fault_begun start through some_through (path_of old) before count (between at) s (whole.between at))
         (λ (lacks : room < count + 2). subst (λ (n : ℕ). room < n) (sym (count_begun start through some_through (path_of old) before count (between at) (whole.between at))) lacks) h
 
     module _ (position : Point) (here : start ≡ mapped_point (map_numbers map) position) (items : new.pieces.items ≡ old.pieces.items ++ open_piece (OnePoint position) map GoesOn ∷ [] ++ open_piece points map GoesOn ∷ []) (phase : new.phase ≡ InFigure) where

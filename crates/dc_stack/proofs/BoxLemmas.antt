@@ -48,10 +48,6 @@ module _ (laws : PlacingLaws) (s : Surface) (shows : ShowsFrame s) where
   bottom : (v w : ℤ) → int_max (placed v s.height s.frame_height) (placed w s.height s.frame_height) ≡ placed (int_max v w) s.height s.frame_height
   bottom = max_kept (λ v. placed v s.height s.frame_height) rows
 
-  -- the box between placed corners
-  pub placed_between : (p q : Point) → box_between (placed_point p s) (placed_point q s) ≡ placed_box s (box_between p q)
-  placed_between p q = rw (left p.x q.x, top p.y q.y, right p.x q.x, bottom p.y q.y) refl
-
   -- what placed boxes have in common
   placed_common : (first second : Rect) → common_box (placed_box s first) (placed_box s second) ≡ placed_box s (common_box first second)
   placed_common first second = rw (right first.l second.l, bottom first.t second.t, left first.r second.r, top first.b second.b) refl

@@ -1,11 +1,11 @@
 -- Pieces that are added land, and the box grows with them.
 use Rattle.std.proofs.Common.{◌≡◌, ℕ, nat_le, true, List, [], ◌∷◌, ◌++◌, None, refl, ap, subst, sym, ◌∙◌}
 use Rattle.std.proofs.lemmas.List.Elements.{All-append, All-cons, All-nil}
-use Rattle.mapping.specs.Boxes.{IsBoxOf}
 use Rattle.mapping.specs.PageMap.{map_numbers}
 use Rattle.mapping.specs.Surface.{Surface}
 use Rattle.mapping.specs.declared.geometry.Point.{Point}
 use Rattle.dc_stack.specs.Drawing.{points_of_lists}
+use Rattle.dc_stack.specs.Extents.{IsExtent}
 use Rattle.dc_stack.specs.GatheredPath.{LandsInside, addition_fault, gathered_points}
 use Rattle.dc_stack.specs.Mapped.{mapped_list}
 use Rattle.dc_stack.specs.OperationFault.{off_plane_fault}
@@ -23,10 +23,10 @@ pieces_land s pieces piece none h =
     (All-cons (LandsOn s) piece [] (all_land s (mapped_list (map_numbers piece.map) (page_points piece.points)) none) (All-nil (LandsOn s)))
 
 -- so a path with one piece more lands, and has the least box around all its points
-pub lands_with : (s : Surface) (old new : GatheredPath) (piece : Piece) → new.pieces.items ≡ old.pieces.items ++ piece ∷ [] → (IsBoxOf old.bounds (gathered_points old.pieces.items) → IsBoxOf new.bounds (gathered_points old.pieces.items ++ points_of_lists (plane_lists (map_numbers piece.map) piece.points))) → None ≡ off_plane_fault (mapped_list (map_numbers piece.map) (page_points piece.points)) s → LandsInside s old → LandsInside s new
+pub lands_with : (s : Surface) (old new : GatheredPath) (piece : Piece) → new.pieces.items ≡ old.pieces.items ++ piece ∷ [] → (IsExtent old.bounds (gathered_points old.pieces.items) → IsExtent new.bounds (gathered_points old.pieces.items ++ points_of_lists (plane_lists (map_numbers piece.map) piece.points))) → None ≡ off_plane_fault (mapped_list (map_numbers piece.map) (page_points piece.points)) s → LandsInside s old → LandsInside s new
 lands_with s old new piece items grows none h = record {
   pieces = subst (AllLandOn s) (sym items) (pieces_land s old.pieces.items piece none h.pieces);
-  least = subst (IsBoxOf new.bounds) (sym (ap gathered_points items ∙ points_behind old.pieces.items piece)) (grows h.least);
+  least = subst (IsExtent new.bounds) (sym (ap gathered_points items ∙ points_behind old.pieces.items piece)) (grows h.least);
 }
 
 -- where there are few pieces, the fault of an addition is that of its points

@@ -8,7 +8,7 @@ pub mod CornerLemmas
 pub mod GatheringLemmas
 pub mod CountLemmas
 pub mod PaintingLemmas
-pub mod PlacedPointLemmas
+pub mod MarkingLemmas
 pub mod AddingLemmas
 pub mod AdditionLemmas
 pub mod FaultLemmas

@@ -72,33 +72,10 @@ never_too_many count h = h
 pub few_then : (count : ℕ) → count ≤ 1048576 → nat_le count edge_limit ≡ true
 few_then count h = le-leb count edge_limit (never_too_many count h)
 
--- where points have no fault, they are no more and land
-pub few_points : (points : List Point) (s : Surface) → None ≡ points_fault points s → length points ≤ edge_limit
-few_points points s h = leb-true (length points) edge_limit (first_none (nat_le (length points) edge_limit) h)
-  where
-    first_none : (test : Bool) → None ≡ option_or (cond test None (Some TooManyEdges)) (off_plane_fault points s) → test ≡ true
-    first_none true e = refl
-    first_none false e = cc
-
-pub none_off_plane : (points : List Point) (s : Surface) → None ≡ points_fault points s → None ≡ off_plane_fault points s
-none_off_plane points s h = second_none _ (off_plane_fault points s) h
-  where
-    second_none : (a b : Option RecordFault) → None ≡ option_or a b → None ≡ b
-    second_none None b e = e
-    second_none (Some f) b e = cc
-
 -- there is a point where a test says that there are some
 pub has_points : (points : List Point) (test : Bool) → IsTrue test ↔ (points ≡ []) → test ≡ false → 0 < length points
 has_points [] test tells h = absurd (false≢true (sym h ∙ tells.1 refl))
 has_points (p ∷ ps) test tells h = omega arith
-
--- the points of one list land, where they have no fault
-pub one_list_lands : (points : List Point) (s : Surface) → None ≡ points_fault points s → list_all (λ p. lands_within_limits p s) (points_of_lists (points ∷ [])) ≡ true
-one_list_lands points s h = rw (joined_one points) (all_land s points (none_off_plane points s h))
-
--- and there are at most so many in it
-pub one_list_few : (points : List Point) (s : Surface) → None ≡ points_fault points s → length (points_of_lists (points ∷ [])) ≤ edge_limit
-one_list_few points s h = rw (joined_one points) (few_points points s h)
 
 -- the last point
 pub end_at : (start : Point) (points : List Point) (i : ℕ) (p : Point) → suc i ≡ length points → slice_get points i ≡ Some p → p ≡ end_of start points

@@ -1,30 +1,32 @@
 -- Paintings of a path that waits for it.
-use Rattle.std.proofs.Common.{◌≡◌, ℕ, ℤ, ◌<◌, ◌≤◌, Bool, true, ◌&&◌, nat_le, if◌then◌else◌, List, [], ◌∷◌, length, Option, Some, None, inl, refl, ap, sym, ◌∙◌}
+use Rattle.std.proofs.Common.{◌≡◌, ℕ, ℤ, ◌<◌, ◌≤◌, Bool, true, ◌&&◌, nat_le, if◌then◌else◌, List, [], ◌∷◌, length, Option, Some, None, inl, refl, ap, subst, sym, ◌∙◌}
 use Rattle.std.proofs.lemmas.Bool.{and_from, and_parts, le-leb, lt-leb}
 use Rattle.std.proofs.lemmas.List.Elements.{All-head, All-tail}
 use Rattle.std.proofs.lemmas.List.Folds.{list_all-append}
 use Rattle.std.specs.List.{flat_map, list_all}
 use Rattle.std.specs.Option.{option_map, option_or}
-use Rattle.mapping.specs.Boxes.{IsLeastBox}
 use Rattle.mapping.specs.Limits.{is_within, place_limit, plane_limit}
 use Rattle.mapping.specs.PageMap.{map_numbers}
 use Rattle.mapping.specs.Plane.{MapNumbers}
 use Rattle.mapping.specs.Surface.{Surface, lands_within_limits, placed}
 use Rattle.mapping.specs.declared.geometry.Point.{Point}
 use Rattle.mapping.specs.declared.geometry.Rect.{Rect}
+use Rattle.draw_ops.specs.declared.fault.Fault.{Fault}
 use Rattle.draw_ops.specs.declared.fault.Fault.TheVariants.{Record}
 use Rattle.draw_ops.specs.declared.record_fault.RecordFault.{RecordFault}
 use Rattle.draw_ops.specs.declared.record_fault.RecordFault.TheVariants.{TooManyEdges}
 use Rattle.point_views.specs.PartedPoints.{parts_of}
 use Rattle.point_views.specs.Points.{points_of}
 use Rattle.dc_stack.specs.Drawing.{drawing_of, edge_limit, figures_painted, points_of_lists, tools_of}
+use Rattle.dc_stack.specs.Extents.{IsExtent}
 use Rattle.dc_stack.specs.Figures.{Figure, all_figures, box_corners, points_of_figures}
-use Rattle.dc_stack.specs.GatheredPath.{gathered_points}
-use Rattle.dc_stack.specs.MachineState.{HasPlayed, IsUnchanged, HasRefused, MachineState, painting_operation}
+use Rattle.dc_stack.specs.GatheredPath.{gathered_points, path_in}
+use Rattle.dc_stack.specs.MachineState.{HasPlayed, IsUnchanged, HasRefused, MachineState, Outcome, painting_operation}
+use Rattle.dc_stack.specs.Marking.{HasMarked, HasNotMarked}
 use Rattle.dc_stack.specs.Mapped.{left_top, mapped_box, mapped_corners, mapped_list, right_bottom}
 use Rattle.dc_stack.specs.Needs.{greater_needs, needs_of, points_needed}
 use Rattle.dc_stack.specs.Next.{next}
-use Rattle.dc_stack.specs.OperationFault.{fault_of, off_plane_fault}
+use Rattle.dc_stack.specs.OperationFault.{fault_of, off_plane_fault, plane_points as placed_points}
 use Rattle.dc_stack.specs.Path.{finished_path, no_path}
 use Rattle.dc_stack.specs.Pieces.{AllLandOn, LandsOn, figures_of, page_points, plane_lists}
 use Rattle.dc_stack.specs.State.{State, with_path}
@@ -32,12 +34,14 @@ use Rattle.dc_stack.specs.declared.draw.FigurePoints.TheVariants.{Path}
 use Rattle.dc_stack.specs.declared.draw.Mark.TheVariants.{Figures}
 use Rattle.dc_stack.specs.declared.draw.Painting.{Painting}
 use Rattle.dc_stack.specs.declared.draw.Painting.TheVariants.{Fill, Stroke, StrokeAndFill}
+use Rattle.dc_stack.specs.declared.path.PathPhase.{PathPhase}
+use Rattle.dc_stack.specs.declared.path.PathPhase.TheVariants.{NoPath, BetweenFigures, InFigure, Finished, Painted}
 use Rattle.dc_stack.specs.declared.piece.Piece.{Piece}
 use Rattle.dc_stack.specs.declared.piece.PiecePoints.{PiecePoints}
 use Rattle.dc_stack.specs.declared.piece.PiecePoints.TheVariants.{Point as OnePoint, List as OneList, Lists, Corners}
 use Rattle.dc_stack.proofs.CornerLemmas.{of_greater, of_lesser}
 use Rattle.dc_stack.proofs.FigureLemmas.{plane_points, points_gathered}
-use Rattle.dc_stack.proofs.LandingLemmas.{none_off}
+use Rattle.dc_stack.proofs.PlaneBoxLemmas.{least_of_extent}
 use Rattle.dc_stack.proofs.ListLemmas.{mapped_joined}
 
 -- more points than there may be, or else points off the plane
@@ -65,6 +69,11 @@ module _ (state : State) (figures : List Figure) (at : state.path ≡ finished_p
   painting_needs Fill = rw at refl
   painting_needs Stroke = rw at refl
   painting_needs StrokeAndFill = rw at refl
+
+  painting_points : (painting : Painting) → placed_points (painting_operation painting) state ≡ points_of_figures figures
+  painting_points Fill = rw at refl
+  painting_points Stroke = rw at refl
+  painting_points StrokeAndFill = rw at refl
 
 -- the points of pieces on the plane land, where those of the page do
 module _ (s : Surface) where
@@ -142,27 +151,45 @@ module _ (s : Surface) where
   gathered_lands pieces h = ap all_lands (points_gathered pieces) ∙ pieces_land pieces h
 
 -- a finished path is painted
-pub plays_painting : (old new : MachineState) (painting : Painting) (bounds : Rect) (edges : ℕ) (pieces : List Piece) → old.state.path ≡ finished_path (all_figures (figures_of pieces)) → new.state ≡ with_path no_path old.state → new.painted ≡ pieces → new.needs ≡ greater_needs old.needs (points_needed edges) → edges ≡ length (gathered_points pieces) → length (gathered_points pieces) ≤ edge_limit → AllLandOn old.surface pieces → IsLeastBox bounds (gathered_points pieces) → HasPlayed (painting_operation painting) old new (Some (record { mark = Figures painting Path; bounds = bounds; edges = edges }))
-plays_painting old new painting bounds edges pieces at state lent needs counted few land least =
-    let figures = all_figures (figures_of pieces) in
-    let lands = gathered_lands old.surface pieces land in
-    let none : figures_fault figures old.surface ≡ None = rw (le-leb (length (gathered_points pieces)) edge_limit few) (sym (none_off old.surface (gathered_points pieces) lands)) in
-    record {
-      stepped = record {
-        no_fault = painting_fault old.state figures at painting old.surface ∙ none;
-        state = state ∙ sym (painting_next old.state figures at painting);
-        needs = needs ∙ ap (λ n. greater_needs old.needs (points_needed n)) counted ∙ ap (greater_needs old.needs) (sym (painting_needs old.state figures at painting));
-      };
-      drawn = rw (lent, state) (sym (painting_drawn old.state figures at painting));
-      placed = rw lent (record {
-        ready = land;
-        counted = counted;
-        least = least;
-        within = lands;
-        few = few;
-      });
-      figures = λ e. rw (lent, at) refl;
-    }
+module _ (old new : MachineState) (painting : Painting) (extent : Option Rect) (edges : ℕ) (figures : List Figure) (at : old.state.path ≡ finished_path figures) (counted : edges ≡ length (points_of_figures figures)) (few : length (points_of_figures figures) ≤ edge_limit) (boxed : IsExtent extent (points_of_figures figures)) where
+  fault_then : fault_of (painting_operation painting) old.state old.surface ≡ off_plane_fault (points_of_figures figures) old.surface
+  fault_then = painting_fault old.state figures at painting old.surface ∙ rw (le-leb (length (points_of_figures figures)) edge_limit few) refl
+
+  -- whose figures are those of the pieces that are lent
+  pub plays_painting : (mid : MachineState) (told : Outcome) (pieces : List Piece) → all_figures (figures_of pieces) ≡ figures → new.state ≡ with_path no_path old.state → new.painted ≡ pieces → new.needs ≡ mid.needs → AllLandOn old.surface pieces → HasMarked (Figures painting Path) extent edges old mid told → HasPlayed (painting_operation painting) old new told
+  plays_painting mid told pieces same state lent needs land h =
+      rw h.tells (record {
+        stepped = record {
+          no_fault = fault_then ∙ sym (h.lands (points_of_figures figures) boxed);
+          state = state ∙ sym (painting_next old.state figures at painting);
+          needs = needs ∙ h.needs ∙ ap (λ n. greater_needs old.needs (points_needed n)) counted ∙ ap (greater_needs old.needs) (sym (painting_needs old.state figures at painting));
+        };
+        drawn = rw (lent, same, state) (sym (painting_drawn old.state figures at painting));
+        placed = rw lent (record {
+          ready = land;
+          counted = rw same counted;
+          least = rw same (least_of_extent extent (points_of_figures figures) boxed);
+          within = gathered_lands old.surface pieces land;
+          few = rw same few;
+        });
+        extent = subst (IsExtent extent) (sym (painting_points old.state figures at painting)) boxed;
+        figures = λ e. rw (lent, at, same) refl;
+      })
+
+  -- or its points don't land
+  pub refuses_off : (fault : Fault) → HasNotMarked extent old new fault → HasRefused (painting_operation painting) old new fault
+  refuses_off fault h = record {
+    refused = inl (ap (option_map Record) fault_then ∙ h.off (points_of_figures figures) boxed);
+    kept = h.kept;
+  }
+
+-- the figures of a finished path are those of its pieces
+pub finished_figures : (phase : PathPhase) (pieces : List Piece) (figures : List Figure) → path_in phase pieces ≡ finished_path figures → all_figures (figures_of pieces) ≡ figures
+finished_figures NoPath pieces figures h = cc
+finished_figures BetweenFigures pieces figures h = cc
+finished_figures InFigure pieces figures h = cc
+finished_figures Finished pieces figures h = cc
+finished_figures Painted pieces figures h = cc
 
 -- or has more points than it may
 pub refuses_painting : (old new : MachineState) (painting : Painting) (pieces : List Piece) → old.state.path ≡ finished_path (all_figures (figures_of pieces)) → edge_limit < length (gathered_points pieces) → IsUnchanged old new → HasRefused (painting_operation painting) old new (Record TooManyEdges)

@@ -4,6 +4,7 @@ use Rattle.std.specs.List.{flat_map}
 use Rattle.std.specs.Option.{option_map}
 use Rattle.mapping.specs.declared.geometry.Colour.{Colour}
 use Rattle.mapping.specs.declared.geometry.Point.{Point}
+use Rattle.mapping.specs.declared.geometry.Rect.{Rect}
 use Rattle.draw_ops.specs.declared.objects.Pen.{Pen}
 use Rattle.draw_ops.specs.declared.operation.RectangleEdges.{RectangleEdges}
 use Rattle.draw_ops.specs.Blits.{SourceValue}
@@ -60,6 +61,18 @@ abbrev pub going_on : Point → List Point → List (List Point)
 going_on start [] = []
 going_on start (point ∷ points) = (start ∷ point ∷ points) ∷ []
 
+-- the mark of lines from the position through points of the page
+abbrev pub lines_mark : List Point → State → MarkValue
+lines_mark points state = lists_painted Stroke (mapped_lists state.dc.map (going_on state.dc.position points))
+
+-- the mark of lists of points of the page
+abbrev pub lists_mark : Painting → List (List Point) → State → MarkValue
+lists_mark painting lists state = lists_painted painting (mapped_lists state.dc.map lists)
+
+-- the mark of a rectangle of the page
+abbrev pub rectangle_mark : Rect → RectangleEdges → State → MarkValue
+rectangle_mark corners edges state = rectangle_between (left_top state.dc.map corners) (right_bottom state.dc.map corners) edges
+
 -- the drawing of a mark where no path is open: an open one is added to in place of that
 abbrev drawing_unless_open : MarkValue → State → Option Drawing
 drawing_unless_open mark state = unless_open state.path (drawing_now mark state)
@@ -89,15 +102,12 @@ drawing_of (exclude_clip corners) state = None
 drawing_of (intersect_clip corners) state = None
 drawing_of remove_clip state = None
 drawing_of (move_to point) state = None
-drawing_of (line_to point) state =
-    drawing_unless_open (lists_painted Stroke (mapped_lists state.dc.map (going_on state.dc.position (point ∷ [])))) state
+drawing_of (line_to point) state = drawing_unless_open (lines_mark (point ∷ []) state) state
 drawing_of (pixel point colour) state = drawing_now (dot (mapped_point state.dc.map point) colour) state
-drawing_of (rectangle corners edges) state =
-    drawing_unless_open (rectangle_between (left_top state.dc.map corners) (right_bottom state.dc.map corners) edges) state
-drawing_of (polyline lists) state = drawing_unless_open (lists_painted Stroke (mapped_lists state.dc.map lists)) state
-drawing_of (polygon lists) state = drawing_unless_open (lists_painted StrokeAndFill (mapped_lists state.dc.map lists)) state
-drawing_of (polyline_to points) state =
-    drawing_unless_open (lists_painted Stroke (mapped_lists state.dc.map (going_on state.dc.position points))) state
+drawing_of (rectangle corners edges) state = drawing_unless_open (rectangle_mark corners edges state) state
+drawing_of (polyline lists) state = drawing_unless_open (lists_mark Stroke lists state) state
+drawing_of (polygon lists) state = drawing_unless_open (lists_mark StrokeAndFill lists state) state
+drawing_of (polyline_to points) state = drawing_unless_open (lines_mark points state) state
 drawing_of (blit asked) state =
     drawing_now (blit_between (mapped_point state.dc.map asked.corner) (mapped_point state.dc.map (opposite_corner asked)) asked.table asked.source) state
 drawing_of (create at object) state = None

@@ -1,31 +1,33 @@
 -- What drawing does to a machine whose path isn't open.
-use Rattle.std.specs.Prelude.{◌≡◌, false, Option, None, Some, IfSome, Result, Ok, Err}
+use Rattle.std.specs.Prelude.{◌≡◌, false, List, Option, None, Some, IfSome, Result, Ok, Err}
 use Rattle.std.specs.Option.{option_map, option_or}
 use Rattle.mapping.specs.declared.geometry.Point.{Point}
 use Rattle.draw_ops.specs.declared.fault.Fault.{Fault}
 use Rattle.draw_ops.specs.declared.fault.Fault.TheVariants.{Record}
 use Rattle.draw_ops.specs.declared.record_fault.RecordFault.{RecordFault}
-use Rattle.dc_stack.specs.Drawing.{MarkValue, drawing_now, mark_edges, mark_points}
+use Rattle.dc_stack.specs.Drawing.{MarkValue, drawing_now, lines_mark, mark_edges, mark_points}
 use Rattle.dc_stack.specs.Draws.{IsPlacedDraw, paints_path}
-use Rattle.dc_stack.specs.MachineState.{IsUnchanged, MachineState, drawing_with}
+use Rattle.dc_stack.specs.Extents.{IsExtent}
+use Rattle.dc_stack.specs.MachineState.{IsUnchanged, MachineState, Outcome, drawing_with}
 use Rattle.dc_stack.specs.Needs.{greater_needs, points_needed}
+use Rattle.dc_stack.specs.Next.{end_of}
 use Rattle.dc_stack.specs.OperationFault.{edges_fault, off_plane_fault}
 use Rattle.dc_stack.specs.State.{State, with_position}
 use Rattle.mapping.specs.Surface.{Surface}
-use Rattle.dc_stack.specs.declared.draw.Draw.{Draw}
 
 -- the first fault of a mark
 abbrev pub mark_fault : MarkValue → State → Surface → Option RecordFault
 mark_fault mark state s = option_or (edges_fault (drawing_now mark state)) (off_plane_fault (mark_points mark) s)
 
 -- a mark was drawn, which isn't of a path, and the position is this
-pub record HasDrawn (mark : MarkValue) (position : Point) (old new : MachineState) (draw : Option Draw) : Type 0 where
+pub record HasDrawn (mark : MarkValue) (position : Point) (old new : MachineState) (told : Outcome) : Type 0 where
   pub no_fault : mark_fault mark old.state old.surface ≡ None
   pub state : new.state ≡ with_position position old.state
   pub needs : new.needs ≡ greater_needs old.needs (points_needed (mark_edges mark))
-  pub drawn : option_map (drawing_with new) draw ≡ drawing_now mark old.state
-  pub placed : IfSome draw (IsPlacedDraw old.surface new.painted)
-  pub apart : paints_path draw ≡ false
+  pub drawn : option_map (drawing_with new) told.draw ≡ drawing_now mark old.state
+  pub placed : IfSome told.draw (IsPlacedDraw old.surface new.painted)
+  pub apart : paints_path told.draw ≡ false
+  pub extent : IsExtent told.extent (mark_points mark)
 
 -- it has a fault: nothing has changed
 pub record HasNotDrawn (mark : MarkValue) (old new : MachineState) (fault : Fault) : Type 0 where
@@ -33,6 +35,14 @@ pub record HasNotDrawn (mark : MarkValue) (old new : MachineState) (fault : Faul
   pub kept : IsUnchanged old new
 
 -- one of both
-abbrev pub DrawsApart : MarkValue → Point → MachineState → Result (Option Draw) Fault → MachineState → Type 0
-DrawsApart mark position old (Ok draw) new = HasDrawn mark position old new draw
+abbrev pub DrawsApart : MarkValue → Point → MachineState → Result Outcome Fault → MachineState → Type 0
+DrawsApart mark position old (Ok told) new = HasDrawn mark position old new told
 DrawsApart mark position old (Err fault) new = HasNotDrawn mark old new fault
+
+-- the same for the mark that the state makes, and for a position that stays
+abbrev pub DrawsHere : (State → MarkValue) → MachineState → Result Outcome Fault → MachineState → Type 0
+DrawsHere mark old result new = DrawsApart (mark old.state) old.state.dc.position old result new
+
+-- and for lines from the position through points, of which the last is the position then
+abbrev pub DrawsLines : List Point → MachineState → Result Outcome Fault → MachineState → Type 0
+DrawsLines points old result new = DrawsApart (lines_mark points old.state) (end_of old.state.dc.position points) old result new

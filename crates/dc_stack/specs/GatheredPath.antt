@@ -1,20 +1,23 @@
 -- The value of a path as a machine gathers it.
-use Rattle.std.specs.Prelude.{◌≡◌, ◌≢◌, ◌⊎◌, ⊤, ℕ, ◌<◌, ◌≤◌, Option, Some, None, Result, Ok, Err, Bool, true, false, List, [], length, vec_capacity}
+use Rattle.std.specs.Prelude.{◌≡◌, ◌≢◌, ◌⊎◌, ℕ, ◌+◌, ◌<◌, ◌≤◌, Option, Some, None, Result, Ok, Err, Bool, true, false, List, [], ◌∷◌, ◌++◌, length, vec_capacity}
 use Rattle.std.specs.Option.{option_map, option_or}
-use Rattle.mapping.specs.Boxes.{IsBoxOf}
-use Rattle.mapping.specs.Plane.{MapNumbers}
+use Rattle.mapping.specs.PageMap.{map_numbers}
+use Rattle.mapping.specs.PlaceOf.{surface_of}
 use Rattle.mapping.specs.Surface.{Surface}
 use Rattle.mapping.specs.declared.geometry.Point.{Point}
+use Rattle.mapping.specs.declared.geometry.Rect.{Rect}
 use Rattle.mapping.specs.declared.page_map.PageMap.{PageMap}
 use Rattle.draw_ops.specs.declared.fault.Fault.{Fault}
 use Rattle.draw_ops.specs.declared.fault.Fault.TheVariants.{OutOfMemory, Record}
 use Rattle.draw_ops.specs.declared.record_fault.RecordFault.{RecordFault}
 use Rattle.dc_stack.specs.Drawing.{points_of_lists}
+use Rattle.dc_stack.specs.Extents.{IsExtent}
 use Rattle.dc_stack.specs.Figures.{all_figures, points_gone_on, points_of_figures}
-use Rattle.dc_stack.specs.Mapped.{mapped_list, mapped_point}
+use Rattle.dc_stack.specs.Mapped.{mapped_point}
 use Rattle.dc_stack.specs.OperationFault.{off_plane_fault}
 use Rattle.dc_stack.specs.Path.{Path, after_lines, finished_path, no_path, open_path, piece_count, piece_for, piece_limit, pieces_fault, points_if_open, with_figures}
-use Rattle.dc_stack.specs.Pieces.{AllLandOn, figures_of, with_lists}
+use Rattle.dc_stack.specs.Pieces.{AllLandOn, figures_of, plane_lists, with_lists}
+use Rattle.dc_stack.specs.Placing.{mapped_piece}
 use Rattle.dc_stack.specs.declared.path.GatheredPath.{GatheredPath}
 use Rattle.dc_stack.specs.declared.path.PathPhase.{PathPhase}
 use Rattle.dc_stack.specs.declared.path.PathPhase.TheVariants.{NoPath, BetweenFigures, InFigure, Finished, Painted}
@@ -23,6 +26,8 @@ use Rattle.dc_stack.specs.declared.piece.Joining.{Joining}
 use Rattle.dc_stack.specs.declared.piece.Joining.TheVariants.{GoesOn, Polylines, Polygons}
 use Rattle.dc_stack.specs.declared.piece.Piece.{Piece}
 use Rattle.dc_stack.specs.declared.piece.PiecePoints.{PiecePoints}
+use Rattle.dc_stack.specs.declared.piece.PiecePoints.TheVariants.{Point as OnePoint}
+use Rattle.dc_stack.specs.declared.projection.Projection.{Projection}
 
 -- the path that pieces make, by where it stands
 abbrev pub path_in : PathPhase → List Piece → Path
@@ -76,10 +81,10 @@ pub record IsGathered (path : GatheredPath) : Type 0 where
 abbrev pub gathered_points : List Piece → List Point
 gathered_points pieces = points_of_figures (all_figures (figures_of pieces))
 
--- all points land on a surface, and the bounds are the least box around them on the plane
+-- all points land on a surface, and the bounds are their extent on the plane
 pub record LandsInside (s : Surface) (path : GatheredPath) : Type 0 where
   pub pieces : AllLandOn s path.pieces.items
-  pub least : IsBoxOf path.bounds (gathered_points path.pieces.items)
+  pub least : IsExtent path.bounds (gathered_points path.pieces.items)
 
 -- paths that differ in their room alone
 pub record IsSamePath (old new : GatheredPath) : Type 0 where
@@ -98,21 +103,52 @@ pub record WantsPieceRoom (first : Option RecordFault) (fault : Fault) (Lacks : 
   pub memory : fault ≡ OutOfMemory
   pub lacks : Lacks
 
--- an addition is accepted where it has no fault, and refused by its first fault, or for want of memory
-abbrev pub AnswersAddition : Result ⊤ Fault → Option RecordFault → Type 0 → Type 0
-AnswersAddition (Ok done) first Lacks = first ≡ None
-AnswersAddition (Err fault) first Lacks = (option_map Record first ≡ Some fault) ⊎ WantsPieceRoom first fault Lacks
+-- there is no fault, and this is the extent of the points
+pub record IsAccepted (told : Option Rect) (points : List Point) (first : Option RecordFault) : Type 0 where
+  pub no_fault : first ≡ None
+  pub extent : IsExtent told points
+
+-- an addition of points is accepted where it has no fault, and refused by its first fault, or for want of memory
+abbrev pub AnswersAddition : Result (Option Rect) Fault → List Point → Option RecordFault → Type 0 → Type 0
+AnswersAddition (Ok extent) points first Lacks = IsAccepted extent points first
+AnswersAddition (Err fault) points first Lacks = (option_map Record first ≡ Some fault) ⊎ WantsPieceRoom first fault Lacks
+
+-- the answer to so many pieces more of these points
+abbrev pub AddsPieces : ℕ → List Point → GatheredPath → Projection → Result (Option Rect) Fault → Type 0
+AddsPieces more points old by result =
+    let count = length old.pieces.items + more in
+    AnswersAddition result points (addition_fault count points (surface_of by.place)) (vec_capacity old.pieces < count)
+
+-- the pieces of a path with one more, as it is added
+abbrev pub with_added : PiecePoints → PageMap → Joining → GatheredPath → List Piece
+with_added points map joining old = old.pieces.items ++ open_piece points map joining ∷ []
+
+-- with a figure more that begins at a position and goes on through points
+abbrev pub with_begun : Point → PiecePoints → PageMap → GatheredPath → List Piece
+with_begun position points map old = with_added (OnePoint position) map GoesOn old ++ open_piece points map GoesOn ∷ []
 
 -- what lists that are figures of their own do to a path: lines of one list go on with it
 abbrev pub after_lists : Joining → List (List Point) → Path → Path
 after_lists joining lists path = with_figures (with_lists joining lists) (λ figures. piece_for (points_of_lists lists)) path
 
 -- the answer to lines from a position through points of the page
-abbrev pub AnswersLines : MapNumbers → Point → List Point → GatheredPath → Surface → Result ⊤ Fault → Type 0
-AnswersLines map position points old s result =
-    let start = mapped_point map position in
-    let through = mapped_list map points in
+abbrev pub AnswersLines : Projection → Point → PiecePoints → GatheredPath → Result (Option Rect) Fault → Type 0
+AnswersLines by position points old result =
+    let start = mapped_point (map_numbers by.map) position in
+    let through = mapped_piece by.map points in
     let path = path_of old in
-    AnswersAddition result
-    (option_or (pieces_fault (piece_count (after_lines start through path))) (off_plane_fault (points_if_open path (λ figures. points_gone_on start figures.current through)) s))
-    (vec_capacity old.pieces < piece_count (after_lines start through path))
+    let added = points_if_open path (λ figures. points_gone_on start figures.current through) in
+    let count = piece_count (after_lines start through path) in
+    AnswersAddition result added (addition_fault count added (surface_of by.place)) (vec_capacity old.pieces < count)
+
+-- the path with lines from a position through points of a piece
+abbrev pub path_with_lines : Point → PiecePoints → PageMap → GatheredPath → Path
+path_with_lines position points map old = after_lines (mapped_point (map_numbers map) position) (mapped_piece map points) (path_of old)
+
+-- the path with lists of a piece
+abbrev pub path_with_lists : Joining → PiecePoints → PageMap → GatheredPath → Path
+path_with_lists joining points map old = after_lists joining (plane_lists (map_numbers map) points) (path_of old)
+
+-- a path's points land on a surface still
+abbrev pub StaysInside : Surface → GatheredPath → GatheredPath → Type 0
+StaysInside s old new = LandsInside s old → LandsInside s new

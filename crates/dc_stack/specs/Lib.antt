@@ -8,6 +8,7 @@ pub mod SavedStates
 pub mod Mapped
 pub mod Drawing
 pub mod OperationFault
+pub mod Extents
 pub mod Modes
 pub mod Next
 pub mod Needs
@@ -22,4 +23,5 @@ pub mod Projected
 pub mod FitsSurface
 pub mod MachineState
 pub mod Adding
+pub mod Marking
 pub mod DrawsApart

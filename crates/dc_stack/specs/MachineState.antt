@@ -1,7 +1,8 @@
 -- What a machine is to its callers.
-use Rattle.std.specs.Prelude.{◌≡◌, ◌⊎◌, ⊤, ℕ, ◌^◌, ◌<◌, ◌≤◌, Bool, true, false, List, [], length, Option, Some, None, IfSome, Result, Ok, Err}
+use Rattle.std.specs.Prelude.{◌≡◌, ◌⊎◌, ℕ, ◌^◌, ◌<◌, ◌≤◌, Bool, true, false, List, [], length, Option, Some, None, IfSome, Result, Ok, Err}
 use Rattle.std.specs.Option.{option_map}
 use Rattle.mapping.specs.Surface.{Surface}
+use Rattle.mapping.specs.declared.geometry.Rect.{Rect}
 use Rattle.draw_ops.specs.Objects.{ObjectValue}
 use Rattle.draw_ops.specs.Operation.{Operation, create, fill_path, save, stroke_and_fill_path, stroke_path}
 use Rattle.draw_ops.specs.declared.fault.Fault.{Fault}
@@ -9,9 +10,10 @@ use Rattle.draw_ops.specs.declared.fault.Fault.TheVariants.{OutOfMemory, Record}
 use Rattle.object_tables.specs.Table.{created_index, index_bound}
 use Rattle.dc_stack.specs.Drawing.{Drawing, drawing_of, tools_of}
 use Rattle.dc_stack.specs.Draws.{IsPlacedDraw, mark_of, paints_path}
+use Rattle.dc_stack.specs.Extents.{IsExtent}
 use Rattle.dc_stack.specs.Needs.{greater_needs, needs_of}
 use Rattle.dc_stack.specs.Next.{next}
-use Rattle.dc_stack.specs.OperationFault.{fault_of}
+use Rattle.dc_stack.specs.OperationFault.{fault_of, plane_points}
 use Rattle.dc_stack.specs.Figures.{all_figures}
 use Rattle.dc_stack.specs.Path.{Path, figures_to_paint, piece_count}
 use Rattle.dc_stack.specs.Pieces.{figures_of}
@@ -33,11 +35,12 @@ pub record Room : Type 0 where
 abbrev pub LacksRoom : Room → ℕ → ℕ → ℕ → Type 0
 LacksRoom room depth slots pieces = room.depth < depth ⊎ (room.slots < slots ⊎ room.pieces < pieces)
 
--- The state that is played, the pieces of the path that the last accepted step painted, the surface that it is played on, the greatest needs so
--- far, and the room.
+-- The state that is played, the pieces of the path that the last accepted step painted, the extent of what it placed on the plane, the surface
+-- that is played on, the greatest needs so far, and the room.
 pub record MachineState : Type 0 where
   pub state : State
   pub painted : List Piece
+  pub plane_extent : Option Rect
   pub surface : Surface
   pub needs : Needs
   pub room : Room
@@ -111,12 +114,22 @@ pub record HasFullRoom (m : MachineState) : Type 0 where
 abbrev pub RefusesStep : Operation → MachineState → Fault → Type 0
 RefusesStep operation m fault = option_map Record (fault_of operation m.state m.surface) ≡ Some fault ⊎ WantsRoom operation m fault
 
--- an operation was played: the state is the next, and what it draws is told
-pub record HasPlayed (operation : Operation) (old new : MachineState) (draw : Option Draw) : Type 0 where
+-- the box is the extent of what an operation places on the plane
+abbrev pub IsExtentOf : Operation → MachineState → Option Rect → Type 0
+IsExtentOf operation m extent = IsExtent extent (plane_points operation m.state)
+
+-- what a step that was played tells: its drawing, if it draws, and the extent of what it places on the plane
+pub record Outcome : Type 0 where
+  pub draw : Option Draw
+  pub extent : Option Rect
+
+-- an operation was played: the state is the next, and what it draws and where it does is told
+pub record HasPlayed (operation : Operation) (old new : MachineState) (told : Outcome) : Type 0 where
   pub stepped : HasStepped operation old new
-  pub drawn : IsDrawingOf operation old new draw
-  pub placed : IfSome draw (IsPlacedDraw old.surface new.painted)
-  pub figures : paints_path draw ≡ true → LendsFor true old.state.path new.painted
+  pub drawn : IsDrawingOf operation old new told.draw
+  pub placed : IfSome told.draw (IsPlacedDraw old.surface new.painted)
+  pub extent : IsExtentOf operation old told.extent
+  pub figures : paints_path told.draw ≡ true → LendsFor true old.state.path new.painted
 
 -- an operation was refused: nothing has changed
 pub record HasRefused (operation : Operation) (old new : MachineState) (fault : Fault) : Type 0 where
@@ -124,14 +137,23 @@ pub record HasRefused (operation : Operation) (old new : MachineState) (fault : 
   pub kept : IsUnchanged old new
 
 -- an operation was played or refused
-abbrev pub Plays : Operation → MachineState → Result (Option Draw) Fault → MachineState → Type 0
-Plays operation old (Ok draw) new = HasPlayed operation old new draw
+abbrev pub Plays : Operation → MachineState → Result Outcome Fault → MachineState → Type 0
+Plays operation old (Ok told) new = HasPlayed operation old new told
 Plays operation old (Err fault) new = HasRefused operation old new fault
 
--- what a step tells whose drawing is put into a place
-abbrev pub told : Result ⊤ Fault → Option Draw → Result (Option Draw) Fault
-told (Ok done) draw = Ok draw
-told (Err fault) draw = Err fault
+-- what a step tells that answers with the extent, and puts the drawing into a place
+abbrev pub outcome : Result (Option Rect) Fault → Option Draw → Result Outcome Fault
+outcome (Ok extent) draw = Ok (record { draw = draw; extent = extent })
+outcome (Err fault) draw = Err fault
+
+-- what one tells that draws nothing
+abbrev pub undrawn : Result (Option Rect) Fault → Result Outcome Fault
+undrawn result = outcome result None
+
+-- a step tells this where it answers with the extent and draws nothing
+abbrev pub TellsUndrawn : Result (Option Rect) Fault → Result (Option Rect) Fault → Option Draw → Type 0
+TellsUndrawn answer result draw =
+    (operation : Operation) (old new : MachineState) → Plays operation old (undrawn answer) new → Plays operation old (outcome result draw) new
 
 -- the operation of a painting
 abbrev pub painting_operation : Painting → Operation

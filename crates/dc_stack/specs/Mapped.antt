@@ -46,6 +46,10 @@ mapped_corners m box = left_top m box ∷ right_bottom m box ∷ []
 abbrev pub opposite_corner : BlitValue → Point
 opposite_corner asked = record { x = asked.corner.x +ℤ asked.extent.x; y = asked.corner.y +ℤ asked.extent.y }
 
+-- the same on the plane
+abbrev pub mapped_opposite : MapNumbers → BlitValue → Point
+mapped_opposite m asked = mapped_point m (opposite_corner asked)
+
 -- the corners of a blit's box, on the plane
 abbrev pub blit_corners : MapNumbers → BlitValue → List Point
-blit_corners m asked = mapped_point m asked.corner ∷ mapped_point m (opposite_corner asked) ∷ []
+blit_corners m asked = mapped_point m asked.corner ∷ mapped_opposite m asked ∷ []

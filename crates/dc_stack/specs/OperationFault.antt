@@ -1,5 +1,5 @@
 -- The fault of an operation, in two parts: what it meets in the state, and where its points land on a surface.
-use Rattle.std.specs.Prelude.{ℕ, if◌then◌else◌, List, [], ◌∷◌, ◌++◌, length, nat_le, nat_lt, Option, Some, None}
+use Rattle.std.specs.Prelude.{ℕ, Bool, if◌then◌else◌, List, [], ◌∷◌, ◌++◌, length, nat_le, nat_lt, Option, Some, None}
 use Rattle.std.specs.List.{list_all}
 use Rattle.std.specs.Option.{option_or}
 use Rattle.mapping.specs.declared.geometry.Point.{Point}
@@ -156,9 +156,13 @@ points_kept stroke_and_fill_path state = []
 abbrev pub plane_points : Operation → State → List Point
 plane_points operation state = points_kept operation state ++ points_drawn (drawing_of operation state)
 
--- off the plane, where one of these mapped points isn't one of the plane, or doesn't land within the limits
+-- all of these mapped points are of the plane, and land within the limits
+abbrev pub all_land_within : List Point → Surface → Bool
+all_land_within points s = list_all (λ point. lands_within_limits point s) points
+
+-- off the plane, where one of them isn't one of the plane, or doesn't land within the limits
 abbrev pub off_plane_fault : List Point → Surface → Option RecordFault
-off_plane_fault points s = if list_all (λ point. lands_within_limits point s) points then None else Some OffPlane
+off_plane_fault points s = if all_land_within points s then None else Some OffPlane
 
 -- more points than one drawing may have, or else points off the plane
 abbrev pub points_fault : List Point → Surface → Option RecordFault

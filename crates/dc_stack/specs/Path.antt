@@ -108,7 +108,3 @@ abbrev pub points_if_open : Path → (Figures → List Point) → List Point
 points_if_open no_path points = []
 points_if_open (open_path figures pieces) points = points figures
 points_if_open (finished_path figures) points = []
-
--- the points of the open figure, of which there are none where none is open
-abbrev pub current_points : Path → List Point
-current_points path = points_if_open path (λ figures. figures.current)

@@ -15,7 +15,8 @@
 //! - The clip of a machine has a pixel exactly where the definition says so (`Machine::dc`, `Clip::has`).
 //! - Only being off the plane depends on the surface, and an operation without a fault on a surface has
 //!   none on a smaller one; with one it has that on each larger one (`fault_law`).
-//! - Whether an operation is off the plane of any surface is told before it is played on another (`Machine::place_fault`).
+//! - A step tells the least box on the plane around all points that it places, by which they land on another surface or don't
+//!   (`Machine::plane_extent`, `fits`).
 #![tactic(auto)]
 
 mod clip;
@@ -47,5 +48,6 @@ pub use modes::Modes;
 pub use needs::Needs;
 pub use path::MAX_PIECES;
 pub use piece::{FigureEnd, Joining, Piece, PiecePoints};
+pub use plane_box::fits;
 pub use projection::Projection;
 pub use selected::Selected;

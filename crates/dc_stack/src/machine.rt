@@ -6,7 +6,7 @@ ghost use Rattle.mapping.specs.PlaceOf.{surface_of};
 ghost use Rattle.draw_ops.specs.Operation.{Operation};
 ghost use Rattle.draw_ops.specs.OperationOf.{operation_of};
 ghost use Rattle.draw_ops.specs.declared.fault.Fault.TheVariants.{OutOfMemory};
-ghost use Rattle.dc_stack.specs.MachineState.{GoesOn, HasStepped, IsDrawingOf, IsUnchanged, LacksRoom, LendsPainted, MachineState, Plays, RefusesStep, told};
+ghost use Rattle.dc_stack.specs.MachineState.{GoesOn, HasStepped, IsDrawingOf, IsExtentOf, IsUnchanged, LacksRoom, LendsPainted, MachineState, Plays, RefusesStep, TellsUndrawn, outcome};
 ghost use Rattle.dc_stack.specs.Draws.{IsPlacedDraw};
 ghost use Rattle.dc_stack.specs.Needs.{no_needs};
 ghost use Rattle.dc_stack.specs.State.{start_state};
@@ -14,7 +14,7 @@ ghost use Rattle.dc_stack.specs.State.{start_state};
 mod adding;
 mod clipping;
 mod drawing;
-mod landing;
+mod marking;
 mod objects;
 mod page_mapping;
 mod paths;
@@ -27,7 +27,7 @@ use crate::needs::Needs;
 use crate::path::GatheredPath;
 use crate::piece::Piece;
 use draw_ops::{Fault, Op};
-use mapping::Place;
+use mapping::{Place, Rect};
 use meta_headers::Opened;
 use object_tables::{Contents, Table};
 pub use saving::MAX_SAVED_STATES;
@@ -42,6 +42,7 @@ pub struct Machine<'a, T: Contents> {
     saved: Vec<Dc<'a>>,
     table: T,
     path: GatheredPath<'a>,
+    plane_extent: Option<Rect>,
     place: Place,
     needs: Needs,
 }
@@ -59,6 +60,7 @@ impl<'a, T: Contents> Model for Machine<'a, T> {
     ghost view = { λ m. record {
       state = record { dc = dc_value m.dc; slots = (T.state m.table).slots; table_kind = (T.state m.table).kind; saved = map dc_value m.saved.items; path = path_of m.path };
       painted = painted_of m.path;
+      plane_extent = m.plane_extent;
       surface = surface_of m.place;
       needs = m.needs;
       room = record { depth = vec_capacity m.saved; slots = (T.state m.table).room; pieces = vec_capacity m.path.pieces };
@@ -87,6 +89,7 @@ impl<'a, T: Table<'a>> Machine<'a, T> {
             saved: Vec::new(alloc),
             table,
             path: GatheredPath::new(alloc),
+            plane_extent: None,
             place,
             needs: Needs::none(),
         }
@@ -103,6 +106,7 @@ impl<'a, T: Table<'a>> Machine<'a, T> {
         self.saved.clear();
         self.table.clear();
         self.path.abort();
+        self.plane_extent = None;
         self.needs = Needs::none();
     }
 
@@ -138,6 +142,7 @@ impl<'a, T: Table<'a>> Machine<'a, T> {
         ensures drawn { IfOk result (IsDrawingOf (operation_of op.entry) self.old self.new) }
         ensures placed { IfOk result (λ draw. IfSome draw (IsPlacedDraw self.old.surface self.new.painted)) }
         ensures lent { IfOk result (λ draw. LendsPainted self.old draw self.new) }
+        ensures extent { OnOk result (IsExtentOf (operation_of op.entry) self.old self.new.plane_extent) }
         ensures refused { IfErr result (RefusesStep (operation_of op.entry) self.old) }
         ensures kept { OnErr result (IsUnchanged self.old self.new) }
         ensures goes_on { GoesOn self.old self.new }
@@ -156,12 +161,14 @@ impl<'a, T: Table<'a>> Machine<'a, T> {
         ensures drawn { OnOk result (IsDrawingOf (operation_of op.now) self.old self.new drawn.new) }
         ensures placed { OnOk result (IfSome drawn.new (IsPlacedDraw self.old.surface self.new.painted)) }
         ensures lent { OnOk result (LendsPainted self.old drawn.new self.new) }
+        ensures extent { OnOk result (IsExtentOf (operation_of op.now) self.old self.new.plane_extent) }
         ensures refused { IfErr result (RefusesStep (operation_of op.now) self.old) }
         ensures kept { OnErr result (IsUnchanged self.old self.new) }
         ensures goes_on { GoesOn self.old self.new }
     {
         match self.play(op, drawn) {
-            Ok(()) => {
+            Ok(extent) => {
+                self.plane_extent = extent;
                 if !paints_path(drawn) {
                     self.path.forget();
                 }
@@ -171,30 +178,40 @@ impl<'a, T: Table<'a>> Machine<'a, T> {
         }
     }
 
-    /// Plays one operation. The pieces of a path that the step before painted may still be lent.
-    fn play(&mut self, op: &Op<'a>, drawn: &mut Option<Draw<'a>>) -> Result<(), Fault>
-        ensures plays { Plays (operation_of op.now) self.old (told result drawn.new) self.new }
+    /// Plays one operation, and answers with the extent of what it places on the plane. The pieces of a path that the step before painted may
+    /// still be lent.
+    fn play(&mut self, op: &Op<'a>, drawn: &mut Option<Draw<'a>>) -> Result<Option<Rect>, Fault>
+        ensures plays { Plays (operation_of op.now) self.old (outcome result drawn.new) self.new }
         ensures goes_on { GoesOn self.old self.new }
     {
         match *op {
-            Op::NoEffect => tell(Ok(None), drawn),
-            Op::Save => tell(self.save(), drawn),
-            Op::Restore(which) => tell(self.restore(which), drawn),
-            Op::SetBackgroundMode(mode) => tell(self.set_background_mode(mode), drawn),
-            Op::SetMapMode(mode) => tell(self.set_map_mode(mode), drawn),
-            Op::SetRasterOp(raster_op) => tell(self.set_raster_op(raster_op), drawn),
-            Op::SetFillMode(mode) => tell(self.set_fill_mode(mode), drawn),
-            Op::SetBackgroundColour(colour) => tell(self.set_background_colour(colour), drawn),
-            Op::SetWindowOrigin(origin) => tell(self.set_window_origin(origin), drawn),
-            Op::SetWindowExtent(extent) => tell(self.set_window_extent(extent), drawn),
-            Op::SetViewportOrigin(origin) => tell(self.set_viewport_origin(origin), drawn),
-            Op::SetViewportExtent(extent) => tell(self.set_viewport_extent(extent), drawn),
-            Op::OffsetWindowOrigin(offset) => tell(self.offset_window_origin(offset), drawn),
-            Op::OffsetViewportOrigin(offset) => tell(self.offset_viewport_origin(offset), drawn),
-            Op::ExcludeClip(corners) => tell(self.exclude_clip(corners), drawn),
-            Op::IntersectClip(corners) => tell(self.intersect_clip(corners), drawn),
-            Op::RemoveClip => tell(self.remove_clip(), drawn),
-            Op::MoveTo(point) => tell(self.move_to(point), drawn),
+            Op::NoEffect => draw_nothing(Ok(None), drawn),
+            Op::Save => draw_nothing(self.save(), drawn),
+            Op::Restore(which) => draw_nothing(self.restore(which), drawn),
+            Op::SetBackgroundMode(mode) => draw_nothing(self.set_background_mode(mode), drawn),
+            Op::SetMapMode(mode) => draw_nothing(self.set_map_mode(mode), drawn),
+            Op::SetRasterOp(raster_op) => draw_nothing(self.set_raster_op(raster_op), drawn),
+            Op::SetFillMode(mode) => draw_nothing(self.set_fill_mode(mode), drawn),
+            Op::SetBackgroundColour(colour) => draw_nothing(
+                self.set_background_colour(colour),
+                drawn,
+            ),
+            Op::SetWindowOrigin(origin) => draw_nothing(self.set_window_origin(origin), drawn),
+            Op::SetWindowExtent(extent) => draw_nothing(self.set_window_extent(extent), drawn),
+            Op::SetViewportOrigin(origin) => draw_nothing(self.set_viewport_origin(origin), drawn),
+            Op::SetViewportExtent(extent) => draw_nothing(self.set_viewport_extent(extent), drawn),
+            Op::OffsetWindowOrigin(offset) => draw_nothing(
+                self.offset_window_origin(offset),
+                drawn,
+            ),
+            Op::OffsetViewportOrigin(offset) => draw_nothing(
+                self.offset_viewport_origin(offset),
+                drawn,
+            ),
+            Op::ExcludeClip(corners) => draw_nothing(self.exclude_clip(corners), drawn),
+            Op::IntersectClip(corners) => draw_nothing(self.intersect_clip(corners), drawn),
+            Op::RemoveClip => draw_nothing(self.remove_clip(), drawn),
+            Op::MoveTo(point) => draw_nothing(self.move_to(point), drawn),
             Op::LineTo(point) => self.line_to(point, drawn),
             Op::Pixel { point, colour } => self.pixel(point, colour, drawn),
             Op::Rectangle { corners, edges } => self.rectangle(corners, edges, drawn),
@@ -202,14 +219,14 @@ impl<'a, T: Table<'a>> Machine<'a, T> {
             Op::Polygon(lists) => self.polygon(lists, drawn),
             Op::PolylineTo(points) => self.polyline_to(points, drawn),
             Op::Blit(ref asked) => self.blit(asked, drawn),
-            Op::Create { at, object } => tell(self.create(at, object), drawn),
-            Op::Select(handle) => tell(self.select(handle), drawn),
-            Op::SelectPalette(handle) => tell(self.select_palette(handle), drawn),
-            Op::Delete(handle) => tell(self.delete(handle), drawn),
-            Op::BeginPath => tell(self.begin_path(), drawn),
-            Op::EndPath => tell(self.end_path(), drawn),
-            Op::CloseFigure => tell(self.close_figure(), drawn),
-            Op::AbortPath => tell(self.abort_path(), drawn),
+            Op::Create { at, object } => draw_nothing(self.create(at, object), drawn),
+            Op::Select(handle) => draw_nothing(self.select(handle), drawn),
+            Op::SelectPalette(handle) => draw_nothing(self.select_palette(handle), drawn),
+            Op::Delete(handle) => draw_nothing(self.delete(handle), drawn),
+            Op::BeginPath => draw_nothing(self.begin_path(), drawn),
+            Op::EndPath => draw_nothing(self.end_path(), drawn),
+            Op::CloseFigure => draw_nothing(self.close_figure(), drawn),
+            Op::AbortPath => draw_nothing(self.abort_path(), drawn),
             Op::FillPath => self.paint_path(Painting::Fill, drawn),
             Op::StrokePath => self.paint_path(Painting::Stroke, drawn),
             Op::StrokeAndFillPath => self.paint_path(Painting::StrokeAndFill, drawn),
@@ -221,6 +238,15 @@ impl<'a, T: Table<'a>> Machine<'a, T> {
         ensures { result.now ≡ self.now.painted }
     {
         self.path.painted()
+    }
+
+    /// The least box on the plane around all points that the last accepted step placed, its right and bottom included: of its drawing, of
+    /// what it added to a path, or of a box of the clip. There is none where it placed no point. `fits` tells whether they land on another
+    /// surface.
+    pub fn plane_extent(&self) -> Option<Rect>
+        ensures { result ≡ self.now.plane_extent }
+    {
+        self.plane_extent
     }
 
     /// Where it shows its frame.
@@ -246,18 +272,13 @@ impl<'a, T: Table<'a>> Machine<'a, T> {
     }
 }
 
-/// Puts what a step draws into a place, or tells its fault.
-fn tell<'a>(
-    answer: Result<Option<Draw<'a>>, Fault>,
+/// The answer of a step that draws nothing: so nothing is put into the place of its drawing.
+fn draw_nothing<'a>(
+    answer: Result<Option<Rect>, Fault>,
     drawn: &mut Option<Draw<'a>>,
-) -> Result<(), Fault>
-    ensures { (operation : Operation) (old new : MachineState) → Plays operation old answer.entry new → Plays operation old (told result drawn.new) new }
+) -> Result<Option<Rect>, Fault>
+    ensures { TellsUndrawn answer result drawn.new }
 {
-    match answer {
-        Ok(value) => {
-            *drawn = value;
-            Ok(())
-        }
-        Err(fault) => Err(fault),
-    }
+    *drawn = None;
+    answer
 }

@@ -1,11 +1,11 @@
 //! The path that records gather.
 
-ghost use Rattle.std.specs.Prelude.{◌≡◌, ◌≢◌, ◌+◌, ◌<◌, ◌≤◌, [], ◌∷◌, ◌++◌, Bool, true, length, nat_le, None, vec_capacity, OnOk, OnErr, IfErr, IsFalse, IsTrue};
+ghost use Rattle.std.specs.Prelude.{◌≡◌, ◌≢◌, ◌+◌, ◌<◌, ◌≤◌, [], ◌∷◌, ◌++◌, Bool, true, length, nat_le, None, vec_capacity, OnOk, OnErr, IfErr, IsTrue};
 ghost use Rattle.mapping.specs.Surface.{Surface};
 ghost use Rattle.draw_ops.specs.declared.fault.Fault.TheVariants.{OutOfMemory};
 ghost use Rattle.dc_stack.specs.Figures.{no_figures};
-ghost use Rattle.dc_stack.specs.GatheredPath.{IsGathered, IsSamePath, LandsInside, is_open_phase, open_piece, painted_of, path_of, phase_behind};
-ghost use Rattle.dc_stack.specs.Path.{after_closing, after_ending, after_moving, current_points, is_finished, is_open, no_path, open_path, piece_limit};
+ghost use Rattle.dc_stack.specs.GatheredPath.{IsGathered, IsSamePath, StaysInside, is_open_phase, open_piece, painted_of, path_of, phase_behind};
+ghost use Rattle.dc_stack.specs.Path.{after_closing, after_ending, after_moving, is_finished, is_open, no_path, open_path, piece_limit};
 ghost use Rattle.dc_stack.specs.Pieces.{figures_of, with_end};
 ghost use Rattle.dc_stack.specs.declared.path.PathPhase.TheVariants.{BetweenFigures, Finished, InFigure};
 ghost use Rattle.dc_stack.specs.declared.piece.FigureEnd.TheVariants.{Open};
@@ -96,15 +96,6 @@ impl<'a> GatheredPath<'a> {
         }
     }
 
-    /// Whether a figure is open, with which lines go on.
-    pub(crate) fn has_open_figure(&self) -> bool
-        requires gathered { IsGathered self.now }
-        ensures some { IsTrue result → current_points (path_of self.now) ≢ [] }
-        ensures none { IsFalse result → current_points (path_of self.now) ≡ [] }
-    {
-        self.phase == PathPhase::InFigure
-    }
-
     /// Whether the path waits to be painted.
     pub(crate) fn is_finished(&self) -> bool
         ensures path { result ≡ is_finished (path_of self.now) }
@@ -157,7 +148,7 @@ impl<'a> GatheredPath<'a> {
         ensures path { path_of self.new ≡ path_of self.old }
         ensures painted { painted_of self.new ≡ [] }
         ensures gathered { IsGathered self.new }
-        ensures lands { (s : Surface) → LandsInside s self.old → LandsInside s self.new }
+        ensures lands { (s : Surface) → StaysInside s self.old self.new }
         ensures room { vec_capacity self.new.pieces ≡ vec_capacity self.old.pieces }
     {
         if self.phase == PathPhase::Painted {
@@ -242,7 +233,7 @@ impl<'a> GatheredPath<'a> {
         ensures path { path_of self.new ≡ after_moving (path_of self.old) }
         ensures painted { painted_of self.new ≡ painted_of self.old }
         ensures gathered { IsGathered self.new }
-        ensures lands { (s : Surface) → LandsInside s self.old → LandsInside s self.new }
+        ensures lands { (s : Surface) → StaysInside s self.old self.new }
         ensures room { vec_capacity self.new.pieces ≡ vec_capacity self.old.pieces }
     {
         if self.phase != PathPhase::InFigure {
@@ -257,7 +248,7 @@ impl<'a> GatheredPath<'a> {
         ensures path { path_of self.new ≡ after_closing (path_of self.old) }
         ensures painted { painted_of self.new ≡ painted_of self.old }
         ensures gathered { IsGathered self.new }
-        ensures lands { (s : Surface) → LandsInside s self.old → LandsInside s self.new }
+        ensures lands { (s : Surface) → StaysInside s self.old self.new }
         ensures room { vec_capacity self.new.pieces ≡ vec_capacity self.old.pieces }
     {
         if self.phase == PathPhase::InFigure {
@@ -273,7 +264,7 @@ impl<'a> GatheredPath<'a> {
         ensures figures { figures_of self.new.pieces.items ≡ with_end end (figures_of self.old.pieces.items) }
         ensures count { length self.new.pieces.items ≡ length self.old.pieces.items }
         ensures phase { self.new.phase ≡ BetweenFigures }
-        ensures lands { (s : Surface) → LandsInside s self.old → LandsInside s self.new }
+        ensures lands { (s : Surface) → StaysInside s self.old self.new }
         ensures room { vec_capacity self.new.pieces ≡ vec_capacity self.old.pieces }
     {
         let Some(last) = self.pieces.pop() else {

@@ -1,7 +1,8 @@
-//! Page points and boxes on the plane, and whether they land on a surface within the limits.
+//! Page points and boxes on the plane. None of this knows a surface, but for where a box of the clip lands on it.
 
-ghost use Rattle.std.specs.Prelude.{◌≡◌, ◌≤◌, suc, [], ◌∷◌, length, IfOk, SomeIff, is_some};
+ghost use Rattle.std.specs.Prelude.{◌≡◌, ◌≤◌, true, suc, [], ◌∷◌, length, Some, IfErr, IfOk, SomeIff, is_some};
 ghost use Rattle.std.specs.Result.{result_err};
+ghost use Rattle.mapping.specs.Boxes.{point_box, box_between};
 ghost use Rattle.mapping.specs.PageMap.{map_numbers};
 ghost use Rattle.mapping.specs.Plane.{IsOnPlane, is_on_plane, plane_point};
 ghost use Rattle.mapping.specs.PlaceOf.{surface_of};
@@ -10,15 +11,15 @@ ghost use Rattle.point_views.specs.Polys.{lists_of};
 ghost use Rattle.draw_ops.specs.Blits.{blit_value_of};
 ghost use Rattle.dc_stack.specs.Clip.{placed_box};
 ghost use Rattle.dc_stack.specs.Drawing.{edge_limit};
-ghost use Rattle.dc_stack.specs.Mapped.{blit_corners, opposite_corner, left_top_of, mapped_box, mapped_corners, mapped_point, right_bottom_of};
-ghost use Rattle.dc_stack.specs.OperationFault.{off_plane_fault, points_fault};
-ghost use Rattle.mapping.specs.Boxes.{IsLeastBox};
+ghost use Rattle.dc_stack.specs.Extents.{IsExtent, IsOffPlane, IsPlaneBox, IsRefused};
+ghost use Rattle.dc_stack.specs.Mapped.{blit_corners, opposite_corner, left_top_of, mapped_box, mapped_corners, mapped_opposite, mapped_point, right_bottom_of};
+ghost use Rattle.dc_stack.specs.OperationFault.{off_plane_fault};
 ghost use Rattle.dc_stack.specs.Placing.{joined_plane_list, plane_list};
 
 use crate::clip::ClipBox;
-use crate::plane_box::{joined, least, plane_box};
+use crate::plane_box::{fits, joined, plane_box};
 use draw_ops::{Blit, RecordFault};
-use mapping::{PageMap, Place, Point, Rect, box_law, limits_law, placing_law};
+use mapping::{PageMap, Place, Point, Rect, box_law, limits_law};
 use point_views::{Points, Polys};
 
 /// How many points one drawing has at most.
@@ -31,75 +32,73 @@ struct WidePoint {
     y: i64,
 }
 
-/// A page point on the plane, or `OffPlane` where it leaves the plane or the range of placed coordinates.
-pub(crate) fn land(map: &PageMap, place: Place, point: Point) -> Result<Point, RecordFault>
-    ensures fault { result_err result ≡ off_plane_fault (plane_list map.now (point ∷ [])) (surface_of place) }
+/// A page point on the plane, or `OffPlane` where it leaves the plane.
+pub(crate) fn plane_point(map: &PageMap, point: Point) -> Result<Point, RecordFault>
+    ensures off { IfErr result (IsOffPlane (plane_list map.now (point ∷ []))) }
     ensures plane { IfOk result (λ plane. plane ≡ mapped_point (map_numbers map.now) point) }
+    ensures on { IfOk result (λ plane. is_on_plane plane ≡ true) }
 {
     let x = i64::from(point.x);
     let y = i64::from(point.y);
-    land_wide(map, place, WidePoint { x, y })
+    wide_plane_point(map, WidePoint { x, y })
 }
 
 /// The same for a point that may be outside of the page's own numbers.
-fn land_wide(map: &PageMap, place: Place, point: WidePoint) -> Result<Point, RecordFault>
-    ensures fault { result_err result ≡ off_plane_fault (plane_point (map_numbers map.now) point.x point.y ∷ []) (surface_of place) }
+fn wide_plane_point(map: &PageMap, point: WidePoint) -> Result<Point, RecordFault>
+    ensures off { IfErr result (IsOffPlane (plane_point (map_numbers map.now) point.x point.y ∷ [])) }
     ensures plane { IfOk result (λ plane. plane ≡ plane_point (map_numbers map.now) point.x point.y) }
+    ensures on { IfOk result (λ plane. is_on_plane plane ≡ true) }
 {
-    let Some(plane) = plane_point(map, point) else {
-        return Err(RecordFault::OffPlane);
-    };
-    if !place.fits(plane) {
-        return Err(RecordFault::OffPlane);
+    match mapped(map, point) {
+        Some(plane) => Ok(plane),
+        None => Err(RecordFault::OffPlane),
     }
-    Ok(plane)
 }
 
 /// The plane point of a page point, or none where it would leave the plane.
-fn plane_point(map: &PageMap, point: WidePoint) -> Option<Point>
+fn mapped(map: &PageMap, point: WidePoint) -> Option<Point>
     ensures point { let p = plane_point (map_numbers map.now) point.x point.y in SomeIff result (IsOnPlane p) p }
     ensures test { is_some result ≡ is_on_plane (plane_point (map_numbers map.now) point.x point.y) }
 {
     map.plane(point.x, point.y)
 }
 
-/// Two page points on the plane, or `OffPlane` where one of them doesn't land.
-pub(crate) fn land_pair(
+/// Two page points on the plane, or `OffPlane` where one of them leaves the plane.
+pub(crate) fn plane_pair(
     map: &PageMap,
-    place: Place,
     first: Point,
     second: Point,
 ) -> Result<(Point, Point), RecordFault>
-    ensures fault { result_err result ≡ off_plane_fault (plane_list map.now (first ∷ second ∷ [])) (surface_of place) }
+    ensures off { IfErr result (IsOffPlane (plane_list map.now (first ∷ second ∷ []))) }
     ensures first { IfOk result (λ r. r.0 ≡ mapped_point (map_numbers map.now) first) }
     ensures second { IfOk result (λ r. r.1 ≡ mapped_point (map_numbers map.now) second) }
+    ensures extent { IfOk result (λ r. IsPlaneBox (box_between r.0 r.1) (r.0 ∷ r.1 ∷ [])) }
 {
-    let first = match land(map, place, first) {
+    box_law();
+    let first = match plane_point(map, first) {
         Ok(first) => first,
         Err(fault) => return Err(fault),
     };
-    let second = match land(map, place, second) {
+    let second = match plane_point(map, second) {
         Ok(second) => second,
         Err(fault) => return Err(fault),
     };
     Ok((first, second))
 }
 
-/// The corners of a blit's box on the plane, the one from which it extends first, or `OffPlane` where one of them doesn't land.
-pub(crate) fn land_blit(
-    map: &PageMap,
-    place: Place,
-    asked: &Blit<'_>,
-) -> Result<(Point, Point), RecordFault>
-    ensures fault { result_err result ≡ off_plane_fault (blit_corners (map_numbers map.now) (blit_value_of asked.now)) (surface_of place) }
+/// The corners of a blit's box on the plane, the one from which it extends first, or `OffPlane` where one of them leaves the plane.
+pub(crate) fn plane_blit(map: &PageMap, asked: &Blit<'_>) -> Result<(Point, Point), RecordFault>
+    ensures off { IfErr result (IsOffPlane (blit_corners (map_numbers map.now) (blit_value_of asked.now))) }
     ensures first { IfOk result (λ r. r.0 ≡ mapped_point (map_numbers map.now) asked.now.corner) }
-    ensures second { IfOk result (λ r. r.1 ≡ mapped_point (map_numbers map.now) (opposite_corner (blit_value_of asked.now))) }
+    ensures second { IfOk result (λ r. r.1 ≡ mapped_opposite (map_numbers map.now) (blit_value_of asked.now)) }
+    ensures extent { IfOk result (λ r. IsPlaneBox (box_between r.0 r.1) (r.0 ∷ r.1 ∷ [])) }
 {
-    let first = match land(map, place, asked.corner) {
+    box_law();
+    let first = match plane_point(map, asked.corner) {
         Ok(first) => first,
         Err(fault) => return Err(fault),
     };
-    let second = match land_wide(map, place, far_corner(asked)) {
+    let second = match wide_plane_point(map, far_corner(asked)) {
         Ok(second) => second,
         Err(fault) => return Err(fault),
     };
@@ -117,34 +116,30 @@ fn far_corner(asked: &Blit<'_>) -> WidePoint
     }
 }
 
-/// What a drawing of several points is told with: how many they are, and the least box around them on the plane,
-/// its right and bottom included.
+/// What a drawing of several points is made with: how many they are, and the least box around them on the plane, or
+/// none where there is no point.
 #[derive(Clone, Copy, Debug)]
-pub(crate) struct LandedPoints {
+pub(crate) struct PlanePoints {
     pub(crate) count: u32,
-    pub(crate) bounds: Rect,
+    pub(crate) extent: Option<Rect>,
 }
 
 /// How many points some lists have, and their box: `TooManyEdges` where they have more than one
-/// drawing may, and then `OffPlane` where one of them doesn't land.
-pub(crate) fn land_lists(
-    map: &PageMap,
-    place: Place,
-    lists: Polys<'_>,
-) -> Result<LandedPoints, RecordFault>
-    ensures fault { result_err result ≡ points_fault (joined_plane_list map.now (lists_of lists.entry)) (surface_of place) }
-    ensures count { IfOk result (λ e. e.count ≡ length (joined_plane_list map.now (lists_of lists.entry))) }
-    ensures few { IfOk result (λ e. length (joined_plane_list map.now (lists_of lists.entry)) ≤ edge_limit) }
-    ensures bounds { IfOk result (λ e. IsLeastBox e.bounds (joined_plane_list map.now (lists_of lists.entry))) }
+/// drawing may, and then `OffPlane` where one of them leaves the plane.
+pub(crate) fn plane_lists(map: &PageMap, lists: Polys<'_>) -> Result<PlanePoints, RecordFault>
+    ensures refused { IfErr result (IsRefused (joined_plane_list map.now (lists_of lists.entry))) }
+    ensures count { IfOk result (λ p. p.count ≡ length (joined_plane_list map.now (lists_of lists.entry))) }
+    ensures few { IfOk result (λ p. p.count ≤ edge_limit) }
+    ensures extent { IfOk result (λ p. IsExtent p.extent (joined_plane_list map.now (lists_of lists.entry))) }
 {
     let points = lists.points();
     if points.len() > MAX_EDGES {
         return Err(RecordFault::TooManyEdges);
     }
-    match plane_box(map, place, points) {
-        Ok(bounds) => Ok(LandedPoints {
+    match plane_box(map, points) {
+        Ok(extent) => Ok(PlanePoints {
             count: points.len() as u32,
-            bounds: least(bounds),
+            extent,
         }),
         Err(fault) => Err(fault),
     }
@@ -152,50 +147,51 @@ pub(crate) fn land_lists(
 
 /// The page point from which lines go through others on the plane, how many they are together, and their box: the
 /// faults are those of lists.
-pub(crate) fn land_through(
+pub(crate) fn plane_lines(
     map: &PageMap,
-    place: Place,
     start: Point,
     points: Points<'_>,
-) -> Result<(Point, LandedPoints), RecordFault>
-    ensures fault { result_err result ≡ points_fault (plane_list map.now (start ∷ points_of points.entry)) (surface_of place) }
+) -> Result<(Point, PlanePoints), RecordFault>
+    ensures refused { IfErr result (IsRefused (plane_list map.now (start ∷ points_of points.entry))) }
     ensures from { IfOk result (λ r. r.0 ≡ mapped_point (map_numbers map.now) start) }
     ensures count { IfOk result (λ r. r.1.count ≡ suc (length (points_of points.entry))) }
-    ensures bounds { IfOk result (λ r. IsLeastBox r.1.bounds (plane_list map.now (start ∷ points_of points.entry))) }
+    ensures few { IfOk result (λ r. r.1.count ≤ edge_limit) }
+    ensures extent { IfOk result (λ r. IsExtent r.1.extent (plane_list map.now (start ∷ points_of points.entry))) }
 {
     if points.len() >= MAX_EDGES {
         return Err(RecordFault::TooManyEdges);
     }
-    let from = match land(map, place, start) {
+    let from = match plane_point(map, start) {
         Ok(from) => from,
         Err(fault) => return Err(fault),
     };
     box_law();
     let first = Some(Rect::around(from));
-    match plane_box(map, place, points) {
-        Ok(bounds) => Ok((
+    match plane_box(map, points) {
+        Ok(extent) => Ok((
             from,
-            LandedPoints {
+            PlanePoints {
                 count: points.len() as u32 + 1,
-                bounds: least(joined(first, bounds)),
+                extent: joined(first, extent),
             },
         )),
         Err(fault) => Err(fault),
     }
 }
 
-/// A box of the page on the plane, its corners put in order, or `OffPlane` where one of them doesn't land.
-pub(crate) fn land_box(map: &PageMap, place: Place, corners: Rect) -> Result<Rect, RecordFault>
-    ensures fault { result_err result ≡ off_plane_fault (mapped_corners (map_numbers map.now) corners) (surface_of place) }
+/// A box of the page on the plane, its corners put in order, or `OffPlane` where one of them leaves the plane.
+pub(crate) fn plane_rect(map: &PageMap, corners: Rect) -> Result<Rect, RecordFault>
+    ensures off { IfErr result (IsOffPlane (mapped_corners (map_numbers map.now) corners)) }
     ensures plane { IfOk result (λ plane. plane ≡ mapped_box (map_numbers map.now) corners) }
+    ensures extent { IfOk result (λ plane. IsPlaneBox plane (mapped_corners (map_numbers map.now) corners)) }
 {
-    match land_pair(map, place, left_top_of(corners), right_bottom_of(corners)) {
+    match plane_pair(map, left_top_of(corners), right_bottom_of(corners)) {
         Ok((first, second)) => Ok(Rect::between(first, second)),
         Err(fault) => Err(fault),
     }
 }
 
-/// The same for a box of the clip, and where that lands on the surface.
+/// The same for a box of the clip, and where that lands on the surface: `OffPlane` also where a corner doesn't land there.
 pub(crate) fn land_clip_box(
     map: &PageMap,
     place: Place,
@@ -203,23 +199,27 @@ pub(crate) fn land_clip_box(
 ) -> Result<ClipBox, RecordFault>
     ensures fault { result_err result ≡ off_plane_fault (mapped_corners (map_numbers map.now) corners) (surface_of place) }
     ensures plane { IfOk result (λ b. b.plane ≡ mapped_box (map_numbers map.now) corners) }
+    ensures extent { IfOk result (λ b. IsPlaneBox b.plane (mapped_corners (map_numbers map.now) corners)) }
     ensures placed { IfOk result (λ b. b.placed ≡ placed_box (surface_of place) b.plane) }
 {
-    let (first, second) = match land_pair(
-        map,
-        place,
-        left_top_of(corners),
-        right_bottom_of(corners),
-    ) {
-        Ok(points) => points,
+    box_law();
+    let plane = match plane_rect(map, corners) {
+        Ok(plane) => plane,
         Err(fault) => return Err(fault),
     };
+    if !fits(Some(plane), place) {
+        return Err(RecordFault::OffPlane);
+    }
     limits_law();
-    placing_law();
-    Ok(ClipBox {
-        plane: Rect::between(first, second),
-        placed: Rect::between(place.at(first), place.at(second)),
-    })
+    let near = place.at(left_top_of(plane));
+    let far = place.at(right_bottom_of(plane));
+    let placed = Rect {
+        l: near.x,
+        t: near.y,
+        r: far.x,
+        b: far.y,
+    };
+    Ok(ClipBox { plane, placed })
 }
 
 /// The left top of a box.

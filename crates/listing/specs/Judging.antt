@@ -1,10 +1,13 @@
 -- The faults that a file's records have in its runs, on surfaces of any sides.
-use Rattle.std.specs.Prelude.{ℕ, List, Option, Some, None, Result, Ok, Err}
+use Rattle.std.specs.Prelude.{◌≡◌, ℕ, List, Option, Some, None, Result, Ok, Err}
+use Rattle.std.specs.Option.{option_map}
 use Rattle.mapping.specs.Limits.{surface_side_limit}
 use Rattle.mapping.specs.PlacingLaws.{IsNoLarger, ShowsFrame}
 use Rattle.mapping.specs.Surface.{Surface}
 use Rattle.draw_ops.specs.Content.{StepValue}
+use Rattle.draw_ops.specs.Operation.{Operation}
 use Rattle.draw_ops.specs.declared.fault.Fault.{Fault}
+use Rattle.draw_ops.specs.declared.fault.Fault.TheVariants.{Record}
 use Rattle.draw_ops.specs.declared.record_fault.RecordFault.{RecordFault}
 use Rattle.meta_headers.specs.Headers.{OpenedValue}
 use Rattle.meta_headers.specs.Opening.{opened, surface_for}
@@ -35,12 +38,19 @@ abbrev pub gone_on : Option RecordFault → Judging → Option Judging
 gone_on None judging = Some judging
 gone_on (Some fault) judging = None
 
--- what the records behind a step are judged by
+-- what the records behind an operation are judged by, where a run goes on
+abbrev pub behind_operation : Operation → Judging → Judging
+behind_operation operation judging = record {
+  state = next operation judging.state;
+  smallest = judging.smallest;
+  largest = judging.largest;
+}
+
+-- what those behind a step are judged by
 abbrev pub behind_step : Option Judging → StepValue → Option Judging
 behind_step None step = None
 behind_step (Some judging) step =
-    gone_on (fault_of step.operation judging.state judging.smallest)
-    (record { state = next step.operation judging.state; smallest = judging.smallest; largest = judging.largest })
+    gone_on (fault_of step.operation judging.state judging.smallest) (behind_operation step.operation judging)
 
 -- those behind a record: each run stops at a fault of meaning
 abbrev pub behind_record : Option Judging → Result StepValue RecordFault → Option Judging
@@ -62,6 +72,10 @@ judging_if (Ok o) = Some (start_judging o)
 
 abbrev pub judging_of : List ℕ → Option Judging
 judging_of file = judging_if (opened file)
+
+-- an operation has a fault of a record on a surface
+abbrev pub HasFault : Operation → State → Surface → Fault → Type 0
+HasFault operation state s fault = option_map Record (fault_of operation state s) ≡ Some fault
 
 -- a machine has room for any file, and plays on a surface that is no larger than another, which shows a frame
 pub record IsRunning (m : MachineState) (largest : Surface) : Type 0 where

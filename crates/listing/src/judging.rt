@@ -1,6 +1,6 @@
 //! The faults that a file's records have in its runs, on surfaces of any sides.
 
-ghost use Rattle.std.specs.Prelude.{◌≡◌, Option, Some, None, IfErr, IfOk, OnErr, OnOk};
+ghost use Rattle.std.specs.Prelude.{◌≡◌, List, Option, Some, None, IfErr, IfOk, OnErr, OnOk};
 ghost use Rattle.std.specs.Option.{option_map};
 ghost use Rattle.draw_ops.specs.OperationOf.{operation_of};
 ghost use Rattle.draw_ops.specs.Results.{result_map};
@@ -8,16 +8,18 @@ ghost use Rattle.draw_ops.specs.StepOf.{step_value_of};
 ghost use Rattle.draw_ops.specs.declared.fault.Fault.TheVariants.{Record};
 ghost use Rattle.draw_ops.specs.declared.record_fault.RecordFault.{RecordFault as TheRecordFault};
 ghost use Rattle.meta_headers.specs.OpenedOf.{opened_of};
-ghost use Rattle.dc_stack.specs.Next.{next};
-ghost use Rattle.dc_stack.specs.OperationFault.{fault_of, place_fault};
+ghost use Rattle.mapping.specs.PlaceOf.{surface_of};
+ghost use Rattle.mapping.specs.declared.geometry.Point.{Point};
+ghost use Rattle.dc_stack.specs.Extents.{IsExtent};
+ghost use Rattle.dc_stack.specs.OperationFault.{fault_of, off_plane_fault};
 ghost use Rattle.preflight_cert.specs.Reached.{Opens};
 ghost use Rattle.listing.specs.ListingLaws.{ShowsItsFrame};
-ghost use Rattle.listing.specs.Judging.{behind_record, behind_step, fault_in_runs, judging_of, run_fault, start_judging};
+ghost use Rattle.listing.specs.Judging.{HasFault, behind_operation, behind_record, behind_step, fault_in_runs, judging_of, run_fault, start_judging};
 
 use canvas::OutOfMemory;
-use dc_stack::{Draw, MAX_PIECES, MAX_SAVED_STATES, Machine, fault_law};
+use dc_stack::{Draw, MAX_PIECES, MAX_SAVED_STATES, Machine, fault_law, fits};
 use draw_ops::{Fault, Op, RecordFault, Step};
-use mapping::{MAX_SURFACE_SIDE, Place};
+use mapping::{MAX_SURFACE_SIDE, Place, Rect};
 use meta_headers::{Opened, open_file};
 use object_tables::{FileTable, Table, full_slots};
 use preflight_cert::need_law;
@@ -58,27 +60,21 @@ impl<'a> SmallestRun<'a> {
         }
     }
 
-    /// `OffPlane` where an operation is off the plane on the largest surface.
-    fn off_largest(&self, op: &Op<'a>) -> Option<RecordFault>
-        ensures { result ≡ place_fault (operation_of op.now) self.now.state self.now.largest }
-    {
-        self.machine.place_fault(op, self.largest)
-    }
-
-    /// Plays an operation, or tells the fault that it has on both surfaces.
-    fn play(&mut self, op: &Op<'a>) -> Result<(), Fault>
+    /// Plays an operation, and tells the fault that it has on the largest surface alone, or else the one that it has on both.
+    fn play(&mut self, op: &Op<'a>) -> Result<Option<RecordFault>, Fault>
         ensures no_fault { OnOk result (fault_of (operation_of op.now) self.old.state self.old.smallest ≡ None) }
-        ensures played { OnOk result (self.new
-            ≡ record { state = next (operation_of op.now) self.old.state; smallest = self.old.smallest; largest = self.old.largest }) }
-        ensures on_smallest { IfErr result (λ fault.
-            option_map Record (fault_of (operation_of op.now) self.old.state self.old.smallest) ≡ Some fault) }
-        ensures on_largest { IfErr result (λ fault.
-            option_map Record (fault_of (operation_of op.now) self.old.state self.old.largest) ≡ Some fault) }
+        ensures off { IfOk result (λ off. off ≡ fault_of (operation_of op.now) self.old.state self.old.largest) }
+        ensures played { OnOk result (self.new ≡ behind_operation (operation_of op.now) self.old) }
+        ensures on_smallest { IfErr result (HasFault (operation_of op.now) self.old.state self.old.smallest) }
+        ensures on_largest { IfErr result (HasFault (operation_of op.now) self.old.state self.old.largest) }
     {
         fault_law();
         need_law();
         let mut drawn: Option<Draw<'a>> = None;
-        self.machine.step_into(op, &mut drawn)
+        match self.machine.step_into(op, &mut drawn) {
+            Ok(()) => Ok(off_plane(self.machine.plane_extent(), self.largest)),
+            Err(fault) => Err(fault),
+        }
     }
 }
 
@@ -135,14 +131,24 @@ impl<'a> Judge<'a> {
         let Some(run) = &mut self.run else {
             return None;
         };
-        let off = run.off_largest(&step.op);
         match run.play(&step.op) {
-            Ok(()) => off,
+            Ok(off) => off,
             Err(fault) => {
                 self.run = None;
                 in_record(fault)
             }
         }
+    }
+}
+
+/// `OffPlane` where points don't all land on a surface, whose least box on the plane this is.
+fn off_plane(extent: Option<Rect>, place: Place) -> Option<RecordFault>
+    ensures { (points : List Point) → IsExtent extent points → result ≡ off_plane_fault points (surface_of place) }
+{
+    if fits(extent, place) {
+        None
+    } else {
+        Some(RecordFault::OffPlane)
     }
 }
 

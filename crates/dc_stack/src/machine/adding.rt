@@ -1,6 +1,6 @@
 //! Steps that add to an open path.
 
-ghost use Rattle.std.specs.Prelude.{◌≡◌, ◌≢◌, ◌≤◌, true, None};
+ghost use Rattle.std.specs.Prelude.{◌≡◌, ◌≢◌, ◌≤◌, true};
 ghost use Rattle.dc_stack.specs.Adding.{AddsLines, AddsLists};
 ghost use Rattle.dc_stack.specs.MachineState.{GoesOn};
 ghost use Rattle.dc_stack.specs.Needs.{greater_needs, pieces_needed};
@@ -9,35 +9,38 @@ ghost use Rattle.dc_stack.specs.Pieces.{AreMappedAlone, page_points};
 ghost use Rattle.dc_stack.specs.State.{with_position};
 ghost use Rattle.dc_stack.specs.declared.piece.Joining.TheVariants.{GoesOn as LinesGoOn};
 
-use crate::draw::Draw;
 use crate::machine::Machine;
 use crate::piece::{Joining, PiecePoints};
 use crate::projection::Projection;
 use draw_ops::Fault;
-use mapping::Point;
+use mapping::{Point, Rect};
 use object_tables::Table;
 
 impl<'a, T: Table<'a>> Machine<'a, T> {
-    /// Adds lines through the points of one list, and makes a point the position.
+    /// Adds lines through the points of one list, and makes a point the position. It answers with their extent, as `add_lists` does.
     pub(super) fn add_lines(
         &mut self,
         points: PiecePoints<'a>,
         end: Point,
-    ) -> Result<Option<Draw<'a>>, Fault>
+    ) -> Result<Option<Rect>, Fault>
         requires open { is_open self.old.state.path ≡ true }
         requires alone { AreMappedAlone points }
         ensures adds { AddsLines (page_points points.entry) end self.old result self.new }
         ensures goes_on { GoesOn self.old self.new }
     {
         if !points.is_some() {
-            return Ok(self.added(end));
+            self.added(end);
+            return Ok(None);
         }
         let by = Projection {
             map: self.dc.map,
             place: self.place,
         };
         match self.path.add_lines(self.dc.position, points, &by) {
-            Ok(()) => Ok(self.added(end)),
+            Ok(extent) => {
+                self.added(end);
+                Ok(extent)
+            }
             Err(fault) => Err(fault),
         }
     }
@@ -47,29 +50,32 @@ impl<'a, T: Table<'a>> Machine<'a, T> {
         &mut self,
         points: PiecePoints<'a>,
         joining: Joining,
-    ) -> Result<Option<Draw<'a>>, Fault>
+    ) -> Result<Option<Rect>, Fault>
         requires open { is_open self.old.state.path ≡ true }
         requires own { joining ≢ LinesGoOn }
         ensures adds { AddsLists joining points.entry self.old result self.new }
         ensures goes_on { GoesOn self.old self.new }
     {
         if !points.is_some() {
-            return Ok(self.added(self.dc.position));
+            self.added(self.dc.position);
+            return Ok(None);
         }
         let by = Projection {
             map: self.dc.map,
             place: self.place,
         };
         match self.path.add_lists(points, joining, &by) {
-            Ok(()) => Ok(self.added(self.dc.position)),
+            Ok(extent) => {
+                self.added(self.dc.position);
+                Ok(extent)
+            }
             Err(fault) => Err(fault),
         }
     }
 
-    /// Counts the pieces of the open path, and makes a point the position: nothing is drawn.
-    fn added(&mut self, end: Point) -> Option<Draw<'a>>
+    /// Counts the pieces of the open path, and makes a point the position.
+    fn added(&mut self, end: Point)
         requires open { is_open self.old.state.path ≡ true }
-        ensures nothing { result ≡ None }
         ensures few { piece_count self.old.state.path ≤ piece_limit }
         ensures state { self.new.state ≡ with_position end self.old.state }
         ensures needs { self.new.needs ≡ greater_needs self.old.needs (pieces_needed (piece_count self.old.state.path)) }
@@ -78,6 +84,5 @@ impl<'a, T: Table<'a>> Machine<'a, T> {
     {
         self.needs.raise_pieces(self.path.count());
         self.dc.position = end;
-        None
     }
 }

@@ -1,10 +1,9 @@
 //! Steps that set the clip.
 
 ghost use Rattle.draw_ops.specs.Operation.{exclude_clip, intersect_clip, remove_clip};
-ghost use Rattle.dc_stack.specs.MachineState.{GoesOn, Plays};
+ghost use Rattle.dc_stack.specs.MachineState.{GoesOn, Plays, undrawn};
 
 use crate::clip::Clip;
-use crate::draw::Draw;
 use crate::machine::Machine;
 use crate::placing::land_clip_box;
 use draw_ops::{Fault, RecordFault};
@@ -13,8 +12,8 @@ use object_tables::Table;
 
 impl<'a, T: Table<'a>> Machine<'a, T> {
     /// Cuts a box of the page out of the clip.
-    pub(super) fn exclude_clip(&mut self, corners: Rect) -> Result<Option<Draw<'a>>, Fault>
-        ensures plays { Plays (exclude_clip corners) self.old result self.new }
+    pub(super) fn exclude_clip(&mut self, corners: Rect) -> Result<Option<Rect>, Fault>
+        ensures plays { Plays (exclude_clip corners) self.old (undrawn result) self.new }
         ensures goes_on { GoesOn self.old self.new }
     {
         if !self.dc.clip.may_be_cut() {
@@ -23,30 +22,30 @@ impl<'a, T: Table<'a>> Machine<'a, T> {
         match land_clip_box(&self.dc.map, self.place, corners) {
             Ok(landed) => {
                 self.dc.clip.cut(landed);
-                Ok(None)
+                Ok(Some(landed.plane))
             }
             Err(fault) => Err(Fault::Record(fault)),
         }
     }
 
     /// Keeps what a box of the page has of the clip.
-    pub(super) fn intersect_clip(&mut self, corners: Rect) -> Result<Option<Draw<'a>>, Fault>
-        ensures plays { Plays (intersect_clip corners) self.old result self.new }
+    pub(super) fn intersect_clip(&mut self, corners: Rect) -> Result<Option<Rect>, Fault>
+        ensures plays { Plays (intersect_clip corners) self.old (undrawn result) self.new }
         ensures goes_on { GoesOn self.old self.new }
     {
         match land_clip_box(&self.dc.map, self.place, corners) {
             Ok(landed) => {
                 placing_law();
                 self.dc.clip.keep(landed);
-                Ok(None)
+                Ok(Some(landed.plane))
             }
             Err(fault) => Err(Fault::Record(fault)),
         }
     }
 
     /// Clips nothing from here on.
-    pub(super) fn remove_clip(&mut self) -> Result<Option<Draw<'a>>, Fault>
-        ensures plays { Plays remove_clip self.old result self.new }
+    pub(super) fn remove_clip(&mut self) -> Result<Option<Rect>, Fault>
+        ensures plays { Plays remove_clip self.old (undrawn result) self.new }
         ensures goes_on { GoesOn self.old self.new }
     {
         self.dc.clip = Clip::none();

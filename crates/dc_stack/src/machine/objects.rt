@@ -5,15 +5,15 @@ ghost use Rattle.std.specs.List.{list_any};
 ghost use Rattle.std.specs.Option.{option_map};
 ghost use Rattle.draw_ops.specs.Objects.{index_of, object_value_of};
 ghost use Rattle.draw_ops.specs.Operation.{create, delete, select, select_palette};
-ghost use Rattle.dc_stack.specs.MachineState.{GoesOn, Plays};
+ghost use Rattle.dc_stack.specs.MachineState.{GoesOn, Plays, undrawn};
 ghost use Rattle.dc_stack.specs.Selecting.{is_held, named_object, selects};
 ghost use Rattle.dc_stack.specs.Values.{dc_value};
 
 use crate::dc::Dc;
-use crate::draw::Draw;
 use crate::machine::Machine;
 use crate::stock::{is_stock, own_handle, stock_object};
 use draw_ops::{Fault, Handle, Object, RecordFault};
+use mapping::Rect;
 use object_tables::Table;
 
 impl<'a, T: Table<'a>> Machine<'a, T> {
@@ -22,8 +22,8 @@ impl<'a, T: Table<'a>> Machine<'a, T> {
         &mut self,
         at: Option<Handle>,
         object: Object<'a>,
-    ) -> Result<Option<Draw<'a>>, Fault>
-        ensures plays { Plays (create (index_of at) (object_value_of object.entry)) self.old result self.new }
+    ) -> Result<Option<Rect>, Fault>
+        ensures plays { Plays (create (index_of at) (object_value_of object.entry)) self.old (undrawn result) self.new }
         ensures goes_on { GoesOn self.old self.new }
     {
         match self.table.create(at, object) {
@@ -36,8 +36,8 @@ impl<'a, T: Table<'a>> Machine<'a, T> {
     }
 
     /// Puts a pen, a brush or a font in use.
-    pub(super) fn select(&mut self, handle: Handle) -> Result<Option<Draw<'a>>, Fault>
-        ensures plays { Plays (select handle.0) self.old result self.new }
+    pub(super) fn select(&mut self, handle: Handle) -> Result<Option<Rect>, Fault>
+        ensures plays { Plays (select handle.0) self.old (undrawn result) self.new }
         ensures goes_on { GoesOn self.old self.new }
     {
         match self.named(handle) {
@@ -51,8 +51,8 @@ impl<'a, T: Table<'a>> Machine<'a, T> {
     }
 
     /// Puts a palette in use.
-    pub(super) fn select_palette(&mut self, handle: Handle) -> Result<Option<Draw<'a>>, Fault>
-        ensures plays { Plays (select_palette handle.0) self.old result self.new }
+    pub(super) fn select_palette(&mut self, handle: Handle) -> Result<Option<Rect>, Fault>
+        ensures plays { Plays (select_palette handle.0) self.old (undrawn result) self.new }
         ensures goes_on { GoesOn self.old self.new }
     {
         match self.named(handle) {
@@ -66,8 +66,8 @@ impl<'a, T: Table<'a>> Machine<'a, T> {
     }
 
     /// Takes an object that nothing holds out of the table.
-    pub(super) fn delete(&mut self, handle: Handle) -> Result<Option<Draw<'a>>, Fault>
-        ensures plays { Plays (delete handle.0) self.old result self.new }
+    pub(super) fn delete(&mut self, handle: Handle) -> Result<Option<Rect>, Fault>
+        ensures plays { Plays (delete handle.0) self.old (undrawn result) self.new }
         ensures goes_on { GoesOn self.old self.new }
     {
         if self.table.get(handle).is_err() {

@@ -1,18 +1,17 @@
 //! Steps that set the page map.
 
 ghost use Rattle.draw_ops.specs.Operation.{offset_viewport_origin, offset_window_origin, set_map_mode, set_viewport_extent, set_viewport_origin, set_window_extent, set_window_origin};
-ghost use Rattle.dc_stack.specs.MachineState.{GoesOn, Plays};
+ghost use Rattle.dc_stack.specs.MachineState.{GoesOn, Plays, undrawn};
 
-use crate::draw::Draw;
 use crate::machine::Machine;
 use draw_ops::{Fault, RecordFault};
-use mapping::{MapMode, Point};
+use mapping::{MapMode, Point, Rect};
 use object_tables::Table;
 
 impl<'a, T: Table<'a>> Machine<'a, T> {
     /// Sets the map mode.
-    pub(super) fn set_map_mode(&mut self, mode: MapMode) -> Result<Option<Draw<'a>>, Fault>
-        ensures plays { Plays (set_map_mode mode) self.old result self.new }
+    pub(super) fn set_map_mode(&mut self, mode: MapMode) -> Result<Option<Rect>, Fault>
+        ensures plays { Plays (set_map_mode mode) self.old (undrawn result) self.new }
         ensures goes_on { GoesOn self.old self.new }
     {
         self.dc.map.set_mode(mode);
@@ -20,8 +19,8 @@ impl<'a, T: Table<'a>> Machine<'a, T> {
     }
 
     /// Sets the window's origin.
-    pub(super) fn set_window_origin(&mut self, origin: Point) -> Result<Option<Draw<'a>>, Fault>
-        ensures plays { Plays (set_window_origin origin) self.old result self.new }
+    pub(super) fn set_window_origin(&mut self, origin: Point) -> Result<Option<Rect>, Fault>
+        ensures plays { Plays (set_window_origin origin) self.old (undrawn result) self.new }
         ensures goes_on { GoesOn self.old self.new }
     {
         self.dc.map.set_window_origin(origin);
@@ -29,8 +28,8 @@ impl<'a, T: Table<'a>> Machine<'a, T> {
     }
 
     /// Sets the viewport's origin.
-    pub(super) fn set_viewport_origin(&mut self, origin: Point) -> Result<Option<Draw<'a>>, Fault>
-        ensures plays { Plays (set_viewport_origin origin) self.old result self.new }
+    pub(super) fn set_viewport_origin(&mut self, origin: Point) -> Result<Option<Rect>, Fault>
+        ensures plays { Plays (set_viewport_origin origin) self.old (undrawn result) self.new }
         ensures goes_on { GoesOn self.old self.new }
     {
         self.dc.map.set_viewport_origin(origin);
@@ -38,8 +37,8 @@ impl<'a, T: Table<'a>> Machine<'a, T> {
     }
 
     /// Sets the window's extent.
-    pub(super) fn set_window_extent(&mut self, extent: Point) -> Result<Option<Draw<'a>>, Fault>
-        ensures plays { Plays (set_window_extent extent) self.old result self.new }
+    pub(super) fn set_window_extent(&mut self, extent: Point) -> Result<Option<Rect>, Fault>
+        ensures plays { Plays (set_window_extent extent) self.old (undrawn result) self.new }
         ensures goes_on { GoesOn self.old self.new }
     {
         match self.dc.map.set_window_extent(extent) {
@@ -49,8 +48,8 @@ impl<'a, T: Table<'a>> Machine<'a, T> {
     }
 
     /// Sets the viewport's extent.
-    pub(super) fn set_viewport_extent(&mut self, extent: Point) -> Result<Option<Draw<'a>>, Fault>
-        ensures plays { Plays (set_viewport_extent extent) self.old result self.new }
+    pub(super) fn set_viewport_extent(&mut self, extent: Point) -> Result<Option<Rect>, Fault>
+        ensures plays { Plays (set_viewport_extent extent) self.old (undrawn result) self.new }
         ensures goes_on { GoesOn self.old self.new }
     {
         match self.dc.map.set_viewport_extent(extent) {
@@ -60,8 +59,8 @@ impl<'a, T: Table<'a>> Machine<'a, T> {
     }
 
     /// Moves the window's origin.
-    pub(super) fn offset_window_origin(&mut self, offset: Point) -> Result<Option<Draw<'a>>, Fault>
-        ensures plays { Plays (offset_window_origin offset) self.old result self.new }
+    pub(super) fn offset_window_origin(&mut self, offset: Point) -> Result<Option<Rect>, Fault>
+        ensures plays { Plays (offset_window_origin offset) self.old (undrawn result) self.new }
         ensures goes_on { GoesOn self.old self.new }
     {
         match self.dc.map.offset_window_origin(offset) {
@@ -71,11 +70,8 @@ impl<'a, T: Table<'a>> Machine<'a, T> {
     }
 
     /// Moves the viewport's origin.
-    pub(super) fn offset_viewport_origin(
-        &mut self,
-        offset: Point,
-    ) -> Result<Option<Draw<'a>>, Fault>
-        ensures plays { Plays (offset_viewport_origin offset) self.old result self.new }
+    pub(super) fn offset_viewport_origin(&mut self, offset: Point) -> Result<Option<Rect>, Fault>
+        ensures plays { Plays (offset_viewport_origin offset) self.old (undrawn result) self.new }
         ensures goes_on { GoesOn self.old self.new }
     {
         match self.dc.map.offset_viewport_origin(offset) {

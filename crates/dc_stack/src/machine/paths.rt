@@ -1,19 +1,18 @@
 //! Steps that begin, end and paint paths.
 
 ghost use Rattle.draw_ops.specs.Operation.{abort_path, begin_path, close_figure, end_path, move_to};
-ghost use Rattle.dc_stack.specs.MachineState.{GoesOn, Plays, painting_operation, told};
+ghost use Rattle.dc_stack.specs.MachineState.{GoesOn, Plays, outcome, painting_operation, undrawn};
 
 use crate::draw::{Draw, FigurePoints, Mark, Painting};
 use crate::machine::Machine;
-use crate::plane_box::least;
 use draw_ops::{Fault, RecordFault};
-use mapping::Point;
+use mapping::{Point, Rect};
 use object_tables::Table;
 
 impl<'a, T: Table<'a>> Machine<'a, T> {
     /// Opens an empty path, in place of one that waits to be painted.
-    pub(super) fn begin_path(&mut self) -> Result<Option<Draw<'a>>, Fault>
-        ensures plays { Plays begin_path self.old result self.new }
+    pub(super) fn begin_path(&mut self) -> Result<Option<Rect>, Fault>
+        ensures plays { Plays begin_path self.old (undrawn result) self.new }
         ensures goes_on { GoesOn self.old self.new }
     {
         if self.path.is_open() {
@@ -24,8 +23,8 @@ impl<'a, T: Table<'a>> Machine<'a, T> {
     }
 
     /// Finishes the open path.
-    pub(super) fn end_path(&mut self) -> Result<Option<Draw<'a>>, Fault>
-        ensures plays { Plays end_path self.old result self.new }
+    pub(super) fn end_path(&mut self) -> Result<Option<Rect>, Fault>
+        ensures plays { Plays end_path self.old (undrawn result) self.new }
         ensures goes_on { GoesOn self.old self.new }
     {
         if !self.path.is_open() {
@@ -36,8 +35,8 @@ impl<'a, T: Table<'a>> Machine<'a, T> {
     }
 
     /// Closes the open figure of the open path, if there is one.
-    pub(super) fn close_figure(&mut self) -> Result<Option<Draw<'a>>, Fault>
-        ensures plays { Plays close_figure self.old result self.new }
+    pub(super) fn close_figure(&mut self) -> Result<Option<Rect>, Fault>
+        ensures plays { Plays close_figure self.old (undrawn result) self.new }
         ensures goes_on { GoesOn self.old self.new }
     {
         if !self.path.is_open() {
@@ -48,8 +47,8 @@ impl<'a, T: Table<'a>> Machine<'a, T> {
     }
 
     /// Drops whatever path there is.
-    pub(super) fn abort_path(&mut self) -> Result<Option<Draw<'a>>, Fault>
-        ensures plays { Plays abort_path self.old result self.new }
+    pub(super) fn abort_path(&mut self) -> Result<Option<Rect>, Fault>
+        ensures plays { Plays abort_path self.old (undrawn result) self.new }
         ensures goes_on { GoesOn self.old self.new }
     {
         self.path.abort();
@@ -57,8 +56,8 @@ impl<'a, T: Table<'a>> Machine<'a, T> {
     }
 
     /// Makes a point the current one. The open figure of an open path ends.
-    pub(super) fn move_to(&mut self, point: Point) -> Result<Option<Draw<'a>>, Fault>
-        ensures plays { Plays (move_to point) self.old result self.new }
+    pub(super) fn move_to(&mut self, point: Point) -> Result<Option<Rect>, Fault>
+        ensures plays { Plays (move_to point) self.old (undrawn result) self.new }
         ensures goes_on { GoesOn self.old self.new }
     {
         self.path.end_figure();
@@ -71,8 +70,8 @@ impl<'a, T: Table<'a>> Machine<'a, T> {
         &mut self,
         painting: Painting,
         drawn: &mut Option<Draw<'a>>,
-    ) -> Result<(), Fault>
-        ensures plays { Plays (painting_operation painting) self.old (told result drawn.new) self.new }
+    ) -> Result<Option<Rect>, Fault>
+        ensures plays { Plays (painting_operation painting) self.old (outcome result drawn.new) self.new }
         ensures goes_on { GoesOn self.old self.new }
     {
         if !self.path.is_finished() {
@@ -82,17 +81,17 @@ impl<'a, T: Table<'a>> Machine<'a, T> {
             Some(count) => count,
             None => return Err(Fault::Record(RecordFault::TooManyEdges)),
         };
-        let bounds = least(self.path.bounds);
-        self.needs.raise_edges(edges);
-        self.path.lend();
-        *drawn = Some(Draw {
-            mark: Mark::Figures {
-                painting,
-                points: FigurePoints::Path,
-            },
-            bounds,
-            edges,
-        });
-        Ok(())
+        let mark = Mark::Figures {
+            painting,
+            points: FigurePoints::Path,
+        };
+        let extent = self.path.bounds;
+        match self.make_draw(mark, extent, edges, drawn) {
+            Ok(extent) => {
+                self.path.lend();
+                Ok(extent)
+            }
+            Err(fault) => Err(fault),
+        }
     }
 }

@@ -1,12 +1,12 @@
 //! Steps that save the state, and take a saved one back.
 
 ghost use Rattle.draw_ops.specs.Operation.{restore, save};
-ghost use Rattle.dc_stack.specs.MachineState.{GoesOn, Plays};
+ghost use Rattle.dc_stack.specs.MachineState.{GoesOn, Plays, undrawn};
 
-use crate::draw::Draw;
 use crate::machine::Machine;
 use crate::saved::place_of;
 use draw_ops::{Fault, RecordFault, SavedState};
+use mapping::Rect;
 use object_tables::Table;
 
 /// How many states are saved at most at a time.
@@ -14,8 +14,8 @@ pub const MAX_SAVED_STATES: usize = 256;
 
 impl<'a, T: Table<'a>> Machine<'a, T> {
     /// Saves a copy of what drawings depend on.
-    pub(super) fn save(&mut self) -> Result<Option<Draw<'a>>, Fault>
-        ensures plays { Plays save self.old result self.new }
+    pub(super) fn save(&mut self) -> Result<Option<Rect>, Fault>
+        ensures plays { Plays save self.old (undrawn result) self.new }
         ensures goes_on { GoesOn self.old self.new }
     {
         if self.saved.len() >= MAX_SAVED_STATES {
@@ -31,8 +31,8 @@ impl<'a, T: Table<'a>> Machine<'a, T> {
     }
 
     /// Takes a saved state back.
-    pub(super) fn restore(&mut self, which: SavedState) -> Result<Option<Draw<'a>>, Fault>
-        ensures plays { Plays (restore which.0) self.old result self.new }
+    pub(super) fn restore(&mut self, which: SavedState) -> Result<Option<Rect>, Fault>
+        ensures plays { Plays (restore which.0) self.old (undrawn result) self.new }
         ensures goes_on { GoesOn self.old self.new }
     {
         let Some(place) = place_of(which, self.saved.len()) else {

@@ -1,12 +1,11 @@
 //! Steps that set how what follows is drawn.
 
 ghost use Rattle.draw_ops.specs.Operation.{set_background_colour, set_background_mode, set_fill_mode, set_raster_op};
-ghost use Rattle.dc_stack.specs.MachineState.{GoesOn, Plays};
+ghost use Rattle.dc_stack.specs.MachineState.{GoesOn, Plays, undrawn};
 
-use crate::draw::Draw;
 use crate::machine::Machine;
 use draw_ops::{BackgroundMode, Fault, FillMode, RasterOp};
-use mapping::Colour;
+use mapping::{Colour, Rect};
 use object_tables::Table;
 
 impl<'a, T: Table<'a>> Machine<'a, T> {
@@ -14,8 +13,8 @@ impl<'a, T: Table<'a>> Machine<'a, T> {
     pub(super) fn set_background_mode(
         &mut self,
         mode: BackgroundMode,
-    ) -> Result<Option<Draw<'a>>, Fault>
-        ensures plays { Plays (set_background_mode mode) self.old result self.new }
+    ) -> Result<Option<Rect>, Fault>
+        ensures plays { Plays (set_background_mode mode) self.old (undrawn result) self.new }
         ensures goes_on { GoesOn self.old self.new }
     {
         self.dc.modes.background_mode = mode;
@@ -23,11 +22,8 @@ impl<'a, T: Table<'a>> Machine<'a, T> {
     }
 
     /// Sets the colour of the gaps of a hatch.
-    pub(super) fn set_background_colour(
-        &mut self,
-        colour: Colour,
-    ) -> Result<Option<Draw<'a>>, Fault>
-        ensures plays { Plays (set_background_colour colour) self.old result self.new }
+    pub(super) fn set_background_colour(&mut self, colour: Colour) -> Result<Option<Rect>, Fault>
+        ensures plays { Plays (set_background_colour colour) self.old (undrawn result) self.new }
         ensures goes_on { GoesOn self.old self.new }
     {
         self.dc.modes.background_colour = colour;
@@ -35,8 +31,8 @@ impl<'a, T: Table<'a>> Machine<'a, T> {
     }
 
     /// Sets how colours join what is there.
-    pub(super) fn set_raster_op(&mut self, raster_op: RasterOp) -> Result<Option<Draw<'a>>, Fault>
-        ensures plays { Plays (set_raster_op raster_op) self.old result self.new }
+    pub(super) fn set_raster_op(&mut self, raster_op: RasterOp) -> Result<Option<Rect>, Fault>
+        ensures plays { Plays (set_raster_op raster_op) self.old (undrawn result) self.new }
         ensures goes_on { GoesOn self.old self.new }
     {
         self.dc.modes.raster_op = raster_op;
@@ -44,8 +40,8 @@ impl<'a, T: Table<'a>> Machine<'a, T> {
     }
 
     /// Sets which parts polygons fill.
-    pub(super) fn set_fill_mode(&mut self, mode: FillMode) -> Result<Option<Draw<'a>>, Fault>
-        ensures plays { Plays (set_fill_mode mode) self.old result self.new }
+    pub(super) fn set_fill_mode(&mut self, mode: FillMode) -> Result<Option<Rect>, Fault>
+        ensures plays { Plays (set_fill_mode mode) self.old (undrawn result) self.new }
         ensures goes_on { GoesOn self.old self.new }
     {
         self.dc.modes.fill_mode = mode;

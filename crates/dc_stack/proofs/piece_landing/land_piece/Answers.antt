@@ -1,14 +1,21 @@
-use Rattle.std.proofs.Common.{List, subst}
-use Rattle.std.specs.Prelude.{IfOk}
-use Rattle.mapping.specs.Boxes.{IsBoxOf}
-use Rattle.mapping.specs.PageMap.{map_numbers}
-use Rattle.mapping.specs.declared.geometry.Point.{Point}
-use Rattle.point_views.specs.PartedPoints.{parts_of}
-use Rattle.point_views.specs.Points.{points_of}
-use Rattle.dc_stack.proofs.ListLemmas.{points_mapped}
+use Rattle.std.proofs.Common.{sym, ap, ◌∙◌}
+use Rattle.mapping.specs.PlaceOf.{surface_of}
+use Rattle.mapping.specs.PlacingLaws.{ShowsFrame}
+use Rattle.dc_stack.specs.Pieces.{page_points}
+use Rattle.dc_stack.specs.Placing.{plane_list}
+use Rattle.dc_stack.proofs.LandingLemmas.{off_unless}
 use Rattle.dc_stack.proofs.piece_landing.land_piece.Goals as goal
 
-pub returns-in-Lists-clause-least : goal.returns-in-Lists-clause-least
-returns-in-Lists-clause-least c =
-    let all = points_mapped (map_numbers c.args.by.now.map) (points_of c.points-points.result) (parts_of c.in-Lists.parted) c.points-points.ensures in
-    rw c.in-Lists.is (subst (λ (points : List Point). IfOk c.plane_box-in-Lists.result (λ bounds. IsBoxOf bounds points)) all c.plane_box-in-Lists.ensures.least)
+pub returns-then-fits-clause-fault : goal.returns-then-fits-clause-fault
+returns-then-fits-clause-fault c =
+    ap off_unless (sym c.if-fits.true ∙ c.fits.ensures (plane_list c.args.by.now.map (page_points c.args.points)) c.in-Ok.ensures.page)
+
+pub returns-else-fits-clause-fault : goal.returns-else-fits-clause-fault
+returns-else-fits-clause-fault c =
+    ap off_unless (sym c.if-fits.false ∙ c.fits.ensures (plane_list c.args.by.now.map (page_points c.args.points)) c.in-Ok.ensures.page)
+
+pub returns-in-Err-clause-fault : goal.returns-in-Err-clause-fault
+returns-in-Err-clause-fault c =
+    let place = c.args.by.now.place in
+    let shows : ShowsFrame (surface_of place) = record { wide = place.frame.wide; high = place.frame.high } in
+    c.in-Err.ensures.off (surface_of place) shows

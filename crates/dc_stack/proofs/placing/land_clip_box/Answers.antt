@@ -1,17 +1,42 @@
+use Rattle.std.proofs.Common.{◌≡◌, true, false, rules, ap, sym, ◌∙◌}
 use Rattle.mapping.specs.PlaceOf.{surface_of}
+use Rattle.mapping.specs.PageMap.{map_numbers}
 use Rattle.mapping.specs.PlacingLaws.{ShowsFrame}
-use Rattle.dc_stack.proofs.BoxLemmas.{placed_between}
-use Rattle.dc_stack.proofs.LandingLemmas.{two_fit}
+use Rattle.dc_stack.specs.Mapped.{mapped_corners}
+use Rattle.dc_stack.proofs.LandingLemmas.{off_unless}
+use Rattle.dc_stack.proofs.PlaneBoxLemmas.{corners_fit}
 use Rattle.dc_stack.proofs.placing.land_clip_box.Goals as goal
 
-pub returns-clause-placed : goal.returns-clause-placed
-returns-clause-placed c =
-    let shows : ShowsFrame (surface_of c.args.place) = record { wide = c.args.place.frame.wide; high = c.args.place.frame.high } in
-    rw (c.between-2.ensures, c.at.ensures, c.at-2.ensures, c.between.ensures)
-    (placed_between c.placing_law.ensures (surface_of c.args.place) shows c.in-Ok.points.0 c.in-Ok.points.1)
+pub returns-in-Err-clause-fault : goal.returns-in-Err-clause-fault
+returns-in-Err-clause-fault c =
+    let place = c.args.place in
+    let shows : ShowsFrame (surface_of place) = record { wide = place.frame.wide; high = place.frame.high } in
+    c.in-Err.ensures.off (surface_of place) shows
 
-pub at-requires : goal.at-requires
-at-requires c = (two_fit (surface_of c.args.place) c.limits_law.ensures c.in-Ok.points.0 c.in-Ok.points.1 (rw (c.in-Ok.ensures.first, c.in-Ok.ensures.second, c.left_top_of.ensures, c.right_bottom_of.ensures) (rw (c.left_top_of.ensures, c.right_bottom_of.ensures) at c.in-Ok.ensures.fault))).0
+pub returns-then-not-fits-clause-fault : goal.returns-then-not-fits-clause-fault
+returns-then-not-fits-clause-fault c =
+    let no : c.fits.result ≡ false = search rules in
+    ap off_unless (sym no ∙ c.fits.ensures (mapped_corners (map_numbers c.args.map.now) c.args.corners) c.in-Ok.ensures.extent)
 
-pub at-requires-2 : goal.at-requires-2
-at-requires-2 c = (two_fit (surface_of c.args.place) c.limits_law.ensures c.in-Ok.points.0 c.in-Ok.points.1 (rw (c.in-Ok.ensures.first, c.in-Ok.ensures.second, c.left_top_of.ensures, c.right_bottom_of.ensures) (rw (c.left_top_of.ensures, c.right_bottom_of.ensures) at c.in-Ok.ensures.fault))).1
+pub returns-clause-fault : goal.returns-clause-fault
+returns-clause-fault c =
+    let yes : c.fits.result ≡ true = search rules in
+    ap off_unless (sym yes ∙ c.fits.ensures (mapped_corners (map_numbers c.args.map.now) c.args.corners) c.in-Ok.ensures.extent)
+
+pub at-near-requires : goal.at-near-requires
+at-near-requires c =
+    let s = surface_of c.args.place in
+    let shows : ShowsFrame s = record { wide = c.args.place.frame.wide; high = c.args.place.frame.high } in
+    let corners = mapped_corners (map_numbers c.args.map.now) c.args.corners in
+    let yes : c.fits.result ≡ true = search rules in
+    let all = sym yes ∙ c.fits.ensures corners c.in-Ok.ensures.extent in
+    rw c.left_top_of.ensures (corners_fit c.box_law.ensures c.in-Ok.plane corners s shows c.limits_law.ensures c.in-Ok.ensures.extent all).0
+
+pub at-far-requires : goal.at-far-requires
+at-far-requires c =
+    let s = surface_of c.args.place in
+    let shows : ShowsFrame s = record { wide = c.args.place.frame.wide; high = c.args.place.frame.high } in
+    let corners = mapped_corners (map_numbers c.args.map.now) c.args.corners in
+    let yes : c.fits.result ≡ true = search rules in
+    let all = sym yes ∙ c.fits.ensures corners c.in-Ok.ensures.extent in
+    rw c.right_bottom_of.ensures (corners_fit c.box_law.ensures c.in-Ok.plane corners s shows c.limits_law.ensures c.in-Ok.ensures.extent all).1

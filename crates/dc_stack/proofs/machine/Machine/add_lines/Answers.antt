@@ -21,17 +21,17 @@ returns-then-not-is_some-clause-adds g c =
       no_fault = no_fault_of_none old.state.path _ old.surface c.added.ensures.few (none_added start (mapped_list old.state.dc.map (page_points c.args.points)) old.state.path no_points);
       state = c.added.ensures.state;
       needs = c.added.ensures.needs;
-      nothing = c.added.ensures.nothing;
+      extent = none_added start (mapped_list old.state.dc.map (page_points c.args.points)) old.state.path no_points;
     })
 
 pub returns-in-Ok-clause-adds : goal.returns-in-Ok-clause-adds
 returns-in-Ok-clause-adds g c =
     let path = c.in-Ok.ensures.path in
     rw (← c.self.view_is) (record {
-      no_fault = c.in-Ok.ensures.answer;
+      no_fault = c.in-Ok.ensures.answer.no_fault;
       state = c.added-in-Ok.ensures.state ∙ rw path refl;
       needs = c.added-in-Ok.ensures.needs ∙ ap (λ (p : Path). greater_needs c.self.inside.needs (pieces_needed (piece_count p))) path;
-      nothing = c.added-in-Ok.ensures.nothing;
+      extent = c.in-Ok.ensures.answer.extent;
     })
 
 pub returns-in-Err-clause-adds : goal.returns-in-Err-clause-adds

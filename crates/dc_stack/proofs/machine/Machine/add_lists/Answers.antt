@@ -22,7 +22,7 @@ returns-then-not-is_some-clause-adds g c =
       no_fault = no_fault_of_none old.state.path _ old.surface c.added-then-not-is_some.ensures.few (ap (mapped_list map) none);
       state = search rules;
       needs = search rules;
-      nothing = search rules;
+      extent = ap (mapped_list map) none;
     })
 
 pub add_lists-requires-clause-some : goal.add_lists-requires-clause-some
@@ -44,7 +44,7 @@ returns-in-Err-clause-adds g c =
     let after = count ∙ ap (λ n. n + 1) before in
     let points = mapped_list map (page_points c.args.points) in
     let fault = ap (λ n. option_or (pieces_fault n) (off_plane_fault points (surface_of c.self.inside.place))) (sym after) in
-    let answer = same_answer (Err c.in-Err.fault) _ _ _ _ fault (λ lacks. subst (λ n. vec_capacity pieces < n) (sym after) lacks) c.in-Err.ensures.answer in
+    let answer = same_answer (Err c.in-Err.fault) points points _ _ _ _ refl fault (λ lacks. subst (λ n. vec_capacity pieces < n) (sym after) lacks) c.in-Err.ensures.answer in
     rw (← c.self.view_is) (not_added _ _ _ _ c.in-Err.fault _ answer (λ lacks. lacks) (omega (arith, count)) (record {
       state = rw (same.phase, same.pieces) refl;
       painted = rw (same.phase, same.pieces) refl;

@@ -14,4 +14,5 @@ returns-in-Ok-clause-draws g c =
       drawn = drawn.drawn;
       placed = drawn.placed;
       apart = drawn.apart;
+      extent = drawn.extent;
     }

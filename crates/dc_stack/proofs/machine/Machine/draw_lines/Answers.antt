@@ -1,56 +1,53 @@
-use Rattle.std.proofs.Common.{◌≡◌, List, [], ◌∷◌, length, Some, None, ap, refl, sym, ◌∙◌, subst}
+use Rattle.std.proofs.Common.{ap, refl, sym, ◌∙◌}
 use Rattle.std.specs.Option.{option_map}
 use Rattle.draw_ops.specs.declared.fault.Fault.TheVariants.{Record}
-use Rattle.mapping.specs.Boxes.{IsLeastBox}
 use Rattle.mapping.specs.PageMap.{map_numbers}
 use Rattle.mapping.specs.PlaceOf.{surface_of}
-use Rattle.mapping.specs.declared.geometry.Point.{Point}
+use Rattle.mapping.specs.PlacingLaws.{ShowsFrame}
 use Rattle.point_views.specs.Points.{points_of}
-use Rattle.dc_stack.specs.Drawing.{going_on, lists_painted, tools_of}
-use Rattle.dc_stack.specs.Figures.{figures_of_lists, points_of_figures}
-use Rattle.dc_stack.specs.Mapped.{mapped_list, mapped_lists}
-use Rattle.dc_stack.specs.Needs.{greater_needs, points_needed}
+use Rattle.dc_stack.specs.Drawing.{going_on}
+use Rattle.dc_stack.specs.Mapped.{mapped_lists}
+use Rattle.dc_stack.specs.Next.{end_of}
 use Rattle.dc_stack.specs.OperationFault.{points_fault}
-use Rattle.dc_stack.specs.Values.{dc_value}
-use Rattle.dc_stack.specs.declared.draw.Painting.TheVariants.{Stroke}
-use Rattle.dc_stack.proofs.ListLemmas.{has_points, joined_one, one_list_few, one_list_lands, points_listed, through, through_count, through_fault}
+use Rattle.dc_stack.specs.State.{with_position}
+use Rattle.dc_stack.proofs.ListLemmas.{has_points, points_listed, through_fault}
+use Rattle.dc_stack.proofs.MarkingLemmas.{draws_through}
 use Rattle.dc_stack.proofs.machine.Machine.draw_lines.Goals as goal
 
-pub returns-in-Ok-clause-draws : goal.returns-in-Ok-clause-draws
-returns-in-Ok-clause-draws g c =
-    let map = map_numbers c.self.inside.dc.map in
-    let surface = surface_of c.self.inside.place in
-    let start = c.self.inside.dc.position in
-    let points = points_of c.args.points in
-    let bounds = c.in-Ok.extent.bounds in
-    let some = has_points points _ c.is_empty.ensures c.if-is_empty.false in
-    let from = c.in-Ok.ensures.from in
-    let same : c.in-Ok.from ∷ mapped_list map points ≡ mapped_list map (start ∷ points) = ap (λ p. p ∷ mapped_list map points) from in
-    let one = ap (λ list. list ∷ []) same ∙ sym (through map start points some) in
-    let listed = points_listed (mapped_lists map (going_on start points)) in
-    let counted = c.in-Ok.ensures.count ∙ through_count map start points some ∙ sym (ap length listed) in
-    let on_plane = c.in-Ok.from ∷ mapped_list map points in
-    let lands = subst (λ (list : List Point). None ≡ points_fault list surface) (sym same) c.in-Ok.ensures.fault in
+pub returns-in-Ok-make_draw-clause-draws : goal.returns-in-Ok-make_draw-clause-draws
+returns-in-Ok-make_draw-clause-draws g c =
+    let some = has_points (points_of c.args.points) _ c.is_empty.ensures c.if-is_empty.false in
+    let lines = c.in-Ok.lines in
+    let marks = rw (← c.self.view_is) at c.make_draw.ensures.marks in
+    let drawn = draws_through c.self.inside.dc.map c.self.inside.dc.position lines.0 c.args.points lines.1.extent lines.1.count _ _ _ some c.in-Ok.ensures.from c.in-Ok.ensures.count c.in-Ok.ensures.few c.in-Ok.ensures.extent marks in
+    let told = rw (c.in-Ok-make_draw.is, ← c.self-2.view_is) at drawn in
     rw (← c.self.view_is) (record {
-      no_fault = ap (λ ps. points_fault ps surface) listed ∙ through_fault map start points surface some ∙ sym c.in-Ok.ensures.fault;
-      state = rw c.end_of-self-inside.ensures refl;
-      needs = c.raise_edges.ensures ∙ ap (λ n. greater_needs c.self.inside.needs (points_needed n)) counted;
-      drawn = ap (λ lists. Some (record { mark = lists_painted Stroke lists; tools = tools_of (dc_value c.self.inside.dc) })) one;
-      placed = record {
-        ready = tt;
-        counted = counted ∙ ap (λ lists. length (points_of_figures (figures_of_lists lists))) (sym one);
-        least = rw (joined_one on_plane) (subst (IsLeastBox bounds) (sym same) c.in-Ok.ensures.bounds);
-        within = one_list_lands on_plane surface lands;
-        few = one_list_few on_plane surface lands;
-      };
-      apart = refl;
+      no_fault = told.no_fault;
+      state = rw c.end_of-self-inside.ensures (ap (with_position (end_of c.self.inside.dc.position (points_of c.args.points))) told.state);
+      needs = told.needs;
+      drawn = told.drawn;
+      placed = told.placed;
+      apart = told.apart;
+      extent = told.extent;
     })
+
+pub returns-in-Err-make_draw-clause-draws : goal.returns-in-Err-make_draw-clause-draws
+returns-in-Err-make_draw-clause-draws g c =
+    let some = has_points (points_of c.args.points) _ c.is_empty.ensures c.if-is_empty.false in
+    let lines = c.in-Ok.lines in
+    let marks = rw (← c.self.view_is) at c.make_draw.ensures.marks in
+    let drawn = draws_through c.self.inside.dc.map c.self.inside.dc.position lines.0 c.args.points lines.1.extent lines.1.count _ _ _ some c.in-Ok.ensures.from c.in-Ok.ensures.count c.in-Ok.ensures.few c.in-Ok.ensures.extent marks in
+    rw (← c.self.view_is) (rw c.in-Err-make_draw.is at drawn)
 
 pub returns-in-Err-clause-draws : goal.returns-in-Err-clause-draws
 returns-in-Err-clause-draws g c =
     let map = map_numbers c.self.inside.dc.map in
-    let some = has_points (points_of c.args.points) _ c.is_empty.ensures c.if-is_empty.false in
+    let s = surface_of c.self.inside.place in
+    let shows : ShowsFrame s = record { wide = c.self.inside.place.frame.wide; high = c.self.inside.place.frame.high } in
+    let start = c.self.inside.dc.position in
+    let points = points_of c.args.points in
+    let some = has_points points _ c.is_empty.ensures c.if-is_empty.false in
     rw (← c.self.view_is) (record {
-      refused = ap (option_map Record) (ap (λ ps. points_fault ps (surface_of c.self.inside.place)) (points_listed (mapped_lists map (going_on c.self.inside.dc.position (points_of c.args.points)))) ∙ through_fault map c.self.inside.dc.position (points_of c.args.points) (surface_of c.self.inside.place) some ∙ sym c.in-Err.ensures.fault);
+      refused = ap (option_map Record) (ap (λ ps. points_fault ps s) (points_listed (mapped_lists map (going_on start points))) ∙ through_fault map start points s some ∙ sym (c.in-Err.ensures.refused s shows));
       kept = record { state = refl; painted = refl; needs = refl };
     })

@@ -1,39 +1,30 @@
 use Rattle.std.proofs.Common.{[], ◌∷◌, arith, refl, sym, ap}
 use Rattle.std.specs.Option.{option_map}
 use Rattle.draw_ops.specs.declared.fault.Fault.TheVariants.{Record}
-use Rattle.mapping.specs.PageMap.{map_numbers}
 use Rattle.mapping.specs.PlaceOf.{surface_of}
-use Rattle.dc_stack.specs.Mapped.{mapped_list}
-use Rattle.dc_stack.proofs.LandingLemmas.{all_land}
+use Rattle.mapping.specs.PlacingLaws.{ShowsFrame}
+use Rattle.dc_stack.specs.Drawing.{lists_painted}
+use Rattle.dc_stack.specs.Extents.{IsPlaneBox}
+use Rattle.dc_stack.specs.declared.draw.Mark.TheVariants.{Line}
+use Rattle.dc_stack.specs.declared.draw.Painting.TheVariants.{Stroke}
 use Rattle.dc_stack.proofs.ListLemmas.{few_then, never_too_many}
-use Rattle.dc_stack.proofs.PlaneBoxLemmas.{pair_tight}
+use Rattle.dc_stack.proofs.MarkingLemmas.{draws_marked}
 use Rattle.dc_stack.proofs.machine.Machine.draw_pair.Goals as goal
 
 pub returns-in-Ok-clause-draws : goal.returns-in-Ok-clause-draws
 returns-in-Ok-clause-draws g c =
-    let map = map_numbers c.self.inside.dc.map in
-    let surface = surface_of c.self.inside.place in
-    let points = mapped_list map (c.args.from ∷ c.args.to ∷ []) in
-    let first = c.in-Ok.ensures.first in
-    let second = c.in-Ok.ensures.second in
-    rw (← c.self.view_is) (record {
-      no_fault = rw (few_then 2 (omega arith)) (sym c.in-Ok.ensures.fault);
-      state = refl;
-      needs = c.raise_edges.ensures;
-      drawn = rw (first, second) refl;
-      placed = record {
-        ready = tt;
-        counted = refl;
-        least = rw c.between.ensures (pair_tight c.box_law.ensures c.in-Ok.from c.in-Ok.to);
-        within = rw (first, second) (all_land surface points c.in-Ok.ensures.fault);
-        few = never_too_many 2 (omega arith);
-      };
-      apart = refl;
-    })
+    let from = c.in-Ok.from in
+    let to = c.in-Ok.to in
+    let boxed : IsPlaneBox c.between-extent.result (from ∷ to ∷ []) = rw c.between-extent.ensures c.in-Ok.ensures.extent in
+    let marks = rw (← c.self.view_is) at c.make_draw.ensures.marks in
+    let drawn = draws_marked (Line from to) (lists_painted Stroke ((from ∷ to ∷ []) ∷ [])) _ 2 (λ pieces. refl) refl refl (never_too_many 2 (omega arith)) boxed _ _ _ tt marks in
+    rw (← c.self.view_is) (rw (c.in-Ok.ensures.first, c.in-Ok.ensures.second) at drawn)
 
 pub returns-in-Err-clause-draws : goal.returns-in-Err-clause-draws
 returns-in-Err-clause-draws g c =
+    let place = c.self.inside.place in
+    let shows : ShowsFrame (surface_of place) = record { wide = place.frame.wide; high = place.frame.high } in
     rw (← c.self.view_is) (record {
-      refused = rw (few_then 2 (omega arith)) (ap (option_map Record) (sym c.in-Err.ensures.fault));
+      refused = rw (few_then 2 (omega arith)) (ap (option_map Record) (sym (c.in-Err.ensures.off (surface_of place) shows)));
       kept = record { state = refl; painted = refl; needs = refl };
     })

@@ -1,3 +1,4 @@
+use Rattle.std.proofs.Common.{◌≡◌, true, false, refl, rules, sym}
 use Rattle.mapping.specs.PlaceOf.{surface_of}
 use Rattle.mapping.specs.PlacingLaws.{ShowsFrame}
 use Rattle.dc_stack.proofs.BoxLemmas.{keeps_placed}
@@ -15,3 +16,13 @@ invariant_of-self g c =
       gathered = c.self.invariant.gathered;
       points = c.self.invariant.points;
     }
+
+pub returns-in-Ok-clause-plays : goal.returns-in-Ok-clause-plays
+returns-in-Ok-clause-plays g c =
+    rw (← c.self.view_is) (record {
+      stepped = record { no_fault = sym c.in-Ok.ensures.fault; state = rw (c.keep.ensures.plane, c.in-Ok.ensures.plane) refl; needs = search rules };
+      drawn = refl;
+      placed = tt;
+      extent = c.in-Ok.ensures.extent;
+      figures = λ (e : false ≡ true). cc;
+    })

@@ -15,5 +15,6 @@ returns-clause-plays g c =
       };
       drawn = refl;
       placed = tt;
+      extent = refl;
       figures = λ (e : false ≡ true). cc;
     })

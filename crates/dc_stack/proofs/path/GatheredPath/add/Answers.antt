@@ -1,5 +1,5 @@
 use Rattle.std.proofs.Common.{List, [], ◌∷◌, ◌++◌, ap, subst, sym, ◌∙◌}
-use Rattle.mapping.specs.Boxes.{IsBoxOf}
+use Rattle.dc_stack.specs.Extents.{IsExtent}
 use Rattle.mapping.specs.PageMap.{map_numbers}
 use Rattle.mapping.specs.PlaceOf.{surface_of}
 use Rattle.dc_stack.specs.Drawing.{points_of_lists}
@@ -18,5 +18,5 @@ returns-in-Ok-make_room-clause-lands c =
     let items = c.push.ensures.pieces ∙ ap (λ (pieces : List Piece). pieces ++ piece ∷ []) c.in-Ok-make_room.ensures.same.pieces in
     let gathered = gathered_points before.pieces.items in
     let added = points_of_lists (plane_lists (map_numbers piece.map) piece.points) in
-    let grows = λ (h : IsBoxOf before.bounds gathered). subst (λ box. IsBoxOf box (gathered ++ added)) (sym c.push.ensures.bounds) (c.joined-bounds.ensures gathered added h c.in-Ok.ensures.least) in
+    let grows = λ (h : IsExtent before.bounds gathered). subst (λ box. IsExtent box (gathered ++ added)) (sym c.push.ensures.bounds) (c.joined-bounds.ensures gathered added (subst (λ box. IsExtent box gathered) (sym c.in-Ok-make_room.ensures.same.bounds) h) c.in-Ok.ensures.plane) in
     lands_with s before new piece items grows c.in-Ok.ensures.fault

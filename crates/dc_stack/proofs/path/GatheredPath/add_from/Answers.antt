@@ -1,7 +1,7 @@
-use Rattle.std.proofs.Common.{◌≡◌, ◌+◌, List, [], ◌∷◌, ◌++◌, length, Some, nat_le, rules, true, inl, ap, subst, sym, ◌∙◌}
+use Rattle.std.proofs.Common.{◌≡◌, ◌+◌, List, [], ◌∷◌, ◌++◌, length, None, Some, nat_le, rules, true, inl, ap, subst, sym, ◌∙◌}
 use Rattle.std.specs.Option.{option_map}
 use Rattle.draw_ops.specs.declared.fault.Fault.TheVariants.{Record}
-use Rattle.mapping.specs.Boxes.{IsBoxOf}
+use Rattle.dc_stack.specs.Extents.{IsExtent}
 use Rattle.mapping.specs.PageMap.{map_numbers}
 use Rattle.mapping.specs.PlaceOf.{surface_of}
 use Rattle.dc_stack.specs.Drawing.{points_of_lists}
@@ -34,6 +34,18 @@ returns-in-Err-land_piece-clause-answer c =
     let few : nat_le (length c.args.self.now.pieces.items + 2) piece_limit ≡ true = search rules in
     inl (ap (option_map Record) (few_then (length c.args.self.now.pieces.items + 2) (start ∷ through) s few ∙ sym (others_off s start through (Some c.in-Err-land_piece.fault) c.in-Ok.ensures.fault c.in-Err-land_piece.ensures.fault)))
 
+pub returns-in-Ok-make_room-clause-answer : goal.returns-in-Ok-make_room-clause-answer
+returns-in-Ok-make_room-clause-answer c =
+    let map = map_numbers c.args.by.now.map in
+    let s = surface_of c.args.by.now.place in
+    let start = mapped_point map c.args.position in
+    let through = mapped_list map (page_points c.args.points) in
+    let few : nat_le (length c.args.self.now.pieces.items + 2) piece_limit ≡ true = search rules in
+    record {
+      no_fault = few_then (length c.args.self.now.pieces.items + 2) (start ∷ through) s few ∙ sym (others_off s start through None c.in-Ok.ensures.fault c.in-Ok-land_piece.ensures.fault);
+      extent = c.joined.ensures (start ∷ []) through c.in-Ok.ensures.page c.in-Ok-land_piece.ensures.page;
+    }
+
 pub returns-in-Ok-make_room-clause-lands : goal.returns-in-Ok-make_room-clause-lands
 returns-in-Ok-make_room-clause-lands c = λ h.
     let s = surface_of c.args.by.now.place in
@@ -46,9 +58,9 @@ returns-in-Ok-make_room-clause-lands c = λ h.
     let first_items = c.push.ensures.pieces ∙ ap (λ (pieces : List Piece). pieces ++ first ∷ []) c.in-Ok-make_room.ensures.same.pieces in
     let gathered = gathered_points old.pieces.items in
     let first_added = points_of_lists (plane_lists map first.points) in
-    let first_grows = λ (h : IsBoxOf old.bounds gathered). subst (λ box. IsBoxOf box (gathered ++ first_added)) (sym c.push.ensures.bounds) (c.joined-first.ensures gathered first_added h c.in-Ok.ensures.least) in
+    let first_grows = λ (h : IsExtent old.bounds gathered). subst (λ box. IsExtent box (gathered ++ first_added)) (sym c.push.ensures.bounds) (c.joined-begun.ensures gathered first_added (subst (λ box. IsExtent box gathered) (sym c.in-Ok-make_room.ensures.same.bounds) h) c.in-Ok.ensures.plane) in
     let one = lands_with s old between first first_items first_grows c.in-Ok.ensures.fault h in
     let behind = gathered_points between.pieces.items in
     let added = points_of_lists (plane_lists map second.points) in
-    let second_grows = λ (h : IsBoxOf between.bounds behind). subst (λ box. IsBoxOf box (behind ++ added)) (sym c.push-in-Ok-make_room.ensures.bounds) (c.joined-bounds.ensures behind added (subst (λ box. IsBoxOf box behind) c.push.ensures.bounds h) c.in-Ok-land_piece.ensures.least) in
+    let second_grows = λ (h : IsExtent between.bounds behind). subst (λ box. IsExtent box (behind ++ added)) (sym c.push-in-Ok-make_room.ensures.bounds) (c.joined-bounds.ensures behind added (subst (λ box. IsExtent box behind) c.push.ensures.bounds h) c.in-Ok-land_piece.ensures.plane) in
     lands_with s between new second c.push-in-Ok-make_room.ensures.pieces second_grows c.in-Ok-land_piece.ensures.fault one

@@ -1,5 +1,5 @@
 use Rattle.std.proofs.Common.{◌≢◌, List, [], ap, subst, sym, ◌∙◌}
-use Rattle.mapping.specs.Boxes.{IsBoxOf}
+use Rattle.dc_stack.specs.Extents.{IsExtent}
 use Rattle.dc_stack.specs.Figures.{Figures, all_figures, points_of_figures}
 use Rattle.dc_stack.specs.Pieces.{AllLandOn, LandsOn, figures_of, with_end}
 use Rattle.dc_stack.specs.declared.piece.Piece.{Piece}
@@ -24,5 +24,5 @@ returns-clause-lands c = λ s h.
     let same = ap (λ (f : Figures). points_of_figures (all_figures f)) figures ∙ points in
     record {
       pieces = subst (AllLandOn s) (sym c.push_reserved.ensures.items) after;
-      least = subst (IsBoxOf c.args.self.now.bounds) (sym same) h.least;
+      least = subst (IsExtent c.args.self.now.bounds) (sym same) h.least;
     }
