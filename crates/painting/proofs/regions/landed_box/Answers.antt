@@ -2,7 +2,7 @@ use Rattle.std.proofs.Common.{◌≡◌, arith, rules, subst, sym, ap, ◌∙◌
 use Rattle.std.proofs.lemmas.Int.{ints}
 use Rattle.std.specs.Prelude.{is_some}
 use Rattle.std.proofs.lemmas.Bool.{and_left, and_right}
-use Rattle.mapping.specs.Boxes.{box_between, far_corner, near_corner}
+use Rattle.mapping.specs.Boxes.{box_between, right_bottom_of, left_top_of}
 use Rattle.mapping.specs.PlaceOf.{surface_of}
 use Rattle.mapping.specs.Surface.{placed_point}
 use Rattle.mapping.specs.declared.geometry.Rect.{Rect}
@@ -16,9 +16,9 @@ pub returns-in-Some-Some : goal.returns-in-Some-Some
 returns-in-Some-Some c =
     let s = surface_of c.args.place in
     let bounds = c.args.bounds in
-    let near : c.in-Some-Some.near ≡ placed_point (near_corner bounds) s = search rules in
-    let far : c.in-Some-Some.far ≡ placed_point (far_corner bounds) s = search rules in
-    let box = c.rectangle_box.ensures.value ∙ ap (λ p. raised Inclusive (box_between p c.in-Some-Some.far)) near ∙ ap (λ p. raised Inclusive (box_between (placed_point (near_corner bounds) s) p)) far in
+    let near : c.in-Some-Some.near ≡ placed_point (left_top_of bounds) s = search rules in
+    let far : c.in-Some-Some.far ≡ placed_point (right_bottom_of bounds) s = search rules in
+    let box = c.rectangle_box.ensures.value ∙ ap (λ p. raised Inclusive (box_between p c.in-Some-Some.far)) near ∙ ap (λ p. raised Inclusive (box_between (placed_point (left_top_of bounds) s) p)) far in
     subst (λ (there : Rect). HasLanded s bounds there) (sym box)
     (record {
       all = λ points least within x y reached. reached_between s bounds x y reached;
