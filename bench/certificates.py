@@ -1,5 +1,5 @@
-"""What it costs to prepare and to check the certificate of a file, beside reading its records and beside playing it, at 1,024 a
-side: a program of bench/programs/, as those of reading.py."""
+"""What it costs to prepare and to check the certificate of a file, beside reading its records, at 1,024 a side: a program of
+bench/programs/, as those of reading.py."""
 
 import itertools
 import random
@@ -7,7 +7,7 @@ import re
 import subprocess
 
 from reading import built
-from shapes import FRAME, any_lines, small_polygons
+from shapes import FRAME
 from timing import Row
 from writers import EMF, WMF
 
@@ -33,19 +33,14 @@ def large_polygon():
     return EMF.file([EMF.step("short_polygon", *places)], FRAME, 0)
 
 
-def file_of(records):
-    """A file of these records."""
-    return WMF.file([*records], FRAME, 64)
-
-
 def seconds_of(file):
-    """The seconds of reading, preparing, checking, playing and showing a file, the least of five runs."""
+    """The seconds of reading, preparing and checking a file, the least of five runs."""
     told = subprocess.run([built("certificates_bench")], input=file, stdout=subprocess.PIPE, check=True).stdout.decode()
     return {word: int(number) / 1e9 for word, number in re.findall(r"(\w+)=(\d+)", told)}
 
 
 def rows(bench):
-    """Preparing and checking a record of a million, and a point of a million; and a file's whole play beside that without a certificate."""
+    """Preparing and checking a record of a million, and a point of a million."""
     for form, script in ((WMF, "polygon"), (EMF, "short_polygon")):
         taken = seconds_of(small_records(form, script))
         for word in ("prepare", "check"):
@@ -55,7 +50,3 @@ def rows(bench):
     for word in ("prepare", "check"):
         each, read = taken[word] * 1e9 / POINTS, taken["read"] * 1e9 / POINTS
         yield Row(f"{word}: a point of a polygon", "ns", each, read, "its record read", goal=2.0)
-    for subject, records in (("10,000 polygons", small_polygons), ("50,000 lines", any_lines)):
-        taken = seconds_of(file_of(records()))
-        whole = taken["prepare"] + taken["play"]
-        yield Row(f"prepare and play: {subject}", "s", whole, taken["play_file"], "play_file", most_ratio=1.25)

@@ -19,9 +19,9 @@ NEEDED = {
     "certificates_bench": (
         [
             *("mapping", "point_views", "dib_views", "draw_ops", "wmf_records", "emf_records", "meta_headers", "object_tables"),
-            *("raster_ops", "dc_stack", "span_fill", "canvas", "preflight_cert", "player"),
+            *("raster_ops", "dc_stack", "span_fill", "preflight_cert"),
         ],
-        "player preflight_cert meta_headers draw_ops canvas mapping",
+        "preflight_cert meta_headers draw_ops",
     ),
     "points_bench": (["mapping", "point_views"], "mapping point_views byteorder"),
     "records_bench": (

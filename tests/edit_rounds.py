@@ -46,12 +46,18 @@ def parts_of(edits, most):
     return parts
 
 
-def with_edit(this, edit):
-    """A round with one more edit, or none where one of its edits changes the same function or takes the edit's place."""
+def with_edit(this, edit, sources):
+    """A round with one more edit, or none where one of its edits changes the same function or takes the edit's place. Where the new text of another
+    edit has this one's old text, this one finds its place first."""
     if any(set(edit.functions) & set(other.functions) for other in this.edits):
         return None
     texts = placed_in(this.texts, edit)
-    return Round([*this.edits, edit], texts) if texts else None
+    if texts:
+        return Round([*this.edits, edit], texts)
+    edits, texts = [edit, *this.edits], sources
+    for it in edits:
+        texts = texts and placed_in(texts, it)
+    return Round(edits, texts) if texts else None
 
 
 def rounds_of(edits, sources):
@@ -59,7 +65,7 @@ def rounds_of(edits, sources):
     rounds = []
     for edit in edits:
         for at, it in enumerate(rounds):
-            more = with_edit(it, edit)
+            more = with_edit(it, edit, sources)
             if more:
                 rounds[at] = more
                 break
@@ -68,8 +74,8 @@ def rounds_of(edits, sources):
     return rounds
 
 
-def beside(this, standing):
+def beside(this, standing, sources):
     """A round with those of the edits before it that find their places beside it, so that what they change isn't proved again."""
     for edit in standing:
-        this = with_edit(this, edit) or this
+        this = with_edit(this, edit, sources) or this
     return this

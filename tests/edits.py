@@ -1,27 +1,27 @@
 #!/usr/bin/env python3
 """Tries the wrong bodies in edits/: the prover has to refuse each, in the function that it changes.
 
-    edits.py [CRATE..]      tries the edits of all crates, or of these, and the judge itself
-    edits.py --each CRATE   has the toolchain's own judge try a crate's edits, one by one
-    edits.py --alone FILE.. tries the edits of these files, .../CRATE/NAME.edit, each alone, by the function that it changes
+    edits.py                    tries what the gate tries: a share of the edits of each crate whose entry in edits/judged.json is believed,
+                                all edits of every other crate, and the judge itself
+    edits.py CRATE..            tries all edits of these crates, whatever is on record, and the judge itself if mapping is one of them
+    edits.py --all              tries all edits of all crates, whatever is on record, and the judge itself
+    edits.py --record [CRATE..] the same, of all crates or of these; then puts each crate on record whose edits were all refused, and takes
+                                every other crate that was tried off it. Nothing else writes edits/judged.json
+    edits.py --each CRATE       has the toolchain's own judge try a crate's edits, one by one
+    edits.py --alone FILE..     tries the edits of these files, .../CRATE/NAME.edit, each alone, by the function that it changes
 
 An edit is a file edits/CRATE/NAME.edit in the toolchain's form: a line 'file: src/lib.rt' and then pairs of lines 'old: TEXT'
-and 'new: TEXT', each TEXT standing once in that file. Since a body is proved from the contracts of what it calls, and never from
-their bodies, one copy of a crate holds a wrong body for each of many functions, and each function is judged by itself: it has to
-have a goal of its own that isn't proved. That it calls another function that is wrong too doesn't count. In each further round
-the functions that have one more edit get that, and the others stay as they are, so that nothing right is proved again. An edit
+and 'new: TEXT', each TEXT standing once in that file. Edits of different functions are judged together, in rounds (edit_rounds.py). In each
+further round the functions that have one more edit get that, and the others stay as they are, so that nothing right is proved again. An edit
 of what stands in no function, as a constant, is tried alone, and names a function that has to be refused ('function: NAME').
 
-It runs over the libraries that `rt ci` makes, which proves the crates as they are: behind it, or beside it (gate.py).
+It runs over the libraries that `rt ci` makes, which proves the crates as they are: after it, or beside it (gate.py).
 """
 
 import argparse
-import contextlib
-import importlib.machinery
-import importlib.util
+import functools
 import os
 import pathlib
-import shutil
 import subprocess
 import sys
 import tempfile
@@ -29,180 +29,118 @@ import time
 from concurrent.futures import ThreadPoolExecutor
 from typing import NamedTuple
 
-import edit_verdicts
-from edit_functions import changed_functions, named_functions, pairs
-from edit_rounds import Edit, beside, parts_of, placed_in, rounds_of
+import judged
+from edit_count import COUNT
+from edit_rounds import parts_of
+from edit_trials import RIGHT_CRATE, Trial, Trying, judge, judge_itself, read_edit, rt, sources_of
 
 ROOT = pathlib.Path(__file__).resolve().parent.parent
 
 EDITS = ROOT / "edits"
-
-# How many edits there are, so that none is lost.
-COUNT = 654
 
 # How many functions are edited in one part of a crate at most, and how much memory a check of so many may take, in bytes. Each part proves what
 # its functions call once more, so few large ones are less work than many small ones.
 MOST_FUNCTIONS = 80
 MEMORY = 3_000_000_000
 
-# An edit that changes nothing and one that is right: the judge has to say that neither was refused.
-RIGHT_CRATE = "mapping"
-RIGHT = {
-    "nothing_is_changed": "file: src/mix.rt\nold: keep & old ^ flip\nnew: keep & old ^ flip\n",
-    "another_right_body": "file: src/geometry.rt\nold: 1 <= side\nnew: 0 < side\n",
-}
+
+class Bodies(NamedTuple):
+    """The wrong bodies of a crate: the crate, the texts of its files, its edits in order of their names, and what is wrong with others."""
+
+    crate: object
+    sources: dict
+    edits: list
+    wrong: list
+
+    @classmethod
+    def of(cls, crate):
+        """Reads a crate's edits."""
+        sources = sources_of(crate)
+        found = [(path.stem, path.read_text(encoding="utf-8")) for path in sorted((EDITS / crate.name).glob("*.edit"))]
+        read = [read_edit(name, text, crate, sources) for name, text in found]
+        return cls(crate, sources, [edit for edit, _ in read if edit], [why for _, why in read if why])
+
+    def names(self):
+        """The names of its edits, each with the crate's."""
+        return [f"{self.crate.name}/{it.name}" for it in self.edits]
+
+    def entry(self):
+        """What would be on record of the crate now."""
+        below = [it.name for it in self.crate.below()]
+        return judged.Entry(judged.checksum(ROOT, self.crate.name, below, version()), len(self.edits))
 
 
-def kit():
-    """The toolchain's command `rt` as a module: how it calls the prover, and reads and judges an edit."""
-    loader = importlib.machinery.SourceFileLoader("rt", os.path.realpath(shutil.which("rt")))
-    module = importlib.util.module_from_spec(importlib.util.spec_from_loader("rt", loader))
-    sys.modules["rt"] = module
-    loader.exec_module(module)
-    return module
+class Part(NamedTuple):
+    """Edits of a crate that are judged over what their own checks keep: its name, the crate, the texts of its files, and the edits."""
+
+    name: str
+    crate: object
+    sources: dict
+    edits: list
+
+    def work(self):
+        """About how much work it is: the number of edits by the lines that a check reads."""
+        return len(self.edits) * sum(it.count(rb"\n") for it in [self.crate, *self.crate.below()])
 
 
-rt = kit()
+@functools.lru_cache(maxsize=None)
+def version():
+    """The toolchain's version, as it prints it."""
+    return subprocess.run(["rt", "version"], capture_output=True, text=True, check=True).stdout
 
 
-class Trial(NamedTuple):
-    """What came of an edit: whether it was refused, as it must be, and what to say."""
-
-    is_refused: bool
-    said: str
+def folders():
+    """The names of the crates that have edits."""
+    return sorted(it.name for it in EDITS.iterdir() if it.is_dir())
 
 
-def read_edit(name, text, crate, sources):
-    """An edit of a crate, or what is wrong with it. The crate's files are given by their paths."""
-    why = rt.edited(text, crate.folder)[1]
-    if why:
-        return None, f"{crate.name}/{name}: BAD EDIT: {why}"
-    names, outside = changed_functions(crate.name, text, sources)
-    named = tuple(named_functions(text))
-    return Edit(name, text, named if outside or named else tuple(names), outside or bool(named)), None
+def bodies_of(names):
+    """The wrong bodies of these crates, or of all where none is named."""
+    return [Bodies.of(it) for it in rt.rtlib.crates_below(str(ROOT)) if it.name in (names or folders())]
 
 
-def sources_of(crate):
-    """The texts of a crate's files by their paths in it."""
-    folder = pathlib.Path(crate.folder)
-    return {str(path.relative_to(folder)): path.read_text(encoding="utf-8") for path in folder.glob("src/**/*.rt")}
+def lost(found):
+    """What is wrong with the number of all crates' edits."""
+    count = sum(len(it.edits) for it in found)
+    is_well = count == COUNT and {it.crate.name for it in found} == set(folders())
+    return [] if is_well else [f"there are {count} edits of crates, and not {COUNT}"]
 
 
-def edits_of(crate, sources):
-    """The edits of a crate in order of their names, and what is wrong with others."""
-    found = [(path.stem, path.read_text(encoding="utf-8")) for path in sorted((EDITS / crate.name).glob("*.edit"))]
-    read = [read_edit(name, text, crate, sources) for name, text in found]
-    return [edit for edit, _ in read if edit], [why for _, why in read if why]
+def parts_of_crate(bodies, names):
+    """The parts of those edits of a crate that have these names."""
+    edits = [edit for edit, name in zip(bodies.edits, bodies.names()) if name in names]
+    parts = parts_of(edits, MOST_FUNCTIONS)
+    return [Part(f"{bodies.crate.name} {at} of {len(parts)}", bodies.crate, bodies.sources, part) for at, part in enumerate(parts, 1)]
 
 
-@contextlib.contextmanager
-def copy_of(crate, texts):
-    """A copy of a crate with these texts of its sources, in a folder of its own."""
-    with tempfile.TemporaryDirectory(prefix="edit-") as room:
-        for part in rt.rtlib.PARTS:
-            if os.path.isdir(f"{crate.folder}/{part}"):
-                shutil.copytree(f"{crate.folder}/{part}", f"{room}/{part}")
-        for path, text in texts.items():
-            pathlib.Path(room, path).write_text(text, encoding="utf-8")
-        yield room
+def parts_of_all(found):
+    """The parts of all edits of crates, those with most work first, and what is wrong with other edits."""
+    parts = [part for it in found for part in parts_of_crate(it, it.names())]
+    return sorted(parts, key=lambda part: -part.work()), [why for it in found for why in it.wrong]
 
 
-class Answer(NamedTuple):
-    """What the prover said, and the status with which it ended."""
-
-    status: int
-    said: str
-
-
-def check(trying, texts, functions):
-    """What the prover says of these functions of a crate, or of all where none is named, with these texts in place of its own."""
-    words = [word for name in functions for word in ("--only", name)]
-    with copy_of(trying.crate, texts) as room, tempfile.TemporaryFile("w+", errors="replace") as said:
-        words = ["check", *trying.crate.words(["--jobs", "1", *words], keeps=False), "--incremental", trying.kept]
-        how = {"cwd": room, "stdin": subprocess.DEVNULL, "stdout": said, "stderr": subprocess.STDOUT}
-        ran = subprocess.Popen([*rt.rtlib.guarded(), rt.rtlib.RATTLE, *words], **how)
-        _, status, used = os.wait4(ran.pid, 0)
-        ran.returncode = os.waitstatus_to_exitcode(status)
-        trying.used.append(used)
-        said.seek(0)
-        return Answer(ran.returncode, said.read())
+def parts_of_crates(names):
+    """The same of these crates, or of all, and then also what is wrong with the number of edits."""
+    found = bodies_of(names)
+    parts, wrong = parts_of_all(found)
+    return parts, [*wrong, *([] if names else lost(found))]
 
 
-def files_of(edits):
-    """The files that edits change."""
-    return {path for edit in edits for path, _, _ in pairs(edit.text)}
-
-
-def refused_by(ran, last, edits):
-    """The functions that a check refuses for a reason of their own: none where it ends otherwise than by this last line, or
-    can't read what an edit wrote."""
-    lines = ran.said.rstrip("\n").split("\n")
-    changed = files_of(edits)
-    if ran.status != 1 or not lines[-1].startswith(last) or any(rt.unread(line, changed) for line in lines):
-        return None
-    return edit_verdicts.refused(ran.said)
-
-
-class Trying:
-    """Tries edits of a crate, over what its own checks keep in a folder."""
-
-    def __init__(self, crate, sources, kept):
-        """Begins with nothing kept."""
-        self.crate, self.sources, self.kept = crate, sources, kept
-        self.used = []
-
-    def alone(self, edit):
-        """Judges an edit in a copy of the crate that has no other: by its functions, or by all of the crate where it has none."""
-        ran = check(self, placed_in(self.sources, edit), edit.functions)
-        refused = refused_by(ran, "only=" if edit.functions else "logic=not-proved", [edit])
-        if refused is None or not set(edit.functions) <= refused:
-            last = ran.said.rstrip("\n").split("\n")[-1]
-            return Trial(False, f"{self.crate.name}/{edit.name}: NOT REFUSED: {last[:200]}")
-        return Trial(True, f"{self.crate.name}/{edit.name}: refused alone, by {', '.join(edit.functions) or 'the crate'}")
-
-    def together(self, edits, whole):
-        """Judges some edits of a round in a copy of the crate that has the whole round's, each by its own function. Those that
-        aren't refused so are tried alone."""
-        ran = check(self, whole.texts, [name for edit in edits for name in edit.functions])
-        refused = refused_by(ran, "only=", whole.edits) or set()
-        for name in sorted(refused - {name for edit in whole.edits for name in edit.functions}):
-            yield Trial(False, f"{self.crate.name}: {name}, which no edit changes, isn't proved beside {len(whole.edits)} edits")
-        for edit in edits:
-            if set(edit.functions) <= refused:
-                yield Trial(True, f"{self.crate.name}/{edit.name}: refused by {', '.join(edit.functions)}")
-            else:
-                yield self.alone(edit)
-
-    def each(self, edits):
-        """Judges these edits, those of functions in rounds, and gives what came of each and what else was wrong."""
-        whole = None
-        for this in rounds_of([edit for edit in edits if not edit.is_alone], self.sources):
-            whole = beside(this, whole.edits if whole else [])
-            yield from self.together(this.edits, whole)
-        for edit in edits:
-            if edit.is_alone:
-                yield self.alone(edit)
-
-    def cost(self):
-        """What the checks took: seconds of processor, and memory at most."""
-        seconds = sum(it.ru_utime + it.ru_stime for it in self.used)
-        memory = max((it.ru_maxrss for it in self.used), default=0) / 1_000_000
-        return f"{seconds:.0f} s of processor, at most {memory:.1f} GB"
-
-
-def judge(crate, edits, sources):
-    """What came of each of these edits of a crate, what else was wrong, and what it took."""
-    with tempfile.TemporaryDirectory(prefix="edits-") as kept:
-        trying = Trying(crate, sources, kept)
-        return list(trying.each(edits)), trying.cost()
-
-
-def judge_itself(crate, sources):
-    """Whether an edit that changes nothing is told as one, or isn't refused, and whether the judge says of a right one that it isn't refused."""
-    read = [read_edit(name, text, crate, sources) for name, text in RIGHT.items()]
-    trials, _ = judge(crate, [edit for edit, _ in read if edit], sources)
-    is_well = all(edit or "changes nothing" in why for edit, why in read) and not any(trial.is_refused for trial in trials)
-    return Trial(is_well, f"{crate.name}: the judge {'lets' if is_well else 'DOES NOT LET'} two right bodies through")
+def parts_on_record():
+    """The parts of the edits that the gate tries, those with most work first, and what is wrong with the edits, their number or the record. Says of
+    each crate which of its edits these are."""
+    found = bodies_of([])
+    path = ROOT / judged.RECORD
+    record, wrong = judged.read_or_wrong(path.read_text(encoding="utf-8") if path.exists() else "{}")
+    now, commit = {it.crate.name: it.entry() for it in found}, judged.commit_of(ROOT)
+    sure, parts = judged.believed(record, judged.records_of_parents(ROOT)), []
+    for it in found:
+        name = it.crate.name
+        chosen = judged.choice(it.names(), now[name], record.get(name), sure.get(name), commit)
+        print(f"edits of {name}: {chosen.said}", flush=True)
+        parts += parts_of_crate(it, chosen.names)
+    wrong += [*judged.mismatches(record, now), *lost(found), *(why for it in found for why in it.wrong)]
+    return sorted(parts, key=lambda part: -part.work()), wrong
 
 
 def has_fresh_libraries(crate):
@@ -222,37 +160,10 @@ def build_libraries(crate):
     return not any(it.build_rlib(["--jobs", "2"], anew=False) for it in crate.below())
 
 
-class Part(NamedTuple):
-    """Edits of a crate that are judged over what their own checks keep: its name, the crate, the texts of its files, and the edits."""
-
-    name: str
-    crate: object
-    sources: dict
-    edits: list
-
-    def work(self):
-        """About how much work it is: the number of edits by the lines that a check reads."""
-        return len(self.edits) * sum(it.count(rb"\n") for it in [self.crate, *self.crate.below()])
-
-
-def parts_of_crate(crate):
-    """The parts of a crate, and what is wrong with edits that can't be read."""
-    sources = sources_of(crate)
-    edits, wrong = edits_of(crate, sources)
-    parts = parts_of(edits, MOST_FUNCTIONS)
-    return [Part(f"{crate.name} {at} of {len(parts)}", crate, sources, part) for at, part in enumerate(parts, 1)], wrong
-
-
-def parts_of_crates(names):
-    """The parts of these crates, or of all, those with most work first, and what is wrong with the edits or their number."""
-    folders = sorted(it.name for it in EDITS.iterdir())
-    crates = [it for it in rt.rtlib.crates_below(str(ROOT)) if it.name in (names or folders)]
-    found = [parts_of_crate(it) for it in crates]
-    parts, wrong = [part for parts, _ in found for part in parts], [why for _, its in found for why in its]
-    count = sum(len(part.edits) for part in parts)
-    if not names and (count != COUNT or {it.name for it in crates} != set(folders)):
-        wrong.append(f"there are {count} edits of crates, and not {COUNT}")
-    return sorted(parts, key=lambda part: -part.work()), wrong
+def can_try(crates):
+    """Makes ready for checks of these crates, and answers whether the libraries below them are built."""
+    rt.rtlib.guarded()
+    return all(build_libraries(it) for it in crates)
 
 
 def try_part(part):
@@ -277,59 +188,96 @@ def lanes(taken=0):
     return max(1, min(rt.processors(), int((rt.free() - taken) / MEMORY)))
 
 
-def try_all(names):
-    """Tries the edits of these crates, or of all, and answers the status."""
-    parts, wrong = parts_of_crates(names)
-    rt.rtlib.guarded()
-    if not all(build_libraries(it) for it in {part.crate.name: part.crate for part in parts}.values()):
+def try_parts(parts, wrong):
+    """Tries parts side by side, and answers the status."""
+    if not can_try({part.crate.name: part.crate for part in parts}.values()):
         return 1
     with ThreadPoolExecutor(lanes()) as pool:
         tried = list(pool.map(try_part, parts))
     return ended(parts, [*wrong, *(said for its in tried for said in its)])
 
 
+def put_on_record(bodies, entry):
+    """Writes a crate's entry, where every edit was refused of what was read, and what is read now is still that; else takes it off the record."""
+    path = ROOT / judged.RECORD
+    record = judged.read(path.read_text(encoding="utf-8")) if path.exists() else {}
+    is_on_record = entry and Bodies.of(bodies.crate).entry() == entry
+    path.write_text(judged.written(judged.changed(record, folders(), bodies.crate.name, entry if is_on_record else None)), encoding="utf-8")
+    print(f"{judged.RECORD}: {bodies.crate.name} is {'on' if is_on_record else 'NOT ON'} record", flush=True)
+
+
+def record(names):
+    """Tries all edits of these crates, or of all, and puts on record those crates whose edits were all refused. Answers the status."""
+    found = bodies_of(names)
+    entries = {it.crate.name: it.entry() for it in found}
+    if not can_try([it.crate for it in found]):
+        return 1
+    (parts, wrong), its = parts_of_all(found), []
+    with ThreadPoolExecutor(lanes()) as pool:
+        trying = [(part.crate.name, pool.submit(try_part, part)) for part in parts]
+        for it in found:
+            failed = [*it.wrong, *(said for name, said_later in trying if name == it.crate.name for said in said_later.result())]
+            put_on_record(it, None if failed else entries[it.crate.name])
+            its += failed
+    return ended(parts, [*its, *([] if names else lost(found))])
+
+
 def try_each(name):
     """Has the toolchain's own judge try a crate's edits, one by one, and answers the status."""
     crate = next(it for it in rt.rtlib.crates_below(str(ROOT)) if it.name == name)
-    rt.rtlib.guarded()
-    if not build_libraries(crate):
+    if not can_try([crate]):
         return 1
-    trials = rt.must_fail_all(crate, [str(it) for it in sorted((EDITS / name).glob("*.edit"))], ["--jobs", "1"])
+    with tempfile.TemporaryDirectory(prefix="edits-") as kept:
+        trials = [rt.must_fail(crate, str(it), ["--jobs", "1"], kept) for it in sorted((EDITS / name).glob("*.edit"))]
     print("\n".join(said for _, said in trials), flush=True)
-    return 0 if all(is_refused for is_refused, _ in trials) else 1
+    return 0 if all(kind in (rt.REFUSED, rt.AT_LIMIT) for kind, _ in trials) else 1
 
 
 def try_alone(files):
     """Tries the edits of these files, each by itself, and answers the status."""
     crates = {it.name: it for it in rt.rtlib.crates_below(str(ROOT))}
-    rt.rtlib.guarded()
     are_refused = []
     for file in files:
         crate = crates[file.parent.name]
         edit, why = read_edit(file.stem, file.read_text(encoding="utf-8"), crate, sources_of(crate))
         with tempfile.TemporaryDirectory(prefix="edits-") as kept:
-            is_tried = edit and build_libraries(crate)
+            is_tried = edit and can_try([crate])
             trial = Trying(crate, sources_of(crate), kept).alone(edit) if is_tried else Trial(False, why or "the libraries can't be built")
         are_refused.append(trial.is_refused)
         print(trial.said, flush=True)
     return 0 if all(are_refused) else 1
 
 
-def main():
-    """Answers the status."""
+def read_words():
+    """The command line."""
     words = argparse.ArgumentParser(description=__doc__, formatter_class=argparse.RawDescriptionHelpFormatter)
     words.add_argument("crates", nargs="*", metavar="CRATE")
-    words.add_argument("--each", metavar="CRATE")
-    words.add_argument("--alone", metavar="FILE", nargs="+", type=pathlib.Path, default=[])
+    how = words.add_mutually_exclusive_group()
+    how.add_argument("--all", action="store_true")
+    how.add_argument("--record", action="store_true")
+    how.add_argument("--each", metavar="CRATE")
+    how.add_argument("--alone", metavar="FILE", nargs="+", type=pathlib.Path, default=[])
     asked = words.parse_args()
-    alone = [it.resolve() for it in asked.alone]
+    if asked.crates and (asked.all or asked.each or asked.alone):
+        words.error("crates are named alone, or after --record")
     for name in [*asked.crates, *([asked.each] if asked.each else [])]:
         if not (EDITS / name).is_dir():
             words.error(f"there are no edits of {name}")
+    return asked
+
+
+def main():
+    """Answers the status."""
+    asked = read_words()
+    alone = [it.resolve() for it in asked.alone]
     os.chdir(ROOT)
     if alone:
         return try_alone(alone)
-    return try_each(asked.each) if asked.each else try_all(asked.crates)
+    if asked.each:
+        return try_each(asked.each)
+    if asked.record:
+        return record(asked.crates)
+    return try_parts(*(parts_of_crates(asked.crates) if asked.all or asked.crates else parts_on_record()))
 
 
 if __name__ == "__main__":

@@ -206,8 +206,14 @@ class Rounds(unittest.TestCase):
         """An edit whose place another one of the round has taken waits, and so does one that would find two places."""
         taken = self.edits(("three", "3", "f"), ("three two", "32", "g"))
         self.assertEqual(self.named(rounds_of(taken, self.texts)), [["three"], ["three two"]])
-        doubled = self.edits(("one", "four", "f"), ("four", "4", "g"))
-        self.assertEqual(self.named(rounds_of(doubled, self.texts)), [["one"], ["four"]])
+        swapped = self.edits(("one", "four", "f"), ("four", "one", "g"))
+        self.assertEqual(self.named(rounds_of(swapped, self.texts)), [["one"], ["four"]])
+
+    def test_an_edit_whose_text_another_one_brings_comes_first(self):
+        """An edit whose old text another one of the round writes somewhere else is placed before that one."""
+        (this,) = rounds_of(self.edits(("one", "four", "f"), ("four", "4", "g")), self.texts)
+        self.assertEqual([it.name for it in this.edits], ["four", "one"])
+        self.assertEqual(this.texts, {"src/lib.rt": "four two three two_and_more 4"})
 
     def test_parts_have_about_as_many_functions_each(self):
         """Edits of one function stand in one part, those that are tried alone in the last, and each in exactly one."""
@@ -222,7 +228,7 @@ class Rounds(unittest.TestCase):
     def test_a_round_keeps_what_stood_before_it(self):
         """The functions that a round doesn't change stay as the round before left them."""
         first, second = rounds_of(self.edits(("one", "1", "f"), ("four", "4", "g"), ("three", "3", "f")), self.texts)
-        whole = beside(second, first.edits)
+        whole = beside(second, first.edits, self.texts)
         self.assertEqual(self.named([whole]), [["three", "four"]])
         self.assertEqual(whole.texts, {"src/lib.rt": "one two 3 two_and_more 4"})
 
@@ -237,7 +243,7 @@ class Places(unittest.TestCase):
 
     def test_each_edit_finds_its_place(self):
         """Each old text stands once in its file, and something is changed."""
-        for crate in sorted((ROOT / "edits").iterdir()):
+        for crate in sorted(it for it in (ROOT / "edits").iterdir() if it.is_dir()):
             sources = self.sources(crate.name)
             for path in sorted(crate.iterdir()):
                 with self.subTest(edit=f"{crate.name}/{path.name}"):

@@ -1,11 +1,17 @@
 #!/usr/bin/env python3
-"""The gate: runs `rt ci`, beside it tries the edits of each crate as soon as the libraries below the crate are proved, and then runs the
+"""The gate.
+
+    gate.py          proves what earlier runs on this machine didn't, and tries the edits that edits/judged.json leaves to try (judged.py)
+    gate.py --anew   proves everything, and tries every edit
+
+It runs `rt ci`, beside it tries the edits of each crate as soon as the libraries below the crate are proved, and then runs the
 tests over the built programs, beside the edits that are left.
 
 `rt ci` proves crates in a chain, and leaves processors idle: the edits take those. They are the less urgent work, and give way to it.
 Where something was built before, `rt ci` has its old libraries back in the end; the edits then wait for that, and have them built anew.
 """
 
+import argparse
 import os
 import pathlib
 import re
@@ -53,11 +59,17 @@ class Beside:
         self.begun += [self.pool.submit(self.try_next) for _ in ready]
 
     def try_next(self):
-        """Tries one of the parts that are ready."""
+        """Tries one of the parts that are ready, if there is one still."""
         with self.taking:
+            if not self.ready:
+                return []
             part = max(self.ready, key=lambda it: len(it.crate.below()))
             self.ready.remove(part)
         return self.trying(part)
+
+    def share(self, pool):
+        """Has another pool try what is ready too."""
+        self.begun += [pool.submit(self.try_next) for _ in self.ready]
 
     def follow(self, lines):
         """Passes on lines of `rt ci`, and begins what each lets begin."""
@@ -107,35 +119,49 @@ def say_status(clock, what, status):
     return status
 
 
-def in_turn(clock):
+def in_turn(clock, words, parts):
     """Runs the steps one after the other, and answers the status of the first that fails, else 0."""
-    steps = {"rt ci": lambda: subprocess.call(["rt", "ci"]), "edits": lambda: edits.try_all([]), "tests": run.run_all}
+    steps = {"rt ci": lambda: subprocess.call(words), "edits": lambda: edits.try_parts(parts, []), "tests": run.run_all}
     return next((status for name, step in steps.items() if (status := say_status(clock, name, step()))), 0)
 
 
-def beside(clock, parts, wrong):
-    """Runs `rt ci` and then the tests with these parts beside them, and answers the status."""
-    ci = subprocess.Popen(["rt", "ci"], stdout=subprocess.PIPE, text=True, errors="replace", env={**os.environ, "PYTHONUNBUFFERED": "1"})
-    with ThreadPoolExecutor(edits.lanes(CI_MEMORY), initializer=lambda: os.setpriority(os.PRIO_PROCESS, threading.get_native_id(), NICENESS)) as pool:
+def lanes(number):
+    """What tries so many parts side by side, and gives way to other work."""
+    return ThreadPoolExecutor(number, initializer=lambda: os.setpriority(os.PRIO_PROCESS, threading.get_native_id(), NICENESS))
+
+
+def beside(clock, words, parts):
+    """Runs `rt ci` and then the tests with these parts beside them, and answers the status. Parts get the memory of `rt ci` when that has ended."""
+    how = {"stdout": subprocess.PIPE, "text": True, "errors": "replace", "env": {**os.environ, "PYTHONUNBUFFERED": "1"}}
+    number = edits.lanes(CI_MEMORY)
+    with subprocess.Popen(words, **how) as ci, lanes(number) as pool, lanes(max(1, edits.rt.processors() - number)) as more:
         trying = Beside(parts, pool)
         trying.follow(ci.stdout)
-        status = say_status(clock, "rt ci", ci.wait()) or say_status(clock, "tests", run.run_all())
+        status = say_status(clock, "rt ci", ci.wait())
+        if not status and number < edits.lanes():
+            trying.share(more)
+        status = status or say_status(clock, "tests", run.run_all())
         if status:
+            more.shutdown(wait=False, cancel_futures=True)
             pool.shutdown(cancel_futures=True)
             return status
-        wrong += [f"{part.name} was not tried" for part in trying.waiting]
+        wrong = [f"{part.name} was not tried" for part in trying.waiting]
         return say_status(clock, "edits", edits.ended(parts, [*wrong, *(said for it in trying.begun for said in it.result())]))
 
 
 def main():
-    """Answers the status."""
+    """Answers the status. What is wrong with the edits or their record is said before anything runs."""
+    words = argparse.ArgumentParser(description=__doc__, formatter_class=argparse.RawDescriptionHelpFormatter)
+    words.add_argument("--anew", action="store_true")
+    is_anew = words.parse_args().anew
     os.chdir(edits.ROOT)
     clock = Clock()
-    if is_built():
-        return in_turn(clock)
-    parts, wrong = edits.parts_of_crates([])
+    parts, wrong = edits.parts_of_crates([]) if is_anew else edits.parts_on_record()
+    if wrong:
+        return edits.ended([], wrong)
     edits.rt.rtlib.guarded()
-    return beside(clock, parts, wrong)
+    ci = ["rt", "ci", *["--anew"] * is_anew]
+    return in_turn(clock, ci, parts) if is_built() else beside(clock, ci, parts)
 
 
 if __name__ == "__main__":

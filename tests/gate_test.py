@@ -5,8 +5,11 @@ import contextlib
 import io
 import unittest
 from typing import NamedTuple
+from unittest import mock
 
-from gate import Beside, Processors
+import edits
+import gate
+from gate import Beside, Clock, Processors
 from run import judged
 
 
@@ -26,6 +29,7 @@ class Part(NamedTuple):
 
     name: str
     crate: Crate
+    edits: tuple = ("body",)
 
 
 class Pool:
@@ -68,10 +72,46 @@ class BesideTest(unittest.TestCase):
         in_order = ["high 1", "high 2", "middle 1", "low 1"]
         self.assertEqual(self.begun("== low", "rt: low proved", "rt: middle proved"), (in_order, []))
 
+    def test_another_pool_tries_what_is_ready(self):
+        pool, more = Pool(), Pool()
+        beside = Beside([Part("low 1", LOW), Part("low 2", LOW), Part("high 1", HIGH)], pool, lambda part: [part.name])
+        self.assertEqual(pool.given[0](), ["low 1"])
+        beside.share(more)
+        self.assertEqual([trying() for trying in [*more.given, *pool.given[1:]]], [["low 2"], []])
+        self.assertEqual(len(beside.begun), 3)
+
     def test_no_other_line_says_that_a_crate_is_proved(self):
         for line in ("rt: low NOT PROVED", "rt: low: its tests are proved", "fn low: proved", "rt: low proved?", "note: rt: low proved"):
             with self.subTest(line=line):
                 self.assertEqual(self.begun(line)[0], ["low 1"])
+
+
+class WholeTest(unittest.TestCase):
+    """The steps beside each other, without the toolchain."""
+
+    def ended(self, proved, failing=(), tests=0):
+        """The status of a gate whose first step proves these crates, whose tests have this status, and of whose parts these fail; and what it said."""
+        parts, said = [Part("low 1", LOW), Part("middle 1", MIDDLE), Part("high 1", HIGH)], io.StringIO()
+        trying = lambda part: [f"{part.name} went wrong"] * (part.name in failing)
+        with contextlib.redirect_stdout(said), contextlib.ExitStack() as stack:
+            stack.enter_context(mock.patch.object(Beside.__init__, "__defaults__", (trying,)))
+            stack.enter_context(mock.patch.object(gate.run, "run_all", lambda: tests))
+            stack.enter_context(mock.patch.object(edits, "lanes", lambda taken=0: 1 if taken else 2))
+            words = ["printf", "".join(f"rt: {name} proved\n" for name in proved)]
+            return gate.beside(Clock(), words, parts), said.getvalue()
+
+    def test_it_passes_where_all_parts_are_tried_and_none_fails(self):
+        status, said = self.ended(["low", "middle", "high"])
+        self.assertEqual((status, "3 edits tried, 0 things wrong" in said), (0, True))
+
+    def test_it_fails_where_a_part_fails_or_is_not_tried(self):
+        status, said = self.ended(["low", "middle", "high"], failing=["middle 1"])
+        self.assertEqual((status, "middle 1 went wrong" in said), (1, True))
+        status, said = self.ended(["low"])
+        self.assertEqual((status, "high 1 was not tried" in said), (1, True))
+
+    def test_it_fails_where_the_tests_do(self):
+        self.assertEqual(self.ended(["low", "middle", "high"], tests=1)[0], 1)
 
 
 class SaidTest(unittest.TestCase):

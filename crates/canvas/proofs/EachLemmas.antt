@@ -13,9 +13,9 @@ use Rattle.canvas.proofs.WritingLawLemmas.{writing_laws}
 abbrev pub is_given : (ℕ → ℕ → Bool) → (ℕ → ℕ → Bool) → ℕ → ℕ → Bool
 is_given start now x y = start x y && not (now x y)
 
--- the pixels that were given are written, but for their count, and what is to come was to come from the start
-pub record HasPut (start now : ℕ → ℕ → Bool) (colour : Colour) (count : ℕ) (old canvas : CanvasState) : Type 0 where
-  pub written : Repaints (is_given start now) (λ x y c. colour) old (counted count canvas)
+-- the pixels that were given are changed, but for their count, and what is to come was to come from the start
+pub record HasChanged (start now : ℕ → ℕ → Bool) (made : Colour → Colour) (count : ℕ) (old canvas : CanvasState) : Type 0 where
+  pub written : Repaints (is_given start now) (λ x y c. made c) old (counted count canvas)
   pub kept : (x y : ℕ) → now x y ≡ true → start x y ≡ true
   pub writes : canvas.writes ≡ old.writes
 
@@ -60,9 +60,9 @@ shifted t f count old new same r =
       most = r.most;
     }
 
-module _ (start : ℕ → ℕ → Bool) (colour : Colour) (old : CanvasState) (whole : IsWhole old) where
-  pub none_put : HasPut start start colour 0 old old
-  none_put = record {
+module _ (start : ℕ → ℕ → Bool) (made : Colour → Colour) (old : CanvasState) (whole : IsWhole old) where
+  pub none_changed : HasChanged start start made 0 old old
+  none_changed = record {
     written = nothing;
     kept = λ x y h. h;
     writes = refl;
@@ -71,10 +71,10 @@ module _ (start : ℕ → ℕ → Bool) (colour : Colour) (old : CanvasState) (w
       zero_more : counted 0 old ≡ old
       zero_more = let e : old.writes + 0 ≡ old.writes = omega arith in rw e refl
 
-      nothing : Repaints (is_given start start) (λ x y c. colour) old (counted 0 old)
-      nothing = rw zero_more (writing_laws.none (is_given start start) (λ x y c. colour) old whole (λ x y held. none_given (start x y)))
+      nothing : Repaints (is_given start start) (λ x y c. made c) old (counted 0 old)
+      nothing = rw zero_more (writing_laws.none (is_given start start) (λ x y c. made c) old whole (λ x y held. none_given (start x y)))
 
-  module _ (now next : ℕ → ℕ → Bool) (before after count : ℕ) (pixel : PixelAt) (canvas : CanvasState) (so_far : HasPut start now colour count old canvas) (given : GivesOne now next before after pixel) where
+  module _ (now next : ℕ → ℕ → Bool) (before after count : ℕ) (pixel : PixelAt) (canvas : CanvasState) (so_far : HasChanged start now made count old canvas) (given : GivesOne now next before after pixel) where
     -- a pixel that is given was to come from the start
     pub was_to_come : start pixel.x pixel.y ≡ true
     was_to_come = so_far.kept pixel.x pixel.y given.given
@@ -105,29 +105,29 @@ module _ (start : ℕ → ℕ → Bool) (colour : Colour) (old : CanvasState) (w
         let row = eqb-true y pixel.y parts.1 in
         rw (column, row) given.given
 
-    pub one_put : (new : CanvasState) → new.writes ≡ canvas.writes → Repaints (is_at pixel.x pixel.y) (λ x y c. colour) canvas (counted 1 new) → HasPut start next colour (count + 1) old new
-    one_put new same wrote = record {
+    pub one_changed : (new : CanvasState) → new.writes ≡ canvas.writes → Repaints (is_at pixel.x pixel.y) (λ x y c. made c) canvas (counted 1 new) → HasChanged start next made (count + 1) old new
+    one_changed new same wrote = record {
       written =
-          writing_laws.same (λ x y. is_given start now x y || is_at pixel.x pixel.y x y) (is_given start next) (λ x y c. colour) (λ x y c. colour) old (counted (count + 1) new) whole
+          writing_laws.same (λ x y. is_given start now x y || is_at pixel.x pixel.y x y) (is_given start next) (λ x y c. made c) (λ x y c. made c) old (counted (count + 1) new) whole
           (λ x y held. rw (given.others x y) (given_more (start x y) (now x y) (is_at pixel.x pixel.y x y) (here x y) (so_far.kept x y)))
           (λ x y c held t. refl)
-          (writing_laws.both (is_given start now) (is_at pixel.x pixel.y) (λ x y c. colour) old (counted count canvas) (counted (count + 1) new) whole
+          (writing_laws.both (is_given start now) (is_at pixel.x pixel.y) (λ x y c. made c) old (counted count canvas) (counted (count + 1) new) whole
           (λ x y held. given_now (start x y) (now x y) (is_at pixel.x pixel.y x y) (here x y) (so_far.kept x y))
           so_far.written
-          (shifted (is_at pixel.x pixel.y) (λ x y c. colour) count canvas new same wrote));
+          (shifted (is_at pixel.x pixel.y) (λ x y c. made c) count canvas new same wrote));
       kept = λ x y h. so_far.kept x y (still (now x y) (is_at pixel.x pixel.y x y) (sym (given.others x y) ∙ h));
       writes = same ∙ so_far.writes;
     }
 
   -- all are, once none is to come
-  pub all_put : (now : ℕ → ℕ → Bool) (count : ℕ) (canvas : CanvasState) → HasPut start now colour count old canvas → ((x y : ℕ) → now x y ≡ false) → Repaints start (λ x y c. colour) old (counted count canvas)
-  all_put now count canvas so_far ended =
-      writing_laws.same (is_given start now) start (λ x y c. colour) (λ x y c. colour) old (counted count canvas) whole
+  pub all_changed : (now : ℕ → ℕ → Bool) (count : ℕ) (canvas : CanvasState) → HasChanged start now made count old canvas → ((x y : ℕ) → now x y ≡ false) → Repaints start (λ x y c. made c) old (counted count canvas)
+  all_changed now count canvas so_far ended =
+      writing_laws.same (is_given start now) start (λ x y c. made c) (λ x y c. made c) old (counted count canvas) whole
       (λ x y held. all_given (start x y) (now x y) (ended x y))
       (λ x y c held t. refl)
       so_far.written
 
 -- and their count fits
-pub sum_fits : (start now : ℕ → ℕ → Bool) (colour : Colour) (count : ℕ) (old canvas : CanvasState) → HasPut start now colour count old canvas → old.writes + old.rows * old.width + 1 < 2 ^ 64 → canvas.writes + count < 2 ^ 64
-sum_fits start now colour count old canvas so_far few =
+pub sum_fits : (start now : ℕ → ℕ → Bool) (made : Colour → Colour) (count : ℕ) (old canvas : CanvasState) → HasChanged start now made count old canvas → old.writes + old.rows * old.width + 1 < 2 ^ 64 → canvas.writes + count < 2 ^ 64
+sum_fits start now made count old canvas so_far few =
     let bound = writing_laws.bounded _ _ old (counted count canvas) so_far.written in omega (arith, bound, few)

@@ -8,8 +8,8 @@
 //! - A call that writes a part of a row writes the pixels of the row that it names, each with the colour that
 //!   it says, leaves every other pixel as it is and counts each write (`Canvas::put_span`, `put_swatch`, `put_pattern`,
 //!   `put_row`, `mix_span`, `mix_row`, `mix_cells`, `mix`, by `Repaints`).
-//! - Pixels that a source gives one after another, none twice, are written in one colour, each counted once
-//!   (`Canvas::put_each`, `PixelSource`).
+//! - Pixels that a source gives one after another, none twice, are written in one colour, or changed by one mix, each
+//!   counted once (`Canvas::put_each`, `Canvas::mix_each`, `PixelSource`).
 //! - Writes that share no pixel are put together as one (`writing_law`).
 //! - What is written out is the P6 text of the image, byte for byte, and after a failure a front of
 //!   that text (`Canvas::write_ppm`, by `ppm_text`). Header and rows can be written apart (`write_header`,
@@ -30,6 +30,7 @@ mod counted_sending;
 mod counting;
 mod laws;
 mod parts;
+mod pixel_change;
 mod pixel_source;
 mod ppm;
 mod ppm_counted;

@@ -6,6 +6,7 @@ ghost use Rattle.mapping.specs.declared.geometry.Colour.{Colour};
 ghost use Rattle.mapping.specs.Mixes.{mixed_by};
 ghost use Rattle.mapping.specs.Pixels.{count_indexes, is_cell};
 ghost use Rattle.canvas.specs.MixRows.{mix_at};
+ghost use Rattle.canvas.specs.PartsMade.{EachIs, EachMixed, MixedWhere};
 
 use crate::swatch::Swatch;
 use mapping::{Colour, Mix};
@@ -16,7 +17,7 @@ const PERIOD: usize = 8;
 /// Fills the part, whose first colour stands in this column, with the colours of the pattern, each at its
 /// column modulo 8. From the column on where the pattern begins it goes in as it is: a pattern that was turned first would be waited for.
 pub(crate) fn fill_with_pattern(part: &mut [Colour], column: u32, pattern: &[Colour; 8])
-    ensures { (k : ℕ) (d : Colour) → k < length part.old → slice_index_or part.new k d ≡ slice_index_or pattern.now ((column + k) % 8) d }
+    ensures { EachIs (length part.old) part.new (λ k any. slice_index_or pattern.now ((column + k) % 8) any) }
 {
     let first = columns_to_next(column).min(part.len());
     fill_few(&mut part[..first], column, pattern);
@@ -34,7 +35,7 @@ fn columns_to_next(column: u32) -> usize
 /// The same as `fill_with_pattern` for at most 8 colours.
 fn fill_few(part: &mut [Colour], column: u32, pattern: &[Colour; 8])
     requires { length part.old ≤ 8 }
-    ensures { (k : ℕ) (d : Colour) → k < length part.old → slice_index_or part.new k d ≡ slice_index_or pattern.now ((column + k) % 8) d }
+    ensures { EachIs (length part.old) part.new (λ k any. slice_index_or pattern.now ((column + k) % 8) any) }
 {
     for k in 0..part.len() {
         part[k] = pattern[turned(column, k)];
@@ -43,7 +44,7 @@ fn fill_few(part: &mut [Colour], column: u32, pattern: &[Colour; 8])
 
 /// Fills the part with one colour: by copies of eight, the last of which goes to its end, wherever it begins.
 pub(crate) fn fill_with(part: &mut [Colour], swatch: &Swatch)
-    ensures { (k : ℕ) (d : Colour) → k < length part.old → slice_index_or part.new k d ≡ swatch.now.colour }
+    ensures { EachIs (length part.old) part.new (λ k any. swatch.now.colour) }
 {
     if part.len() < PERIOD {
         put_few(part, swatch.colour);
@@ -56,7 +57,7 @@ pub(crate) fn fill_with(part: &mut [Colour], swatch: &Swatch)
 
 /// Gives each of a few colours this one.
 fn put_few(part: &mut [Colour], colour: Colour)
-    ensures { (k : ℕ) (d : Colour) → k < length part.old → slice_index_or part.new k d ≡ colour }
+    ensures { EachIs (length part.old) part.new (λ k any. colour) }
 {
     for k in 0..part.len() {
         part[k] = colour;
@@ -66,7 +67,7 @@ fn put_few(part: &mut [Colour], colour: Colour)
 /// Fills the part with these eight colours, again and again. All but the last few go in by copies of eight,
 /// whose size the compiler knows, which is cheaper than a colour at a time and than copies of any size.
 fn repeat(part: &mut [Colour], colours: &[Colour; 8])
-    ensures { (k : ℕ) (d : Colour) → k < length part.old → slice_index_or part.new k d ≡ slice_index_or colours.now (k % 8) d }
+    ensures { EachIs (length part.old) part.new (λ k any. slice_index_or colours.now (k % 8) any) }
 {
     let filled = repeat_whole(part, colours);
     for k in filled..part.len() {
@@ -78,7 +79,7 @@ fn repeat(part: &mut [Colour], colours: &[Colour; 8])
 fn repeat_whole(part: &mut [Colour], colours: &[Colour; 8]) -> usize
     ensures within { result ≤ length part.old }
     ensures all_but_few { length part.old < result + 8 }
-    ensures colours { (k : ℕ) (d : Colour) → k < result → slice_index_or part.new k d ≡ slice_index_or colours.now (k % 8) d }
+    ensures colours { EachIs result part.new (λ k any. slice_index_or colours.now (k % 8) any) }
 {
     let mut filled = 0;
     while filled + PERIOD <= part.len() {
@@ -100,7 +101,7 @@ fn copy_at(part: &mut [Colour], at: usize, colours: &[Colour; 8])
 
 /// Changes each colour by the mix.
 pub(crate) fn mix_all(part: &mut [Colour], mix: Mix)
-    ensures { (k : ℕ) (d : Colour) → k < length part.old → slice_index_or part.new k d ≡ mixed_by mix (slice_index_or part.old k d) }
+    ensures { EachMixed (length part.old) (λ k. mix) part.old part.new }
 {
     for colour in part.iter_mut() {
         *colour = mix.apply(*colour);
@@ -110,10 +111,10 @@ pub(crate) fn mix_all(part: &mut [Colour], mix: Mix)
 /// Changes each colour by the mix at its place, of what is kept and what is flipped. All but the last few go by eights, whose size the compiler
 /// knows and which are read before any is written: it then mixes many at once, in a third of the time that a
 /// colour at a time takes.
-pub(crate) fn mix_each(part: &mut [Colour], keeps: &[Colour], flips: &[Colour])
+pub(crate) fn mix_all_by(part: &mut [Colour], keeps: &[Colour], flips: &[Colour])
     requires keeps { length keeps.now ≡ length part.old }
     requires flips { length flips.now ≡ length part.old }
-    ensures { (k : ℕ) (d : Colour) → k < length part.old → slice_index_or part.new k d ≡ mixed_by (mix_at keeps.now flips.now k) (slice_index_or part.old k d) }
+    ensures { EachMixed (length part.old) (mix_at keeps.now flips.now) part.old part.new }
 {
     let done = mix_eights(part, keeps, flips);
     for k in done..part.len() {
@@ -128,7 +129,7 @@ fn mix_eights(part: &mut [Colour], keeps: &[Colour], flips: &[Colour]) -> usize
     requires keeps { length keeps.now ≡ length part.old }
     requires flips { length flips.now ≡ length part.old }
     ensures eights { result ≡ length part.old - length part.old % 8 }
-    ensures mixed { (k : ℕ) (d : Colour) → k < result → slice_index_or part.new k d ≡ mixed_by (mix_at keeps.now flips.now k) (slice_index_or part.old k d) }
+    ensures mixed { EachMixed result (mix_at keeps.now flips.now) part.old part.new }
     ensures left { (k : ℕ) (d : Colour) → result ≤ k → slice_index_or part.new k d ≡ slice_index_or part.old k d }
 {
     let mut done = 0;
@@ -145,7 +146,7 @@ fn mixed_eight(part: &[Colour], keeps: &[Colour], flips: &[Colour], at: usize) -
     requires colours { at + 8 ≤ length part.now }
     requires keeps { at + 8 ≤ length keeps.now }
     requires flips { at + 8 ≤ length flips.now }
-    ensures { (k : ℕ) (d : Colour) → k < 8 → slice_index_or result k d ≡ mixed_by (mix_at keeps.now flips.now (at + k)) (slice_index_or part.now (at + k) d) }
+    ensures { EachIs 8 result (λ k d. mixed_by (mix_at keeps.now flips.now (at + k)) (slice_index_or part.now (at + k) d)) }
 {
     let mut colours = [part[at]; PERIOD];
     for k in 0..PERIOD {
@@ -158,7 +159,7 @@ fn mixed_eight(part: &[Colour], keeps: &[Colour], flips: &[Colour], at: usize) -
 /// Changes the colours by the mix whose column has its bit set in `cells`, and tells how many they are. The
 /// part's first colour stands in this column.
 pub(crate) fn mix_cells_of(part: &mut [Colour], column: u32, cells: u8, mix: Mix) -> usize
-    ensures colours { (k : ℕ) (d : Colour) → k < length part.old → slice_index_or part.new k d ≡ (if is_cell cells (column + k) then mixed_by mix (slice_index_or part.old k d) else slice_index_or part.old k d) }
+    ensures colours { MixedWhere (λ k. is_cell cells (column + k)) mix part.old part.new }
     ensures count { result ≡ count_indexes (λ k. is_cell cells (column + k)) 0 (length part.old) }
     ensures most { result ≤ length part.old }
 {
@@ -174,7 +175,7 @@ pub(crate) fn mix_cells_of(part: &mut [Colour], column: u32, cells: u8, mix: Mix
 /// Changes each eighth colour by the mix, from this one on, and tells how many they are.
 fn mix_each_eighth(part: &mut [Colour], offset: usize, mix: Mix) -> usize
     requires { offset < 8 }
-    ensures colours { (k : ℕ) (d : Colour) → k < length part.old → slice_index_or part.new k d ≡ (if k % 8 == offset then mixed_by mix (slice_index_or part.old k d) else slice_index_or part.old k d) }
+    ensures colours { MixedWhere (λ k. k % 8 == offset) mix part.old part.new }
     ensures count { result ≡ count_indexes (λ k. k % 8 == offset) 0 (length part.old) }
 {
     let mut at = offset;

@@ -1,12 +1,14 @@
-//! Pixels that are told one after another, and written in one colour.
+//! Pixels that a source gives one after another, and that are written.
 
 ghost use Rattle.std.specs.Prelude.{◌≡◌, ◌+◌, ◌*◌, ◌<◌, ◌^◌, ℕ, Bool, true};
-ghost use Rattle.canvas.specs.CanvasState.{HasPixel, colour_index};
-ghost use Rattle.canvas.specs.PixelSources.{GivesNext, counted};
+ghost use Rattle.mapping.specs.Mixes.{mixed_by};
+ghost use Rattle.canvas.specs.CanvasState.{HasPixel};
+ghost use Rattle.canvas.specs.PixelSources.{GivesNext, KeepsEnd, counted};
 ghost use Rattle.canvas.specs.Writing.{Repaints, is_at};
 
+use crate::pixel_change::PixelChange;
 use crate::surface::{Canvas, place};
-use mapping::Colour;
+use mapping::{Colour, Mix};
 
 /// A pixel of a surface, by its column and its row.
 #[derive(Clone, Copy, Debug, PartialEq, Eq)]
@@ -23,9 +25,13 @@ pub trait PixelSource {
     /// A number that each pixel makes less.
     ghost measure: { Self → ℕ };
 
+    /// What a source is, once it has given all its pixels.
+    ghost ends_as: { Self → Self → Type 0 };
+
     /// The next pixel, or none behind the last.
     fn next_pixel(&mut self) -> Option<PixelAt>
-        ensures { GivesNext (to_come self.old) (measure self.old) result (to_come self.new) (measure self.new) };
+        ensures pixel { GivesNext (to_come self.old) (measure self.old) result (to_come self.new) (measure self.new) }
+        ensures end { KeepsEnd ends_as result self.old self.new };
 }
 
 impl Canvas {
@@ -33,25 +39,46 @@ impl Canvas {
     pub fn put_each<P: PixelSource>(&mut self, pixels: &mut P, colour: Colour)
         requires held { (x y : ℕ) → P.to_come pixels.old x y ≡ true → HasPixel self.old x y }
         requires countable { self.old.writes + self.old.rows * self.old.width + 1 < 2 ^ 64 }
-        ensures { Repaints (P.to_come pixels.old) (λ x y old. colour) self.old self.new }
+        ensures pixels { Repaints (P.to_come pixels.old) (λ x y old. colour) self.old self.new }
+        ensures end { P.ends_as pixels.old pixels.new }
+    {
+        self.change_each(pixels, colour);
+    }
+
+    /// Changes the pixels that a source gives by the mix, each counted once.
+    pub fn mix_each<P: PixelSource>(&mut self, pixels: &mut P, mix: Mix)
+        requires held { (x y : ℕ) → P.to_come pixels.old x y ≡ true → HasPixel self.old x y }
+        requires countable { self.old.writes + self.old.rows * self.old.width + 1 < 2 ^ 64 }
+        ensures pixels { Repaints (P.to_come pixels.old) (λ x y old. mixed_by mix old) self.old self.new }
+        ensures end { P.ends_as pixels.old pixels.new }
+    {
+        self.change_each(pixels, mix);
+    }
+
+    /// Makes of the pixels that a source gives what the change makes of them, each counted once.
+    fn change_each<P: PixelSource, C: PixelChange>(&mut self, pixels: &mut P, change: C)
+        requires held { (x y : ℕ) → P.to_come pixels.old x y ≡ true → HasPixel self.old x y }
+        requires countable { self.old.writes + self.old.rows * self.old.width + 1 < 2 ^ 64 }
+        ensures pixels { Repaints (P.to_come pixels.old) (λ x y old. C.made change old) self.old self.new }
+        ensures end { P.ends_as pixels.old pixels.new }
     {
         self.width();
         // (the writes are counted here: a count in the canvas would go through memory for each pixel)
         let mut count: u64 = 0;
         while let Some(pixel) = pixels.next_pixel() {
-            self.set(pixel.x, pixel.y, colour);
+            self.change(pixel.x, pixel.y, change);
             count += 1;
         }
         self.writes += count;
     }
 
-    /// Gives the surface's pixel `(x, y)` a colour, and doesn't count it.
-    fn set(&mut self, x: u32, y: u32, colour: Colour)
+    /// Makes of the surface's pixel `(x, y)` what the change makes of it, and doesn't count it.
+    pub(crate) fn change<C: PixelChange>(&mut self, x: u32, y: u32, change: C)
         requires { HasPixel self.old x y }
-        ensures repaints { Repaints (is_at x y) (λ column row old. colour) self.old (counted 1 self.new) }
+        ensures repaints { Repaints (is_at x y) (λ column row old. C.made change old) self.old (counted 1 self.new) }
         ensures count { self.new.writes ≡ self.old.writes }
     {
         let place = place(self.stride, y - self.first, x);
-        self.colours[place] = colour;
+        self.colours[place] = change.of(self.colours[place]);
     }
 }

@@ -3,7 +3,7 @@
 ghost use Rattle.std.specs.Prelude.{◌≡◌, ◌+◌, ◌-◌, ◌*◌, ◌<◌, ◌≤◌, ◌++◌, length, take, drop, decimal, OnOk, OnErr};
 ghost use Rattle.std.specs.Io.KnownBytes.{Appends};
 ghost use Rattle.canvas.specs.CanvasState.{image_of};
-ghost use Rattle.canvas.specs.Ppm.{AppendsFront, header, ppm_text, raster};
+ghost use Rattle.canvas.specs.Ppm.{AppendsFront, header, ppm_text, raster, rest};
 
 use crate::canvas_error::WriteFault;
 use crate::sending::send;
@@ -61,8 +61,8 @@ fn write_pieces<W: Write>(
 ) -> Result<(), WriteFault>
     requires room { 12320 ≤ length piece.old }
     requires few { ready ≤ 32 }
-    ensures ok { OnOk result (Appends (W.contents out.old) (W.contents out.new) (take ready piece.old ++ raster canvas.now.colours)) }
-    ensures err { OnErr result (AppendsFront (W.contents out.old) (W.contents out.new) (take ready piece.old ++ raster canvas.now.colours)) }
+    ensures ok { OnOk result (Appends (W.contents out.old) (W.contents out.new) (rest ready piece.old canvas.now)) }
+    ensures err { OnErr result (AppendsFront (W.contents out.old) (W.contents out.new) (rest ready piece.old canvas.now)) }
 {
     let count = canvas.pixel_count();
     let mut filled = ready;

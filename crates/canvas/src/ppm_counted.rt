@@ -3,7 +3,7 @@
 ghost use Rattle.std.specs.Prelude.{◌≡◌, ◌+◌, ◌*◌, ◌-◌, ◌^◌, ◌<◌, ◌≤◌, ◌++◌, length, take, OnOk, OnErr};
 ghost use Rattle.std.specs.Io.KnownBytes.{Appends};
 ghost use Rattle.canvas.specs.CanvasState.{image_of};
-ghost use Rattle.canvas.specs.Ppm.{AppendsFront, header, ppm_text, raster};
+ghost use Rattle.canvas.specs.Ppm.{AppendsFront, header, ppm_text, raster, rest};
 
 use crate::canvas_error::WriteFault;
 use crate::counted_sending::send_counted;
@@ -67,8 +67,8 @@ fn write_pieces_to<W: FaultCount>(
     requires room { W.fault_count out.old < 2 ^ 64 - 1 }
     requires long { 12320 ≤ length piece.old }
     requires few { ready ≤ 32 }
-    ensures ok { OnOk result (Appends (W.contents out.old) (W.contents out.new) (take ready piece.old ++ raster canvas.now.colours)) }
-    ensures err { OnErr result (AppendsFront (W.contents out.old) (W.contents out.new) (take ready piece.old ++ raster canvas.now.colours)) }
+    ensures ok { OnOk result (Appends (W.contents out.old) (W.contents out.new) (rest ready piece.old canvas.now)) }
+    ensures err { OnErr result (AppendsFront (W.contents out.old) (W.contents out.new) (rest ready piece.old canvas.now)) }
     ensures fault { OnErr result (W.fault_count out.old < W.fault_count out.new) }
     ensures room { OnOk result (W.fault_count out.new < 2 ^ 64 - 1) }
     ensures count { W.fault_count out.old ≤ W.fault_count out.new }

@@ -5,7 +5,7 @@ ghost use Rattle.mapping.specs.Mixes.{mixed_by};
 ghost use Rattle.canvas.specs.CanvasState.{HasPixel, HasRow};
 ghost use Rattle.canvas.specs.Writing.{Repaints, in_cells, in_row, in_row_span, is_at, mixed_by_row, put_by_pattern, put_by_row};
 
-use crate::parts::{fill_with, fill_with_pattern, mix_all, mix_cells_of, mix_each};
+use crate::parts::{fill_with, fill_with_pattern, mix_all, mix_all_by, mix_cells_of};
 use crate::surface::{Canvas, place};
 use crate::swatch::Swatch;
 use mapping::{Colour, Mix};
@@ -95,7 +95,7 @@ impl Canvas {
     {
         let start = place(self.stride, y - self.first, x_from);
         let end = start + keeps.len();
-        mix_each(&mut self.colours[start..end], keeps, flips);
+        mix_all_by(&mut self.colours[start..end], keeps, flips);
         self.writes += keeps.len() as u64;
     }
 
@@ -122,8 +122,7 @@ impl Canvas {
         ensures pixel { Repaints (is_at x y) (λ column row old. mixed_by mix old) self.old self.new }
         ensures count { self.new.writes ≡ self.old.writes + 1 }
     {
-        let place = place(self.stride, y - self.first, x);
-        self.colours[place] = mix.apply(self.colours[place]);
+        self.change(x, y, mix);
         self.writes += 1;
     }
 }

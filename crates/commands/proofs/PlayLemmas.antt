@@ -1,6 +1,7 @@
 -- What is played of a file that was checked, and why it isn't.
-use Rattle.std.proofs.Common.{◌≡◌, ◌<◌, ◌⊎◌, ◌↔◌, ◌∙◌, inl, inr, ℕ, List, Option, Some, None, Result, Ok, Err, ap, arith, refl}
-use Rattle.mapping.specs.Colours.{white_colour}
+use Rattle.std.proofs.Common.{◌≡◌, ◌<◌, ◌≤◌, ◌⊎◌, ◌↔◌, ◌∙◌, inl, inr, ℕ, suc, List, Option, Some, None, Result, Ok, Err, ap, arith, refl}
+use Rattle.std.proofs.Math.Nat.{lt_of_not-le}
+use Rattle.std.specs.Io.KnownBytes.{Keeps}
 use Rattle.mapping.specs.Image.{Image}
 use Rattle.canvas.specs.PpmReading.{read_ppm}
 use Rattle.draw_ops.specs.declared.fault.Fault.{Fault}
@@ -14,10 +15,10 @@ use Rattle.preflight_cert.specs.Run.{white}
 use Rattle.preflight_cert.specs.declared.certificate.Certificate.{Certificate}
 use Rattle.preflight_cert.specs.declared.cleared.Cleared.{Cleared}
 use Rattle.preflight_cert.specs.declared.refusal.Refusal.{Refusal}
-use Rattle.player.specs.Bands.{IsRunText, WritesRun}
-use Rattle.player.specs.Bands as TheBound
-use Rattle.commands.specs.ClearedFiles.{FailsToPlay, FailsWithin, IsWithinBound, Leaves, RefusesSurface, WritesPlayed}
-use Rattle.commands.specs.Ends.{IsDoneBy, WritesText}
+use Rattle.player.specs.Bands.{IsRunText}
+use Rattle.player.specs.Bounds.{IsAboveBound, IsWithinBound}
+use Rattle.commands.specs.ClearedFiles.{FailsToPlay, Leaves, RefusesSurface, WritesPlayed}
+use Rattle.commands.specs.Ends.{IsDoneBy, WritesDone, WritesText}
 use Rattle.commands.specs.Failures.{Fails, IsFailureOf}
 use Rattle.commands.specs.Images.{IsPlayed, IsPlayedOver, IsPlayedText, RefusesOver}
 use Rattle.commands.specs.Tasks.{play, show}
@@ -78,17 +79,61 @@ module _ (file bytes : List ℕ) (cleared : Cleared) (width height : ℕ) (accep
 
 -- the same of a file that was prepared at the surface's size
 pub show_done :
-    (file : List ℕ) (cleared : Cleared) (width height : ℕ) (old new : Option (List ℕ)) → IsOpenedFrom file cleared.opened
-    → WritesRun cleared width height white_colour old new → WritesText (IsDoneBy (show file width height)) old new
-show_done file cleared width height old new from p = record { text = p.text; fact = p.of_run file from; written = p.appended }
+    {W : Type 0} → (file : List ℕ) (cleared : Cleared) (width height : ℕ) (contents : W → Option (List ℕ)) (old new : W) → IsOpenedFrom file cleared.opened
+    → WritesPlayed cleared width height (contents old) (contents new) → WritesDone (show file width height) contents old new
+show_done file cleared width height contents old new from p = record { text = p.written.text; fact = p.written.of_run file from; written = p.written.appended }
+
+-- a surface isn't within a bound and above it
+never_both : (c : Certificate) (width height : ℕ) → IsWithinBound c width height → IsAboveBound width height c → ⊥
+never_both c width height within (inl less) = let h = within.wide in absurd (omega (arith, less, h))
+never_both c width height within (inr less) = let h = within.high in absurd (omega (arith, less, h))
 
 pub show_fails :
     {W : Type 0} → (file : List ℕ) (cleared : Cleared) (width height : ℕ) (contents : W → Option (List ℕ)) (old new : W) (failure : Failure)
-    → IsOpenedFrom file cleared.opened → FailsWithin cleared width height contents old new failure
+    → IsOpenedFrom file cleared.opened → IsWithinBound cleared.certificate width height → FailsToPlay cleared width height contents old new failure
     → Fails (show file width height) failure (contents old) (contents new)
-show_fails file cleared width height contents old new (why.Refused r) from p = absurd p
-show_fails file cleared width height contents old new why.CannotWrite from p = record { text = p.text; fact = p.of_run file from; written = p.appended }
-show_fails file cleared width height contents old new why.OutOfMemory from p = p
+show_fails file cleared width height contents old new (why.Refused r) from within p = absurd (never_both cleared.certificate width height within p.above.larger)
+show_fails file cleared width height contents old new why.CannotWrite from within p =
+    record { text = p.written.text; fact = p.written.of_run file from; written = p.written.appended }
+show_fails file cleared width height contents old new why.OutOfMemory from within p = p
+
+at_most : (a b : ℕ) → (a < b → ⊥) → b ≤ a
+at_most a b no = let h : b < suc a = lt_of_not-le no in omega (arith, h)
+
+module _ (c : Certificate) (width height : ℕ) (result : Result ℕ Fault) (bound : (result ≡ Err SurfaceTooLarge) ↔ IsAboveBound width height c) where
+  -- what isn't refused for its sides is within the bound
+  pub within_bound : (result ≡ Err SurfaceTooLarge → ⊥) → IsWithinBound c width height
+  within_bound no = record {
+    wide = at_most c.max_width width (λ less. no (bound.1 (inl less)));
+    high = at_most c.max_height height (λ less. no (bound.1 (inr less)));
+  }
+
+  pub within_where_done : (n : ℕ) → result ≡ Ok n → IsWithinBound c width height
+  within_where_done n is = within_bound (λ large. cc)
+
+  pub within_where_written : result ≡ Err WriteFault → IsWithinBound c width height
+  within_where_written is = within_bound (λ large. cc)
+
+-- what isn't refused by the writer is refused for its sides, or for want of memory
+pub fails_unwritten :
+    {W : Type 0} → (cleared : Cleared) (width height : ℕ) (contents : W → Option (List ℕ)) (old new : W) (result : Result ℕ Fault) (fault : Fault)
+    (r : Refusal) (failure : Failure) → result ≡ Err fault → ((result ≡ Err SurfaceTooLarge) ↔ IsAboveBound width height cleared.certificate)
+    → (fault ≡ SurfaceTooLarge ⊎ (fault ≡ OutOfMemory ⊎ fault ≡ WriteFault)) → (fault ≡ WriteFault → ⊥) → Keeps (contents old) (contents new)
+    → r.number ≡ None → r.fault ≡ fault → IsFailureOf r failure → FailsToPlay cleared width height contents old new failure
+fails_unwritten cleared width height contents old new result fault r why.CannotWrite is bound by unwritten kept none same failed = absurd failed
+fails_unwritten cleared width height contents old new result fault r why.OutOfMemory is bound by unwritten kept none same failed = kept
+fails_unwritten cleared width height contents old new result fault r (why.Refused other) is bound (inl large) unwritten kept none same failed = record {
+  number = ap (λ (x : Refusal). x.number) failed.0 ∙ none;
+  above = record {
+    larger = bound.0 (is ∙ ap (λ (f : Fault). Err f) large);
+    is = ap (λ (x : Refusal). x.fault) failed.0 ∙ same ∙ large;
+  };
+  kept = kept;
+}
+fails_unwritten cleared width height contents old new result fault r (why.Refused other) is bound (inr (inl want)) unwritten kept none same failed =
+    absurd (failed.1 (same ∙ want))
+fails_unwritten cleared width height contents old new result fault r (why.Refused other) is bound (inr (inr written)) unwritten kept none same failed =
+    absurd (unwritten written)
 
 pub over_check_refuses : (file bytes image : List ℕ) (r : Refusal) → (IsAnswer file bytes (refuses r.number r.fault) ⊎ IsWantOfMemory r)
     → (RefusesOver file bytes image r.number r.fault ⊎ IsWantOfMemory r)

@@ -18,7 +18,8 @@ use Rattle.preflight_cert.specs.Preparation.{Prepares, PreparesIfOpened, Prepare
 use Rattle.preflight_cert.specs.Run.{Refused}
 use Rattle.preflight_cert.specs.declared.certificate.Certificate.{Certificate}
 use Rattle.preflight_cert.specs.declared.refusal.Refusal.{Refusal}
-use Rattle.commands.specs.ClearedFiles.{IsWithinBound, RefusesSurface}
+use Rattle.player.specs.Bounds.{IsWithinBound}
+use Rattle.commands.specs.ClearedFiles.{RefusesSurface}
 use Rattle.preflight_cert.specs.Reached.{OpensBoth}
 
 -- a fault is no certificate

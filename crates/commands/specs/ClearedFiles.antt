@@ -1,5 +1,5 @@
 -- What a file and a certificate that were checked tell, and what is played of them.
-use Rattle.std.specs.Prelude.{◌≡◌, ◌≤◌, ◌<◌, ◌⊎◌, ℕ, List, length, Option, None}
+use Rattle.std.specs.Prelude.{◌≡◌, ◌⊎◌, ℕ, List, length, Option, None}
 use Rattle.std.specs.Io.KnownBytes.{Keeps}
 use Rattle.serde_json.specs.Data.{Data}
 use Rattle.draw_ops.specs.declared.fault.Fault.{Fault}
@@ -15,6 +15,8 @@ use Rattle.preflight_cert.specs.declared.certificate.Certificate.{Certificate}
 use Rattle.preflight_cert.specs.declared.cleared.Cleared.{Cleared}
 use Rattle.preflight_cert.specs.declared.refusal.Refusal.{Refusal}
 use Rattle.player.specs.Bands.{WritesRun, WritesRunFront}
+use Rattle.player.specs.Bounds.{IsAboveBound, IsWithinBound}
+use Rattle.player.specs.declared.band_plan.BandPlan.{BandPlan}
 use Rattle.commands.specs.CheckReport.{accepted_report}
 use Rattle.commands.specs.declared.failure.Failure.{Failure}
 use Rattle.commands.specs.declared.failure.Failure.TheVariants as why
@@ -25,18 +27,13 @@ report_of cleared =
     accepted_report (opened_of cleared.opened) (certificate_of cleared.certificate) cleared.records
     (length (entries_of cleared.certificate.entries)) cleared.notes.counts
 
--- no side is above the certificate's bound
-pub record IsWithinBound (c : Certificate) (width height : ℕ) : Type 0 where
-  pub wide : width ≤ c.max_width
-  pub high : height ≤ c.max_height
-
 -- at these sides, the run of the file that was opened leaves one image of another
 abbrev pub Leaves : Cleared → ℕ → ℕ → Image → Image → Type 0
 Leaves cleared width height start image = (file : List ℕ) → IsOpenedFrom file cleared.opened → Run file width height start (shown image)
 
 -- a side is above the certificate's bound, and that is the fault
 pub record IsFaultAboveBound (c : Certificate) (width height : ℕ) (fault : Fault) : Type 0 where
-  pub larger : c.max_width < width ⊎ c.max_height < height
+  pub larger : IsAboveBound width height c
   pub is : fault ≡ SurfaceTooLarge
 
 -- the surface is within the bound, and the text of the image that the run leaves of white was written
@@ -56,17 +53,15 @@ pub record RefusesToPlay (cleared : Cleared) (width height : ℕ) (r : Refusal) 
   pub kept : Keeps old new
 
 module _ {W : Type 0} where
+  -- a cleared file was played so, and the text went to a writer that holds these bytes
+  abbrev pub PlaysTo : Cleared → BandPlan → (W → Option (List ℕ)) → W → W → Type 0
+  PlaysTo cleared plan contents old new = WritesPlayed cleared plan.width plan.height (contents old) (contents new)
+
   -- why a cleared file wasn't played, and what was written then
   abbrev pub FailsToPlay : Cleared → ℕ → ℕ → (W → Option (List ℕ)) → W → W → Failure → Type 0
   FailsToPlay cleared width height contents old new (why.Refused r) = RefusesToPlay cleared width height r (contents old) (contents new)
   FailsToPlay cleared width height contents old new why.CannotWrite = WritesPlayedFront cleared width height (contents old) (contents new)
   FailsToPlay cleared width height contents old new why.OutOfMemory = Keeps (contents old) (contents new)
-
-  -- the same where the surface is within the bound
-  abbrev pub FailsWithin : Cleared → ℕ → ℕ → (W → Option (List ℕ)) → W → W → Failure → Type 0
-  FailsWithin cleared width height contents old new (why.Refused r) = ⊥
-  FailsWithin cleared width height contents old new why.CannotWrite = WritesRunFront cleared width height white_colour (contents old) (contents new)
-  FailsWithin cleared width height contents old new why.OutOfMemory = Keeps (contents old) (contents new)
 
 -- the fault for which a surface isn't played on
 abbrev pub RefusesSurface : Certificate → ℕ → ℕ → Fault → Type 0

@@ -94,7 +94,11 @@ TellsBy end.WrongUsage task told old new = ⊥
 TellsBy end.CannotRead task told old new = ⊥
 
 module _ {W : Type 0} where
-  -- the same, of a writer that holds these bytes
+  -- a task is done, and its text was written to a writer that holds these bytes
+  abbrev pub WritesDone : Task → (W → Option (List ℕ)) → W → W → Type 0
+  WritesDone task contents old new = WritesText (IsDoneBy task) (contents old) (contents new)
+
+  -- what it has written, and told, by how it ends
   abbrev pub Writes : Task → Completion → (W → Option (List ℕ)) → W → W → Type 0
   Writes task answer contents old new = WritesBy answer.end task (contents old) (contents new)
 

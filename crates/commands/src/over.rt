@@ -4,8 +4,9 @@ ghost use Rattle.std.specs.Prelude.{◌≡◌, ◌≤◌, ◌⊎◌, ◌^◌, If
 ghost use Rattle.canvas.specs.CanvasState.{image_of};
 ghost use Rattle.preflight_cert.specs.Reached.{OpensBoth};
 ghost use Rattle.preflight_cert.specs.Refusal.{IsWantOfMemory};
-ghost use Rattle.commands.specs.ClearedFiles.{IsWithinBound, Leaves, RefusesSurface};
-ghost use Rattle.commands.specs.Ends.{IsDoneBy, Tells, Writes, WritesText};
+ghost use Rattle.player.specs.Bounds.{IsWithinBound};
+ghost use Rattle.commands.specs.ClearedFiles.{Leaves, RefusesSurface};
+ghost use Rattle.commands.specs.Ends.{Tells, Writes, WritesDone};
 ghost use Rattle.commands.specs.Failures.{FailsWith};
 ghost use Rattle.commands.specs.Images.{IsPlayedOver, RefusesOver};
 ghost use Rattle.commands.specs.Tasks.{over};
@@ -47,8 +48,7 @@ fn write_over<O: Write>(
     image: &[u8],
     out: &mut O,
 ) -> Result<(), Failure>
-    ensures done { OnOk result
-        (WritesText (IsDoneBy (over file.now certificate.now image.now)) (O.contents out.old) (O.contents out.new)) }
+    ensures done { OnOk result (WritesDone (over file.now certificate.now image.now) O.contents out.old out.new) }
     ensures failed { IfErr result (FailsWith (over file.now certificate.now image.now) O.contents out.old out.new) }
     ensures memory { IfErr result (λ failure. failure ≡ Failure.OutOfMemory → OpensBoth file.now certificate.now) }
 {
@@ -99,10 +99,6 @@ fn play_over(alloc: Global, cleared: &Cleared<'_>, mut canvas: Canvas) -> Result
     ensures within { IfOk result (λ _. IsWithinBound cleared.now.certificate canvas.width canvas.rows) }
     ensures refusal { IfErr result (RefusesSurface cleared.now.certificate canvas.width canvas.rows) }
 {
-    let certificate = &cleared.certificate;
-    if certificate.max_width < canvas.width() || certificate.max_height < canvas.rows() {
-        return Err(Fault::SurfaceTooLarge);
-    }
     match play(alloc, cleared, &mut canvas) {
         Ok(_) => Ok(canvas),
         Err(fault) => Err(fault),

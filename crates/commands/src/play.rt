@@ -1,15 +1,18 @@
 //! The command `play`.
 
 ghost use Rattle.std.specs.Prelude.{◌≡◌, ◌≤◌, IfErr, IfSome, OnOk};
+ghost use Rattle.mapping.specs.Colours.{white_colour};
 ghost use Rattle.mapping.specs.Limits.{IsSurfaceSide};
 ghost use Rattle.preflight_cert.specs.Reached.{OpensBoth};
-ghost use Rattle.commands.specs.Ends.{IsDoneBy, Tells, Writes, WritesText};
+ghost use Rattle.commands.specs.Ends.{Tells, Writes, WritesDone};
 ghost use Rattle.commands.specs.Failures.{FailsWith};
-ghost use Rattle.commands.specs.Tasks.{play};
+ghost use Rattle.commands.specs.Tasks.{planned, play};
 
 use crate::command_end::{CommandEnd, Completion};
 use crate::failure::{Failure, ending, failure_of};
-use crate::playing::write_played;
+use crate::playing::{band_rows, write_played};
+use mapping::Colour;
+use player::BandPlan;
 use preflight_cert::check;
 use std::alloc::Global;
 use std::io::Write;
@@ -34,7 +37,13 @@ pub fn play_command<O: Write, E: Write>(
     ensures told { Tells (play file.now certificate.now width height) result E.contents err.old err.new }
     ensures memory { result.end ≡ CommandEnd.OutOfMemory → OpensBoth file.now certificate.now }
 {
-    let done = play_checked(alloc, file, certificate, width, height, bands, out);
+    let plan = BandPlan {
+        width,
+        height,
+        start: Colour::WHITE,
+        rows: band_rows(width, bands),
+    };
+    let done = play_checked(alloc, file, certificate, plan, out);
     ending(done, err)
 }
 
@@ -43,22 +52,17 @@ fn play_checked<O: Write>(
     alloc: Global,
     file: &[u8],
     certificate: &[u8],
-    width: u32,
-    height: u32,
-    bands: Option<u32>,
+    plan: BandPlan,
     out: &mut O,
 ) -> Result<(), Failure>
-    requires wide { IsSurfaceSide width }
-    requires high { IsSurfaceSide height }
-    requires bands { IfSome bands (λ rows. 1 ≤ rows) }
-    ensures done { OnOk result
-        (WritesText (IsDoneBy (play file.now certificate.now width height)) (O.contents out.old) (O.contents out.new)) }
-    ensures failed { IfErr result (FailsWith (play file.now certificate.now width height) O.contents out.old out.new) }
+    requires white { plan.start ≡ white_colour }
+    ensures done { OnOk result (WritesDone (planned file.now certificate.now plan) O.contents out.old out.new) }
+    ensures failed { IfErr result (FailsWith (planned file.now certificate.now plan) O.contents out.old out.new) }
     ensures memory { IfErr result (λ failure. failure ≡ Failure.OutOfMemory → OpensBoth file.now certificate.now) }
 {
     let cleared = match check(alloc, file, certificate) {
         Ok(cleared) => cleared,
         Err(refusal) => return Err(failure_of(refusal)),
     };
-    write_played(alloc, &cleared, width, height, bands, out)
+    write_played(alloc, &cleared, plan, out)
 }

@@ -1,15 +1,12 @@
 //! Playing a file whose certificate was accepted, on white, band by band, and writing the image's text.
 
-ghost use Rattle.std.specs.Prelude.{◌≤◌, IfErr, IfSome, OnOk};
+ghost use Rattle.std.specs.Prelude.{◌≡◌, ◌≤◌, IfErr, IfSome, OnOk};
 ghost use Rattle.mapping.specs.Colours.{white_colour};
-ghost use Rattle.mapping.specs.Limits.{IsSurfaceSide};
-ghost use Rattle.player.specs.Bands.{WritesRun};
-ghost use Rattle.commands.specs.ClearedFiles.{FailsToPlay, FailsWithin, IsWithinBound, WritesPlayed};
+ghost use Rattle.commands.specs.ClearedFiles.{FailsToPlay, PlaysTo};
 
-use crate::failure::Failure;
+use crate::failure::{Failure, failure_of};
 use draw_ops::Fault;
-use mapping::Colour;
-use player::play_bands;
+use player::{BandPlan, play_bands};
 use preflight_cert::{Cleared, Refusal};
 use std::alloc::Global;
 use std::io::Write;
@@ -20,71 +17,47 @@ const BAND_PIXELS: u32 = 1 << 20;
 /// How many rows a band has at least.
 const FEWEST_ROWS: u32 = 8;
 
-/// Plays a cleared file on a white surface of these sides, in bands of so many rows, or of the program's own choosing, and writes the
-/// image's P6 text to `out`. It is refused by `SurfaceTooLarge` exactly where a side is above the certificate's bound, before memory is
-/// asked for.
+/// How many rows a band of a surface has that is so wide: so many as are asked for, or of the program's own choosing.
+pub(crate) fn band_rows(width: u32, bands: Option<u32>) -> u32
+    requires wide { 1 ≤ width }
+    requires bands { IfSome bands (λ rows. 1 ≤ rows) }
+    ensures { 1 ≤ result }
+{
+    match bands {
+        Some(rows) => rows,
+        None => FEWEST_ROWS.max(BAND_PIXELS / width),
+    }
+}
+
+/// Plays a cleared file on a white surface in bands, and writes the image's P6 text to `out`. It is refused by `SurfaceTooLarge` exactly
+/// where a side is above the certificate's bound, before memory is asked for.
 pub(crate) fn write_played<O: Write>(
     alloc: Global,
     cleared: &Cleared<'_>,
-    width: u32,
-    height: u32,
-    bands: Option<u32>,
+    plan: BandPlan,
     out: &mut O,
 ) -> Result<(), Failure>
-    requires wide { IsSurfaceSide width }
-    requires high { IsSurfaceSide height }
-    requires bands { IfSome bands (λ rows. 1 ≤ rows) }
-    ensures done { OnOk result (WritesPlayed cleared.now width height (O.contents out.old) (O.contents out.new)) }
-    ensures failed { IfErr result (FailsToPlay cleared.now width height O.contents out.old out.new) }
+    requires white { plan.start ≡ white_colour }
+    ensures done { OnOk result (PlaysTo cleared.now plan O.contents out.old out.new) }
+    ensures failed { IfErr result (FailsToPlay cleared.now plan.width plan.height O.contents out.old out.new) }
 {
-    let certificate = &cleared.certificate;
-    if certificate.max_width < width || certificate.max_height < height {
-        return Err(Failure::Refused(Refusal::of_file(Fault::SurfaceTooLarge)));
-    }
-    write_within(alloc, cleared, width, height, bands, out)
-}
-
-/// The same on a surface within the certificate's bound: it is never refused.
-pub(crate) fn write_within<O: Write>(
-    alloc: Global,
-    cleared: &Cleared<'_>,
-    width: u32,
-    height: u32,
-    bands: Option<u32>,
-    out: &mut O,
-) -> Result<(), Failure>
-    requires wide { IsSurfaceSide width }
-    requires high { IsSurfaceSide height }
-    requires bands { IfSome bands (λ rows. 1 ≤ rows) }
-    requires within { IsWithinBound cleared.now.certificate width height }
-    ensures done { OnOk result (WritesRun cleared.now width height white_colour (O.contents out.old) (O.contents out.new)) }
-    ensures failed { IfErr result (FailsWithin cleared.now width height O.contents out.old out.new) }
-{
-    let rows = match bands {
-        Some(rows) => rows,
-        None => band_rows(width),
-    };
-    match play_bands(alloc, cleared, width, height, Colour::WHITE, rows, out) {
+    let BandPlan {
+        width,
+        height,
+        start,
+        rows,
+        ..
+    } = plan;
+    match play_bands(alloc, cleared, width, height, start, rows, out) {
         Ok(_) => match out.flush() {
             Ok(()) => Ok(()),
             Err(_) => Err(Failure::CannotWrite),
         },
         Err(fault) => {
-            if fault == Fault::OutOfMemory {
-                return Err(Failure::OutOfMemory);
-            }
             if fault == Fault::WriteFault {
                 return Err(Failure::CannotWrite);
             }
-            unreachable!()
+            Err(failure_of(Refusal::of_file(fault)))
         }
     }
-}
-
-/// How many rows a band of a surface has that is so wide, where nothing else was asked for.
-fn band_rows(width: u32) -> u32
-    requires { 1 ≤ width }
-    ensures { 1 ≤ result }
-{
-    FEWEST_ROWS.max(BAND_PIXELS / width)
 }

@@ -2,15 +2,17 @@
 
 ghost use Rattle.std.specs.Prelude.{◌≡◌, IfErr, OnOk};
 ghost use Rattle.mapping.specs.Limits.{IsSurfaceSide};
-ghost use Rattle.commands.specs.Ends.{IsDoneBy, Tells, Writes, WritesText};
+ghost use Rattle.commands.specs.Ends.{Tells, Writes, WritesDone};
 ghost use Rattle.preflight_cert.specs.Reached.{Opens};
 ghost use Rattle.commands.specs.Failures.{FailsWith};
 ghost use Rattle.commands.specs.Tasks.{show};
 
 use crate::command_end::{CommandEnd, Completion};
 use crate::failure::{Failure, ending, failure_of};
-use crate::playing::write_within;
+use crate::playing::{band_rows, write_played};
 use crate::preparing::prepare_file;
+use mapping::Colour;
+use player::BandPlan;
 use std::alloc::Global;
 use std::io::Write;
 
@@ -45,7 +47,7 @@ fn show_file<O: Write>(
 ) -> Result<(), Failure>
     requires wide { IsSurfaceSide width }
     requires high { IsSurfaceSide height }
-    ensures done { OnOk result (WritesText (IsDoneBy (show file.now width height)) (O.contents out.old) (O.contents out.new)) }
+    ensures done { OnOk result (WritesDone (show file.now width height) O.contents out.old out.new) }
     ensures failed { IfErr result (FailsWith (show file.now width height) O.contents out.old out.new) }
     ensures memory { IfErr result (λ failure. failure ≡ Failure.OutOfMemory → Opens file.now) }
 {
@@ -53,5 +55,11 @@ fn show_file<O: Write>(
         Ok(prepared) => prepared,
         Err(refusal) => return Err(failure_of(refusal)),
     };
-    write_within(alloc, &prepared.clear(), width, height, None, out)
+    let plan = BandPlan {
+        width,
+        height,
+        start: Colour::WHITE,
+        rows: band_rows(width, None),
+    };
+    write_played(alloc, &prepared.clear(), plan, out)
 }

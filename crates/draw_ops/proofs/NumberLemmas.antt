@@ -1,9 +1,9 @@
 -- The steps of records are numbered in order.
-use Rattle.std.proofs.Common.{◌≡◌, ℕ, suc, Bool, ◌==◌, List, [], ◌∷◌, Option, Result, Ok, Err, refl, sym, subst}
-use Rattle.draw_ops.specs.Content.{Content, StepValue}
+use Rattle.std.proofs.Common.{ℕ, suc, Bool, ◌==◌, List, [], ◌∷◌, Option, Result, Ok, Err, refl, sym, subst}
+use Rattle.draw_ops.specs.Content.{Content}
 use Rattle.draw_ops.specs.Meaning.{Meaning, MeantValue, step_meant}
 use Rattle.draw_ops.specs.NumberLaws.{AreNumberedFrom, StepsAreNumbered}
-use Rattle.draw_ops.specs.RecordContent.{IsContent, content_of, followed, steps_from}
+use Rattle.draw_ops.specs.RecordContent.{followed, steps_from}
 use Rattle.draw_ops.specs.Records.{Framing, Record}
 use Rattle.draw_ops.specs.Results.{result_map}
 use Rattle.draw_ops.specs.declared.record_fault.RecordFault.{RecordFault}

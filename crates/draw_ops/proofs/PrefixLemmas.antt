@@ -1,11 +1,10 @@
 -- A front of records is cut short.
-use Rattle.std.proofs.Common.{◌≡◌, ℕ, zero, suc, ◌+◌, ◌-◌, ◌*◌, ◌%◌, ◌==◌, ◌<◌, ◌≤◌, Bool, true, false, not, nat_le, nat_lt, if◌then◌else◌, List, [], ◌∷◌, ◌++◌, length, take, drop, Option, Some, None, inl, inr, refl, sym, ap, subst, ◌∙◌, arith}
+use Rattle.std.proofs.Common.{◌≡◌, ℕ, zero, suc, ◌+◌, ◌-◌, ◌*◌, ◌%◌, ◌==◌, ◌<◌, ◌≤◌, Bool, true, false, not, nat_le, nat_lt, if◌then◌else◌, List, [], ◌∷◌, length, take, drop, Some, None, inl, inr, refl, sym, ap, subst, ◌∙◌, arith}
 use Rattle.std.proofs.lemmas.Bool.{and_parts, cases_lt, le-ltb, leb-true, lt-ltb}
 use Rattle.std.proofs.lemmas.List.{drop-take, length-drop, length-take-le}
 use Rattle.point_views.specs.NumberLaws.{ReadsWithinFront}
 use Rattle.draw_ops.specs.PrefixLaws.{FrontsAreCutShort, HoldsItsFields, IsCutShort}
 use Rattle.draw_ops.specs.Records.{Broken, Framing, Record, Spells, framing_fault, front_of, kind_of, may_be_size, record_limit, rest_of, size_of}
-use Rattle.draw_ops.specs.declared.record_fault.RecordFault.{RecordFault}
 use Rattle.draw_ops.specs.declared.record_fault.RecordFault.TheVariants.{TooManyRecords, NoEnd, ShortRecord, PastEnd}
 
 -- the first bytes of a front that has them

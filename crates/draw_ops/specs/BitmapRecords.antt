@@ -1,5 +1,5 @@
 -- What records with bitmaps share: how a bitmap is read, and what blits and brushes are made of one.
-use Rattle.std.specs.Prelude.{ℕ, ◌==◌, if◌then◌else◌, List, drop, Option, Some, Result, Ok, Err}
+use Rattle.std.specs.Prelude.{ℕ, ◌==◌, if◌then◌else◌, List, drop, Option, Some, Result, Err}
 use Rattle.std.specs.Result.{result_map_both}
 use Rattle.dib_views.specs.Dibs.{packed_dib, parts_dib}
 use Rattle.dib_views.specs.Pictures.{Dib}

@@ -1,5 +1,5 @@
 -- What a source over a file's records has left.
-use Rattle.std.specs.Prelude.{ℕ, zero, suc, ◌-◌, ◌≤◌, ◌==◌, List, if◌then◌else◌, Result, Ok, Err}
+use Rattle.std.specs.Prelude.{ℕ, zero, suc, ◌-◌, ◌==◌, List, if◌then◌else◌, Result, Ok, Err}
 use Rattle.draw_ops.specs.Content.{Content, StepValue, nothing_left, broken_by, with_step}
 use Rattle.draw_ops.specs.Meaning.{Meaning, step_of}
 use Rattle.draw_ops.specs.Records.{Framing, record_limit, kind_of, framing_fault, front_of, rest_of}

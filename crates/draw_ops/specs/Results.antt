@@ -1,5 +1,5 @@
 -- Results, made of others.
-use Rattle.std.specs.Prelude.{Option, Some, None, Result, Ok, Err}
+use Rattle.std.specs.Prelude.{Option, Some, None, Result, Err}
 pub use Rattle.dib_views.specs.Results.{result_map}
 
 -- an error in front, if there is one, and else the result

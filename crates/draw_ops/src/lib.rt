@@ -19,7 +19,7 @@
 //!   source.
 //! - What both formats share of records is read here: points, boxes, colours and lists (`rgb_at`, `xy_at`,
 //!   `points_at` and their like), what sets a mode (`map_mode_meant` and its like), what makes a pen or
-//!   a brush (`pen_meant`, `brush_meant`, `pattern_brush_meant`), bitmaps (`dib_at` and its like) and what
+//!   a brush (`pen_meant` of `PenFields`, `brush_meant`, `pattern_brush_meant`), bitmaps (`dib_at` and its like) and what
 //!   blits (`blit_meant`).
 //! - A source over a file's records has what those records mean, whatever their format
 //!   (`RecordOps::new`, by `IsContent`).
@@ -77,7 +77,7 @@ pub use note_set::NoteSet;
 pub use notes::Notes;
 pub use objects::{Brush, Handle, Object, Pen};
 pub use operation::{Op, RectangleEdges, SavedState};
-pub use pen_records::{PenStyle, pen_meant};
+pub use pen_records::{PenFields, PenStyle, pen_meant};
 pub use point_lists::{counts_at, points_at};
 pub use raster_op::RasterOp;
 pub use record_fault::RecordFault;

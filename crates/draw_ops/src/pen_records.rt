@@ -3,7 +3,7 @@
 ghost use Rattle.std.specs.Prelude.{◌≡◌};
 ghost use Rattle.draw_ops.specs.NoteSet.{notes_in};
 ghost use Rattle.draw_ops.specs.Objects.{index_of};
-ghost use Rattle.draw_ops.specs.PenRecords.{pen_meant, pen_notes, pen_of, pen_style_of};
+ghost use Rattle.draw_ops.specs.PenRecords.{is_geometric, log_pen_ex_fields, log_pen_fields, pen_meant, pen_notes, pen_of, pen_style_of};
 ghost use Rattle.draw_ops.specs.RecordOf.{meant_of};
 ghost use Rattle.draw_ops.specs.Results.{result_map};
 
@@ -44,22 +44,62 @@ impl PenStyle {
             _ => None,
         }
     }
+}
 
-    /// The pen of this style. The colour of a pen that draws nothing isn't looked at.
+/// What a record says of a pen, but for its colour.
+#[derive(Clone, Copy, Debug, PartialEq, Eq)]
+pub struct PenFields {
+    /// How the pen's lines look.
+    pub style: PenStyle,
+    /// How wide they are, in units of the page.
+    pub width: u32,
+    /// Whether the width is to be noted as above one unit.
+    pub is_wide: bool,
+}
+
+/// The bit of a style by which the width of an extended pen is in units of the page ([MS-EMF] 2.1.25).
+const PS_GEOMETRIC: u32 = 0x0001_0000;
+
+impl PenFields {
+    /// The fields of a LogPen: none exactly where the standard has no such style. A width below 0 counts by its distance from 0, and isn't
+    /// noted.
+    pub fn log_pen(style: u32, width: i32) -> Option<PenFields>
+        ensures { result ≡ log_pen_fields style width }
+    {
+        Some(PenFields {
+            style: PenStyle::from_code(style)?,
+            width: width.unsigned_abs(),
+            is_wide: 1 < width,
+        })
+    }
+
+    /// The fields of a LogPenEx: none exactly where the standard has no such style. The width counts where the pen is geometric,
+    /// and isn't noted.
+    pub fn log_pen_ex(style: u32, width: u32) -> Option<PenFields>
+        ensures { result ≡ log_pen_ex_fields style width }
+    {
+        Some(PenFields {
+            style: PenStyle::from_code(style)?,
+            width: if is_geometric(style) { width } else { 0 },
+            is_wide: false,
+        })
+    }
+
+    /// The pen of these fields. The colour of a pen that draws nothing isn't looked at.
     pub fn pen(self, colour: Result<Colour, RecordFault>) -> Result<Pen, RecordFault>
         ensures value { result ≡ pen_of self colour }
     {
-        match self {
+        match self.style {
             PenStyle::Null => Ok(Pen::Null),
             PenStyle::Solid | PenStyle::Dashed => Ok(Pen::Solid { colour: colour? }),
         }
     }
 
-    /// What is to be noted of a pen of this style.
-    pub fn notes(self, is_wide: bool) -> NoteSet
-        ensures { notes_in result ≡ pen_notes self is_wide }
+    /// What is to be noted of a pen of these fields.
+    pub fn notes(self) -> NoteSet
+        ensures { notes_in result ≡ pen_notes self }
     {
-        match (self, is_wide) {
+        match (self.style, self.is_wide) {
             (PenStyle::Null, _) => NoteSet::none(),
             (PenStyle::Solid, false) => NoteSet::none(),
             (PenStyle::Solid, true) => NoteSet::none().with(Note::WidePen),
@@ -69,25 +109,31 @@ impl PenStyle {
     }
 }
 
-/// A pen of a style, made at an index or at the lowest free one, or `BadValue` where the standard has no
-/// such style. A wide pen and a dashed one are noted.
+/// Whether a style's number has the bit of a geometric pen.
+fn is_geometric(style: u32) -> bool
+    ensures { result ≡ is_geometric style }
+{
+    style & PS_GEOMETRIC != 0
+}
+
+/// A pen of these fields, made at an index or at the lowest free one, or `BadValue` where there are none, since the standard has no such
+/// style. A wide pen and a dashed one are noted.
 pub fn pen_meant<'a>(
     at: Option<Handle>,
-    style: Option<PenStyle>,
-    is_wide: bool,
+    fields: Option<PenFields>,
     colour: Result<Colour, RecordFault>,
 ) -> Result<Meant<'a>, RecordFault>
-    ensures value { pen_meant (index_of at) style is_wide colour ≡ result_map meant_of result }
+    ensures value { pen_meant (index_of at) fields colour ≡ result_map meant_of result }
 {
-    let Some(style) = style else {
+    let Some(fields) = fields else {
         return Err(RecordFault::BadValue);
     };
-    let pen = style.pen(colour)?;
+    let pen = fields.pen(colour)?;
     Ok(Meant {
         op: Op::Create {
             at,
             object: Object::Pen(pen),
         },
-        notes: style.notes(is_wide),
+        notes: fields.notes(),
     })
 }

@@ -7,8 +7,7 @@ ghost use Rattle.draw_ops.specs.Reading.{front_step};
 ghost use Rattle.draw_ops.specs.RecordContent.{IsContent};
 ghost use Rattle.draw_ops.specs.RecordOf.{record_of};
 ghost use Rattle.draw_ops.specs.Records.{record_limit, size_of};
-ghost use Rattle.draw_ops.specs.Results.{result_map};
-ghost use Rattle.draw_ops.specs.StepOf.{step_value_of};
+ghost use Rattle.draw_ops.specs.StepOf.{step_or_fault};
 
 use crate::format::{Format, RawRecord};
 use crate::framing::first_record;
@@ -114,7 +113,7 @@ fn put_step<'a, F: Format>(
     bytes: &'a [u8],
     step: &mut Step<'a>,
 ) -> Result<(), RecordFault>
-    ensures value { front_step F.framing F.meaning number bytes.entry.now ≡ result_map (λ _. step_value_of step.new) result }
+    ensures value { front_step F.framing F.meaning number bytes.entry.now ≡ step_or_fault step.new result }
     ensures head { OnOk result (F.framing.head_length ≤ length bytes.entry.now) }
     ensures within { OnOk result (size_of F.framing bytes.entry.now ≤ length bytes.entry.now) }
     ensures below_limit { OnOk result (number < record_limit) }
@@ -131,7 +130,7 @@ fn put_meant<'a, F: Format>(
     behind: &[u8],
     step: &mut Step<'a>,
 ) -> Result<(), RecordFault>
-    ensures value { step_of F.framing F.meaning behind.now number (record_of front.entry) ≡ result_map (λ _. step_value_of step.new) result }
+    ensures value { step_of F.framing F.meaning behind.now number (record_of front.entry) ≡ step_or_fault step.new result }
 {
     match &F::read(number, front) {
         Ok(meant) => {

@@ -1,6 +1,7 @@
 pub mod Framing
 pub mod Kinds
 pub mod DrawingRecords
+pub mod ObjectFields
 pub mod ObjectRecords
 pub mod StateRecords
 pub mod TransformRecords

@@ -1,19 +1,56 @@
 //! Object records ([MS-EMF] 2.3.7 and 2.3.8). Each object is made at the index that its record gives.
 
-ghost use Rattle.std.specs.Prelude.{◌≡◌, ◌+◌, ◌≤◌, pos, int_lt, length};
+ghost use Rattle.std.specs.Prelude.{◌≡◌, ◌≤◌, length};
 ghost use Rattle.draw_ops.specs.Objects.{object_value_of};
 ghost use Rattle.draw_ops.specs.Operation.{delete, select, select_palette};
 ghost use Rattle.draw_ops.specs.RecordOf.{meant_of};
 ghost use Rattle.draw_ops.specs.Results.{result_map};
-ghost use Rattle.point_views.specs.Numbers.{i32_at};
-ghost use Rattle.emf_records.specs.ObjectRecords.{create_brush_indirect, create_pen, create_record, ext_create_pen, ext_pen_meant, index_in, index_record};
+ghost use Rattle.emf_records.specs.ObjectFields.{logpen_end, logpenex_end};
+ghost use Rattle.emf_records.specs.ObjectRecords.{create_brush_indirect, create_pen, create_record, ext_create_pen, ext_pen_meant, index_in, index_record, log_pen_ex_in, log_pen_in};
 
 use crate::types::EMR_EXTCREATEPEN;
 use draw_ops::{
-    Handle, Meant, Object, Op, Pen, PenStyle, RecordFault, brush_meant, pen_meant, rgb_at,
+    Handle, Meant, Object, Op, Pen, PenFields, RecordFault, brush_meant, pen_meant, rgb_at,
 };
 use mapping::Colour;
 use point_views::{i32_at, u32_at};
+
+// Where the fields stand, in bytes from a record's front, and where what a record needs ends.
+
+/// ihObject, ihPal, ihFonts, ihPen or ihBrush.
+const OBJECT_INDEX: usize = 8;
+
+const INDEX_END: usize = 12;
+
+// EMR_CREATEPEN (2.3.7.7): its LogPen (2.2.19) is PenStyle, Width, a point of which y isn't read, and ColorRef.
+const LOGPEN_STYLE: usize = 12;
+
+const LOGPEN_WIDTH: usize = 16;
+
+const LOGPEN_COLOR: usize = 24;
+
+const LOGPEN_END: usize = 28;
+
+// EMR_CREATEBRUSHINDIRECT (2.3.7.1): its LogBrushEx (2.2.12) is BrushStyle, Color and BrushHatch.
+const LOGBRUSH_STYLE: usize = 12;
+
+const LOGBRUSH_COLOR: usize = 16;
+
+const LOGBRUSH_HATCH: usize = 20;
+
+const LOGBRUSH_END: usize = 24;
+
+// EMR_EXTCREATEPEN (2.3.7.9): behind offBmi, cbBmi, offBits and cbBits its LogPenEx (2.2.20) is PenStyle, Width, BrushStyle, ColorRef,
+// BrushHatch and NumStyleEntries.
+const LOGPENEX_STYLE: usize = 28;
+
+const LOGPENEX_WIDTH: usize = 32;
+
+const LOGPENEX_BRUSH_STYLE: usize = 36;
+
+const LOGPENEX_COLOR: usize = 40;
+
+const LOGPENEX_END: usize = 52;
 
 // The styles of the brush that an extended pen draws with ([MS-WMF] 2.1.1.4).
 const BS_SOLID: u32 = 0;
@@ -45,10 +82,10 @@ pub(crate) fn select_palette(bytes: &[u8]) -> Result<Meant<'_>, RecordFault>
 fn index(bytes: &[u8]) -> Result<Handle, RecordFault>
     ensures value { index_in bytes.now ≡ result_map (λ handle. handle.0) result }
 {
-    if bytes.len() < 12 {
+    if bytes.len() < INDEX_END {
         return Err(RecordFault::BadParams);
     }
-    Ok(Handle(u32_at(bytes, 8)))
+    Ok(Handle(u32_at(bytes, OBJECT_INDEX)))
 }
 
 /// EMR_CREATEPALETTE: ihPal, and EMR_EXTCREATEFONTINDIRECTW: ihFonts. Nothing else of them is read.
@@ -59,70 +96,74 @@ pub(crate) fn create<'a>(object: Object<'a>, bytes: &'a [u8]) -> Result<Meant<'a
     Ok(Meant::unnoted(Op::Create { at, object }))
 }
 
-/// EMR_CREATEPEN: ihPen, LogPen (PenStyle, Width, ColorRef). Of the width, a point, y isn't read.
+/// EMR_CREATEPEN: ihPen, LogPen.
 pub(crate) fn create_pen(bytes: &[u8]) -> Result<Meant<'_>, RecordFault>
     ensures value { create_pen bytes.entry.now ≡ result_map meant_of result }
 {
-    if bytes.len() < 28 {
+    if bytes.len() < LOGPEN_END {
         return Err(RecordFault::BadParams);
     }
-    let at = Some(Handle(u32_at(bytes, 8)));
-    let style = PenStyle::from_code(u32_at(bytes, 12));
-    let colour = rgb_at(bytes, 24);
-    pen_meant(at, style, is_wide(bytes, 16), colour)
+    let at = Some(Handle(u32_at(bytes, OBJECT_INDEX)));
+    pen_meant(at, log_pen(bytes), rgb_at(bytes, LOGPEN_COLOR))
 }
 
-/// Whether the width at a place is above one unit.
-fn is_wide(bytes: &[u8], place: usize) -> bool
-    requires { place + 4 ≤ length bytes.now }
-    ensures { result ≡ int_lt (pos 1) (i32_at bytes.now place) }
+/// The fields of the pen of EMR_CREATEPEN.
+fn log_pen(bytes: &[u8]) -> Option<PenFields>
+    requires { logpen_end ≤ length bytes.now }
+    ensures { result ≡ log_pen_in bytes.now }
 {
-    1 < i32_at(bytes, place)
+    PenFields::log_pen(u32_at(bytes, LOGPEN_STYLE), i32_at(bytes, LOGPEN_WIDTH))
 }
 
-/// EMR_CREATEBRUSHINDIRECT: ihBrush, LogBrush (BrushStyle, Color, BrushHatch).
+/// EMR_CREATEBRUSHINDIRECT: ihBrush, LogBrush.
 pub(crate) fn create_brush_indirect(bytes: &[u8]) -> Result<Meant<'_>, RecordFault>
     ensures value { create_brush_indirect bytes.entry.now ≡ result_map meant_of result }
 {
-    if bytes.len() < 24 {
+    if bytes.len() < LOGBRUSH_END {
         return Err(RecordFault::BadParams);
     }
-    let at = Some(Handle(u32_at(bytes, 8)));
-    let style = u32_at(bytes, 12);
-    let colour = rgb_at(bytes, 16);
-    let hatch = u32_at(bytes, 20);
+    let at = Some(Handle(u32_at(bytes, OBJECT_INDEX)));
+    let style = u32_at(bytes, LOGBRUSH_STYLE);
+    let colour = rgb_at(bytes, LOGBRUSH_COLOR);
+    let hatch = u32_at(bytes, LOGBRUSH_HATCH);
     brush_meant(at, style, colour, hatch)
 }
 
-/// EMR_EXTCREATEPEN: ihPen, offBmi, cbBmi, offBits, cbBits, elp (PenStyle, Width, BrushStyle, ColorRef,
-/// BrushHatch, NumEntries). Bitmap, width, hatch and entries aren't read.
+/// EMR_EXTCREATEPEN: ihPen, offBmi, cbBmi, offBits, cbBits, elp. Bitmap, hatch and entries aren't read.
 pub(crate) fn ext_create_pen(bytes: &[u8]) -> Result<Meant<'_>, RecordFault>
     ensures value { ext_create_pen bytes.entry.now ≡ result_map meant_of result }
 {
-    if bytes.len() < 52 {
+    if bytes.len() < LOGPENEX_END {
         return Err(RecordFault::BadParams);
     }
-    let at = Handle(u32_at(bytes, 8));
-    let style = PenStyle::from_code(u32_at(bytes, 28));
-    let brush_style = u32_at(bytes, 36);
-    let colour = rgb_at(bytes, 40);
-    ext_pen_meant(at, style, brush_style, colour)
+    let at = Handle(u32_at(bytes, OBJECT_INDEX));
+    let brush_style = u32_at(bytes, LOGPENEX_BRUSH_STYLE);
+    let colour = rgb_at(bytes, LOGPENEX_COLOR);
+    ext_pen_meant(at, log_pen_ex(bytes), brush_style, colour)
 }
 
-/// A pen of a style, whose lines a brush of a style draws.
+/// The fields of the pen of EMR_EXTCREATEPEN.
+fn log_pen_ex(bytes: &[u8]) -> Option<PenFields>
+    requires { logpenex_end ≤ length bytes.now }
+    ensures { result ≡ log_pen_ex_in bytes.now }
+{
+    PenFields::log_pen_ex(u32_at(bytes, LOGPENEX_STYLE), u32_at(bytes, LOGPENEX_WIDTH))
+}
+
+/// A pen of these fields, whose lines a brush of a style draws.
 fn ext_pen_meant<'a>(
     at: Handle,
-    style: Option<PenStyle>,
+    fields: Option<PenFields>,
     brush_style: u32,
     colour: Result<Colour, RecordFault>,
 ) -> Result<Meant<'a>, RecordFault>
-    ensures value { ext_pen_meant at.0 style brush_style colour ≡ result_map meant_of result }
+    ensures value { ext_pen_meant at.0 fields brush_style colour ≡ result_map meant_of result }
 {
-    let Some(style) = style else {
+    let Some(fields) = fields else {
         return Err(RecordFault::BadValue);
     };
     let pen = if brush_style == BS_SOLID {
-        style.pen(colour)?
+        fields.pen(colour)?
     } else if brush_style == BS_NULL {
         Pen::Null
     } else {
@@ -133,6 +174,6 @@ fn ext_pen_meant<'a>(
             at: Some(at),
             object: Object::Pen(pen),
         },
-        notes: style.notes(false),
+        notes: fields.notes(),
     })
 }

@@ -1,9 +1,12 @@
 -- A table's objects: a finite map from index to object.
-use Rattle.std.specs.Prelude.{◌≡◌, ⊤, ℕ, suc, ◌<◌, ◌≤◌, ◌==◌, Bool, if◌then◌else◌, List, [], ◌∷◌, Option, None, IsSome, is_some}
+use Rattle.std.specs.Prelude.{◌≡◌, ⊤, ℕ, suc, ◌<◌, ◌≤◌, ◌==◌, Bool, if◌then◌else◌, List, [], ◌∷◌, Option, None, IsSome, is_some, Result}
 use Rattle.std.specs.BTreeMap.{insert_entry}
 use Rattle.std.specs.Map.{lookup, remove_entry}
+use Rattle.std.specs.Option.{ok_or}
 use Rattle.std.specs.Ordering.{nat_cmp}
 use Rattle.draw_ops.specs.Objects.{ObjectValue}
+use Rattle.draw_ops.specs.declared.record_fault.RecordFault.{RecordFault}
+use Rattle.draw_ops.specs.declared.record_fault.RecordFault.TheVariants.{NoSuchHandle}
 
 -- the objects with their indexes, in the order of these, and each index once
 abbrev pub Slots : Type 0
@@ -21,6 +24,10 @@ IsInOrder slots = IsInOrderFrom 0 slots
 -- the object at an index, if there is one
 abbrev pub object_at : ℕ → Slots → Option ObjectValue
 object_at index slots = lookup (λ k. index == k) slots
+
+-- the object at an index, or the fault that there is none
+abbrev pub object_or_fault : ℕ → Slots → Result ObjectValue RecordFault
+object_or_fault index slots = ok_or (object_at index slots) NoSuchHandle
 
 -- an object has this index
 abbrev pub is_taken : ℕ → Slots → Bool

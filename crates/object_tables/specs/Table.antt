@@ -1,12 +1,14 @@
 -- How objects come into a table and leave it.
 use Rattle.std.specs.Prelude.{◌≡◌, ℕ, ◌<◌, ◌≤◌, nat_le, nat_lt, Bool, ◌&&◌, if◌then◌else◌, length, Option, Some, None, ◌⊎◌}
 use Rattle.std.specs.Option.{option_map, unwrap_or}
-use Rattle.draw_ops.specs.Objects.{ObjectValue}
+use Rattle.draw_ops.specs.Objects.{ObjectValue, index_of, object_value_of}
 use Rattle.draw_ops.specs.declared.fault.Fault.{Fault}
 use Rattle.draw_ops.specs.declared.fault.Fault.TheVariants.{OutOfMemory, Record}
+use Rattle.draw_ops.specs.declared.objects.Handle.{Handle}
+use Rattle.draw_ops.specs.declared.objects.Object.{Object}
 use Rattle.draw_ops.specs.declared.record_fault.RecordFault.{RecordFault}
 use Rattle.draw_ops.specs.declared.record_fault.RecordFault.TheVariants.{HandleTaken, NoSuchHandle, TableFull}
-use Rattle.object_tables.specs.Slots.{IsInOrder, IsLowestFree, Slots, is_taken, lowest_free, with_object}
+use Rattle.object_tables.specs.Slots.{IsInOrder, IsLowestFree, Slots, is_taken, lowest_free, with_object, without_object}
 
 -- Which index a new object gets: the least that is free, whatever its record says (WMF), or the one that its record gives, from 1 up
 -- to below this limit (EMF).
@@ -60,6 +62,10 @@ pub record HasCreated (at : Option ℕ) (object : ObjectValue) (old : TableState
   pub index : made ≡ created_index old.kind at old.slots
   pub slots : new.slots ≡ with_object (created_index old.kind at old.slots) object old.slots
 
+-- the same of an object of the code, which was made at a handle
+abbrev pub HasMade : Option Handle → Object → TableState → TableState → Handle → Type 0
+HasMade at object old new handle = HasCreated (index_of at) (object_value_of object) old handle.0 new
+
 -- memory for an object was refused, though nothing else speaks against it: there is no room at its index
 pub record WantsSlot (at : Option ℕ) (table : TableState) (fault : Fault) : Type 0 where
   pub no_fault : create_fault table.kind at table.slots ≡ None
@@ -73,6 +79,10 @@ RefusesCreate at table fault = option_map Record (create_fault table.kind at tab
 -- the fault of taking an object out
 abbrev pub remove_fault : ℕ → Slots → Option RecordFault
 remove_fault index slots = if is_taken index slots then None else Some NoSuchHandle
+
+-- the object at an index was taken out
+abbrev pub HasRemoved : ℕ → TableState → TableState → Type 0
+HasRemoved index old new = new.slots ≡ without_object index old.slots
 
 -- the least free index of slots in order is free, and each below it is taken
 abbrev pub LowestFreeIsLeast : Type 0

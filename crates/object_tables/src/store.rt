@@ -2,13 +2,12 @@
 
 ghost use Rattle.std.specs.Prelude.{◌≡◌, ◌≤◌, ◌<◌, ◌+◌, [], None, length, max, OnOk, OnErr, IfErr, IfOk, IsSome, IsTrue};
 ghost use Rattle.std.specs.List.{position};
-ghost use Rattle.std.specs.Option.{is_none, ok_or, option_map};
+ghost use Rattle.std.specs.Option.{is_none, option_map};
 ghost use Rattle.std.specs.Result.{result_err};
 ghost use Rattle.draw_ops.specs.Objects.{object_value_of};
 ghost use Rattle.draw_ops.specs.Results.{result_map};
 ghost use Rattle.draw_ops.specs.declared.fault.Fault.TheVariants.{OutOfMemory};
-ghost use Rattle.draw_ops.specs.declared.record_fault.RecordFault.TheVariants.{NoSuchHandle};
-ghost use Rattle.object_tables.specs.Slots.{IsInOrder, is_taken, lowest_free, object_at, with_object, without_object};
+ghost use Rattle.object_tables.specs.Slots.{IsInOrder, is_taken, lowest_free, object_at, object_or_fault, with_object, without_object};
 ghost use Rattle.object_tables.specs.Store.{places_taken};
 ghost use Rattle.object_tables.specs.Table.{remove_fault};
 
@@ -59,7 +58,7 @@ impl<'a> Store<'a> {
 
     /// The object at an index, or `NoSuchHandle` where there is none.
     pub(crate) fn get(&self, handle: Handle) -> Result<Object<'a>, RecordFault>
-        ensures object { result_map object_value_of result ≡ ok_or (object_at handle.0 self.now.slots) NoSuchHandle }
+        ensures object { result_map object_value_of result ≡ object_or_fault handle.0 self.now.slots }
         ensures in_order { IsInOrder self.now.slots }
     {
         match self.at(handle.0) {

@@ -29,7 +29,8 @@ use Rattle.preflight_cert.specs.Mixing.{binary, copied}
 use Rattle.preflight_cert.specs.Paint.{Paint, paint_at, solid}
 use Rattle.painting.specs.Painted.{colour_of, colour_seen, made, paints}
 use Rattle.painting.specs.Drawn.{DrawsLayers, HoldsRows, SameRows}
-use Rattle.preflight_cert.specs.Shape.{Shape, in_shape, pixel_under}
+use Rattle.preflight_cert.specs.Shape.{Shape, in_shape, pixel_under, stroke_of}
+use Rattle.preflight_cert.specs.StrokedOutline.{Outline}
 use Rattle.preflight_cert.specs.Writes.{writes_of_layers, writes_pixel}
 use Rattle.painting.specs.Joined.{joined_if}
 use Rattle.painting.specs.declared.brushing.Brushing.{Brushing}
@@ -94,9 +95,9 @@ module _ (laws : WritingLaws) (s : Surface) (old new : CanvasState) (there : IsW
     pub brush_drawn : (shape : ℕ → ℕ → Bool) (drawn : Shape) → brush_value_of paint.brush ≡ tools.brush → ((x y : ℕ) → shape x y ≡ in_shape drawn s x y) → Repaints (paints paint shape) (made paint) old new → DrawsLayers (layer_now drawn (brushed_now tools.brush tools) tools ∷ []) s old new
     brush_drawn shape drawn brush same r = painted_drawn shape drawn (brushed_now tools.brush tools) same (λ x y. rw (brush, modes) refl) r
 
-    -- by a pen of a colour
-    pub pen_drawn : (shape : ℕ → ℕ → Bool) (drawn : Shape) (colour : Colour) → paint.brush ≡ Solid colour → ((x y : ℕ) → shape x y ≡ in_shape drawn s x y) → Repaints (paints paint shape) (made paint) old new → DrawsLayers (layer_now drawn (solid colour) tools ∷ []) s old new
-    pen_drawn shape drawn colour brush same r = painted_drawn shape drawn (solid colour) same (λ x y. rw brush refl) r
+    -- by a pen of a colour, along an outline
+    pub pen_drawn : (shape : ℕ → ℕ → Bool) (outline : Outline) (colour : Colour) → paint.brush ≡ Solid colour → ((x y : ℕ) → shape x y ≡ in_shape (stroke_of outline) s x y) → Repaints (paints paint shape) (made paint) old new → DrawsLayers (layer_now (stroke_of outline) (solid colour) tools ∷ []) s old new
+    pen_drawn shape outline colour brush same r = painted_drawn shape (stroke_of outline) (solid colour) same (λ x y. rw brush refl) r
 
   -- and so does a dot
   pub dot_drawn : (point placed : Point) (colour : Colour) (clip : Clip) (tools : Tools) → placed ≡ placed_point point s → placed_value clip ≡ placed_clip s tools.clip → Repaints (λ x y. in_boxes (placed_value clip) x y && is_pixel placed x y) (λ x y c. colour) old new → DrawsLayers (record { shape = pixel_under point; paint = solid colour; mixing = copied; clip = tools.clip } ∷ []) s old new
@@ -118,8 +119,8 @@ brush_fills (Hatched hatch colour) shape tools some same = rw (← same) refl
 brush_fills (Tiled tile) shape tools some same = rw (← same) refl
 
 -- a pen of a colour strokes a layer
-pub pen_strokes : (shape : Shape) (tools : Tools) (colour : Colour) → tools.pen ≡ SolidPen colour → stroked shape tools ≡ layer_now shape (solid colour) tools ∷ []
-pen_strokes shape tools colour same = rw same refl
+pub pen_strokes : (outline : Outline) (tools : Tools) (colour : Colour) → tools.pen ≡ SolidPen colour → stroked outline tools ≡ layer_now (stroke_of outline) (solid colour) tools ∷ []
+pen_strokes outline tools colour same = rw same refl
 
 -- the clip of the moment, where it is placed on the surface
 pub clip_placed : (s : Surface) (clip : Clip) (dc : Dc) (state : DcValue) → clip ≡ dc.clip → dc_value dc ≡ state → IsPlacedOn s dc.clip → placed_value clip ≡ placed_clip s state.clip

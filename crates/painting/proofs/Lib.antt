@@ -6,7 +6,6 @@ pub mod StampLemmas
 pub mod StampingLemmas
 pub mod StrokedLemmas
 pub mod TestLemmas
-pub mod WorkedRows
 mod WorkedLayers
 mod WorkedBlits
 pub mod RowLemmas

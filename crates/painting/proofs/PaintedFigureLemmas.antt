@@ -18,12 +18,13 @@ use Rattle.dc_stack.specs.declared.projection.Projection.{Projection}
 use Rattle.span_fill.specs.Strokes.{in_stroke}
 use Rattle.span_fill.specs.declared.line.Line.{Line}
 use Rattle.painting.specs.FigureEnds.{figure_ends, lines_of_figures, stroked_ends}
-use Rattle.preflight_cert.specs.DrawingBoxLaws.{IsClosedFigure, IsClosedShape, shape_points}
+use Rattle.preflight_cert.specs.DrawingBoxLaws.{IsClosedFigure}
 use Rattle.preflight_cert.specs.FigureLines.{all_closed, placed_figures}
 use Rattle.preflight_cert.specs.Layer.{figures_filled, figures_stroked, filled, stroked}
 use Rattle.preflight_cert.specs.Outlines.{closed_lines, open_lines}
 use Rattle.painting.specs.PlacedLines.{AllListsLand, lines_between, lines_of_lists, projected_list}
-use Rattle.preflight_cert.specs.Shape.{Shape, along_figures, in_shape, inside_figures, placed_lists}
+use Rattle.preflight_cert.specs.Shape.{in_shape, inside_figures, placed_lists, stroke_of}
+use Rattle.preflight_cert.specs.StrokedOutline.{Outline, along, outline_points}
 use Rattle.painting.specs.declared.list_lines.Ends.{Ends}
 use Rattle.painting.specs.declared.list_lines.Ends.TheVariants.{Open, Closed}
 use Rattle.painting.proofs.FigureLemmas.{closed_lines_along, figure_lines_few, said_lines}
@@ -49,20 +50,16 @@ pub figures_closed : (figures : List Figure) → All IsClosedFigure (all_closed 
 figures_closed [] = All-nil IsClosedFigure
 figures_closed (f ∷ fs) = All-cons IsClosedFigure _ (all_closed fs) refl (figures_closed fs)
 
--- what a painting strokes
-abbrev pub stroked_shape : Ends → List Figure → Shape
-stroked_shape Open figures = along_figures figures
-stroked_shape Closed figures = along_figures (all_closed figures)
+-- along what a painting strokes
+abbrev pub stroked_outline : Ends → List Figure → Outline
+stroked_outline Open figures = along figures
+stroked_outline Closed figures = along (all_closed figures)
 
-pub stroke_told : (ends : Ends) (figures : List Figure) → shape_points (stroked_shape ends figures) ≡ points_of_figures figures
+pub stroke_told : (ends : Ends) (figures : List Figure) → outline_points (stroked_outline ends figures) ≡ points_of_figures figures
 stroke_told Open figures = refl
 stroke_told Closed figures = points_closed figures
 
-pub stroke_closed : (ends : Ends) (figures : List Figure) → IsClosedShape (stroked_shape ends figures)
-stroke_closed Open figures = tt
-stroke_closed Closed figures = tt
-
-pub strokes_figures : (painting : Painting) (ends : Ends) (figures : List Figure) (tools : Tools) → stroked_ends painting ≡ Some ends → figures_stroked painting figures tools ≡ stroked (stroked_shape ends figures) tools
+pub strokes_figures : (painting : Painting) (ends : Ends) (figures : List Figure) (tools : Tools) → stroked_ends painting ≡ Some ends → figures_stroked painting figures tools ≡ stroked (stroked_outline ends figures) tools
 strokes_figures Fill ends figures tools h = cc
 strokes_figures Stroke Open figures tools h = refl
 strokes_figures Stroke Closed figures tools h = cc
@@ -74,7 +71,7 @@ strokes_nothing Fill figures tools h = refl
 strokes_nothing Stroke figures tools h = cc
 strokes_nothing StrokeAndFill figures tools h = cc
 
-pub stroked_lines : (s : Surface) (ends : Ends) (figures : List Figure) (x y : ℕ) → in_stroke (lines_of_figures ends (placed_figures s figures)) x y ≡ in_shape (stroked_shape ends figures) s x y
+pub stroked_lines : (s : Surface) (ends : Ends) (figures : List Figure) (x y : ℕ) → in_stroke (lines_of_figures ends (placed_figures s figures)) x y ≡ in_shape (stroke_of (stroked_outline ends figures)) s x y
 stroked_lines s Open figures x y = ap (λ (lines : List Line). in_stroke lines x y) (said_lines s figures)
 stroked_lines s Closed figures x y = ap (λ (lines : List Line). in_stroke lines x y) (closed_lines_along s figures)
 

@@ -1,7 +1,6 @@
 -- What a canvas's count of writes has room for, and what a drawing adds to it.
 use Rattle.std.specs.Prelude.{◌+◌, ◌<◌, ◌≤◌, ◌^◌}
 use Rattle.canvas.specs.CanvasState.{CanvasState}
-use Rattle.span_fill.specs.RowState.{RowState}
 
 -- room for a drawing's two layers, and as much beside
 abbrev pub HasRoomForDrawing : CanvasState → Type 0
@@ -18,7 +17,3 @@ CountsDrawing old new = new.writes ≤ old.writes + 2 ^ 27
 -- at most those of a layer: each pixel once
 abbrev pub CountsLayer : CanvasState → CanvasState → Type 0
 CountsLayer old new = new.writes ≤ old.writes + 2 ^ 26
-
--- rows have room for the lines of any drawing, of which there are at most 2^20
-abbrev pub HasFullLines : RowState → Type 0
-HasFullLines rows = 2 ^ 20 ≤ rows.room

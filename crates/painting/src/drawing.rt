@@ -6,13 +6,13 @@ ghost use Rattle.dc_stack.specs.Draws.{IsPlacedDraw, mark_of};
 ghost use Rattle.dc_stack.specs.Drawing.{drawing_edges, mark_edges, tools_of};
 ghost use Rattle.dc_stack.specs.MachineState.{drawing_with};
 ghost use Rattle.draw_ops.specs.declared.objects.Pen.TheVariants.{Solid};
-ghost use Rattle.preflight_cert.specs.Layer.{fills_of, outlines_of, strokes_of};
+ghost use Rattle.preflight_cert.specs.Layer.{fills_of, strokes_of};
 ghost use Rattle.painting.specs.Counts.{CountsDrawing, CountsLayer, HasRoomForDrawing, HasRoomForLayer};
 ghost use Rattle.painting.specs.Drawn.{DrawsDrawing, DrawsLayers, HoldsRows, SameRows};
 
-use crate::blits::blit;
+use crate::blits::draw_blit;
 use crate::brushing::Brushing;
-use crate::dots::put;
+use crate::dots::draw_dot;
 use crate::figure_outline::{FigureOutline, stroked_ends};
 use crate::filling::fill_box;
 use crate::list_lines::Ends;
@@ -57,8 +57,14 @@ pub fn draw<'a, T: Table<'a>>(
     if misses_rows(canvas, machine.place(), drawn.bounds) {
         return;
     }
-    fill(drawn, machine, room, canvas);
-    stroke(drawn, machine, room, canvas);
+    match drawn.mark {
+        Mark::Dot { at, colour } => draw_dot(at, colour, machine, canvas),
+        Mark::Blit(asked) => draw_blit(&asked, machine, &mut room.inks, canvas),
+        Mark::Line { .. } | Mark::Figures { .. } | Mark::Rectangle { .. } => {
+            fill(drawn, machine, room, canvas);
+            stroke(drawn, machine, room, canvas);
+        }
+    }
 }
 
 /// Fills the inside of what a step draws, if it has one and the brush paints.
@@ -110,7 +116,7 @@ fn fill<'a, T: Table<'a>>(
     }
 }
 
-/// Strokes what a step draws, if the pen draws: a dot is a pixel in its own colour, and a blit a box.
+/// Strokes what a step draws, if the pen draws.
 fn stroke<'a, T: Table<'a>>(
     drawn: Draw<'a>,
     machine: &Machine<'a, T>,
@@ -126,19 +132,7 @@ fn stroke<'a, T: Table<'a>>(
     ensures few { CountsLayer canvas.old canvas.new }
     ensures room { room.new.rows.room ≡ room.old.rows.room }
 {
-    writing_law();
-    whole_law(canvas);
-    let dc = machine.dc();
-    let place = machine.place();
-    if let Mark::Dot { at, colour } = drawn.mark {
-        put(place.at(at), colour, &dc.clip, canvas);
-        return;
-    }
-    if let Mark::Blit(asked) = drawn.mark {
-        blit(&asked, place, dc, &mut room.inks, canvas);
-        return;
-    }
-    let Pen::Solid { colour } = dc.selected.pen else {
+    let Pen::Solid { colour } = machine.dc().selected.pen else {
         return;
     };
     stroke_outline(drawn, colour, machine, room, canvas);
@@ -157,7 +151,7 @@ fn stroke_outline<'a, T: Table<'a>>(
     requires placed { IsPlacedDraw machine.now.surface machine.now.painted drawn }
     requires lines { mark_edges (mark_of machine.now.painted drawn) ≤ room.old.rows.room }
     requires pen { machine.now.state.dc.selected.pen.object ≡ Solid colour }
-    ensures drawn { DrawsLayers (outlines_of (mark_of machine.now.painted drawn.entry) (tools_of machine.now.state.dc)) machine.now.surface canvas.old canvas.new }
+    ensures drawn { DrawsLayers (strokes_of (mark_of machine.now.painted drawn.entry) (tools_of machine.now.state.dc)) machine.now.surface canvas.old canvas.new }
     ensures rows { SameRows canvas.old canvas.new }
     ensures few { CountsLayer canvas.old canvas.new }
     ensures room { room.new.rows.room ≡ room.old.rows.room }

@@ -2,7 +2,6 @@
 
 ghost use Rattle.std.specs.Prelude.{◌≤◌, ◌⊎◌, IfOk};
 ghost use Rattle.dc_stack.specs.Drawing.{edge_limit};
-ghost use Rattle.painting.specs.Counts.{HasFullLines};
 
 use crate::ink_room::InkRoom;
 use crate::stamps::Stamps;
@@ -28,14 +27,7 @@ pub struct DrawingRoom {
 }
 
 impl DrawingRoom {
-    /// Room for any drawing: 376 MiB and some 230 KiB more, or `OutOfMemory` where it was refused.
-    pub fn new(alloc: Global) -> Result<DrawingRoom, OutOfMemory>
-        ensures full { IfOk result (λ room. HasFullLines room.rows) }
-    {
-        DrawingRoom::for_lines(alloc, MAX_LINES)
-    }
-
-    /// Room for drawings of so many lines, or for any.
+    /// Room for drawings of so many lines, or for any, which takes 376 MiB; or `OutOfMemory` where that was refused.
     pub fn for_lines(alloc: Global, lines: u32) -> Result<DrawingRoom, OutOfMemory>
         ensures room { IfOk result (λ room. (edge_limit ≤ room.rows.room) ⊎ (lines ≤ room.rows.room)) }
     {

@@ -20,7 +20,7 @@ mod paths;
 #[cfg(test)]
 mod playing;
 #[cfg(test)]
-mod playing_on;
+mod playing_over;
 #[cfg(test)]
 mod rows_apart;
 #[cfg(test)]

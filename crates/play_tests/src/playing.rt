@@ -1,12 +1,14 @@
 //! Worked files, whole and broken, with the answers by hand.
 
+ghost use Rattle.mapping.specs.Limits.{IsSurfaceSide};
+
 use crate::comparing::same;
 use canvas::Canvas;
 use draw_ops::{Fault, RecordFault};
 use mapping::Colour;
 use part_tests::{DOT, RED, changed};
-use player::play_file;
-use preflight_cert::Refusal;
+use player::play;
+use preflight_cert::{Refusal, check, prepare};
 use std::alloc::{AllocError, Global};
 use std::test::Fail;
 
@@ -23,9 +25,30 @@ pub(crate) fn colour(canvas: &Canvas, x: u32, y: u32) -> Option<Colour> {
     canvas.has_pixel(x, y).then(|| canvas.colour(x, y))
 }
 
+/// Prepares a file at the size of a surface, checks its certificate, and plays it on white.
+pub(crate) fn play_white(
+    alloc: Global,
+    file: &[u8],
+    width: u32,
+    height: u32,
+) -> Result<Canvas, Refusal>
+    requires wide { IsSurfaceSide width }
+    requires high { IsSurfaceSide height }
+{
+    let certificate = prepare(alloc, file, width, height)?;
+    let cleared = check(alloc, file, certificate.as_slice())?;
+    let Ok(mut canvas) = Canvas::new(alloc, width, height, Colour::WHITE) else {
+        return Err(Refusal::of_file(Fault::OutOfMemory));
+    };
+    match play(alloc, &cleared, &mut canvas) {
+        Ok(_) => Ok(canvas),
+        Err(fault) => Err(Refusal::of_file(fault)),
+    }
+}
+
 #[test]
 fn a_dot_is_one_red_pixel(rt: HostRuntime) -> Result<(), Fail> {
-    let canvas = play_file(rt.alloc(), &DOT, 4, 4)?;
+    let canvas = play_white(rt.alloc(), &DOT, 4, 4)?;
     same(&rt, canvas.writes(), 1);
     let mut text = Vec::new(rt.alloc());
     canvas.write_ppm(&mut text)?;
@@ -44,7 +67,7 @@ fn a_dot_is_one_red_pixel(rt: HostRuntime) -> Result<(), Fail> {
 
 #[test]
 fn a_dot_moves_with_the_surface(rt: HostRuntime) -> Result<(), Fail> {
-    let canvas = play_file(rt.alloc(), &DOT, 2, 2)?;
+    let canvas = play_white(rt.alloc(), &DOT, 2, 2)?;
     same(&rt, canvas.writes(), 1);
     for (x, y, want) in [
         (0, 0, Colour::WHITE),
@@ -68,7 +91,7 @@ fn each_front_of_a_file_has_its_fault(rt: HostRuntime) -> Result<(), Fail> {
     ] {
         for length in from..to {
             let front = DOT.get(..length).ok_or("a front")?;
-            let refusal = play_file(rt.alloc(), front, 4, 4).err();
+            let refusal = play_white(rt.alloc(), front, 4, 4).err();
             same(
                 &rt,
                 (length, refusal),
@@ -132,7 +155,7 @@ fn each_change_of_a_file_has_its_fault(rt: HostRuntime) -> Result<(), Fail> {
     ];
     for (place, bytes, number, fault) in changes {
         let file = changed(rt.alloc(), place, bytes)?;
-        let refusal = play_file(rt.alloc(), file.as_slice(), 4, 4).err();
+        let refusal = play_white(rt.alloc(), file.as_slice(), 4, 4).err();
         same(
             &rt,
             (place, refusal),
@@ -154,7 +177,7 @@ fn what_the_standard_allows_is_played(rt: HostRuntime) -> Result<(), Fail> {
     ];
     for (place, bytes) in changes {
         let file = changed(rt.alloc(), place, bytes)?;
-        let canvas = play_file(rt.alloc(), file.as_slice(), 4, 4)?;
+        let canvas = play_white(rt.alloc(), file.as_slice(), 4, 4)?;
         same(&rt, (place, colour(&canvas, 2, 1)), (place, Some(RED)));
     }
     Ok(())
@@ -171,7 +194,7 @@ fn a_pixel_off_the_surface_is_not_written(rt: HostRuntime) -> Result<(), Fail> {
     ];
     for place in places {
         let file = changed(rt.alloc(), 50, place)?;
-        let canvas = play_file(rt.alloc(), file.as_slice(), 4, 4)?;
+        let canvas = play_white(rt.alloc(), file.as_slice(), 4, 4)?;
         same(&rt, canvas.writes(), 0);
         for y in 0..4 {
             for x in 0..4 {
@@ -194,7 +217,7 @@ fn the_later_of_two_writes_wins_and_both_count(rt: HostRuntime) -> Result<(), Fa
           \x07\x00\x00\x00\x1f\x04\x00\x00\xff\x00\x01\x00\x02\x00\
           \x03\x00\x00\x00\x00\x00",
     )?;
-    let canvas = play_file(rt.alloc(), file.as_slice(), 4, 4)?;
+    let canvas = play_white(rt.alloc(), file.as_slice(), 4, 4)?;
     same(&rt, canvas.writes(), 2);
     same(&rt, colour(&canvas, 2, 1), Some(BLUE));
     Ok(())
@@ -203,7 +226,7 @@ fn the_later_of_two_writes_wins_and_both_count(rt: HostRuntime) -> Result<(), Fa
 #[test]
 fn bytes_behind_the_end_are_not_read(rt: HostRuntime) -> Result<(), Fail> {
     let file = with_records(rt.alloc(), b"\x03\x00\x00\x00\x00\x00\xff\xff\xff")?;
-    let canvas = play_file(rt.alloc(), file.as_slice(), 4, 4)?;
+    let canvas = play_white(rt.alloc(), file.as_slice(), 4, 4)?;
     same(&rt, canvas.writes(), 0);
     Ok(())
 }
@@ -212,7 +235,7 @@ fn bytes_behind_the_end_are_not_read(rt: HostRuntime) -> Result<(), Fail> {
 fn a_box_with_turned_sides_mirrors(rt: HostRuntime) -> Result<(), Fail> {
     // Left 4, top 4, right 0, bottom 0: x = 2 lands in column 2, and y = 1 in row 3.
     let file = changed(rt.alloc(), 6, b"\x04\x00\x04\x00\x00\x00\x00\x00")?;
-    let canvas = play_file(rt.alloc(), file.as_slice(), 4, 4)?;
+    let canvas = play_white(rt.alloc(), file.as_slice(), 4, 4)?;
     same(&rt, canvas.writes(), 1);
     same(&rt, colour(&canvas, 2, 3), Some(RED));
     Ok(())
@@ -227,13 +250,13 @@ fn a_point_far_outside_is_off_the_plane(rt: HostRuntime) -> Result<(), Fail> {
     file.extend_from_slice(
         b"\x07\x00\x00\x00\x1f\x04\xff\x00\x00\x00\x00\x00\xff\x7f\x03\x00\x00\x00\x00\x00",
     )?;
-    let refusal = play_file(rt.alloc(), file.as_slice(), 8192, 1).err();
+    let refusal = play_white(rt.alloc(), file.as_slice(), 8192, 1).err();
     let off_plane = Refusal {
         number: Some(0),
         fault: Fault::Record(RecordFault::OffPlane),
     };
     same(&rt, refusal, Some(off_plane));
-    let canvas = play_file(rt.alloc(), file.as_slice(), 4096, 1)?;
+    let canvas = play_white(rt.alloc(), file.as_slice(), 4096, 1)?;
     same(&rt, canvas.writes(), 0);
     Ok(())
 }
@@ -247,7 +270,7 @@ fn a_file_has_at_most_1048576_records(rt: HostRuntime) -> Result<(), Fail> {
     }
     let pixels = file.len();
     file.extend_from_slice(b"\x03\x00\x00\x00\x00\x00")?;
-    let canvas = play_file(rt.alloc(), file.as_slice(), 4, 4)?;
+    let canvas = play_white(rt.alloc(), file.as_slice(), 4, 4)?;
     same(&rt, canvas.writes(), 1048575);
     // One pixel more, and the end record is at place 1,048,576.
     file.truncate(pixels);
@@ -257,7 +280,7 @@ fn a_file_has_at_most_1048576_records(rt: HostRuntime) -> Result<(), Fail> {
         number: Some(1048576),
         fault: Fault::Record(RecordFault::TooManyRecords),
     };
-    let refusal = play_file(rt.alloc(), file.as_slice(), 4, 4).err();
+    let refusal = play_white(rt.alloc(), file.as_slice(), 4, 4).err();
     same(&rt, refusal, Some(too_many));
     Ok(())
 }
@@ -266,14 +289,14 @@ fn a_file_has_at_most_1048576_records(rt: HostRuntime) -> Result<(), Fail> {
 fn a_file_has_at_most_67108864_bytes(rt: HostRuntime) -> Result<(), Fail> {
     let mut file = Vec::from_slice(rt.alloc(), &DOT)?;
     file.resize(67108864, 0)?;
-    let canvas = play_file(rt.alloc(), file.as_slice(), 4, 4)?;
+    let canvas = play_white(rt.alloc(), file.as_slice(), 4, 4)?;
     same(&rt, canvas.writes(), 1);
     file.push(0)?;
     let too_long = Refusal {
         number: None,
         fault: Fault::TooLong,
     };
-    let refusal = play_file(rt.alloc(), file.as_slice(), 4, 4).err();
+    let refusal = play_white(rt.alloc(), file.as_slice(), 4, 4).err();
     same(&rt, refusal, Some(too_long));
     Ok(())
 }
@@ -303,7 +326,7 @@ fn a_refusal_shows_its_record(rt: HostRuntime) -> Result<(), Fail> {
 // Run once more for each growth refused in turn, by tests/refused_growth_test.py.
 #[test]
 fn a_dot_under_refused_growth(rt: HostRuntime) -> Result<(), Fail> {
-    match play_file(rt.alloc(), &DOT, 4, 4) {
+    match play_white(rt.alloc(), &DOT, 4, 4) {
         Ok(canvas) => {
             same(&rt, canvas.writes(), 1);
             same(&rt, colour(&canvas, 2, 1), Some(RED));

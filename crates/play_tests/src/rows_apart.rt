@@ -4,27 +4,35 @@ use crate::comparing::same;
 use crate::files::placeable;
 use crate::playing::{BLUE, colour};
 use canvas::Canvas;
-use dc_stack::{MAX_PIECES, Machine};
+use dc_stack::Machine;
+use draw_ops::OpSource;
 use mapping::{Colour, Place};
 use meta_headers::open_file;
 use object_tables::LowestFree;
-use painting::DrawingRoom;
-use player::play_on;
+use painting::{DrawingRoom, draw};
 use std::alloc::Global;
 use std::test::Fail;
 
-/// Plays a WMF file over blue on so many rows of a surface of 4 by 4 pixels, and tells how many pixels were written.
-fn play_part(alloc: Global, file: &[u8], canvas: &mut Canvas) -> Result<u64, Fail> {
-    let opened = open_file(file)?;
-    let place = Place::new(&opened.frame, 4, 4);
-    let mut machine = Machine::new(alloc, &opened, place, LowestFree::new(alloc));
-    machine.reserve(256, 1024, MAX_PIECES)?;
-    let mut room = DrawingRoom::new(alloc)?;
+/// Draws what the first record of a WMF file draws, on so many rows of a surface of 4 by 4 pixels, and tells how many pixels were written.
+fn draw_part(alloc: Global, file: &[u8], canvas: &mut Canvas) -> Result<u64, Fail> {
     let (first, held) = (canvas.first(), canvas.rows());
     if canvas.width() != 4 || first + held > 4 || canvas.writes() > 1000 {
         return Err("the canvas of a test holds rows of four, and is new".into());
     }
-    Ok(play_on(&opened, &mut machine, &mut room, canvas)?)
+    let opened = open_file(file)?;
+    let place = Place::new(&opened.frame, 4, 4);
+    let mut machine = Machine::new(alloc, &opened, place, LowestFree::new(alloc));
+    let Some(step) = opened.source().next_op()? else {
+        return Err("the file of a test has a record".into());
+    };
+    let drawn = machine.step(step.op)?;
+    let lines = match drawn {
+        Some(drawn) => drawn.edges,
+        None => 0,
+    };
+    let mut room = DrawingRoom::for_lines(alloc, lines)?;
+    draw(drawn, &machine, &mut room, canvas);
+    Ok(canvas.writes())
 }
 
 /// The colour of the pen at the start.
@@ -40,7 +48,7 @@ fn a_rectangle_goes_on_over_an_edge_of_rows(rt: HostRuntime) -> Result<(), Fail>
     // nine pixels are filled and eight stroked: of row 1 three and three, of rows 2 and 3 six and five
     for (first, rows, writes) in [(0, 2, 6), (2, 2, 11), (0, 1, 0), (1, 3, 17), (3, 1, 6)] {
         let mut canvas = Canvas::band(rt.alloc(), 4, first, rows, BLUE)?;
-        same(&rt, play_part(rt.alloc(), &file, &mut canvas)?, writes);
+        same(&rt, draw_part(rt.alloc(), &file, &mut canvas)?, writes);
         same(&rt, canvas.writes(), writes);
         for y in first..first + rows {
             for x in 0..4 {

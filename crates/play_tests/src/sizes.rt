@@ -1,10 +1,9 @@
 //! Surfaces of each side, files of many counts of pixels, and faults in many records: each has its
 //! answer, and none is refused for memory.
 
-use crate::playing::colour;
+use crate::playing::{colour, play_white};
 use draw_ops::{Fault, RecordFault};
 use part_tests::{DOT, RED};
-use player::play_file;
 use preflight_cert::Refusal;
 use std::alloc::{AllocError, Global};
 use std::test::Fail;
@@ -38,7 +37,7 @@ fn has_dot(alloc: Global, width: u32, height: u32, x: u32, y: u32) -> bool {
     if width == 0 || 8192 < width || height == 0 || 8192 < height {
         return false;
     }
-    match play_file(alloc, &DOT, width, height) {
+    match play_white(alloc, &DOT, width, height) {
         Ok(canvas) => canvas.writes() == 1 && colour(&canvas, x, y) == Some(RED),
         Err(_) => false,
     }
@@ -72,7 +71,7 @@ fn has_no_end(alloc: Global, skipped: &[u8], number: usize) -> bool {
         number: Some(place),
         fault: Fault::Record(RecordFault::NoEnd),
     };
-    play_file(alloc, front, 1, 1).err() == Some(refusal)
+    play_white(alloc, front, 1, 1).err() == Some(refusal)
 }
 
 #[test]
@@ -91,7 +90,7 @@ fn a_fault_in_each_record_is_told_with_its_number(rt: HostRuntime) -> Result<(),
 fn has_pixels(alloc: Global, count: usize) -> Result<bool, AllocError> {
     let mut file = repeated(alloc, &PIXEL, count)?;
     file.extend_from_slice(&END)?;
-    match play_file(alloc, file.as_slice(), 4, 4) {
+    match play_white(alloc, file.as_slice(), 4, 4) {
         Ok(canvas) => Ok(usize::try_from(canvas.writes()) == Ok(count)),
         Err(_) => Ok(false),
     }

@@ -1,6 +1,5 @@
 -- The text of a run, written band by band.
-use Rattle.std.proofs.Common.{◌≡◌, ℕ, ◌+◌, ◌-◌, ◌≤◌, ◌⊎◌, inr, List, ◌++◌, Option, sym, ap, subst, ◌∙◌, arith}
-use Rattle.std.specs.Prelude.{Result, Ok, Err, IfErr}
+use Rattle.std.proofs.Common.{◌≡◌, ℕ, ◌+◌, ◌-◌, ◌≤◌, List, ◌++◌, Option, sym, ap, subst, ◌∙◌, arith}
 use Rattle.std.proofs.KnownBytes.{Appends-trans}
 use Rattle.std.proofs.lemmas.List.{append_assoc, append-nil}
 use Rattle.std.specs.Io.KnownBytes.{Appends}
@@ -9,8 +8,6 @@ use Rattle.mapping.specs.Surface.{Surface}
 use Rattle.mapping.specs.declared.geometry.Colour.{Colour}
 use Rattle.draw_ops.specs.Content.{Content}
 use Rattle.draw_ops.specs.RecordContent.{ContentIsOne}
-use Rattle.draw_ops.specs.declared.fault.Fault.{Fault}
-use Rattle.draw_ops.specs.declared.fault.Fault.TheVariants.{OutOfMemory, WriteFault}
 use Rattle.canvas.specs.CanvasState.{CanvasState, image_of}
 use Rattle.canvas.specs.Ppm.{AppendsFront, header, ppm_text, raster}
 use Rattle.meta_headers.specs.Headers.{OpenedValue}
@@ -22,16 +19,17 @@ use Rattle.preflight_cert.specs.RowsLaws.{RowsLaws}
 use Rattle.preflight_cert.specs.Apply.{rows_after}
 use Rattle.preflight_cert.specs.Writes.{writes_of_drawings}
 use Rattle.preflight_cert.specs.declared.cleared.Cleared.{Cleared}
-use Rattle.player.specs.Bands.{HasCountedRows, HasWrittenFront, HasWrittenRows, IsReadyToPlay, PlaysBand, row_writes, rows_played}
+use Rattle.player.specs.Bands.{HasCountedRows, HasWrittenFront, HasWrittenRows, PlaysBand, row_writes, rows_played}
 use Rattle.player.specs.Plays.{PlaysRecords}
+use Rattle.player.specs.Ready.{IsReadyToPlay}
 use Rattle.player.proofs.BandLemmas.{no_raster, no_writes, raster_laid}
 
 -- what was played on rows of one colour is the band of those rows
 pub band_played :
-    ContentIsOne → (o : OpenedValue) (records : List ℕ) (s : Surface) (start : Colour) (first rows : ℕ) (from to : MachineState) (old empty new : CanvasState)
+    ContentIsOne → (o : OpenedValue) (records : List ℕ) (s : Surface) (start : Colour) (first rows : ℕ) (from : MachineState) (old empty new : CanvasState)
     → from.state ≡ start_of o → from.surface ≡ s → image_of empty ≡ blank s.width rows start → empty.first ≡ first → empty.writes ≡ old.writes
-    → PlaysRecords o.format records from to empty new → PlaysBand o records s start first rows old new
-band_played contents o records s start first rows from to old empty new state surface image top writes played =
+    → PlaysRecords o.format records from empty new → PlaysBand o records s start first rows old new
+band_played contents o records s start first rows from old empty new state surface image top writes played =
     let one = contents (framing_of o.format) (meaning_of o.format) records in
     let same = λ (content : Content) (h : HasContentOf o.format records content). one.only played.content played.of_records ∙ sym (one.only content h) in
     let high : empty.rows ≡ rows = ap (λ (i : Image). i.height) image in
@@ -157,8 +155,3 @@ goes_on_twice m between n a b =
       slots = omega (arith, slots, more_slots);
       pieces = omega (arith, pieces, more_pieces);
     }
-
--- what is refused by the writer alone
-pub refused_by_writer : (result : Result ℕ Fault) → IfErr result (λ fault. fault ≡ WriteFault) → IfErr result (λ fault. fault ≡ OutOfMemory ⊎ fault ≡ WriteFault)
-refused_by_writer (Ok writes) h = h
-refused_by_writer (Err fault) h = inr h

@@ -3,7 +3,6 @@ use Rattle.std.proofs.Common.{◌≡◌, ℕ, ◌+◌, ◌≤◌, List, Option, 
 use Rattle.std.specs.Io.KnownBytes.{Appends}
 use Rattle.mapping.specs.PlacingLaws.{IsNoLarger, ShowsFrame}
 use Rattle.mapping.specs.Surface.{Surface}
-use Rattle.mapping.specs.declared.geometry.Colour.{Colour}
 use Rattle.draw_ops.specs.Content.{Content}
 use Rattle.draw_ops.specs.ExactlyOne.{ExactlyOne}
 use Rattle.draw_ops.specs.RecordContent.{ContentIsOne}
@@ -11,7 +10,7 @@ use Rattle.canvas.specs.Ppm.{ppm_text}
 use Rattle.meta_headers.specs.File.{IsFile, IsOpenedFrom}
 use Rattle.meta_headers.specs.Headers.{OpenedValue}
 use Rattle.meta_headers.specs.OpenedOf.{opened_of}
-use Rattle.meta_headers.specs.Opening.{HasContentOf, framing_of, meaning_of, surface_for}
+use Rattle.meta_headers.specs.Opening.{HasContentOf, framing_of, meaning_of}
 use Rattle.dc_stack.specs.State.{start_of}
 use Rattle.preflight_cert.specs.Answer.{AnswerLaws, bound_of}
 use Rattle.preflight_cert.specs.CertificateOf.{certificate_of}
@@ -19,12 +18,15 @@ use Rattle.preflight_cert.specs.CertificateReading.{CertificateValue}
 use Rattle.preflight_cert.specs.RowsLaws.{RowsLaws}
 use Rattle.preflight_cert.specs.SizeLaws.{SizeLaws}
 use Rattle.preflight_cert.specs.declared.cleared.Cleared.{Cleared}
-use Rattle.player.specs.Bands.{AreClearedWrites, HasCountedRows, HasWrittenFront, HasWrittenRows, IsClearedText, WritesRun, WritesRunFront, rows_played}
+use Rattle.player.specs.Bands.{HasCountedRows, HasWrittenFront, HasWrittenRows, IsClearedText, WritesRun, WritesRunFront, plan_surface, rows_played}
+use Rattle.player.specs.ClearedPlay.{AreClearedWrites}
+use Rattle.player.specs.ReadyBands.{IsReadyForBands}
+use Rattle.player.specs.declared.band_plan.BandPlan.{BandPlan}
+use Rattle.player.specs.declared.band_room.BandRoom.{BandRoom}
 use Rattle.player.proofs.BandTextLemmas.{whole_text}
 use Rattle.player.proofs.ClearedLemmas.{few_written, fits}
 
-module _ (answers : AnswerLaws) (sizes : SizeLaws) (contents : ContentIsOne) (cleared : Cleared) (width height : ℕ) (start : Colour)
-    (smaller : IsNoLarger (surface_for (opened_of cleared.opened) width height) (bound_of (opened_of cleared.opened) (certificate_of cleared.certificate))) where
+module _ (answers : AnswerLaws) (sizes : SizeLaws) (contents : ContentIsOne) (cleared : Cleared) (plan : BandPlan) (room : BandRoom) (ready : IsReadyForBands cleared plan room) where
   abbrev o : OpenedValue
   o = opened_of cleared.opened
 
@@ -35,7 +37,10 @@ module _ (answers : AnswerLaws) (sizes : SizeLaws) (contents : ContentIsOne) (cl
   c = certificate_of cleared.certificate
 
   abbrev s : Surface
-  s = surface_for o width height
+  s = plan_surface cleared plan
+
+  smaller : IsNoLarger s (bound_of o c)
+  smaller = subst (λ (t : Surface). IsNoLarger t (bound_of o c)) ready.surface ready.ready.within
 
   frame : ShowsFrame (bound_of o c)
   frame = record { wide = cleared.opened.frame.wide; high = cleared.opened.frame.high }
@@ -50,9 +55,9 @@ module _ (answers : AnswerLaws) (sizes : SizeLaws) (contents : ContentIsOne) (cl
   of_file : (file : List ℕ) → IsOpenedFrom file cleared.opened → IsFile file o content
   of_file file from = record { opens = from.opens; records = subst (λ (bytes : List ℕ). HasContentOf o.format bytes content) from.records one.holds }
 
-  of_run : IsClearedText cleared width height start (ppm_text (rows_played o content s start 0 height))
+  of_run : IsClearedText cleared plan.width plan.height plan.start (ppm_text (rows_played o content s plan.start 0 plan.height))
   of_run file from = record {
-    image = rows_played o content s start 0 height;
+    image = rows_played o content s plan.start 0 plan.height;
     run = record {
       headers = o;
       content = content;
@@ -63,17 +68,17 @@ module _ (answers : AnswerLaws) (sizes : SizeLaws) (contents : ContentIsOne) (cl
     is_text = refl;
   }
 
-  pub run_written : RowsLaws → (wide : 1 ≤ width) (old new : Option (List ℕ)) → HasWrittenRows o records s start height old new → WritesRun cleared width height start old new
-  run_written laws wide old new sent = record {
-    text = ppm_text (rows_played o content s start 0 height);
+  pub run_written : RowsLaws → (old new : Option (List ℕ)) → HasWrittenRows o records s plan.start plan.height old new → WritesRun cleared plan.width plan.height plan.start old new
+  run_written laws old new sent = record {
+    text = ppm_text (rows_played o content s plan.start 0 plan.height);
     of_run = of_run;
-    appended = subst (Appends old new) (sym (whole_text laws o records s start wide content)) (sent content one.holds);
+    appended = subst (Appends old new) (sym (whole_text laws o records s plan.start plan.wide content)) (sent content one.holds);
   }
 
-  pub run_front : (old new : Option (List ℕ)) → HasWrittenFront o records s start old new → WritesRunFront cleared width height start old new
-  run_front old new front = record { text = ppm_text (rows_played o content s start 0 height); of_run = of_run; appended = front content one.holds }
+  pub run_front : (old new : Option (List ℕ)) → HasWrittenFront o records s plan.start old new → WritesRunFront cleared plan.width plan.height plan.start old new
+  run_front old new front = record { text = ppm_text (rows_played o content s plan.start 0 plan.height); of_run = of_run; appended = front content one.holds }
 
-  pub run_counted : (writes : ℕ) → HasCountedRows o records s height writes → AreClearedWrites cleared width height writes
+  pub run_counted : (writes : ℕ) → HasCountedRows o records s plan.height writes → AreClearedWrites cleared plan.width plan.height writes
   run_counted writes counted file from = record {
     headers = o;
     content = content;
@@ -82,7 +87,7 @@ module _ (answers : AnswerLaws) (sizes : SizeLaws) (contents : ContentIsOne) (cl
     count = counted content one.holds;
   }
 
-  pub run_few : (writes : ℕ) → HasCountedRows o records s height writes → writes ≤ cleared.certificate.writes
+  pub run_few : (writes : ℕ) → HasCountedRows o records s plan.height writes → writes ≤ cleared.certificate.writes
   run_few writes counted =
       let none : writes ≡ 0 + writes = omega arith in
       let count = counted content one.holds in

@@ -1,32 +1,51 @@
 -- What a certificate that was accepted says of playing on a surface within its bound.
-use Rattle.std.proofs.Common.{◌≡◌, ℕ, ◌+◌, ◌≤◌, List, Option, Some, None, arith}
+use Rattle.std.proofs.Common.{◌≡◌, ℕ, ◌+◌, ◌≤◌, ◌⊎◌, List, None, inl, inr, arith}
 use Rattle.mapping.specs.PlacingLaws.{IsNoLarger, ShowsFrame}
 use Rattle.mapping.specs.Surface.{Surface}
 use Rattle.draw_ops.specs.Content.{Content}
 use Rattle.meta_headers.specs.Headers.{OpenedValue}
 use Rattle.meta_headers.specs.Opening.{HasContentOf}
+use Rattle.dc_stack.specs.Drawing.{edge_limit}
+use Rattle.dc_stack.specs.MachineState.{MachineState}
+use Rattle.dc_stack.specs.Needs.{no_needs}
 use Rattle.dc_stack.specs.State.{start_of}
+use Rattle.preflight_cert.specs.After.{file_needs}
 use Rattle.preflight_cert.specs.Answer.{AnswerLaws, Fits, IsCleared, bound_of}
 use Rattle.preflight_cert.specs.CertificateReading.{CertificateValue}
 use Rattle.preflight_cert.specs.Drawings.{drawings_of}
+use Rattle.preflight_cert.specs.NeedLaws.{HasRoomFor}
 use Rattle.preflight_cert.specs.SizeLaws.{SizeLaws}
-use Rattle.preflight_cert.specs.Stop.{Stop}
+use Rattle.preflight_cert.specs.Stop.{stop_of}
 use Rattle.preflight_cert.specs.Writes.{writes_after}
-use Rattle.preflight_cert.specs.StoppedRecords.{StopsRecords}
-use Rattle.preflight_cert.specs.declared.refusal.Refusal.{Refusal}
-
-none_some : (stop : Option Stop) (at : Stop) → stop ≡ None → stop ≡ Some at → ⊥
-none_some stop at n s = cc
+use Rattle.player.specs.After.{HasLines, HasRoomForSteps}
 
 module _ (answers : AnswerLaws) (o : OpenedValue) (records : List ℕ) (c : CertificateValue) (cleared : IsCleared o records c) where
   pub fits : (content : Content) → HasContentOf o.format records content → Fits c o content
   fits content h = (answers.fits content o c).0 (cleared content h)
 
+  -- room for what the certificate needs is room for the file, from its start on
+  module _ (content : Content) (holds : HasContentOf o.format records content) (m : MachineState) (state : m.state ≡ start_of o) (needs : m.needs ≡ no_needs) where
+    pub room_for_file : HasRoomFor c.needs m → HasRoomForSteps content m
+    room_for_file room =
+        let within = (fits content holds).needs in
+        let depth = within.depth in let slots = within.slots in let pieces = within.pieces in
+        let deep = room.depth in let many = room.slots in let long = room.pieces in
+        let enough : HasRoomFor (file_needs content o) m = record { depth = omega (arith, depth, deep); slots = omega (arith, slots, many); pieces = omega (arith, pieces, long) } in
+        rw (state, needs) enough
+
+    pub lines_for_file : (count : ℕ) → (edge_limit ≤ count ⊎ c.needs.edges ≤ count) → HasLines count content m
+    lines_for_file count lines = elim lines [
+      | inl any ↦ inl any
+      | inr few ↦
+          let within = (fits content holds).needs in
+          let edges = within.edges in
+          let enough : (file_needs content o).edges ≤ count = omega (arith, edges, few) in inr (rw (state, needs) enough)
+    ]
+
   -- within the bound nothing stops, and no more is written than certified
   module _ (sizes : SizeLaws) (s : Surface) (frame : ShowsFrame (bound_of o c)) (smaller : IsNoLarger s (bound_of o c)) where
-    pub never_stops : (r : Refusal) → StopsRecords o.format records (start_of o) s r → ⊥
-    never_stops r h =
-        none_some _ h.stops.at (sizes.unstopped h.content (start_of o) s (bound_of o c) frame smaller (fits h.content h.of_records).unstopped) h.stops.stops
+    pub never_stops : (content : Content) → HasContentOf o.format records content → stop_of content (start_of o) s ≡ None
+    never_stops content h = sizes.unstopped content (start_of o) s (bound_of o c) frame smaller (fits content h).unstopped
 
     pub few_written : (content : Content) → HasContentOf o.format records content → (old new writes : ℕ) → new ≡ old + writes → new ≡ old + writes_after (drawings_of content.steps (start_of o)) s → writes ≤ c.writes
     few_written content h old new writes e count =

@@ -5,3 +5,4 @@ pub mod WholeSurfaceLemmas
 pub mod BandLemmas
 pub mod BandTextLemmas
 pub mod ClearedBandLemmas
+pub mod ReadyLemmas

@@ -1,110 +1,70 @@
--- A step that is refused on a machine with room has the operation's fault.
-use Rattle.std.proofs.Common.{◌≡◌, ℕ, ◌+◌, length, Option, Some, None, Result, Ok, Err, inl, inr, refl, ap, ◌∙◌, arith}
+-- Where a step is refused on a machine with room, or the source breaks, the whole stops.
+use Rattle.std.proofs.Common.{◌≡◌, ℕ, length, Option, Some, None, inl, inr, refl, sym, ap, ◌∙◌, arith}
 use Rattle.std.specs.Option.{option_map}
 use Rattle.mapping.specs.Surface.{Surface}
 use Rattle.draw_ops.specs.Content.{Content, StepValue, broken_by, with_step}
-use Rattle.draw_ops.specs.Gives.{Gives, Stays}
-use Rattle.draw_ops.specs.StepOf.{step_value_of}
-use Rattle.draw_ops.specs.declared.step.Step.{Step}
 use Rattle.draw_ops.specs.declared.fault.Fault.{Fault}
 use Rattle.draw_ops.specs.declared.fault.Fault.TheVariants.{Record}
 use Rattle.draw_ops.specs.declared.record_fault.RecordFault.{RecordFault}
-use Rattle.dc_stack.specs.MachineState.{IsUnchanged, MachineState, RefusesStep, WantsRoom}
+use Rattle.dc_stack.specs.MachineState.{MachineState, RefusesStep, WantsRoom}
 use Rattle.dc_stack.specs.Needs.{greater_needs, needs_of}
 use Rattle.dc_stack.specs.Next.{next}
 use Rattle.dc_stack.specs.OperationFault.{fault_of}
 use Rattle.dc_stack.specs.State.{State}
-use Rattle.player.specs.Advances.{StopsAfter}
-use Rattle.player.specs.After.{HasRoomForSteps, IsEnoughRoom}
-use Rattle.player.specs.Leaving.{IsLeftBy}
-use Rattle.player.specs.Plays.{StopsBy}
+use Rattle.player.specs.After.{HasRoomForSteps}
 use Rattle.preflight_cert.specs.NeedLaws.{HasRoomFor, NeedLaws}
-use Rattle.preflight_cert.specs.Refusal.{number_told}
-use Rattle.preflight_cert.specs.Stop.{Stop, broken_behind, stop_at, stop_of, stopped}
-use Rattle.preflight_cert.specs.declared.refusal.Refusal.{Refusal}
+use Rattle.preflight_cert.specs.Stop.{Stop, broken_behind, stop_at, stopped}
 
 -- room for the needs of all steps is room for those of the first
-room_for_first : NeedLaws → (step : StepValue) (rest : Content) (m : MachineState) → IsEnoughRoom (with_step step rest) m → HasRoomFor (needs_of step.operation m.state) m
+room_for_first : NeedLaws → (step : StepValue) (rest : Content) (m : MachineState) → HasRoomForSteps (with_step step rest) m → HasRoomFor (needs_of step.operation m.state) m
 room_for_first laws step rest m room =
     let within = laws.before rest.steps (next step.operation m.state) (greater_needs m.needs (needs_of step.operation m.state)) in
     let depth = within.depth in let slots = within.slots in let pieces = within.pieces in
     let deep = room.depth in let many = room.slots in let long = room.pieces in
     record { depth = omega (arith, depth, deep); slots = omega (arith, slots, many); pieces = omega (arith, pieces, long) }
 
--- no memory is wanted
-wants_none : NeedLaws → (left rest : Content) (step : StepValue) (m : MachineState) (fault : Fault) → left ≡ with_step step rest → HasRoomForSteps left m → WantsRoom step.operation m fault → ⊥
-wants_none laws left rest step m fault is room wants = elim room [
-  | inl full ↦ laws.full step.operation m fault full wants
-  | inr steps ↦ laws.enough step.operation m fault (room_for_first laws step rest m (rw is at steps)) wants
-]
-
-pub refused_by_fault : NeedLaws → (left rest : Content) (step : StepValue) (m : MachineState) (fault : Fault) → left ≡ with_step step rest → HasRoomForSteps left m → RefusesStep step.operation m fault
+-- a step is refused by the operation's fault, and not for want of memory
+refused_by_fault : NeedLaws → (left rest : Content) (step : StepValue) (m : MachineState) (fault : Fault) → left ≡ with_step step rest → HasRoomForSteps left m → RefusesStep step.operation m fault
     → option_map Record (fault_of step.operation m.state m.surface) ≡ Some fault
 refused_by_fault laws left rest step m fault is room refuses = elim refuses [
   | inl h ↦ h
-  | inr wants ↦ absurd (wants_none laws left rest step m fault is room wants)
+  | inr wants ↦ absurd (laws.enough step.operation m fault (room_for_first laws step rest m (rw is at room)) wants)
 ]
 
-add_nothing : (n : ℕ) → n + 0 ≡ n
-add_nothing n = omega arith
-
--- what is left stops where it breaks
-pub stops_where_broken : (before : ℕ) (left new : Content) (state : State) (s : Surface) (result : Result (Option Step) RecordFault) (fault : RecordFault) (r : Refusal) → Gives left result new → result ≡ Err fault → r.number ≡ Some before → r.fault ≡ Record fault → StopsAfter before left state s r
-stops_where_broken before left new state s result fault r gives e number by =
-    let given : Stays (broken_by fault) left new = rw e at gives in
-    record {
-      at = stop_at before fault;
-      stops =
-          ap (λ (c : Content). stopped c.steps (broken_behind (before + length c.steps) c.fault) state s) given.is
-          ∙ ap (λ (n : ℕ). Some (stop_at n fault)) (add_nothing before);
-      number = number;
-      fault = by;
-    }
-
--- the fault that was found, in a record
-record IsThatOf (found : Option RecordFault) (fault : Fault) : Type 0 where
+-- the fault that was found
+record IsFound (found : Option RecordFault) : Type 0 where
   here : RecordFault
-  there : found ≡ Some here
-  same : fault ≡ Record here
+  is : found ≡ Some here
 
-that_of : (found : Option RecordFault) (fault : Fault) → option_map Record found ≡ Some fault → IsThatOf found fault
-that_of None fault h = cc
-that_of (Some here) fault h = record { here = here; there = refl; same = cc }
+found_of : (found : Option RecordFault) (fault : Fault) → option_map Record found ≡ Some fault → IsFound found
+found_of None fault h = cc
+found_of (Some here) fault h = record { here = here; is = refl }
 
-stops_there : (before : ℕ) (left rest : Content) (step : StepValue) (state : State) (s : Surface) (here : RecordFault) (r : Refusal) → left ≡ with_step step rest → fault_of step.operation state s ≡ Some here → r.number ≡ Some step.number → r.fault ≡ Record here → StopsAfter before left state s r
-stops_there before left rest step state s here r is there number by = record {
-  at = stop_at step.number here;
-  stops = rw (is, there) refl;
-  number = number;
-  fault = by;
-}
+none_some : (stop : Option Stop) (at : Stop) → stop ≡ None → stop ≡ Some at → ⊥
+none_some stop at n s = cc
 
--- or at its first step, if that has a fault
-pub stops_at_first : (before : ℕ) (left rest : Content) (step : StepValue) (state : State) (s : Surface) (fault : Fault) (r : Refusal) → left ≡ with_step step rest → option_map Record (fault_of step.operation state s) ≡ Some fault → r.number ≡ number_told step.number fault → r.fault ≡ fault → StopsAfter before left state s r
-stops_at_first before left rest step state s fault r is h number by =
-    let found = that_of (fault_of step.operation state s) fault h in
-    stops_there before left rest step state s found.here r is found.there (number ∙ ap (number_told step.number) found.same) (by ∙ found.same)
+-- what is left of the whole, behind steps without a fault
+module _ (whole left : Content) (start state : State) (s : Surface)
+    (same : stopped whole.steps (broken_behind (length whole.steps) whole.fault) start s ≡ stopped left.steps (broken_behind (length whole.steps) whole.fault) state s) where
+  -- it stops where it breaks
+  pub broken_stops : (fault : RecordFault) → left ≡ broken_by fault → left.fault ≡ whole.fault → stopped whole.steps (broken_behind (length whole.steps) whole.fault) start s ≡ None → ⊥
+  broken_stops fault is kept none =
+      let breaks : whole.fault ≡ Some fault = sym kept ∙ ap (λ (k : Content). k.fault) is in
+      let here : stopped left.steps (broken_behind (length whole.steps) whole.fault) state s ≡ Some (stop_at (length whole.steps) fault) =
+      ap (λ (k : Content). stopped k.steps (broken_behind (length whole.steps) whole.fault) state s) is ∙ ap (broken_behind (length whole.steps)) breaks in
+      none_some _ (stop_at (length whole.steps) fault) none (same ∙ here)
 
--- the fault behind what is left is that behind the whole
-same_break : (whole left : Content) (before : ℕ) → before + length left.steps ≡ length whole.steps → left.fault ≡ whole.fault
-    → broken_behind (length whole.steps) whole.fault ≡ broken_behind (before + length left.steps) left.fault
-same_break whole left before count fault = rw (count, fault) refl
+  -- and where its first step has a fault
+  at_first : (rest : Content) (step : StepValue) → left ≡ with_step step rest → IsFound (fault_of step.operation state s) → stopped whole.steps (broken_behind (length whole.steps) whole.fault) start s ≡ None → ⊥
+  at_first rest step is found none =
+      let here : stopped left.steps (broken_behind (length whole.steps) whole.fault) state s ≡ Some (stop_at step.number found.here) = rw (is, found.is) refl in
+      none_some _ (stop_at step.number found.here) none (same ∙ here)
 
--- where what is left stops, the whole does
-pub stops_by : (whole left : Content) (before : ℕ) (start state : State) (s : Surface) (r : Refusal) → before + length left.steps ≡ length whole.steps → left.fault ≡ whole.fault
-    → stop_of whole start s ≡ stopped left.steps (broken_behind (length whole.steps) whole.fault) state s → StopsAfter before left state s r → StopsBy whole start s r
-stops_by whole left before start state s r count fault same after = record {
-  at = after.at;
-  stops = same ∙ ap (λ (behind : Option Stop). stopped left.steps behind state s) (same_break whole left before count fault) ∙ after.stops;
-  number = after.number;
-  fault = after.fault;
-}
-
--- what is left begins with the step that was given
-pub begins_with : (old new : Content) (result : Result (Option Step) RecordFault) (step : Step) → Gives old result new → result ≡ Ok (Some step) → old ≡ with_step (step_value_of step) new
-begins_with old new result step gives e = rw e at gives
-
--- where the first step has a fault, and the machine is unchanged, it is left as it was
-pub left_at_first : (left rest : Content) (step : StepValue) (start end : MachineState) (fault : Fault) → left ≡ with_step step rest → option_map Record (fault_of step.operation start.state start.surface) ≡ Some fault → IsUnchanged start end → IsLeftBy left start end
-left_at_first left rest step start end fault is fails same =
-    let found = that_of (fault_of step.operation start.state start.surface) fault fails in rw is (record { state = rw found.there same.state; needs = rw found.there same.needs })
+pub refused_stops :
+    NeedLaws → (whole left rest : Content) (step : StepValue) (start : State) (m : MachineState) (fault : Fault) → left ≡ with_step step rest
+    → HasRoomForSteps left m → RefusesStep step.operation m fault
+    → stopped whole.steps (broken_behind (length whole.steps) whole.fault) start m.surface ≡ stopped left.steps (broken_behind (length whole.steps) whole.fault) m.state m.surface
+    → stopped whole.steps (broken_behind (length whole.steps) whole.fault) start m.surface ≡ None → ⊥
+refused_stops laws whole left rest step start m fault is room refuses same none =
+    at_first whole left start m.state m.surface same rest step is
+    (found_of (fault_of step.operation m.state m.surface) fault (refused_by_fault laws left rest step m fault is room refuses)) none

@@ -21,13 +21,13 @@ whole_count content state s old new first height count =
 whole_image : (content : Content) (state : State) (s : Surface) (old new : CanvasState) → old.first ≡ 0 → image_of new ≡ rows_after (drawings_of content.steps state) s old.first (image_of old) → image_of new ≡ image_after (drawings_of content.steps state) s (image_of old)
 whole_image content state s old new first image = subst (λ (n : ℕ). image_of new ≡ rows_after (drawings_of content.steps state) s n (image_of old)) first image
 
-pub whole_played : (o : OpenedValue) (records : List ℕ) (start end : MachineState) (old new : CanvasState) → PlaysRecords o.format records start end old new → old.first ≡ 0 → start.state ≡ start_of o → start.surface ≡ surface_for o old.width old.rows → PlaysOpened o records old new
-whole_played o records start end old new played first state surface =
-    let plays : PlaysContent played.content start end old new = played.plays in
+pub whole_played : (o : OpenedValue) (records : List ℕ) (start : MachineState) (old new : CanvasState) → PlaysRecords o.format records start old new → old.first ≡ 0 → start.state ≡ start_of o → start.surface ≡ surface_for o old.width old.rows → PlaysOpened o records old new
+whole_played o records start old new played first state surface =
+    let plays : PlaysContent played.content start old new = played.plays in
     record {
       content = played.content;
       of_records = played.of_records;
-      unstopped = rw (state, surface) at plays.runs.unstopped;
+      unstopped = rw (state, surface) at plays.unstopped;
       image = whole_image played.content (start_of o) (surface_for o old.width old.rows) old new first (rw (state, surface) at plays.image);
       writes = whole_count played.content (start_of o) (surface_for o old.width old.rows) old new first refl (rw (state, surface) at plays.writes);
     }

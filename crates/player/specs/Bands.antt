@@ -1,5 +1,5 @@
 -- Playing in bands: rows of a surface, one after another, from one colour, and the text of all of them.
-use Rattle.std.specs.Prelude.{◌≡◌, ◌≤◌, ◌<◌, ◌⊎◌, ℕ, ◌+◌, ◌++◌, List, Option, Result, Err}
+use Rattle.std.specs.Prelude.{◌≡◌, ℕ, ◌+◌, ◌++◌, List, Option, Result, Err}
 use Rattle.std.specs.Io.KnownBytes.{Appends}
 use Rattle.mapping.specs.Image.{Image, blank}
 use Rattle.mapping.specs.Surface.{Surface}
@@ -9,23 +9,18 @@ use Rattle.draw_ops.specs.declared.fault.Fault.{Fault}
 use Rattle.draw_ops.specs.declared.fault.Fault.TheVariants.{WriteFault}
 use Rattle.canvas.specs.CanvasState.{CanvasState, image_of}
 use Rattle.canvas.specs.Ppm.{AppendsFront, header, ppm_text, raster}
-use Rattle.mapping.specs.PlacingLaws.{IsNoLarger}
 use Rattle.meta_headers.specs.File.{IsOpenedFrom}
 use Rattle.meta_headers.specs.Headers.{OpenedValue}
 use Rattle.meta_headers.specs.OpenedOf.{opened_of}
 use Rattle.meta_headers.specs.Opening.{HasContentOf}
-use Rattle.dc_stack.specs.Drawing.{edge_limit}
-use Rattle.dc_stack.specs.MachineState.{MachineState}
 use Rattle.dc_stack.specs.State.{start_of}
-use Rattle.preflight_cert.specs.Answer.{bound_of}
 use Rattle.preflight_cert.specs.Apply.{rows_after}
-use Rattle.preflight_cert.specs.CertificateOf.{certificate_of}
 use Rattle.preflight_cert.specs.Drawings.{drawings_of}
-use Rattle.preflight_cert.specs.NeedLaws.{HasRoomFor}
-use Rattle.preflight_cert.specs.Run.{Run, RunWrites, shown}
+use Rattle.preflight_cert.specs.Run.{Run, shown}
 use Rattle.preflight_cert.specs.Writes.{writes_of_drawings}
-use Rattle.preflight_cert.specs.declared.certificate.Certificate.{Certificate}
 use Rattle.preflight_cert.specs.declared.cleared.Cleared.{Cleared}
+use Rattle.player.specs.Ready.{surface_of_file}
+use Rattle.player.specs.declared.band_plan.BandPlan.{BandPlan}
 
 -- the text is the P6 text of the image which the run of a file leaves of another
 pub record IsRunText (file : List ℕ) (width height : ℕ) (start : Image) (text : List ℕ) : Type 0 where
@@ -58,14 +53,6 @@ IsWriteFault result = result ≡ Err WriteFault
 abbrev pub WritesFrontTo : {W : Type 0} → Cleared → ℕ → ℕ → Colour → (W → Option (List ℕ)) → W → W → Type 0
 WritesFrontTo cleared width height start contents old new = WritesRunFront cleared width height start (contents old) (contents new)
 
--- so many pixels does the run of that file write at this size
-abbrev pub AreClearedWrites : Cleared → ℕ → ℕ → ℕ → Type 0
-AreClearedWrites cleared width height writes = (file : List ℕ) → IsOpenedFrom file cleared.opened → RunWrites file width height writes
-
--- a side is above the certificate's bound
-abbrev pub IsAboveBound : ℕ → ℕ → Certificate → Type 0
-IsAboveBound width height c = c.max_width < width ⊎ c.max_height < height
-
 -- what the drawings of records make of so many rows of one colour
 abbrev pub rows_played : OpenedValue → Content → Surface → Colour → ℕ → ℕ → Image
 rows_played o content s start first rows = rows_after (drawings_of content.steps (start_of o)) s first (blank s.width rows start)
@@ -95,28 +82,30 @@ HasWrittenFront o records s start old new =
 abbrev pub HasCountedRows : OpenedValue → List ℕ → Surface → ℕ → ℕ → Type 0
 HasCountedRows o records s rows writes = (content : Content) → HasContentOf o.format records content → writes ≡ row_writes o content s 0 rows
 
--- the same of a cleared file
-abbrev pub PlaysClearedBand : Cleared → Surface → Colour → ℕ → ℕ → CanvasState → CanvasState → Type 0
-PlaysClearedBand cleared s start first rows old new =
-    PlaysBand (opened_of cleared.opened) cleared.opened.records.now s start first rows old new
+-- the same of a cleared file and a plan
+abbrev pub plan_surface : Cleared → BandPlan → Surface
+plan_surface cleared plan = surface_of_file cleared plan.width plan.height
 
-abbrev pub CountsRows : Cleared → Surface → ℕ → ℕ → Type 0
-CountsRows cleared s rows writes = HasCountedRows (opened_of cleared.opened) cleared.opened.records.now s rows writes
+abbrev pub PlaysClearedBand : Cleared → BandPlan → ℕ → ℕ → CanvasState → CanvasState → Type 0
+PlaysClearedBand cleared plan first rows old new =
+    PlaysBand (opened_of cleared.opened) cleared.opened.records.now (plan_surface cleared plan) plan.start first rows old new
+
+abbrev pub CountsRows : Cleared → BandPlan → ℕ → ℕ → Type 0
+CountsRows cleared plan rows writes =
+    HasCountedRows (opened_of cleared.opened) cleared.opened.records.now (plan_surface cleared plan) rows writes
 
 -- and of a writer that holds these bytes
 module _ {W : Type 0} where
-  abbrev pub WritesRows : Cleared → Surface → Colour → ℕ → (W → Option (List ℕ)) → W → W → Type 0
-  WritesRows cleared s start rows contents old new =
-      HasWrittenRows (opened_of cleared.opened) cleared.opened.records.now s start rows (contents old) (contents new)
+  abbrev pub WritesPlan : Cleared → BandPlan → (W → Option (List ℕ)) → W → W → Type 0
+  WritesPlan cleared plan contents old new = WritesRun cleared plan.width plan.height plan.start (contents old) (contents new)
 
-  abbrev pub WritesRowsFront : Cleared → Surface → Colour → (W → Option (List ℕ)) → W → W → Type 0
-  WritesRowsFront cleared s start contents old new =
-      HasWrittenFront (opened_of cleared.opened) cleared.opened.records.now s start (contents old) (contents new)
+  abbrev pub WritesPlanFront : Cleared → BandPlan → (W → Option (List ℕ)) → W → W → Type 0
+  WritesPlanFront cleared plan contents old new = WritesFrontTo cleared plan.width plan.height plan.start contents old new
 
--- A machine plays a cleared file on a surface within the certificate's bound, and with rows of so many lines it has room for what the
--- certificate needs.
-pub record IsReadyToPlay (cleared : Cleared) (count : ℕ) (m : MachineState) : Type 0 where
-  pub kind : m.state.table_kind ≡ (start_of (opened_of cleared.opened)).table_kind
-  pub within : IsNoLarger m.surface (bound_of (opened_of cleared.opened) (certificate_of cleared.certificate))
-  pub room : HasRoomFor cleared.certificate.needs m
-  pub lines : edge_limit ≤ count ⊎ cleared.certificate.needs.edges ≤ count
+  abbrev pub WritesRows : Cleared → BandPlan → ℕ → (W → Option (List ℕ)) → W → W → Type 0
+  WritesRows cleared plan rows contents old new =
+      HasWrittenRows (opened_of cleared.opened) cleared.opened.records.now (plan_surface cleared plan) plan.start rows (contents old) (contents new)
+
+  abbrev pub WritesRowsFront : Cleared → BandPlan → (W → Option (List ℕ)) → W → W → Type 0
+  WritesRowsFront cleared plan contents old new =
+      HasWrittenFront (opened_of cleared.opened) cleared.opened.records.now (plan_surface cleared plan) plan.start (contents old) (contents new)

@@ -1,7 +1,9 @@
 pub mod Counts
 pub mod After
-pub mod Leaving
-pub mod Advances
+pub mod Bounds
+pub mod Ready
 pub mod Plays
 pub mod ClearedPlay
 pub mod Bands
+pub mod ReadyBands
+pub mod Sending

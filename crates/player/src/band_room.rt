@@ -1,69 +1,71 @@
-//! The memory that playing in bands takes, all of it before a byte is written.
+//! The memory that playing in bands takes, all of it before a byte is written, and a band played in it.
 
-ghost use Rattle.std.specs.Prelude.{◌≡◌, ◌≤◌, min, IfOk};
-ghost use Rattle.meta_headers.specs.OpenedOf.{opened_of};
-ghost use Rattle.meta_headers.specs.Opening.{surface_for};
-ghost use Rattle.player.specs.Bands.{IsReadyToPlay};
+ghost use Rattle.std.specs.Prelude.{◌≡◌, ◌+◌, ◌<◌, ◌≤◌, min, IfErr, IfOk};
+ghost use Rattle.player.specs.Bands.{PlaysClearedBand};
+ghost use Rattle.player.specs.Bounds.{IsPlayFault, TellsTooLarge};
+ghost use Rattle.player.specs.Counts.{CountsFile, HasRoomForFile};
+ghost use Rattle.player.specs.ReadyBands.{IsReadyForBands};
 
+use crate::band_plan::BandPlan;
+use crate::play_room::{PlayRoom, play_room};
+use crate::playing::play_rows;
 use canvas::Canvas;
-use dc_stack::Machine;
-use mapping::{Colour, Place};
-use object_tables::FileTable;
-use painting::DrawingRoom;
+use draw_ops::{Fault, content_law};
 use preflight_cert::Cleared;
-use span_fill::OutOfMemory;
 use std::alloc::Global;
 
-/// A machine and room for drawings, enough for what a cleared file needs, and a canvas with room for a band.
+/// Room for playing a cleared file, and a canvas with room for a band.
 #[derive(Drop)]
 pub(crate) struct BandRoom<'a> {
-    pub machine: Machine<'a, FileTable<'a>>,
-    pub drawings: DrawingRoom,
+    pub play: PlayRoom<'a>,
     pub canvas: Canvas,
 }
 
-/// Room for playing a cleared file in bands of so many rows, on a surface within the certificate's bound.
+/// Room for playing a cleared file in the bands of a plan: `SurfaceTooLarge` exactly where a side is above the certificate's bound, and
+/// `OutOfMemory` where memory was refused.
 pub(crate) fn band_room<'a>(
     alloc: Global,
     cleared: &Cleared<'a>,
-    width: u32,
-    height: u32,
-    start: Colour,
-    rows: u32,
-) -> Result<BandRoom<'a>, OutOfMemory>
-    requires wide { 1 ≤ width }
-    requires high { 1 ≤ height }
-    requires rows { 1 ≤ rows }
-    requires wide_within { width ≤ cleared.now.certificate.max_width }
-    requires high_within { height ≤ cleared.now.certificate.max_height }
-    ensures ready { IfOk result (λ room. IsReadyToPlay cleared.now room.drawings.rows.room room.machine) }
-    ensures surface { IfOk result (λ room. room.machine.surface ≡ surface_for (opened_of cleared.now.opened) width height) }
-    ensures width { IfOk result (λ room. room.canvas.width ≡ width) }
-    ensures some { IfOk result (λ room. 1 ≤ room.canvas.most) }
-    ensures most { IfOk result (λ room. room.canvas.most ≡ min rows height) }
+    plan: BandPlan,
+) -> Result<BandRoom<'a>, Fault>
+    ensures ready { IfOk result (IsReadyForBands cleared.now plan) }
+    ensures most { IfOk result (λ room. room.canvas.most ≡ min plan.rows plan.height) }
     ensures unwritten { IfOk result (λ room. room.canvas.writes ≡ 0) }
+    ensures too_large { TellsTooLarge result plan.width plan.height cleared.now.certificate }
+    ensures refusal { IfErr result IsPlayFault }
 {
-    let opened = &cleared.opened;
-    let needs = cleared.certificate.needs;
-    let place = Place::new(&opened.frame, width, height);
-    let table = FileTable::new(alloc, opened.handles);
-    let mut machine = Machine::new(alloc, opened, place, table);
-    let Ok(()) = machine.reserve(
-        needs.depth as usize,
-        needs.slots as usize,
-        needs.pieces as usize,
-    ) else {
-        return Err(OutOfMemory);
+    let play = match play_room(alloc, cleared, plan.width, plan.height) {
+        Ok(play) => play,
+        Err(fault) => return Err(fault),
     };
-    let Ok(drawings) = DrawingRoom::for_lines(alloc, needs.edges) else {
-        return Err(OutOfMemory);
-    };
-    let Ok(canvas) = Canvas::band(alloc, width, 0, rows.min(height), start) else {
-        return Err(OutOfMemory);
-    };
-    Ok(BandRoom {
-        machine,
-        drawings,
-        canvas,
-    })
+    let rows = plan.rows.min(plan.height);
+    match Canvas::band(alloc, plan.width, 0, rows, plan.start) {
+        Ok(canvas) => Ok(BandRoom { play, canvas }),
+        Err(_) => Err(Fault::OutOfMemory),
+    }
+}
+
+/// Plays the file from its start on, on the rows of the band that begins with row `first`, and tells how many these are.
+pub(crate) fn show_band<'a>(
+    cleared: &Cleared<'a>,
+    room: &mut BandRoom<'a>,
+    plan: BandPlan,
+    first: u32,
+) -> u32
+    requires ready { IsReadyForBands cleared.now plan room.old }
+    requires below { first < plan.height }
+    requires countable { HasRoomForFile room.old.canvas }
+    ensures some { 1 ≤ result }
+    ensures within { first + result ≤ plan.height }
+    ensures played { PlaysClearedBand cleared.now plan first result room.old.canvas room.new.canvas }
+    ensures bounded { CountsFile room.old.canvas room.new.canvas }
+    ensures ready { IsReadyForBands cleared.now plan room.new }
+{
+    content_law();
+    let rows = room.canvas.most_rows().min(plan.height - first);
+    let (machine, drawings) = (&mut room.play.machine, &mut room.play.drawings);
+    machine.restart(&cleared.opened);
+    room.canvas.again(first, rows, plan.start);
+    play_rows(cleared, machine, drawings, &mut room.canvas);
+    rows
 }

@@ -1,22 +1,19 @@
 //! Playing a cleared file in bands: rows of the surface, one after another, on one canvas.
 
-ghost use Rattle.std.specs.Prelude.{◌≡◌, ◌+◌, ◌≤◌, ◌⊎◌, ◌^◌, ◌↔◌, Err, IfErr, IfOk, OnErr, OnOk};
+ghost use Rattle.std.specs.Prelude.{◌≡◌, ◌+◌, ◌-◌, ◌<◌, ◌≤◌, ◌^◌, Err, IfErr, IfOk, OnErr, OnOk};
 ghost use Rattle.std.specs.Io.KnownBytes.{Keeps};
-ghost use Rattle.draw_ops.specs.declared.fault.Fault.TheVariants.{OutOfMemory, SurfaceTooLarge};
-ghost use Rattle.meta_headers.specs.OpenedOf.{opened_of};
-ghost use Rattle.meta_headers.specs.Opening.{surface_for};
-ghost use Rattle.player.specs.Bands.{AreClearedWrites, CountsRows, IsAboveBound, IsReadyToPlay, PlaysClearedBand};
-ghost use Rattle.player.specs.Bands.{IsWriteFault, WritesFrontTo, WritesRows, WritesRowsFront, WritesRun, WritesRunFront};
-ghost use Rattle.player.specs.Counts.{CountsFile, HasRoomForFile};
+ghost use Rattle.player.specs.Bands.{CountsRows, IsWriteFault, WritesFrontTo, WritesPlan, WritesPlanFront};
+ghost use Rattle.player.specs.Bands.{WritesRows, WritesRowsFront, WritesRun};
+ghost use Rattle.player.specs.Bounds.{IsBandFault, TellsTooLarge};
+ghost use Rattle.player.specs.ClearedPlay.{AreClearedWrites};
+ghost use Rattle.player.specs.ReadyBands.{IsReadyForBands};
 
-use crate::band_room::{BandRoom, band_room};
-use crate::cleared_play::play_rows;
-use canvas::{Canvas, WriteFault, write_header};
-use dc_stack::Machine;
+use crate::band_plan::BandPlan;
+use crate::band_room::{BandRoom, band_room, show_band};
+use crate::part_writer::{Counted, PartWriter, Uncounted};
+use canvas::{FaultCount, WriteFault};
 use draw_ops::{Fault, content_law};
 use mapping::Colour;
-use object_tables::Table;
-use painting::DrawingRoom;
 use preflight_cert::{Cleared, answer_law, rows_law, size_law};
 use std::alloc::Global;
 use std::io::Write;
@@ -42,20 +39,25 @@ pub fn play_bands<W: Write>(
     ensures text { OnOk result (WritesRun cleared.now width height start (W.contents out.old) (W.contents out.new)) }
     ensures writes { IfOk result (AreClearedWrites cleared.now width height) }
     ensures few { IfOk result (λ writes. writes ≤ cleared.now.certificate.writes) }
-    ensures too_large { (result ≡ Err SurfaceTooLarge) ↔ IsAboveBound width height cleared.now.certificate }
-    ensures refusal { IfErr result (λ fault. fault ≡ SurfaceTooLarge ⊎ (fault ≡ OutOfMemory ⊎ fault ≡ Fault.WriteFault)) }
+    ensures too_large { TellsTooLarge result width height cleared.now.certificate }
+    ensures refusal { IfErr result IsBandFault }
     ensures unwritten { (IsWriteFault result → ⊥) → OnErr result (Keeps (W.contents out.old) (W.contents out.new)) }
     ensures front { IsWriteFault result → WritesFrontTo cleared.now width height start W.contents out.old out.new }
 {
-    let certificate = &cleared.certificate;
-    if certificate.max_width < width || certificate.max_height < height {
-        return Err(Fault::SurfaceTooLarge);
+    let plan = BandPlan {
+        width,
+        height,
+        start,
+        rows,
+    };
+    match band_room(alloc, cleared, plan) {
+        Ok(mut room) => write_image::<W, Uncounted>(cleared, &mut room, plan, out),
+        Err(fault) => Err(fault),
     }
-    play_within(alloc, cleared, width, height, start, rows, out)
 }
 
-/// The same on a surface within the certificate's bound.
-fn play_within<W: Write>(
+/// The same as `play_bands`, to a writer that counts its faults and has room for one more: `WriteFault` comes only where the count rose.
+pub fn play_bands_to<W: FaultCount>(
     alloc: Global,
     cleared: &Cleared<'_>,
     width: u32,
@@ -67,124 +69,83 @@ fn play_within<W: Write>(
     requires wide { 1 ≤ width }
     requires high { 1 ≤ height }
     requires rows { 1 ≤ rows }
-    requires wide_within { width ≤ cleared.now.certificate.max_width }
-    requires high_within { height ≤ cleared.now.certificate.max_height }
+    requires room { W.fault_count out.old < 2 ^ 64 - 1 }
     ensures text { OnOk result (WritesRun cleared.now width height start (W.contents out.old) (W.contents out.new)) }
     ensures writes { IfOk result (AreClearedWrites cleared.now width height) }
     ensures few { IfOk result (λ writes. writes ≤ cleared.now.certificate.writes) }
-    ensures refusal { IfErr result (λ fault. fault ≡ OutOfMemory ⊎ fault ≡ Fault.WriteFault) }
-    ensures unwritten { result ≡ Err OutOfMemory → Keeps (W.contents out.old) (W.contents out.new) }
-    ensures front { result ≡ Err Fault.WriteFault
-        → WritesRunFront cleared.now width height start (W.contents out.old) (W.contents out.new) }
+    ensures too_large { TellsTooLarge result width height cleared.now.certificate }
+    ensures refusal { IfErr result IsBandFault }
+    ensures unwritten { (IsWriteFault result → ⊥) → OnErr result (Keeps (W.contents out.old) (W.contents out.new)) }
+    ensures front { IsWriteFault result → WritesFrontTo cleared.now width height start W.contents out.old out.new }
+    ensures fault { result ≡ Err Fault.WriteFault → W.fault_count out.old < W.fault_count out.new }
+    ensures room { OnOk result (W.fault_count out.new < 2 ^ 64 - 1) }
+    ensures count { W.fault_count out.old ≤ W.fault_count out.new }
 {
-    let Ok(room) = band_room(alloc, cleared, width, height, start, rows) else {
-        return Err(Fault::OutOfMemory);
-    };
-    let BandRoom {
-        mut machine,
-        mut drawings,
-        mut canvas,
-    } = room;
-    play_reserved(
-        cleared,
-        &mut machine,
-        &mut drawings,
-        &mut canvas,
+    let plan = BandPlan {
+        width,
         height,
         start,
-        out,
-    )
+        rows,
+    };
+    match band_room(alloc, cleared, plan) {
+        Ok(mut room) => write_image::<W, Counted>(cleared, &mut room, plan, out),
+        Err(fault) => Err(fault),
+    }
 }
 
-/// The same on a machine, with rows and on a canvas that have room for it: nothing is refused, but by the writer.
-fn play_reserved<'a, T: Table<'a>, W: Write>(
+/// The same in room that was made for it, whatever the way to write: nothing is refused, but by the writer.
+fn write_image<'a, W: Write, P: PartWriter<W>>(
     cleared: &Cleared<'a>,
-    machine: &mut Machine<'a, T>,
-    drawings: &mut DrawingRoom,
-    canvas: &mut Canvas,
-    height: u32,
-    start: Colour,
+    room: &mut BandRoom<'a>,
+    plan: BandPlan,
     out: &mut W,
 ) -> Result<u64, Fault>
-    requires ready { IsReadyToPlay cleared.now drawings.old.rows.room machine.old }
-    requires surface { machine.old.surface ≡ surface_for (opened_of cleared.now.opened) canvas.old.width height }
-    requires some { 1 ≤ canvas.old.most }
-    requires unwritten { canvas.old.writes ≡ 0 }
-    ensures text { OnOk result (WritesRun cleared.now canvas.old.width height start (W.contents out.old) (W.contents out.new)) }
-    ensures writes { IfOk result (AreClearedWrites cleared.now canvas.old.width height) }
+    requires ready { IsReadyForBands cleared.now plan room.old }
+    requires unwritten { room.old.canvas.writes ≡ 0 }
+    requires room { P.faults out.old + P.counted < 2 ^ 64 }
+    ensures text { OnOk result (WritesPlan cleared.now plan W.contents out.old out.new) }
+    ensures writes { IfOk result (AreClearedWrites cleared.now plan.width plan.height) }
     ensures few { IfOk result (λ writes. writes ≤ cleared.now.certificate.writes) }
     ensures refusal { IfErr result (λ fault. fault ≡ Fault.WriteFault) }
-    ensures front { OnErr result
-        (WritesRunFront cleared.now canvas.old.width height start (W.contents out.old) (W.contents out.new)) }
+    ensures front { OnErr result (WritesPlanFront cleared.now plan W.contents out.old out.new) }
+    ensures fault { OnErr result (P.faults out.old + P.counted ≤ P.faults out.new) }
+    ensures room { OnOk result (P.faults out.new + P.counted < 2 ^ 64) }
+    ensures count { P.faults out.old ≤ P.faults out.new }
 {
     answer_law();
     size_law();
     content_law();
     rows_law();
-    canvas.width();
-    match write_bands(cleared, machine, drawings, canvas, height, start, out) {
-        Ok(()) => Ok(canvas.writes()),
+    match write_bands::<W, P>(cleared, room, plan, out) {
+        Ok(()) => Ok(room.canvas.writes()),
         Err(_) => Err(Fault::WriteFault),
     }
 }
 
-/// Plays and writes one band after another, on a canvas that has room for one.
-fn write_bands<'a, T: Table<'a>, W: Write>(
+/// Plays and writes one band after another.
+fn write_bands<'a, W: Write, P: PartWriter<W>>(
     cleared: &Cleared<'a>,
-    machine: &mut Machine<'a, T>,
-    drawings: &mut DrawingRoom,
-    canvas: &mut Canvas,
-    height: u32,
-    start: Colour,
+    room: &mut BandRoom<'a>,
+    plan: BandPlan,
     out: &mut W,
 ) -> Result<(), WriteFault>
-    requires ready { IsReadyToPlay cleared.now drawings.old.rows.room machine.old }
-    requires width { canvas.old.width ≡ machine.old.surface.width }
-    requires height { machine.old.surface.height ≡ height }
-    requires some { 1 ≤ canvas.old.most }
-    requires unwritten { canvas.old.writes ≡ 0 }
-    ensures text { OnOk result (WritesRows cleared.now machine.old.surface start height W.contents out.old out.new) }
-    ensures counted { OnOk result (CountsRows cleared.now machine.old.surface height canvas.new.writes) }
-    ensures front { OnErr result (WritesRowsFront cleared.now machine.old.surface start W.contents out.old out.new) }
+    requires ready { IsReadyForBands cleared.now plan room.old }
+    requires unwritten { room.old.canvas.writes ≡ 0 }
+    requires room { P.faults out.old + P.counted < 2 ^ 64 }
+    ensures text { OnOk result (WritesRows cleared.now plan plan.height W.contents out.old out.new) }
+    ensures counted { OnOk result (CountsRows cleared.now plan plan.height room.new.canvas.writes) }
+    ensures front { OnErr result (WritesRowsFront cleared.now plan W.contents out.old out.new) }
+    ensures fault { OnErr result (P.faults out.old + P.counted ≤ P.faults out.new) }
+    ensures room { OnOk result (P.faults out.new + P.counted < 2 ^ 64) }
+    ensures count { P.faults out.old ≤ P.faults out.new }
 {
     rows_law();
-    write_header(out, canvas.width(), height)?;
-    let most = canvas.most_rows();
+    P::write_header(out, plan.width, plan.height)?;
     let mut first: u32 = 0;
-    while first < height {
-        let rows = most.min(height - first);
-        show_band(cleared, machine, drawings, canvas, first, rows, start);
-        canvas.write_rows(out)?;
+    while first < plan.height {
+        let rows = show_band(cleared, room, plan, first);
+        P::write_rows(out, &room.canvas)?;
         first += rows;
     }
     Ok(())
-}
-
-/// Plays the file on so many rows from one colour, from its start on.
-pub(crate) fn show_band<'a, T: Table<'a>>(
-    cleared: &Cleared<'a>,
-    machine: &mut Machine<'a, T>,
-    drawings: &mut DrawingRoom,
-    canvas: &mut Canvas,
-    first: u32,
-    rows: u32,
-    start: Colour,
-)
-    requires ready { IsReadyToPlay cleared.now drawings.old.rows.room machine.old }
-    requires width { canvas.old.width ≡ machine.old.surface.width }
-    requires some { 1 ≤ rows }
-    requires few { rows ≤ canvas.old.most }
-    requires within { first + rows ≤ machine.old.surface.height }
-    requires countable { HasRoomForFile canvas.old }
-    ensures played { PlaysClearedBand cleared.now machine.old.surface start first rows canvas.old canvas.new }
-    ensures bounded { CountsFile canvas.old canvas.new }
-    ensures ready { IsReadyToPlay cleared.now drawings.new.rows.room machine.new }
-    ensures surface { machine.new.surface ≡ machine.old.surface }
-    ensures width { canvas.new.width ≡ canvas.old.width }
-    ensures most { canvas.new.most ≡ canvas.old.most }
-{
-    content_law();
-    machine.restart(&cleared.opened);
-    canvas.again(first, rows, start);
-    play_rows(cleared, machine, drawings, canvas);
 }

@@ -1,28 +1,20 @@
 //! Playing a file whose certificate was accepted.
 
-ghost use Rattle.std.specs.Prelude.{◌≡◌, ◌+◌, ◌≤◌, ◌⊎◌, ◌↔◌, Err, IfErr, IfOk, OnErr, OnOk};
-ghost use Rattle.mapping.specs.PlacingLaws.{IsNoLarger};
-ghost use Rattle.draw_ops.specs.declared.fault.Fault.TheVariants.{OutOfMemory, SurfaceTooLarge};
+ghost use Rattle.std.specs.Prelude.{◌≡◌, ◌+◌, ◌≤◌, IfErr, IfOk, OnErr, OnOk};
 ghost use Rattle.meta_headers.specs.OpenedOf.{opened_of};
-ghost use Rattle.meta_headers.specs.Opening.{surface_for};
-ghost use Rattle.dc_stack.specs.Drawing.{edge_limit};
-ghost use Rattle.dc_stack.specs.MachineState.{GoesOn};
-ghost use Rattle.dc_stack.specs.Needs.{no_needs};
-ghost use Rattle.dc_stack.specs.State.{start_of};
-ghost use Rattle.preflight_cert.specs.Answer.{bound_of};
-ghost use Rattle.preflight_cert.specs.CertificateOf.{certificate_of};
-ghost use Rattle.player.specs.ClearedPlay.{AreRunWrites, IsTooLarge, IsCanvasWithin, LeavesRun};
-ghost use Rattle.player.specs.Counts.{CountsFile, HasRoomForFile};
-ghost use Rattle.painting.specs.Drawn.{HoldsRows, SameRows};
-ghost use Rattle.player.specs.Plays.{PlaysFile, PlaysOpened};
-ghost use Rattle.preflight_cert.specs.NeedLaws.{HasRoomFor};
+ghost use Rattle.painting.specs.Drawn.{SameRows};
+ghost use Rattle.player.specs.Bounds.{IsPlayFault, TellsTooLarge};
+ghost use Rattle.player.specs.ClearedPlay.{AreClearedWrites, LeavesRun};
+ghost use Rattle.player.specs.Counts.{HasRoomForFile};
+ghost use Rattle.player.specs.Plays.{PlaysOpened};
+ghost use Rattle.player.specs.Ready.{IsAtStart, IsReadyToPlay, surface_of_file};
 
-use crate::playing::play_records;
+use crate::play_room::play_room;
+use crate::playing::play_rows;
 use canvas::Canvas;
 use dc_stack::Machine;
 use draw_ops::Fault;
-use mapping::Place;
-use object_tables::{FileTable, Table};
+use object_tables::Table;
 use painting::DrawingRoom;
 use preflight_cert::{Cleared, answer_law, size_law};
 use std::alloc::Global;
@@ -34,54 +26,25 @@ pub fn play(alloc: Global, cleared: &Cleared<'_>, canvas: &mut Canvas) -> Result
     requires whole { canvas.old.first ≡ 0 }
     requires countable { HasRoomForFile canvas.old }
     ensures image { OnOk result (LeavesRun cleared.now canvas.old canvas.new) }
-    ensures writes { IfOk result (AreRunWrites cleared.now canvas.old) }
+    ensures writes { IfOk result (AreClearedWrites cleared.now canvas.old.width canvas.old.rows) }
     ensures count { IfOk result (λ writes. canvas.new.writes ≡ canvas.old.writes + writes) }
     ensures few { IfOk result (λ writes. writes ≤ cleared.now.certificate.writes) }
-    ensures too_large { (result ≡ Err SurfaceTooLarge) ↔ IsTooLarge canvas.old cleared.now.certificate }
-    ensures refusal { IfErr result (λ fault. fault ≡ SurfaceTooLarge ⊎ fault ≡ OutOfMemory) }
+    ensures too_large { TellsTooLarge result canvas.old.width canvas.old.rows cleared.now.certificate }
+    ensures refusal { IfErr result IsPlayFault }
     ensures unchanged { OnErr result (canvas.new ≡ canvas.old) }
     ensures rows { SameRows canvas.old canvas.new }
 {
-    let certificate = &cleared.certificate;
-    if certificate.max_width < canvas.width() || certificate.max_height < canvas.rows() {
-        return Err(Fault::SurfaceTooLarge);
+    match play_room(alloc, cleared, canvas.width(), canvas.rows()) {
+        Ok(mut room) => {
+            let (machine, drawings) = (&mut room.machine, &mut room.drawings);
+            Ok(play_reserved(cleared, machine, drawings, canvas))
+        }
+        Err(fault) => Err(fault),
     }
-    play_within(alloc, cleared, canvas)
-}
-
-/// The same on a surface within the certificate's bound.
-#[tactic(auto, using(crate::proofs::WholeSurfaceLemmas::whole))]
-fn play_within(alloc: Global, cleared: &Cleared<'_>, canvas: &mut Canvas) -> Result<u64, Fault>
-    requires whole { canvas.old.first ≡ 0 }
-    requires countable { HasRoomForFile canvas.old }
-    requires within { IsCanvasWithin canvas.old cleared.now.certificate }
-    ensures played { OnOk result
-        (PlaysOpened (opened_of cleared.now.opened) cleared.now.opened.records.now canvas.old canvas.new) }
-    ensures count { IfOk result (λ writes. canvas.new.writes ≡ canvas.old.writes + writes) }
-    ensures few { IfOk result (λ writes. writes ≤ cleared.now.certificate.writes) }
-    ensures memory { IfErr result (λ fault. fault ≡ OutOfMemory) }
-    ensures unchanged { OnErr result (canvas.new ≡ canvas.old) }
-    ensures rows { SameRows canvas.old canvas.new }
-{
-    let opened = &cleared.opened;
-    let needs = cleared.certificate.needs;
-    let place = Place::new(&opened.frame, canvas.width(), canvas.rows());
-    let table = FileTable::new(alloc, opened.handles);
-    let mut machine = Machine::new(alloc, opened, place, table);
-    let Ok(()) = machine.reserve(
-        needs.depth as usize,
-        needs.slots as usize,
-        needs.pieces as usize,
-    ) else {
-        return Err(Fault::OutOfMemory);
-    };
-    let Ok(mut drawings) = DrawingRoom::for_lines(alloc, needs.edges) else {
-        return Err(Fault::OutOfMemory);
-    };
-    Ok(play_reserved(cleared, &mut machine, &mut drawings, canvas))
 }
 
 /// The same on a machine and with rows that have room for what the certificate needs: nothing is refused.
+#[tactic(auto, using(crate::proofs::WholeSurfaceLemmas::whole))]
 fn play_reserved<'a, T: Table<'a>>(
     cleared: &Cleared<'a>,
     machine: &mut Machine<'a, T>,
@@ -89,15 +52,11 @@ fn play_reserved<'a, T: Table<'a>>(
     canvas: &mut Canvas,
 ) -> u64
     requires whole { canvas.old.first ≡ 0 }
-    requires held { HoldsRows canvas.old machine.old.surface }
     requires countable { HasRoomForFile canvas.old }
-    requires within { IsCanvasWithin canvas.old cleared.now.certificate }
-    requires room { HasRoomFor cleared.now.certificate.needs machine.old }
-    requires lines { (edge_limit ≤ drawings.old.rows.room) ⊎ (cleared.now.certificate.needs.edges ≤ drawings.old.rows.room) }
-    requires state { machine.old.state ≡ start_of (opened_of cleared.now.opened) }
-    requires needs { machine.old.needs ≡ no_needs }
-    requires surface { machine.old.surface ≡ surface_for (opened_of cleared.now.opened) canvas.old.width canvas.old.rows }
-    ensures played { PlaysFile cleared.now.opened machine.old machine.new canvas.old canvas.new }
+    requires ready { IsReadyToPlay cleared.now drawings.old.rows.room machine.old }
+    requires start { IsAtStart cleared.now machine.old }
+    requires surface { machine.old.surface ≡ surface_of_file cleared.now canvas.old.width canvas.old.rows }
+    ensures played { PlaysOpened (opened_of cleared.now.opened) cleared.now.opened.records.now canvas.old canvas.new }
     ensures count { canvas.new.writes ≡ canvas.old.writes + result }
     ensures few { result ≤ cleared.now.certificate.writes }
     ensures rows { SameRows canvas.old canvas.new }
@@ -105,34 +64,4 @@ fn play_reserved<'a, T: Table<'a>>(
     answer_law();
     size_law();
     play_rows(cleared, machine, drawings, canvas)
-}
-
-/// Plays a cleared file from its start on, on a canvas that holds rows of a surface within the certificate's bound, on a machine and
-/// with rows that have room for what the certificate needs: nothing is refused.
-pub(crate) fn play_rows<'a, T: Table<'a>>(
-    cleared: &Cleared<'a>,
-    machine: &mut Machine<'a, T>,
-    drawings: &mut DrawingRoom,
-    canvas: &mut Canvas,
-) -> u64
-    requires held { HoldsRows canvas.old machine.old.surface }
-    requires countable { HasRoomForFile canvas.old }
-    requires within { IsNoLarger machine.old.surface (bound_of (opened_of cleared.now.opened) (certificate_of cleared.now.certificate)) }
-    requires room { HasRoomFor cleared.now.certificate.needs machine.old }
-    requires lines { (edge_limit ≤ drawings.old.rows.room) ⊎ (cleared.now.certificate.needs.edges ≤ drawings.old.rows.room) }
-    requires state { machine.old.state ≡ start_of (opened_of cleared.now.opened) }
-    requires needs { machine.old.needs ≡ no_needs }
-    ensures played { PlaysFile cleared.now.opened machine.old machine.new canvas.old canvas.new }
-    ensures count { canvas.new.writes ≡ canvas.old.writes + result }
-    ensures bounded { CountsFile canvas.old canvas.new }
-    ensures rows { SameRows canvas.old canvas.new }
-    ensures goes_on { GoesOn machine.old machine.new }
-    ensures lines { drawings.new.rows.room ≡ drawings.old.rows.room }
-{
-    answer_law();
-    size_law();
-    match play_records(&cleared.opened, machine, drawings, canvas) {
-        Ok(writes) => writes,
-        Err(_) => unreachable!(),
-    }
 }

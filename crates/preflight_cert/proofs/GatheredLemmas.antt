@@ -1,13 +1,11 @@
 -- What is gathered record by record is what is gathered of all.
-use Rattle.std.proofs.Common.{◌≡◌, ℕ, ◌+◌, List, ◌++◌, Option, Some, None, Result, Ok, refl, ap, sym, ◌∙◌, arith, append_assoc}
+use Rattle.std.proofs.Common.{◌≡◌, ℕ, ◌+◌, List, ◌++◌, Option, Some, None, refl, ap, sym, ◌∙◌, arith, append_assoc}
 use Rattle.std.specs.List.{All}
 use Rattle.std.proofs.lemmas.List.Elements.{All-cons}
 use Rattle.mapping.specs.Surface.{Surface}
 use Rattle.draw_ops.specs.Content.{Content, with_step}
-use Rattle.draw_ops.specs.Gives.{Gives}
 use Rattle.draw_ops.specs.OperationOf.{operation_of}
 use Rattle.draw_ops.specs.StepOf.{step_value_of}
-use Rattle.draw_ops.specs.declared.record_fault.RecordFault.{RecordFault}
 use Rattle.draw_ops.specs.declared.step.Step.{Step}
 use Rattle.dc_stack.specs.Drawing.{Drawing, drawing_of}
 use Rattle.dc_stack.specs.Next.{next}
@@ -30,29 +28,26 @@ entries_then number (Some drawing) later fits all = All-cons IsEntry (least_entr
 
 pub ruleset gathered = (texts_then, budget_then)
 
-begins_with : (old new : Content) (result : Result (Option Step) RecordFault) (step : Step) → Gives old result new → result ≡ Ok (Some step) → old ≡ with_step (step_value_of step) new
-begins_with old new result step h e = rw e at h
-
 -- where a step's entry and all later ones have numbers of 32 bits, all from that step on have
-pub step_entries : (old new : Content) (result : Result (Option Step) RecordFault) (step : Step) (state after : State) (drawing : Option Drawing) → Gives old result new → result ≡ Ok (Some step)
+pub step_entries : (old new : Content) (step : Step) (state after : State) (drawing : Option Drawing) → old ≡ with_step (step_value_of step) new
     → after ≡ next (operation_of step.op) state → drawing ≡ drawing_of (operation_of step.op) state → FitsEntry step.number drawing
     → All IsEntry (least_entries (drawings_of new.steps after)) → All IsEntry (least_entries (drawings_of old.steps state))
-step_entries old new result step state after drawing gives is stepped drawn fits all =
+step_entries old new step state after drawing first stepped drawn fits all =
     let value = step_value_of step in
     let later = drawings_of new.steps (next value.operation state) in
     let rest : All IsEntry (least_entries later) = rw stepped at all in
-    let first : FitsEntry step.number (drawing_of value.operation state) = rw drawn at fits in
-    let whole : All IsEntry (least_entries (drawing_then step.number (drawing_of value.operation state) later)) = entries_then step.number (drawing_of value.operation state) later first rest in
-    rw (begins_with old new result step gives is) whole
+    let here : FitsEntry step.number (drawing_of value.operation state) = rw drawn at fits in
+    let whole : All IsEntry (least_entries (drawing_then step.number (drawing_of value.operation state) later)) = entries_then step.number (drawing_of value.operation state) later here rest in
+    rw first whole
 
 -- what is written up to a step, and the texts of all later ones
-pub step_texts : (old new : Content) (result : Result (Option Step) RecordFault) (step : Step) (state after : State) (drawing : Option Drawing) (before now : List ℕ) → Gives old result new → result ≡ Ok (Some step)
+pub step_texts : (old new : Content) (step : Step) (state after : State) (drawing : Option Drawing) (before now : List ℕ) → old ≡ with_step (step_value_of step) new
     → after ≡ next (operation_of step.op) state → drawing ≡ drawing_of (operation_of step.op) state → now ≡ before ++ drawing_text step.number drawing
     → before ++ least_texts (drawings_of old.steps state) ≡ now ++ least_texts (drawings_of new.steps after)
-step_texts old new result step state after drawing before now gives is stepped drawn written =
+step_texts old new step state after drawing before now first stepped drawn written =
     let value = step_value_of step in
     let later = drawings_of new.steps (next value.operation state) in
     let text = drawing_text step.number (drawing_of value.operation state) in
     let split : least_texts (drawings_of old.steps state) ≡ text ++ least_texts later =
-    ap (λ (content : Content). least_texts (drawings_of content.steps state)) (begins_with old new result step gives is) ∙ texts_then step.number (drawing_of value.operation state) later in
+    ap (λ (content : Content). least_texts (drawings_of content.steps state)) first ∙ texts_then step.number (drawing_of value.operation state) later in
     rw (split, stepped, written, drawn) (sym (append_assoc before text (least_texts later)))

@@ -27,3 +27,4 @@ pub mod ObjectLemmas
 pub mod RowsLemmas
 pub mod RefusalLemmas
 pub mod MissedLemmas
+mod WorkedRows

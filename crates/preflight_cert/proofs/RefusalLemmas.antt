@@ -10,6 +10,7 @@ use Rattle.dc_stack.specs.MachineState.{MachineState, RefusesStep}
 use Rattle.dc_stack.specs.OperationFault.{fault_of}
 use Rattle.dc_stack.specs.State.{State}
 use Rattle.preflight_cert.specs.Checked.{checked, left_over}
+use Rattle.preflight_cert.specs.NextStep.{TellsBroken, TellsRefusedStep}
 use Rattle.preflight_cert.specs.Refusal.{IsWantOfMemory, TellsStop, number_told}
 use Rattle.preflight_cert.specs.Stop.{Stop, broken_behind, stop_at, stopped}
 use Rattle.preflight_cert.specs.declared.entry.Entry.{Entry}
@@ -33,7 +34,7 @@ told_or_wanted step m fault r (inl found) numbered by = inl (told_at (fault_of s
 told_or_wanted step m fault r (inr wants) numbered by = inr (record { number = rw wants.memory at numbered; fault = by ∙ wants.memory })
 
 -- where entries are checked
-pub check_refused : (whole behind : Option Stop) (count : ℕ) (left rest : Content) (step : StepValue) (m : MachineState) (entries : List Entry) (fault : Fault) (r : Refusal)
+check_refused : (whole behind : Option Stop) (count : ℕ) (left rest : Content) (step : StepValue) (m : MachineState) (entries : List Entry) (fault : Fault) (r : Refusal)
     → whole ≡ checked left.steps behind count m.state m.surface entries → left ≡ with_step step rest
     → RefusesStep step.operation m fault → r.number ≡ number_told step.number fault → r.fault ≡ fault → TellsStop whole r ⊎ IsWantOfMemory r
 check_refused whole behind count left rest step m entries fault r order begins refused numbered by = elim (told_or_wanted step m fault r refused numbered by) [
@@ -42,7 +43,7 @@ check_refused whole behind count left rest step m entries fault r order begins r
 ]
 
 -- and where they are gathered
-pub gathering_refused : (whole behind : Option Stop) (left rest : Content) (step : StepValue) (m : MachineState) (fault : Fault) (r : Refusal)
+gathering_refused : (whole behind : Option Stop) (left rest : Content) (step : StepValue) (m : MachineState) (fault : Fault) (r : Refusal)
     → whole ≡ stopped left.steps behind m.state m.surface → left ≡ with_step step rest
     → RefusesStep step.operation m fault → r.number ≡ number_told step.number fault → r.fault ≡ fault → TellsStop whole r ⊎ IsWantOfMemory r
 gathering_refused whole behind left rest step m fault r order begins refused numbered by = elim (told_or_wanted step m fault r refused numbered by) [
@@ -59,7 +60,7 @@ broken_here whole left before fault is count same =
     let there : whole.fault ≡ Some fault = sym same ∙ ap (λ (c : Content). c.fault) is in
     rw (all, there) refl
 
-pub gathering_broken : (stop : Option Stop) (whole left : Content) (before : ℕ) (state : State) (s : Surface) (fault : RecordFault) (r : Refusal)
+gathering_broken : (stop : Option Stop) (whole left : Content) (before : ℕ) (state : State) (s : Surface) (fault : RecordFault) (r : Refusal)
     → stop ≡ stopped left.steps (broken_behind (length whole.steps) whole.fault) state s → left ≡ broken_by fault → before + length left.steps ≡ length whole.steps → left.fault ≡ whole.fault
     → r.number ≡ Some before → r.fault ≡ Record fault → TellsStop stop r
 gathering_broken stop whole left before state s fault r order is count same number by = record {
@@ -69,7 +70,7 @@ gathering_broken stop whole left before state s fault r order is count same numb
   fault = by;
 }
 
-pub check_broken : (stop : Option Stop) (whole left : Content) (before : ℕ) (state : State) (s : Surface) (entries : List Entry) (fault : RecordFault) (r : Refusal)
+check_broken : (stop : Option Stop) (whole left : Content) (before : ℕ) (state : State) (s : Surface) (entries : List Entry) (fault : RecordFault) (r : Refusal)
     → stop ≡ checked left.steps (broken_behind (length whole.steps) whole.fault) (length whole.steps) state s entries → left ≡ broken_by fault → before + length left.steps ≡ length whole.steps
     → left.fault ≡ whole.fault → r.number ≡ Some before → r.fault ≡ Record fault → TellsStop stop r
 check_broken stop whole left before state s entries fault r order is count same number by = record {
@@ -80,3 +81,18 @@ check_broken stop whole left before state s entries fault r order is count same 
   number = number;
   fault = by;
 }
+
+-- so the refusal of what is played next tells where the whole stops
+module _ (stop : Option Stop) (whole left : Content) (before : ℕ) (m : MachineState) (r : Refusal) (count : before + length left.steps ≡ length whole.steps) (same : left.fault ≡ whole.fault)
+    (refused : TellsBroken left before r ⊎ TellsRefusedStep left m r) where
+  pub check_stops : (entries : List Entry) → stop ≡ checked left.steps (broken_behind (length whole.steps) whole.fault) (length whole.steps) m.state m.surface entries → TellsStop stop r ⊎ IsWantOfMemory r
+  check_stops entries order = elim refused [
+    | inl h ↦ inl (check_broken stop whole left before m.state m.surface entries h.fault r order h.broken count same h.number h.told)
+    | inr h ↦ check_refused stop (broken_behind (length whole.steps) whole.fault) (length whole.steps) left h.rest h.step m entries h.fault r order h.first h.refused h.number h.told
+  ]
+
+  pub gathering_stops : stop ≡ stopped left.steps (broken_behind (length whole.steps) whole.fault) m.state m.surface → TellsStop stop r ⊎ IsWantOfMemory r
+  gathering_stops order = elim refused [
+    | inl h ↦ inl (gathering_broken stop whole left before m.state m.surface h.fault r order h.broken count same h.number h.told)
+    | inr h ↦ gathering_refused stop (broken_behind (length whole.steps) whole.fault) left h.rest h.step m h.fault r order h.first h.refused h.number h.told
+  ]

@@ -13,9 +13,9 @@ pub record NumberedDrawing : Type 0 where
   pub number : ℕ
   pub drawing : Drawing
 
--- the drawing of what a step draws, if it draws, with the tools of the moment
-abbrev pub drawing_if_drawn : MachineState → Option Draw → Option Drawing
-drawing_if_drawn m draw = option_map (drawing_with m) draw
+-- the drawing that a machine draws by a step, if it draws, with the tools of the moment
+abbrev pub drawn_by : MachineState → Option Draw → Option Drawing
+drawn_by m draw = option_map (drawing_with m) draw
 
 -- the drawing of the record with this number, if there is one, and the later ones
 abbrev pub drawing_then : ℕ → Option Drawing → List NumberedDrawing → List NumberedDrawing

@@ -15,6 +15,7 @@ pub mod Refusal
 pub mod After
 pub mod Budget
 pub mod Entries
+pub mod NextStep
 pub mod Checked
 pub mod Checks
 pub mod DrawingBoxLaws

@@ -2,7 +2,7 @@
 use Rattle.std.specs.Prelude.{ℕ, List}
 use Rattle.meta_headers.specs.OpenedOf.{opened_of}
 use Rattle.meta_headers.specs.declared.opened.Opened.{Opened}
-use Rattle.preflight_cert.specs.Answer.{Answer, AnswersRead, CountsRecords, RecordsAnswer}
+use Rattle.preflight_cert.specs.Answer.{Answer, AnswersRead, CountsRecords, RecordsAnswer, refuses}
 use Rattle.preflight_cert.specs.CertificateOf.{certificate_of}
 use Rattle.preflight_cert.specs.CertificateReading.{read_certificate}
 use Rattle.preflight_cert.specs.Preparation.{PreparesRecords}
@@ -18,7 +18,11 @@ CountsRecordsOf opened count noted = CountsRecords (opened_of opened) opened.rec
 abbrev pub AnswersRecordsOf : Opened → Certificate → Answer → Type 0
 AnswersRecordsOf opened certificate answer = RecordsAnswer (opened_of opened) opened.records.now (certificate_of certificate) answer
 
--- and with a certificate of these bytes
+-- they are refused so
+abbrev pub RefusesRecordsOf : Opened → Certificate → Refusal → Type 0
+RefusesRecordsOf opened certificate r = AnswersRecordsOf opened certificate (refuses r.number r.fault)
+
+-- they are answered so with a certificate of these bytes
 abbrev pub AnswersBytesOf : Opened → List ℕ → Answer → Type 0
 AnswersBytesOf opened bytes answer = AnswersRead (read_certificate bytes) (opened_of opened) opened.records.now answer
 

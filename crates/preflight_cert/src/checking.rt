@@ -7,7 +7,7 @@ ghost use Rattle.preflight_cert.specs.Answer.{IsAnswer, IsRefusedWith, accepted,
 ghost use Rattle.preflight_cert.specs.CertificateOf.{certificate_of};
 ghost use Rattle.preflight_cert.specs.ClearedFacts.{CountsItsRecords, IsSoundFor};
 ghost use Rattle.preflight_cert.specs.CertificateReading.{read_certificate};
-ghost use Rattle.preflight_cert.specs.OpenedRecords.{AnswersRecordsOf, CountsRecordsOf};
+ghost use Rattle.preflight_cert.specs.OpenedRecords.{AnswersRecordsOf, CountsRecordsOf, RefusesRecordsOf};
 ghost use Rattle.preflight_cert.specs.Reached.{OpensBoth};
 ghost use Rattle.preflight_cert.specs.Refusal.{IsWantOfMemory, TellsNumber};
 
@@ -67,8 +67,7 @@ fn check_opened<'a>(
     ensures certificate { IfOk result (λ c. c.certificate ≡ certificate.entry) }
     ensures counts { IfOk result (λ c. CountsRecordsOf opened.entry c.records c.notes.counts) }
     ensures accepted { OnOk result (AnswersRecordsOf opened.entry certificate.entry accepted) }
-    ensures refusal { IfErr result
-        (λ r. AnswersRecordsOf opened.entry certificate.entry (refuses r.number r.fault) ⊎ IsWantOfMemory r) }
+    ensures refusal { IfErr result (λ r. RefusesRecordsOf opened.entry certificate.entry r ⊎ IsWantOfMemory r) }
     ensures number_told { IfErr result TellsNumber }
 {
     content_law();

@@ -5,7 +5,7 @@ ghost use Rattle.std.specs.Result.{result_err};
 ghost use Rattle.mapping.specs.Boxes.{IsLeastBox};
 ghost use Rattle.mapping.specs.declared.geometry.Point.{Point};
 ghost use Rattle.dc_stack.specs.Draws.{IsPlacedDraw};
-ghost use Rattle.preflight_cert.specs.Drawings.{drawing_if_drawn};
+ghost use Rattle.preflight_cert.specs.Drawings.{drawn_by};
 ghost use Rattle.preflight_cert.specs.Entries.{covers, drawing_budget, entries_behind, entry_fault};
 ghost use Rattle.preflight_cert.specs.EntriesOf.{entries_of};
 
@@ -25,12 +25,12 @@ pub(crate) fn take_entry<'a, T: Table<'a>>(
     entries: &mut Entries<'_>,
 ) -> Result<u64, RecordFault>
     requires placed { IfSome drawn.now (IsPlacedDraw machine.now.surface machine.now.painted) }
-    ensures fault { result_err result ≡ entry_fault number (drawing_if_drawn machine.now drawn.now) (entries_of entries.old) }
+    ensures fault { result_err result ≡ entry_fault number (drawn_by machine.now drawn.now) (entries_of entries.old) }
     ensures budget { IfOk result
-        (λ n. n ≡ drawing_budget (drawing_if_drawn machine.now drawn.now) (entries_of entries.old) machine.now.surface) }
+        (λ n. n ≡ drawing_budget (drawn_by machine.now drawn.now) (entries_of entries.old) machine.now.surface) }
     ensures few { IfOk result (λ n. n ≤ 134217728) }
     ensures behind { OnOk result
-        (entries_of entries.new ≡ entries_behind (drawing_if_drawn machine.now drawn.now) (entries_of entries.old)) }
+        (entries_of entries.new ≡ entries_behind (drawn_by machine.now drawn.now) (entries_of entries.old)) }
 {
     let Some(drawn) = drawn else {
         return Ok(0);

@@ -3,13 +3,14 @@
 ghost use Rattle.std.specs.Prelude.{◌≡◌, ◌≤◌, ◌⊎◌, ◌+◌, ◌*◌, ◌^◌, ◌++◌, IfErr, IfOk, IfSome, OnOk, length};
 ghost use Rattle.draw_ops.specs.Records.{record_limit};
 ghost use Rattle.dc_stack.specs.Draws.{IsPlacedDraw};
-ghost use Rattle.preflight_cert.specs.Drawings.{drawing_if_drawn};
+ghost use Rattle.preflight_cert.specs.Drawings.{drawn_by};
 ghost use Rattle.preflight_cert.specs.Gathered.{FitsEntry, Gathers, StopsGathering, drawing_text, least_drawing_budget};
 ghost use Rattle.preflight_cert.specs.Refusal.{IsWantOfMemory, TellsNumber};
 
 use crate::budget::drawing_budget;
 use crate::entry::Entry;
 use crate::refusal::Refusal;
+use crate::stepping::play_next;
 use crate::walk::Totals;
 use crate::writing::put_entry;
 use dc_stack::{Draw, Machine};
@@ -41,16 +42,12 @@ pub(crate) fn gather<'a, S: OpSource<'a>, T: Table<'a>>(
     let mut step: Step<'a> = Step::without_effect();
     let mut drawn: Option<Draw<'a>> = None;
     loop {
-        let is_put = match source.next_into(&mut step) {
-            Ok(is_put) => is_put,
-            Err(fault) => return Err(Refusal::at(totals.records, fault)),
+        let is_played = match play_next(source, machine, totals.records, &mut step, &mut drawn) {
+            Ok(is_played) => is_played,
+            Err(refusal) => return Err(refusal),
         };
-        if !is_put {
+        if !is_played {
             return Ok(totals);
-        }
-        match machine.step_into(&step.op, &mut drawn) {
-            Ok(()) => {}
-            Err(fault) => return Err(Refusal::of_step(step.number, fault)),
         }
         match add_entry(step.number, &drawn, machine, entries) {
             Ok(more) => totals.writes += more,
@@ -70,10 +67,10 @@ fn add_entry<'a, T: Table<'a>>(
 ) -> Result<u64, OutOfMemory>
     requires placed { IfSome drawn.now (IsPlacedDraw machine.now.surface machine.now.painted) }
     ensures text { OnOk result
-        (entries.new.items ≡ entries.old.items ++ drawing_text number (drawing_if_drawn machine.now drawn.now)) }
-    ensures fits { OnOk result (FitsEntry number (drawing_if_drawn machine.now drawn.now)) }
+        (entries.new.items ≡ entries.old.items ++ drawing_text number (drawn_by machine.now drawn.now)) }
+    ensures fits { OnOk result (FitsEntry number (drawn_by machine.now drawn.now)) }
     ensures budget { IfOk result
-        (λ n. n ≡ least_drawing_budget (drawing_if_drawn machine.now drawn.now) machine.now.surface) }
+        (λ n. n ≡ least_drawing_budget (drawn_by machine.now drawn.now) machine.now.surface) }
     ensures few { IfOk result (λ n. n ≤ 134217728) }
     ensures most { OnOk result (length entries.new.items ≤ length entries.old.items + 20) }
 {

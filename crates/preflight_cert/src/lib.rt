@@ -33,6 +33,7 @@ mod laws;
 mod prepared;
 mod preparing;
 mod refusal;
+mod stepping;
 mod walk;
 mod writing;
 

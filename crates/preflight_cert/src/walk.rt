@@ -9,6 +9,7 @@ ghost use Rattle.preflight_cert.specs.Refusal.{IsWantOfMemory, TellsNumber};
 use crate::covering::take_entry;
 use crate::entry::Entries;
 use crate::refusal::Refusal;
+use crate::stepping::play_next;
 use dc_stack::{Draw, Machine};
 use draw_ops::{Notes, OpSource, RecordFault, Step};
 use object_tables::Table;
@@ -48,16 +49,12 @@ pub(crate) fn check_steps<'a, S: OpSource<'a>, T: Table<'a>>(
     let mut step: Step<'a> = Step::without_effect();
     let mut drawn: Option<Draw<'a>> = None;
     loop {
-        let is_put = match source.next_into(&mut step) {
-            Ok(is_put) => is_put,
-            Err(fault) => return Err(Refusal::at(totals.records, fault)),
+        let is_played = match play_next(source, machine, totals.records, &mut step, &mut drawn) {
+            Ok(is_played) => is_played,
+            Err(refusal) => return Err(refusal),
         };
-        if !is_put {
+        if !is_played {
             return checked_end(entries, totals);
-        }
-        match machine.step_into(&step.op, &mut drawn) {
-            Ok(()) => {}
-            Err(fault) => return Err(Refusal::of_step(step.number, fault)),
         }
         match take_entry(step.number, &drawn, machine, &mut entries) {
             Ok(more) => totals.writes += more,

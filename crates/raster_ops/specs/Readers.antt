@@ -28,6 +28,14 @@ is_inside_from row rectangle =
 abbrev pub columns_of : SourceRectangle → ℤ → ℤ → Reading
 columns_of rectangle p q = axis_read (least_end rectangle.corner.x rectangle.extent.x) rectangle.extent.x p q
 
+-- a reader's columns are read as those of a rectangle between two corners are
+abbrev pub ReadsColumns : SourceRectangle → Point → Point → SourceReader → Type 0
+ReadsColumns rectangle p q reader = reading_of reader.columns ≡ columns_of rectangle p.x q.x
+
+-- and its rows, where the rectangle's first row is this one
+abbrev pub ReadsRows : ℤ → SourceRectangle → Point → Point → SourceReader → Type 0
+ReadsRows row rectangle p q reader = reading_of reader.rows ≡ axis_read row rectangle.extent.y p.y q.y
+
 -- the colour that the surface's column x reads in a row of a picture
 abbrev pub colour_in : AxisReading → DibRow → ℕ → Colour
 colour_in axis line x = slice_index_or (row_colours_of line) (unsigned_abs (index_read (reading_of axis) x)) black_colour

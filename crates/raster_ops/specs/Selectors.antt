@@ -1,6 +1,7 @@
 -- Bits that two others choose.
-use Rattle.std.specs.Prelude.{◌≡◌, ℕ, ◌+◌, ◌*◌, ◌<◌, bit_and, bit_xor}
+use Rattle.std.specs.Prelude.{◌≡◌, ℕ, ◌+◌, ◌*◌, ◌<◌, List, bit_and, bit_xor, slice_index_or}
 use Rattle.std.specs.Int.{bit_at}
+use Rattle.mapping.specs.Colours.{black_colour}
 use Rattle.mapping.specs.declared.geometry.Colour.{Colour}
 use Rattle.raster_ops.specs.declared.selector.Selector.{Selector}
 
@@ -20,3 +21,13 @@ selected_colour selector pattern source = record {
   g = selected selector pattern.g source.g;
   b = selected selector pattern.b source.b;
 }
+
+-- the colour that the pattern and the source at a place choose
+abbrev pub selected_at : Selector → List Colour → List Colour → ℕ → Colour
+selected_at selector patterns sources x =
+    selected_colour selector (slice_index_or patterns x black_colour) (slice_index_or sources x black_colour)
+
+-- eight colours are those that the patterns and the sources from a place on choose
+abbrev pub AreSelectedFrom : Selector → List Colour → List Colour → ℕ → List Colour → Type 0
+AreSelectedFrom selector patterns sources at colours =
+    (k : ℕ) (d : Colour) → k < 8 → slice_index_or colours k d ≡ selected_at selector patterns sources (at + k)

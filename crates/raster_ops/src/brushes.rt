@@ -1,12 +1,12 @@
 //! What brushes paint, at a pixel and in a row.
 
-ghost use Rattle.std.specs.Prelude.{◌≡◌, ◌<◌, ◌≤◌, ℕ, ◌+◌, ◌%◌, [], length, slice_index_or};
+ghost use Rattle.std.specs.Prelude.{◌≡◌, ◌<◌, ◌≤◌, ℕ, ◌+◌, ◌%◌, length, slice_index_or};
 ghost use Rattle.dib_views.specs.PictureOf.{picture_of};
 ghost use Rattle.dib_views.specs.Rows.{row_colours_of};
 ghost use Rattle.draw_ops.specs.Objects.{brush_value_of};
 ghost use Rattle.mapping.specs.Colours.{black_colour};
 ghost use Rattle.mapping.specs.declared.geometry.Colour.{Colour};
-ghost use Rattle.raster_ops.specs.BrushRows.{row_paint};
+ghost use Rattle.raster_ops.specs.BrushRows.{repeated_colour, repeated_row, row_paint};
 ghost use Rattle.raster_ops.specs.Gathered.{AreAt, AreKeptBeside, ArePaintsAt, HaveBytes, HavePaintBytes};
 ghost use Rattle.raster_ops.specs.Paints.{brush_paint, gap_paint};
 
@@ -67,7 +67,7 @@ pub fn brush_row<'a>(
 
 /// The row of a picture that a surface's row `y` has, where the picture is repeated from the surface's corner on.
 fn tile_row<'a>(view: &DibView<'a>, y: u32) -> TileRow<'a>
-    ensures row { row_colours_of result.row ≡ slice_index_or (picture_of view.now).rows (y % (picture_of view.now).height) [] }
+    ensures row { row_colours_of result.row ≡ repeated_row (picture_of view.now) y }
     ensures width { result.row.width ≡ (picture_of view.now).width }
 {
     TileRow {
@@ -139,7 +139,7 @@ fn repeated(colours: &[Colour; 8], x: u32) -> Colour
 fn gather_tile(tile: TileRow<'_>, from: u32, to: u32, out: &mut [Colour])
     requires ordered { from ≤ to }
     requires room { to ≤ length out.old }
-    ensures colours { AreAt (λ x. slice_index_or (row_colours_of tile.entry.row) (x % tile.entry.row.width) black_colour) from to out.new }
+    ensures colours { AreAt (repeated_colour tile.entry.row) from to out.new }
     ensures parts { HaveBytes from to out.new }
     ensures others { AreKeptBeside from to out.old out.new }
 {

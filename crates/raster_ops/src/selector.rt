@@ -2,7 +2,6 @@
 
 ghost use Rattle.std.specs.Prelude.{◌≡◌, ◌<◌, ◌≤◌, ℕ, ◌+◌, length, slice_index_or};
 ghost use Rattle.std.specs.Int.{bit_at};
-ghost use Rattle.mapping.specs.Colours.{black_colour};
 ghost use Rattle.mapping.specs.declared.geometry.Colour.{Colour};
 ghost use Rattle.raster_ops.specs.Bytes.{HasBytes};
 ghost use Rattle.raster_ops.specs.Gathered.{AreAt, AreKeptBeside, HaveBytes};
@@ -24,7 +23,7 @@ pub(crate) struct Selector {
 }
 
 impl Selector {
-    ghost use Rattle.raster_ops.specs.Selectors.{IsSelector, selected, selected_colour};
+    ghost use Rattle.raster_ops.specs.Selectors.{AreSelectedFrom, IsSelector, selected, selected_at, selected_colour};
 
     /// What chooses the bits at the even places of a table.
     #[inline]
@@ -79,7 +78,7 @@ impl Selector {
         requires patterns { to ≤ length patterns.now }
         requires sources { to ≤ length sources.now }
         requires room { to ≤ length chosen.old }
-        ensures colours { AreAt (λ x. selected_colour self (slice_index_or patterns.now x black_colour) (slice_index_or sources.now x black_colour)) from to chosen.new }
+        ensures colours { AreAt (selected_at self patterns.now sources.now) from to chosen.new }
         ensures parts { HaveBytes from to chosen.new }
         ensures others { AreKeptBeside from to chosen.old chosen.new }
     {
@@ -104,7 +103,7 @@ impl Selector {
         requires room { to ≤ length chosen.old }
         ensures from { from ≤ result }
         ensures within { result ≤ to }
-        ensures colours { AreAt (λ x. selected_colour self (slice_index_or patterns.now x black_colour) (slice_index_or sources.now x black_colour)) from result chosen.new }
+        ensures colours { AreAt (selected_at self patterns.now sources.now) from result chosen.new }
         ensures parts { HaveBytes from result chosen.new }
         ensures others { AreKeptBeside from result chosen.old chosen.new }
     {
@@ -122,7 +121,7 @@ impl Selector {
     fn selected_eight(self, patterns: &[Colour], sources: &[Colour], at: usize) -> [Colour; 8]
         requires patterns { at + 8 ≤ length patterns.now }
         requires sources { at + 8 ≤ length sources.now }
-        ensures colours { (k : ℕ) (d : Colour) → k < 8 → slice_index_or result k d ≡ selected_colour self (slice_index_or patterns.now (at + k) black_colour) (slice_index_or sources.now (at + k) black_colour) }
+        ensures colours { AreSelectedFrom self patterns.now sources.now at result }
         ensures parts { (k : ℕ) (d : Colour) → k < 8 → HasBytes (slice_index_or result k d) }
     {
         let mut colours = [self.select_colour(patterns[at], sources[at]); 8];

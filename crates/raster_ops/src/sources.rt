@@ -7,7 +7,7 @@ ghost use Rattle.draw_ops.specs.Blits.{source_of};
 ghost use Rattle.mapping.specs.Surface.{FitsPlace};
 ghost use Rattle.mapping.specs.declared.geometry.Colour.{Colour};
 ghost use Rattle.raster_ops.specs.Gathered.{AreAt, AreKeptBeside, HaveBytes};
-ghost use Rattle.raster_ops.specs.Sources.{axis_read, distance, is_readable, source_colour};
+ghost use Rattle.raster_ops.specs.Sources.{distance, is_readable, source_colour};
 
 use crate::rectangles::{least_end, row_from_bottom, row_from_top};
 use dib_views::DibView;
@@ -53,7 +53,7 @@ pub struct SourceReader<'a> {
 }
 
 impl<'a> SourceReader<'a> {
-    ghost use Rattle.raster_ops.specs.Readers.{ReadsSource, column_colour, column_read, columns_of, is_inside_from, reading_of, row_read};
+    ghost use Rattle.raster_ops.specs.Readers.{ReadsColumns, ReadsRows, ReadsSource, column_colour, column_read, is_inside_from, row_read};
 
     /// How a box between two placed corners reads: none exactly where there is no bitmap, or its rectangle has
     /// no pixel or isn't inside, whatever the box is.
@@ -89,8 +89,8 @@ impl<'a> SourceReader<'a> {
         requires second { FitsPlace second }
         ensures some { is_some result ≡ is_inside_from row rectangle.now }
         ensures picture { IfSome result (λ reader. reader.picture ≡ rectangle.now.picture) }
-        ensures columns { IfSome result (λ reader. reading_of reader.columns ≡ columns_of rectangle.now first.x second.x) }
-        ensures rows { IfSome result (λ reader. reading_of reader.rows ≡ axis_read row rectangle.now.extent.y first.y second.y) }
+        ensures columns { IfSome result (ReadsColumns rectangle.now first second) }
+        ensures rows { IfSome result (ReadsRows row rectangle.now first second) }
     {
         let picture = rectangle.picture;
         let column = least_end(rectangle.corner.x, rectangle.extent.x);

@@ -1,6 +1,7 @@
 -- Edges that begin, in the order of their first rows.
-use Rattle.std.specs.Prelude.{◌≡◌, ℕ, ◌+◌, ◌<◌, true, false, List, [], ◌∷◌, drop, length, filter}
-use Rattle.span_fill.specs.Edges.{IsEdge, begins_behind, begins_by}
+use Rattle.std.specs.Prelude.{◌≡◌, ℕ, ◌+◌, ◌<◌, true, false, List, [], ◌∷◌, drop, length, filter, map}
+use Rattle.span_fill.specs.Edges.{IsEdge, active_at, begins_behind, begins_by}
+use Rattle.span_fill.specs.declared.edge.ActiveEdge.{ActiveEdge}
 use Rattle.span_fill.specs.declared.edge.Edge.{Edge}
 
 -- this edge is the next, and begins at row y or above it
@@ -10,6 +11,10 @@ pub record BeginsEdge (y : ℕ) (edges : List Edge) (next : ℕ) (edge : Edge) :
   pub begins : begins_by y edge ≡ true
   pub waits : begins_behind y edge ≡ false
   pub is_edge : IsEdge edge
+
+-- those of the edges that begin at row y or above it, where they cross it
+abbrev pub beginning_edges : ℕ → List Edge → List ActiveEdge
+beginning_edges y edges = map (active_at y) (filter (begins_by y) edges)
 
 -- all of the edges begin behind row y
 pub record NoneBegins (y : ℕ) (edges : List Edge) : Type 0 where

@@ -1,7 +1,8 @@
 -- Lines by their longer axis.
-use Rattle.std.specs.Prelude.{ℕ, ◌≤◌, ℤ, ◌-ℤ◌, Bool, true, false, if◌then◌else◌, IsTrue}
+use Rattle.std.specs.Prelude.{◌≡◌, ◌↔◌, ℕ, ◌≤◌, ℤ, ◌-ℤ◌, Bool, true, false, if◌then◌else◌, IsTrue}
 use Rattle.span_fill.specs.Axis.{IsPlace}
-use Rattle.span_fill.specs.Strokes.{far, is_along}
+use Rattle.span_fill.specs.Clips.{IsIn, SpanHas}
+use Rattle.span_fill.specs.Strokes.{far, is_along, is_towards}
 use Rattle.span_fill.specs.Walks.{IsAt}
 use Rattle.span_fill.specs.declared.course.Course.{Course}
 use Rattle.span_fill.specs.declared.line.Line.{Line}
@@ -33,9 +34,22 @@ IsOn course step walk = IsAt course.from_u course.from_v course.to_u course.to_v
 abbrev pub IsPixelOf : Course → ℤ → ℤ → Type 0
 IsPixelOf course u v = IsTrue (is_along course.from_u course.from_v course.to_u course.to_v u v)
 
+-- the line has pixels with this coordinate on the longer axis
+abbrev pub has_along : Course → ℤ → Bool
+has_along course u = is_towards course.from_u course.to_u u
+
+-- its ends have one coordinate on the shorter axis
+abbrev pub IsLevel : Course → Type 0
+IsLevel course = course.from_v ≡ course.to_v
+
 -- at which step that is
 abbrev pub course_step : Course → ℤ → ℕ
 course_step course u = far course.from_u u
+
+-- the steps are those at which a pixel's coordinates lie in a span of the longer axis and in one of the shorter
+abbrev pub AreStepsWithin : Course → Span → Span → Span → Type 0
+AreStepsWithin course u v steps =
+    (a b : ℤ) → IsPixelOf course a b → (IsIn steps (course_step course a) ↔ (SpanHas u a × SpanHas v b))
 
 -- the line by its longer axis, which is that of rows for a steep line
 abbrev pub course_of : Bool → Line → Course

@@ -38,6 +38,10 @@ has_pair rule [] = false
 has_pair rule (left ∷ []) = false
 has_pair rule (left ∷ right ∷ edges) = is_over_behind rule left right
 
+-- a run that has no column yet, at a column
+abbrev pub run_at : ℕ → Span
+run_at column = record { from = column; to = column }
+
 -- the run as a list, empty if it has no column
 abbrev pub run_spans : Span → List Span
 run_spans run = if nat_lt run.from run.to then run ∷ [] else []
@@ -62,3 +66,7 @@ swept rule end [] at downs ups run =
 swept rule end (edge ∷ edges) at downs ups run =
     ended_spans (is_inside rule downs ups) run at (max at (min (column_of edge) end))
     ++ swept rule end edges (max at (min (column_of edge) end)) (downs + (if edge.is_down then 1 else 0)) (ups + (if not edge.is_down then 1 else 0)) (longer_run (is_inside rule downs ups) run at (max at (min (column_of edge) end)))
+
+-- the spans of a row within an interval
+abbrev pub swept_within : FillRule → List ActiveEdge → Span → List Span
+swept_within rule edges interval = swept rule interval.to edges interval.from 0 0 (run_at interval.from)

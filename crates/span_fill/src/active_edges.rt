@@ -1,10 +1,10 @@
 //! The edges that cross a row where others end or begin: those that are left, and those that come.
 
-ghost use Rattle.std.specs.Prelude.{◌≡◌, ◌+◌, ◌-◌, ◌≤◌, ◌<◌, ◌++◌, length, map, drop, filter, MatchOption, vec_len, vec_capacity};
+ghost use Rattle.std.specs.Prelude.{◌≡◌, ◌+◌, ◌-◌, ◌≤◌, ◌<◌, ◌++◌, length, drop, filter, MatchOption, vec_len, vec_capacity};
 ghost use Rattle.std.specs.List.{All};
 ghost use Rattle.std.specs.List.Sorted.{IsNonDecreasingBy, IsPermutation};
-ghost use Rattle.span_fill.specs.Admitting.{BeginsEdge, NoneBegins};
-ghost use Rattle.span_fill.specs.Edges.{IsEdge, active_at, begins_behind, begins_by, edge_first_row, goes_to};
+ghost use Rattle.span_fill.specs.Admitting.{BeginsEdge, NoneBegins, beginning_edges};
+ghost use Rattle.span_fill.specs.Edges.{IsEdge, active_at, begins_behind, edge_first_row, goes_to};
 
 use crate::edge::{ActiveEdge, Edge};
 
@@ -35,8 +35,7 @@ pub(crate) fn admit(active: &mut Vec<ActiveEdge>, edges: &[Edge], begun: usize, 
     requires begun { begun ≤ length edges.now }
     requires row { row ≤ 8192 }
     requires room { vec_len active.old + (length edges.now - begun) ≤ vec_capacity active.old }
-    ensures active { active.new.items
-        ≡ active.old.items ++ map (active_at row) (filter (begins_by row) (drop begun edges.now)) }
+    ensures active { active.new.items ≡ active.old.items ++ beginning_edges row (drop begun edges.now) }
     ensures left { drop result edges.now ≡ filter (begins_behind row) (drop begun edges.now) }
     ensures within { result ≤ length edges.now }
     ensures length { vec_len active.new + (length edges.now - result) ≤ vec_len active.old + (length edges.now - begun) }
@@ -54,7 +53,7 @@ pub(crate) fn admit(active: &mut Vec<ActiveEdge>, edges: &[Edge], begun: usize, 
 fn beginning(edges: &[Edge], next: usize, row: u32) -> Option<Edge>
     requires edges { All IsEdge edges.now }
     requires sorted { IsNonDecreasingBy edge_first_row edges.now }
-    ensures { MatchOption result (NoneBegins row (drop next edges.now)) (λ edge. BeginsEdge row edges.now next edge) }
+    ensures { MatchOption result (NoneBegins row (drop next edges.now)) (BeginsEdge row edges.now next) }
 {
     if next >= edges.len() {
         return None;

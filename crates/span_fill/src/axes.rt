@@ -1,8 +1,7 @@
 //! Lines and regions by a line's longer axis.
 
-ghost use Rattle.std.specs.Prelude.{◌≡◌, ℤ, ◌≤◌, ◌<◌, ◌↔◌};
-ghost use Rattle.span_fill.specs.Clips.{SpanHas, IsIn};
-ghost use Rattle.span_fill.specs.Courses.{IsCourse, IsOn, IsPixelOf, across_span, along_span, course_of, length_of, course_step};
+ghost use Rattle.std.specs.Prelude.{◌≡◌, ◌≤◌, ◌<◌};
+ghost use Rattle.span_fill.specs.Courses.{AreStepsWithin, IsCourse, IsOn, across_span, along_span, course_of, length_of};
 ghost use Rattle.span_fill.specs.Lines.{HasNearEnds};
 ghost use Rattle.span_fill.specs.Strokes.{is_steep};
 
@@ -48,7 +47,7 @@ pub(crate) fn steps_within(course: Course, region: Region, steep: bool) -> Span
     requires course { IsCourse course }
     requires columns { region.columns.to ≤ 8192 }
     requires rows { region.rows.to ≤ 8192 }
-    ensures exact { (a b : ℤ) → IsPixelOf course a b → (IsIn result (course_step course a) ↔ (SpanHas (along_span steep region) a × SpanHas (across_span steep region) b)) }
+    ensures exact { AreStepsWithin course (along_span steep region) (across_span steep region) result }
     ensures bound { result.to ≤ length_of course }
 {
     if steep {

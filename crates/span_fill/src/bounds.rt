@@ -2,8 +2,7 @@
 
 ghost use Rattle.std.specs.Prelude.{◌≡◌, true, false, ℕ, ◌+◌, ◌^◌, ◌<◌, ◌≤◌, ◌↔◌, ℤ, pos, negsuc, ◌+ℤ◌, ◌≤ℤ◌, ◌<ℤ◌, IsTrue};
 ghost use Rattle.span_fill.specs.Clips.{IsIn};
-ghost use Rattle.span_fill.specs.Courses.{IsCourse, IsPixelOf, pixel_row};
-ghost use Rattle.span_fill.specs.Strokes.{is_towards};
+ghost use Rattle.span_fill.specs.Courses.{IsCourse, IsLevel, IsPixelOf, has_along, pixel_row};
 
 use crate::course::Course;
 use crate::span::Span;
@@ -18,7 +17,7 @@ pub(crate) struct CoordinateRange {
 /// The columns that a line may have: all where it is steep.
 pub(crate) fn columns_of(course: Course, steep: bool) -> Span
     requires { IsCourse course }
-    ensures exact { steep ≡ false → (x : ℕ) → x < 8192 → (IsIn result x ↔ IsTrue (is_towards course.from_u course.to_u (pos x))) }
+    ensures exact { steep ≡ false → (x : ℕ) → x < 8192 → (IsIn result x ↔ IsTrue (has_along course (pos x))) }
     ensures all { steep ≡ true → (x : ℕ) → x < 8192 → IsIn result x }
     ensures order { result.from ≤ result.to }
     ensures within { result.to ≤ 8192 }
@@ -32,8 +31,8 @@ pub(crate) fn columns_of(course: Course, steep: bool) -> Span
 /// The rows that a line has.
 pub(crate) fn rows_of(course: Course, steep: bool) -> Span
     requires { IsCourse course }
-    ensures exact { steep ≡ true → (y : ℕ) → y < 8192 → IsIn result y → IsTrue (is_towards course.from_u course.to_u (pos y)) }
-    ensures level { steep ≡ false → course.from_v ≡ course.to_v → (y : ℕ) → y < 8192 → IsIn result y → pos y ≡ course.from_v }
+    ensures exact { steep ≡ true → (y : ℕ) → y < 8192 → IsIn result y → IsTrue (has_along course (pos y)) }
+    ensures level { steep ≡ false → IsLevel course → (y : ℕ) → y < 8192 → IsIn result y → pos y ≡ course.from_v }
     ensures all { (u v : ℤ) (y : ℕ) → IsPixelOf course u v → y < 8192 → pos y ≡ pixel_row steep u v → IsIn result y }
     ensures within { result.to ≤ 8192 }
 {
@@ -46,7 +45,7 @@ pub(crate) fn rows_of(course: Course, steep: bool) -> Span
 /// What a line has of its longer axis.
 pub(crate) fn run(course: Course) -> CoordinateRange
     requires { IsCourse course }
-    ensures exact { (u : ℤ) → (IsTrue (is_towards course.from_u course.to_u u) ↔ ((result.from ≤ℤ u) × (u <ℤ result.to))) }
+    ensures exact { (u : ℤ) → (IsTrue (has_along course u) ↔ ((result.from ≤ℤ u) × (u <ℤ result.to))) }
     ensures order { result.from ≤ℤ result.to }
 {
     if course.is_forwards() {
@@ -66,7 +65,7 @@ pub(crate) fn run(course: Course) -> CoordinateRange
 pub(crate) fn hull(course: Course) -> CoordinateRange
     requires { IsCourse course }
     ensures within { (u v : ℤ) → IsPixelOf course u v → (result.from ≤ℤ v) × (v <ℤ result.to) }
-    ensures level { course.from_v ≡ course.to_v → (result.from ≡ course.from_v) × (result.to ≡ course.from_v +ℤ pos 1) }
+    ensures level { IsLevel course → (result.from ≡ course.from_v) × (result.to ≡ course.from_v +ℤ pos 1) }
     ensures order { result.from ≤ℤ result.to }
 {
     if course.from_v <= course.to_v {

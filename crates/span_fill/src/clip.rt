@@ -2,7 +2,7 @@
 
 ghost use Rattle.std.specs.Prelude.{◌≡◌, ℕ, ◌+◌, ◌*◌, ◌^◌, ◌<◌, ◌≤◌, ◌↔◌, ℤ, pos, negsuc, neg_ℤ, ◌+ℤ◌, ◌-ℤ◌, ◌*ℤ◌, ◌≤ℤ◌, ◌<ℤ◌};
 ghost use Rattle.span_fill.specs.Clips.{SpanHas, IsIn};
-ghost use Rattle.span_fill.specs.Courses.{IsCourse, IsPixelOf, length_of, rise_of, course_step};
+ghost use Rattle.span_fill.specs.Courses.{AreStepsWithin, IsCourse, IsPixelOf, length_of, rise_of, course_step};
 
 use crate::course::Course;
 use crate::division::divide;
@@ -15,7 +15,7 @@ pub(crate) fn clipped(course: Course, u: Span, v: Span) -> Span
     requires course { IsCourse course }
     requires u { u.to ≤ 8192 }
     requires v { v.to ≤ 8192 }
-    ensures exact { (a b : ℤ) → IsPixelOf course a b → (IsIn result (course_step course a) ↔ (SpanHas u a × SpanHas v b)) }
+    ensures exact { AreStepsWithin course u v result }
     ensures bound { result.to ≤ length_of course }
 {
     common(

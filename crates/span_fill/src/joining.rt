@@ -4,6 +4,7 @@ ghost use Rattle.std.specs.Prelude.{◌≡◌, ◌+◌, ◌<◌, ◌≤◌, leng
 ghost use Rattle.std.specs.List.Sorted.{IsNonDecreasingBy, IsPermutation};
 ghost use Rattle.span_fill.specs.Joining.{column_behind, joined};
 ghost use Rattle.span_fill.specs.Spans.{AreRow, in_spans};
+ghost use Rattle.span_fill.specs.Sweep.{run_at};
 
 use crate::row_spans::RowSpans;
 use crate::span::Span;
@@ -41,7 +42,7 @@ pub(crate) fn join_within(parts: &[Span], interval: Span, spans: &mut RowSpans)
 /// The same where there are parts, and the interval isn't empty.
 fn join(parts: &[Span], interval: Span, spans: &mut RowSpans)
     requires room { length parts.now + 1 ≤ spans.old.capacity }
-    ensures spans { spans.new.items ≡ joined interval.to parts.now (record { from = interval.from; to = interval.from }) }
+    ensures spans { spans.new.items ≡ joined interval.to parts.now (run_at interval.from) }
     ensures room { spans.new.capacity ≡ spans.old.capacity }
 {
     spans.clear();

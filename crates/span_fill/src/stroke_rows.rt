@@ -1,12 +1,11 @@
 //! Strips row by row: those that wait, those that have a row, and the columns that they have of it.
 
-ghost use Rattle.std.specs.Prelude.{◌≡◌, ℕ, ◌+◌, ◌-◌, ◌<◌, ◌≤◌, ℤ, pos, ◌||◌, drop, length, MatchOption, vec_len, vec_capacity};
+ghost use Rattle.std.specs.Prelude.{◌≡◌, ℕ, ◌+◌, ◌-◌, ◌<◌, ◌≤◌, ℤ, pos, drop, length, MatchOption, vec_len, vec_capacity};
 ghost use Rattle.std.specs.List.{All};
 ghost use Rattle.std.specs.List.Sorted.{IsNonDecreasingBy, IsPermutation};
 ghost use Rattle.span_fill.specs.Lines.{HasNearEnds};
 ghost use Rattle.span_fill.specs.Spans.{in_spans};
-ghost use Rattle.span_fill.specs.StrokeRows.{AllBehind, BeginsStrip, IsActive, IsNext, IsPassed, IsWaiting, lines_have, strips_have};
-ghost use Rattle.span_fill.specs.Strokes.{on_line};
+ghost use Rattle.span_fill.specs.StrokeRows.{AllBehind, BeginsStrip, HaveLineFrom, HaveLineOfRow, HaveSameFrom, HaveTogether, IsActive, IsNext, IsPassed, IsWaiting, lines_have, strips_have};
 
 use crate::line::Line;
 use crate::span::Span;
@@ -34,7 +33,7 @@ fn put_strip(strips: &mut Vec<Strip>, line: Line, row: u32)
     requires waiting { All (IsWaiting row) strips.old.items }
     requires room { vec_len strips.old < vec_capacity strips.old }
     ensures waiting { All (IsWaiting row) strips.new.items }
-    ensures have { (x : ℤ) (y : ℕ) → row ≤ y → y < 8192 → strips_have strips.new.items x y ≡ (strips_have strips.old.items x y || on_line line x (pos y)) }
+    ensures have { HaveLineFrom row line strips.old.items strips.new.items }
     ensures length { vec_len strips.new ≤ vec_len strips.old + 1 }
     ensures room { vec_capacity strips.new ≡ vec_capacity strips.old }
 {
@@ -63,7 +62,7 @@ pub(crate) fn enter(active: &mut Vec<Strip>, waiting: &[Strip], begun: usize, ro
     requires begun { begun ≤ length waiting.now }
     requires room { vec_len active.old + (length waiting.now - begun) ≤ vec_capacity active.old }
     ensures active { All (IsActive row) active.new.items }
-    ensures have { (x : ℤ) (y : ℕ) → (strips_have active.new.items x y || strips_have (drop result waiting.now) x y) ≡ (strips_have active.old.items x y || strips_have (drop begun waiting.now) x y) }
+    ensures have { HaveTogether active.old.items (drop begun waiting.now) active.new.items (drop result waiting.now) }
     ensures waiting { AllBehind row (drop result waiting.now) }
     ensures within { result ≤ length waiting.now }
     ensures length { vec_len active.new + (length waiting.now - result) ≤ vec_len active.old + (length waiting.now - begun) }
@@ -81,7 +80,7 @@ pub(crate) fn enter(active: &mut Vec<Strip>, waiting: &[Strip], begun: usize, ro
 fn entering(waiting: &[Strip], next: usize, row: u32) -> Option<Strip>
     requires waiting { All (IsWaiting row) (drop next waiting.now) }
     requires sorted { IsNonDecreasingBy (λ strip. strip.rows.from) waiting.now }
-    ensures { MatchOption result (AllBehind row (drop next waiting.now)) (λ strip. BeginsStrip row waiting.now next strip) }
+    ensures { MatchOption result (AllBehind row (drop next waiting.now)) (BeginsStrip row waiting.now next) }
 {
     if next >= waiting.len() {
         return None;
@@ -102,7 +101,7 @@ pub(crate) fn draw_row(active: &[Strip], passed: &mut Vec<Strip>, parts: &mut Ve
     requires parts_room { length active.now ≤ vec_capacity parts.old }
     ensures parts { (x : ℕ) → x < 8192 → in_spans parts.new.items x ≡ strips_have active.now (pos x) row }
     ensures passed { All (IsActive (row + 1)) passed.new.items }
-    ensures have { (x : ℤ) (y : ℕ) → row < y → y < 8192 → strips_have passed.new.items x y ≡ strips_have active.now x y }
+    ensures have { HaveSameFrom (row + 1) active.now passed.new.items }
     ensures length { vec_len passed.new ≤ length active.now }
     ensures parts_length { vec_len parts.new ≡ length active.now }
     ensures passed_room { vec_capacity passed.new ≡ vec_capacity passed.old }
@@ -121,7 +120,7 @@ fn draw_strip(strip: Strip, row: u32, parts: &mut Vec<Span>) -> Strip
     requires active { IsActive row strip }
     requires row { row < 8192 }
     requires room { vec_len parts.old < vec_capacity parts.old }
-    ensures parts { (x : ℕ) → x < 8192 → in_spans parts.new.items x ≡ (in_spans parts.old.items x || on_line strip.line (pos x) (pos row)) }
+    ensures parts { HaveLineOfRow row strip.line parts.old.items parts.new.items }
     ensures length { vec_len parts.new ≡ vec_len parts.old + 1 }
     ensures room { vec_capacity parts.new ≡ vec_capacity parts.old }
     ensures next { IsNext row strip result }
@@ -138,7 +137,7 @@ fn pass(next: Strip, row: u32, passed: &mut Vec<Strip>)
     requires passed { All (IsActive (row + 1)) passed.old.items }
     requires room { vec_len passed.old < vec_capacity passed.old }
     ensures passed { All (IsActive (row + 1)) passed.new.items }
-    ensures have { (x : ℤ) (y : ℕ) → row < y → y < 8192 → strips_have passed.new.items x y ≡ (strips_have passed.old.items x y || on_line next.line x (pos y)) }
+    ensures have { HaveLineFrom (row + 1) next.line passed.old.items passed.new.items }
     ensures length { vec_len passed.new ≤ vec_len passed.old + 1 }
     ensures room { vec_capacity passed.new ≡ vec_capacity passed.old }
 {

@@ -4,7 +4,7 @@ ghost use Rattle.std.specs.Prelude.{◌≡◌, ◌+◌, ◌-◌, ◌≤◌, ◌<
 ghost use Rattle.smallvec.specs.SmallVec.{HasRoomFor, small_vec_len};
 ghost use Rattle.span_fill.specs.Edges.{column_of, near_column};
 ghost use Rattle.span_fill.specs.Fill.{is_inside};
-ghost use Rattle.span_fill.specs.Sweep.{has_pair, is_over_behind, is_part, longer_run, ended_spans, run_spans, swept};
+ghost use Rattle.span_fill.specs.Sweep.{has_pair, is_over_behind, is_part, longer_run, ended_spans, run_spans, swept, swept_within};
 
 use crate::edge::ActiveEdge;
 use crate::fill_rule::FillRule;
@@ -17,9 +17,7 @@ pub(crate) fn sweep(rule: FillRule, edges: &[ActiveEdge], interval: Span, spans:
     requires count { length edges.now ≤ 2 ^ 20 }
     requires interval { interval.to ≤ 8192 }
     requires room { HasRoomFor spans.old (length edges.now + 2) }
-    ensures spans { spans.new.items
-        ≡ spans.old.items
-        ++ swept rule interval.to edges.now interval.from 0 0 (record { from = interval.from; to = interval.from }) }
+    ensures spans { spans.new.items ≡ spans.old.items ++ swept_within rule edges.now interval }
     ensures room { spans.new.capacity ≡ spans.old.capacity }
 {
     if edges.len() == 2 && is_over_behind(rule, edges[0], edges[1]) {
@@ -36,9 +34,7 @@ fn sweep_pairs(rule: FillRule, edges: &[ActiveEdge], interval: Span, spans: &mut
     requires count { length edges.now ≤ 2 ^ 20 }
     requires interval { interval.to ≤ 8192 }
     requires room { HasRoomFor spans.old (length edges.now + 2) }
-    ensures spans { spans.new.items
-        ≡ spans.old.items
-        ++ swept rule interval.to edges.now interval.from 0 0 (record { from = interval.from; to = interval.from }) }
+    ensures spans { spans.new.items ≡ spans.old.items ++ swept_within rule edges.now interval }
     ensures room { spans.new.capacity ≡ spans.old.capacity }
 {
     let mut at = interval.from;

@@ -2,6 +2,7 @@ pub mod Framing
 pub mod Kinds
 pub mod BitmapRecords
 pub mod DrawingRecords
+pub mod ObjectFields
 pub mod ObjectRecords
 pub mod StateRecords
 pub mod Wmf

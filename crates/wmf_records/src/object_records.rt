@@ -1,47 +1,72 @@
 //! Object records ([MS-WMF] 2.3.4). Each object is made at the lowest free index.
 
-ghost use Rattle.std.specs.Prelude.{◌≡◌, ◌+◌, ◌≤◌, pos, int_lt, Ok, IfOk, length};
+ghost use Rattle.std.specs.Prelude.{◌≡◌, ◌≤◌, Ok, length};
 ghost use Rattle.draw_ops.specs.Objects.{object_value_of};
 ghost use Rattle.draw_ops.specs.Operation.{delete, select, select_palette};
 ghost use Rattle.draw_ops.specs.RecordOf.{meant_of};
 ghost use Rattle.draw_ops.specs.Results.{result_map};
-ghost use Rattle.point_views.specs.Numbers.{i16_at};
-ghost use Rattle.wmf_records.specs.ObjectRecords.{create_brush_indirect, create_pen_indirect, created, index_in, index_record};
+ghost use Rattle.wmf_records.specs.ObjectFields.{pen_end};
+ghost use Rattle.wmf_records.specs.ObjectRecords.{create_brush_indirect, create_pen_indirect, created, index_in, index_record, pen_in};
 
-use draw_ops::{Handle, Meant, Object, Op, PenStyle, RecordFault, brush_meant, pen_meant, rgb_at};
+use draw_ops::{Handle, Meant, Object, Op, PenFields, RecordFault, brush_meant, pen_meant, rgb_at};
 use point_views::{i16_at, u16_at};
 
-/// META_CREATEBRUSHINDIRECT (2.3.4.1): BrushStyle, ColorRef, BrushHatch.
+// Where the fields stand, in bytes from a record's front, and where what a record needs ends.
+
+/// ObjectIndex or Palette.
+const OBJECT_INDEX: usize = 6;
+
+const INDEX_END: usize = 8;
+
+// META_CREATEBRUSHINDIRECT (2.3.4.1): its LogBrush (2.2.2.10) is BrushStyle, ColorRef and BrushHatch.
+const LOGBRUSH_STYLE: usize = 6;
+
+const LOGBRUSH_COLOR: usize = 8;
+
+const LOGBRUSH_HATCH: usize = 12;
+
+const LOGBRUSH_END: usize = 14;
+
+// META_CREATEPENINDIRECT (2.3.4.5): its Pen (2.2.1.4) is PenStyle, Width, a point of which y isn't read, and ColorRef.
+const PEN_STYLE: usize = 6;
+
+const PEN_WIDTH: usize = 8;
+
+const PEN_COLOR: usize = 12;
+
+const PEN_END: usize = 16;
+
+/// META_CREATEBRUSHINDIRECT: LogBrush.
 pub(crate) fn create_brush_indirect(bytes: &[u8]) -> Result<Meant<'_>, RecordFault>
     ensures value { create_brush_indirect bytes.entry.now ≡ result_map meant_of result }
 {
-    if bytes.len() < 14 {
+    if bytes.len() < LOGBRUSH_END {
         return Err(RecordFault::BadParams);
     }
-    let style = u32::from(u16_at(bytes, 6));
-    let colour = rgb_at(bytes, 8);
-    let hatch = u32::from(u16_at(bytes, 12));
+    let style = u32::from(u16_at(bytes, LOGBRUSH_STYLE));
+    let colour = rgb_at(bytes, LOGBRUSH_COLOR);
+    let hatch = u32::from(u16_at(bytes, LOGBRUSH_HATCH));
     brush_meant(None, style, colour, hatch)
 }
 
-/// META_CREATEPENINDIRECT (2.3.4.5): PenStyle, Width, ColorRef. Of the width, a point, y isn't read.
+/// META_CREATEPENINDIRECT: Pen.
 pub(crate) fn create_pen_indirect(bytes: &[u8]) -> Result<Meant<'_>, RecordFault>
     ensures value { create_pen_indirect bytes.entry.now ≡ result_map meant_of result }
 {
-    if bytes.len() < 16 {
+    if bytes.len() < PEN_END {
         return Err(RecordFault::BadParams);
     }
-    let style = PenStyle::from_code(u32::from(u16_at(bytes, 6)));
-    let colour = rgb_at(bytes, 12);
-    pen_meant(None, style, is_wide(bytes, 8), colour)
+    pen_meant(None, pen(bytes), rgb_at(bytes, PEN_COLOR))
 }
 
-/// Whether the width at a place is above one unit.
-fn is_wide(bytes: &[u8], place: usize) -> bool
-    requires { place + 2 ≤ length bytes.now }
-    ensures { result ≡ int_lt (pos 1) (i16_at bytes.now place) }
+/// The fields of the pen of META_CREATEPENINDIRECT.
+fn pen(bytes: &[u8]) -> Option<PenFields>
+    requires { pen_end ≤ length bytes.now }
+    ensures { result ≡ pen_in bytes.now }
 {
-    1 < i16_at(bytes, place)
+    let style = u32::from(u16_at(bytes, PEN_STYLE));
+    let width = i32::from(i16_at(bytes, PEN_WIDTH));
+    PenFields::log_pen(style, width)
 }
 
 /// META_CREATEFONTINDIRECT (2.3.4.2) and META_CREATEPALETTE (2.3.4.3): nothing of them is read.
@@ -76,8 +101,8 @@ pub(crate) fn select_palette(bytes: &[u8]) -> Result<Meant<'_>, RecordFault>
 fn index(bytes: &[u8]) -> Result<Handle, RecordFault>
     ensures value { index_in bytes.now ≡ result_map (λ handle. handle.0) result }
 {
-    if bytes.len() < 8 {
+    if bytes.len() < INDEX_END {
         return Err(RecordFault::BadParams);
     }
-    Ok(Handle(u32::from(u16_at(bytes, 6))))
+    Ok(Handle(u32::from(u16_at(bytes, OBJECT_INDEX))))
 }

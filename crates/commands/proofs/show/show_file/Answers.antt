@@ -12,16 +12,15 @@ returns-in-Err-clause-failed g c = refusal_fails (show c.args.file.now c.args.wi
 pub returns-in-Err-clause-memory : goal.returns-in-Err-clause-memory
 returns-in-Err-clause-memory g c = λ e. c.in-Err.ensures.memory (is_want c.in-Err.refusal c.failure_of.result c.failure_of.ensures e)
 
-pub write_within-requires-clause-within : goal.write_within-requires-clause-within
-write_within-requires-clause-within g c = prepared_within _ _ _ _ c.in-Ok.ensures.text c.requires.wide c.requires.high _ c.clear.ensures.read
-
 pub returns-clause-done : goal.returns-clause-done
-returns-clause-done g c = on_ok_weaker c.write_within.result (show_done _ c.clear.result _ _ _ _ (rw c.clear.ensures.opened c.in-Ok.ensures.opened)) c.write_within.ensures.done
+returns-clause-done g c =
+    on_ok_weaker c.write_played.result (show_done _ c.clear.result _ _ g.O.Write.contents _ _ (rw c.clear.ensures.opened c.in-Ok.ensures.opened)) c.write_played.ensures.done
 
 pub returns-clause-failed : goal.returns-clause-failed
 returns-clause-failed g c =
-    IfErr-weaker c.write_within.result _ _
-    (λ failure fails. show_fails _ c.clear.result _ _ g.O.Write.contents c.args.out.now c.write_within.new.out failure (rw c.clear.ensures.opened c.in-Ok.ensures.opened) fails) c.write_within.ensures.failed
+    let within = prepared_within _ _ _ _ c.in-Ok.ensures.text c.requires.wide c.requires.high _ c.clear.ensures.read in
+    IfErr-weaker c.write_played.result _ _
+    (λ failure fails. show_fails _ c.clear.result _ _ g.O.Write.contents c.args.out.now c.write_played.new.out failure (rw c.clear.ensures.opened c.in-Ok.ensures.opened) within fails) c.write_played.ensures.failed
 
 pub returns-clause-memory : goal.returns-clause-memory
-returns-clause-memory g c = IfErr-weaker c.write_within.result _ _ (λ failure fails e. (accepted_opens _ _ c.in-Ok.ensures.accepted).opens) c.write_within.ensures.failed
+returns-clause-memory g c = IfErr-weaker c.write_played.result _ _ (λ failure fails e. (accepted_opens _ _ c.in-Ok.ensures.accepted).opens) c.write_played.ensures.failed

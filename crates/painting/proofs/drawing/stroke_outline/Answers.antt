@@ -10,12 +10,13 @@ use Rattle.span_fill.specs.declared.line.Line.{Line}
 use Rattle.painting.specs.FigureEnds.{stroked_ends}
 use Rattle.painting.specs.FigureOutlines.{outline_left}
 use Rattle.preflight_cert.specs.Outlines.{line_from}
-use Rattle.preflight_cert.specs.Shape.{along_figures, round_rectangle}
+use Rattle.preflight_cert.specs.Shape.{stroke_of}
+use Rattle.preflight_cert.specs.StrokedOutline.{along, round}
 use Rattle.raster_ops.specs.RasterOps.{binary_table}
 use Rattle.painting.proofs.DrawingLemmas.{clip_placed, lone_stroke, pen_drawn, pen_strokes}
 use Rattle.painting.proofs.LandingLemmas.{fits_there, landed_near, lands_there, two_land}
 use Rattle.painting.proofs.LandedBoxLemmas.{shape_landed}
-use Rattle.painting.proofs.PaintedFigureLemmas.{few_to_count, lines_few, stroke_closed, stroke_told, stroked_lines, stroked_shape, strokes_figures}
+use Rattle.painting.proofs.PaintedFigureLemmas.{few_to_count, lines_few, stroke_told, stroked_lines, stroked_outline, strokes_figures}
 use Rattle.painting.proofs.drawing.stroke_outline.Goals as goal
 
 pub at-requires : goal.at-requires
@@ -65,7 +66,7 @@ stroke_marked-requires-clause-within g c =
     λ x y h.
     let same = ap (λ (list : List Line). in_stroke list x y) c.new-outline.ensures ∙ stroked_lines s ends figures x y in
     shape_landed c.drawing_box_law.ensures c.place-place.result s c.place-place.ensures c.args.drawn.bounds c.landed_box-landed.result c.landed_box-landed.ensures (points_of_figures figures) least within
-    (stroked_shape ends figures) (stroke_closed ends figures) (stroke_told ends figures) x y (sym same ∙ h)
+    (stroke_of (stroked_outline ends figures)) tt (stroke_told ends figures) x y (sym same ∙ h)
 
 pub paint_part-requires-clause-within : goal.paint_part-requires-clause-within
 paint_part-requires-clause-within g c =
@@ -77,7 +78,7 @@ paint_part-requires-clause-within g c =
     λ x y h.
     let same = ap (λ (list : List Line). in_stroke list x y) c.new-outline.ensures ∙ stroked_lines s ends figures x y in
     shape_landed c.drawing_box_law.ensures c.place-place.result s c.place-place.ensures c.args.drawn.bounds c.landed_box-landed.result c.landed_box-landed.ensures (points_of_figures figures) least within
-    (stroked_shape ends figures) (stroke_closed ends figures) (stroke_told ends figures) x y (sym same ∙ h)
+    (stroke_of (stroked_outline ends figures)) tt (stroke_told ends figures) x y (sym same ∙ h)
 
 pub at-requires-in-Rectangle : goal.at-requires-in-Rectangle
 at-requires-in-Rectangle g c =
@@ -122,9 +123,9 @@ returns-in-Line-clause-drawn g c =
     let begins = lands_there place s from c.at.result c.place-place.ensures c.at.ensures in
     let ends = lands_there place s to c.at-in-Line.result c.place-place.ensures c.at-in-Line.ensures in
     let same : line ≡ there = ap (λ (p : Point). line_from p c.at-in-Line.result) begins ∙ ap (λ (p : Point). line_from (placed_point from s) p) ends in
-    let shape = along_figures (figures_of_lists ((from ∷ to ∷ []) ∷ [])) in
-    let drawn = pen_drawn c.writing_law.ensures s c.args.canvas.now c.stroke_line.new.canvas c.whole_law.ensures c.requires.held c.binary_law.ensures.same paint tools modes operation clip _ shape c.args.colour c.with-paint.ensures.brush (λ x y. lone_stroke line there x y same) c.stroke_line.ensures.pixels in
-    rw (c.in-Line.is, pen_strokes shape tools c.args.colour c.requires.pen) drawn
+    let outline = along (figures_of_lists ((from ∷ to ∷ []) ∷ [])) in
+    let drawn = pen_drawn c.writing_law.ensures s c.args.canvas.now c.stroke_line.new.canvas c.whole_law.ensures c.requires.held c.binary_law.ensures.same paint tools modes operation clip _ outline c.args.colour c.with-paint.ensures.brush (λ x y. lone_stroke line there x y same) c.stroke_line.ensures.pixels in
+    rw (c.in-Line.is, pen_strokes outline tools c.args.colour c.requires.pen) drawn
 
 pub returns-then-stroke_marked-clause-drawn : goal.returns-then-stroke_marked-clause-drawn
 returns-then-stroke_marked-clause-drawn g c =
@@ -140,9 +141,9 @@ returns-then-stroke_marked-clause-drawn g c =
     let ends = c.in-Some.ends in
     let figures = figures_drawn c.args.machine.now.painted c.in-Figures.points in
     let asked : stroked_ends c.in-Figures.painting ≡ Some ends = search rules in
-    let shape = stroked_shape ends figures in
-    let drawn = pen_drawn c.writing_law.ensures s c.args.canvas.now c.stroke_marked.new.canvas c.whole_law.ensures c.requires.held c.binary_law.ensures.same paint tools modes operation clip _ shape c.args.colour c.with-paint.ensures.brush (λ x y. ap (λ (list : List Line). in_stroke list x y) c.new-outline.ensures ∙ stroked_lines s ends figures x y) (c.stroke_marked.ensures.pixels c.if-stroke_marked.true) in
-    rw (c.in-Figures.is, strokes_figures c.in-Figures.painting ends figures tools asked, pen_strokes shape tools c.args.colour c.requires.pen) drawn
+    let outline = stroked_outline ends figures in
+    let drawn = pen_drawn c.writing_law.ensures s c.args.canvas.now c.stroke_marked.new.canvas c.whole_law.ensures c.requires.held c.binary_law.ensures.same paint tools modes operation clip _ outline c.args.colour c.with-paint.ensures.brush (λ x y. ap (λ (list : List Line). in_stroke list x y) c.new-outline.ensures ∙ stroked_lines s ends figures x y) (c.stroke_marked.ensures.pixels c.if-stroke_marked.true) in
+    rw (c.in-Figures.is, strokes_figures c.in-Figures.painting ends figures tools asked, pen_strokes outline tools c.args.colour c.requires.pen) drawn
 
 pub returns-else-stroke_marked-clause-drawn : goal.returns-else-stroke_marked-clause-drawn
 returns-else-stroke_marked-clause-drawn g c =
@@ -159,9 +160,9 @@ returns-else-stroke_marked-clause-drawn g c =
     let ends = c.in-Some.ends in
     let figures = figures_drawn c.args.machine.now.painted c.in-Figures.points in
     let asked : stroked_ends c.in-Figures.painting ≡ Some ends = search rules in
-    let shape = stroked_shape ends figures in
-    let drawn = pen_drawn c.writing_law.ensures s c.args.canvas.now c.paint_part.new.canvas c.whole_law.ensures c.requires.held c.binary_law.ensures.same paint tools modes operation clip _ shape c.args.colour c.with-paint.ensures.brush (λ x y. ap (λ (list : List Line). in_stroke list x y) c.new-outline.ensures ∙ stroked_lines s ends figures x y) (rw same at c.paint_part.ensures.pixels) in
-    rw (c.in-Figures.is, strokes_figures c.in-Figures.painting ends figures tools asked, pen_strokes shape tools c.args.colour c.requires.pen) drawn
+    let outline = stroked_outline ends figures in
+    let drawn = pen_drawn c.writing_law.ensures s c.args.canvas.now c.paint_part.new.canvas c.whole_law.ensures c.requires.held c.binary_law.ensures.same paint tools modes operation clip _ outline c.args.colour c.with-paint.ensures.brush (λ x y. ap (λ (list : List Line). in_stroke list x y) c.new-outline.ensures ∙ stroked_lines s ends figures x y) (rw same at c.paint_part.ensures.pixels) in
+    rw (c.in-Figures.is, strokes_figures c.in-Figures.painting ends figures tools asked, pen_strokes outline tools c.args.colour c.requires.pen) drawn
 
 pub returns-in-Rectangle-clause-drawn : goal.returns-in-Rectangle-clause-drawn
 returns-in-Rectangle-clause-drawn g c =
@@ -178,9 +179,9 @@ returns-in-Rectangle-clause-drawn g c =
     let second = c.in-Rectangle.second in
     let inside = c.rectangle_box-inside.ensures.value in
     let place = c.place-place.result in
-    let shape = round_rectangle first second c.in-Rectangle.edges in
-    let drawn = pen_drawn c.writing_law.ensures s c.args.canvas.now c.stroke_box.new.canvas c.whole_law.ensures c.requires.held c.binary_law.ensures.same paint tools modes operation clip _ shape c.args.colour c.with-paint.ensures.brush (λ x y. rw (inside, lands_there place s first c.at-in-Rectangle.result c.place-place.ensures c.at-in-Rectangle.ensures, lands_there place s second c.at-in-Rectangle-2.result c.place-place.ensures c.at-in-Rectangle-2.ensures) refl) c.stroke_box.ensures.pixels in
-    rw (c.in-Rectangle.is, pen_strokes shape tools c.args.colour c.requires.pen) drawn
+    let outline = round first second c.in-Rectangle.edges in
+    let drawn = pen_drawn c.writing_law.ensures s c.args.canvas.now c.stroke_box.new.canvas c.whole_law.ensures c.requires.held c.binary_law.ensures.same paint tools modes operation clip _ outline c.args.colour c.with-paint.ensures.brush (λ x y. rw (inside, lands_there place s first c.at-in-Rectangle.result c.place-place.ensures c.at-in-Rectangle.ensures, lands_there place s second c.at-in-Rectangle-2.result c.place-place.ensures c.at-in-Rectangle-2.ensures) refl) c.stroke_box.ensures.pixels in
+    rw (c.in-Rectangle.is, pen_strokes outline tools c.args.colour c.requires.pen) drawn
 
 pub stroke_box-requires-clause-room : goal.stroke_box-requires-clause-room
 stroke_box-requires-clause-room g c = rw c.in-Rectangle.is at c.requires.lines

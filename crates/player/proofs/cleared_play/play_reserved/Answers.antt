@@ -1,6 +1,6 @@
 -- A cleared file writes no more than certified.
-use Rattle.std.proofs.Common.{◌≡◌, ℕ, ◌+◌, ap, refl, rules, subst, sym}
-use Rattle.mapping.specs.PlacingLaws.{IsNoLarger, ShowsFrame}
+use Rattle.std.proofs.Common.{◌≡◌, ℕ, ◌+◌, ap, rules, subst, sym}
+use Rattle.mapping.specs.PlacingLaws.{ShowsFrame}
 use Rattle.mapping.specs.Surface.{Surface}
 use Rattle.meta_headers.specs.OpenedOf.{opened_of}
 use Rattle.dc_stack.specs.State.{State}
@@ -11,12 +11,6 @@ use Rattle.preflight_cert.specs.Writes.{writes_after, writes_of_drawings}
 use Rattle.player.proofs.ClearedLemmas.{few_written}
 use Rattle.player.proofs.cleared_play.play_reserved.Goals as goal
 
-pub play_rows-requires : goal.play_rows-requires
-play_rows-requires g c =
-    let o = opened_of c.args.cleared.now.opened in
-    let smaller : IsNoLarger c.args.machine.now.surface (bound_of o (certificate_of c.args.cleared.now.certificate)) = rw c.requires.surface (record { width = c.requires.within.wide; height = c.requires.within.high; frame_width = refl; frame_height = refl }) in
-    search (smaller, rules)
-
 pub returns-clause-few : goal.returns-clause-few
 returns-clause-few g c =
     let cleared = c.args.cleared.now in
@@ -25,12 +19,11 @@ returns-clause-few g c =
     let s = c.args.machine.now.surface in
     let old = c.args.canvas.now.writes in
     let new = c.play_rows.new.canvas.writes in
-    let smaller : IsNoLarger s (bound_of o k) = rw c.requires.surface (record { width = c.requires.within.wide; height = c.requires.within.high; frame_width = refl; frame_height = refl }) in
     let frame : ShowsFrame (bound_of o k) = record { wide = cleared.opened.frame.wide; high = cleared.opened.frame.high } in
     let played = c.play_rows.ensures.played in
     let height : s.height ≡ c.args.canvas.now.rows = ap (λ (t : Surface). t.height) c.requires.surface in
     let drawings = drawings_of played.content.steps c.args.machine.now.state in
     let top : new ≡ old + writes_of_drawings drawings s 0 c.args.canvas.now.rows = subst (λ (n : ℕ). new ≡ old + writes_of_drawings drawings s n c.args.canvas.now.rows) c.requires.whole played.plays.writes in
     let whole : new ≡ old + writes_of_drawings drawings s 0 s.height = subst (λ (n : ℕ). new ≡ old + writes_of_drawings drawings s 0 n) (sym height) top in
-    let count = subst (λ (state : State). new ≡ old + writes_after (drawings_of played.content.steps state) s) c.requires.state whole in
-    few_written c.answer_law.ensures o cleared.opened.records.now k cleared.checked c.size_law.ensures s frame smaller played.content played.of_records old new c.play_rows.result c.play_rows.ensures.count count
+    let count = subst (λ (state : State). new ≡ old + writes_after (drawings_of played.content.steps state) s) c.requires.start.state whole in
+    few_written c.answer_law.ensures o cleared.opened.records.now k cleared.checked c.size_law.ensures s frame c.requires.ready.within played.content played.of_records old new c.play_rows.result c.play_rows.ensures.count count

@@ -1,5 +1,5 @@
 -- The box that a draw is told with is the least one.
-use Rattle.std.proofs.Common.{◌≡◌, ◌++◌, ap, subst, ◌∙◌}
+use Rattle.std.proofs.Common.{◌≡◌, ◌++◌, subst}
 use Rattle.mapping.specs.declared.geometry.Rect.{Rect}
 use Rattle.dc_stack.specs.Drawing.{mark_points}
 use Rattle.dc_stack.specs.Draws.{IsPlacedDraw, mark_of}
@@ -33,4 +33,4 @@ returns-clause-budget g c =
     let m = c.args.machine.now in
     let placed : IsPlacedDraw m.surface m.painted d = rw c.in-Some.is at c.requires.placed in
     let least = least_is c.box_law.ensures d.bounds (mark_points (mark_of m.painted d)) placed.least in
-    rw c.in-Some.is (c.drawing_budget.ensures.layers ∙ ap (λ (box : Rect). layers_budget (layers_of (drawing_with m d)) box m.surface) least)
+    rw c.in-Some.is (subst (λ (box : Rect). c.drawing_budget.result ≡ layers_budget (layers_of (drawing_with m d)) box m.surface) least c.drawing_budget.ensures.layers)

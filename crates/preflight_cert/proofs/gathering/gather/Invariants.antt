@@ -9,8 +9,8 @@ use Rattle.preflight_cert.specs.TextLaws.{IsEntry}
 use Rattle.preflight_cert.proofs.gathering.gather.Given as goal
 
 -- what is left is gathered as the whole is
-abbrev pub invariant-loop-is_put : goal.invariant-loop-is_put
-invariant-loop-is_put g l =
+abbrev pub invariant-loop-is_played : goal.invariant-loop-is_played
+invariant-loop-is_played g l =
     let content = g.S.HasContent.content in
     let whole = content l.fn.source in
     let left = content l.source in
@@ -30,5 +30,5 @@ invariant-loop-is_put g l =
       needs : needs_after whole.steps l.fn.machine.state l.fn.machine.needs ≡ needs_after left.steps l.machine.state l.machine.needs;
     }
 
-abbrev pub decreases-loop-is_put : goal.decreases-loop-is_put
-decreases-loop-is_put g l = length (g.S.HasContent.content l.source).steps
+abbrev pub decreases-loop-is_played : goal.decreases-loop-is_played
+decreases-loop-is_played g l = length (g.S.HasContent.content l.source).steps

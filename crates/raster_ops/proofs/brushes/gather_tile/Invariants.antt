@@ -1,7 +1,6 @@
 use Rattle.std.proofs.Common.{◌≡◌, ◌⊎◌, ℕ, ◌<◌, ◌≤◌, ◌%◌, get_or, length}
 use Rattle.mapping.specs.declared.geometry.Colour.{Colour}
-use Rattle.mapping.specs.Colours.{black_colour}
-use Rattle.dib_views.specs.Rows.{row_colours_of}
+use Rattle.raster_ops.specs.BrushRows.{repeated_colour}
 use Rattle.raster_ops.specs.Bytes.{HasBytes}
 use Rattle.raster_ops.proofs.brushes.gather_tile.Given as goal
 
@@ -12,7 +11,7 @@ invariant-loop-x l = record {
   wide : l.width ≡ l.tile.row.width;
   column : l.column ≡ l.x % l.width;
   below : l.column < l.width;
-  each : (k : ℕ) (d : Colour) → l.from ≤ k → k < l.x → get_or l.out k d ≡ get_or (row_colours_of l.tile.row) (k % l.tile.row.width) black_colour;
+  each : (k : ℕ) (d : Colour) → l.from ≤ k → k < l.x → get_or l.out k d ≡ repeated_colour l.tile.row k;
   parts : (k : ℕ) (d : Colour) → l.from ≤ k → k < l.x → HasBytes (get_or l.out k d);
   others : (k : ℕ) (d : Colour) → k < l.from ⊎ l.x ≤ k → get_or l.out k d ≡ get_or l.initial.out k d;
 }

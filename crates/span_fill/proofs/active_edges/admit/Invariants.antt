@@ -1,12 +1,13 @@
 -- What begins is behind what is there, and what waits still waits.
-use Rattle.std.proofs.Common.{◌≡◌, ◌+◌, ◌-◌, ◌≤◌, ◌++◌, drop, length, map, vec_len, vec_capacity}
+use Rattle.std.proofs.Common.{◌≡◌, ◌+◌, ◌-◌, ◌≤◌, ◌++◌, drop, length, vec_len, vec_capacity}
 use Rattle.std.specs.List.{filter}
-use Rattle.span_fill.specs.Edges.{active_at, begins_behind, begins_by}
+use Rattle.span_fill.specs.Admitting.{beginning_edges}
+use Rattle.span_fill.specs.Edges.{begins_behind}
 use Rattle.span_fill.proofs.active_edges.admit.Given as goal
 
 abbrev pub invariant-loop-edge : goal.invariant-loop-edge
 invariant-loop-edge l = record {
-  active : l.active.items ++ map (active_at l.row) (filter (begins_by l.row) (drop l.next l.edges)) ≡ l.initial.active.items ++ map (active_at l.row) (filter (begins_by l.row) (drop l.begun l.edges));
+  active : l.active.items ++ beginning_edges l.row (drop l.next l.edges) ≡ l.initial.active.items ++ beginning_edges l.row (drop l.begun l.edges);
   left : filter (begins_behind l.row) (drop l.next l.edges) ≡ filter (begins_behind l.row) (drop l.begun l.edges);
   within : l.next ≤ length l.edges;
   length : vec_len l.active + (length l.edges - l.next) ≤ vec_len l.initial.active + (length l.edges - l.begun);

@@ -1,8 +1,7 @@
 use Rattle.std.proofs.Common.{◌≡◌, ◌⊎◌, ℕ, ◌-◌, ◌<◌, ◌≤◌, get_or, length}
-use Rattle.mapping.specs.Colours.{black_colour}
 use Rattle.mapping.specs.declared.geometry.Colour.{Colour}
 use Rattle.raster_ops.specs.Bytes.{HasBytes}
-use Rattle.raster_ops.specs.Selectors.{selected_colour}
+use Rattle.raster_ops.specs.Selectors.{selected_at}
 use Rattle.raster_ops.proofs.selector.Selector.select_eights.Given as goal
 
 -- the colours so far are chosen, always whole eights, and the others are as they were
@@ -11,7 +10,7 @@ invariant-loop-done l = record {
   from : l.from ≤ l.done;
   within : l.done ≤ l.to;
   long : length l.chosen ≡ length l.fn.chosen;
-  each : (x : ℕ) (d : Colour) → l.from ≤ x → x < l.done → get_or l.chosen x d ≡ selected_colour l.self (get_or l.patterns x black_colour) (get_or l.sources x black_colour);
+  each : (x : ℕ) (d : Colour) → l.from ≤ x → x < l.done → get_or l.chosen x d ≡ selected_at l.self l.patterns l.sources x;
   parts : (x : ℕ) (d : Colour) → l.from ≤ x → x < l.done → HasBytes (get_or l.chosen x d);
   others : (x : ℕ) (d : Colour) → x < l.from ⊎ l.done ≤ x → get_or l.chosen x d ≡ get_or l.fn.chosen x d;
 }

@@ -1,0 +1,40 @@
+use Rattle.std.proofs.Common.{◌≡◌, ◌+◌, sym, arith, ap, ◌∙◌, w64, Fits}
+use Rattle.canvas.specs.CanvasState.{CanvasState}
+use Rattle.canvas.proofs.EachLemmas.{all_changed, held_now, may_count, none_changed, one_changed, sum_fits, was_to_come}
+use Rattle.canvas.proofs.surface.Canvas.change_each.Goals as goal
+
+pub loop-pixel-init : goal.loop-pixel-init
+loop-pixel-init g c =
+    record {
+      whole = c.width.ensures.whole;
+      changed = none_changed (g.P.PixelSource.to_come c.args.pixels.now) (g.C.PixelChange.made c.args.change) c.args.self.now c.width.ensures.whole;
+      end = λ end h. h;
+    }
+
+pub change-requires : goal.change-requires
+change-requires g c =
+    let inv = c.loop-pixel.invariant in
+    let asked = c.requires.held c.in-Some.pixel.x c.in-Some.pixel.y (was_to_come (g.P.PixelSource.to_come c.args.pixels.now) (g.C.PixelChange.made c.args.change) c.args.self.now inv.whole (g.P.PixelSource.to_come c.loop-pixel.pixels) (g.P.PixelSource.to_come c.next_pixel.new.self) _ _ c.loop-pixel.count c.in-Some.pixel c.loop-pixel.self inv.changed c.in-Some.ensures.pixel) in
+    held_now (g.P.PixelSource.to_come c.args.pixels.now) (g.C.PixelChange.made c.args.change) c.args.self.now inv.whole (g.P.PixelSource.to_come c.loop-pixel.pixels) (g.P.PixelSource.to_come c.next_pixel.new.self) _ _ c.loop-pixel.count c.in-Some.pixel c.loop-pixel.self inv.changed c.in-Some.ensures.pixel asked
+
+pub overflow_add-count : goal.overflow_add-count
+overflow_add-count g c =
+    let inv = c.loop-pixel.invariant in
+    let few = may_count (g.P.PixelSource.to_come c.args.pixels.now) (g.C.PixelChange.made c.args.change) c.args.self.now inv.whole (g.P.PixelSource.to_come c.loop-pixel.pixels) (g.P.PixelSource.to_come c.next_pixel.new.self) _ _ c.loop-pixel.count c.in-Some.pixel c.loop-pixel.self inv.changed c.in-Some.ensures.pixel c.requires.countable in
+    omega (arith, few)
+
+pub loop-pixel-preserved : goal.loop-pixel-preserved
+loop-pixel-preserved g c =
+    let inv = c.loop-pixel.invariant in
+    record {
+      whole = inv.whole;
+      changed = one_changed (g.P.PixelSource.to_come c.args.pixels.now) (g.C.PixelChange.made c.args.change) c.args.self.now inv.whole (g.P.PixelSource.to_come c.loop-pixel.pixels) (g.P.PixelSource.to_come c.next_pixel.new.self) _ _ c.loop-pixel.count c.in-Some.pixel c.loop-pixel.self inv.changed c.in-Some.ensures.pixel c.change.new.self c.change.ensures.count c.change.ensures.repaints;
+      end = λ end h. inv.end end (c.in-Some.ensures.end end h);
+    }
+
+pub overflow_add-self : goal.overflow_add-self
+overflow_add-self g c =
+    let inv = c.loop-pixel.invariant in
+    let fits = sum_fits (g.P.PixelSource.to_come c.args.pixels.now) (g.P.PixelSource.to_come c.loop-pixel.pixels) (g.C.PixelChange.made c.args.change) c.loop-pixel.count c.args.self.now c.loop-pixel.self inv.changed c.requires.countable in
+    let same = ap (λ (canvas : CanvasState). canvas.writes) c.self-2.view_is in
+    omega (arith, fits, same)

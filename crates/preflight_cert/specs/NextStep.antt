@@ -1,0 +1,50 @@
+-- What playing the next step that is left of a file comes to.
+use Rattle.std.specs.Prelude.{◌≡◌, ◌⊎◌, ℕ, Bool, true, false, IfSome, Option, Some, Result, Ok, Err}
+use Rattle.draw_ops.specs.Content.{Content, StepValue, broken_by, nothing_left, with_step}
+use Rattle.draw_ops.specs.OperationOf.{operation_of}
+use Rattle.draw_ops.specs.StepOf.{step_value_of}
+use Rattle.draw_ops.specs.declared.fault.Fault.{Fault}
+use Rattle.draw_ops.specs.declared.fault.Fault.TheVariants.{Record}
+use Rattle.draw_ops.specs.declared.record_fault.RecordFault.{RecordFault}
+use Rattle.draw_ops.specs.declared.step.Step.{Step}
+use Rattle.dc_stack.specs.Draws.{IsPlacedDraw}
+use Rattle.dc_stack.specs.MachineState.{HasStepped, IsDrawingOf, MachineState, RefusesStep}
+use Rattle.dc_stack.specs.declared.draw.Draw.{Draw}
+use Rattle.preflight_cert.specs.Refusal.{number_told}
+use Rattle.preflight_cert.specs.declared.refusal.Refusal.{Refusal}
+
+-- a step was the first of what was left, its operation was played, and this is what it draws
+pub record HasPlayedStep (left rest : Content) (old new : MachineState) (step : Step) (drawn : Option Draw) : Type 0 where
+  pub first : left ≡ with_step (step_value_of step) rest
+  pub stepped : HasStepped (operation_of step.op) old new
+  pub drawing : IsDrawingOf (operation_of step.op) old new drawn
+  pub placed : IfSome drawn (IsPlacedDraw new.surface new.painted)
+  pub surface : new.surface ≡ old.surface
+
+-- no step was left, and the machine is as it was
+pub record HasEnded (left : Content) (old new : MachineState) : Type 0 where
+  pub none_left : left ≡ nothing_left
+  pub same : new ≡ old
+
+-- a fault was all that was left, which the refusal tells of the record behind so many
+pub record TellsBroken (left : Content) (before : ℕ) (r : Refusal) : Type 0 where
+  pub fault : RecordFault
+  pub broken : left ≡ broken_by fault
+  pub number : r.number ≡ Some before
+  pub told : r.fault ≡ Record fault
+
+-- the machine refused the first step, as the refusal tells
+pub record TellsRefusedStep (left : Content) (old : MachineState) (r : Refusal) : Type 0 where
+  pub rest : Content
+  pub step : StepValue
+  pub fault : Fault
+  pub first : left ≡ with_step step rest
+  pub refused : RefusesStep step.operation old fault
+  pub number : r.number ≡ number_told step.number fault
+  pub told : r.fault ≡ fault
+
+-- the next step of what is left, so many records being before it, was played, or there was none, or this refusal tells why not
+abbrev pub PlaysNext : Content → Content → MachineState → MachineState → ℕ → Step → Option Draw → Result Bool Refusal → Type 0
+PlaysNext left rest old new before step drawn (Ok true) = HasPlayedStep left rest old new step drawn
+PlaysNext left rest old new before step drawn (Ok false) = HasEnded left old new
+PlaysNext left rest old new before step drawn (Err r) = TellsBroken left before r ⊎ TellsRefusedStep left old r
