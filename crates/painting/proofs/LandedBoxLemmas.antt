@@ -7,7 +7,7 @@ use Rattle.std.specs.Int.{int_max, int_min}
 use Rattle.std.specs.List.{All, list_all}
 use Rattle.mapping.specs.Boxes.{HasPoint, IsLeastBox, IsTight, box_between, right_bottom_of, mapped_by, left_top_of, no_box}
 use Rattle.mapping.specs.BoxLaws.{BoxLaws}
-use Rattle.mapping.specs.PixelBoxes.{from_to_true}
+use Rattle.mapping.specs.PixelBoxes.{from_to_true, from_to_from, in_box, is_from_to}
 use Rattle.mapping.specs.PlaceOf.{surface_of}
 use Rattle.mapping.specs.Plane.{is_on_plane}
 use Rattle.mapping.specs.PlacingLaws.{PlacingLaws, ShowsFrame}
@@ -16,12 +16,10 @@ use Rattle.mapping.specs.declared.geometry.Point.{Point}
 use Rattle.mapping.specs.declared.geometry.Rect.{Rect}
 use Rattle.mapping.specs.declared.place.Place.{Place}
 use Rattle.draw_ops.specs.declared.operation.RectangleEdges.TheVariants.{Inclusive}
-use Rattle.dc_stack.specs.Clip.{in_box, is_from_to}
 use Rattle.preflight_cert.specs.DrawingBoxLaws.{DrawingBoxLaws, IsClosedShape, Reaches, shape_points}
 use Rattle.preflight_cert.specs.Rectangles.{raised}
 use Rattle.preflight_cert.specs.Shape.{Shape, in_shape}
 use Rattle.painting.specs.Regions.{HasLanded}
-use Rattle.painting.proofs.TestLemmas.{from_to_from, int_le-true, int_lt-true}
 
 least_low : (a b v : ℤ) → a ≤ℤ v → int_min a b ≤ℤ v
 least_low a b v h = grind (arith, ints)

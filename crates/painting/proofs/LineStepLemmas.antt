@@ -1,14 +1,16 @@
 -- A line is drawn a step at a time.
 use Rattle.std.proofs.Common.{◌≡◌, ℕ, suc, ◌+◌, ◌*◌, ◌^◌, ◌<◌, ◌≤◌, ℤ, pos, Bool, true, false, not, ◌&&◌, ◌||◌, nat_le, nat_lt, IsTrue, List, [], ◌∷◌, length, map, ◌==◌, ◌⊎◌, inl, inr, arith, refl, ap, sym, ◌∙◌}
-use Rattle.std.proofs.lemmas.Bool.{and_from, and_parts}
+use Rattle.std.proofs.lemmas.Bool.{and_from, and_parts, leb-true, lt-ltb, ltb-true}
 use Rattle.std.specs.List.{list_any}
+use Rattle.mapping.specs.TestLaws.{same_test}
 use Rattle.mapping.specs.declared.geometry.Colour.{Colour}
 use Rattle.mapping.specs.declared.geometry.Point.{Point}
 use Rattle.mapping.specs.declared.geometry.Rect.{Rect}
 use Rattle.canvas.specs.CanvasState.{CanvasState, HasPixel}
 use Rattle.canvas.specs.Writing.{Repaints, is_at}
 use Rattle.canvas.specs.WritingLaws.{IsWhole, PassesNone, WritingLaws}
-use Rattle.dc_stack.specs.Clip.{ClipValue, in_box, in_boxes, in_kept, unclipped}
+use Rattle.mapping.specs.PixelBoxes.{in_box}
+use Rattle.dc_stack.specs.Clip.{ClipValue, in_boxes, in_kept, unclipped}
 use Rattle.dc_stack.specs.Values.{cuts_of, placed_value}
 use Rattle.dc_stack.specs.declared.clip.Clip.{Clip}
 use Rattle.dc_stack.specs.declared.clip.ClipBox.{ClipBox}
@@ -19,7 +21,6 @@ use Rattle.span_fill.specs.declared.line.Line.{Line}
 use Rattle.span_fill.specs.declared.pixel.Pixel.{Pixel}
 use Rattle.span_fill.specs.declared.span.Region.{Region}
 use Rattle.painting.specs.LineSteps.{MayTake, is_stepped, is_visible}
-use Rattle.painting.proofs.TestLemmas.{nat_le-true, nat_lt-from, nat_lt-true, same_test}
 
 -- the number of a column or a row, of a coordinate
 abbrev natural : ℤ → ℕ
@@ -66,11 +67,11 @@ module _ (law : OnePixelForEachStep) (clip : ClipValue) (line : Line) (region : 
       let a = and_parts (in_boxes clip x y) _ h in
       let b = and_parts (on_line line (pos x) (pos y)) _ a.1 in
       let c = and_parts (in_region region x y) (nat_lt (step_at line (pos x) (pos y)) n) b.1 in
-      record { has = a.0; on = b.0; inside = c.0; before = nat_lt-true _ n c.1 }
+      record { has = a.0; on = b.0; inside = c.0; before = ltb-true _ n c.1 }
 
   taken_from : (n x y : ℕ) → in_boxes clip x y ≡ true → on_line line (pos x) (pos y) ≡ true → in_region region x y ≡ true → step_at line (pos x) (pos y) < n → is_stepped clip line region n x y ≡ true
   taken_from n x y a b c d =
-      and_from (in_boxes clip x y) _ a (and_from (on_line line (pos x) (pos y)) _ b (and_from (in_region region x y) _ c (nat_lt-from _ n d)))
+      and_from (in_boxes clip x y) _ a (and_from (on_line line (pos x) (pos y)) _ b (and_from (in_region region x y) _ c (lt-ltb _ n d)))
 
   pub more_is_taken : in_boxes clip pixel.x pixel.y ≡ true → (x y : ℕ) → (is_stepped clip line region k x y || is_at pixel.x pixel.y x y) ≡ is_stepped clip line region (suc k) x y
   more_is_taken has x y = same_test _ _
@@ -141,12 +142,12 @@ module _ (law : OnePixelForEachStep) (clip : ClipValue) (line : Line) (region : 
 pub inside_width : (region : Region) (x y : ℕ) → IsTrue (in_region region x y) → x < region.columns.to
 inside_width region x y h =
     let a = and_parts (in_span region.columns x) (in_span region.rows y) h in
-    let b = and_parts (nat_le region.columns.from x) (nat_lt x region.columns.to) a.0 in nat_lt-true x region.columns.to b.1
+    let b = and_parts (nat_le region.columns.from x) (nat_lt x region.columns.to) a.0 in ltb-true x region.columns.to b.1
 
 pub inside_height : (region : Region) (x y : ℕ) → IsTrue (in_region region x y) → (region.rows.from ≤ y) × (y < region.rows.to)
 inside_height region x y h =
     let a = and_parts (in_span region.columns x) (in_span region.rows y) h in
-    let b = and_parts (nat_le region.rows.from y) (nat_lt y region.rows.to) a.1 in (nat_le-true region.rows.from y b.0, nat_lt-true y region.rows.to b.1)
+    let b = and_parts (nat_le region.rows.from y) (nat_lt y region.rows.to) a.1 in (leb-true region.rows.from y b.0, ltb-true y region.rows.to b.1)
 
 -- before the first step nothing is taken
 pub none_before : (clip : ClipValue) (steps : StepsState) (line : Line) → line ≡ steps.line → HasAllSteps steps → (x y : ℕ) → is_stepped clip line steps.region steps.next x y ≡ false
@@ -156,7 +157,7 @@ none_before clip steps line same all x y = same_test _ _
     let b = and_parts (on_line line (pos x) (pos y)) _ a.1 in
     let c = and_parts (in_region steps.region x y) (nat_lt (step_at line (pos x) (pos y)) steps.next) b.1 in
     let late = all.from x y (rw (← same) b.0) c.0 in
-    let early = nat_lt-true _ _ c.1 in
+    let early = ltb-true _ _ c.1 in
     absurd (over (step_at line (pos x) (pos y)) steps.next early (rw same late)))
     (λ e. cc)
   where
@@ -177,7 +178,7 @@ all_taken clip line region n x y all = same_test _ _
     (λ h.
     let a = and_parts (in_boxes clip x y) _ h in
     let b = and_parts (on_line line (pos x) (pos y)) (in_region region x y) a.1 in
-    and_from (in_boxes clip x y) _ a.0 (and_from (on_line line (pos x) (pos y)) _ b.0 (and_from (in_region region x y) _ b.1 (nat_lt-from _ n (all b.0 b.1)))))
+    and_from (in_boxes clip x y) _ a.0 (and_from (on_line line (pos x) (pos y)) _ b.0 (and_from (in_region region x y) _ b.1 (lt-ltb _ n (all b.0 b.1)))))
 
 -- the pixels of the steps before those that are left are written
 pub record HasDrawn (clip : ClipValue) (f : ℕ → ℕ → Colour → Colour) (all left : StepsState) (start now : CanvasState) : Type 0 where

@@ -2,11 +2,13 @@
 use Rattle.std.proofs.Common.{◌≡◌, ℕ, ◌+◌, ◌<◌, ◌≤◌, Bool, true, ◌&&◌, arith, sym, ap, ◌∙◌}
 use Rattle.std.proofs.lemmas.Bool.{and_parts, and_from}
 use Rattle.std.proofs.Math.Bool.{and-true}
+use Rattle.mapping.specs.TestLaws.{same_test}
 use Rattle.mapping.specs.declared.geometry.Rect.{Rect}
 use Rattle.canvas.specs.CanvasState.{CanvasState, HasPixel, HasRow}
 use Rattle.canvas.specs.Writing.{Repaints}
 use Rattle.canvas.specs.WritingLaws.{IsWhole, WritingLaws}
-use Rattle.dc_stack.specs.Clip.{in_box, in_kept, is_from_to}
+use Rattle.mapping.specs.PixelBoxes.{in_box, is_from_to}
+use Rattle.dc_stack.specs.Clip.{in_kept}
 use Rattle.dc_stack.specs.Values.{placed_value}
 use Rattle.span_fill.specs.Spans.{in_region, in_span}
 use Rattle.span_fill.specs.declared.span.Region.{Region}
@@ -17,7 +19,7 @@ use Rattle.painting.specs.Strips.{is_painted}
 use Rattle.painting.specs.declared.brushing.Brushing.{Brushing}
 use Rattle.painting.specs.declared.row_ink.RowInk.{RowInk}
 use Rattle.painting.proofs.RowLemmas.{HasRowsPainted, before_first, behind_last, nothing_painted, one_row_more, pixel_held, row_parts, seen, seen_in_rows}
-use Rattle.painting.proofs.TestLemmas.{column_from, column_true, same_test}
+use Rattle.painting.proofs.TestLemmas.{column_from, column_true}
 
 module _
     (paint : Brushing) (shape : ℕ → ℕ → Bool) (box : Rect) (within : (x y : ℕ) → shape x y ≡ true → in_box box x y ≡ true)

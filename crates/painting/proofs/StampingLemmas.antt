@@ -1,6 +1,8 @@
 -- Lines are drawn by marks of their pixels, which are written where they are taken.
 use Rattle.std.proofs.Common.{◌≡◌, ℕ, ◌+◌, ◌^◌, ◌<◌, ◌≤◌, ℤ, pos, Bool, true, false, not, ◌&&◌, ◌||◌, IsTrue, if◌then◌else◌, List, [], ◌∷◌, arith, refl, ap, sym, ◌∙◌}
 use Rattle.std.proofs.lemmas.Int.{ints}
+use Rattle.std.proofs.Math.Bool.{and-not_self, and_comm}
+use Rattle.mapping.specs.TestLaws.{same_test}
 use Rattle.mapping.specs.declared.geometry.Colour.{Colour}
 use Rattle.canvas.specs.CanvasState.{CanvasState, HasPixel}
 use Rattle.canvas.specs.Writing.{Repaints, is_at}
@@ -16,11 +18,6 @@ use Rattle.span_fill.specs.declared.span.Region.{Region}
 use Rattle.painting.specs.LineSteps.{is_stepped}
 use Rattle.painting.specs.Stamping.{MayStamp, WritesTaken, is_newly_taken}
 use Rattle.painting.proofs.LineStepLemmas.{all_taken, inside_height, inside_width, is_at_true, more_is_taken, none_before}
-use Rattle.painting.proofs.TestLemmas.{same_test}
-
-none_new : (a : Bool) → (a && not a) ≡ false
-none_new true = refl
-none_new false = refl
 
 -- what is new of three sets, each within the next
 new_of_both : (a b e : Bool) → (a ≡ true → b ≡ true) → (b ≡ true → e ≡ true) → ((b && not a) || (e && not b)) ≡ (e && not a)
@@ -82,7 +79,7 @@ module _ (laws : WritingLaws) (f : ℕ → ℕ → Colour → Colour) where
   none_written stamps canvas whole = record {
     region = refl;
     kept = λ x y h. h;
-    written = laws.none (is_newly_taken stamps stamps) f canvas whole (λ x y held. none_new (is_taken stamps x y));
+    written = laws.none (is_newly_taken stamps stamps) f canvas whole (λ x y held. and-not_self (is_taken stamps x y));
   }
 
   -- one call after another
@@ -136,12 +133,6 @@ or_false false b e = sym e
 or_more : (a b p e : Bool) → (b || p) ≡ e → ((a || b) || p) ≡ (a || e)
 or_more true b p e h = refl
 or_more false b p e h = h
-
-turned : (a b : Bool) → (a && b) ≡ (b && a)
-turned true true = refl
-turned true false = refl
-turned false true = refl
-turned false false = refl
 
 -- a line that ends where it begins has no pixel
 no_steps : (line : Line) → line.from.x ≡ line.to.x → line.from.y ≡ line.to.y → steps_of line ≡ 0
@@ -243,7 +234,7 @@ module _ (laws : WritingLaws) (f : ℕ → ℕ → Colour → Colour) (all : Ste
   all_stamped left now after so_far ended x y =
       let same = so_far.same.end in
       let visible = all_taken unclipped all.line all.region left.next x y (λ on inside. let early = has_all.to x y on inside in omega (arith, early, ended, same)) in
-      so_far.so_far x y ∙ ap (λ (b : Bool). is_taken start x y || b) (visible ∙ turned (on_line all.line (pos x) (pos y)) (in_region all.region x y) ∙ ap (λ (r : Region). in_region r x y && on_line all.line (pos x) (pos y)) region_is ∙ ap (λ (l : Line). in_region region x y && on_line l (pos x) (pos y)) line_is)
+      so_far.so_far x y ∙ ap (λ (b : Bool). is_taken start x y || b) (visible ∙ and_comm (on_line all.line (pos x) (pos y)) (in_region all.region x y) ∙ ap (λ (r : Region). in_region r x y && on_line all.line (pos x) (pos y)) region_is ∙ ap (λ (l : Line). in_region region x y && on_line l (pos x) (pos y)) line_is)
 
 -- a line more is taken of those to come
 or_first : (t r on st u : Bool) → u ≡ (t || (r && on)) → (u || (r && st)) ≡ (t || (r && (on || st)))

@@ -16,7 +16,7 @@ use Rattle.canvas.specs.CanvasState.{CanvasState, HasRow}
 use Rattle.canvas.specs.Writing.{Repaints, in_cells, in_row_span}
 use Rattle.canvas.specs.WritingLaws.{IsWhole, WritingLaws}
 use Rattle.canvas.specs.declared.swatch.Swatch.{Swatch}
-use Rattle.dc_stack.specs.Clip.{in_box, is_from_to}
+use Rattle.mapping.specs.PixelBoxes.{in_box, is_from_to}
 use Rattle.span_fill.specs.declared.span.Span.{Span}
 use Rattle.span_fill.specs.Spans.{AreApart, in_spans}
 use Rattle.painting.specs.RowInks.{inked, is_inked}

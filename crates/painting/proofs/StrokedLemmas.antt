@@ -2,12 +2,14 @@
 use Rattle.std.proofs.Common.{◌≡◌, ℕ, ◌+◌, ◌*◌, ◌^◌, ◌≤◌, Bool, true, false, not, ◌&&◌, ◌||◌, List, [], arith, ap, sym, ◌∙◌}
 use Rattle.std.proofs.lemmas.Bool.{and_from, and_parts}
 use Rattle.std.proofs.Math.Bool.{and-true}
+use Rattle.mapping.specs.TestLaws.{same_test}
 use Rattle.mapping.specs.declared.geometry.Colour.{Colour}
 use Rattle.mapping.specs.declared.geometry.Rect.{Rect}
 use Rattle.canvas.specs.CanvasState.{CanvasState, HasPixel}
 use Rattle.canvas.specs.Writing.{Repaints}
 use Rattle.canvas.specs.WritingLaws.{IsWhole, WritingLaws}
-use Rattle.dc_stack.specs.Clip.{in_box, in_boxes, in_kept, is_from_to}
+use Rattle.mapping.specs.PixelBoxes.{in_box, is_from_to}
+use Rattle.dc_stack.specs.Clip.{in_boxes, in_kept}
 use Rattle.dc_stack.specs.Values.{placed_value}
 use Rattle.span_fill.specs.Spans.{in_region, in_span}
 use Rattle.painting.specs.Stamps.{StampState, is_taken}
@@ -20,7 +22,6 @@ use Rattle.painting.specs.Stamping.{MayStamp, WritesTaken, is_newly_taken}
 use Rattle.painting.specs.Strips.{is_uncut}
 use Rattle.painting.specs.declared.brushing.Brushing.{Brushing}
 use Rattle.painting.proofs.LineStepLemmas.{uncut}
-use Rattle.painting.proofs.TestLemmas.{same_test}
 
 -- what is new where nothing was
 all_new : (a p e : Bool) → a ≡ false → e ≡ (a || p) → (e && not a) ≡ p

@@ -5,7 +5,7 @@ use Rattle.canvas.specs.CanvasState.{CanvasState, HasRow}
 use Rattle.canvas.specs.Writing.{in_row_span}
 use Rattle.canvas.specs.WritingLaws.{IsWhole}
 use Rattle.mapping.specs.declared.geometry.Rect.{Rect}
-use Rattle.dc_stack.specs.Clip.{in_box}
+use Rattle.mapping.specs.PixelBoxes.{in_box}
 use Rattle.span_fill.specs.declared.span.Span.{Span}
 use Rattle.painting.specs.RowInks.{is_inked}
 use Rattle.painting.specs.declared.row_ink.RowInk.{RowInk}

@@ -2,7 +2,7 @@
 
 ghost use Rattle.std.specs.Prelude.{◌≡◌, IfSome};
 ghost use Rattle.canvas.specs.Writing.{Repaints};
-ghost use Rattle.dc_stack.specs.Clip.{in_box};
+ghost use Rattle.mapping.specs.PixelBoxes.{in_box};
 ghost use Rattle.painting.specs.Counts.{CountsLayer, HasRoomForLayer};
 ghost use Rattle.painting.specs.Painted.{made, paints};
 ghost use Rattle.painting.specs.SourceRows.{ReadsBox};

@@ -2,7 +2,7 @@
 
 ghost use Rattle.std.specs.Prelude.{◌≡◌, ℕ, None, true, ◌+◌, ◌<◌, ◌≤◌, length};
 ghost use Rattle.canvas.specs.Writing.{Repaints};
-ghost use Rattle.dc_stack.specs.Clip.{in_box};
+ghost use Rattle.mapping.specs.PixelBoxes.{in_box};
 ghost use Rattle.preflight_cert.specs.Shape.{fill_rule_of};
 ghost use Rattle.span_fill.specs.RowState.{SameWork};
 ghost use Rattle.span_fill.specs.Spans.{AreRow};

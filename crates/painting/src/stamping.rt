@@ -4,7 +4,7 @@ ghost use Rattle.std.specs.Prelude.{◌≡◌, ◌+◌, ◌<◌, ◌≤◌, ◌^
 ghost use Rattle.mapping.specs.Mixes.{mixed_by};
 ghost use Rattle.mapping.specs.declared.geometry.Colour.{Colour};
 ghost use Rattle.canvas.specs.Writing.{Repaints};
-ghost use Rattle.dc_stack.specs.Clip.{in_box};
+ghost use Rattle.mapping.specs.PixelBoxes.{in_box};
 ghost use Rattle.dc_stack.specs.Values.{placed_value};
 ghost use Rattle.span_fill.specs.Lines.{HasNearEnds};
 ghost use Rattle.span_fill.specs.Spans.{in_region};

@@ -1,5 +1,5 @@
 use Rattle.std.proofs.Common.{◌≡◌, Bool, true, false, ◌||◌, [], ◌∷◌, refl, arith, ◌∙◌}
-use Rattle.dc_stack.specs.Clip.{in_box}
+use Rattle.mapping.specs.PixelBoxes.{in_box}
 use Rattle.span_fill.specs.Spans.{in_span, in_spans}
 use Rattle.painting.proofs.RegionLemmas.{box_row, none_seen, row_added, rows_begun, rows_done}
 use Rattle.painting.proofs.RowLemmas.{few_written}

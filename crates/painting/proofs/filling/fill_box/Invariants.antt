@@ -1,6 +1,6 @@
 use Rattle.std.proofs.Common.{◌≡◌}
 use Rattle.std.specs.Prelude.{IfSome}
-use Rattle.dc_stack.specs.Clip.{in_box}
+use Rattle.mapping.specs.PixelBoxes.{in_box}
 use Rattle.painting.specs.SourceRows.{HoldsRow}
 use Rattle.painting.proofs.RowLemmas.{HasRowsPainted}
 use Rattle.painting.proofs.filling.fill_box.Given as goal

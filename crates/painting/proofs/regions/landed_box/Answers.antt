@@ -16,8 +16,8 @@ pub returns-in-Some-Some : goal.returns-in-Some-Some
 returns-in-Some-Some c =
     let s = surface_of c.args.place in
     let bounds = c.args.bounds in
-    let near : c.in-Some-Some.near ≡ placed_point (left_top_of bounds) s = search rules in
-    let far : c.in-Some-Some.far ≡ placed_point (right_bottom_of bounds) s = search rules in
+    let near : c.in-Some-Some.near ≡ placed_point (left_top_of bounds) s = let there : c.in-Some-Some.near ≡ placed_point c.left_top.result s = search rules in rw c.left_top.ensures at there in
+    let far : c.in-Some-Some.far ≡ placed_point (right_bottom_of bounds) s = let there : c.in-Some-Some.far ≡ placed_point c.right_bottom.result s = search rules in rw c.right_bottom.ensures at there in
     let box = c.rectangle_box.ensures.value ∙ ap (λ p. raised Inclusive (box_between p c.in-Some-Some.far)) near ∙ ap (λ p. raised Inclusive (box_between (placed_point (left_top_of bounds) s) p)) far in
     subst (λ (there : Rect). HasLanded s bounds there) (sym box)
     (record {
@@ -28,9 +28,7 @@ returns-in-Some-Some c =
 pub returns-in_default : goal.returns-in_default
 returns-in_default c =
     let bounds = c.args.bounds in
-    let r : to_z w32 (of_z w32 bounds.r) ≡ bounds.r = omega (arith, ints) in
-    let b : to_z w32 (of_z w32 bounds.b) ≡ bounds.b = omega (arith, ints) in
-    let off = sym (rw (r, b) at c.place-far.ensures.test) ∙ ap is_some c.in_default.is-1 in
+    let off = sym (rw c.right_bottom.ensures at c.place-far.ensures.test) ∙ ap is_some c.in_default.is-1 in
     record {
       all = λ points least within x y reached. absurd (none_reached c.box_law.ensures c.args.place bounds (and_right _ _ off) points least within x y reached);
       no_other = λ wide high x y inside. absurd (none_in x y inside);
@@ -39,9 +37,7 @@ returns-in_default c =
 pub returns-in_default-2 : goal.returns-in_default-2
 returns-in_default-2 c =
     let bounds = c.args.bounds in
-    let l : to_z w32 (of_z w32 bounds.l) ≡ bounds.l = omega (arith, ints) in
-    let t : to_z w32 (of_z w32 bounds.t) ≡ bounds.t = omega (arith, ints) in
-    let off = sym (rw (l, t) at c.place-near.ensures.test) ∙ ap is_some c.in_default.is-0 in
+    let off = sym (rw c.left_top.ensures at c.place-near.ensures.test) ∙ ap is_some c.in_default.is-0 in
     record {
       all = λ points least within x y reached. absurd (none_reached c.box_law.ensures c.args.place bounds (and_left _ _ off) points least within x y reached);
       no_other = λ wide high x y inside. absurd (none_in x y inside);
