@@ -3,7 +3,7 @@ use Rattle.std.specs.Prelude.{ℕ, Bool, true, ◌&&◌, not, List, [], ◌∷�
 use Rattle.std.specs.List.{list_any}
 use Rattle.std.specs.Option.{option_map}
 use Rattle.mapping.specs.Boxes.{common_box}
-pub use Rattle.mapping.specs.PixelBoxes.{in_box, is_from_to}
+use Rattle.mapping.specs.PixelBoxes.{in_box}
 use Rattle.mapping.specs.declared.geometry.Rect.{Rect}
 use Rattle.mapping.specs.Surface.{Surface, placed}
 

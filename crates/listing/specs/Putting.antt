@@ -1,10 +1,23 @@
 -- What is put for the next record of a walk.
-use Rattle.std.specs.Prelude.{◌≡◌, ◌<◌, ℕ, List, ◌++◌, length, Option, Some, None}
+use Rattle.std.specs.Prelude.{◌≡◌, ◌<◌, ℕ, List, ◌++◌, length, Option, Some, None, Result}
+use Rattle.draw_ops.specs.Content.{StepValue}
+use Rattle.draw_ops.specs.RecordOf.{record_of}
+use Rattle.draw_ops.specs.declared.record_fault.RecordFault.{RecordFault}
 use Rattle.listing.specs.WalkState.{Walk}
 use Rattle.meta_headers.specs.declared.opened.FileFormat.{FileFormat}
 use Rattle.listing.specs.Judging.{Judging}
-use Rattle.listing.specs.Listing.{lines_of_framed, listed_by}
+use Rattle.listing.specs.Line.{line_of}
+use Rattle.listing.specs.Listing.{lines_of_framed, listed_by, step_in}
 use Rattle.listing.specs.declared.listing_end.ListingEnd.{ListingEnd}
+use Rattle.listing.specs.declared.walk.PlacedRecord.{PlacedRecord}
+
+-- what a record that a walk gave asks for, or the first fault of its meaning
+abbrev pub placed_step_in : FileFormat → PlacedRecord → Result StepValue RecordFault
+placed_step_in format given = step_in format given.behind.now given.number (record_of given.record)
+
+-- its line
+abbrev pub placed_line : FileFormat → Option RecordFault → PlacedRecord → Result StepValue RecordFault → List ℕ
+placed_line format run given meant = line_of format run given.number given.place (record_of given.record) meant
 
 -- how far a listing has come: the records that are left to a walk, and what the next of them is judged by
 pub record Coming : Type 0 where

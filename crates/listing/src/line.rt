@@ -7,9 +7,10 @@ ghost use Rattle.draw_ops.specs.NoteSet.{notes_in};
 ghost use Rattle.draw_ops.specs.RecordOf.{record_of};
 ghost use Rattle.draw_ops.specs.Results.{result_map};
 ghost use Rattle.draw_ops.specs.StepOf.{step_value_of};
-ghost use Rattle.listing.specs.Line.{deed_text, fault_line, head_of, kind_name, kind_text, line_of, meant_text};
+ghost use Rattle.listing.specs.Line.{deed_text, fault_line, head_of, kind_name, kind_text, meant_text};
 ghost use Rattle.listing.specs.Line.{refused_text, step_text, text_or_hyphen};
-ghost use Rattle.listing.specs.Listing.{no_format_line, step_in};
+ghost use Rattle.listing.specs.Listing.{no_format_line};
+ghost use Rattle.listing.specs.Putting.{placed_line, placed_step_in};
 
 use crate::asked::put_asked;
 use crate::emf_names::type_name;
@@ -126,7 +127,7 @@ pub(crate) fn step_in<'a>(
     format: FileFormat,
     given: PlacedRecord<'a>,
 ) -> Result<Step<'a>, RecordFault>
-    ensures { step_in format given.entry.behind.now given.entry.number (record_of given.entry.record) ≡ result_map step_value_of result }
+    ensures { placed_step_in format given.entry ≡ result_map step_value_of result }
 {
     match format {
         FileFormat::Placeable => given.step::<Wmf>(),
@@ -171,8 +172,7 @@ pub(crate) fn put_line(
     meant: &Result<Step<'_>, RecordFault>,
 )
     requires { length page.old + 512 ≤ 8192 }
-    ensures { page.new ≡ page.old
-        ++ line_of format run given.now.number given.now.place (record_of given.now.record) (result_map step_value_of meant.now) }
+    ensures { page.new ≡ page.old ++ placed_line format run given.now (result_map step_value_of meant.now) }
 {
     put_head(page, format, given);
     put_meant(page, run, meant);

@@ -10,17 +10,12 @@ use Rattle.raster_ops.specs.Sources.{source_colour}
 use Rattle.raster_ops.specs.TernaryOps.{uses_pattern}
 use Rattle.mapping.specs.PixelBoxes.{in_box}
 use Rattle.dc_stack.specs.Clip.{in_boxes}
-use Rattle.dc_stack.specs.Drawing.{MarkValue, blit_between}
 use Rattle.mapping.specs.Boxes.{box_between}
 use Rattle.mapping.specs.Surface.{Surface, placed_point}
 use Rattle.dc_stack.specs.Values.{placed_value}
 use Rattle.dc_stack.specs.declared.dc.Dc.{Dc}
 use Rattle.dc_stack.specs.declared.draw.PlaneBlit.{PlaneBlit}
 use Rattle.painting.specs.Joined.{joined_if}
-
--- the mark of a blit
-abbrev pub blit_mark : PlaneBlit → MarkValue
-blit_mark blit = blit_between blit.first blit.second blit.operation.table (source_of blit.source)
 
 -- the colour that the brush gives a pixel, or nothing: any, where the operation doesn't depend on the pattern
 abbrev pub blit_colour : TernaryOp → Dc → ℕ → ℕ → Option Colour

@@ -1,3 +1,4 @@
+pub mod WorkedRows
 pub mod StepLemmas
 pub mod AfterLemmas
 pub mod ClearedLemmas
@@ -6,3 +7,4 @@ pub mod BandLemmas
 pub mod BandTextLemmas
 pub mod ClearedBandLemmas
 pub mod ReadyLemmas
+pub mod WriterLemmas
