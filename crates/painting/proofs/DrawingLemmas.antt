@@ -1,5 +1,5 @@
 -- What is painted under a shape is a layer, and layers follow one another.
-use Rattle.std.proofs.Common.{◌≡◌, ℕ, ◌+◌, pos, Bool, true, false, ◌&&◌, ◌||◌, List, [], ◌∷◌, ◌++◌, Option, Some, None, is_some, refl, sym, ◌∙◌, ap, arith}
+use Rattle.std.proofs.Common.{◌≡◌, ℕ, ◌+◌, Bool, ◌&&◌, List, [], ◌∷◌, ◌++◌, Option, Some, None, refl, sym, ◌∙◌, ap, arith}
 use Rattle.std.proofs.Math.Bool.{and-true}
 use Rattle.mapping.specs.Surface.{Surface, is_pixel, placed_point}
 use Rattle.mapping.specs.declared.geometry.Colour.{Colour}
@@ -21,12 +21,10 @@ use Rattle.dc_stack.specs.State.{DcValue}
 use Rattle.dc_stack.specs.Values.{IsPlacedOn, dc_value, placed_value}
 use Rattle.dc_stack.specs.declared.clip.Clip.{Clip}
 use Rattle.dc_stack.specs.declared.dc.Dc.{Dc}
-use Rattle.span_fill.specs.Strokes.{in_stroke, on_line}
-use Rattle.span_fill.specs.declared.line.Line.{Line}
 use Rattle.preflight_cert.specs.Apply.{apply_all, ink_of, mixed_with}
 use Rattle.preflight_cert.specs.Layer.{Layer, brushed_now, filled, layer_now, stroked}
 use Rattle.preflight_cert.specs.Mixing.{binary, copied}
-use Rattle.preflight_cert.specs.Paint.{Paint, paint_at, solid}
+use Rattle.preflight_cert.specs.Paint.{Paint, solid}
 use Rattle.painting.specs.Counts.{CountsLayer}
 use Rattle.painting.specs.Drawn.{DrawsLayers, HoldsRows, SameRows}
 use Rattle.painting.specs.Draws.{DrawsLayer}

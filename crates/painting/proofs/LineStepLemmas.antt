@@ -1,7 +1,6 @@
 -- A lone line is stroked by its steps.
 use Rattle.std.proofs.Common.{◌≡◌, ℕ, pos, ◌&&◌, Bool, [], refl, ap, ◌∙◌}
 use Rattle.mapping.specs.Mixes.{mixed_by}
-use Rattle.mapping.specs.declared.geometry.Colour.{Colour}
 use Rattle.canvas.specs.CanvasState.{CanvasState, HasPixel}
 use Rattle.canvas.specs.Writing.{Repaints}
 use Rattle.canvas.specs.WritingLaws.{IsWhole, WritingLaws}

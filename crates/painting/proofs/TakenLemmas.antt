@@ -1,5 +1,5 @@
 -- Marks that are taken one after another, and the pixels that are to come.
-use Rattle.std.proofs.Common.{◌≡◌, ℕ, Bool, true, false, not, ◌&&◌, ◌||◌, refl, ap, sym, ◌∙◌}
+use Rattle.std.proofs.Common.{◌≡◌, ℕ, Bool, true, false, not, ◌&&◌, ◌||◌, refl, sym, ◌∙◌}
 use Rattle.std.proofs.lemmas.Bool.{and_parts}
 use Rattle.canvas.specs.PixelSources.{GivesOne}
 use Rattle.canvas.specs.Writing.{is_at}

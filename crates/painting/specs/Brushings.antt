@@ -1,14 +1,17 @@
 -- What a brush makes of pixels, as a paint.
-use Rattle.std.specs.Prelude.{ℕ, Option, Some, None, is_some}
+use Rattle.std.specs.Prelude.{ℕ, Bool, List, Option, Some, None, is_some}
 use Rattle.mapping.specs.Colours.{black_colour}
 use Rattle.mapping.specs.declared.geometry.Colour.{Colour}
 use Rattle.dib_views.specs.PictureOf.{picture_of}
 use Rattle.dib_views.specs.Pictures.{picture_colour}
 use Rattle.draw_ops.specs.Objects.{brush_value_of}
 use Rattle.dc_stack.specs.Values.{placed_value}
+use Rattle.preflight_cert.specs.Shape.{fill_rule_of}
 use Rattle.raster_ops.specs.Paints.{brush_paint}
 use Rattle.raster_ops.specs.Readers.{column_read, row_read}
 use Rattle.raster_ops.specs.declared.sources.SourceReader.{SourceReader}
+use Rattle.span_fill.specs.Fill.{in_fill}
+use Rattle.span_fill.specs.declared.line.Line.{Line}
 use Rattle.painting.specs.Joined.{joined_if}
 use Rattle.painting.specs.Painted.{PaintValue}
 use Rattle.painting.specs.declared.brushing.Brushing.{Brushing}
@@ -29,3 +32,7 @@ brushing_paint paint = record {
   has = λ x y. is_some (colour_of paint x y);
   makes = λ x y old. joined_if paint.operation.op.table (colour_seen paint.source x y) (colour_of paint x y) old;
 }
+
+-- the pixel is inside of the lines, by the fill mode of the brush's moment
+abbrev pub in_inside : Brushing → List Line → ℕ → ℕ → Bool
+in_inside paint lines = in_fill (fill_rule_of paint.modes.fill_mode) lines

@@ -11,6 +11,7 @@ pub mod PlacedLines
 pub mod LinesToCome
 pub mod FigureOutlines
 pub mod RowInks
+pub mod RowJoins
 pub mod Joined
 pub mod Painted
 pub mod Brushings

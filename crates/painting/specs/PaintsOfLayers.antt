@@ -5,11 +5,15 @@ use Rattle.mapping.specs.declared.geometry.Colour.{Colour}
 use Rattle.dc_stack.specs.Clip.{placed_clip}
 use Rattle.dc_stack.specs.Drawing.{Tools}
 use Rattle.preflight_cert.specs.Apply.{mixed_with}
+use Rattle.draw_ops.specs.Objects.{BrushValue}
+use Rattle.preflight_cert.specs.Layer.{brushed_now}
 use Rattle.preflight_cert.specs.Mixing.{binary}
 use Rattle.draw_ops.specs.declared.objects.Pen.TheVariants.{Solid}
 use Rattle.preflight_cert.specs.Paint.{Paint, paint_at, solid}
+use Rattle.painting.specs.Brushings.{brushing_paint}
 use Rattle.painting.specs.Painted.{PaintValue}
 use Rattle.painting.specs.PenStrokes.{stroke_paint}
+use Rattle.painting.specs.declared.brushing.Brushing.{Brushing}
 use Rattle.painting.specs.declared.stroke.Stroke.{Stroke}
 
 -- a paint writes in these colours on a surface, by the raster operation and under the clip of the tools
@@ -25,3 +29,7 @@ pub record IsPenOf (tools : Tools) (s : Surface) (stroke : Stroke) : Type 0 wher
   pub colour : Colour
   pub pen : tools.pen ≡ Solid colour
   pub paint : IsPaintOf (solid colour) tools s (stroke_paint stroke)
+
+-- a brushing is that of a brush with the tools on a surface
+abbrev pub IsBrushingOf : BrushValue → Tools → Surface → Brushing → Type 0
+IsBrushingOf brush tools s paint = IsPaintOf (brushed_now brush tools) tools s (brushing_paint paint)

@@ -1,5 +1,5 @@
 -- What of an outline is painted.
-use Rattle.std.specs.Prelude.{◌≡◌, ℕ, ◌<◌, ◌≤◌, Bool, List}
+use Rattle.std.specs.Prelude.{◌≡◌, ℕ, ◌≤◌, Bool, List}
 use Rattle.canvas.specs.CanvasState.{CanvasState}
 use Rattle.dc_stack.specs.Values.{placed_value}
 use Rattle.dc_stack.specs.declared.clip.Clip.{Clip}

@@ -1,14 +1,14 @@
 -- What paints the rows of a shape, as a paint.
-use Rattle.std.specs.Prelude.{◌≡◌, ℕ, Bool, List, None, is_some, IfSome}
+use Rattle.std.specs.Prelude.{◌≡◌, ℕ, Bool, List, Option, None, IfSome}
 use Rattle.mapping.specs.declared.geometry.Colour.{Colour}
 use Rattle.dc_stack.specs.Values.{placed_value}
 use Rattle.raster_ops.specs.Readers.{row_read}
+use Rattle.raster_ops.specs.declared.sources.SourceReader.{SourceReader}
 use Rattle.span_fill.specs.declared.span.Span.{Span}
 use Rattle.painting.specs.Brushings.{brushing_paint}
 use Rattle.painting.specs.Painted.{PaintValue}
 use Rattle.painting.specs.RowInks.{inked, is_inked}
 use Rattle.painting.specs.SourceRows.{HoldsRow}
-use Rattle.painting.specs.declared.brushing.Brushing.{Brushing}
 use Rattle.painting.specs.declared.row_painter.Inks.{Inks}
 use Rattle.painting.specs.declared.row_painter.Inks.TheVariants.{EachRow, Same}
 use Rattle.painting.specs.declared.row_painter.RowPainter.{RowPainter}
@@ -37,6 +37,14 @@ ReadsNothing (Same ink) = Unit
 ReadsNothing (EachRow paint) = paint.now.source ≡ None
 
 -- what these columns of a row read is gathered, if something is read
+abbrev pub HoldsSource : Option SourceReader → Span → ℕ → List Colour → Type 0
+HoldsSource source columns y sources = IfSome source (λ reader. HoldsRow reader columns (row_read reader y) sources)
+
+-- so for inks
 abbrev pub HoldsRead : Inks → Span → ℕ → List Colour → Type 0
 HoldsRead (Same ink) columns y sources = Unit
-HoldsRead (EachRow paint) columns y sources = IfSome paint.now.source (λ reader. HoldsRow reader columns (row_read reader y) sources)
+HoldsRead (EachRow paint) columns y sources = HoldsSource paint.now.source columns y sources
+
+-- what is gathered of a source is what inks read
+abbrev pub ReadsAs : Option SourceReader → Span → Inks → Type 0
+ReadsAs source columns inks = (y : ℕ) (sources : List Colour) → HoldsSource source columns y sources → HoldsRead inks columns y sources

@@ -1,18 +1,15 @@
 //! Blits: boxes of which each pixel becomes what a ternary raster operation makes of the brush, of what is
 //! read, and of the colour that is there.
 
-ghost use Rattle.std.specs.Prelude.{◌≡◌, ℕ, true, IfSome};
+ghost use Rattle.std.specs.Prelude.{◌≡◌, true, IfSome};
 ghost use Rattle.mapping.specs.Boxes.{box_between};
 ghost use Rattle.mapping.specs.PlaceOf.{surface_of};
 ghost use Rattle.mapping.specs.Surface.{FitsPlace, placed_point};
-ghost use Rattle.mapping.specs.declared.geometry.Colour.{Colour};
-ghost use Rattle.canvas.specs.Writing.{Repaints};
 ghost use Rattle.draw_ops.specs.Blits.{source_of};
-ghost use Rattle.raster_ops.specs.Sources.{is_readable, source_colour};
-ghost use Rattle.raster_ops.specs.TernaryOps.{ternary_colour, uses_source};
-ghost use Rattle.painting.specs.Blits.{blit_made, blit_paints};
+ghost use Rattle.raster_ops.specs.Sources.{is_readable};
+ghost use Rattle.raster_ops.specs.TernaryOps.{uses_source};
+ghost use Rattle.painting.specs.Blits.{PaintsBlit, SeesAs};
 ghost use Rattle.painting.specs.Counts.{CountsLayer, HasRoomForLayer};
-ghost use Rattle.painting.specs.Brushings.{colour_seen};
 ghost use Rattle.painting.specs.SourceRows.{ReadsBox};
 
 use crate::brushing::Brushing;
@@ -38,7 +35,7 @@ pub(crate) fn blit(
     requires near { FitsPlace (placed_point asked.now.first (surface_of place)) }
     requires far { FitsPlace (placed_point asked.now.second (surface_of place)) }
     requires readable { uses_source asked.now.operation.table ≡ true → is_readable (source_of asked.now.source) ≡ true }
-    ensures pixels { Repaints (blit_paints asked.now (surface_of place) dc.now) (blit_made asked.now (surface_of place) dc.now) canvas.old canvas.new }
+    ensures pixels { PaintsBlit asked.now (surface_of place) dc.now canvas.old canvas.new }
     ensures few { CountsLayer canvas.old canvas.new }
 {
     writing_law();
@@ -55,7 +52,7 @@ fn reader_of<'a>(asked: &PlaneBlit<'a>, first: Point, second: Point) -> Option<S
     requires second { FitsPlace second }
     requires readable { uses_source asked.now.operation.table ≡ true → is_readable (source_of asked.now.source) ≡ true }
     ensures reads { IfSome result (λ reader. ReadsBox reader (box_between first second)) }
-    ensures seen { (x y : ℕ) (paint old : Colour) → ternary_colour asked.now.operation.table paint (colour_seen result x y) old ≡ ternary_colour asked.now.operation.table paint (source_colour (source_of asked.now.source) first second x y) old }
+    ensures seen { SeesAs asked.now.operation.table result (source_of asked.now.source) first second }
 {
     dependence_law();
     if uses_source(asked.operation) {

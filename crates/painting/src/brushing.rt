@@ -1,17 +1,15 @@
 //! Brushing: what a brush makes of pixels by a raster operation, in the modes of the moment and under a clip.
 
-ghost use Rattle.std.specs.Prelude.{◌≡◌, ◌≤◌, ℕ, List, None, IfSome, if◌then◌else◌};
+ghost use Rattle.std.specs.Prelude.{◌≡◌, ◌≤◌, ℕ, None, IfSome, if◌then◌else◌};
 ghost use Rattle.mapping.specs.Colours.{black_colour};
 ghost use Rattle.dc_stack.specs.Drawing.{tools_of};
 ghost use Rattle.draw_ops.specs.Objects.{brush_value_of};
-ghost use Rattle.mapping.specs.declared.geometry.Colour.{Colour};
 ghost use Rattle.draw_ops.specs.declared.objects.Brush.TheVariants.{Solid};
-ghost use Rattle.preflight_cert.specs.Layer.{brushed_now};
 ghost use Rattle.raster_ops.specs.BrushRows.{row_paint};
 ghost use Rattle.raster_ops.specs.Readers.{row_read};
 ghost use Rattle.raster_ops.specs.TernaryOps.{uses_pattern};
 ghost use Rattle.painting.specs.Painted.{SamePaint};
-ghost use Rattle.painting.specs.PaintsOfLayers.{IsPaintOf};
+ghost use Rattle.painting.specs.PaintsOfLayers.{IsBrushingOf};
 ghost use Rattle.painting.specs.SourceRows.{HoldsRow};
 
 use crate::ink_room::{BLACK, MAX_SIDE, MixRoom};
@@ -39,7 +37,7 @@ pub(crate) struct Brushing<'d, 'a> {
 
 impl<'d, 'a> Brushing<'d, 'a> {
     ghost use Rattle.painting.specs.Brushings.{brushing_paint, colour_of};
-    ghost use Rattle.painting.specs.RowPainters.{HoldsRead, ReadsNothing, painter_paint};
+    ghost use Rattle.painting.specs.RowPainters.{ReadsAs, ReadsNothing, painter_paint};
     ghost use Rattle.painting.specs.RowsPainted.{IsInk, IsSameInk};
 
     /// What a brush makes of pixels at the moment.
@@ -47,7 +45,7 @@ impl<'d, 'a> Brushing<'d, 'a> {
         brush: Brush<'a>,
         machine: &'d Machine<'a, T>,
     ) -> Brushing<'d, 'a>
-        ensures paint { IsPaintOf (brushed_now (brush_value_of brush.entry) (tools_of machine.now.state.dc)) (tools_of machine.now.state.dc) machine.now.surface (brushing_paint result) }
+        ensures paint { IsBrushingOf (brush_value_of brush.entry) (tools_of machine.now.state.dc) machine.now.surface result }
         ensures modes { result.modes ≡ machine.now.state.dc.modes }
         ensures alone { result.source ≡ None }
     {
@@ -95,7 +93,7 @@ impl<'d, 'a> Brushing<'d, 'a> {
         ensures columns { result.columns ≡ columns }
         ensures clip { result.clip.now ≡ self.now.clip.now }
         ensures alone { self.now.source ≡ None → ReadsNothing result.inks }
-        ensures reads { (y : ℕ) (sources : List Colour) → IfSome self.now.source (λ reader. HoldsRow reader columns (row_read reader y) sources) → HoldsRead result.inks columns y sources }
+        ensures reads { ReadsAs self.now.source columns result.inks }
     {
         let inks = match self.same_ink() {
             Some(ink) => Inks::Same(ink),

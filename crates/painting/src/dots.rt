@@ -1,11 +1,8 @@
 //! Single pixels.
 
-ghost use Rattle.std.specs.Prelude.{◌≡◌, ◌+◌, ◌<◌, ◌≤◌, ◌&&◌, ◌^◌};
-ghost use Rattle.canvas.specs.Writing.{Repaints};
-ghost use Rattle.dc_stack.specs.Clip.{in_boxes};
+ghost use Rattle.std.specs.Prelude.{◌≡◌, ◌+◌, ◌<◌, ◌≤◌, ◌^◌};
 ghost use Rattle.dc_stack.specs.Values.{placed_value};
-ghost use Rattle.mapping.specs.Surface.{is_pixel};
-ghost use Rattle.painting.specs.Dots.{indexes_of};
+ghost use Rattle.painting.specs.Dots.{PutsDot, indexes_of};
 
 use crate::regions::whole_law;
 use canvas::{Canvas, writing_law};
@@ -15,7 +12,7 @@ use mapping::{Colour, Point};
 /// Writes the pixel that a placed point is, if the canvas and the clip have it.
 pub(crate) fn put(point: Point, colour: Colour, clip: &Clip, canvas: &mut Canvas)
     requires countable { canvas.old.writes + 1 < 2 ^ 64 }
-    ensures pixels { Repaints (λ x y. in_boxes (placed_value clip.now) x y && is_pixel point x y) (λ x y old. colour) canvas.old canvas.new }
+    ensures pixels { PutsDot (placed_value clip.now) point colour canvas.old canvas.new }
     ensures few { canvas.new.writes ≤ canvas.old.writes + 1 }
 {
     writing_law();

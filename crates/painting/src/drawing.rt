@@ -2,13 +2,12 @@
 
 ghost use Rattle.std.specs.Prelude.{◌≡◌, ◌≤◌, IfSome};
 ghost use Rattle.std.specs.Option.{option_map};
-ghost use Rattle.dc_stack.specs.Draws.{IsPlacedDraw, mark_of};
+ghost use Rattle.dc_stack.specs.Draws.{IsPlacedDraw};
 ghost use Rattle.dc_stack.specs.Drawing.{drawing_edges, tools_of};
 ghost use Rattle.dc_stack.specs.MachineState.{drawing_with};
-ghost use Rattle.preflight_cert.specs.Layer.{fills_of, layers_of, strokes_of};
-ghost use Rattle.painting.specs.Counts.{CountsDrawing, CountsLayer, HasRoomForDrawing, HasRoomForLayer};
-ghost use Rattle.painting.specs.Drawn.{DrawsDrawing, DrawsLayers, HoldsRows, SameRows};
-ghost use Rattle.painting.specs.Draws.{DrawsLayer, MayDraw};
+ghost use Rattle.painting.specs.Counts.{CountsDrawing, HasRoomForDrawing, HasRoomForLayer};
+ghost use Rattle.painting.specs.Drawn.{DrawsDrawing, HoldsRows, SameRows};
+ghost use Rattle.painting.specs.Draws.{Draws, Fills, MayDraw, Strokes};
 ghost use Rattle.painting.specs.PaintsOfLayers.{IsPenOf};
 
 use crate::blits::blit;
@@ -67,7 +66,7 @@ fn paint<'a, T: Table<'a>>(
 )
     requires may { MayDraw drawn machine.now room.old canvas.old }
     requires countable { HasRoomForDrawing canvas.old }
-    ensures drawn { DrawsLayers (layers_of (drawing_with machine.now drawn.entry)) machine.now.surface canvas.old canvas.new }
+    ensures drawn { Draws drawn.entry machine.now canvas.old canvas.new }
     ensures rows { SameRows canvas.old canvas.new }
     ensures few { CountsDrawing canvas.old canvas.new }
     ensures room { room.new.rows.room ≡ room.old.rows.room }
@@ -95,7 +94,7 @@ fn fill<'a, T: Table<'a>>(
 )
     requires may { MayDraw drawn machine.now room.old canvas.old }
     requires countable { HasRoomForLayer canvas.old }
-    ensures drawn { DrawsLayer (fills_of (mark_of machine.now.painted drawn.entry) (tools_of machine.now.state.dc)) machine.now.surface canvas.old canvas.new }
+    ensures drawn { Fills drawn.entry machine.now canvas.old canvas.new }
     ensures room { room.new.rows.room ≡ room.old.rows.room }
 {
     writing_law();
@@ -142,7 +141,7 @@ fn stroke<'a, T: Table<'a>>(
 )
     requires may { MayDraw drawn machine.now room.old canvas.old }
     requires countable { HasRoomForLayer canvas.old }
-    ensures drawn { DrawsLayer (strokes_of (mark_of machine.now.painted drawn.entry) (tools_of machine.now.state.dc)) machine.now.surface canvas.old canvas.new }
+    ensures drawn { Strokes drawn.entry machine.now canvas.old canvas.new }
     ensures room { room.new.rows.room ≡ room.old.rows.room }
 {
     whole_law(canvas);
@@ -163,7 +162,7 @@ fn stroke_outline<'a, T: Table<'a>>(
     requires may { MayDraw drawn machine.now room.old canvas.old }
     requires countable { HasRoomForLayer canvas.old }
     requires pen { IsPenOf (tools_of machine.now.state.dc) machine.now.surface stroke.now }
-    ensures drawn { DrawsLayer (strokes_of (mark_of machine.now.painted drawn.entry) (tools_of machine.now.state.dc)) machine.now.surface canvas.old canvas.new }
+    ensures drawn { Strokes drawn.entry machine.now canvas.old canvas.new }
     ensures room { room.new.rows.room ≡ room.old.rows.room }
 {
     writing_law();

@@ -3,8 +3,7 @@
 ghost use Rattle.std.specs.Prelude.{◌≡◌, ◌≤◌, ℕ, None, true, length, IfSome};
 ghost use Rattle.mapping.specs.PixelBoxes.{in_box};
 ghost use Rattle.span_fill.specs.Fill.{in_fill};
-ghost use Rattle.preflight_cert.specs.Shape.{fill_rule_of};
-ghost use Rattle.painting.specs.Brushings.{brushing_paint};
+ghost use Rattle.painting.specs.Brushings.{brushing_paint, in_inside};
 ghost use Rattle.painting.specs.Counts.{CountsLayer, HasRoomForLayer};
 ghost use Rattle.painting.specs.Painted.{PaintsShape};
 ghost use Rattle.painting.specs.SourceRows.{ReadsBox};
@@ -30,8 +29,8 @@ pub(crate) fn fill_inside<O: Outline + Copy>(
     requires countable { HasRoomForLayer canvas.old }
     requires alone { paint.now.source ≡ None }
     requires room { length (O.lines outline) ≤ room.old.rows.room }
-    requires within { (x y : ℕ) → in_fill (fill_rule_of paint.now.modes.fill_mode) (O.lines outline) x y ≡ true → in_box bounds x y ≡ true }
-    ensures pixels { PaintsShape (brushing_paint paint.now) (in_fill (fill_rule_of paint.now.modes.fill_mode) (O.lines outline)) canvas.old canvas.new }
+    requires within { (x y : ℕ) → in_inside paint.now (O.lines outline) x y ≡ true → in_box bounds x y ≡ true }
+    ensures pixels { PaintsShape (brushing_paint paint.now) (in_inside paint.now (O.lines outline)) canvas.old canvas.new }
     ensures few { CountsLayer canvas.old canvas.new }
     ensures room { room.new.rows.room ≡ room.old.rows.room }
 {

@@ -3,10 +3,9 @@
 ghost use Rattle.std.specs.Prelude.{◌≡◌, true, [], ◌∷◌, IfSome};
 ghost use Rattle.std.specs.List.{All};
 ghost use Rattle.mapping.specs.PlaceOf.{surface_of};
-ghost use Rattle.mapping.specs.Surface.{lands_within_limits, placed_point};
-ghost use Rattle.preflight_cert.specs.Outlines.{line_from};
+ghost use Rattle.mapping.specs.Surface.{lands_within_limits};
 ghost use Rattle.span_fill.specs.Lines.{HasNearEnds};
-ghost use Rattle.painting.specs.LoneLines.{lone_lines};
+ghost use Rattle.painting.specs.LoneLines.{landed_line, lone_lines};
 
 use mapping::{Place, Point};
 use span_fill::{Line, Outline};
@@ -23,7 +22,7 @@ impl LoneLine {
     pub(crate) fn new(place: Place, from: Point, to: Point) -> LoneLine
         requires from { lands_within_limits from (surface_of place) ≡ true }
         requires to { lands_within_limits to (surface_of place) ≡ true }
-        ensures { lone_lines result.line ≡ line_from (placed_point from (surface_of place)) (placed_point to (surface_of place)) ∷ [] }
+        ensures { lone_lines result.line ≡ landed_line (surface_of place) from to ∷ [] }
     {
         let line = Line {
             from: place.at(from),

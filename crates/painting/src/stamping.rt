@@ -1,15 +1,11 @@
 //! Strokes of several lines, each by its steps: a pixel is written where no line had it before.
 
-ghost use Rattle.std.specs.Prelude.{◌≡◌, ◌+◌, ◌*◌, ◌<◌, ◌≤◌, ◌^◌, ◌&&◌, ℕ, [], false, IsTrue};
-ghost use Rattle.mapping.specs.Mixes.{mixed_by};
-ghost use Rattle.canvas.specs.Writing.{Repaints};
+ghost use Rattle.std.specs.Prelude.{◌≡◌, ◌+◌, ◌*◌, ◌<◌, ◌≤◌, ◌^◌, ℕ, [], false, IsTrue};
 ghost use Rattle.dc_stack.specs.Values.{placed_value};
 ghost use Rattle.span_fill.specs.Lines.{HasNearEnds};
-ghost use Rattle.span_fill.specs.Spans.{in_region};
-ghost use Rattle.span_fill.specs.Strokes.{in_stroke};
 ghost use Rattle.painting.specs.Counts.{HasRoomForLayer};
 ghost use Rattle.painting.specs.Regions.{HasRegion, IsOfSide};
-ghost use Rattle.painting.specs.Stamping.{StampsLine};
+ghost use Rattle.painting.specs.Stamping.{MixesLines, StampsLine};
 ghost use Rattle.painting.specs.Stamps.{is_taken};
 
 use crate::line_pixels::LinePixels;
@@ -54,7 +50,7 @@ pub(crate) fn stamp_lines<O: Outline + Copy>(
     requires held { HasRegion canvas.old stamps.old.region }
     requires none { (x y : ℕ) → is_taken stamps.old x y ≡ false }
     requires countable { HasRoomForLayer canvas.old }
-    ensures { Repaints (λ x y. in_region stamps.old.region x y && in_stroke (O.lines outline) x y) (λ x y old. mixed_by mix old) canvas.old canvas.new }
+    ensures { MixesLines stamps.old.region (O.lines outline) mix canvas.old canvas.new }
 {
     writing_law();
     whole_law(canvas);

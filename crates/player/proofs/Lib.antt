@@ -1,4 +1,3 @@
-pub mod WorkedRows
 pub mod StepLemmas
 pub mod AfterLemmas
 pub mod ClearedLemmas

@@ -1,4 +1,4 @@
-use Rattle.std.proofs.Common.{◌≡◌, ◌∙◌, ap, refl, rules, arith, sym, List}
+use Rattle.std.proofs.Common.{◌∙◌, ap, refl, rules, arith, sym, List}
 use Rattle.mapping.specs.Surface.{Surface}
 use Rattle.mapping.specs.declared.geometry.Rect.{Rect}
 use Rattle.mapping.specs.PixelBoxes.{in_box}
@@ -9,7 +9,7 @@ use Rattle.dc_stack.specs.State.{DcValue}
 use Rattle.preflight_cert.specs.FigureLines.{all_closed}
 use Rattle.preflight_cert.specs.Layer.{brushed_now}
 use Rattle.preflight_cert.specs.Rectangles.{rectangle_on}
-use Rattle.preflight_cert.specs.Shape.{fill_rule_of, in_shape, inside_figures, inside_rectangle}
+use Rattle.preflight_cert.specs.Shape.{fill_rule_of, inside_figures, inside_rectangle}
 use Rattle.span_fill.specs.Fill.{in_fill}
 use Rattle.span_fill.specs.declared.line.Line.{Line}
 use Rattle.painting.specs.Brushings.{brushing_paint}

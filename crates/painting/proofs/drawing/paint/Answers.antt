@@ -1,6 +1,4 @@
-use Rattle.std.proofs.Common.{◌≡◌, ◌++◌, List, [], inl, inr, arith, subst, ap, refl, sym, true, ◌∙◌}
-use Rattle.std.proofs.lemmas.Bool.{and_parts}
-use Rattle.mapping.specs.Surface.{lands_within_limits}
+use Rattle.std.proofs.Common.{◌≡◌, ◌++◌, List, [], inl, inr, arith, subst, ap, refl, sym, ◌∙◌}
 use Rattle.dc_stack.specs.Drawing.{tools_of}
 use Rattle.dc_stack.specs.Draws.{mark_of}
 use Rattle.dc_stack.specs.State.{DcValue}

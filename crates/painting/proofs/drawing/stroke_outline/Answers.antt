@@ -14,7 +14,6 @@ use Rattle.span_fill.specs.declared.line.Line.{Line}
 use Rattle.painting.specs.FigureEnds.{stroked_ends}
 use Rattle.painting.specs.FigureOutlines.{outline_left}
 use Rattle.painting.specs.PenStrokes.{stroke_paint}
-use Rattle.painting.specs.declared.list_lines.Ends.TheVariants.{Open}
 use Rattle.painting.proofs.DrawingLemmas.{painted_layer, pen_strokes}
 use Rattle.painting.proofs.LandedBoxLemmas.{shape_landed}
 use Rattle.painting.proofs.LandingLemmas.{lands_place, two_land}

@@ -2,13 +2,9 @@ use Rattle.std.proofs.Common.{◌≡◌, Bool, true, false, ◌||◌, [], ◌∷
 use Rattle.mapping.specs.PixelBoxes.{in_box}
 use Rattle.dc_stack.specs.Clip.{ClipValue}
 use Rattle.dc_stack.specs.Values.{placed_value}
-use Rattle.dc_stack.specs.declared.clip.Clip.{Clip}
 use Rattle.span_fill.specs.Spans.{in_span, in_spans}
-use Rattle.span_fill.specs.declared.span.Span.{Span}
 use Rattle.painting.specs.Brushings.{brushing_paint}
-use Rattle.painting.specs.Regions.{HasVisible}
 use Rattle.painting.specs.RowPainters.{painter_paint}
-use Rattle.painting.specs.RowsPainted.{IsInk}
 use Rattle.painting.proofs.RegionLemmas.{box_row, none_seen, row_added, rows_begun, rows_done}
 use Rattle.painting.proofs.RowLemmas.{few_written}
 use Rattle.painting.proofs.SourceLemmas.{columns_read}

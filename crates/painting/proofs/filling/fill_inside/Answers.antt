@@ -1,4 +1,4 @@
-use Rattle.std.proofs.Common.{arith, refl, ◌∙◌}
+use Rattle.std.proofs.Common.{arith}
 use Rattle.dc_stack.specs.Values.{placed_value}
 use Rattle.span_fill.specs.Fill.{in_fill}
 use Rattle.preflight_cert.specs.Shape.{fill_rule_of}

@@ -1,4 +1,4 @@
-use Rattle.std.proofs.Common.{◌&&◌, sym, ◌∙◌}
+use Rattle.std.proofs.Common.{sym, ◌∙◌}
 use Rattle.std.proofs.lemmas.Bool.{and_parts}
 use Rattle.dc_stack.specs.Clip.{in_boxes}
 use Rattle.dc_stack.specs.Values.{placed_value}

@@ -1,4 +1,4 @@
-use Rattle.std.proofs.Common.{◌≡◌, ◌&&◌, ◌||◌, Bool, not, ℕ, refl, rules, subst, ap, ◌∙◌}
+use Rattle.std.proofs.Common.{◌&&◌, ◌||◌, Bool, not, refl, rules, subst, ap, ◌∙◌}
 use Rattle.std.proofs.lemmas.Bool.{and_parts}
 use Rattle.mapping.specs.Mixes.{mixed_by}
 use Rattle.painting.specs.LinePixels.{is_to_step}

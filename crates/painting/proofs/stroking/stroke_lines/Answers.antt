@@ -1,4 +1,4 @@
-use Rattle.std.proofs.Common.{◌≡◌, ◌&&◌, ◌||◌, true, false, Bool, ℕ, List, pos, refl, sym, ap, ◌∙◌}
+use Rattle.std.proofs.Common.{◌≡◌, ◌&&◌, ◌||◌, true, false, Bool, List, pos, refl, sym, ap, ◌∙◌}
 use Rattle.mapping.specs.Mixes.{mixed_by}
 use Rattle.span_fill.specs.Spans.{in_region}
 use Rattle.span_fill.specs.Strokes.{in_stroke, on_line}

@@ -1,7 +1,6 @@
-use Rattle.std.proofs.Common.{arith, refl, ◌∙◌}
+use Rattle.std.proofs.Common.{arith, refl}
 use Rattle.span_fill.specs.Strokes.{in_stroke}
 use Rattle.painting.specs.PenStrokes.{stroke_paint}
-use Rattle.painting.specs.RowPainters.{painter_paint}
 use Rattle.painting.proofs.RegionLemmas.{none_seen}
 use Rattle.painting.proofs.VisibleLemmas.{painted_same}
 use Rattle.painting.proofs.stroking.stroke_rows.Goals as goal

@@ -1,4 +1,4 @@
-use Rattle.std.proofs.Common.{List, [], Option, Some, None, All}
+use Rattle.std.proofs.Common.{[], Option, Some, None, All}
 use Rattle.std.specs.Prelude.{IfSome}
 use Rattle.std.proofs.lemmas.List.Elements.{All-head, All-nil}
 use Rattle.span_fill.specs.Lines.{HasNearEnds}

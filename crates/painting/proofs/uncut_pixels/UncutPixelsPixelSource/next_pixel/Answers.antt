@@ -1,8 +1,8 @@
-use Rattle.std.proofs.Common.{refl, arith, sym, ap, ◌∙◌, ◌-◌}
+use Rattle.std.proofs.Common.{refl, arith, sym, ◌∙◌}
 use Rattle.dc_stack.specs.Clip.{in_boxes}
 use Rattle.dc_stack.specs.Values.{placed_value}
 use Rattle.painting.specs.LinePixels.{is_to_step}
-use Rattle.painting.proofs.FilterLemmas.{filtered, given_from, gives_kept, none_kept, skips_other}
+use Rattle.painting.proofs.FilterLemmas.{given_from, gives_kept, none_kept, skips_other}
 use Rattle.painting.proofs.uncut_pixels.UncutPixelsPixelSource.next_pixel.Goals as goal
 
 pub loop-pixel-preserved : goal.loop-pixel-preserved

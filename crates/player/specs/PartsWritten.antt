@@ -1,4 +1,4 @@
--- Bytes that go to a writer.
+-- Parts of a text that went to a writer.
 use Rattle.std.specs.Prelude.{ℕ, List, Option}
 use Rattle.std.specs.Io.KnownBytes.{Appends}
 use Rattle.canvas.specs.Ppm.{AppendsFront}
