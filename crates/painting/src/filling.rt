@@ -2,7 +2,6 @@
 
 ghost use Rattle.std.specs.Prelude.{◌≡◌, ◌≤◌, ℕ, None, true, length, IfSome};
 ghost use Rattle.mapping.specs.PixelBoxes.{in_box};
-ghost use Rattle.span_fill.specs.Fill.{in_fill};
 ghost use Rattle.painting.specs.Brushings.{brushing_paint, in_inside};
 ghost use Rattle.painting.specs.Counts.{CountsLayer, HasRoomForLayer};
 ghost use Rattle.painting.specs.Painted.{PaintsShape};
