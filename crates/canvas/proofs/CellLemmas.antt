@@ -40,9 +40,6 @@ stage_apart cells column offset k = elim (cases_eq (k % 8) offset) [
   | inr ne ↦ and_right _ _ (ne_eqb (k % 8) offset ne)
 ]
 
-pub stage_all : (cells column k : ℕ) → stage cells column 8 k ≡ is_cell cells (column + k)
-stage_all cells column k = rw (lt-ltb (k % 8) 8 (omega arith)) refl
-
 pub stage_none : (cells column k : ℕ) → stage cells column 0 k ≡ false
 stage_none cells column k = and_left _ _ (le-ltb (k % 8) 0 (omega arith))
 

@@ -10,8 +10,8 @@ use Rattle.mapping.specs.Surface.{Surface, placed, placed_point}
 use Rattle.dc_stack.specs.Values.{IsPlacedOn, clip_value, placed_value}
 use Rattle.dc_stack.specs.declared.clip.Clip.{Clip}
 use Rattle.dc_stack.specs.declared.clip.ClipBox.{ClipBox}
-use Rattle.dc_stack.specs.Clip.{ClipValue, narrowed, placed_box, placed_clip, with_kept}
-use Rattle.mapping.specs.Boxes.{box_between}
+use Rattle.dc_stack.specs.Clip.{ClipValue, placed_box, placed_clip, with_kept}
+use Rattle.mapping.specs.Boxes.{common_box, box_between}
 
 -- what keeps the order keeps the lesser and the greater
 min_kept : (f : ℤ → ℤ) → ((v w : ℤ) → v ≤ℤ w → f v ≤ℤ f w) → (v w : ℤ) → int_min (f v) (f w) ≡ f (int_min v w)
@@ -49,14 +49,14 @@ module _ (laws : PlacingLaws) (s : Surface) (shows : ShowsFrame s) where
   bottom = max_kept (λ v. placed v s.height s.frame_height) rows
 
   -- what placed boxes have in common
-  placed_narrowed : (first second : Rect) → narrowed (placed_box s first) (placed_box s second) ≡ placed_box s (narrowed first second)
-  placed_narrowed first second = rw (right first.l second.l, bottom first.t second.t, left first.r second.r, top first.b second.b) refl
+  placed_common : (first second : Rect) → common_box (placed_box s first) (placed_box s second) ≡ placed_box s (common_box first second)
+  placed_common first second = rw (right first.l second.l, bottom first.t second.t, left first.r second.r, top first.b second.b) refl
 
   -- a placed clip that keeps a placed box
   pub placed_kept : (box : Rect) (clip : ClipValue) → with_kept (placed_box s box) (placed_clip s clip) ≡ placed_clip s (with_kept box clip)
   placed_kept box clip = elim (kept_cases clip.kept) [
     | inl none ↦ rw none refl
-    | inr some ↦ rw (some.1, placed_narrowed some.0 box) refl
+    | inr some ↦ rw (some.1, placed_common some.0 box) refl
   ]
 
   -- a clip whose boxes are where they land keeps a box that is where it lands

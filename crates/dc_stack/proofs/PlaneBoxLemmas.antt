@@ -5,7 +5,7 @@ use Rattle.std.proofs.lemmas.Int.{ints}
 use Rattle.std.proofs.lemmas.List.Elements.{All-cons, All-nil}
 use Rattle.std.specs.Int.{int_max, int_min}
 use Rattle.std.specs.List.{list_all}
-use Rattle.mapping.specs.Boxes.{HasPoint, IsBoxOver, IsLeastBox, IsTight, KeepsBetween, no_box, point_box, box_between, far_corner, mapped_by, near_corner}
+use Rattle.mapping.specs.Boxes.{HasPoint, IsBoxOver, IsLeastBox, IsTight, KeepsBetween, no_box, point_box, box_between, right_bottom_of, mapped_by, left_top_of}
 use Rattle.mapping.specs.BoxLaws.{BoxLaws}
 use Rattle.mapping.specs.PageMap.{axis_numbers, map_numbers}
 use Rattle.mapping.specs.LimitTests.{TestsAreLimits}
@@ -46,8 +46,8 @@ module _ (laws : BoxLaws) (map : PageMap) (box : Rect) (points : List Point) (ti
   off_by_corners s shows =
       let x = plane_coordinate (axis_numbers map.x) in
       let y = plane_coordinate (axis_numbers map.y) in
-      let near = lands_within_limits (mapped_by x y (near_corner box)) s in
-      let far = lands_within_limits (mapped_by x y (far_corner box)) s in
+      let near = lands_within_limits (mapped_by x y (left_top_of box)) s in
+      let far = lands_within_limits (mapped_by x y (right_bottom_of box)) s in
       and_true near far ∙ ap off_unless (sym (laws.lands x y s box points shows of_x of_y tight))
 
 -- the box of two points is their least
@@ -119,10 +119,10 @@ module _ (laws : BoxLaws) where
 
   pub joined_plane_box : (first second both : Rect) (points others : List Point) → IsPlaneBox first points → IsPlaneBox second others → IsBoxOver first second both → IsPlaneBox both (points ++ others)
   joined_plane_box first second both points others f s over =
-      let near_f = near_corner first in
-      let near_s = near_corner second in
-      let far_f = far_corner first in
-      let far_s = far_corner second in
+      let near_f = left_top_of first in
+      let near_s = left_top_of second in
+      let far_f = right_bottom_of first in
+      let far_s = right_bottom_of second in
       record {
         least = laws.joins first second both points others f.least s.least over;
         near =
@@ -169,7 +169,7 @@ mapped_alone (p ∷ ps) = ap (λ rest. p ∷ rest) (mapped_alone ps)
 
 -- all land where two corners of their box do
 module _ (laws : BoxLaws) (box : Rect) (points : List Point) (s : Surface) (shows : ShowsFrame s) where
-  by_corners : IsTight box points → all_land_within points s ≡ (lands_within_limits (near_corner box) s && lands_within_limits (far_corner box) s)
+  by_corners : IsTight box points → all_land_within points s ≡ (lands_within_limits (left_top_of box) s && lands_within_limits (right_bottom_of box) s)
   by_corners tight =
       ap (λ ps. list_all (λ p. lands_within_limits p s) ps) (sym (mapped_alone points))
       ∙ laws.lands (λ v. v) (λ v. v) s box points shows (λ from v to h. h) (λ from v to h. h) tight
@@ -177,15 +177,15 @@ module _ (laws : BoxLaws) (box : Rect) (points : List Point) (s : Surface) (show
   on_plane_then : (near far near_fits far_fits : Bool) → near ≡ true → far ≡ true → (near_fits && far_fits) ≡ ((near && near_fits) && (far && far_fits))
   on_plane_then near far near_fits far_fits p q = rw (p, q) refl
 
-  pub land_by_corners : IsPlaneBox box points → (fits_place (placed_point (near_corner box) s) && fits_place (placed_point (far_corner box) s)) ≡ all_land_within points s
+  pub land_by_corners : IsPlaneBox box points → (fits_place (placed_point (left_top_of box) s) && fits_place (placed_point (right_bottom_of box) s)) ≡ all_land_within points s
   land_by_corners h =
-      on_plane_then (is_on_plane (near_corner box)) (is_on_plane (far_corner box)) (fits_place (placed_point (near_corner box) s)) (fits_place (placed_point (far_corner box) s)) h.near h.far
+      on_plane_then (is_on_plane (left_top_of box)) (is_on_plane (right_bottom_of box)) (fits_place (placed_point (left_top_of box) s)) (fits_place (placed_point (right_bottom_of box) s)) h.near h.far
       ∙ sym (by_corners h.least)
 
   -- so both of them fit where all land, and all are on the plane
-  pub corners_fit : TestsAreLimits → IsPlaneBox box points → true ≡ all_land_within points s → FitsPlace (placed_point (near_corner box) s) × FitsPlace (placed_point (far_corner box) s)
+  pub corners_fit : TestsAreLimits → IsPlaneBox box points → true ≡ all_land_within points s → FitsPlace (placed_point (left_top_of box) s) × FitsPlace (placed_point (right_bottom_of box) s)
   corners_fit tests h all =
-      let near = placed_point (near_corner box) s in
-      let far = placed_point (far_corner box) s in
+      let near = placed_point (left_top_of box) s in
+      let far = placed_point (right_bottom_of box) s in
       let both = and_parts (fits_place near) (fits_place far) (land_by_corners h ∙ sym all) in
       ((tests.fits_place near).0 both.0, (tests.fits_place far).0 both.1)

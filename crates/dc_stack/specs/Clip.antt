@@ -1,8 +1,9 @@
 -- The clip: which pixels drawings may write.
-use Rattle.std.specs.Prelude.{ℕ, ℤ, pos, Bool, true, ◌&&◌, not, int_le, int_lt, List, [], ◌∷◌, ◌++◌, map, Option, Some, None}
-use Rattle.std.specs.Int.{int_max, int_min}
+use Rattle.std.specs.Prelude.{ℕ, Bool, true, ◌&&◌, not, List, [], ◌∷◌, ◌++◌, map, Option, Some, None}
 use Rattle.std.specs.List.{list_any}
 use Rattle.std.specs.Option.{option_map}
+use Rattle.mapping.specs.Boxes.{common_box}
+use Rattle.mapping.specs.PixelBoxes.{in_box}
 use Rattle.mapping.specs.declared.geometry.Rect.{Rect}
 use Rattle.mapping.specs.Surface.{Surface, placed}
 
@@ -19,19 +20,10 @@ unclipped = record { kept = None; cuts = [] }
 abbrev pub cut_limit : ℕ
 cut_limit = 16
 
--- what two boxes have in common: where they have nothing, it has no pixel
-abbrev pub narrowed : Rect → Rect → Rect
-narrowed first second = record {
-  l = int_max first.l second.l;
-  t = int_max first.t second.t;
-  r = int_min first.r second.r;
-  b = int_min first.b second.b;
-}
-
 -- a box, within what is kept already
 abbrev pub within_kept : Option Rect → Rect → Rect
 within_kept None box = box
-within_kept (Some kept) box = narrowed kept box
+within_kept (Some kept) box = common_box kept box
 
 -- the clip that keeps what a box has of it
 abbrev pub with_kept : Rect → ClipValue → ClipValue
@@ -54,15 +46,7 @@ placed_box s box = record {
 abbrev pub placed_clip : Surface → ClipValue → ClipValue
 placed_clip s clip = record { kept = option_map (placed_box s) clip.kept; cuts = map (placed_box s) clip.cuts }
 
--- the number is at or past the first, and before the second
-abbrev pub is_from_to : ℤ → ℤ → ℕ → Bool
-is_from_to from to n = int_le from (pos n) && int_lt (pos n) to
-
--- a box of a surface has the pixel: from its left and top on, up to before its right and bottom
-abbrev pub in_box : Rect → ℕ → ℕ → Bool
-in_box box x y = is_from_to box.l box.r x && is_from_to box.t box.b y
-
--- and so does a kept box: where there is none, every pixel is kept
+-- the kept box has the pixel: where there is none, every pixel is kept
 abbrev pub in_kept : Option Rect → ℕ → ℕ → Bool
 in_kept None x y = true
 in_kept (Some box) x y = in_box box x y

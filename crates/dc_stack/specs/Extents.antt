@@ -1,6 +1,6 @@
 -- The least box around what an operation places on the plane, which knows no surface.
 use Rattle.std.specs.Prelude.{◌≡◌, ◌&&◌, Bool, List, [], ◌++◌, Option, Some, None, IsTrue}
-use Rattle.mapping.specs.Boxes.{IsTight, far_corner, near_corner, no_box}
+use Rattle.mapping.specs.Boxes.{IsTight, right_bottom_of, left_top_of, no_box}
 use Rattle.mapping.specs.Plane.{is_on_plane}
 use Rattle.mapping.specs.PlacingLaws.{ShowsFrame}
 use Rattle.mapping.specs.Surface.{Surface, fits_place, placed_point}
@@ -12,8 +12,8 @@ use Rattle.dc_stack.specs.OperationFault.{off_plane_fault, points_fault}
 -- a box is the least one around points, and lies on the plane
 pub record IsPlaneBox (box : Rect) (points : List Point) : Type 0 where
   pub least : IsTight box points
-  pub near : IsTrue (is_on_plane (near_corner box))
-  pub far : IsTrue (is_on_plane (far_corner box))
+  pub near : IsTrue (is_on_plane (left_top_of box))
+  pub far : IsTrue (is_on_plane (right_bottom_of box))
 
 -- the least box around points, which lies on the plane, or none where there is no point
 abbrev pub IsExtent : Option Rect → List Point → Type 0
@@ -26,7 +26,7 @@ JoinsExtents first second both = (points others : List Point) → IsExtent first
 
 -- the left top and the right bottom of a box land within the limits
 abbrev pub do_corners_fit : Rect → Surface → Bool
-do_corners_fit box s = fits_place (placed_point (near_corner box) s) && fits_place (placed_point (far_corner box) s)
+do_corners_fit box s = fits_place (placed_point (left_top_of box) s) && fits_place (placed_point (right_bottom_of box) s)
 
 -- the box of an extent: that around no point where there is none
 abbrev pub box_of : Option Rect → Rect

@@ -4,7 +4,7 @@ use Rattle.mapping.specs.declared.geometry.Point.{Point}
 use Rattle.mapping.specs.declared.geometry.Rect.{Rect}
 use Rattle.mapping.specs.Plane.{MapNumbers, plane_point}
 use Rattle.draw_ops.specs.Blits.{BlitValue}
-use Rattle.mapping.specs.Boxes.{box_between}
+use Rattle.mapping.specs.Boxes.{box_between, left_top_of, right_bottom_of}
 
 -- a point of the page, on the plane
 abbrev pub mapped_point : MapNumbers → Point → Point
@@ -17,14 +17,6 @@ mapped_list m points = map (mapped_point m) points
 -- lists of them
 abbrev pub mapped_lists : MapNumbers → List (List Point) → List (List Point)
 mapped_lists m lists = map (mapped_list m) lists
-
--- the left top of a box
-abbrev pub left_top_of : Rect → Point
-left_top_of box = record { x = box.l; y = box.t }
-
--- and its right bottom
-abbrev pub right_bottom_of : Rect → Point
-right_bottom_of box = record { x = box.r; y = box.b }
 
 -- the left top of a box of the page, on the plane
 abbrev pub left_top : MapNumbers → Rect → Point

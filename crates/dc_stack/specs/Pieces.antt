@@ -4,11 +4,12 @@ use Rattle.std.specs.List.{All, flat_map, list_all}
 use Rattle.mapping.specs.PageMap.{map_numbers}
 use Rattle.mapping.specs.Plane.{MapNumbers}
 use Rattle.mapping.specs.Surface.{Surface, lands_within_limits}
+use Rattle.mapping.specs.Boxes.{left_top_of, right_bottom_of}
 use Rattle.mapping.specs.declared.geometry.Point.{Point}
 use Rattle.point_views.specs.Points.{points_of}
 use Rattle.point_views.specs.PartedPoints.{parts_of}
 use Rattle.dc_stack.specs.Figures.{Figures, box_corners, no_figures, with_current_done, with_polygons, with_polylines}
-use Rattle.dc_stack.specs.Mapped.{left_top_of, mapped_box, mapped_list, mapped_lists, mapped_point, right_bottom_of}
+use Rattle.dc_stack.specs.Mapped.{mapped_box, mapped_list, mapped_lists, mapped_point}
 use Rattle.dc_stack.specs.declared.piece.FigureEnd.{FigureEnd}
 use Rattle.dc_stack.specs.declared.piece.FigureEnd.TheVariants.{Open, Ended, Closed}
 use Rattle.dc_stack.specs.declared.piece.Joining.{Joining}

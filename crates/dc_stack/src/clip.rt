@@ -1,9 +1,9 @@
 //! The clip: which pixels drawings may write.
 
 ghost use Rattle.std.specs.Prelude.{◌≡◌, ◌<◌, length, nat_lt, take};
-ghost use Rattle.std.specs.Int.{int_max, int_min};
 ghost use Rattle.std.specs.List.{list_any};
-ghost use Rattle.dc_stack.specs.Clip.{cut_limit, in_box, in_boxes, in_kept, is_from_to, narrowed, unclipped, with_cut, with_kept};
+ghost use Rattle.mapping.specs.PixelBoxes.{in_box};
+ghost use Rattle.dc_stack.specs.Clip.{cut_limit, in_boxes, in_kept, unclipped, with_cut, with_kept};
 
 use mapping::Rect;
 
@@ -70,8 +70,8 @@ impl Clip {
         self.kept = Some(match self.kept {
             None => kept,
             Some(before) => ClipBox {
-                plane: common(before.plane, kept.plane),
-                placed: common(before.placed, kept.placed),
+                plane: before.plane.common(kept.plane),
+                placed: before.placed.common(kept.placed),
             },
         });
     }
@@ -107,7 +107,7 @@ impl Clip {
     {
         match self.kept {
             None => true,
-            Some(kept) => contains(kept.placed, x, y),
+            Some(kept) => kept.placed.has_pixel(x, y),
         }
     }
 
@@ -119,45 +119,6 @@ impl Clip {
     }
 }
 
-/// What two boxes have in common.
-fn common(first: Rect, second: Rect) -> Rect
-    ensures { result ≡ narrowed first second }
-{
-    let l = greater(first.l, second.l);
-    let t = greater(first.t, second.t);
-    let r = lesser(first.r, second.r);
-    let b = lesser(first.b, second.b);
-    Rect { l, t, r, b }
-}
-
-/// The lesser of two coordinates.
-fn lesser(first: i32, second: i32) -> i32
-    ensures { result ≡ int_min first second }
-{
-    if second < first { second } else { first }
-}
-
-/// The greater of two coordinates.
-fn greater(first: i32, second: i32) -> i32
-    ensures { result ≡ int_max first second }
-{
-    if second < first { first } else { second }
-}
-
-/// Whether a box of the surface has the pixel `(x, y)`.
-fn contains(placed: Rect, x: u32, y: u32) -> bool
-    ensures { result ≡ in_box placed x y }
-{
-    is_from_to(placed.l, placed.r, x) && is_from_to(placed.t, placed.b, y)
-}
-
-/// Whether a column or a row is at or past the first number, and before the second.
-fn is_from_to(from: i32, to: i32, at: u32) -> bool
-    ensures { result ≡ is_from_to from to at }
-{
-    i64::from(from) <= i64::from(at) && i64::from(at) < i64::from(to)
-}
-
 /// Whether one of so many boxes has the pixel `(x, y)`.
 fn any_contains(boxes: &[ClipBox], count: usize, x: u32, y: u32) -> bool
     ensures { result ≡ list_any (λ cut. in_box cut.placed x y) (take count boxes.now) }
@@ -165,5 +126,5 @@ fn any_contains(boxes: &[ClipBox], count: usize, x: u32, y: u32) -> bool
     boxes
         .iter()
         .take(count)
-        .any(|cut| contains(cut.placed, x, y))
+        .any(|cut| cut.placed.has_pixel(x, y))
 }

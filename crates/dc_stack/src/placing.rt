@@ -12,7 +12,7 @@ ghost use Rattle.draw_ops.specs.Blits.{blit_value_of};
 ghost use Rattle.dc_stack.specs.Clip.{placed_box};
 ghost use Rattle.dc_stack.specs.Drawing.{edge_limit};
 ghost use Rattle.dc_stack.specs.Extents.{IsExtent, IsOffPlane, IsPlaneBox, IsRefused};
-ghost use Rattle.dc_stack.specs.Mapped.{blit_corners, opposite_corner, left_top_of, mapped_box, mapped_corners, mapped_opposite, mapped_point, right_bottom_of};
+ghost use Rattle.dc_stack.specs.Mapped.{blit_corners, opposite_corner, mapped_box, mapped_corners, mapped_opposite, mapped_point};
 ghost use Rattle.dc_stack.specs.OperationFault.{off_plane_fault};
 ghost use Rattle.dc_stack.specs.Placing.{joined_plane_list, plane_list};
 
@@ -185,7 +185,7 @@ pub(crate) fn plane_rect(map: &PageMap, corners: Rect) -> Result<Rect, RecordFau
     ensures plane { IfOk result (λ plane. plane ≡ mapped_box (map_numbers map.now) corners) }
     ensures extent { IfOk result (λ plane. IsPlaneBox plane (mapped_corners (map_numbers map.now) corners)) }
 {
-    match plane_pair(map, left_top_of(corners), right_bottom_of(corners)) {
+    match plane_pair(map, corners.left_top(), corners.right_bottom()) {
         Ok((first, second)) => Ok(Rect::between(first, second)),
         Err(fault) => Err(fault),
     }
@@ -211,8 +211,8 @@ pub(crate) fn land_clip_box(
         return Err(RecordFault::OffPlane);
     }
     limits_law();
-    let near = place.at(left_top_of(plane));
-    let far = place.at(right_bottom_of(plane));
+    let near = place.at(plane.left_top());
+    let far = place.at(plane.right_bottom());
     let placed = Rect {
         l: near.x,
         t: near.y,
@@ -220,24 +220,4 @@ pub(crate) fn land_clip_box(
         b: far.y,
     };
     Ok(ClipBox { plane, placed })
-}
-
-/// The left top of a box.
-pub(crate) fn left_top_of(corners: Rect) -> Point
-    ensures { result ≡ left_top_of corners }
-{
-    Point {
-        x: corners.l,
-        y: corners.t,
-    }
-}
-
-/// The right bottom of a box.
-pub(crate) fn right_bottom_of(corners: Rect) -> Point
-    ensures { result ≡ right_bottom_of corners }
-{
-    Point {
-        x: corners.r,
-        y: corners.b,
-    }
 }

@@ -8,7 +8,7 @@ ghost use Rattle.dc_stack.specs.Extents.{IsExtent, IsOffPlane, JoinsExtents, box
 ghost use Rattle.dc_stack.specs.OperationFault.{all_land_within};
 ghost use Rattle.dc_stack.specs.Placing.{plane_list};
 
-use crate::placing::{left_top_of, plane_rect, right_bottom_of};
+use crate::placing::plane_rect;
 use draw_ops::RecordFault;
 use mapping::{PageMap, Place, Rect, box_law};
 use point_views::Points;
@@ -67,7 +67,7 @@ pub fn fits(extent: Option<Rect>, place: Place) -> bool
 fn box_fits(bounds: Rect, place: Place) -> bool
     ensures { result ≡ do_corners_fit bounds (surface_of place) }
 {
-    let near = left_top_of(bounds);
-    let far = right_bottom_of(bounds);
+    let near = bounds.left_top();
+    let far = bounds.right_bottom();
     place.fits(near) && place.fits(far)
 }

@@ -60,15 +60,3 @@ module _ (format : FileFormat) (f : Framing) (is_of : framing_of format ≡ f) (
         fewer = rw gives.front (omega arith);
         end = rw gives.front refl;
       }
-
-  pub no_line : GivesNoRecord before.walk after.walk → new ≡ old → PutsRest format old before Ended new
-  no_line gives put = record {
-    put = rw (gives.records, gives.fault) (put ∙ sym (append-nil old));
-    end = rw gives.fault refl;
-  }
-
-  pub last_of : (fault : RecordFault) → GivesFault before.walk fault after.walk → new ≡ old ++ fault_line after.walk.number after.walk.place fault → PutsRest format old before Broken new
-  last_of fault gives put = record {
-    put = rw (gives.broken_here) (put ∙ ap (λ (w : Walk). old ++ fault_line w.number w.place fault) gives.stays);
-    end = rw (gives.broken_here) refl;
-  }

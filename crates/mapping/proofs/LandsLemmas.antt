@@ -5,7 +5,7 @@ use Rattle.std.proofs.lemmas.Bool.{and_from, and_parts}
 use Rattle.std.proofs.lemmas.Int.{ints}
 use Rattle.std.proofs.lemmas.List.Folds.{list_all-map}
 use Rattle.std.proofs.lemmas.List.Sums.{AllPass-from_list_all, list_all-from_AllPass}
-use Rattle.mapping.specs.Boxes.{HasPoint, IsBetween, IsTight, KeepsBetween, far_corner, mapped_by, near_corner}
+use Rattle.mapping.specs.Boxes.{HasPoint, IsBetween, IsTight, KeepsBetween, right_bottom_of, mapped_by, left_top_of}
 use Rattle.mapping.specs.Limits.{IsFrameSide, IsWithin, place_limit, plane_limit}
 use Rattle.mapping.specs.Plane.{IsPlaneCoordinate, is_on_plane}
 use Rattle.mapping.specs.PlacingLaws.{ShowsFrame}
@@ -62,10 +62,10 @@ module _ (f g : ℤ → ℤ) (s : Surface) (box : Rect) (points : List Point) (s
   OfPoint point = BothLand s (mapped_by f g point)
 
   abbrev near : Point
-  near = mapped_by f g (near_corner box)
+  near = mapped_by f g (left_top_of box)
 
   abbrev far : Point
-  far = mapped_by f g (far_corner box)
+  far = mapped_by f g (right_bottom_of box)
 
   column : (v : ℤ) → All OfPoint points → Any (λ point. point.x ≡ v) points → Lands s.width s.frame_width (f v)
   column v all some = met OfPoint (λ point. point.x ≡ v) _ points all some (λ point lands at. subst (λ (x : ℤ). Lands s.width s.frame_width (f x)) at lands.x)

@@ -1,7 +1,7 @@
 -- What page maps and places do to boxes around points.
 use Rattle.std.specs.Prelude.{◌≡◌, ◌≢◌, ◌&&◌, ◌++◌, ℕ, ℤ, pos, List, [], ◌∷◌, map}
 use Rattle.std.specs.List.{list_all}
-use Rattle.mapping.specs.Boxes.{IsBoxOver, IsTight, KeepsBetween, point_box, far_corner, mapped_box_by, mapped_by, near_corner}
+use Rattle.mapping.specs.Boxes.{IsBoxOver, IsTight, KeepsBetween, point_box, right_bottom_of, mapped_box_by, mapped_by, left_top_of}
 use Rattle.mapping.specs.Limits.{IsFrameSide}
 use Rattle.mapping.specs.Plane.{AxisNumbers, plane_coordinate}
 use Rattle.mapping.specs.PlacingLaws.{ShowsFrame}
@@ -24,4 +24,4 @@ pub record BoxLaws : Type 0 where
   pub lands :
       (f g : ℤ → ℤ) (s : Surface) (box : Rect) (points : List Point) → ShowsFrame s → KeepsBetween f → KeepsBetween g → IsTight box points
       → list_all (λ point. lands_within_limits point s) (map (mapped_by f g) points)
-      ≡ (lands_within_limits (mapped_by f g (near_corner box)) s && lands_within_limits (mapped_by f g (far_corner box)) s)
+      ≡ (lands_within_limits (mapped_by f g (left_top_of box)) s && lands_within_limits (mapped_by f g (right_bottom_of box)) s)

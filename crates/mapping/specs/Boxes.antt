@@ -51,11 +51,11 @@ abbrev pub box_between : Point → Point → Rect
 box_between p q = record { l = int_min p.x q.x; t = int_min p.y q.y; r = int_max p.x q.x; b = int_max p.y q.y }
 
 -- two corners of a box: the left top, and the right bottom
-abbrev pub near_corner : Rect → Point
-near_corner box = record { x = box.l; y = box.t }
+abbrev pub left_top_of : Rect → Point
+left_top_of box = record { x = box.l; y = box.t }
 
-abbrev pub far_corner : Rect → Point
-far_corner box = record { x = box.r; y = box.b }
+abbrev pub right_bottom_of : Rect → Point
+right_bottom_of box = record { x = box.r; y = box.b }
 
 -- what two boxes have in common: where that is nothing, its sides are out of order
 abbrev pub common_box : Rect → Rect → Rect
@@ -76,7 +76,7 @@ has_box outer inner = has_part outer.l outer.r inner.l inner.r && has_part outer
 
 -- a box, each of its axes mapped by itself, and its sides put in order
 abbrev pub mapped_box_by : (ℤ → ℤ) → (ℤ → ℤ) → Rect → Rect
-mapped_box_by f g box = box_between (mapped_by f g (near_corner box)) (mapped_by f g (far_corner box))
+mapped_box_by f g box = box_between (mapped_by f g (left_top_of box)) (mapped_by f g (right_bottom_of box))
 
 -- the box of one point
 abbrev pub point_box : Point → Rect

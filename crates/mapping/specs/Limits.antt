@@ -61,3 +61,11 @@ pub record IsFrameSide (side : ℕ) : Type 0 where
 -- the same, as a test
 abbrev pub is_frame_side : ℕ → Bool
 is_frame_side side = nat_le 1 side && nat_le side frame_side_limit
+
+pub frame_side_true : (side : ℕ) → is_frame_side side ≡ true → IsFrameSide side
+frame_side_true side test =
+    let parts = and_parts (nat_le 1 side) (nat_le side frame_side_limit) test in
+    record { not_empty = leb-true _ _ parts.0; within = leb-true _ _ parts.1 }
+
+pub frame_side_from : (side : ℕ) → IsFrameSide side → is_frame_side side ≡ true
+frame_side_from side h = and_from (nat_le 1 side) (nat_le side frame_side_limit) (le-leb _ _ h.not_empty) (le-leb _ _ h.within)

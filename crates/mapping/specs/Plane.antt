@@ -1,7 +1,8 @@
 -- Where a page coordinate lands on the plane.
-use Rattle.std.specs.Prelude.{ℤ, ◌+ℤ◌, ◌-ℤ◌, ◌*ℤ◌, Bool, ◌&&◌}
+use Rattle.std.specs.Prelude.{◌≡◌, ℤ, ◌+ℤ◌, ◌-ℤ◌, ◌*ℤ◌, Bool, true, ◌&&◌}
+use Rattle.std.proofs.lemmas.Bool.{and_from, and_parts}
 use Rattle.mapping.specs.Floor.{floor_div}
-use Rattle.mapping.specs.Limits.{plane_limit, IsWithin, is_within}
+use Rattle.mapping.specs.Limits.{plane_limit, IsWithin, is_within, within_from, within_true}
 use Rattle.mapping.specs.declared.geometry.Point.{Point}
 use Rattle.mapping.specs.declared.map_mode.MapMode.{MapMode}
 
@@ -40,3 +41,12 @@ pub record IsOnPlane (point : Point) : Type 0 where
 -- the same, as a test
 abbrev pub is_on_plane : Point → Bool
 is_on_plane point = is_within plane_limit point.x && is_within plane_limit point.y
+
+pub on_plane_true : (point : Point) → is_on_plane point ≡ true → IsOnPlane point
+on_plane_true point test =
+    let parts = and_parts (is_within plane_limit point.x) (is_within plane_limit point.y) test in
+    record { x = within_true plane_limit point.x parts.0; y = within_true plane_limit point.y parts.1 }
+
+pub on_plane_from : (point : Point) → IsOnPlane point → is_on_plane point ≡ true
+on_plane_from point h =
+    and_from (is_within plane_limit point.x) (is_within plane_limit point.y) (within_from plane_limit point.x h.x) (within_from plane_limit point.y h.y)

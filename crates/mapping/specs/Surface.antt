@@ -1,7 +1,8 @@
 -- Where a plane point lands on a surface.
-use Rattle.std.specs.Prelude.{ℕ, ℤ, pos, negsuc, ◌*ℤ◌, Bool, false, ◌&&◌, ◌==◌}
+use Rattle.std.specs.Prelude.{◌≡◌, ℕ, ℤ, pos, negsuc, ◌*ℤ◌, Bool, true, false, ◌&&◌, ◌==◌}
+use Rattle.std.proofs.lemmas.Bool.{and_from, and_parts}
 use Rattle.mapping.specs.Floor.{floor_div}
-use Rattle.mapping.specs.Limits.{place_limit, IsWithin, is_within}
+use Rattle.mapping.specs.Limits.{place_limit, IsWithin, is_within, within_from, within_true}
 use Rattle.mapping.specs.Plane.{is_on_plane}
 use Rattle.mapping.specs.declared.geometry.Point.{Point}
 
@@ -32,6 +33,15 @@ pub record FitsPlace (point : Point) : Type 0 where
 -- the same, as a test
 abbrev pub fits_place : Point → Bool
 fits_place point = is_within place_limit point.x && is_within place_limit point.y
+
+pub fits_place_true : (point : Point) → fits_place point ≡ true → FitsPlace point
+fits_place_true point test =
+    let parts = and_parts (is_within place_limit point.x) (is_within place_limit point.y) test in
+    record { x = within_true place_limit point.x parts.0; y = within_true place_limit point.y parts.1 }
+
+pub fits_place_from : (point : Point) → FitsPlace point → fits_place point ≡ true
+fits_place_from point h =
+    and_from (is_within place_limit point.x) (is_within place_limit point.y) (within_from place_limit point.x h.x) (within_from place_limit point.y h.y)
 
 -- A point is one of the plane, and where it lands is within the limit of placed coordinates.
 abbrev pub lands_within_limits : Point → Surface → Bool

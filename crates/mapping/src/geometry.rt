@@ -30,7 +30,7 @@ pub struct Rect {
 }
 
 impl Rect {
-    ghost use Rattle.mapping.specs.Boxes.{IsBoxOver, box_between, common_box, far_corner, has_box, has_part, near_corner, point_box};
+    ghost use Rattle.mapping.specs.Boxes.{IsBoxOver, box_between, common_box, has_box, has_part, left_top_of, point_box, right_bottom_of};
     ghost use Rattle.mapping.specs.PixelBoxes.{in_box, is_from_to};
 
     /// The box around no point.
@@ -78,7 +78,7 @@ impl Rect {
 
     /// The corner at the left and the top.
     pub fn left_top(self) -> Point
-        ensures { result ≡ near_corner self }
+        ensures { result ≡ left_top_of self }
     {
         Point {
             x: self.l,
@@ -88,7 +88,7 @@ impl Rect {
 
     /// The corner at the right and the bottom.
     pub fn right_bottom(self) -> Point
-        ensures { result ≡ far_corner self }
+        ensures { result ≡ right_bottom_of self }
     {
         Point {
             x: self.r,
@@ -114,8 +114,8 @@ impl Rect {
 
     /// The box with these two corners.
     fn by_corners(left_top: Point, right_bottom: Point) -> Rect
-        ensures left_top { near_corner result ≡ left_top }
-        ensures right_bottom { far_corner result ≡ right_bottom }
+        ensures left_top { left_top_of result ≡ left_top }
+        ensures right_bottom { right_bottom_of result ≡ right_bottom }
     {
         Rect {
             l: left_top.x,

@@ -21,6 +21,8 @@
 //!   each that is no larger and shows a frame of the same sides (`placing_law`).
 //! - The least box around points grows by a point (`Rect::around`, `Rect::with`), and page maps and places map it to the
 //!   least box around what the points are mapped to, by two of its corners, which tell whether all land (`box_law`).
+//! - A box has the corners, the pixels and the rows that its sides say, shares with another what lies in both, and contains another
+//!   where its sides do (`Rect::left_top`, `right_bottom`, `has_pixel`, `has_row`, `common`, `contains`).
 //! - A part of the plane meets at most so many columns, or rows, of a surface (`cells`), no fewer of a larger one, and a larger part
 //!   no fewer (`cell_law`).
 //! - A mix keeps, drops and flips the bits of a colour that it says, and no other (`Mix::apply`, by

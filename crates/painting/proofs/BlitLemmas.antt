@@ -17,7 +17,8 @@ use Rattle.draw_ops.specs.declared.ternary_op.TernaryOp.{TernaryOp}
 use Rattle.raster_ops.specs.Paints.{brush_paint}
 use Rattle.raster_ops.specs.Sources.{source_colour}
 use Rattle.raster_ops.specs.TernaryOps.{ternary_colour, uses_pattern}
-use Rattle.dc_stack.specs.Clip.{ClipValue, in_box, in_boxes, placed_clip}
+use Rattle.mapping.specs.PixelBoxes.{in_box}
+use Rattle.dc_stack.specs.Clip.{ClipValue, in_boxes, placed_clip}
 use Rattle.mapping.specs.Boxes.{box_between}
 use Rattle.dc_stack.specs.Drawing.{Tools}
 use Rattle.dc_stack.specs.Values.{placed_value}

@@ -50,15 +50,6 @@ length-open_lines (p ∷ ps) = let e = length-lines_after p ps in omega arith
 pub open_lines_few : (ps : List Point) → length (open_lines ps) ≤ length ps
 open_lines_few ps = let e = length-open_lines ps in omega arith
 
--- the same of several
-pub length-closed_lines_of : (ls : List (List Point)) → length (closed_lines_of ls) ≡ length (points_of_lists ls)
-length-closed_lines_of [] = refl
-length-closed_lines_of (ps ∷ ls) =
-    let first = length-closed_lines ps in
-    let others = length-closed_lines_of ls in
-    let a = length-append (closed_lines ps) (closed_lines_of ls) in
-    let b = length-append ps (points_of_lists ls) in omega arith
-
 pub open_lines_of_few : (ls : List (List Point)) → length (open_lines_of ls) ≤ length (points_of_lists ls)
 open_lines_of_few [] = omega arith
 open_lines_of_few (ps ∷ ls) =

@@ -2,6 +2,7 @@
 use Rattle.std.proofs.Common.{◌≡◌, ℕ, ℤ, pos, negsuc, Bool, true, false, ◌&&◌, ◌==◌, Option, Some, None, arith, refl, ◌∙◌, ap}
 use Rattle.std.proofs.lemmas.Bool.{and_from, and_parts, false_from_ne_true}
 use Rattle.mapping.specs.Surface.{is_index, is_pixel}
+use Rattle.mapping.specs.TestLaws.{same_test}
 use Rattle.mapping.specs.declared.geometry.Colour.{Colour}
 use Rattle.mapping.specs.declared.geometry.Point.{Point}
 use Rattle.canvas.specs.CanvasState.{CanvasState, HasPixel}
@@ -9,7 +10,6 @@ use Rattle.canvas.specs.Writing.{Repaints, is_at}
 use Rattle.canvas.specs.WritingLaws.{IsWhole, WritingLaws}
 use Rattle.dc_stack.specs.Clip.{ClipValue, in_boxes}
 use Rattle.painting.specs.Dots.{indexes_of, naturals}
-use Rattle.painting.proofs.TestLemmas.{same_test}
 
 is_same_number : (a b : ℕ) → (a == b) ≡ true → b ≡ a
 is_same_number a b h = grind (arith)

@@ -5,8 +5,9 @@ use Rattle.std.proofs.lemmas.Int.{ints}
 use Rattle.std.proofs.lemmas.List.Elements.{All-nil}
 use Rattle.std.specs.Int.{int_max, int_min}
 use Rattle.std.specs.List.{All, list_all}
-use Rattle.mapping.specs.Boxes.{HasPoint, IsLeastBox, IsTight, box_between, far_corner, mapped_by, near_corner, no_box}
+use Rattle.mapping.specs.Boxes.{HasPoint, IsLeastBox, IsTight, box_between, right_bottom_of, mapped_by, left_top_of, no_box}
 use Rattle.mapping.specs.BoxLaws.{BoxLaws}
+use Rattle.mapping.specs.PixelBoxes.{from_to_true, from_to_from, in_box, is_from_to}
 use Rattle.mapping.specs.PlaceOf.{surface_of}
 use Rattle.mapping.specs.Plane.{is_on_plane}
 use Rattle.mapping.specs.PlacingLaws.{PlacingLaws, ShowsFrame}
@@ -15,12 +16,10 @@ use Rattle.mapping.specs.declared.geometry.Point.{Point}
 use Rattle.mapping.specs.declared.geometry.Rect.{Rect}
 use Rattle.mapping.specs.declared.place.Place.{Place}
 use Rattle.draw_ops.specs.declared.operation.RectangleEdges.TheVariants.{Inclusive}
-use Rattle.dc_stack.specs.Clip.{in_box, is_from_to}
 use Rattle.preflight_cert.specs.DrawingBoxLaws.{DrawingBoxLaws, IsClosedShape, Reaches, shape_points}
 use Rattle.preflight_cert.specs.Rectangles.{raised}
 use Rattle.preflight_cert.specs.Shape.{Shape, in_shape}
 use Rattle.painting.specs.Regions.{HasLanded}
-use Rattle.painting.proofs.TestLemmas.{from_to_from, int_le-true, int_lt-true}
 
 least_low : (a b v : ℤ) → a ≤ℤ v → int_min a b ≤ℤ v
 least_low a b v h = grind (arith, ints)
@@ -32,18 +31,11 @@ same_points : (points : List Point) → map (mapped_by (λ v. v) (λ v. v)) poin
 same_points [] = refl
 same_points (p ∷ ps) = ap (λ (rest : List Point). p ∷ rest) (same_points ps)
 
-pub first_off : (a b : Bool) → a ≡ false → (a && b) ≡ false
-first_off a b h = rw h refl
-
-pub second_off : (a b : Bool) → b ≡ false → (a && b) ≡ false
-second_off true b h = h
-second_off false b h = refl
-
 -- what the least box reaches lies between where its corners land
-pub reached_between : (s : Surface) (bounds : Rect) (x y : ℕ) → Reaches bounds s x y → in_box (raised Inclusive (box_between (placed_point (near_corner bounds) s) (placed_point (far_corner bounds) s))) x y ≡ true
+pub reached_between : (s : Surface) (bounds : Rect) (x y : ℕ) → Reaches bounds s x y → in_box (raised Inclusive (box_between (placed_point (left_top_of bounds) s) (placed_point (right_bottom_of bounds) s))) x y ≡ true
 reached_between s bounds x y reached =
-    let near = placed_point (near_corner bounds) s in
-    let far = placed_point (far_corner bounds) s in
+    let near = placed_point (left_top_of bounds) s in
+    let far = placed_point (right_bottom_of bounds) s in
     let pixel = reached.pixel in
     and_from (is_from_to (int_min near.x far.x) (int_max near.x far.x +ℤ pos 1) x) (is_from_to (int_min near.y far.y) (int_max near.y far.y +ℤ pos 1) y)
     (from_to_from _ _ x (least_low near.x far.x (pos x) pixel.left) (most_high near.x far.x (pos x) pixel.right))
@@ -55,14 +47,11 @@ between_low a b v h k = grind (arith, ints)
 between_high : (a b v : ℤ) → a ≤ℤ b → v <ℤ (int_max a b +ℤ pos 1) → v ≤ℤ b
 between_high a b v h k = grind (arith, ints)
 
-from_to_parts : (from to : ℤ) (n : ℕ) → is_from_to from to n ≡ true → (from ≤ℤ pos n) × (pos n <ℤ to)
-from_to_parts from to n h = let parts = and_parts (int_le from (pos n)) (int_lt (pos n) to) h in (int_le-true from (pos n) parts.0, int_lt-true (pos n) to parts.1)
-
 -- no box has a pixel that is around no point
 pub none_in : (x y : ℕ) → in_box no_box x y ≡ true → ⊥
 none_in x y h =
     let parts = and_parts (is_from_to (pos 0) (negsuc 0) x) (is_from_to (pos 0) (negsuc 0) y) h in
-    let inside = from_to_parts (pos 0) (negsuc 0) x parts.0 in
+    let inside = from_to_true (pos 0) (negsuc 0) x parts.0 in
     let low = inside.0 in
     let high = inside.1 in
     omega (arith, ints, low, high)
@@ -75,7 +64,7 @@ module _ (laws : BoxLaws) (place : Place) (bounds : Rect) where
   s = surface_of place
 
   -- where all points land, so do the corners
-  corners_land : (points : List Point) → IsTight bounds points → list_all (λ point. lands_within_limits point s) points ≡ true → (lands_within_limits (near_corner bounds) s && lands_within_limits (far_corner bounds) s) ≡ true
+  corners_land : (points : List Point) → IsTight bounds points → list_all (λ point. lands_within_limits point s) points ≡ true → (lands_within_limits (left_top_of bounds) s && lands_within_limits (right_bottom_of bounds) s) ≡ true
   corners_land points tight within =
       let same = same_points points in
       let laid = laws.lands (λ v. v) (λ v. v) s bounds points (shows place) (λ from v to between. between) (λ from v to between. between) tight in
@@ -86,15 +75,15 @@ module _ (laws : BoxLaws) (place : Place) (bounds : Rect) where
 
   -- so where one doesn't, nothing is reached
   pub none_reached :
-      (fits_place (placed_point (near_corner bounds) s) && fits_place (placed_point (far_corner bounds) s)) ≡ false
+      (fits_place (placed_point (left_top_of bounds) s) && fits_place (placed_point (right_bottom_of bounds) s)) ≡ false
       → (points : List Point) → IsLeastBox bounds points → list_all (λ point. lands_within_limits point s) points ≡ true → (x y : ℕ) → Reaches bounds s x y → ⊥
   none_reached off [] least within x y reached = empty (rw least at reached.wide)
     where
       empty : pos 0 ≤ℤ negsuc 0 → ⊥
       empty h = omega (arith, ints, h)
   none_reached off (p ∷ ps) least within x y reached =
-      let both = and_parts (lands_within_limits (near_corner bounds) s) (lands_within_limits (far_corner bounds) s) (corners_land (p ∷ ps) least within) in
-      contradicts _ _ (corner_fits (near_corner bounds) both.0) (corner_fits (far_corner bounds) both.1) off
+      let both = and_parts (lands_within_limits (left_top_of bounds) s) (lands_within_limits (right_bottom_of bounds) s) (corners_land (p ∷ ps) least within) in
+      contradicts _ _ (corner_fits (left_top_of bounds) both.0) (corner_fits (right_bottom_of bounds) both.1) off
     where
       contradicts : (a b : Bool) → a ≡ true → b ≡ true → (a && b) ≡ false → ⊥
       contradicts true true e f h = cc
@@ -104,14 +93,14 @@ module _ (laws : BoxLaws) (place : Place) (bounds : Rect) where
 -- and where a box has a point, what lies between where its corners land is reached
 pub between_reached :
     (laws : PlacingLaws) (s : Surface) → ShowsFrame s → (bounds : Rect) → bounds.l ≤ℤ bounds.r → bounds.t ≤ℤ bounds.b
-    → (x y : ℕ) → in_box (raised Inclusive (box_between (placed_point (near_corner bounds) s) (placed_point (far_corner bounds) s))) x y ≡ true
+    → (x y : ℕ) → in_box (raised Inclusive (box_between (placed_point (left_top_of bounds) s) (placed_point (right_bottom_of bounds) s))) x y ≡ true
     → Reaches bounds s x y
 between_reached laws s shown bounds wide high x y h =
-    let near = placed_point (near_corner bounds) s in
-    let far = placed_point (far_corner bounds) s in
+    let near = placed_point (left_top_of bounds) s in
+    let far = placed_point (right_bottom_of bounds) s in
     let parts = and_parts (is_from_to (int_min near.x far.x) (int_max near.x far.x +ℤ pos 1) x) (is_from_to (int_min near.y far.y) (int_max near.y far.y +ℤ pos 1) y) h in
-    let column = from_to_parts _ _ x parts.0 in
-    let row = from_to_parts _ _ y parts.1 in
+    let column = from_to_true _ _ x parts.0 in
+    let row = from_to_true _ _ y parts.1 in
     let across = laws.keeps_order s.width s.frame_width bounds.l bounds.r shown.wide wide in
     let down = laws.keeps_order s.height s.frame_height bounds.t bounds.b shown.high high in
     record {

@@ -11,7 +11,7 @@ use Rattle.mapping.specs.Limits.{IsWithin, is_within, place_limit}
 use Rattle.mapping.specs.PageMap.{map_numbers}
 use Rattle.mapping.specs.Plane.{is_on_plane}
 use Rattle.mapping.specs.PlaceOf.{surface_of}
-use Rattle.mapping.specs.Surface.{FitsPlace, IsPlaceCoordinate, Surface, fits_place, lands_within_limits, placed_point}
+use Rattle.mapping.specs.Surface.{FitsPlace, IsPlaceCoordinate, Surface, fits_place, fits_place_true, lands_within_limits, placed_point}
 use Rattle.mapping.specs.declared.geometry.Point.{Point}
 use Rattle.mapping.specs.declared.geometry.Rect.{Rect}
 use Rattle.mapping.specs.declared.place.Place.{Place}
@@ -23,42 +23,21 @@ use Rattle.dc_stack.specs.declared.projection.Projection.{Projection}
 use Rattle.span_fill.specs.Lines.{IsNear, IsNearPoint}
 use Rattle.painting.specs.PlacedLines.{AllLand, AllListsLand}
 
-true_le : (a b : ℤ) → int_le a b ≡ true → a ≤ℤ b
-true_le a b h = grind (arith, ints)
-
 one_more : (v : ℤ) → v ≤ℤ pos place_limit → v ≤ℤ pos (suc place_limit)
 one_more v h = grind (arith, ints)
 
-near : (v : ℤ) → is_within place_limit v ≡ true → IsNear v
-near v t =
-    let parts = and_parts (int_le (neg_ℤ (pos place_limit)) v) (int_le v (pos place_limit)) t in
-    record { low = true_le _ _ parts.0; high = one_more v (true_le _ _ parts.1) }
-
--- a point of the plane that lands within the limits is near there
-pub landed_near : (s : Surface) (p : Point) → lands_within_limits p s ≡ true → IsNearPoint (placed_point p s)
-landed_near s p t =
-    let there = placed_point p s in
-    let parts = and_parts (is_on_plane p) (fits_place there) t in
-    let both = and_parts (is_within place_limit there.x) (is_within place_limit there.y) parts.1 in
-    record { x = near there.x both.0; y = near there.y both.1 }
-
-within : (v : ℤ) → is_within place_limit v ≡ true → IsWithin place_limit v
-within v t =
-    let parts = and_parts (int_le (neg_ℤ (pos place_limit)) v) (int_le v (pos place_limit)) t in
-    record { low = true_le _ _ parts.0; high = true_le _ _ parts.1 }
-
--- and within the limits of placed coordinates
-pub landed_fits : (s : Surface) (p : Point) → lands_within_limits p s ≡ true → FitsPlace (placed_point p s)
-landed_fits s p t =
-    let there = placed_point p s in
-    let parts = and_parts (is_on_plane p) (fits_place there) t in
-    let both = and_parts (is_within place_limit there.x) (is_within place_limit there.y) parts.1 in
-    record { x = within there.x both.0; y = within there.y both.1 }
-
--- the corners of a box whose sides are within the limits are near
+-- a number within the limit of placed coordinates is near
 near_within : (v : ℤ) → IsPlaceCoordinate v → IsNear v
 near_within v h = record { low = h.low; high = one_more v h.high }
 
+-- a point of the plane that lands within the limits is one of placed points, and near there
+pub landed_fits : (s : Surface) (p : Point) → lands_within_limits p s ≡ true → FitsPlace (placed_point p s)
+landed_fits s p t = fits_place_true (placed_point p s) (and_parts (is_on_plane p) (fits_place (placed_point p s)) t).1
+
+pub landed_near : (s : Surface) (p : Point) → lands_within_limits p s ≡ true → IsNearPoint (placed_point p s)
+landed_near s p t = let fits = landed_fits s p t in record { x = near_within _ fits.x; y = near_within _ fits.y }
+
+-- the corners of a box whose sides are within the limits are near
 pub corners_near : (box : Rect) → IsPlaceCoordinate box.l → IsPlaceCoordinate box.t → IsPlaceCoordinate box.r → IsPlaceCoordinate box.b → (k : ℕ) (d : Point) → k < 4 → IsNearPoint (slice_index_or (box_corners box) k d)
 corners_near box l t r b zero d h = record { x = near_within box.l l; y = near_within box.t t }
 corners_near box l t r b (suc zero) d h = record { x = near_within box.r r; y = near_within box.t t }
@@ -130,7 +109,3 @@ module _ (by : Projection) where
         let all : list_all test (p ∷ others) ≡ true = ap (list_all test) (sym (append-nil (p ∷ others))) ∙ t in
         let parts = and_parts (test p) (list_all test others) all in
         (landed_near s p parts.0, list_lands ps parts.1)
-
--- the points of one list are its points
-pub joined_one : (points : List Point) → points_of_lists (points ∷ []) ≡ points
-joined_one points = append-nil points

@@ -1,6 +1,7 @@
 -- A line's steps give its pixels one after another.
 use Rattle.std.proofs.Common.{◌≡◌, ℕ, suc, ◌-◌, ◌<◌, ◌≤◌, ℤ, pos, Bool, true, false, not, ◌&&◌, nat_le, IsTrue, ◌⊎◌, inl, inr, arith, refl, ap, sym, ◌∙◌}
-use Rattle.std.proofs.lemmas.Bool.{and_from, and_parts}
+use Rattle.std.proofs.lemmas.Bool.{and_from, and_parts, le-leb, leb-true, lt-ltb, ltb-true, false_from_ne_true, not-true, not_from_false}
+use Rattle.mapping.specs.TestLaws.{same_test}
 use Rattle.mapping.specs.declared.geometry.Point.{Point}
 use Rattle.canvas.specs.PixelSources.{GivesOne}
 use Rattle.canvas.specs.Writing.{is_at}
@@ -11,7 +12,6 @@ use Rattle.span_fill.specs.Strokes.{OnePixelForEachStep, on_line, step_at}
 use Rattle.span_fill.specs.declared.line.Line.{Line}
 use Rattle.painting.specs.LinePixels.{is_to_step}
 use Rattle.painting.specs.Stamping.{is_visible}
-use Rattle.painting.proofs.TestLemmas.{nat_le-from, nat_le-true, nat_lt-from, nat_lt-true, same_test}
 
 -- the number of a column or a row, of a coordinate
 abbrev natural : ℤ → ℕ
@@ -45,32 +45,20 @@ parts_of steps x y h =
     let a = and_parts (on_line steps.line (pos x) (pos y)) _ h in
     let b = and_parts (in_region steps.region x y) _ a.1 in
     let c = and_parts (nat_le steps.next (step_at steps.line (pos x) (pos y))) _ b.1 in
-    record { on = a.0; inside = b.0; from = nat_le-true _ _ c.0; to = nat_lt-true _ _ c.1 }
+    record { on = a.0; inside = b.0; from = leb-true _ _ c.0; to = ltb-true _ _ c.1 }
 
 parts_from : (steps : StepsState) (x y : ℕ) → IsToStep steps x y → is_to_step steps x y ≡ true
 parts_from steps x y p =
     and_from (on_line steps.line (pos x) (pos y)) _ p.on
     (and_from (in_region steps.region x y) _ p.inside
-    (and_from (nat_le steps.next (step_at steps.line (pos x) (pos y))) _ (nat_le-from _ _ p.from) (nat_lt-from _ _ p.to)))
+    (and_from (nat_le steps.next (step_at steps.line (pos x) (pos y))) _ (le-leb _ _ p.from) (lt-ltb _ _ p.to)))
 
 cases_le : (n m : ℕ) → n ≤ m → (suc n ≤ m) ⊎ (m ≡ n)
 cases_le n m h = grind (arith)
 
-not_false : (b : Bool) → (b ≡ true → ⊥) → b ≡ false
-not_false true h = absurd (h refl)
-not_false false h = refl
-
-not_from : (b : Bool) → b ≡ false → not b ≡ true
-not_from false h = refl
-not_from true h = cc
-
-from_not : (b : Bool) → not b ≡ true → b ≡ false
-from_not false h = refl
-from_not true h = cc
-
 -- behind the last step no pixel is to come
 pub none_to_step : (steps : StepsState) → steps.end ≤ steps.next → (x y : ℕ) → is_to_step steps x y ≡ false
-none_to_step steps ended x y = not_false (is_to_step steps x y) (λ h. let p = parts_of steps x y h in over _ _ _ p.from p.to ended)
+none_to_step steps ended x y = false_from_ne_true (is_to_step steps x y) (λ h. let p = parts_of steps x y h in over _ _ _ p.from p.to ended)
   where
     over : (a s b : ℕ) → a ≤ s → s < b → b ≤ a → ⊥
     over a s b h k l = omega (arith, h, k, l)
@@ -91,7 +79,7 @@ module _ (law : OnePixelForEachStep) (old new : StepsState) (pixel : PixelAt) (o
         from = omega (arith, from, there, next);
         to = omega (arith, to, there, end);
       }) in
-      and_from (is_to_step old x y) _ was (not_from _ (not_false (is_at pixel.x pixel.y x y) (λ here.
+      and_from (is_to_step old x y) _ was (not_from_false _ (false_from_ne_true (is_at pixel.x pixel.y x y) (λ here.
       let same = is_at_true pixel.x pixel.y x y here in
       let now : step_at old.line (pos x) (pos y) ≡ old.next = rw (same.0, same.1) at in
       over from there next now)))
@@ -103,7 +91,7 @@ module _ (law : OnePixelForEachStep) (old new : StepsState) (pixel : PixelAt) (o
   earlier x y h =
       let parts = and_parts (is_to_step old x y) _ h in
       let p = parts_of old x y parts.0 in
-      let apart : is_at pixel.x pixel.y x y ≡ false = from_not _ parts.1 in
+      let apart : is_at pixel.x pixel.y x y ≡ false = not-true _ parts.1 in
       let to = p.to in
       let there : step_at new.line (pos x) (pos y) ≡ step_at old.line (pos x) (pos y) = ap (λ l. step_at l (pos x) (pos y)) line in
       elim (cases_le old.next (step_at old.line (pos x) (pos y)) p.from) [

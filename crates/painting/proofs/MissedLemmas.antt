@@ -7,6 +7,7 @@ use Rattle.mapping.specs.PlacingLaws.{ShowsFrame}
 use Rattle.mapping.specs.Surface.{Surface}
 use Rattle.mapping.specs.declared.geometry.Rect.{Rect}
 use Rattle.mapping.proofs.PlacingLemmas.{times_count}
+use Rattle.mapping.specs.TestLaws.{int_lt-from, int_lt-true, same_test}
 use Rattle.canvas.specs.CanvasState.{CanvasState, image_of}
 use Rattle.canvas.specs.WritingLaws.{IsWhole}
 use Rattle.dc_stack.specs.Clip.{placed_box}
@@ -15,7 +16,6 @@ use Rattle.preflight_cert.specs.Layer.{layers_of}
 use Rattle.preflight_cert.specs.MissedRowsLaws.{LiesBeside, MissedRowsLaws}
 use Rattle.painting.specs.Drawn.{DrawsLayers, HoldsRows}
 use Rattle.painting.proofs.LandedBoxLemmas.{has_all}
-use Rattle.painting.proofs.TestLemmas.{int_lt-from, int_lt-true, same_test}
 
 -- a quotient lies before a count exactly where the dividend lies before that many divisors
 module _ (law : FloorDivisionIsGreatest) (a : ℤ) (count side : ℕ) (some : 1 ≤ side) where

@@ -20,9 +20,9 @@ use Rattle.point_views.specs.PartedPoints.{parts_of}
 use Rattle.point_views.specs.Points.{points_of}
 use Rattle.dc_stack.specs.Boxes.{placed_list}
 use Rattle.dc_stack.specs.Clip.{placed_box}
-use Rattle.mapping.specs.Boxes.{box_between}
+use Rattle.mapping.specs.Boxes.{box_between, left_top_of, right_bottom_of}
 use Rattle.dc_stack.specs.Figures.{box_corners}
-use Rattle.dc_stack.specs.Mapped.{left_top_of, mapped_list, mapped_lists, mapped_point, right_bottom_of}
+use Rattle.dc_stack.specs.Mapped.{mapped_list, mapped_lists, mapped_point}
 use Rattle.dc_stack.specs.Pieces.{AllLandOn, LandsOn, page_lists, page_points, plane_lists}
 use Rattle.dc_stack.specs.Projected.{is_projected, projected}
 use Rattle.dc_stack.specs.declared.piece.Joining.{Joining}

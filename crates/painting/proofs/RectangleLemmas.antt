@@ -6,7 +6,8 @@ use Rattle.std.proofs.lemmas.List.Elements.{All-cons, All-nil, All-same}
 use Rattle.mapping.specs.declared.geometry.Point.{Point}
 use Rattle.mapping.specs.declared.geometry.Rect.{Rect}
 use Rattle.mapping.specs.Boxes.{HasPoint}
-use Rattle.dc_stack.specs.Clip.{in_box, is_from_to}
+use Rattle.mapping.specs.PixelBoxes.{from_to_from, in_box, is_from_to}
+use Rattle.mapping.specs.TestLaws.{int_lt-true}
 use Rattle.span_fill.specs.LineBoxes.{HasLine, LineBoxLaws}
 use Rattle.span_fill.specs.Lines.{HasNearEnds, IsNear, IsNearPoint}
 use Rattle.span_fill.specs.Strokes.{in_stroke}
@@ -14,7 +15,6 @@ use Rattle.span_fill.specs.declared.line.Line.{Line}
 use Rattle.preflight_cert.specs.Outlines.{line_from}
 use Rattle.preflight_cert.specs.Rectangles.{has_inside, rectangle_lines}
 use Rattle.painting.specs.RectangleBoxes.{IsNearBox}
-use Rattle.painting.proofs.TestLemmas.{from_to_from, int_lt-true}
 
 -- what four lines have, all of them have
 all_four : (P : Line → Type 0) (a b c d : Line) → P a → P b → P c → P d → All P (a ∷ b ∷ c ∷ d ∷ [])

@@ -1,11 +1,13 @@
 -- A shape is painted row by row, in a region that has what is seen of it.
 use Rattle.std.proofs.Common.{◌≡◌, ℕ, ◌+◌, ◌<◌, ◌≤◌, Bool, true, ◌&&◌, arith, sym, ◌∙◌}
 use Rattle.std.proofs.lemmas.Bool.{and_parts, and_from}
+use Rattle.mapping.specs.TestLaws.{same_test}
 use Rattle.mapping.specs.declared.geometry.Rect.{Rect}
 use Rattle.canvas.specs.CanvasState.{CanvasState, HasRow}
 use Rattle.canvas.specs.Writing.{Repaints}
 use Rattle.canvas.specs.WritingLaws.{IsWhole, WritingLaws}
-use Rattle.dc_stack.specs.Clip.{in_box, in_kept}
+use Rattle.mapping.specs.PixelBoxes.{in_box}
+use Rattle.dc_stack.specs.Clip.{in_kept}
 use Rattle.span_fill.specs.Spans.{in_region, in_span}
 use Rattle.span_fill.specs.declared.span.Region.{Region}
 use Rattle.painting.specs.Painted.{PaintValue, PaintsShape}
@@ -15,7 +17,7 @@ use Rattle.painting.specs.RowsPainted.{IsInk}
 use Rattle.painting.specs.Strips.{is_painted}
 use Rattle.painting.specs.declared.row_ink.RowInk.{RowInk}
 use Rattle.painting.proofs.RowLemmas.{HasRowsPainted, before_first, behind_last, nothing_painted, one_row_more, pixel_held, seen, seen_in_rows}
-use Rattle.painting.proofs.TestLemmas.{column_from, column_true, same_test}
+use Rattle.painting.proofs.TestLemmas.{column_from, column_true}
 
 module _
     (paint : PaintValue) (shape : ℕ → ℕ → Bool) (canvas : CanvasState) (laws : WritingLaws) (whole : IsWhole canvas)

@@ -1,11 +1,13 @@
 -- A shape is painted row by row.
-use Rattle.std.proofs.Common.{◌≡◌, ℕ, suc, ◌+◌, ◌*◌, ◌^◌, ◌<◌, ◌≤◌, Bool, true, false, ◌&&◌, ◌||◌, ◌==◌, nat_lt, List, [], ◌∷◌, ◌⊎◌, inl, inr, arith, refl, sym, ◌∙◌, subst}
-use Rattle.std.proofs.lemmas.Bool.{and_from, and_parts, false_from_ne_true, true≢false}
+use Rattle.std.proofs.Common.{◌≡◌, ℕ, suc, ◌+◌, ◌*◌, ◌^◌, ◌<◌, ◌≤◌, ℤ, Bool, true, false, ◌&&◌, ◌||◌, ◌==◌, nat_lt, List, [], ◌∷◌, is_some, ◌⊎◌, inl, inr, arith, refl, sym, ◌∙◌, subst}
+use Rattle.std.proofs.lemmas.Bool.{and_from, and_parts, false_from_ne_true, true≢false, lt-ltb, ltb-true, eq-eqb, eqb-true, or_cases, or_left, or_right}
+use Rattle.mapping.specs.TestLaws.{same_test}
 use Rattle.mapping.specs.declared.geometry.Colour.{Colour}
 use Rattle.mapping.specs.declared.geometry.Rect.{Rect}
 use Rattle.canvas.specs.CanvasState.{CanvasState, HasPixel, HasRow}
 use Rattle.canvas.specs.Writing.{Repaints}
 use Rattle.canvas.specs.WritingLaws.{IsWhole, WritingLaws}
+use Rattle.mapping.specs.PixelBoxes.{is_from_to}
 use Rattle.dc_stack.specs.Clip.{in_boxes, in_kept}
 use Rattle.span_fill.specs.Spans.{AreApart, AreRow, in_region, in_span, in_spans}
 use Rattle.span_fill.specs.declared.span.Region.{Region}
@@ -16,25 +18,7 @@ use Rattle.painting.specs.RowInks.{inked, is_inked}
 use Rattle.painting.specs.RowsPainted.{paints_above, paints_row}
 use Rattle.painting.specs.Strips.{is_painted, is_uncut}
 use Rattle.painting.specs.declared.row_ink.RowInk.{RowInk}
-use Rattle.painting.proofs.TestLemmas.{column_from, column_true, nat_lt-from, nat_lt-true, same_test}
-
-same_number : (a b : ℕ) → (a == b) ≡ true → a ≡ b
-same_number a b h = grind (arith)
-
-number_same : (a b : ℕ) → a ≡ b → (a == b) ≡ true
-number_same a b h = grind (arith)
-
-or_left : (a b : Bool) → a ≡ true → (a || b) ≡ true
-or_left true b h = refl
-or_left false b h = cc
-
-or_right : (a b : Bool) → b ≡ true → (a || b) ≡ true
-or_right true b h = refl
-or_right false b h = h
-
-or_cases : (a b : Bool) → (a || b) ≡ true → (a ≡ true) ⊎ (b ≡ true)
-or_cases true b h = inl refl
-or_cases false b h = inr h
+use Rattle.painting.proofs.TestLemmas.{column_from, column_true}
 
 -- spans that lie apart between two numbers have no other
 within_ends : (first last : ℕ) (spans : List Span) (x : ℕ) → AreApart first last spans → in_spans spans x ≡ true → (first ≤ x) × (x < last)
@@ -87,15 +71,15 @@ module _ (paint : PaintValue) (shape : ℕ → ℕ → Bool) where
   pub above_and_row : (y column row : ℕ) → (paints_above paint shape y column row || paints_row paint shape y column row) ≡ paints_above paint shape (suc y) column row
   above_and_row y column row = same_test _ _
       (λ h. elim (or_cases (paints_above paint shape y column row) (paints_row paint shape y column row) h) [
-        | inl above ↦ let p = and_parts (paints paint shape column row) _ above in let less = nat_lt-true row y p.1 in and_from (paints paint shape column row) _ p.0 (nat_lt-from row (suc y) (omega (arith, less)))
-        | inr here ↦ let p = and_parts (paints paint shape column row) _ here in let same = same_number row y p.1 in and_from (paints paint shape column row) _ p.0 (nat_lt-from row (suc y) (omega (arith, same)))
+        | inl above ↦ let p = and_parts (paints paint shape column row) _ above in let less = ltb-true row y p.1 in and_from (paints paint shape column row) _ p.0 (lt-ltb row (suc y) (omega (arith, less)))
+        | inr here ↦ let p = and_parts (paints paint shape column row) _ here in let same = eqb-true row y p.1 in and_from (paints paint shape column row) _ p.0 (lt-ltb row (suc y) (omega (arith, same)))
       ])
       (λ h.
       let p = and_parts (paints paint shape column row) _ h in
-      let less = nat_lt-true row (suc y) p.1 in
+      let less = ltb-true row (suc y) p.1 in
       elim (before_or_at row y less) [
-        | inl above ↦ or_left _ _ (and_from (paints paint shape column row) _ p.0 (nat_lt-from row y above))
-        | inr here ↦ or_right _ _ (and_from (paints paint shape column row) _ p.0 (number_same row y here))
+        | inl above ↦ or_left _ _ (and_from (paints paint shape column row) _ p.0 (lt-ltb row y above))
+        | inr here ↦ or_right _ _ (and_from (paints paint shape column row) _ p.0 (eq-eqb row y here))
       ])
     where
       before_or_at : (n m : ℕ) → n < suc m → (n < m) ⊎ (n ≡ m)
@@ -106,8 +90,8 @@ module _ (paint : PaintValue) (shape : ℕ → ℕ → Bool) where
   above_not_row y column row = same_test _ _
       (λ h.
       let p = and_parts (paints_above paint shape y column row) (paints_row paint shape y column row) h in
-      let above = nat_lt-true row y (and_parts (paints paint shape column row) _ p.0).1 in
-      let here = same_number row y (and_parts (paints paint shape column row) _ p.1).1 in absurd (omega (arith, above, here)))
+      let above = ltb-true row y (and_parts (paints paint shape column row) _ p.0).1 in
+      let here = eqb-true row y (and_parts (paints paint shape column row) _ p.1).1 in absurd (omega (arith, above, here)))
       (λ e. cc)
 
   module _ (ink : RowInk) (columns : ℕ → Bool) (y column : ℕ) (test : is_inked ink column ≡ paint.has column y) (same : columns column ≡ (in_kept paint.clip.kept column y && shape column y)) where
@@ -116,7 +100,7 @@ module _ (paint : PaintValue) (shape : ℕ → ℕ → Bool) where
     ink_paints row h =
         let clip = paint.clip in
         let a = painted_parts ink clip.cuts y columns column row h in
-        let here = same_number row y a.0 in
+        let here = eqb-true row y a.0 in
         let d = and_parts (in_kept clip.kept column y) (shape column y) (sym same ∙ a.1) in
         let uncut : is_uncut clip.cuts column y ≡ true = subst (λ (r : ℕ). is_uncut clip.cuts column r ≡ true) here a.2 in
         let clipped : in_boxes clip column y ≡ true = and_from (in_kept clip.kept column y) (is_uncut clip.cuts column y) d.0 uncut in
@@ -127,7 +111,7 @@ module _ (paint : PaintValue) (shape : ℕ → ℕ → Bool) where
     paints_ink row h =
         let clip = paint.clip in
         let a = and_parts (paints paint shape column row) (row == y) h in
-        let here = same_number row y a.1 in
+        let here = eqb-true row y a.1 in
         let painted : paints paint shape column y ≡ true = subst (λ (r : ℕ). paints paint shape column r ≡ true) here a.0 in
         let b = paints_parts paint shape column y painted in
         let c = and_parts (in_kept clip.kept column y) (is_uncut clip.cuts column y) b.0 in
@@ -151,7 +135,7 @@ module _ (paint : PaintValue) (shape : ℕ → ℕ → Bool) where
       painted = laws.none (paints_above paint shape first) paint.makes start whole (λ x y held. false_from_ne_true (paints_above paint shape first x y)
           (λ h.
           let p = and_parts (paints paint shape x y) (nat_lt y first) h in
-          let less = nat_lt-true y first p.1 in
+          let less = ltb-true y first p.1 in
           let from = within x y held p.0 in
           absurd (omega (arith, less, from))));
     }
@@ -165,7 +149,7 @@ module _ (paint : PaintValue) (shape : ℕ → ℕ → Bool) where
         (λ x r held. let column = held.column in row_painted ink columns y x (test x) (same x (omega (arith, column, width))) r)
         (λ x r old held painted.
         let a = painted_parts ink clip.cuts y columns x r painted in
-        let at = same_number r y a.0 in
+        let at = eqb-true r y a.0 in
         subst (λ (q : ℕ). inked ink x old ≡ paint.makes x q old) (sym at) (colour x old a.1 a.3))
         row in
         let next : suc y ≡ y + 1 = omega arith in
@@ -179,7 +163,7 @@ module _ (paint : PaintValue) (shape : ℕ → ℕ → Bool) where
     pub behind_last : (now : CanvasState) (end : ℕ) → ((x y : ℕ) → HasPixel start x y → paints paint shape x y ≡ true → y < end) → HasRowsPainted end start now → Repaints (paints paint shape) paint.makes start now
     behind_last now end within so_far =
         laws.same (paints_above paint shape end) (paints paint shape) paint.makes paint.makes start now whole
-        (λ x y held. same_test _ _ (λ h. (and_parts (paints paint shape x y) (nat_lt y end) h).0) (λ h. and_from (paints paint shape x y) (nat_lt y end) h (nat_lt-from y end (within x y held h))))
+        (λ x y held. same_test _ _ (λ h. (and_parts (paints paint shape x y) (nat_lt y end) h).0) (λ h. and_from (paints paint shape x y) (nat_lt y end) h (lt-ltb y end (within x y held h))))
         (λ x y old held t. refl) so_far.painted
 
     -- nothing is painted, where there is nothing

@@ -6,10 +6,10 @@ use Rattle.std.specs.Prelude.{IfSome}
 use Rattle.std.specs.Int.{int_max, int_min}
 use Rattle.mapping.specs.Boxes.{box_between}
 use Rattle.mapping.specs.Colours.{black_colour}
+use Rattle.mapping.specs.PixelBoxes.{from_to_true, in_box, is_from_to}
 use Rattle.mapping.specs.declared.geometry.Colour.{Colour}
 use Rattle.mapping.specs.declared.geometry.Point.{Point}
 use Rattle.mapping.specs.declared.geometry.Rect.{Rect}
-use Rattle.dc_stack.specs.Clip.{in_box, is_from_to}
 use Rattle.draw_ops.specs.Blits.{SourceValue}
 use Rattle.raster_ops.specs.Readers.{ReadsSource, row_read}
 use Rattle.raster_ops.specs.Sources.{distance, source_colour}
@@ -23,7 +23,7 @@ use Rattle.painting.specs.RowPainters.{HoldsRead, ReadsNothing}
 use Rattle.painting.specs.SourceRows.{HoldsRow, ReadsBox, ReadsRow}
 use Rattle.painting.specs.declared.row_painter.Inks.{Inks}
 use Rattle.painting.specs.declared.row_painter.Inks.TheVariants.{EachRow, Same}
-use Rattle.painting.proofs.TestLemmas.{column_from, from_to_true}
+use Rattle.painting.proofs.TestLemmas.{column_from}
 
 -- the greater of two ends is as far behind the lesser as they are apart
 ends_apart : (v w : ℤ) → int_max v w ≡ int_min v w +ℤ pos (distance v w)

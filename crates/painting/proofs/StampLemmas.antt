@@ -1,11 +1,13 @@
 -- Marks of pixels, by the bits of words.
 use Rattle.std.proofs.Common.{◌≡◌, ℕ, ◌-◌, ◌*◌, ◌/◌, ◌%◌, ◌^◌, ◌<◌, ◌≤◌, Bool, true, false, ◌||◌, ◌==◌, ◌≢◌, inl, inr, nat_le, nat_lt, IsTrue, List, length, bit_or, slice_index_or, slice_set, arith, refl, ap, sym, ◌∙◌}
 use Rattle.std.specs.Int.{w64, bit_at}
-use Rattle.std.proofs.lemmas.Bool.{and_from, and_parts}
+use Rattle.std.proofs.lemmas.Bool.{and_from, and_parts, eq-eqb, eqb-true, false≢true, leb-true, ltb-true, ne_eqb}
 use Rattle.std.proofs.lemmas.Bool.Decides.{eqb_tells}
 use Rattle.std.proofs.lemmas.List.{get_or-set_other, get_or-set_same}
 use Rattle.std.proofs.lemmas.Nat.{div-add-mod', div-mul-add, mod-mul-add, mul-add-lt, mod_below}
 use Rattle.std.proofs.lemmas.Nat.Bits.{bit_at_set_other, bit_at_set_same}
+use Rattle.std.proofs.Math.Bool.{or-false, or-true}
+use Rattle.mapping.specs.TestLaws.{same_test}
 use Rattle.canvas.specs.Writing.{is_at}
 use Rattle.span_fill.specs.Spans.{in_region, in_span}
 use Rattle.painting.specs.Stamps.{StampState, has_bit, is_taken, pixel_count, pixel_number, span_width, stamp_limit}
@@ -29,20 +31,6 @@ set_other word bit other h ne = bit_at_set_other w64 word bit h other ne
 abbrev pub with_bit : List ℕ → ℕ → List ℕ
 with_bit words n = slice_set words (n / 64) (with_bit_set (slice_index_or words (n / 64) 0) (n % 64))
 
-differs : (a b : ℕ) → a ≢ b → (a == b) ≡ false
-differs a b ne = elim (eqb_tells a b) [
-  | inl same ↦ absurd (ne same.1)
-  | inr apart ↦ apart.0
-]
-
-or_false : (b : Bool) → (b || false) ≡ b
-or_false true = refl
-or_false false = refl
-
-or_true : (b : Bool) → (b || true) ≡ true
-or_true true = refl
-or_true false = refl
-
 -- numbers that agree in word and bit are the same
 same_number : (a b : ℕ) → a / 64 ≡ b / 64 → a % 64 ≡ b % 64 → a ≡ b
 same_number a b h k = sym (div-add-mod' a 64) ∙ rw (h, k) (div-add-mod' b 64)
@@ -57,8 +45,8 @@ module _ (words : List ℕ) (n : ℕ) (long : length words ≡ 16384) (within : 
   other_word : (m : ℕ) → m / 64 ≢ n / 64 → has_bit (with_bit words n) m ≡ (has_bit words m || m == n)
   other_word m ne =
       let kept = get_or-set_other words (n / 64) (m / 64) (with_bit_set (slice_index_or words (n / 64) 0) (n % 64)) 0 ne in
-      let apart = differs m n (λ e. ne (ap (λ k. k / 64) e)) in
-      ap (λ w. bit_at w (m % 64) == 1) kept ∙ sym (or_false (has_bit words m)) ∙ ap (λ b. has_bit words m || b) (sym apart)
+      let apart = ne_eqb m n (λ e. ne (ap (λ k. k / 64) e)) in
+      ap (λ w. bit_at w (m % 64) == 1) kept ∙ sym (or-false (has_bit words m)) ∙ ap (λ b. has_bit words m || b) (sym apart)
 
   same_word : (m : ℕ) → m / 64 ≡ n / 64 → slice_index_or (with_bit words n) (m / 64) 0 ≡ with_bit_set (slice_index_or words (m / 64) 0) (n % 64)
   same_word m e = rw e (get_or-set_same words (n / 64) (with_bit_set (slice_index_or words (n / 64) 0) (n % 64)) 0 inside)
@@ -67,18 +55,15 @@ module _ (words : List ℕ) (n : ℕ) (long : length words ≡ 16384) (within : 
   other_bit m e ne =
       let kept = same_word m e ∙ refl in
       let bit = set_other (slice_index_or words (m / 64) 0) (n % 64) (m % 64) bit_within ne in
-      let apart = differs m n (λ same. ne (ap (λ k. k % 64) same)) in
-      ap (λ w. bit_at w (m % 64) == 1) kept ∙ ap (λ b. b == 1) bit ∙ sym (or_false (has_bit words m)) ∙ ap (λ b. has_bit words m || b) (sym apart)
+      let apart = ne_eqb m n (λ same. ne (ap (λ k. k % 64) same)) in
+      ap (λ w. bit_at w (m % 64) == 1) kept ∙ ap (λ b. b == 1) bit ∙ sym (or-false (has_bit words m)) ∙ ap (λ b. has_bit words m || b) (sym apart)
 
   that_bit : (m : ℕ) → m ≡ n → has_bit (with_bit words n) m ≡ (has_bit words m || m == n)
   that_bit m e =
       let kept = same_word m (ap (λ k. k / 64) e) in
       let bit = set_same (slice_index_or words (m / 64) 0) (n % 64) bit_within in
-      let there : (m == n) ≡ true = rw e (equals n) in
-      ap (λ w. bit_at w (m % 64) == 1) kept ∙ rw (ap (λ k. k % 64) e) (ap (λ b. b == 1) bit) ∙ sym (or_true (has_bit words m)) ∙ ap (λ b. has_bit words m || b) (sym there)
-    where
-      equals : (k : ℕ) → (k == k) ≡ true
-      equals k = grind (arith)
+      let there : (m == n) ≡ true = rw e (eq-eqb n n refl) in
+      ap (λ w. bit_at w (m % 64) == 1) kept ∙ rw (ap (λ k. k % 64) e) (ap (λ b. b == 1) bit) ∙ sym (or-true (has_bit words m)) ∙ ap (λ b. has_bit words m || b) (sym there)
 
   -- one more bit is set, and no other changes
   pub bit_is_set : (m : ℕ) → has_bit (with_bit words n) m ≡ (has_bit words m || m == n)
@@ -98,18 +83,12 @@ pub record IsInside (region : Region) (x y : ℕ) : Type 0 where
   pub top : region.rows.from ≤ y
   pub bottom : y < region.rows.to
 
-le_true : (a b : ℕ) → nat_le a b ≡ true → a ≤ b
-le_true a b h = grind (arith)
-
-lt_true : (a b : ℕ) → nat_lt a b ≡ true → a < b
-lt_true a b h = grind (arith)
-
 pub inside_of : (region : Region) (x y : ℕ) → IsTrue (in_region region x y) → IsInside region x y
 inside_of region x y h =
     let a = and_parts (in_span region.columns x) (in_span region.rows y) h in
     let b = and_parts (nat_le region.columns.from x) (nat_lt x region.columns.to) a.0 in
     let c = and_parts (nat_le region.rows.from y) (nat_lt y region.rows.to) a.1 in
-    record { left = le_true _ _ b.0; right = lt_true _ _ b.1; top = le_true _ _ c.0; bottom = lt_true _ _ c.1 }
+    record { left = leb-true _ _ b.0; right = ltb-true _ _ b.1; top = leb-true _ _ c.0; bottom = ltb-true _ _ c.1 }
 
 module _ (region : Region) (x y : ℕ) (i : IsInside region x y) where
   column_within : (x - region.columns.from) < span_width region.columns
@@ -148,45 +127,27 @@ module _ (region : Region) (words new : List ℕ) (x y : ℕ) (inside : IsTrue (
   abbrev after : StampState
   after = record { region = region; words = new }
 
-  same_bool : (p q : Bool) → (p ≡ true → q ≡ true) → (q ≡ true → p ≡ true) → p ≡ q
-  same_bool true true f g = refl
-  same_bool false false f g = refl
-  same_bool true false f g = sym (f refl)
-  same_bool false true f g = g refl
-
   numbered : (a b : ℕ) → IsTrue (in_region region a b) → (pixel_number region a b == pixel_number region x y) ≡ is_at x y a b
-  numbered a b there = same_bool _ _
+  numbered a b there = same_test _ _
       (λ e.
-      let same = equal_from _ _ e in
+      let same = eqb-true _ _ e in
       let i = inside_of region x y inside in
       let j = inside_of region a b there in
-      and_from (a == x) (b == y) (equal_to a x (same_column region x y a b i j same)) (equal_to b y (same_row region x y a b i j same)))
+      and_from (a == x) (b == y) (eq-eqb a x (same_column region x y a b i j same)) (eq-eqb b y (same_row region x y a b i j same)))
       (λ e.
       let parts = and_parts (a == x) (b == y) e in
-      let p = equal_from a x parts.0 in
-      let q = equal_from b y parts.1 in
-      equal_to _ _ (ap (λ k. pixel_number region k b) p ∙ ap (λ k. pixel_number region x k) q))
-    where
-      equal_from : (p q : ℕ) → (p == q) ≡ true → p ≡ q
-      equal_from p q h = grind (arith)
-
-      equal_to : (p q : ℕ) → p ≡ q → (p == q) ≡ true
-      equal_to p q h = grind (arith)
+      let p = eqb-true a x parts.0 in
+      let q = eqb-true b y parts.1 in
+      eq-eqb _ _ (ap (λ k. pixel_number region k b) p ∙ ap (λ k. pixel_number region x k) q))
 
   no_pixel : (a b : ℕ) → in_region region a b ≡ false → is_at x y a b ≡ false
-  no_pixel a b outside = same_bool _ _
+  no_pixel a b outside = same_test _ _
       (λ e.
       let parts = and_parts (a == x) (b == y) e in
-      let p = equal_from a x parts.0 in
-      let q = equal_from b y parts.1 in
+      let p = eqb-true a x parts.0 in
+      let q = eqb-true b y parts.1 in
       sym outside ∙ ap (λ k. in_region region k b) p ∙ ap (λ k. in_region region x k) q ∙ inside)
-      (λ e. absurd (clash e))
-    where
-      equal_from : (p q : ℕ) → (p == q) ≡ true → p ≡ q
-      equal_from p q h = grind (arith)
-
-      clash : false ≡ true → ⊥
-      clash e = cc
+      (λ e. absurd (false≢true e))
 
   taken_by : (a b : ℕ) (within : Bool) → in_region region a b ≡ within → is_taken after a b ≡ (is_taken before a b || is_at x y a b)
   taken_by a b true e = rw e (bits (pixel_number region a b) ∙ ap (λ t. has_bit words (pixel_number region a b) || t) (numbered a b e))

@@ -5,6 +5,7 @@ use Rattle.canvas.specs.CanvasState.{CanvasState}
 use Rattle.canvas.specs.Writing.{Repaints}
 use Rattle.canvas.specs.WritingLaws.{IsWhole, WritingLaws}
 use Rattle.mapping.specs.Mixes.{mixed_by}
+use Rattle.mapping.specs.TestLaws.{same_test}
 use Rattle.mapping.specs.declared.mix.Mix.{Mix}
 use Rattle.span_fill.specs.Spans.{in_region}
 use Rattle.span_fill.specs.Strokes.{OnePixelForEachStep, far, in_stroke, is_steep, on_line, steps_of}
@@ -13,7 +14,6 @@ use Rattle.span_fill.specs.declared.span.Region.{Region}
 use Rattle.painting.specs.Regions.{HasRegion}
 use Rattle.painting.specs.Stamping.{StampsLine, is_visible}
 use Rattle.painting.specs.Stamps.{StampState, is_taken}
-use Rattle.painting.proofs.TestLemmas.{same_test}
 
 -- a line that ends where it begins has no pixel
 no_steps : (line : Line) → line.from.x ≡ line.to.x → line.from.y ≡ line.to.y → steps_of line ≡ 0

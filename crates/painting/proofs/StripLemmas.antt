@@ -6,6 +6,7 @@ use Rattle.std.proofs.lemmas.Int.{ints, by_lt_z}
 use Rattle.std.proofs.lemmas.Nat.Bits.{bit_at-lt, bit_at_not}
 use Rattle.std.specs.Int.{bit_at, bit_not}
 use Rattle.std.specs.List.{list_any}
+use Rattle.std.proofs.Math.Bool.{or-false, or_self}
 use Rattle.mapping.specs.declared.geometry.Colour.{Colour}
 use Rattle.mapping.specs.declared.geometry.Rect.{Rect}
 use Rattle.mapping.specs.declared.mix.Mix.{Mix}
@@ -15,20 +16,14 @@ use Rattle.canvas.specs.CanvasState.{CanvasState, HasRow}
 use Rattle.canvas.specs.Writing.{Repaints, in_cells, in_row_span}
 use Rattle.canvas.specs.WritingLaws.{IsWhole, WritingLaws}
 use Rattle.canvas.specs.declared.swatch.Swatch.{Swatch}
-use Rattle.dc_stack.specs.Clip.{in_box, is_from_to}
+use Rattle.mapping.specs.PixelBoxes.{in_box, is_from_to}
 use Rattle.span_fill.specs.declared.span.Span.{Span}
 use Rattle.span_fill.specs.Spans.{AreApart, in_spans}
 use Rattle.painting.specs.RowInks.{inked, is_inked}
 use Rattle.painting.specs.declared.row_ink.RowInk.{RowInk}
 use Rattle.painting.specs.declared.row_ink.RowInk.TheVariants.{Full, Nothing}
 use Rattle.painting.specs.Strips.{MayPaint, is_painted, is_uncut}
-use Rattle.painting.proofs.TestLemmas.{is_column}
-
--- tests that are true together are the same
-same_test : (a b : Bool) → (a ≡ true → b ≡ true) → (b ≡ true → a ≡ true) → a ≡ b
-same_test true b h k = sym (h refl)
-same_test false true h k = k refl
-same_test false false h k = refl
+use Rattle.painting.proofs.TestLemmas.{is_column, column_true}
 
 -- a test, and those of it that another has or hasn't
 halves_apart : (s c : Bool) → ((s && c) && (s && not c)) ≡ false
@@ -94,15 +89,6 @@ pub empty_column : (from to x : ℕ) → to ≤ from → is_column from to x ≡
 empty_column from to x h =
     false_from_ne_true _ (λ t. let parts = and_parts (leb from x) (ltb x to) t in let low = leb-true from x parts.0 in let high = ltb-true x to parts.1 in omega arith)
 
--- columns of two tests that share none
-or_same : (b : Bool) → (b || b) ≡ b
-or_same true = refl
-or_same false = refl
-
-or_none : (b : Bool) → (b || false) ≡ b
-or_none true = refl
-or_none false = refl
-
 parts_apart : (r p q u i : Bool) → (p && q) ≡ false → ((r && p && u && i) && (r && q && u && i)) ≡ false
 parts_apart r true true u i h = absurd (true≢false h)
 parts_apart r true false u i h = and_right _ _ (painted_nowhere r false u i refl)
@@ -111,8 +97,8 @@ parts_apart r false q u i h = and_left _ _ (painted_nowhere r false u i refl)
 parts_joined : (r p q u i : Bool) → ((r && p && u && i) || (r && q && u && i)) ≡ (r && (p || q) && u && i)
 parts_joined false p q u i = refl
 parts_joined true false q u i = refl
-parts_joined true true true u i = or_same (u && i)
-parts_joined true true false u i = or_none (u && i)
+parts_joined true true true u i = or_self (u && i)
+parts_joined true true false u i = or-false (u && i)
 
 pub both_painted :
     WritingLaws → (ink : RowInk) (cuts : List Rect) (y : ℕ) (p q : ℕ → Bool) (old between new : CanvasState) → IsWhole old
@@ -123,13 +109,6 @@ pub both_painted :
 both_painted laws ink cuts y p q old between new whole apart r s =
     let joined = laws.both _ _ (by_ink ink) old between new whole (λ x row at. parts_apart (eqb row y) (p x) (q x) (is_uncut cuts x row) (is_inked ink x) (apart x)) r s in
     laws.same _ _ (by_ink ink) (by_ink ink) old new whole (λ x row at. parts_joined (eqb row y) (p x) (q x) (is_uncut cuts x row) (is_inked ink x)) (λ x row c at t. refl) joined
-
--- what it is to be a column between two
-column_parts : (from to x : ℕ) → is_column from to x ≡ true → (from ≤ x) × (x < to)
-column_parts from to x t = let parts = and_parts (leb from x) (ltb x to) t in (leb-true from x parts.0, ltb-true x to parts.1)
-
-column_from : (from to x : ℕ) → from ≤ x → x < to → is_column from to x ≡ true
-column_from from to x a b = and_from _ _ (le-leb from x a) (lt-ltb x to b)
 
 -- the columns on both sides of a part are those that aren't in it
 beside : (from a b to x : ℕ) → from ≤ a → a ≤ b → b ≤ to → (is_column from a x || is_column b to x) ≡ (is_column from to x && not (is_column a b x))
@@ -172,7 +151,7 @@ pub uncut_painted :
     → Repaints (is_painted ink (box ∷ cuts) y (is_column from to)) (by_ink ink) old new
 uncut_painted laws ink box cuts y from a b to old between new whole h k l hides r s =
     let apart : (x : ℕ) → (is_column from a x && is_column b to x) ≡ false =
-    λ x. false_from_ne_true _ (λ t. let both = and_parts (is_column from a x) (is_column b to x) t in let left = column_parts from a x both.0 in let right = column_parts b to x both.1 in omega (arith, left.1, right.0)) in
+    λ x. false_from_ne_true _ (λ t. let both = and_parts (is_column from a x) (is_column b to x) t in let left = column_true from a x both.0 in let right = column_true b to x both.1 in omega (arith, left.1, right.0)) in
     let joined = both_painted laws ink cuts y (is_column from a) (is_column b to) old between new whole apart r s in
     let left_over : (x : ℕ) → (is_column from a x || is_column b to x) ≡ (is_column from to x && not (in_box box x y)) =
     λ x. beside from a b to x h k l ∙ ap (λ (c : Bool). is_column from to x && not c) (sym (hides x)) ∙ without_both (is_column from to x) (in_box box x y) in
@@ -198,7 +177,7 @@ pub spans_painted :
     → Repaints (is_painted ink cuts y (in_spans (span ∷ spans))) (by_ink ink) old new
 spans_painted laws ink cuts y last span spans old between new whole apart r s =
     let shared : (x : ℕ) → (is_column span.from span.to x && in_spans spans x) ≡ false =
-    λ x. false_from_ne_true _ (λ t. let both = and_parts (is_column span.from span.to x) (in_spans spans x) t in let here = column_parts span.from span.to x both.0 in let high = here.1 in true≢false (sym both.1 ∙ spans_begin (suc span.to) last x spans apart (omega (arith, high)))) in
+    λ x. false_from_ne_true _ (λ t. let both = and_parts (is_column span.from span.to x) (in_spans spans x) t in let here = column_true span.from span.to x both.0 in let high = here.1 in true≢false (sym both.1 ∙ spans_begin (suc span.to) last x spans apart (omega (arith, high)))) in
     both_painted laws ink cuts y (is_column span.from span.to) (in_spans spans) old between new whole shared r s
 
 -- What of a row's spans is painted: columns before `behind` only, and who paints the spans that are left has painted all.
@@ -252,21 +231,6 @@ may_paint_next ink cuts y all spans span start now h room =
     let counted = h.count in
     let width = h.width in
     record { whole = h.whole; order = omega (arith, order); width = omega (arith, high, width); row = h.row; countable = omega (arith, low, order, high, counted, room) }
-
--- before the first
-pub none_painted_yet :
-    (ink : RowInk) (cuts : List Rect) (y : ℕ) (spans : List Span) (start : CanvasState) → IsWhole start → HasRow start y
-    → AreApart 0 start.width spans → HasPainted ink cuts y spans spans start start
-none_painted_yet ink cuts y spans start whole row apart = record {
-  behind = 0;
-  apart = apart;
-  within = omega arith;
-  count = omega arith;
-  width = refl;
-  row = row;
-  whole = whole;
-  goes_on = λ new r. r;
-}
 
 -- spans that are apart from a column on are so from one before it
 apart_from : (first last lower : ℕ) (spans : List Span) → lower ≤ first → AreApart first last spans → AreApart lower last spans
@@ -329,49 +293,3 @@ full_span laws swatch y from to now new whole r =
     alike true true false = refl
     alike true false to = refl
     alike false from to = refl
-
--- tests of integers, as facts
-le_true : (a b : ℤ) → a ≤ℤ b → int_le a b ≡ true
-le_true a b h = grind (arith, ints)
-
-true_le : (a b : ℤ) → int_le a b ≡ true → a ≤ℤ b
-true_le a b h = grind (arith, ints)
-
-lt_true : (a b : ℤ) → a <ℤ b → int_lt a b ≡ true
-lt_true a b h = grind (arith, ints)
-
-true_lt : (a b : ℤ) → int_lt a b ≡ true → a <ℤ b
-true_lt a b h = grind (arith, ints)
-
--- The columns of [from, to) that are in a box are those from the first that isn't before its left on, up to the
--- first that isn't before its right.
-pub hidden_within :
-    (box : Rect) (y from a b to x : ℕ) → from ≤ a → a ≤ b → b ≤ to
-    → ((n : ℕ) → from ≤ n → n < to → (n < a) ↔ (pos n <ℤ box.l))
-    → ((n : ℕ) → a ≤ n → n < to → (n < b) ↔ (pos n <ℤ box.r))
-    → is_from_to box.t box.b y ≡ true
-    → (is_column from to x && in_box box x y) ≡ is_column a b x
-hidden_within box y from a b to x h k l left right row =
-    same_test _ _
-    (λ t.
-    let parts = and_parts (is_column from to x) (in_box box x y) t in
-    let column = column_parts from to x parts.0 in
-    let low = column.0 in
-    let high = column.1 in
-    let inner = and_parts (is_from_to box.l box.r x) (is_from_to box.t box.b y) parts.1 in
-    let tests = and_parts (int_le box.l (pos x)) (int_lt (pos x) box.r) inner.0 in
-    let from_left : box.l ≤ℤ pos x = true_le box.l (pos x) tests.0 in
-    let start : a ≤ x = elim (cases_lt x a) [ inl below ↦ let out : pos x <ℤ box.l = (left x low high).0 below in absurd (omega (arith, ints)) | inr above ↦ above ] in
-    column_from a b x start ((right x start high).1 (true_lt (pos x) box.r tests.1)))
-    (λ t.
-    let column = column_parts a b x t in
-    let low = column.0 in
-    let high = column.1 in
-    let within : x < to = omega arith in
-    let above : from ≤ x = omega arith in
-    let from_left : box.l ≤ℤ pos x = by_lt_z (pos x) box.l (λ out. let below : x < a = (left x above within).1 out in absurd (omega arith)) (λ fine. fine) in
-    and_from _ _ (column_from from to x above within) (and_from _ _ (and_from _ _ (le_true box.l (pos x) from_left) (lt_true (pos x) box.r ((right x low within).0 high))) row))
-
--- and in a row that the box isn't in, none is
-pub hidden_nowhere : (box : Rect) (y from to x : ℕ) → is_from_to box.t box.b y ≡ false → (is_column from to x && in_box box x y) ≡ is_column from from x
-hidden_nowhere box y from to x row = and_right _ _ (and_right _ _ row) ∙ sym (empty_column from from x (omega arith))

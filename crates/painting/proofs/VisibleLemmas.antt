@@ -2,10 +2,13 @@
 use Rattle.std.proofs.Common.{◌≡◌, ℕ, suc, Bool, true, not, ◌&&◌, List, [], ◌∷◌, length, map, arith, refl, ap, sym, ◌∙◌, ◌==◌}
 use Rattle.std.proofs.lemmas.Bool.{and_from, and_parts}
 use Rattle.std.specs.List.{list_any}
+use Rattle.mapping.specs.TestLaws.{same_test}
+use Rattle.mapping.specs.declared.geometry.Colour.{Colour}
 use Rattle.mapping.specs.declared.geometry.Rect.{Rect}
 use Rattle.canvas.specs.CanvasState.{CanvasState, HasPixel}
 use Rattle.canvas.specs.WritingLaws.{IsWhole, WritingLaws}
-use Rattle.dc_stack.specs.Clip.{ClipValue, in_box, in_boxes, in_kept}
+use Rattle.mapping.specs.PixelBoxes.{in_box}
+use Rattle.dc_stack.specs.Clip.{ClipValue, in_boxes, in_kept}
 use Rattle.dc_stack.specs.Values.{cuts_of, placed_value}
 use Rattle.dc_stack.specs.declared.clip.Clip.{Clip}
 use Rattle.dc_stack.specs.declared.clip.ClipBox.{ClipBox}
@@ -16,7 +19,6 @@ use Rattle.painting.specs.PenStrokes.{stroke_paint}
 use Rattle.painting.specs.Regions.{HasRegion, HasVisible}
 use Rattle.painting.specs.declared.stroke.Stroke.{Stroke}
 use Rattle.painting.proofs.StampLemmas.{inside_of}
-use Rattle.painting.proofs.TestLemmas.{same_test}
 
 -- a canvas that has a region has its pixels
 pub region_pixel : (canvas : CanvasState) (region : Region) → HasRegion canvas region → (x y : ℕ) → in_region region x y ≡ true → HasPixel canvas x y

@@ -10,9 +10,10 @@ use Rattle.draw_ops.specs.Objects.{brush_value_of}
 use Rattle.draw_ops.specs.declared.ternary_op.TernaryOp.{TernaryOp}
 use Rattle.raster_ops.specs.Paints.{brush_paint}
 use Rattle.raster_ops.specs.Sources.{source_colour}
-use Rattle.raster_ops.specs.TernaryOps.{ternary_colour, uses_pattern}
+use Rattle.raster_ops.specs.TernaryOps.{uses_pattern, ternary_colour}
+use Rattle.mapping.specs.PixelBoxes.{in_box}
+use Rattle.dc_stack.specs.Clip.{in_boxes}
 use Rattle.raster_ops.specs.declared.sources.SourceReader.{SourceReader}
-use Rattle.dc_stack.specs.Clip.{in_box, in_boxes}
 use Rattle.mapping.specs.Boxes.{box_between}
 use Rattle.mapping.specs.Surface.{Surface, placed_point}
 use Rattle.dc_stack.specs.Values.{placed_value}

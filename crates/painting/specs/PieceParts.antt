@@ -3,9 +3,8 @@ use Rattle.std.specs.Prelude.{List, [], ◌∷◌}
 use Rattle.mapping.specs.declared.geometry.Point.{Point}
 use Rattle.point_views.specs.Points.{points_of}
 use Rattle.point_views.specs.PartedPoints.{parts_of}
-use Rattle.mapping.specs.Boxes.{box_between}
+use Rattle.mapping.specs.Boxes.{box_between, left_top_of, right_bottom_of}
 use Rattle.dc_stack.specs.Figures.{box_corners}
-use Rattle.dc_stack.specs.Mapped.{left_top_of, right_bottom_of}
 use Rattle.dc_stack.specs.Projected.{projected}
 use Rattle.dc_stack.specs.declared.piece.PiecePoints.{PiecePoints}
 use Rattle.dc_stack.specs.declared.piece.PiecePoints.TheVariants.{Point as OnePoint, List as OneList, Lists, Corners}

@@ -6,14 +6,16 @@ use Rattle.mapping.specs.Surface.{Surface, lands_within_limits}
 use Rattle.mapping.specs.declared.geometry.Point.{Point}
 use Rattle.mapping.specs.declared.geometry.Rect.{Rect}
 use Rattle.canvas.specs.CanvasState.{CanvasState, HasPixel}
-use Rattle.dc_stack.specs.Clip.{ClipValue, in_box, in_kept}
+use Rattle.mapping.specs.PixelBoxes.{in_box}
+use Rattle.dc_stack.specs.Clip.{ClipValue, in_kept}
 use Rattle.preflight_cert.specs.DrawingBoxLaws.{Reaches}
 use Rattle.span_fill.specs.Spans.{in_region}
 use Rattle.span_fill.specs.declared.span.Region.{Region}
 use Rattle.span_fill.specs.declared.span.Span.{Span}
 
--- the ends of a span are at most 8,192, the longest side of a surface
+-- the ends of a span are in order, and at most 8,192, the longest side of a surface
 pub record IsOfSide (span : Span) : Type 0 where
+  pub order : span.from ≤ span.to
   pub from : span.from ≤ 8192
   pub to : span.to ≤ 8192
 

@@ -8,8 +8,8 @@ use Rattle.mapping.specs.Mixes.{mixed_by}
 use Rattle.mapping.specs.Pixels.{is_cell}
 use Rattle.mapping.specs.declared.geometry.Colour.{Colour}
 use Rattle.mapping.specs.declared.geometry.Rect.{Rect}
+use Rattle.mapping.specs.PixelBoxes.{in_box}
 use Rattle.mapping.specs.declared.mix.Mix.{Mix}
-use Rattle.dc_stack.specs.Clip.{in_box}
 use Rattle.dc_stack.specs.declared.clip.ClipBox.{ClipBox}
 use Rattle.span_fill.specs.declared.span.Span.{Span}
 use Rattle.painting.specs.RowInks.{inked, is_inked}

@@ -1,7 +1,7 @@
 //! The inside of outlines and of boxes, painted row by row.
 
 ghost use Rattle.std.specs.Prelude.{◌≡◌, ◌≤◌, ℕ, None, true, length, IfSome};
-ghost use Rattle.dc_stack.specs.Clip.{in_box};
+ghost use Rattle.mapping.specs.PixelBoxes.{in_box};
 ghost use Rattle.painting.specs.Brushings.{brushing_paint, in_inside};
 ghost use Rattle.painting.specs.Counts.{CountsLayer, HasRoomForLayer};
 ghost use Rattle.painting.specs.Painted.{PaintsShape};

@@ -3,9 +3,8 @@
 ghost use Rattle.std.specs.Prelude.{◌≡◌, [], ◌∷◌, IfSome, IsTrue};
 ghost use Rattle.mapping.specs.PlaceOf.{surface_of};
 ghost use Rattle.point_views.specs.Polys.{lists_of};
-ghost use Rattle.mapping.specs.Boxes.{box_between};
+ghost use Rattle.mapping.specs.Boxes.{box_between, left_top_of, right_bottom_of};
 ghost use Rattle.dc_stack.specs.Figures.{box_corners};
-ghost use Rattle.dc_stack.specs.Mapped.{left_top_of, right_bottom_of};
 ghost use Rattle.dc_stack.specs.Pieces.{AllLandOn, LandsOn, page_lists};
 ghost use Rattle.dc_stack.specs.Projected.{is_projected, projected};
 ghost use Rattle.span_fill.specs.Lines.{GivesFirst};
@@ -75,19 +74,12 @@ fn place_corners(by: Projection, corners: Rect) -> PlacedPoints
     requires second { IsTrue (is_projected by (right_bottom_of corners)) }
     ensures { few_points result.points ≡ box_corners (box_between (projected by (left_top_of corners)) (projected by (right_bottom_of corners))) }
 {
-    let (first, second) = two_corners(corners);
-    let inside = between(by.at(first), by.at(second));
+    let first = by.at(corners.left_top());
+    let second = by.at(corners.right_bottom());
+    let inside = between(first, second);
     PlacedPoints {
         points: corners_of(inside),
     }
-}
-
-/// The left top of a box, and its right bottom.
-fn two_corners(corners: Rect) -> (Point, Point)
-    ensures first { result.0 ≡ left_top_of corners }
-    ensures second { result.1 ≡ right_bottom_of corners }
-{
-    (point(corners.l, corners.t), point(corners.r, corners.b))
 }
 
 /// The corners of a box, from the left top one round by the right.

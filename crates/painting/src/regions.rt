@@ -3,7 +3,8 @@
 ghost use Rattle.std.specs.Prelude.{◌≡◌, ◌≤◌, ◌<◌, ◌+◌, ◌*◌, ◌^◌, ◌&&◌, ◌↔◌, ◌+ℤ◌, ◌*ℤ◌, ◌<ℤ◌, IsTrue, int_lt, pos, true, ℕ};
 ghost use Rattle.canvas.specs.CanvasState.{HasPixel};
 ghost use Rattle.canvas.specs.WritingLaws.{IsWhole};
-ghost use Rattle.dc_stack.specs.Clip.{in_box, in_kept, is_from_to, placed_box};
+ghost use Rattle.mapping.specs.PixelBoxes.{in_box, is_from_to};
+ghost use Rattle.dc_stack.specs.Clip.{in_kept, placed_box};
 ghost use Rattle.dc_stack.specs.Values.{placed_value};
 ghost use Rattle.mapping.specs.PlaceOf.{surface_of};
 ghost use Rattle.mapping.specs.Surface.{placed};
@@ -15,11 +16,8 @@ use crate::rectangles::rectangle_box;
 use canvas::Canvas;
 use dc_stack::Clip;
 use draw_ops::RectangleEdges;
-use mapping::{Place, Point, Rect, box_law, floor_division_law, placing_law};
+use mapping::{Place, Rect, box_law, floor_division_law, placing_law};
 use span_fill::{Region, Span};
-
-/// The longest side of a surface.
-const MAX_SIDE: i64 = 8192;
 
 /// The law of canvases: each is whole, and has at most 8,192 columns and 2^26 pixels.
 pub(crate) fn whole_law(canvas: &Canvas)
@@ -89,8 +87,12 @@ pub(crate) fn common(region: Region, inside: Rect) -> Region
     ensures has_rows { (n : ℕ) → in_span result.rows n ≡ in_span region.rows n && is_from_to inside.t inside.b n }
 {
     Region {
-        columns: narrowed(region.columns, i64::from(inside.l), i64::from(inside.r)),
-        rows: narrowed(region.rows, i64::from(inside.t), i64::from(inside.b)),
+        columns: region
+            .columns
+            .between(i64::from(inside.l), i64::from(inside.r)),
+        rows: region
+            .rows
+            .between(i64::from(inside.t), i64::from(inside.b)),
     }
 }
 
@@ -101,14 +103,8 @@ pub(crate) fn landed_box(place: Place, bounds: Rect) -> Rect
 {
     box_law();
     placing_law();
-    let near = place.place(Point {
-        x: bounds.l,
-        y: bounds.t,
-    });
-    let far = place.place(Point {
-        x: bounds.r,
-        y: bounds.b,
-    });
+    let near = place.place(bounds.left_top());
+    let far = place.place(bounds.right_bottom());
     match (near, far) {
         (Some(near), Some(far)) => rectangle_box(near, far, RectangleEdges::Inclusive),
         // (there is no point)
@@ -140,32 +136,4 @@ fn product(row: i32, height: u32) -> i64
     ensures { result ≡ row *ℤ pos height }
 {
     i64::from(row) * i64::from(height)
-}
-
-/// What a span has of the numbers from one on, up to before another.
-fn narrowed(span: Span, from: i64, to: i64) -> Span
-    requires { IsOfSide span }
-    ensures side { IsOfSide result }
-    ensures from { span.from ≤ result.from }
-    ensures to { result.to ≤ span.to }
-    ensures numbers { (n : ℕ) → in_span result n ≡ in_span span n && is_from_to from to n }
-{
-    Span {
-        from: span.from.max(clamped(from)),
-        to: span.to.min(clamped(to)),
-    }
-}
-
-/// The number from 0 to 8,192 that is nearest.
-fn clamped(number: i64) -> u32
-    ensures most { result ≤ 8192 }
-    ensures before { (n : ℕ) → n < 8192 → (n < result) ↔ (pos n <ℤ number) }
-{
-    if number <= 0 {
-        0
-    } else if number >= MAX_SIDE {
-        8192
-    } else {
-        number as u32
-    }
 }

@@ -1,10 +1,10 @@
 //! Parts of a row, painted: what an ink writes of some columns, of them what no box cuts out, and of a
 //! whole row's spans.
 
-ghost use Rattle.std.specs.Prelude.{◌≡◌, ◌+◌, ◌*◌, ◌<◌, ◌≤◌, ◌^◌, ◌<ℤ◌, ◌↔◌, pos, ◌&&◌, ℕ, [], slice_index_or};
+ghost use Rattle.std.specs.Prelude.{◌≡◌, ◌+◌, ◌*◌, ◌<◌, ◌≤◌, ◌^◌, ◌&&◌, ℕ, [], slice_index_or};
+ghost use Rattle.mapping.specs.PixelBoxes.{in_box};
 ghost use Rattle.canvas.specs.CanvasState.{HasRow};
 ghost use Rattle.canvas.specs.WritingLaws.{IsWhole};
-ghost use Rattle.dc_stack.specs.Clip.{in_box, is_from_to};
 ghost use Rattle.span_fill.specs.Spans.{AreApart, in_span, in_spans};
 ghost use Rattle.painting.specs.RowInks.{mixed_at};
 ghost use Rattle.painting.specs.Strips.{CountsOnce, MakesCells, MakesColumns, MayPaint, PutsInk, mixed_cells, placed_boxes};
@@ -127,39 +127,13 @@ fn hidden(cut: Rect, y: u32, columns: Span) -> Span
     ensures order { result.from ≤ result.to }
     ensures last { result.to ≤ columns.to }
 {
-    let Span { from, to } = columns;
-    if !has_row(cut, y) {
-        return Span { from, to: from };
+    if !cut.has_row(y) {
+        return Span {
+            from: columns.from,
+            to: columns.from,
+        };
     }
-    let first = within(cut.l, from, to);
-    Span {
-        from: first,
-        to: within(cut.r, first, to),
-    }
-}
-
-/// Whether a row is one of a box: from its top on, up to before its bottom.
-fn has_row(cut: Rect, y: u32) -> bool
-    ensures { result ≡ is_from_to cut.t cut.b y }
-{
-    i64::from(cut.t) <= i64::from(y) && i64::from(y) < i64::from(cut.b)
-}
-
-/// The number that is nearest to a coordinate, of those from one on up to another.
-fn within(coordinate: i32, least: u32, most: u32) -> u32
-    requires { least ≤ most }
-    ensures least { least ≤ result }
-    ensures most { result ≤ most }
-    ensures before { (x : ℕ) → least ≤ x → x < most → (x < result) ↔ (pos x <ℤ coordinate) }
-{
-    let wide = i64::from(coordinate);
-    if wide <= i64::from(least) {
-        least
-    } else if i64::from(most) <= wide {
-        most
-    } else {
-        wide as u32
-    }
+    columns.between(i64::from(cut.l), i64::from(cut.r))
 }
 
 /// Writes what an ink makes of those columns of a row that no box cuts out.

@@ -1,7 +1,7 @@
 //! The one way in which lines are stroked.
 
 ghost use Rattle.std.specs.Prelude.{◌≡◌, ◌<◌, ◌≤◌, ℕ, true, length};
-ghost use Rattle.dc_stack.specs.Clip.{in_box};
+ghost use Rattle.mapping.specs.PixelBoxes.{in_box};
 ghost use Rattle.dc_stack.specs.Values.{placed_value};
 ghost use Rattle.preflight_cert.specs.Rectangles.{rectangle_lines};
 ghost use Rattle.span_fill.specs.Strokes.{in_stroke};

@@ -35,12 +35,6 @@ module _ (content : Content) (c : CertificateValue) (noted : List ℕ) (m new : 
   accepted_on : total_fault new.needs totals.writes c ≡ None → accepted ≡ answer_on content m.state m.surface m.needs c
   accepted_on e = rw (checks.in_order, total_on None e) refl
 
-  refused_on : (fault : Fault) → total_fault new.needs totals.writes c ≡ Some fault → refuses None fault ≡ answer_on content m.state m.surface m.needs c
-  refused_on fault e = rw (checks.in_order, total_on (Some fault) e) refl
-
-stopped_on : (content : Content) (c : CertificateValue) (m : MachineState) (r : Refusal) → StopsCheck content m c.entries r → refuses r.number r.fault ≡ answer_on content m.state m.surface m.needs c
-stopped_on content c m r h = rw (h.stops, h.number, h.fault) refl
-
 same_answer : (content : Content) (o : OpenedValue) (c : CertificateValue) (m : MachineState) → IsAtStart o (bound_of o c) m → answer_on content m.state m.surface m.needs c ≡ answer_to content o c
 same_answer content o c m at =
     ap (λ (state : State). answer_on content state m.surface m.needs c) at.state
@@ -51,13 +45,6 @@ module _ (content : Content) (o : OpenedValue) (records : List ℕ) (c : Certifi
   pub records_accepted : (noted : List ℕ) (new : MachineState) (totals : Totals) → Checks content m c.entries noted totals new → total_fault new.needs totals.writes c ≡ None → RecordsAnswer o records c accepted
   records_accepted noted new totals checks none =
       record { content = content; of_records = of_records; answers = accepted_on content c noted m new totals checks none ∙ same_answer content o c m at }
-
-  pub records_refused : (noted : List ℕ) (new : MachineState) (totals : Totals) (fault : Fault) → Checks content m c.entries noted totals new → total_fault new.needs totals.writes c ≡ Some fault → RecordsAnswer o records c (refuses None fault)
-  records_refused noted new totals fault checks some =
-      record { content = content; of_records = of_records; answers = refused_on content c noted m new totals checks fault some ∙ same_answer content o c m at }
-
-  pub records_stopped : (r : Refusal) → StopsCheck content m c.entries r → RecordsAnswer o records c (refuses r.number r.fault)
-  records_stopped r stops = record { content = content; of_records = of_records; answers = stopped_on content c m r stops ∙ same_answer content o c m at }
 
 -- what was counted of one content is counted of the records
 pub records_counted :

@@ -1,23 +1,14 @@
--- A box has all points exactly where it has two corners of the least box around them.
+-- A box has all points exactly where it has the least box around them.
 use Rattle.std.proofs.Common.{◌≡◌, ℤ, ◌≤ℤ◌, ◌<ℤ◌, Bool, true, false, ◌&&◌, int_le, int_lt, List, [], ◌∷◌, get_or, refl, sym, ap, arith}
 use Rattle.std.specs.List.{All, Any, list_all}
 use Rattle.std.proofs.lemmas.Bool.{and_from, and_parts}
 use Rattle.std.proofs.lemmas.Int.{ints}
 use Rattle.std.proofs.lemmas.List.Elements.{All-cons, All-head, All-nil, All-tail}
-use Rattle.mapping.specs.Boxes.{HasPoint, IsLeastBox, IsTight}
+use Rattle.mapping.specs.Boxes.{HasPoint, IsLeastBox, IsTight, has_box, has_part}
+use Rattle.mapping.specs.TestLaws.{int_le-from, int_le-true, same_test}
 use Rattle.mapping.specs.declared.geometry.Point.{Point}
 use Rattle.mapping.specs.declared.geometry.Rect.{Rect}
-use Rattle.preflight_cert.specs.Corners.{has_corners, has_span}
 use Rattle.preflight_cert.specs.Entries.{covers, has_point}
-
-pub le_true : (u v : ℤ) → int_le u v ≡ true → u ≤ℤ v
-le_true u v h = grind (arith, ints)
-
-pub le_from : (u v : ℤ) → u ≤ℤ v → int_le u v ≡ true
-le_from u v h = grind (arith, ints)
-
-lt_not : (u v : ℤ) → v ≤ℤ u → int_lt u v ≡ false
-lt_not u v h = grind (arith, ints)
 
 -- the test of a point, as a fact
 pub point_in : (box : Rect) (p : Point) → has_point box p ≡ true → HasPoint box p
@@ -25,13 +16,13 @@ point_in box p t =
     let a = and_parts (int_le box.l p.x && int_le p.x box.r) (int_le box.t p.y && int_le p.y box.b) t in
     let b = and_parts (int_le box.l p.x) (int_le p.x box.r) a.0 in
     let c = and_parts (int_le box.t p.y) (int_le p.y box.b) a.1 in
-    record { left = le_true box.l p.x b.0; top = le_true box.t p.y c.0; right = le_true p.x box.r b.1; bottom = le_true p.y box.b c.1 }
+    record { left = int_le-true box.l p.x b.0; top = int_le-true box.t p.y c.0; right = int_le-true p.x box.r b.1; bottom = int_le-true p.y box.b c.1 }
 
 pub point_of : (box : Rect) (p : Point) → HasPoint box p → has_point box p ≡ true
 point_of box p h =
     and_from (int_le box.l p.x && int_le p.x box.r) (int_le box.t p.y && int_le p.y box.b)
-    (and_from (int_le box.l p.x) (int_le p.x box.r) (le_from box.l p.x h.left) (le_from p.x box.r h.right))
-    (and_from (int_le box.t p.y) (int_le p.y box.b) (le_from box.t p.y h.top) (le_from p.y box.b h.bottom))
+    (and_from (int_le box.l p.x) (int_le p.x box.r) (int_le-from box.l p.x h.left) (int_le-from p.x box.r h.right))
+    (and_from (int_le box.t p.y) (int_le p.y box.b) (int_le-from box.t p.y h.top) (int_le-from p.y box.b h.bottom))
 
 pub points_in : (box : Rect) (ps : List Point) → covers box ps ≡ true → All (HasPoint box) ps
 points_in box [] t = All-nil (HasPoint box)
@@ -43,11 +34,6 @@ pub points_of : (box : Rect) (ps : List Point) → All (HasPoint box) ps → cov
 points_of box [] all = refl
 points_of box (p ∷ ps) all =
     and_from (has_point box p) (list_all (has_point box) ps) (point_of box p (All-head (HasPoint box) p ps all)) (points_of box ps (All-tail (HasPoint box) p ps all))
-
-same_truth : (a b : Bool) → (a ≡ true → b ≡ true) → (b ≡ true → a ≡ true) → a ≡ b
-same_truth true b f g = sym (f refl)
-same_truth false true f g = g refl
-same_truth false false f g = refl
 
 -- what holds of some point holds of one of which all that holds of each does
 of_some : {R : Type 0} (P Q : Point → Type 0) (ps : List Point) → Any P ps → All Q ps → ((x : Point) → P x → Q x → R) → R
@@ -77,24 +63,24 @@ has_within box least c p h =
 all_within : (box least : Rect) (ps : List Point) → HasCorners box least → All (HasPoint least) ps → All (HasPoint box) ps
 all_within box least ps c all = λ k d below. has_within box least c (get_or ps k d) (all k d below)
 
-test_of : (box least : Rect) → HasCorners box least → has_corners box least ≡ true
+test_of : (box least : Rect) → HasCorners box least → has_box box least ≡ true
 test_of box least c =
-    and_from (has_span box.l least.l least.r box.r) (has_span box.t least.t least.b box.b)
-    (and_from (int_le box.l least.l) (int_le least.r box.r) (le_from box.l least.l c.left) (le_from least.r box.r c.right))
-    (and_from (int_le box.t least.t) (int_le least.b box.b) (le_from box.t least.t c.top) (le_from least.b box.b c.bottom))
+    and_from (has_part box.l box.r least.l least.r) (has_part box.t box.b least.t least.b)
+    (and_from (int_le box.l least.l) (int_le least.r box.r) (int_le-from box.l least.l c.left) (int_le-from least.r box.r c.right))
+    (and_from (int_le box.t least.t) (int_le least.b box.b) (int_le-from box.t least.t c.top) (int_le-from least.b box.b c.bottom))
 
-from_test : (box least : Rect) → has_corners box least ≡ true → HasCorners box least
+from_test : (box least : Rect) → has_box box least ≡ true → HasCorners box least
 from_test box least t =
-    let a = and_parts (has_span box.l least.l least.r box.r) (has_span box.t least.t least.b box.b) t in
+    let a = and_parts (has_part box.l box.r least.l least.r) (has_part box.t box.b least.t least.b) t in
     let b = and_parts (int_le box.l least.l) (int_le least.r box.r) a.0 in
     let c = and_parts (int_le box.t least.t) (int_le least.b box.b) a.1 in
-    record { left = le_true box.l least.l b.0; top = le_true box.t least.t c.0; right = le_true least.r box.r b.1; bottom = le_true least.b box.b c.1 }
+    record { left = int_le-true box.l least.l b.0; top = int_le-true box.t least.t c.0; right = int_le-true least.r box.r b.1; bottom = int_le-true least.b box.b c.1 }
 
 pub corners_cover : (box least : Rect) (ps : List Point) → least.l ≤ℤ least.r → IsLeastBox least ps →
-    has_corners box least ≡ covers box ps
+    has_box box least ≡ covers box ps
 corners_cover box least [] order is = absurd (let a = ap (λ (r : Rect). r.l) is in let b = ap (λ (r : Rect). r.r) is in omega (arith, ints, order, a, b))
 corners_cover box least (p ∷ ps) order tight =
-    same_truth _ _
+    same_test _ _
     (λ t. points_of box (p ∷ ps) (all_within box least (p ∷ ps) (from_test box least t) tight.all))
     (λ t. test_of box least (corners box least (p ∷ ps) tight (points_in box (p ∷ ps) t)))
 

@@ -22,6 +22,7 @@ use Rattle.dc_stack.specs.declared.draw.Painting.TheVariants.{Fill, Stroke, Stro
 use Rattle.preflight_cert.specs.Budget.{layer_cells, layers_budget}
 use Rattle.mapping.specs.CellLaws.{CellLaws}
 use Rattle.mapping.specs.Cells.{lies_from_to}
+use Rattle.mapping.specs.TestLaws.{int_le-from}
 use Rattle.preflight_cert.specs.DrawingBoxLaws.{DrawingBoxLaws, IsClosedShape, Reaches, shape_points}
 use Rattle.preflight_cert.specs.FigureLines.{all_closed}
 use Rattle.preflight_cert.specs.Layer.{Layer, figures_filled, figures_stroked, fills_of, filled_with, layers_of, plain_layers_of, stroked_with, strokes_of}
@@ -32,7 +33,6 @@ use Rattle.preflight_cert.specs.StrokedOutline.{Outline, along, outline_points, 
 use Rattle.preflight_cert.specs.Writes.{writes_of_layer, writes_of_layers, writes_pixel}
 use Rattle.preflight_cert.proofs.OutlineLemmas.{closed_all, closed_points}
 use Rattle.preflight_cert.proofs.ShapeLemmas.{shape_reaches}
-use Rattle.preflight_cert.proofs.TestLemmas.{int_le-from}
 
 -- a box has the points of a shape that isn't the inside of open figures
 pub record IsShapeIn (box : Rect) (shape : Shape) : Type 0 where

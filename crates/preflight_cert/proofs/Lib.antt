@@ -1,5 +1,4 @@
 pub mod RunLemmas
-pub mod TestLemmas
 pub mod OutlineLemmas
 pub mod ShapeLemmas
 pub mod LayerLemmas

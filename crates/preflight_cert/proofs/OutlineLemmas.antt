@@ -4,6 +4,7 @@ use Rattle.std.specs.List.{All}
 use Rattle.std.proofs.lemmas.Int.{ints, by_lt_z}
 use Rattle.std.proofs.lemmas.List.Elements.{All-append, All-cons, All-head, All-map, All-nil, All-tail, All-weaker}
 use Rattle.mapping.specs.Surface.{Surface, placed_point}
+use Rattle.mapping.specs.TestLaws.{int_le-from, int_le-not, int_lt-from, int_lt-not}
 use Rattle.mapping.specs.declared.geometry.Point.{Point}
 use Rattle.dc_stack.specs.Boxes.{placed_list}
 use Rattle.dc_stack.specs.Figures.{Figure, points_of_figures}
@@ -13,7 +14,6 @@ use Rattle.span_fill.specs.LineBoxes.{IsBalanced, met_downwards, met_upwards}
 use Rattle.preflight_cert.specs.DrawingBoxLaws.{IsClosedFigure}
 use Rattle.preflight_cert.specs.FigureLines.{all_closed, figure_lines, lines_along, placed_figure, placed_figures}
 use Rattle.preflight_cert.specs.Outlines.{closed_lines, line_from, lines_after, lines_round, open_lines}
-use Rattle.preflight_cert.proofs.TestLemmas.{int_le-from, int_le-not, int_lt-from, int_lt-not}
 
 -- what holds of a list holds of its parts
 pub all_front : {X : Type 0} (P : X → Type 0) (xs ys : List X) → All P (xs ++ ys) → All P xs

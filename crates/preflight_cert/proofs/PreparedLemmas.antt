@@ -81,9 +81,6 @@ module _ (content : Content) (o : OpenedValue) (records : List ℕ) (width heigh
   same_stop : stop_of content m.state m.surface ≡ stop_of content (start_of o) (surface_for o width height)
   same_stop = ap (λ (state : State). stop_of content state m.surface) at.state ∙ ap (λ (s : Surface). stop_of content (start_of o) s) at.surface
 
-  pub records_stop : (r : Refusal) → StopsGathering content m r → StopsOpened o records width height r
-  records_stop r h = record { content = content; of_records = of_records; stops = record { at = h.at; stops = sym same_stop ∙ h.stops; number = h.number; fault = h.fault } }
-
   module _ (noted : List ℕ) (totals : Totals) (new : MachineState) (after : List ℕ) (h : Gathers content m [] noted totals new after) where
     unstopped : stop_of content (start_of o) (surface_for o width height) ≡ None
     unstopped = sym same_stop ∙ h.unstopped

@@ -17,17 +17,17 @@ use Rattle.span_fill.specs.Strokes.{in_stroke}
 use Rattle.span_fill.specs.declared.fill_rule.FillRule.{FillRule}
 use Rattle.span_fill.specs.declared.fill_rule.FillRule.TheVariants.{EvenOdd, NonZero}
 use Rattle.span_fill.specs.declared.line.Line.{Line}
-use Rattle.dc_stack.specs.Clip.{in_box, is_from_to, placed_box}
+use Rattle.dc_stack.specs.Clip.{placed_box}
 use Rattle.preflight_cert.specs.DrawingBoxLaws.{IsClosedShape, Reaches, shape_points}
 use Rattle.preflight_cert.specs.FigureLines.{lines_along, placed_figures}
 use Rattle.span_fill.specs.LineBoxes.{HasLine, IsBalanced, LineBoxLaws}
 use Rattle.preflight_cert.specs.Outlines.{closed_lines}
-use Rattle.mapping.specs.PixelBoxes.{BoxHasPixel}
+use Rattle.mapping.specs.PixelBoxes.{BoxHasPixel, in_box, is_from_to}
+use Rattle.mapping.specs.TestLaws.{int_le-true, int_lt-true}
 use Rattle.preflight_cert.specs.Rectangles.{corner_pixels, has_inside, raised, rectangle_on}
 use Rattle.preflight_cert.specs.Shape.{Shape, fill_rule_of, in_shape, inside_figures, inside_rectangle, pixel_under, stroke_of}
 use Rattle.preflight_cert.specs.StrokedOutline.{Outline, along, outline_lines, outline_points, round}
 use Rattle.preflight_cert.proofs.OutlineLemmas.{BothEnds, ends_along, ends_closed, figures_balanced}
-use Rattle.preflight_cert.proofs.TestLemmas.{int_le-true, int_lt-true}
 
 -- a placed point of a box: the box has something, and where it lands it has the point
 record IsIn (box : Rect) (s : Surface) (point : Point) : Type 0 where

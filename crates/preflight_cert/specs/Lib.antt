@@ -29,7 +29,6 @@ pub mod CertificateOf
 pub mod CertificateText
 pub mod TextLaws
 pub mod TextParts
-pub mod Corners
 pub mod Answer
 pub mod Preparation
 pub mod Reached

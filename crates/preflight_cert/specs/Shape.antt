@@ -6,7 +6,7 @@ use Rattle.draw_ops.specs.declared.operation.RectangleEdges.{RectangleEdges}
 use Rattle.draw_ops.specs.declared.settings.FillMode.{FillMode}
 use Rattle.draw_ops.specs.declared.settings.FillMode.TheVariants.{Alternate, Winding}
 use Rattle.dc_stack.specs.Boxes.{placed_list}
-use Rattle.dc_stack.specs.Clip.{in_box}
+use Rattle.mapping.specs.PixelBoxes.{in_box}
 use Rattle.dc_stack.specs.Figures.{Figure}
 use Rattle.span_fill.specs.Fill.{in_fill}
 use Rattle.span_fill.specs.Strokes.{in_stroke}

@@ -5,7 +5,6 @@ ghost use Rattle.std.specs.Result.{result_err};
 ghost use Rattle.mapping.specs.Boxes.{IsLeastBox};
 ghost use Rattle.mapping.specs.declared.geometry.Point.{Point};
 ghost use Rattle.dc_stack.specs.Draws.{IsPlacedDraw};
-ghost use Rattle.preflight_cert.specs.Corners.{has_corners, has_span};
 ghost use Rattle.preflight_cert.specs.Drawings.{drawn_by};
 ghost use Rattle.preflight_cert.specs.Entries.{covers, drawing_budget, entries_behind, entry_fault};
 ghost use Rattle.preflight_cert.specs.EntriesOf.{entries_of};
@@ -49,7 +48,7 @@ pub(crate) fn take_entry<'a, T: Table<'a>>(
     Ok(drawing_budget(drawn, machine, entry.bounds))
 }
 
-/// Whether a box of the plane has all points around which another is the least: that is so where it has two corners of
+/// Whether a box of the plane has all points around which another is the least: that is so where it contains
 /// the other, or there is no point.
 #[tactic(auto, using(crate::proofs::CoverLemmas::covering))]
 fn covers(bounds: Rect, least: Rect) -> bool
@@ -58,19 +57,5 @@ fn covers(bounds: Rect, least: Rect) -> bool
     if least.r < least.l {
         return true;
     }
-    has_corners(bounds, least)
-}
-
-/// Whether a box has two corners of another.
-fn has_corners(bounds: Rect, least: Rect) -> bool
-    ensures { result ≡ has_corners bounds least }
-{
-    has_span(bounds.l, least.l, least.r, bounds.r) && has_span(bounds.t, least.t, least.b, bounds.b)
-}
-
-/// Whether what lies from `low` to `high` lies from `from` to `to`.
-fn has_span(from: i32, low: i32, high: i32, to: i32) -> bool
-    ensures { result ≡ has_span from low high to }
-{
-    from <= low && high <= to
+    bounds.contains(least)
 }

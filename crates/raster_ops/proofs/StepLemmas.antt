@@ -25,10 +25,6 @@ module _ (count side place quotient rest : ℕ) (divided : (2 * place + 1) * cou
   pub quotient_below : 1 ≤ count → place < side → quotient < count
   quotient_below some within = subst (λ (q : ℕ). q < count) (sym quotient_is) (scaled_below count side place some within)
 
--- what a step adds to the quotient is few
-pub whole_below : (count twice whole part : ℕ) → 1 ≤ twice → 2 * count ≡ whole * twice + part → whole ≤ 2 * count
-whole_below count twice whole part some moves = let least = le-mul_of_pos_right {m = twice} whole some in omega (arith, least, moves)
-
 -- one place on
 module _ (count twice place quotient rest whole part : ℕ) (divided : (2 * place + 1) * count ≡ quotient * twice + rest) (moves : 2 * count ≡ whole * twice + part) where
   pub next_middle : (2 * (place + 1) + 1) * count ≡ (quotient + whole) * twice + (rest + part)

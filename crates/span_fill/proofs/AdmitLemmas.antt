@@ -11,10 +11,6 @@ use Rattle.span_fill.specs.declared.edge.ActiveEdge.{ActiveEdge}
 use Rattle.span_fill.specs.declared.edge.Edge.{Edge}
 use Rattle.span_fill.proofs.Reordering.{filter_all, filter_none}
 
--- none is left
-pub none_left : (y : ℕ) (edges : List Edge) (next : ℕ) → length edges ≤ next → NoneBegins y (drop next edges)
-none_left y edges next h = let e = drop_all next edges h in record { none = rw e refl; others = rw e refl }
-
 -- the next one begins behind the row, and so do those behind it
 later : (y : ℕ) (edges : List Edge) (next : ℕ) (d : Edge) → IsNonDecreasingBy edge_first_row edges → next < length edges → y < edge_first_row (get_or edges next d) → (i : ℕ) → i < length (drop next edges) → y < edge_first_row (get_or (drop next edges) i d)
 later y edges next d sorted within h i below =
@@ -26,16 +22,6 @@ pub none_begins : (y : ℕ) (edges : List Edge) (next : ℕ) (d : Edge) → IsNo
 none_begins y edges next d sorted within h = record {
   none = filter_none (begins_by y) (drop next edges) (All-from_get_or (λ e. begins_by y e ≡ false) (drop next edges) d (λ i below. lt-leb (edge_first_row (get_or (drop next edges) i d)) y (later y edges next d sorted within h i below)));
   others = filter_all (begins_behind y) (drop next edges) (All-from_get_or (λ e. begins_behind y e ≡ true) (drop next edges) d (λ i below. lt-ltb y (edge_first_row (get_or (drop next edges) i d)) (later y edges next d sorted within h i below)));
-}
-
--- the next one begins
-pub begins_next : (y : ℕ) (edges : List Edge) (next : ℕ) (d : Edge) → All IsEdge edges → next < length edges → edge_first_row (get_or edges next d) ≤ y → BeginsEdge y edges next (get_or edges next d)
-begins_next y edges next d all within h = record {
-  within = within;
-  first = drop_more edges next d within;
-  begins = le-leb (edge_first_row (get_or edges next d)) y h;
-  waits = le-ltb y (edge_first_row (get_or edges next d)) h;
-  is_edge = All-get_or IsEdge edges next d within all;
 }
 
 -- an edge that begins goes behind those that are there

@@ -30,11 +30,6 @@ floor_high a (negsuc d) h = absurd (omega (arith, ints, h))
 pub floor_least : (a e q : ℤ) → pos 1 ≤ℤ e → (e *ℤ q) ≤ℤ a → q ≤ℤ int_div_euclid a e
 floor_least a e q h k = mul_order_back e q (int_div_euclid a e) h (omega (arith, ints, k, floor_high a e h))
 
--- a number that is at most the floor has a multiple that is at most the dividend
-pub floor_up_to : (a e q : ℤ) → pos 1 ≤ℤ e → q ≤ℤ int_div_euclid a e → (e *ℤ q) ≤ℤ a
-floor_up_to a e q h k =
-    let m = mul_order e q (int_div_euclid a e) (omega (arith, ints, h)) k in omega (arith, ints, m, floor_low a e h)
-
 -- a number whose multiple is above the dividend is above the floor
 pub floor_above : (a e q : ℤ) → pos 1 ≤ℤ e → a <ℤ (e *ℤ q) → int_div_euclid a e <ℤ q
 floor_above a e q h k =

@@ -84,10 +84,3 @@ mul_order_back c a b h k =
     let e = mul_order c (b +ℤ pos 1) a (omega (arith, ints, h)) next in
     absurd (omega (arith, ints, e, mul_add c b (pos 1), mul_one c, k)))
     (λ (g : a ≤ℤ b). g)
-
--- so equal products have equal factors
-pub mul_same : (c a b : ℤ) → pos 1 ≤ℤ c → c *ℤ a ≡ c *ℤ b → a ≡ b
-mul_same c a b h e =
-    let low = mul_order_back c a b h (omega (arith, ints, e, h)) in
-    let high = mul_order_back c b a h (omega (arith, ints, e, h)) in
-    omega (arith, ints, low, high)

@@ -12,18 +12,6 @@ use Rattle.span_fill.specs.declared.span.Span.{Span}
 use Rattle.span_fill.proofs.StepLemmas.{along_within}
 use Rattle.span_fill.proofs.StepsLemmas.{pixel_line}
 
--- a line to where it begins has no pixel
-no_pixel : (line : Line) (steep : Bool) (x y : ℤ) → steep ≡ is_steep line → length_of (course_of steep line) ≡ 0 → IsTrue (on_line line x y) → ⊥
-no_pixel line true x y axis zero t =
-    let within = along_within line.from.y line.from.x line.to.y line.to.x y x (pixel_line line true y x x y axis refl refl t) in
-    omega (arith, within, zero)
-no_pixel line false x y axis zero t =
-    let within = along_within line.from.x line.from.y line.to.x line.to.y x y (pixel_line line false x y x y axis refl refl t) in
-    omega (arith, within, zero)
-
-pub past_point : (row : ℕ) (line : Line) (steep : Bool) → steep ≡ is_steep line → length_of (course_of steep line) ≡ 0 → IsPast row line
-past_point row line steep axis zero = λ x y h k. false_from_ne_true (on_line line x (pos y)) (no_pixel line steep x (pos y) axis zero)
-
 -- the rows that the course has are the line's
 abbrev HasAllRows : Line → Bool → Span → Type 0
 HasAllRows line steep rows = (u v : ℤ) (y : ℕ) → IsPixelOf (course_of steep line) u v → y < 8192 → pos y ≡ pixel_row steep u v → IsIn rows y

@@ -114,10 +114,6 @@ passed_active row s passed more = record {
   seen = passed.seen;
 }
 
-pub passed_past : (row : ℕ) (s : Strip) → IsPassed row s → s.rows.to ≤ row + 1 → (x : ℤ) (y : ℕ) → row < y → y < 8192 → on_line s.line x (pos y) ≡ false
-passed_past row s passed ends x y behind seen =
-    false_from_ne_true (on_line s.line x (pos y)) (λ t. let inside = passed.bounds.all_rows x y (omega (arith, behind)) seen t in omega (arith, inside.1, ends, behind))
-
 -- a strip that waits begins, or goes on waiting
 pub waiting_active : (row : ℕ) (s : Strip) → IsWaiting row s → s.rows.from ≤ row → IsActive row s
 waiting_active row s waiting begins =

@@ -13,6 +13,7 @@
 //! - A line has one pixel for each step along its longer axis (`line_law`).
 //! - Above and below the rows in which lines lie there is nothing of them (`row_law`), and all their pixels lie in each box that
 //!   has the lines (`line_box_law`).
+//! - What a span has between two numbers is a span with these numbers alone (`Span::between`).
 #![tactic(auto)]
 
 mod active_edges;

@@ -13,7 +13,7 @@ ghost use Rattle.dc_stack.specs.Next.{end_of};
 use crate::draw::{Draw, FigurePoints, Mark, Painting};
 use crate::lone_line::lone_line;
 use crate::machine::Machine;
-use crate::placing::{left_top_of, plane_lines, plane_lists, plane_pair, right_bottom_of};
+use crate::placing::{plane_lines, plane_lists, plane_pair};
 use crate::plane_box::{fits, least};
 use draw_ops::{Fault, RecordFault, RectangleEdges};
 use mapping::{Point, Rect};
@@ -92,7 +92,7 @@ impl<'a, T: Table<'a>> Machine<'a, T> {
         ensures draws { DrawsHere (rectangle_mark corners edges) self.old (outcome result drawn.new) self.new }
         ensures goes_on { GoesOn self.old self.new }
     {
-        match plane_pair(&self.dc.map, left_top_of(corners), right_bottom_of(corners)) {
+        match plane_pair(&self.dc.map, corners.left_top(), corners.right_bottom()) {
             Ok((first, second)) => {
                 let mark = Mark::Rectangle {
                     first,

@@ -30,7 +30,7 @@ at-near-requires c =
     let corners = mapped_corners (map_numbers c.args.map.now) c.args.corners in
     let yes : c.fits.result ≡ true = search rules in
     let all = sym yes ∙ c.fits.ensures corners c.in-Ok.ensures.extent in
-    rw c.left_top_of.ensures (corners_fit c.box_law.ensures c.in-Ok.plane corners s shows c.limits_law.ensures c.in-Ok.ensures.extent all).0
+    rw c.left_top.ensures (corners_fit c.box_law.ensures c.in-Ok.plane corners s shows c.limits_law.ensures c.in-Ok.ensures.extent all).0
 
 pub at-far-requires : goal.at-far-requires
 at-far-requires c =
@@ -39,4 +39,4 @@ at-far-requires c =
     let corners = mapped_corners (map_numbers c.args.map.now) c.args.corners in
     let yes : c.fits.result ≡ true = search rules in
     let all = sym yes ∙ c.fits.ensures corners c.in-Ok.ensures.extent in
-    rw c.right_bottom_of.ensures (corners_fit c.box_law.ensures c.in-Ok.plane corners s shows c.limits_law.ensures c.in-Ok.ensures.extent all).1
+    rw c.right_bottom.ensures (corners_fit c.box_law.ensures c.in-Ok.plane corners s shows c.limits_law.ensures c.in-Ok.ensures.extent all).1

@@ -7,4 +7,4 @@ pub returns-in-Ok-clause-extent : goal.returns-in-Ok-clause-extent
 returns-in-Ok-clause-extent c =
     let map = map_numbers c.args.map.now in
     same_plane_box c.between.result c.in-Ok.first c.in-Ok.second (left_top map c.args.corners) (right_bottom map c.args.corners) c.between.ensures
-    (rw c.left_top_of.ensures at c.in-Ok.ensures.first) (rw c.right_bottom_of.ensures at c.in-Ok.ensures.second) c.in-Ok.ensures.extent
+    (rw c.left_top.ensures at c.in-Ok.ensures.first) (rw c.right_bottom.ensures at c.in-Ok.ensures.second) c.in-Ok.ensures.extent

@@ -1,7 +1,7 @@
 use Rattle.std.proofs.Common.{◌∙◌, ap, refl, rules, arith, sym, List}
 use Rattle.mapping.specs.Surface.{Surface}
 use Rattle.mapping.specs.declared.geometry.Rect.{Rect}
-use Rattle.dc_stack.specs.Clip.{in_box}
+use Rattle.mapping.specs.PixelBoxes.{in_box}
 use Rattle.dc_stack.specs.Draws.{figures_drawn}
 use Rattle.dc_stack.specs.Drawing.{tools_of}
 use Rattle.dc_stack.specs.Figures.{points_of_figures}

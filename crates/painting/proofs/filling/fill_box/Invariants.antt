@@ -1,5 +1,5 @@
 use Rattle.std.specs.Prelude.{IfSome}
-use Rattle.dc_stack.specs.Clip.{in_box}
+use Rattle.mapping.specs.PixelBoxes.{in_box}
 use Rattle.painting.specs.RowPainters.{painter_paint}
 use Rattle.painting.specs.SourceRows.{HoldsRow}
 use Rattle.painting.proofs.RowLemmas.{HasRowsPainted}

@@ -1,23 +1,24 @@
 use Rattle.std.proofs.Common.{◌≡◌, arith, rules, subst, sym, ap, ◌∙◌, w32, to_z, of_z}
 use Rattle.std.proofs.lemmas.Int.{ints}
 use Rattle.std.specs.Prelude.{is_some}
-use Rattle.mapping.specs.Boxes.{box_between, far_corner, near_corner}
+use Rattle.std.proofs.lemmas.Bool.{and_left, and_right}
+use Rattle.mapping.specs.Boxes.{box_between, right_bottom_of, left_top_of}
 use Rattle.mapping.specs.PlaceOf.{surface_of}
 use Rattle.mapping.specs.Surface.{placed_point}
 use Rattle.mapping.specs.declared.geometry.Rect.{Rect}
 use Rattle.draw_ops.specs.declared.operation.RectangleEdges.TheVariants.{Inclusive}
 use Rattle.preflight_cert.specs.Rectangles.{raised}
 use Rattle.painting.specs.Regions.{HasLanded}
-use Rattle.painting.proofs.LandedBoxLemmas.{between_reached, first_off, none_in, none_reached, reached_between, second_off, shows}
+use Rattle.painting.proofs.LandedBoxLemmas.{between_reached, none_in, none_reached, reached_between, shows}
 use Rattle.painting.proofs.regions.landed_box.Goals as goal
 
 pub returns-in-Some-Some : goal.returns-in-Some-Some
 returns-in-Some-Some c =
     let s = surface_of c.args.place in
     let bounds = c.args.bounds in
-    let near : c.in-Some-Some.near ≡ placed_point (near_corner bounds) s = search rules in
-    let far : c.in-Some-Some.far ≡ placed_point (far_corner bounds) s = search rules in
-    let box = c.rectangle_box.ensures.value ∙ ap (λ p. raised Inclusive (box_between p c.in-Some-Some.far)) near ∙ ap (λ p. raised Inclusive (box_between (placed_point (near_corner bounds) s) p)) far in
+    let near : c.in-Some-Some.near ≡ placed_point (left_top_of bounds) s = let there : c.in-Some-Some.near ≡ placed_point c.left_top.result s = search rules in rw c.left_top.ensures at there in
+    let far : c.in-Some-Some.far ≡ placed_point (right_bottom_of bounds) s = let there : c.in-Some-Some.far ≡ placed_point c.right_bottom.result s = search rules in rw c.right_bottom.ensures at there in
+    let box = c.rectangle_box.ensures.value ∙ ap (λ p. raised Inclusive (box_between p c.in-Some-Some.far)) near ∙ ap (λ p. raised Inclusive (box_between (placed_point (left_top_of bounds) s) p)) far in
     subst (λ (there : Rect). HasLanded s bounds there) (sym box)
     (record {
       all = λ points least within x y reached. reached_between s bounds x y reached;
@@ -27,21 +28,17 @@ returns-in-Some-Some c =
 pub returns-in_default : goal.returns-in_default
 returns-in_default c =
     let bounds = c.args.bounds in
-    let r : to_z w32 (of_z w32 bounds.r) ≡ bounds.r = omega (arith, ints) in
-    let b : to_z w32 (of_z w32 bounds.b) ≡ bounds.b = omega (arith, ints) in
-    let off = sym (rw (r, b) at c.place-far.ensures.test) ∙ ap is_some c.in_default.is-1 in
+    let off = sym (rw c.right_bottom.ensures at c.place-far.ensures.test) ∙ ap is_some c.in_default.is-1 in
     record {
-      all = λ points least within x y reached. absurd (none_reached c.box_law.ensures c.args.place bounds (second_off _ _ off) points least within x y reached);
+      all = λ points least within x y reached. absurd (none_reached c.box_law.ensures c.args.place bounds (and_right _ _ off) points least within x y reached);
       no_other = λ wide high x y inside. absurd (none_in x y inside);
     }
 
 pub returns-in_default-2 : goal.returns-in_default-2
 returns-in_default-2 c =
     let bounds = c.args.bounds in
-    let l : to_z w32 (of_z w32 bounds.l) ≡ bounds.l = omega (arith, ints) in
-    let t : to_z w32 (of_z w32 bounds.t) ≡ bounds.t = omega (arith, ints) in
-    let off = sym (rw (l, t) at c.place-near.ensures.test) ∙ ap is_some c.in_default.is-0 in
+    let off = sym (rw c.left_top.ensures at c.place-near.ensures.test) ∙ ap is_some c.in_default.is-0 in
     record {
-      all = λ points least within x y reached. absurd (none_reached c.box_law.ensures c.args.place bounds (first_off _ _ off) points least within x y reached);
+      all = λ points least within x y reached. absurd (none_reached c.box_law.ensures c.args.place bounds (and_left _ _ off) points least within x y reached);
       no_other = λ wide high x y inside. absurd (none_in x y inside);
     }

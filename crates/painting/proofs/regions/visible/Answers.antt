@@ -1,6 +1,6 @@
 use Rattle.std.proofs.Common.{◌≡◌, ◌<◌, ◌≤◌, arith, Bool, ◌&&◌, true, refl}
 use Rattle.std.proofs.lemmas.Bool.{and_from}
-use Rattle.dc_stack.specs.Clip.{is_from_to}
+use Rattle.mapping.specs.PixelBoxes.{is_from_to}
 use Rattle.span_fill.specs.Spans.{in_span}
 use Rattle.painting.proofs.TestLemmas.{column_from}
 use Rattle.painting.proofs.regions.visible.Goals as goal

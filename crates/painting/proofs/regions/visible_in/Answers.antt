@@ -1,6 +1,6 @@
 use Rattle.std.proofs.Common.{arith, sym, ◌∙◌}
 use Rattle.std.proofs.lemmas.Bool.{and_from, and_parts}
-use Rattle.dc_stack.specs.Clip.{is_from_to}
+use Rattle.mapping.specs.PixelBoxes.{is_from_to}
 use Rattle.span_fill.specs.Spans.{in_span}
 use Rattle.painting.proofs.regions.visible_in.Goals as goal
 

@@ -8,4 +8,4 @@ pub returns : goal.returns
 returns c points is =
     let before = c.if-least.false in
     let order : c.args.least.l ≤ℤ c.args.least.r = grind (arith, ints) in
-    c.has_corners.ensures ∙ corners_cover c.args.bounds c.args.least points order is
+    c.contains.ensures ∙ corners_cover c.args.bounds c.args.least points order is

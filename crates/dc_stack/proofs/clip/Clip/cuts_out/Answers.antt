@@ -1,5 +1,5 @@
 use Rattle.std.proofs.Common.{◌∙◌}
-use Rattle.dc_stack.specs.Clip.{in_box}
+use Rattle.mapping.specs.PixelBoxes.{in_box}
 use Rattle.dc_stack.specs.Values.{cuts_of}
 use Rattle.dc_stack.proofs.BoxLemmas.{any_map}
 use Rattle.dc_stack.specs.declared.clip.ClipBox.{ClipBox}

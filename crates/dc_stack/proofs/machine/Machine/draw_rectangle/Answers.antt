@@ -17,15 +17,15 @@ returns-in-Ok-clause-draws g c =
     let boxed : IsPlaneBox c.between.result (first ∷ second ∷ []) = rw c.between.ensures c.in-Ok.ensures.extent in
     let marks = rw (← c.self.view_is) at c.make_draw.ensures.marks in
     let drawn = draws_marked (Rectangle first second c.args.edges) (rectangle_between first second c.args.edges) _ 4 (λ pieces. refl) refl refl (never_too_many 4 (omega arith)) boxed _ _ _ tt marks in
-    let near = rw c.left_top_of.ensures at c.in-Ok.ensures.first in
-    let far = rw c.right_bottom_of.ensures at c.in-Ok.ensures.second in
+    let near = rw c.left_top.ensures at c.in-Ok.ensures.first in
+    let far = rw c.right_bottom.ensures at c.in-Ok.ensures.second in
     rw (← c.self.view_is) (rw (near, far) at drawn)
 
 pub returns-in-Err-clause-draws : goal.returns-in-Err-clause-draws
 returns-in-Err-clause-draws g c =
     let place = c.self.inside.place in
     let shows : ShowsFrame (surface_of place) = record { wide = place.frame.wide; high = place.frame.high } in
-    let off = rw (c.left_top_of.ensures, c.right_bottom_of.ensures) at c.in-Err.ensures.off in
+    let off = rw (c.left_top.ensures, c.right_bottom.ensures) at c.in-Err.ensures.off in
     rw (← c.self.view_is) (record {
       refused = rw (few_then 4 (omega arith)) (ap (option_map Record) (sym (off (surface_of place) shows)));
       kept = record { state = refl; painted = refl; needs = refl };
