@@ -1,5 +1,5 @@
 -- What runs make of an operation, on the smallest surface and on the largest.
-use Rattle.std.proofs.Common.{◌≡◌, ◌⊎◌, inl, inr, Option, Some, None, refl, ap, ◌∙◌}
+use Rattle.std.proofs.Common.{◌≡◌, inl, inr, Option, Some, None, refl, ap, ◌∙◌}
 use Rattle.std.specs.Option.{option_map, option_or}
 use Rattle.mapping.specs.Surface.{Surface}
 use Rattle.draw_ops.specs.Operation.{Operation}
