@@ -5,9 +5,9 @@
     stroke_names.py --at COMMIT   counts those of a commit
     stroke_names.py --list        lists the files too, each with its families
 
-A file counts once for each family that it names outside its comments, and once in all. Crates of tests and examples are left out: a test that
-strokes decides nothing. Each family has the names of today and those that may take their place, so that counts before and after a change can be
-compared.
+A file counts once for each family that it names, and once in all. Comments don't count, and of an import only what it brings counts, not the path
+to it. Crates of tests and examples are left out: a test that strokes decides nothing. Each family has the names of today and those that may take
+their place, so that counts before and after a change can be compared.
 """
 
 import argparse
@@ -28,6 +28,9 @@ OF_TESTS = re.compile(r"\w+_tests|example_\w+")
 
 COMMENT = {".rt": re.compile(r"//[^\n]*"), ".antt": re.compile(r"--[^\n]*")}
 
+# The path of an import, up to the names that it brings. That of a function's own goals brings none.
+PATH = {".rt": re.compile(r"\buse (?:[\w-]+(?:::|\.))+(?=\w+;|\{)"), ".antt": re.compile(r"\buse (?:[^\s.{}]+\.)+(?=\{)|\buse \S+ as \w+")}
+
 
 class Family(NamedTuple):
     """Names with one meaning: what it is called, what its files have in common, and the pattern of its names."""
@@ -44,19 +47,19 @@ def family(name, meaning, *names):
 
 FAMILIES = [
     family("pixels", "They say which pixels a stroke has.", r"\b(in_stroke|in_wide_stroke|on_line|on_wide_line)\b"),
-    family("shapes", "They tell a stroked shape from others.", r"\b(along_figures|round_rectangle|on_lines)\b"),
-    family("layers", "They say which layers of a drawing are strokes.", r"\b(strokes_of|outlines_of|stroked\w*|\w+_stroked|plain_layers_of)\b"),
-    family("painting", "They choose how a stroke is painted, or paint it.", r"\bstroke_(?!path\b|and_fill_path\b|rows?\b)\w+", r"\bfn stroke\b|\.stroke\.", r"\bPart::Lines\b", r"\bstruct Stroke\b|\bStroke (::|\{)|&(mut )?Stroke\b"),
+    family("shapes", "They tell a stroked shape from others.", r"\b(along_figures|round_rectangle|on_lines|stroke_of)\b", r"\buse \{[^}\n]*\bOutline\b[^}\n]*\b(along|round)\b"),
+    family("layers", "They say which layers of a drawing are strokes.", r"\b(strokes_of|outlines_of|stroked|stroked_with|figures_stroked)\b"),
+    family("painting", "They choose how a stroke is painted, or paint it.", r"\bstroke_(?!path\b|and_fill_path\b|rows?\b|of\b|count\b|cells\b)\w+", r"\bfn stroke\b|\.stroke\.", r"\bPart::Lines\b", r"\bstruct Stroke\b|\bStroke (::|\{)|&(mut )?Stroke\b"),
     family("rows", "They gather the rows of a stroke.", r"\b(stroke_rows?|stroking)\b"),
     family("draws", "They make a drawing of a step, or raise the needs of one.", r"\bDraw \{", r"\b(raise_edges|drew)\b"),
     family("pens", "They know what a pen has, so what its nib is made of.", r"\bPen::Solid\b", r"\b(is_wide|pen_of|pen_meant|\w*[nN]ib\w*)\b"),
-    family("landings", "They decide whether points land on a surface, and where.", r"\b(place_fault|off_plane_fault|plane_extent|plane_box|landed_box|land_\w+|fits_place)\b", r"\b(land|fits)\("),
-    family("entries", "They know the size of an entry of a certificate.", r"\b(entry_size|ENTRY_SIZE)\b"),
+    family("landings", "They decide whether points land on a surface, and where.", r"\b(place_fault|off_plane_fault|plane_extent|landed_box|land_\w+|fits_place)\b", r"\b(land|fits)\("),
+    family("entries", "They know how many bytes an entry of a certificate has.", r"\bENTRY_SIZE\b", r"\buse \{[^}\n]*\bentry_size\b", r"\bentry_size : "),
     family("cells", "They count the pixels that a layer or its box has.", r"\b(box_cells|layers?_budget|layer_cells|fill_cells|stroke_cells|wide_cells|(layer|plain|outline|fill|stroke)_count)\b"),
 ]
 
-# The size of an entry stands in this crate as a bare number too.
-ENTRY_CRATE, ENTRY_SIZE = "preflight_cert", re.compile(r"\b20\b")
+# In this crate the size of an entry stands as a bare number too, beside the place of a head's field with the same number.
+ENTRY_CRATE, ENTRY_SIZE = "preflight_cert", re.compile(r"[-+*/<≤=] 20\b|\b20 [-+*≤]|\b(drop|take|entries_in) 20\b")
 
 
 class Naming(NamedTuple):
@@ -84,7 +87,8 @@ def files_at(commit):
 
 def families_of(path, text):
     """The families that a file names."""
-    text = COMMENT[pathlib.PurePosixPath(path).suffix].sub("", text)
+    kind = pathlib.PurePosixPath(path).suffix
+    text = PATH[kind].sub("use ", COMMENT[kind].sub("", text))
     found = [it.name for it in FAMILIES if it.pattern.search(text)]
     is_bare = path.startswith(f"{ENTRY_CRATE}/") and ENTRY_SIZE.search(text)
     return [*found, "entries"] if is_bare and "entries" not in found else found

@@ -114,6 +114,12 @@ module _ (c : Certificate) (width height : ℕ) (result : Result ℕ Fault) (bou
   pub within_where_written : result ≡ Err WriteFault → IsWithinBound c width height
   within_where_written is = within_bound (λ large. cc)
 
+-- a surface is refused for its sides, or for want of memory
+pub surface_refused : (c : Certificate) (width height : ℕ) (result : Result ℕ Fault) (fault : Fault) → result ≡ Err fault
+    → ((result ≡ Err SurfaceTooLarge) ↔ IsAboveBound width height c) → (fault ≡ SurfaceTooLarge ⊎ fault ≡ OutOfMemory) → RefusesSurface c width height fault
+surface_refused c width height result fault is bound (inl large) = inl (record { larger = bound.0 (is ∙ ap (λ (f : Fault). Err f) large); is = large })
+surface_refused c width height result fault is bound (inr want) = inr want
+
 -- what isn't refused by the writer is refused for its sides, or for want of memory
 pub fails_unwritten :
     {W : Type 0} → (cleared : Cleared) (width height : ℕ) (contents : W → Option (List ℕ)) (old new : W) (result : Result ℕ Fault) (fault : Fault)

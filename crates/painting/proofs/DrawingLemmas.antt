@@ -1,5 +1,5 @@
 -- What is painted under a shape is a layer, and layers follow one another.
-use Rattle.std.proofs.Common.{◌≡◌, ℕ, ◌+◌, pos, Bool, true, false, ◌&&◌, ◌||◌, List, [], ◌∷◌, ◌++◌, Option, Some, None, is_some, refl, sym, ◌∙◌, ap, arith}
+use Rattle.std.proofs.Common.{◌≡◌, ℕ, ◌+◌, Bool, ◌&&◌, List, [], ◌∷◌, ◌++◌, Option, Some, None, refl, sym, ◌∙◌, ap, arith}
 use Rattle.std.proofs.Math.Bool.{and-true}
 use Rattle.mapping.specs.Surface.{Surface, is_pixel, placed_point}
 use Rattle.mapping.specs.declared.geometry.Colour.{Colour}
@@ -21,23 +21,27 @@ use Rattle.dc_stack.specs.State.{DcValue}
 use Rattle.dc_stack.specs.Values.{IsPlacedOn, dc_value, placed_value}
 use Rattle.dc_stack.specs.declared.clip.Clip.{Clip}
 use Rattle.dc_stack.specs.declared.dc.Dc.{Dc}
-use Rattle.span_fill.specs.Strokes.{in_stroke, on_line}
-use Rattle.span_fill.specs.declared.line.Line.{Line}
 use Rattle.preflight_cert.specs.Apply.{apply_all, ink_of, mixed_with}
 use Rattle.preflight_cert.specs.Layer.{Layer, brushed_now, filled, layer_now, stroked}
 use Rattle.preflight_cert.specs.Mixing.{binary, copied}
-use Rattle.preflight_cert.specs.Paint.{Paint, paint_at, solid}
-use Rattle.painting.specs.Painted.{colour_of, colour_seen, made, paints}
+use Rattle.preflight_cert.specs.Paint.{Paint, solid}
+use Rattle.painting.specs.Counts.{CountsLayer}
 use Rattle.painting.specs.Drawn.{DrawsLayers, HoldsRows, SameRows}
+use Rattle.painting.specs.Draws.{DrawsLayer}
+use Rattle.painting.specs.Painted.{PaintValue, PaintsShape, paints}
+use Rattle.painting.specs.PaintsOfLayers.{IsPaintOf}
 use Rattle.preflight_cert.specs.Shape.{Shape, in_shape, pixel_under, stroke_of}
 use Rattle.preflight_cert.specs.StrokedOutline.{Outline}
 use Rattle.preflight_cert.specs.Writes.{writes_of_layers, writes_pixel}
 use Rattle.painting.specs.Joined.{joined_if}
-use Rattle.painting.specs.declared.brushing.Brushing.{Brushing}
 
 -- no layer draws nothing
-pub no_layer_drawn : (s : Surface) (canvas : CanvasState) → DrawsLayers [] s canvas canvas
-no_layer_drawn s canvas = record { image = refl; writes = omega arith }
+pub no_layer_drawn : (s : Surface) (canvas : CanvasState) → DrawsLayer [] s canvas canvas
+no_layer_drawn s canvas = record {
+  drawn = record { image = refl; writes = omega arith };
+  rows = record { width = refl; first = refl; rows = refl; most = refl };
+  few = omega arith;
+}
 
 -- layers behind others
 applied_in_turn : (first second : List Layer) (s : Surface) (top : ℕ) (image : Image) → apply_all (first ++ second) s top image ≡ apply_all second s top (apply_all first s top image)
@@ -64,7 +68,7 @@ pub same_rows : (test : ℕ → ℕ → Bool) (f : ℕ → ℕ → Colour → Co
 same_rows test f old new r = record { width = r.width; first = r.first; rows = r.rows; most = r.most }
 
 -- a paint joins the old colour by the raster operation
-joined_same : BinaryIsTernary → (op : RasterOp) (s : Surface) (x y : ℕ) (source : Colour) (paint : Option Colour) (old : Colour) → joined_if (binary_table op) source paint old ≡ mixed_with (binary op) s x y paint old
+pub joined_same : BinaryIsTernary → (op : RasterOp) (s : Surface) (x y : ℕ) (source : Colour) (paint : Option Colour) (old : Colour) → joined_if (binary_table op) source paint old ≡ mixed_with (binary op) s x y paint old
 joined_same law op s x y source None old = refl
 joined_same law op s x y source (Some paint) old = sym (law op paint source old)
 
@@ -76,28 +80,24 @@ module _ (laws : WritingLaws) (s : Surface) (old new : CanvasState) (there : IsW
       let counted : count_pixels (writes_pixel layer s) old.width old.first old.rows ≡ count_pixels (writes_pixel layer s) s.width old.first old.rows = ap (λ (w : ℕ). count_pixels (writes_pixel layer s) w old.first old.rows) held.width in
       record { image = rw (r.width, r.rows, r.colours) refl; writes = omega (arith, writes, counted) }
 
-  module _ (law : BinaryIsTernary) (paint : Brushing) (tools : Tools) (modes : paint.modes ≡ tools.modes) (operation : paint.operation.op.table ≡ binary_table tools.modes.raster_op) (clip : placed_value paint.clip.now ≡ placed_clip s tools.clip) where
-    -- so does what a paint makes of a shape
-    painted_drawn : (shape : ℕ → ℕ → Bool) (drawn : Shape) (colours : Paint) → ((x y : ℕ) → shape x y ≡ in_shape drawn s x y) → ((x y : ℕ) → colour_of paint x y ≡ paint_at colours s x y) → Repaints (paints paint shape) (made paint) old new → DrawsLayers (layer_now drawn colours tools ∷ []) s old new
-    painted_drawn shape drawn colours same_shape same_colour r =
-        layer_drawn (layer_now drawn colours tools)
-        (laws.same (paints paint shape) (writes_pixel (layer_now drawn colours tools) s) (made paint) (ink_of (layer_now drawn colours tools) s) old new there
-        (λ x y held.
-        ap (λ (boxes : ClipValue). in_boxes boxes x y && shape x y && is_some (colour_of paint x y)) clip
-        ∙ ap (λ (b : Bool). in_boxes (placed_clip s tools.clip) x y && b && is_some (colour_of paint x y)) (same_shape x y)
-        ∙ ap (λ (c : Option Colour). in_boxes (placed_clip s tools.clip) x y && in_shape drawn s x y && is_some c) (same_colour x y))
-        (λ x y c held t.
-        ap (λ (table : ℕ). joined_if table (colour_seen paint.source x y) (colour_of paint x y) c) operation
-        ∙ ap (λ (p : Option Colour). joined_if (binary_table tools.modes.raster_op) (colour_seen paint.source x y) p c) (same_colour x y)
-        ∙ joined_same law tools.modes.raster_op s x y (colour_seen paint.source x y) (paint_at colours s x y) c) r)
+  -- so does a paint that does what the layer asks for
+  pub painted_drawn : (colours : Paint) (tools : Tools) (paint : PaintValue) → IsPaintOf colours tools s paint → (shape : ℕ → ℕ → Bool) (drawn : Shape) → ((x y : ℕ) → shape x y ≡ in_shape drawn s x y) → PaintsShape paint shape old new → DrawsLayers (layer_now drawn colours tools ∷ []) s old new
+  painted_drawn colours tools paint asked shape drawn same r =
+      layer_drawn (layer_now drawn colours tools)
+      (laws.same (paints paint shape) (writes_pixel (layer_now drawn colours tools) s) paint.makes (ink_of (layer_now drawn colours tools) s) old new there
+      (λ x y held.
+      ap (λ (boxes : ClipValue). in_boxes boxes x y && shape x y && paint.has x y) asked.clip
+      ∙ ap (λ (b : Bool). in_boxes (placed_clip s tools.clip) x y && b && paint.has x y) (same x y)
+      ∙ ap (λ (b : Bool). in_boxes (placed_clip s tools.clip) x y && in_shape drawn s x y && b) (asked.has x y))
+      (λ x y c held t. asked.makes x y c) r)
 
-    -- by a brush
-    pub brush_drawn : (shape : ℕ → ℕ → Bool) (drawn : Shape) → brush_value_of paint.brush ≡ tools.brush → ((x y : ℕ) → shape x y ≡ in_shape drawn s x y) → Repaints (paints paint shape) (made paint) old new → DrawsLayers (layer_now drawn (brushed_now tools.brush tools) tools ∷ []) s old new
-    brush_drawn shape drawn brush same r = painted_drawn shape drawn (brushed_now tools.brush tools) same (λ x y. rw (brush, modes) refl) r
-
-    -- by a pen of a colour, along an outline
-    pub pen_drawn : (shape : ℕ → ℕ → Bool) (outline : Outline) (colour : Colour) → paint.brush ≡ Solid colour → ((x y : ℕ) → shape x y ≡ in_shape (stroke_of outline) s x y) → Repaints (paints paint shape) (made paint) old new → DrawsLayers (layer_now (stroke_of outline) (solid colour) tools ∷ []) s old new
-    pen_drawn shape outline colour brush same r = painted_drawn shape (stroke_of outline) (solid colour) same (λ x y. rw brush refl) r
+  -- and then it is a layer that writes each pixel once at most
+  pub painted_layer : (colours : Paint) (tools : Tools) (paint : PaintValue) → IsPaintOf colours tools s paint → (shape : ℕ → ℕ → Bool) (drawn : Shape) → ((x y : ℕ) → shape x y ≡ in_shape drawn s x y) → PaintsShape paint shape old new → CountsLayer old new → DrawsLayer (layer_now drawn colours tools ∷ []) s old new
+  painted_layer colours tools paint asked shape drawn same r few = record {
+    drawn = painted_drawn colours tools paint asked shape drawn same r;
+    rows = same_rows _ _ old new r;
+    few = few;
+  }
 
   -- and so does a dot
   pub dot_drawn : (point placed : Point) (colour : Colour) (clip : Clip) (tools : Tools) → placed ≡ placed_point point s → placed_value clip ≡ placed_clip s tools.clip → Repaints (λ x y. in_boxes (placed_value clip) x y && is_pixel placed x y) (λ x y c. colour) old new → DrawsLayers (record { shape = pixel_under point; paint = solid colour; mixing = copied; clip = tools.clip } ∷ []) s old new
@@ -125,11 +125,3 @@ pen_strokes outline tools colour same = rw same refl
 -- the clip of the moment, where it is placed on the surface
 pub clip_placed : (s : Surface) (clip : Clip) (dc : Dc) (state : DcValue) → clip ≡ dc.clip → dc_value dc ≡ state → IsPlacedOn s dc.clip → placed_value clip ≡ placed_clip s state.clip
 clip_placed s clip dc state same value placed = ap placed_value same ∙ placed ∙ ap (λ (d : DcValue). placed_clip s d.clip) value
-
--- a lone line is a stroke
-or_nothing : (b : Bool) → b ≡ (b || false)
-or_nothing true = refl
-or_nothing false = refl
-
-pub lone_stroke : (line other : Line) (x y : ℕ) → line ≡ other → on_line line (pos x) (pos y) ≡ in_stroke (other ∷ []) x y
-lone_stroke line other x y same = ap (λ (l : Line). on_line l (pos x) (pos y)) same ∙ or_nothing (on_line other (pos x) (pos y))

@@ -70,6 +70,9 @@ corners_near box l t r b (suc (suc (suc (suc k)))) d h = absurd (omega (arith, h
 pub fits_there : (place : Place) (s : Surface) (p : Point) → surface_of place ≡ s → lands_within_limits p s ≡ true → FitsPlace (placed_point p (surface_of place))
 fits_there place s p same t = subst (λ (r : Surface). FitsPlace (placed_point p r)) (sym same) (landed_fits s p t)
 
+pub lands_place : (place : Place) (s : Surface) (p : Point) → surface_of place ≡ s → lands_within_limits p s ≡ true → lands_within_limits p (surface_of place) ≡ true
+lands_place place s p same t = subst (λ (r : Surface). lands_within_limits p r ≡ true) (sym same) t
+
 pub lands_there : (place : Place) (s : Surface) (p there : Point) → surface_of place ≡ s → there ≡ placed_point p (surface_of place) → there ≡ placed_point p s
 lands_there place s p there same at = at ∙ ap (placed_point p) same
 

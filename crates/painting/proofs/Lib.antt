@@ -1,10 +1,12 @@
 pub mod MixLemmas
 pub mod StripLemmas
-pub mod LineStepLemmas
 pub mod LinePixelLemmas
+pub mod LineStepLemmas
 pub mod StampLemmas
 pub mod StampingLemmas
-pub mod StrokedLemmas
+pub mod VisibleLemmas
+pub mod FilterLemmas
+pub mod TakenLemmas
 pub mod TestLemmas
 mod WorkedLayers
 mod WorkedBlits

@@ -1,20 +1,37 @@
 -- A line's steps give its pixels one after another.
-use Rattle.std.proofs.Common.{◌≡◌, ℕ, suc, ◌-◌, ◌<◌, ◌≤◌, pos, Bool, true, false, not, ◌&&◌, nat_le, ◌⊎◌, inl, inr, arith, refl, ap, sym, ◌∙◌}
+use Rattle.std.proofs.Common.{◌≡◌, ℕ, suc, ◌-◌, ◌<◌, ◌≤◌, ℤ, pos, Bool, true, false, not, ◌&&◌, nat_le, IsTrue, ◌⊎◌, inl, inr, arith, refl, ap, sym, ◌∙◌}
 use Rattle.std.proofs.lemmas.Bool.{and_from, and_parts}
-use Rattle.canvas.specs.CanvasState.{CanvasState, HasPixel}
+use Rattle.mapping.specs.declared.geometry.Point.{Point}
 use Rattle.canvas.specs.PixelSources.{GivesOne}
-use Rattle.canvas.specs.Writing.{Repaints, is_at}
-use Rattle.canvas.specs.WritingLaws.{WritingLaws}
+use Rattle.canvas.specs.Writing.{is_at}
 use Rattle.canvas.specs.declared.pixel_source.PixelAt.{PixelAt}
-use Rattle.dc_stack.specs.Clip.{unclipped}
-use Rattle.mapping.specs.declared.geometry.Colour.{Colour}
 use Rattle.span_fill.specs.Spans.{in_region}
 use Rattle.span_fill.specs.Steps.{HasAllSteps, StepsState}
 use Rattle.span_fill.specs.Strokes.{OnePixelForEachStep, on_line, step_at}
+use Rattle.span_fill.specs.declared.line.Line.{Line}
 use Rattle.painting.specs.LinePixels.{is_to_step}
-use Rattle.painting.specs.LineSteps.{MayTake, is_visible}
-use Rattle.painting.proofs.LineStepLemmas.{inside_height, inside_width, is_at_from, is_at_true, one_pixel}
+use Rattle.painting.specs.Stamping.{is_visible}
 use Rattle.painting.proofs.TestLemmas.{nat_le-from, nat_le-true, nat_lt-from, nat_lt-true, same_test}
+
+-- the number of a column or a row, of a coordinate
+abbrev natural : ℤ → ℕ
+natural (pos n) = n
+natural v = 0
+
+-- a step has one pixel
+pub one_pixel : OnePixelForEachStep → (line : Line) (a b c d : ℕ) → IsTrue (on_line line (pos a) (pos b)) → IsTrue (on_line line (pos c) (pos d)) → step_at line (pos a) (pos b) ≡ step_at line (pos c) (pos d) → (a ≡ c) × (b ≡ d)
+one_pixel law line a b c d on there at =
+    let step = law.each line (step_at line (pos c) (pos d)) (law.no_other line (pos c) (pos d) there) in
+    let first = step.only (pos a) (pos b) on at in
+    let second = step.only (pos c) (pos d) there refl in
+    let same = sym first ∙ second in
+    (ap (λ (p : Point). natural p.x) same, ap (λ (p : Point). natural p.y) same)
+
+pub is_at_true : (x y column row : ℕ) → is_at x y column row ≡ true → (column ≡ x) × (row ≡ y)
+is_at_true x y column row h = grind (arith)
+
+pub is_at_from : (x y column row : ℕ) → column ≡ x → row ≡ y → is_at x y column row ≡ true
+is_at_from x y column row h k = grind (arith)
 
 -- a pixel of a step to come
 record IsToStep (steps : StepsState) (x y : ℕ) : Type 0 where
@@ -113,31 +130,14 @@ module _ (law : OnePixelForEachStep) (old new : StepsState) (pixel : PixelAt) (o
     less = omega (arith, next, end, more);
   }
 
--- steps that are all that a line has in a region have each pixel that is to be seen
-pub all_to_step : (steps : StepsState) → HasAllSteps steps → (x y : ℕ) → is_to_step steps x y ≡ is_visible unclipped steps.line steps.region x y
+-- steps that are all that a line has in a region have each of its pixels there
+pub all_to_step : (steps : StepsState) → HasAllSteps steps → (x y : ℕ) → is_to_step steps x y ≡ is_visible steps.region steps.line x y
 all_to_step steps all x y = same_test _ _
-    (λ h. let p = parts_of steps x y h in and_from (on_line steps.line (pos x) (pos y)) _ p.on p.inside)
+    (λ h. let p = parts_of steps x y h in and_from (in_region steps.region x y) (on_line steps.line (pos x) (pos y)) p.inside p.on)
     (λ h.
-    let a = and_parts (on_line steps.line (pos x) (pos y)) (in_region steps.region x y) h in
-    parts_from steps x y (record { on = a.0; inside = a.1; from = all.from x y a.0 a.1; to = all.to x y a.0 a.1 }))
+    let a = and_parts (in_region steps.region x y) (on_line steps.line (pos x) (pos y)) h in
+    parts_from steps x y (record { on = a.1; inside = a.0; from = all.from x y a.1 a.0; to = all.to x y a.1 a.0 }))
 
--- and the canvas that has the region has them
-pub has_to_step : (steps : StepsState) (canvas : CanvasState) → MayTake steps canvas → (x y : ℕ) → is_to_step steps x y ≡ true → HasPixel canvas x y
-has_to_step steps canvas may x y h =
-    let p = parts_of steps x y h in
-    let column = inside_width steps.region x y p.inside in
-    let row = inside_height steps.region x y p.inside in
-    let low = row.0 in
-    let high = row.1 in
-    let columns = may.columns in
-    let top = may.top in
-    let bottom = may.bottom in
-    record {
-      column = omega (arith, column, columns);
-      from_first = omega (arith, low, top);
-      to_last = omega (arith, high, bottom);
-    }
-
-pub put_visible : WritingLaws → (steps : StepsState) (colour : Colour) (old new : CanvasState) → MayTake steps old → Repaints (is_to_step steps) (λ x y c. colour) old new → Repaints (is_visible unclipped steps.line steps.region) (λ x y c. colour) old new
-put_visible laws steps colour old new may r =
-    laws.same (is_to_step steps) (is_visible unclipped steps.line steps.region) (λ x y c. colour) (λ x y c. colour) old new may.whole (λ x y held. all_to_step steps may.all x y) (λ x y c held t. refl) r
+-- the steps' region has each pixel that is to come
+pub to_step_inside : (steps : StepsState) (x y : ℕ) → is_to_step steps x y ≡ true → in_region steps.region x y ≡ true
+to_step_inside steps x y h = (parts_of steps x y h).inside

@@ -1,21 +1,20 @@
 -- A shape is painted row by row.
-use Rattle.std.proofs.Common.{◌≡◌, ℕ, suc, ◌+◌, ◌*◌, ◌^◌, ◌<◌, ◌≤◌, ℤ, Bool, true, false, ◌&&◌, ◌||◌, ◌==◌, nat_lt, List, [], ◌∷◌, is_some, ◌⊎◌, inl, inr, arith, refl, sym, ◌∙◌, subst}
+use Rattle.std.proofs.Common.{◌≡◌, ℕ, suc, ◌+◌, ◌*◌, ◌^◌, ◌<◌, ◌≤◌, Bool, true, false, ◌&&◌, ◌||◌, ◌==◌, nat_lt, List, [], ◌∷◌, ◌⊎◌, inl, inr, arith, refl, sym, ◌∙◌, subst}
 use Rattle.std.proofs.lemmas.Bool.{and_from, and_parts, false_from_ne_true, true≢false}
 use Rattle.mapping.specs.declared.geometry.Colour.{Colour}
 use Rattle.mapping.specs.declared.geometry.Rect.{Rect}
 use Rattle.canvas.specs.CanvasState.{CanvasState, HasPixel, HasRow}
 use Rattle.canvas.specs.Writing.{Repaints}
 use Rattle.canvas.specs.WritingLaws.{IsWhole, WritingLaws}
-use Rattle.dc_stack.specs.Clip.{in_boxes, in_kept, is_from_to}
-use Rattle.dc_stack.specs.Values.{placed_value}
+use Rattle.dc_stack.specs.Clip.{in_boxes, in_kept}
 use Rattle.span_fill.specs.Spans.{AreApart, AreRow, in_region, in_span, in_spans}
 use Rattle.span_fill.specs.declared.span.Region.{Region}
 use Rattle.span_fill.specs.declared.span.Span.{Span}
-use Rattle.painting.specs.Painted.{colour_of, made, paints}
+use Rattle.painting.specs.Painted.{PaintValue, paints}
+use Rattle.painting.specs.Regions.{HasVisible}
 use Rattle.painting.specs.RowInks.{inked, is_inked}
 use Rattle.painting.specs.RowsPainted.{paints_above, paints_row}
 use Rattle.painting.specs.Strips.{is_painted, is_uncut}
-use Rattle.painting.specs.declared.brushing.Brushing.{Brushing}
 use Rattle.painting.specs.declared.row_ink.RowInk.{RowInk}
 use Rattle.painting.proofs.TestLemmas.{column_from, column_true, nat_lt-from, nat_lt-true, same_test}
 
@@ -77,13 +76,13 @@ painted_parts ink cuts y columns column row h =
     let c = and_parts (row == y) (columns column) b.0 in
     (c.0, c.1, b.1, a.1)
 
-paints_parts : (paint : Brushing) (shape : ℕ → ℕ → Bool) (x y : ℕ) → paints paint shape x y ≡ true → (in_boxes (placed_value paint.clip.now) x y ≡ true) × (shape x y ≡ true) × (is_some (colour_of paint x y) ≡ true)
+paints_parts : (paint : PaintValue) (shape : ℕ → ℕ → Bool) (x y : ℕ) → paints paint shape x y ≡ true → (in_boxes paint.clip x y ≡ true) × (shape x y ≡ true) × (paint.has x y ≡ true)
 paints_parts paint shape x y h =
-    let a = and_parts (in_boxes (placed_value paint.clip.now) x y && shape x y) (is_some (colour_of paint x y)) h in
-    let b = and_parts (in_boxes (placed_value paint.clip.now) x y) (shape x y) a.0 in
+    let a = and_parts (in_boxes paint.clip x y && shape x y) (paint.has x y) h in
+    let b = and_parts (in_boxes paint.clip x y) (shape x y) a.0 in
     (b.0, b.1, a.1)
 
-module _ (paint : Brushing) (shape : ℕ → ℕ → Bool) where
+module _ (paint : PaintValue) (shape : ℕ → ℕ → Bool) where
   -- the rows up to one are those above it and itself
   pub above_and_row : (y column row : ℕ) → (paints_above paint shape y column row || paints_row paint shape y column row) ≡ paints_above paint shape (suc y) column row
   above_and_row y column row = same_test _ _
@@ -111,22 +110,22 @@ module _ (paint : Brushing) (shape : ℕ → ℕ → Bool) where
       let here = same_number row y (and_parts (paints paint shape column row) _ p.1).1 in absurd (omega (arith, above, here)))
       (λ e. cc)
 
-  module _ (ink : RowInk) (columns : ℕ → Bool) (y column : ℕ) (test : is_inked ink column ≡ is_some (colour_of paint column y)) (same : columns column ≡ (in_kept (placed_value paint.clip.now).kept column y && shape column y)) where
+  module _ (ink : RowInk) (columns : ℕ → Bool) (y column : ℕ) (test : is_inked ink column ≡ paint.has column y) (same : columns column ≡ (in_kept paint.clip.kept column y && shape column y)) where
     -- what the ink writes of the row is what the paint writes there
-    ink_paints : (row : ℕ) → is_painted ink (placed_value paint.clip.now).cuts y columns column row ≡ true → paints_row paint shape y column row ≡ true
+    ink_paints : (row : ℕ) → is_painted ink paint.clip.cuts y columns column row ≡ true → paints_row paint shape y column row ≡ true
     ink_paints row h =
-        let clip = placed_value paint.clip.now in
+        let clip = paint.clip in
         let a = painted_parts ink clip.cuts y columns column row h in
         let here = same_number row y a.0 in
         let d = and_parts (in_kept clip.kept column y) (shape column y) (sym same ∙ a.1) in
         let uncut : is_uncut clip.cuts column y ≡ true = subst (λ (r : ℕ). is_uncut clip.cuts column r ≡ true) here a.2 in
         let clipped : in_boxes clip column y ≡ true = and_from (in_kept clip.kept column y) (is_uncut clip.cuts column y) d.0 uncut in
-        let painted : paints paint shape column y ≡ true = and_from (in_boxes clip column y && shape column y) (is_some (colour_of paint column y)) (and_from (in_boxes clip column y) (shape column y) clipped d.1) (sym test ∙ a.3) in
+        let painted : paints paint shape column y ≡ true = and_from (in_boxes clip column y && shape column y) (paint.has column y) (and_from (in_boxes clip column y) (shape column y) clipped d.1) (sym test ∙ a.3) in
         and_from (paints paint shape column row) (row == y) (subst (λ (r : ℕ). paints paint shape column r ≡ true) (sym here) painted) a.0
 
-    paints_ink : (row : ℕ) → paints_row paint shape y column row ≡ true → is_painted ink (placed_value paint.clip.now).cuts y columns column row ≡ true
+    paints_ink : (row : ℕ) → paints_row paint shape y column row ≡ true → is_painted ink paint.clip.cuts y columns column row ≡ true
     paints_ink row h =
-        let clip = placed_value paint.clip.now in
+        let clip = paint.clip in
         let a = and_parts (paints paint shape column row) (row == y) h in
         let here = same_number row y a.1 in
         let painted : paints paint shape column y ≡ true = subst (λ (r : ℕ). paints paint shape column r ≡ true) here a.0 in
@@ -136,20 +135,20 @@ module _ (paint : Brushing) (shape : ℕ → ℕ → Bool) where
         let within : columns column ≡ true = same ∙ and_from (in_kept clip.kept column y) (shape column y) c.0 b.1 in
         and_from ((row == y && columns column) && is_uncut clip.cuts column row) (is_inked ink column) (and_from (row == y && columns column) (is_uncut clip.cuts column row) (and_from (row == y) (columns column) a.1 within) uncut) (test ∙ b.2)
 
-    pub row_painted : (row : ℕ) → is_painted ink (placed_value paint.clip.now).cuts y columns column row ≡ paints_row paint shape y column row
+    pub row_painted : (row : ℕ) → is_painted ink paint.clip.cuts y columns column row ≡ paints_row paint shape y column row
     row_painted row = same_test _ _ (ink_paints row) (paints_ink row)
 
   -- the rows before this one are painted
   pub record HasRowsPainted (y : ℕ) (start now : CanvasState) : Type 0 where
     pub whole : IsWhole now
-    pub painted : Repaints (paints_above paint shape y) (made paint) start now
+    pub painted : Repaints (paints_above paint shape y) paint.makes start now
 
   module _ (laws : WritingLaws) (start : CanvasState) (whole : IsWhole start) where
     -- no row is, where there is nothing above the first
     pub before_first : (first : ℕ) → ((x y : ℕ) → HasPixel start x y → paints paint shape x y ≡ true → first ≤ y) → HasRowsPainted first start start
     before_first first within = record {
       whole = whole;
-      painted = laws.none (paints_above paint shape first) (made paint) start whole (λ x y held. false_from_ne_true (paints_above paint shape first x y)
+      painted = laws.none (paints_above paint shape first) paint.makes start whole (λ x y held. false_from_ne_true (paints_above paint shape first x y)
           (λ h.
           let p = and_parts (paints paint shape x y) (nat_lt y first) h in
           let less = nat_lt-true y first p.1 in
@@ -158,60 +157,51 @@ module _ (paint : Brushing) (shape : ℕ → ℕ → Bool) where
     }
 
     -- one row more is
-    pub one_row_more : (now new : CanvasState) (y : ℕ) (ink : RowInk) (columns : ℕ → Bool) → ((x : ℕ) → is_inked ink x ≡ is_some (colour_of paint x y)) → ((x : ℕ) (old : Colour) → columns x ≡ true → is_inked ink x ≡ true → inked ink x old ≡ made paint x y old) → ((x : ℕ) → x < start.width → columns x ≡ (in_kept (placed_value paint.clip.now).kept x y && shape x y)) → HasRowsPainted y start now → Repaints (is_painted ink (placed_value paint.clip.now).cuts y columns) (λ column row old. inked ink column old) now new → HasRowsPainted (y + 1) start new
+    pub one_row_more : (now new : CanvasState) (y : ℕ) (ink : RowInk) (columns : ℕ → Bool) → ((x : ℕ) → is_inked ink x ≡ paint.has x y) → ((x : ℕ) (old : Colour) → columns x ≡ true → is_inked ink x ≡ true → inked ink x old ≡ paint.makes x y old) → ((x : ℕ) → x < start.width → columns x ≡ (in_kept paint.clip.kept x y && shape x y)) → HasRowsPainted y start now → Repaints (is_painted ink paint.clip.cuts y columns) (λ column row old. inked ink column old) now new → HasRowsPainted (y + 1) start new
     one_row_more now new y ink columns test colour same so_far row =
-        let clip = placed_value paint.clip.now in
+        let clip = paint.clip in
         let width = so_far.painted.width in
-        let here = laws.same (is_painted ink clip.cuts y columns) (paints_row paint shape y) (λ column r old. inked ink column old) (made paint) now new so_far.whole
+        let here = laws.same (is_painted ink clip.cuts y columns) (paints_row paint shape y) (λ column r old. inked ink column old) paint.makes now new so_far.whole
         (λ x r held. let column = held.column in row_painted ink columns y x (test x) (same x (omega (arith, column, width))) r)
         (λ x r old held painted.
         let a = painted_parts ink clip.cuts y columns x r painted in
         let at = same_number r y a.0 in
-        subst (λ (q : ℕ). inked ink x old ≡ made paint x q old) (sym at) (colour x old a.1 a.3))
+        subst (λ (q : ℕ). inked ink x old ≡ paint.makes x q old) (sym at) (colour x old a.1 a.3))
         row in
         let next : suc y ≡ y + 1 = omega arith in
-        let both = laws.both (paints_above paint shape y) (paints_row paint shape y) (made paint) start now new whole (λ x r held. above_not_row y x r) so_far.painted here in
+        let both = laws.both (paints_above paint shape y) (paints_row paint shape y) paint.makes start now new whole (λ x r held. above_not_row y x r) so_far.painted here in
         record {
           whole = laws.stays_whole _ _ now new row so_far.whole;
-          painted = subst (λ (n : ℕ). Repaints (paints_above paint shape n) (made paint) start new) next (laws.same (λ x r. paints_above paint shape y x r || paints_row paint shape y x r) (paints_above paint shape (suc y)) (made paint) (made paint) start new whole (λ x r held. above_and_row y x r) (λ x r old held t. refl) both);
+          painted = subst (λ (n : ℕ). Repaints (paints_above paint shape n) paint.makes start new) next (laws.same (λ x r. paints_above paint shape y x r || paints_row paint shape y x r) (paints_above paint shape (suc y)) paint.makes paint.makes start new whole (λ x r held. above_and_row y x r) (λ x r old held t. refl) both);
         }
 
     -- all are, where there is nothing from the last one on
-    pub behind_last : (now : CanvasState) (end : ℕ) → ((x y : ℕ) → HasPixel start x y → paints paint shape x y ≡ true → y < end) → HasRowsPainted end start now → Repaints (paints paint shape) (made paint) start now
+    pub behind_last : (now : CanvasState) (end : ℕ) → ((x y : ℕ) → HasPixel start x y → paints paint shape x y ≡ true → y < end) → HasRowsPainted end start now → Repaints (paints paint shape) paint.makes start now
     behind_last now end within so_far =
-        laws.same (paints_above paint shape end) (paints paint shape) (made paint) (made paint) start now whole
+        laws.same (paints_above paint shape end) (paints paint shape) paint.makes paint.makes start now whole
         (λ x y held. same_test _ _ (λ h. (and_parts (paints paint shape x y) (nat_lt y end) h).0) (λ h. and_from (paints paint shape x y) (nat_lt y end) h (nat_lt-from y end (within x y held h))))
         (λ x y old held t. refl) so_far.painted
 
     -- nothing is painted, where there is nothing
-    pub nothing_painted : ((x y : ℕ) → HasPixel start x y → paints paint shape x y ≡ true → ⊥) → Repaints (paints paint shape) (made paint) start start
-    nothing_painted none = laws.none (paints paint shape) (made paint) start whole (λ x y held. false_from_ne_true (paints paint shape x y) (none x y held))
+    pub nothing_painted : ((x y : ℕ) → HasPixel start x y → paints paint shape x y ≡ true → ⊥) → Repaints (paints paint shape) paint.makes start start
+    nothing_painted none = laws.none (paints paint shape) paint.makes start whole (λ x y held. false_from_ne_true (paints paint shape x y) (none x y held))
 
 -- a pixel of a row that is held is held
 pub pixel_held : (canvas : CanvasState) (x y : ℕ) → x < canvas.width → HasRow canvas y → HasPixel canvas x y
 pixel_held canvas x y column row = record { column = column; from_first = row.from_first; to_last = row.to_last }
 
--- the part of the rows held that a drawing may write, and the rows of it in which a shape lies
-module _ (paint : Brushing) (shape : ℕ → ℕ → Bool) (canvas : CanvasState) (region : Region) (kept : (x y : ℕ) → HasPixel canvas x y → in_region region x y ≡ in_kept (placed_value paint.clip.now).kept x y) where
-  -- a pixel that is painted lies in the region, and in the shape
-  pub seen : (x y : ℕ) → HasPixel canvas x y → paints paint shape x y ≡ true → (in_region region x y ≡ true) × (shape x y ≡ true)
+-- a region that has what is seen of a shape
+module _ (paint : PaintValue) (shape : ℕ → ℕ → Bool) (canvas : CanvasState) (region : Region) (visible : HasVisible paint.clip shape canvas region) where
+  -- has each pixel that is painted
+  pub seen : (x y : ℕ) → HasPixel canvas x y → paints paint shape x y ≡ true → in_region region x y ≡ true
   seen x y held h =
-      let clip = placed_value paint.clip.now in
       let a = paints_parts paint shape x y h in
-      let b = and_parts (in_kept clip.kept x y) (is_uncut clip.cuts x y) a.0 in
-      (kept x y held ∙ b.0, a.1)
+      let b = and_parts (in_kept paint.clip.kept x y) (is_uncut paint.clip.cuts x y) a.0 in visible.all x y held b.0 a.1
 
-  module _ (rows : Span) (from to : ℤ) (numbers : (n : ℕ) → in_span rows n ≡ (in_span region.rows n && is_from_to from to n)) where
-    -- a pixel that is painted lies in the rows
-    pub seen_in_rows : ((x y : ℕ) → shape x y ≡ true → is_from_to from to y ≡ true) → (x y : ℕ) → HasPixel canvas x y → paints paint shape x y ≡ true → (rows.from ≤ y) × (y < rows.to)
-    seen_in_rows lies x y held h =
-        let there = seen x y held h in
-        let inside = and_parts (in_span region.columns x) (in_span region.rows y) there.0 in
-        column_true rows.from rows.to y (numbers y ∙ and_from (in_span region.rows y) (is_from_to from to y) inside.1 (lies x y there.1))
-
-    -- one of the rows is one of the region's, and lies between
-    pub row_parts : (y : ℕ) → rows.from ≤ y → y < rows.to → (in_span region.rows y ≡ true) × (is_from_to from to y ≡ true)
-    row_parts y low high = and_parts (in_span region.rows y) (is_from_to from to y) (sym (numbers y) ∙ column_from rows.from rows.to y low high)
+  -- in one of its rows
+  pub seen_in_rows : (x y : ℕ) → HasPixel canvas x y → paints paint shape x y ≡ true → (region.rows.from ≤ y) × (y < region.rows.to)
+  seen_in_rows x y held h =
+      column_true region.rows.from region.rows.to y (and_parts (in_span region.columns x) (in_span region.rows y) (seen x y held h)).1
 
 -- what is written of a surface counts at most as many as it has
 pub few_written : WritingLaws → (test : ℕ → ℕ → Bool) (f : ℕ → ℕ → Colour → Colour) (start now : CanvasState) → Repaints test f start now → start.rows * start.width ≤ 2 ^ 26 → now.writes ≤ start.writes + 2 ^ 26

@@ -1,6 +1,6 @@
 -- What a blit reads, between where its corners land and in the part of its box that is seen.
-use Rattle.std.proofs.Common.{◌≡◌, ℕ, ◌+◌, ◌-◌, ◌<◌, ◌≤◌, ℤ, pos, ◌+ℤ◌, ◌≤ℤ◌, ◌<ℤ◌, ◌&&◌, true, List, slice_index_or, Option, Some, None, is_some, arith, refl, sym, ap, ◌∙◌}
-use Rattle.std.proofs.lemmas.Bool.{and_parts}
+use Rattle.std.proofs.Common.{◌≡◌, ℕ, ◌+◌, ◌-◌, ◌<◌, ◌≤◌, ℤ, pos, ◌+ℤ◌, ◌≤ℤ◌, ◌<ℤ◌, true, List, slice_index_or, Option, Some, None, is_some, arith, refl, sym, ap, ◌∙◌}
+use Rattle.std.proofs.lemmas.Bool.{and_from, and_parts}
 use Rattle.std.proofs.lemmas.Int.{ints}
 use Rattle.std.specs.Prelude.{IfSome}
 use Rattle.std.specs.Int.{int_max, int_min}
@@ -9,17 +9,20 @@ use Rattle.mapping.specs.Colours.{black_colour}
 use Rattle.mapping.specs.declared.geometry.Colour.{Colour}
 use Rattle.mapping.specs.declared.geometry.Point.{Point}
 use Rattle.mapping.specs.declared.geometry.Rect.{Rect}
-use Rattle.dc_stack.specs.Clip.{is_from_to}
+use Rattle.dc_stack.specs.Clip.{in_box, is_from_to}
 use Rattle.draw_ops.specs.Blits.{SourceValue}
 use Rattle.raster_ops.specs.Readers.{ReadsSource, row_read}
 use Rattle.raster_ops.specs.Sources.{distance, source_colour}
 use Rattle.raster_ops.specs.TernaryOps.{ternary_colour}
 use Rattle.raster_ops.specs.declared.sources.SourceReader.{SourceReader}
-use Rattle.span_fill.specs.Spans.{in_span}
+use Rattle.span_fill.specs.Spans.{in_region, in_span}
 use Rattle.span_fill.specs.declared.span.Region.{Region}
 use Rattle.span_fill.specs.declared.span.Span.{Span}
-use Rattle.painting.specs.Painted.{colour_seen}
+use Rattle.painting.specs.Brushings.{colour_seen}
+use Rattle.painting.specs.RowPainters.{HoldsRead, ReadsNothing}
 use Rattle.painting.specs.SourceRows.{HoldsRow, ReadsBox, ReadsRow}
+use Rattle.painting.specs.declared.row_painter.Inks.{Inks}
+use Rattle.painting.specs.declared.row_painter.Inks.TheVariants.{EachRow, Same}
 use Rattle.painting.proofs.TestLemmas.{column_from, from_to_true}
 
 -- the greater of two ends is as far behind the lesser as they are apart
@@ -51,33 +54,29 @@ read_seen None source p q reads some table x y paint old = cc
 read_seen (Some r) source p q reads some table x y paint old = ap (λ (c : Colour). ternary_colour table paint c old) (sym (reads x y))
 
 -- columns and a row that are seen of a box lie in it
-module _ (box : Rect) (region drawn : Region)
-    (columns : (n : ℕ) → in_span drawn.columns n ≡ (in_span region.columns n && is_from_to box.l box.r n))
-    (rows : (n : ℕ) → in_span drawn.rows n ≡ (in_span region.rows n && is_from_to box.t box.b n)) where
-  in_columns : (x : ℕ) → drawn.columns.from ≤ x → x < drawn.columns.to → (box.l ≤ℤ pos x) × (pos x <ℤ box.r)
-  in_columns x low high =
-      from_to_true box.l box.r x (and_parts (in_span region.columns x) (is_from_to box.l box.r x) (sym (columns x) ∙ column_from drawn.columns.from drawn.columns.to x low high)).1
-
-  in_rows : (y : ℕ) → drawn.rows.from ≤ y → y < drawn.rows.to → (box.t ≤ℤ pos y) × (pos y <ℤ box.b)
-  in_rows y low high =
-      from_to_true box.t box.b y (and_parts (in_span region.rows y) (is_from_to box.t box.b y) (sym (rows y) ∙ column_from drawn.rows.from drawn.rows.to y low high)).1
+module _ (box : Rect) (drawn : Region) (boxed : (x y : ℕ) → in_region drawn x y ≡ true → in_box box x y ≡ true) where
+  lies : (x y : ℕ) → drawn.columns.from ≤ x → x < drawn.columns.to → drawn.rows.from ≤ y → y < drawn.rows.to → (is_from_to box.l box.r x ≡ true) × (is_from_to box.t box.b y ≡ true)
+  lies x y from to low high =
+      and_parts (is_from_to box.l box.r x) (is_from_to box.t box.b y)
+      (boxed x y (and_from (in_span drawn.columns x) (in_span drawn.rows y) (column_from drawn.columns.from drawn.columns.to x from to) (column_from drawn.rows.from drawn.rows.to y low high)))
 
 last_before : (last to : ℕ) (end : ℤ) → last + 1 ≡ to → pos last <ℤ end → pos to ≤ℤ end
 last_before last to end next h = grind (arith, ints)
 
 pub columns_read :
-    (source : Option SourceReader) (box : Rect) (region drawn : Region)
-    → ((n : ℕ) → in_span drawn.columns n ≡ (in_span region.columns n && is_from_to box.l box.r n))
-    → ((n : ℕ) → in_span drawn.rows n ≡ (in_span region.rows n && is_from_to box.t box.b n))
+    (source : Option SourceReader) (box : Rect) (drawn : Region)
+    → ((x y : ℕ) → in_region drawn x y ≡ true → in_box box x y ≡ true)
     → IfSome source (λ r. ReadsBox r box) → drawn.columns.from < drawn.columns.to
     → (y : ℕ) → drawn.rows.from ≤ y → y < drawn.rows.to → IfSome source (λ r. ReadsRow r drawn.columns y)
-columns_read None box region drawn columns rows reads some y low high = tt
-columns_read (Some r) box region drawn columns rows reads some y low high =
+columns_read None box drawn boxed reads some y low high = tt
+columns_read (Some r) box drawn boxed reads some y low high =
     let last : ℕ = drawn.columns.to - 1 in
     let next : last + 1 ≡ drawn.columns.to = omega (arith, some) in
-    let left = (in_columns box region drawn columns rows drawn.columns.from (omega arith) some).0 in
-    let right = last_before last drawn.columns.to box.r next (in_columns box region drawn columns rows last (omega (arith, some)) (omega (arith, some))).1 in
-    let row = in_rows box region drawn columns rows y low high in
+    let first = lies box drawn boxed drawn.columns.from y (omega arith) some low high in
+    let final = lies box drawn boxed last y (omega (arith, some)) (omega (arith, some)) low high in
+    let left = (from_to_true box.l box.r drawn.columns.from first.0).0 in
+    let right = last_before last drawn.columns.to box.r next (from_to_true box.l box.r last final.0).1 in
+    let row = from_to_true box.t box.b y first.1 in
     record {
       left = rw reads.left left;
       right = rw (← reads.right) right;
@@ -91,3 +90,8 @@ pub held_seen :
     → (x : ℕ) → columns.from ≤ x → x < columns.to → slice_index_or sources x black_colour ≡ colour_seen source x y
 held_seen None columns y sources held some x low high = cc
 held_seen (Some r) columns y sources held some x low high = held.read x black_colour low high
+
+-- inks with which nothing is read need nothing gathered
+pub nothing_read : (inks : Inks) (columns : Span) (y : ℕ) (sources : List Colour) → ReadsNothing inks → HoldsRead inks columns y sources
+nothing_read (Same ink) columns y sources alone = tt
+nothing_read (EachRow paint) columns y sources alone = rw alone tt

@@ -1,25 +1,25 @@
 -- What a blit paints, as the code tells it.
-use Rattle.std.specs.Prelude.{ℕ, Bool, ◌&&◌, if◌then◌else◌, Option, Some, is_some}
+use Rattle.std.specs.Prelude.{◌≡◌, ℕ, Bool, ◌&&◌, if◌then◌else◌, Option, Some, is_some}
 use Rattle.mapping.specs.Colours.{black_colour}
 use Rattle.mapping.specs.declared.geometry.Colour.{Colour}
-use Rattle.draw_ops.specs.Blits.{source_of}
+use Rattle.mapping.specs.declared.geometry.Point.{Point}
+use Rattle.canvas.specs.CanvasState.{CanvasState}
+use Rattle.canvas.specs.Writing.{Repaints}
+use Rattle.draw_ops.specs.Blits.{SourceValue, source_of}
 use Rattle.draw_ops.specs.Objects.{brush_value_of}
 use Rattle.draw_ops.specs.declared.ternary_op.TernaryOp.{TernaryOp}
 use Rattle.raster_ops.specs.Paints.{brush_paint}
 use Rattle.raster_ops.specs.Sources.{source_colour}
-use Rattle.raster_ops.specs.TernaryOps.{uses_pattern}
+use Rattle.raster_ops.specs.TernaryOps.{ternary_colour, uses_pattern}
+use Rattle.raster_ops.specs.declared.sources.SourceReader.{SourceReader}
 use Rattle.dc_stack.specs.Clip.{in_box, in_boxes}
-use Rattle.dc_stack.specs.Drawing.{MarkValue, blit_between}
 use Rattle.mapping.specs.Boxes.{box_between}
 use Rattle.mapping.specs.Surface.{Surface, placed_point}
 use Rattle.dc_stack.specs.Values.{placed_value}
 use Rattle.dc_stack.specs.declared.dc.Dc.{Dc}
 use Rattle.dc_stack.specs.declared.draw.PlaneBlit.{PlaneBlit}
+use Rattle.painting.specs.Brushings.{colour_seen}
 use Rattle.painting.specs.Joined.{joined_if}
-
--- the mark of a blit
-abbrev pub blit_mark : PlaneBlit → MarkValue
-blit_mark blit = blit_between blit.first blit.second blit.operation.table (source_of blit.source)
 
 -- the colour that the brush gives a pixel, or nothing: any, where the operation doesn't depend on the pattern
 abbrev pub blit_colour : TernaryOp → Dc → ℕ → ℕ → Option Colour
@@ -37,3 +37,13 @@ blit_paints blit s dc x y =
 abbrev pub blit_made : PlaneBlit → Surface → Dc → ℕ → ℕ → Colour → Colour
 blit_made blit s dc x y old =
     joined_if blit.operation.table (source_colour (source_of blit.source) (placed_point blit.first s) (placed_point blit.second s) x y) (blit_colour blit.operation dc x y) old
+
+-- a blit was painted
+abbrev pub PaintsBlit : PlaneBlit → Surface → Dc → CanvasState → CanvasState → Type 0
+PaintsBlit blit s dc old new = Repaints (blit_paints blit s dc) (blit_made blit s dc) old new
+
+-- an operation makes the same of what a reader shows as of what a source shows between two corners
+abbrev pub SeesAs : ℕ → Option SourceReader → Option SourceValue → Point → Point → Type 0
+SeesAs table reader source first second =
+    (x y : ℕ) (paint old : Colour)
+    → ternary_colour table paint (colour_seen reader x y) old ≡ ternary_colour table paint (source_colour source first second x y) old

@@ -1,6 +1,11 @@
 -- The column and the row of a placed point.
-use Rattle.std.specs.Prelude.{ℕ, ℤ, pos, negsuc, Option, Some, None}
+use Rattle.std.specs.Prelude.{ℕ, ℤ, pos, negsuc, ◌&&◌, Option, Some, None}
+use Rattle.mapping.specs.Surface.{is_pixel}
+use Rattle.mapping.specs.declared.geometry.Colour.{Colour}
 use Rattle.mapping.specs.declared.geometry.Point.{Point}
+use Rattle.canvas.specs.CanvasState.{CanvasState}
+use Rattle.canvas.specs.Writing.{Repaints}
+use Rattle.dc_stack.specs.Clip.{ClipValue, in_boxes}
 
 -- a column and a row, if neither is negative
 abbrev pub naturals : ℤ → ℤ → Option (ℕ × ℕ)
@@ -11,3 +16,7 @@ naturals (negsuc x) y = None
 -- those of a placed point
 abbrev pub indexes_of : Point → Option (ℕ × ℕ)
 indexes_of point = naturals point.x point.y
+
+-- the pixel that a placed point is was written in a colour, if a clip has it
+abbrev pub PutsDot : ClipValue → Point → Colour → CanvasState → CanvasState → Type 0
+PutsDot clip point colour old new = Repaints (λ x y. in_boxes clip x y && is_pixel point x y) (λ x y c. colour) old new

@@ -1,31 +1,26 @@
 -- What a paint makes of the pixels of a shape.
-use Rattle.std.specs.Prelude.{ℕ, Bool, ◌&&◌, Option, Some, None, is_some}
-use Rattle.mapping.specs.Colours.{black_colour}
+use Rattle.std.specs.Prelude.{◌≡◌, ℕ, Bool, ◌&&◌}
 use Rattle.mapping.specs.declared.geometry.Colour.{Colour}
-use Rattle.dib_views.specs.PictureOf.{picture_of}
-use Rattle.dib_views.specs.Pictures.{picture_colour}
-use Rattle.draw_ops.specs.Objects.{brush_value_of}
-use Rattle.dc_stack.specs.Clip.{in_boxes}
-use Rattle.dc_stack.specs.Values.{placed_value}
-use Rattle.raster_ops.specs.Paints.{brush_paint}
-use Rattle.raster_ops.specs.Readers.{column_read, row_read}
-use Rattle.raster_ops.specs.declared.sources.SourceReader.{SourceReader}
-use Rattle.painting.specs.Joined.{joined_if}
-use Rattle.painting.specs.declared.brushing.Brushing.{Brushing}
+use Rattle.canvas.specs.CanvasState.{CanvasState}
+use Rattle.canvas.specs.Writing.{Repaints}
+use Rattle.dc_stack.specs.Clip.{ClipValue, in_boxes}
 
--- the paint's colour at a pixel, or nothing
-abbrev pub colour_of : Brushing → ℕ → ℕ → Option Colour
-colour_of paint x y = brush_paint (brush_value_of paint.brush) paint.modes.background_mode paint.modes.background_colour x y
+-- a paint: the clip under which it writes, where it isn't nothing, and what it makes of the old colours there
+pub record PaintValue : Type 0 where
+  pub clip : ClipValue
+  pub has : ℕ → ℕ → Bool
+  pub makes : ℕ → ℕ → Colour → Colour
 
--- the colour that is read at a pixel, and black where nothing is read
-abbrev pub colour_seen : Option SourceReader → ℕ → ℕ → Colour
-colour_seen None x y = black_colour
-colour_seen (Some reader) x y = picture_colour (picture_of reader.picture) (column_read reader x) (row_read reader y)
+-- it writes a pixel of a shape that its clip has, where it isn't nothing
+abbrev pub paints : PaintValue → (ℕ → ℕ → Bool) → ℕ → ℕ → Bool
+paints paint shape x y = in_boxes paint.clip x y && shape x y && paint.has x y
 
--- the paint writes the pixel, if the shape has it: the clip has it, and the paint there isn't nothing
-abbrev pub paints : Brushing → (ℕ → ℕ → Bool) → ℕ → ℕ → Bool
-paints paint shape x y = in_boxes (placed_value paint.clip.now) x y && shape x y && is_some (colour_of paint x y)
+-- what a paint writes of a shape is written, and nothing else
+abbrev pub PaintsShape : PaintValue → (ℕ → ℕ → Bool) → CanvasState → CanvasState → Type 0
+PaintsShape paint shape old new = Repaints (paints paint shape) paint.makes old new
 
--- and makes this of its old colour
-abbrev pub made : Brushing → ℕ → ℕ → Colour → Colour
-made paint x y old = joined_if paint.operation.op.table (colour_seen paint.source x y) (colour_of paint x y) old
+-- two paints do the same
+pub record SamePaint (one other : PaintValue) : Type 0 where
+  pub clip : one.clip ≡ other.clip
+  pub has : (x y : ℕ) → one.has x y ≡ other.has x y
+  pub makes : (x y : ℕ) (old : Colour) → one.makes x y old ≡ other.makes x y old

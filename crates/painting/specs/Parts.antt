@@ -1,9 +1,14 @@
 -- What of an outline is painted.
-use Rattle.std.specs.Prelude.{ℕ, Bool, List}
+use Rattle.std.specs.Prelude.{◌≡◌, ℕ, ◌≤◌, Bool, List}
+use Rattle.canvas.specs.CanvasState.{CanvasState}
+use Rattle.dc_stack.specs.Values.{placed_value}
+use Rattle.dc_stack.specs.declared.clip.Clip.{Clip}
 use Rattle.span_fill.specs.Fill.{in_fill}
-use Rattle.span_fill.specs.RowState.{RowWork, filling, stroking}
+use Rattle.span_fill.specs.RowState.{RowState, RowWork, filling, stroking}
 use Rattle.span_fill.specs.Strokes.{in_stroke}
 use Rattle.span_fill.specs.declared.line.Line.{Line}
+use Rattle.span_fill.specs.declared.span.Span.{Span}
+use Rattle.painting.specs.Regions.{HasVisible}
 use Rattle.painting.specs.declared.parts.Part.{Part}
 use Rattle.painting.specs.declared.parts.Part.TheVariants.{Inside, Lines}
 
@@ -16,3 +21,11 @@ part_has Lines lines = in_stroke lines
 abbrev pub work_of : Part → RowWork
 work_of (Inside rule) = filling rule
 work_of Lines = stroking
+
+-- a row buffer begins with a part at the first of these rows, which have, in these columns, what is seen of it under a clip
+pub record HasPart (part : Part) (rows : Span) (clip : Clip) (columns : Span) (buffer : RowState) (canvas : CanvasState) : Type 0 where
+  pub work : buffer.work ≡ work_of part
+  pub next : buffer.next ≡ rows.from
+  pub order : columns.from ≤ columns.to
+  pub side : rows.to ≤ 8192
+  pub visible : HasVisible (placed_value clip) (part_has part buffer.lines) canvas (record { columns = columns; rows = rows })

@@ -1,18 +1,33 @@
 -- Columns and rows of surfaces, and the boxes that drawings take there.
-use Rattle.std.specs.Prelude.{◌≡◌, ℕ, ◌≤◌, ◌≤ℤ◌, true, List, IsTrue}
+use Rattle.std.specs.Prelude.{◌≡◌, ℕ, ◌+◌, ◌≤◌, ◌≤ℤ◌, Bool, true, List, IsTrue}
 use Rattle.std.specs.List.{list_all}
 use Rattle.mapping.specs.Boxes.{IsLeastBox}
 use Rattle.mapping.specs.Surface.{Surface, lands_within_limits}
 use Rattle.mapping.specs.declared.geometry.Point.{Point}
 use Rattle.mapping.specs.declared.geometry.Rect.{Rect}
-use Rattle.dc_stack.specs.Clip.{in_box}
+use Rattle.canvas.specs.CanvasState.{CanvasState, HasPixel}
+use Rattle.dc_stack.specs.Clip.{ClipValue, in_box, in_kept}
 use Rattle.preflight_cert.specs.DrawingBoxLaws.{Reaches}
+use Rattle.span_fill.specs.Spans.{in_region}
+use Rattle.span_fill.specs.declared.span.Region.{Region}
 use Rattle.span_fill.specs.declared.span.Span.{Span}
 
 -- the ends of a span are at most 8,192, the longest side of a surface
 pub record IsOfSide (span : Span) : Type 0 where
   pub from : span.from ≤ 8192
   pub to : span.to ≤ 8192
+
+-- a canvas holds the pixels of a region
+pub record HasRegion (canvas : CanvasState) (region : Region) : Type 0 where
+  pub right : region.columns.to ≤ canvas.width
+  pub top : canvas.first ≤ region.rows.from
+  pub bottom : region.rows.to ≤ canvas.first + canvas.rows
+
+-- A region of a canvas has no pixel that the kept box of a clip hasn't, and of a shape all that it has.
+pub record HasVisible (clip : ClipValue) (shape : ℕ → ℕ → Bool) (canvas : CanvasState) (region : Region) : Type 0 where
+  pub held : HasRegion canvas region
+  pub kept : (x y : ℕ) → HasPixel canvas x y → in_region region x y ≡ true → in_kept clip.kept x y ≡ true
+  pub all : (x y : ℕ) → HasPixel canvas x y → in_kept clip.kept x y ≡ true → shape x y ≡ true → in_region region x y ≡ true
 
 -- A box of the surface has the pixels that this least box on the plane of some points reaches, if all of them land within the limits; and no
 -- other, if there is a point.

@@ -1,11 +1,15 @@
 -- What an ink makes of the pixels of its row.
-use Rattle.std.specs.Prelude.{ℕ, ◌%◌, Bool, true, false, if◌then◌else◌, slice_index_or, Some, None}
+use Rattle.std.specs.Prelude.{ℕ, ◌%◌, List, Bool, true, false, if◌then◌else◌, slice_index_or, Some, None}
 use Rattle.mapping.specs.declared.geometry.Colour.{Colour}
 use Rattle.mapping.specs.Mixes.{mixed_by}
 use Rattle.mapping.specs.Pixels.{is_cell}
 use Rattle.canvas.specs.MixRows.{mix_at}
 use Rattle.painting.specs.declared.row_ink.RowInk.{RowInk}
 use Rattle.painting.specs.declared.row_ink.RowInk.TheVariants.{Nothing, Full, Pattern, Mixed, Cells, Row, MixRow, MixCells}
+
+-- what the mix of its column makes of a colour, by rows of what they keep and what they flip
+abbrev pub mixed_at : List Colour → List Colour → ℕ → Colour → Colour
+mixed_at keeps flips x old = mixed_by (mix_at keeps flips x) old
 
 -- the ink writes the pixel in column x
 abbrev pub is_inked : RowInk → ℕ → Bool

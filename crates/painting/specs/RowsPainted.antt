@@ -1,32 +1,35 @@
 -- What of a shape is painted, row by row.
-use Rattle.std.specs.Prelude.{◌≡◌, ℕ, ◌≤◌, ◌<◌, Bool, true, ◌&&◌, ◌==◌, nat_lt, is_some, List}
+use Rattle.std.specs.Prelude.{◌≡◌, ℕ, ◌≤◌, ◌<◌, Bool, true, ◌&&◌, ◌==◌, nat_lt, List}
 use Rattle.mapping.specs.declared.geometry.Colour.{Colour}
 use Rattle.canvas.specs.CanvasState.{CanvasState}
 use Rattle.canvas.specs.Writing.{Repaints}
-use Rattle.dc_stack.specs.Values.{placed_value}
 use Rattle.span_fill.specs.Spans.{in_spans}
 use Rattle.span_fill.specs.declared.span.Span.{Span}
-use Rattle.painting.specs.Painted.{colour_of, made, paints}
+use Rattle.painting.specs.Painted.{PaintValue, paints}
 use Rattle.painting.specs.RowInks.{inked, is_inked}
 use Rattle.painting.specs.Strips.{is_painted}
-use Rattle.painting.specs.declared.brushing.Brushing.{Brushing}
 use Rattle.painting.specs.declared.row_ink.RowInk.{RowInk}
 
 -- in the rows before this one
-abbrev pub paints_above : Brushing → (ℕ → ℕ → Bool) → ℕ → ℕ → ℕ → Bool
+abbrev pub paints_above : PaintValue → (ℕ → ℕ → Bool) → ℕ → ℕ → ℕ → Bool
 paints_above paint shape y column row = paints paint shape column row && nat_lt row y
 
 -- in this row
-abbrev pub paints_row : Brushing → (ℕ → ℕ → Bool) → ℕ → ℕ → ℕ → Bool
+abbrev pub paints_row : PaintValue → (ℕ → ℕ → Bool) → ℕ → ℕ → ℕ → Bool
 paints_row paint shape y column row = paints paint shape column row && row == y
 
 -- an ink writes what a paint does in a row, and makes the same of it in these columns
-pub record IsInk (paint : Brushing) (columns : Span) (y : ℕ) (ink : RowInk) : Type 0 where
-  pub test : (x : ℕ) → is_inked ink x ≡ is_some (colour_of paint x y)
-  pub colour : (x : ℕ) (old : Colour) → columns.from ≤ x → x < columns.to → is_inked ink x ≡ true → inked ink x old ≡ made paint x y old
+pub record IsInk (paint : PaintValue) (columns : Span) (y : ℕ) (ink : RowInk) : Type 0 where
+  pub test : (x : ℕ) → is_inked ink x ≡ paint.has x y
+  pub colour : (x : ℕ) (old : Colour) → columns.from ≤ x → x < columns.to → is_inked ink x ≡ true → inked ink x old ≡ paint.makes x y old
+
+-- an ink writes what a paint does in every row
+pub record IsSameInk (paint : PaintValue) (ink : RowInk) : Type 0 where
+  pub test : (x y : ℕ) → is_inked ink x ≡ paint.has x y
+  pub colour : (x y : ℕ) (old : Colour) → inked ink x old ≡ paint.makes x y old
 
 -- the pixels in these spans of a row are painted, by an ink that writes what a paint does there
-pub record PaintsSpans (paint : Brushing) (columns : Span) (y : ℕ) (spans : List Span) (old new : CanvasState) : Type 0 where
+pub record PaintsSpans (paint : PaintValue) (columns : Span) (y : ℕ) (spans : List Span) (old new : CanvasState) : Type 0 where
   pub ink : RowInk
   pub is_ink : IsInk paint columns y ink
-  pub painted : Repaints (is_painted ink (placed_value paint.clip.now).cuts y (in_spans spans)) (λ column row c. inked ink column c) old new
+  pub painted : Repaints (is_painted ink paint.clip.cuts y (in_spans spans)) (λ column row c. inked ink column c) old new

@@ -1,26 +1,25 @@
 -- What is written where marks of pixels are taken.
-use Rattle.std.specs.Prelude.{◌≡◌, ℕ, ◌+◌, ◌*◌, ◌≤◌, ◌^◌, Bool, true, ◌&&◌, not}
-use Rattle.mapping.specs.declared.geometry.Colour.{Colour}
+use Rattle.std.specs.Prelude.{◌≡◌, ℕ, pos, Bool, ◌&&◌, ◌||◌, not, List}
+use Rattle.mapping.specs.Mixes.{mixed_by}
+use Rattle.mapping.specs.declared.mix.Mix.{Mix}
 use Rattle.canvas.specs.CanvasState.{CanvasState}
 use Rattle.canvas.specs.Writing.{Repaints}
-use Rattle.canvas.specs.WritingLaws.{IsWhole}
-use Rattle.painting.specs.Stamps.{StampState, is_taken}
+use Rattle.span_fill.specs.Spans.{in_region}
+use Rattle.span_fill.specs.Strokes.{in_stroke, on_line}
+use Rattle.span_fill.specs.declared.line.Line.{Line}
 use Rattle.span_fill.specs.declared.span.Region.{Region}
+use Rattle.painting.specs.Stamps.{StampState, is_taken}
 
--- a canvas has a box, and at most 2^26 pixels
-pub record MayStamp (region : Region) (canvas : CanvasState) : Type 0 where
-  pub whole : IsWhole canvas
-  pub columns : region.columns.to ≤ canvas.width
-  pub top : canvas.first ≤ region.rows.from
-  pub bottom : region.rows.to ≤ canvas.first + canvas.rows
-  pub pixels : canvas.rows * canvas.width ≤ 2 ^ 26
+-- the region has the pixel, and the line has it
+abbrev pub is_visible : Region → Line → ℕ → ℕ → Bool
+is_visible region line x y = in_region region x y && on_line line (pos x) (pos y)
 
--- the pixel was taken meanwhile
-abbrev pub is_newly_taken : StampState → StampState → ℕ → ℕ → Bool
-is_newly_taken old new x y = is_taken new x y && not (is_taken old x y)
-
--- the pixels that were taken meanwhile are written, each with what f makes of its old colour, and those of before stay taken
-pub record WritesTaken (f : ℕ → ℕ → Colour → Colour) (old new : StampState) (before after : CanvasState) : Type 0 where
+-- the pixels that the box of the marks has of a line are taken, and those that weren't yet are mixed
+pub record StampsLine (line : Line) (mix : Mix) (old new : StampState) (before after : CanvasState) : Type 0 where
   pub region : new.region ≡ old.region
-  pub kept : (x y : ℕ) → is_taken old x y ≡ true → is_taken new x y ≡ true
-  pub written : Repaints (is_newly_taken old new) f before after
+  pub taken : (x y : ℕ) → is_taken new x y ≡ (is_taken old x y || is_visible old.region line x y)
+  pub written : Repaints (λ x y. is_visible old.region line x y && not (is_taken old x y)) (λ x y old. mixed_by mix old) before after
+
+-- the pixels that a region has of some lines are mixed, each once
+abbrev pub MixesLines : Region → List Line → Mix → CanvasState → CanvasState → Type 0
+MixesLines region lines mix old new = Repaints (λ x y. in_region region x y && in_stroke lines x y) (λ x y c. mixed_by mix c) old new

@@ -1,13 +1,18 @@
 -- Which pixels of a row are painted, and what may be.
-use Rattle.std.specs.Prelude.{ℕ, ◌+◌, ◌-◌, ◌*◌, ◌<◌, ◌≤◌, ◌^◌, Bool, ◌&&◌, ◌==◌, not, List}
+use Rattle.std.specs.Prelude.{ℕ, ◌+◌, ◌-◌, ◌*◌, ◌<◌, ◌≤◌, ◌^◌, Bool, ◌&&◌, ◌==◌, not, List, map, if◌then◌else◌}
 use Rattle.std.specs.List.{list_any}
 use Rattle.canvas.specs.CanvasState.{CanvasState, HasRow}
-use Rattle.canvas.specs.Writing.{in_row_span}
+use Rattle.canvas.specs.Writing.{Repaints, in_cells, in_row_span}
 use Rattle.canvas.specs.WritingLaws.{IsWhole}
+use Rattle.mapping.specs.Mixes.{mixed_by}
+use Rattle.mapping.specs.Pixels.{is_cell}
+use Rattle.mapping.specs.declared.geometry.Colour.{Colour}
 use Rattle.mapping.specs.declared.geometry.Rect.{Rect}
+use Rattle.mapping.specs.declared.mix.Mix.{Mix}
 use Rattle.dc_stack.specs.Clip.{in_box}
+use Rattle.dc_stack.specs.declared.clip.ClipBox.{ClipBox}
 use Rattle.span_fill.specs.declared.span.Span.{Span}
-use Rattle.painting.specs.RowInks.{is_inked}
+use Rattle.painting.specs.RowInks.{inked, is_inked}
 use Rattle.painting.specs.declared.row_ink.RowInk.{RowInk}
 
 -- columns of a row may be painted on a canvas: it holds them, and its count has room for two writes of each
@@ -33,3 +38,23 @@ is_uncut cuts x y = not (list_any (λ box. in_box box x y) cuts)
 -- the pixel lies in row y, in one of the columns, and isn't cut out, and the ink writes it
 abbrev pub is_painted : RowInk → List Rect → ℕ → (ℕ → Bool) → ℕ → ℕ → Bool
 is_painted ink cuts y columns column row = row == y && columns column && is_uncut cuts column row && is_inked ink column
+
+-- where boxes that are cut out lie on the surface
+abbrev pub placed_boxes : List ClipBox → List Rect
+placed_boxes cuts = map (λ (b : ClipBox). b.placed) cuts
+
+-- an ink wrote what it makes of those pixels
+abbrev pub PutsInk : RowInk → List Rect → ℕ → (ℕ → Bool) → CanvasState → CanvasState → Type 0
+PutsInk ink cuts y columns old new = Repaints (is_painted ink cuts y columns) (λ column row c. inked ink column c) old new
+
+-- these columns of a row became what f makes of them
+abbrev pub MakesColumns : ℕ → Span → (ℕ → Colour → Colour) → CanvasState → CanvasState → Type 0
+MakesColumns y columns f old new = Repaints (in_columns y columns) (λ column row c. f column c) old new
+
+-- so did those of them that are cells
+abbrev pub MakesCells : ℕ → Span → ℕ → (ℕ → Colour → Colour) → CanvasState → CanvasState → Type 0
+MakesCells y columns cells f old new = Repaints (in_cells y columns.from columns.to cells) (λ column row c. f column c) old new
+
+-- what one mix makes of the cells, and another of the gaps between them
+abbrev pub mixed_cells : ℕ → Mix → Mix → ℕ → Colour → Colour
+mixed_cells cells mix gaps column old = if is_cell cells column then mixed_by mix old else mixed_by gaps old

@@ -1,21 +1,15 @@
 //! Blits: boxes of which each pixel becomes what a ternary raster operation makes of the brush, of what is
 //! read, and of the colour that is there.
 
-ghost use Rattle.std.specs.Prelude.{◌≡◌, ℕ, true, IfSome};
+ghost use Rattle.std.specs.Prelude.{◌≡◌, true, IfSome};
 ghost use Rattle.mapping.specs.Boxes.{box_between};
 ghost use Rattle.mapping.specs.PlaceOf.{surface_of};
-ghost use Rattle.mapping.specs.Surface.{FitsPlace, lands_within_limits, placed_point};
-ghost use Rattle.mapping.specs.declared.geometry.Colour.{Colour};
-ghost use Rattle.canvas.specs.Writing.{Repaints};
+ghost use Rattle.mapping.specs.Surface.{FitsPlace, placed_point};
 ghost use Rattle.draw_ops.specs.Blits.{source_of};
-ghost use Rattle.raster_ops.specs.Sources.{is_readable, source_colour};
-ghost use Rattle.raster_ops.specs.TernaryOps.{ternary_colour, uses_source};
-ghost use Rattle.dc_stack.specs.Drawing.{tools_of};
-ghost use Rattle.preflight_cert.specs.Layer.{plain_layers_of};
-ghost use Rattle.painting.specs.Blits.{blit_made, blit_mark, blit_paints};
+ghost use Rattle.raster_ops.specs.Sources.{is_readable};
+ghost use Rattle.raster_ops.specs.TernaryOps.{uses_source};
+ghost use Rattle.painting.specs.Blits.{PaintsBlit, SeesAs};
 ghost use Rattle.painting.specs.Counts.{CountsLayer, HasRoomForLayer};
-ghost use Rattle.painting.specs.Drawn.{DrawsLayers, HoldsRows, SameRows};
-ghost use Rattle.painting.specs.Painted.{colour_seen};
 ghost use Rattle.painting.specs.SourceRows.{ReadsBox};
 
 use crate::brushing::Brushing;
@@ -24,40 +18,24 @@ use crate::ink_room::InkRoom;
 use crate::rectangles::between;
 use crate::regions::whole_law;
 use canvas::{Canvas, writing_law};
-use dc_stack::{Dc, Machine, PlaneBlit};
+use dc_stack::{Dc, PlaneBlit};
 use mapping::{Place, Point};
-use object_tables::Table;
 use raster_ops::{SourceReader, dependence_law, uses_source};
-
-/// Draws a blit, with the tools of the moment. Where the operation depends on the source, there is something to read.
-pub(crate) fn draw_blit<'a, T: Table<'a>>(
-    asked: &PlaneBlit<'a>,
-    machine: &Machine<'a, T>,
-    room: &mut InkRoom,
-    canvas: &mut Canvas,
-)
-    requires held { HoldsRows canvas.old machine.now.surface }
-    requires countable { HasRoomForLayer canvas.old }
-    requires near { lands_within_limits asked.now.first machine.now.surface ≡ true }
-    requires far { lands_within_limits asked.now.second machine.now.surface ≡ true }
-    requires readable { uses_source asked.now.operation.table ≡ true → is_readable (source_of asked.now.source) ≡ true }
-    ensures drawn { DrawsLayers (plain_layers_of (blit_mark asked.now) (tools_of machine.now.state.dc)) machine.now.surface canvas.old canvas.new }
-    ensures rows { SameRows canvas.old canvas.new }
-    ensures few { CountsLayer canvas.old canvas.new }
-{
-    writing_law();
-    whole_law(canvas);
-    blit(asked, machine.place(), machine.dc(), room, canvas);
-}
 
 /// Paints the box of a blit, with the brush and under the clip of the moment. Where the operation depends on the
 /// source, there is something to read.
-fn blit(asked: &PlaneBlit<'_>, place: Place, dc: &Dc<'_>, room: &mut InkRoom, canvas: &mut Canvas)
+pub(crate) fn blit(
+    asked: &PlaneBlit<'_>,
+    place: Place,
+    dc: &Dc<'_>,
+    room: &mut InkRoom,
+    canvas: &mut Canvas,
+)
     requires countable { HasRoomForLayer canvas.old }
     requires near { FitsPlace (placed_point asked.now.first (surface_of place)) }
     requires far { FitsPlace (placed_point asked.now.second (surface_of place)) }
     requires readable { uses_source asked.now.operation.table ≡ true → is_readable (source_of asked.now.source) ≡ true }
-    ensures pixels { Repaints (blit_paints asked.now (surface_of place) dc.now) (blit_made asked.now (surface_of place) dc.now) canvas.old canvas.new }
+    ensures pixels { PaintsBlit asked.now (surface_of place) dc.now canvas.old canvas.new }
     ensures few { CountsLayer canvas.old canvas.new }
 {
     writing_law();
@@ -74,7 +52,7 @@ fn reader_of<'a>(asked: &PlaneBlit<'a>, first: Point, second: Point) -> Option<S
     requires second { FitsPlace second }
     requires readable { uses_source asked.now.operation.table ≡ true → is_readable (source_of asked.now.source) ≡ true }
     ensures reads { IfSome result (λ reader. ReadsBox reader (box_between first second)) }
-    ensures seen { (x y : ℕ) (paint old : Colour) → ternary_colour asked.now.operation.table paint (colour_seen result x y) old ≡ ternary_colour asked.now.operation.table paint (source_colour (source_of asked.now.source) first second x y) old }
+    ensures seen { SeesAs asked.now.operation.table result (source_of asked.now.source) first second }
 {
     dependence_law();
     if uses_source(asked.operation) {

@@ -2,23 +2,29 @@
 
 ghost use Rattle.std.specs.Prelude.{◌≡◌, ◌≤◌, ℕ, None, IfSome, if◌then◌else◌};
 ghost use Rattle.mapping.specs.Colours.{black_colour};
+ghost use Rattle.dc_stack.specs.Drawing.{tools_of};
+ghost use Rattle.draw_ops.specs.Objects.{brush_value_of};
 ghost use Rattle.draw_ops.specs.declared.objects.Brush.TheVariants.{Solid};
 ghost use Rattle.raster_ops.specs.BrushRows.{row_paint};
-ghost use Rattle.raster_ops.specs.RasterOps.{binary_table};
 ghost use Rattle.raster_ops.specs.Readers.{row_read};
 ghost use Rattle.raster_ops.specs.TernaryOps.{uses_pattern};
-ghost use Rattle.span_fill.specs.declared.span.Span.{Span};
+ghost use Rattle.painting.specs.Painted.{SamePaint};
+ghost use Rattle.painting.specs.PaintsOfLayers.{IsBrushingOf};
 ghost use Rattle.painting.specs.SourceRows.{HoldsRow};
 
 use crate::ink_room::{BLACK, MAX_SIDE, MixRoom};
 use crate::row_ink::{RowInk, full, row_ink, source_ink};
-use dc_stack::{Clip, Dc, Modes};
+use crate::row_painter::{Inks, RowPainter};
+use dc_stack::{Clip, Dc, Machine, Modes};
 use draw_ops::{Brush, TernaryOp};
 use mapping::Colour;
-use raster_ops::{BrushRow, SourceReader, TernaryMixer, brush_row, ternary_of, uses_pattern};
+use object_tables::Table;
+use raster_ops::{
+    BrushRow, SourceReader, TernaryMixer, binary_law, brush_row, ternary_of, uses_pattern,
+};
 use span_fill::Span;
 
-/// What a brush makes of pixels, in the modes of the moment and under a clip. A pen is a brush of one colour.
+/// What a brush makes of pixels, in the modes of the moment and under a clip.
 #[derive(Clone, Copy, Debug)]
 pub(crate) struct Brushing<'d, 'a> {
     pub(crate) brush: Brush<'a>,
@@ -30,17 +36,21 @@ pub(crate) struct Brushing<'d, 'a> {
 }
 
 impl<'d, 'a> Brushing<'d, 'a> {
-    ghost use Rattle.painting.specs.Painted.{colour_of};
-    ghost use Rattle.painting.specs.RowsPainted.{IsInk};
+    ghost use Rattle.painting.specs.Brushings.{brushing_paint, colour_of};
+    ghost use Rattle.painting.specs.RowPainters.{ReadsAs, ReadsNothing, painter_paint};
+    ghost use Rattle.painting.specs.RowsPainted.{IsInk, IsSameInk};
 
     /// What a brush makes of pixels at the moment.
-    pub(crate) fn with(brush: Brush<'a>, dc: &'d Dc<'a>) -> Brushing<'d, 'a>
-        ensures brush { result.brush ≡ brush.entry }
-        ensures modes { result.modes ≡ dc.now.modes }
-        ensures operation { result.operation.op.table ≡ binary_table dc.now.modes.raster_op }
+    pub(crate) fn with<T: Table<'a>>(
+        brush: Brush<'a>,
+        machine: &'d Machine<'a, T>,
+    ) -> Brushing<'d, 'a>
+        ensures paint { IsBrushingOf (brush_value_of brush.entry) (tools_of machine.now.state.dc) machine.now.surface result }
+        ensures modes { result.modes ≡ machine.now.state.dc.modes }
         ensures alone { result.source ≡ None }
-        ensures clip { result.clip.now ≡ dc.now.clip }
     {
+        binary_law();
+        let dc = machine.dc();
         Brushing {
             brush,
             modes: dc.modes,
@@ -77,9 +87,28 @@ impl<'d, 'a> Brushing<'d, 'a> {
         }
     }
 
+    /// What paints rows so, in some columns: with one ink for all, if it makes the same of each.
+    pub(crate) fn painter<'p>(&'p self, columns: Span) -> RowPainter<'p, 'd, 'a>
+        ensures paint { SamePaint (painter_paint result) (brushing_paint self.now) }
+        ensures columns { result.columns ≡ columns }
+        ensures clip { result.clip.now ≡ self.now.clip.now }
+        ensures alone { self.now.source ≡ None → ReadsNothing result.inks }
+        ensures reads { ReadsAs self.now.source columns result.inks }
+    {
+        let inks = match self.same_ink() {
+            Some(ink) => Inks::Same(ink),
+            None => Inks::EachRow(self),
+        };
+        RowPainter {
+            clip: self.clip,
+            columns,
+            inks,
+        }
+    }
+
     /// What it makes of the pixels of each row, if that is the same in each: its brush has one colour, and nothing is read.
-    pub(crate) fn same_ink(&self) -> Option<RowInk<'static>>
-        ensures { IfSome result (λ ink. (columns : Span) (y : ℕ) → IsInk self.now columns y ink) }
+    fn same_ink(&self) -> Option<RowInk<'static>>
+        ensures { IfSome result (IsSameInk (brushing_paint self.now)) }
     {
         match (self.brush, self.source) {
             (Brush::Solid(colour), None) => Some(full(self.operation.mix(colour, BLACK))),
@@ -98,7 +127,7 @@ impl<'d, 'a> Brushing<'d, 'a> {
         requires order { columns.from ≤ columns.to }
         requires end { columns.to ≤ 8192 }
         requires seen { IfSome self.now.source (λ reader. HoldsRow reader columns (row_read reader y) sources.now) }
-        ensures { IsInk self.now columns y result }
+        ensures { IsInk (brushing_paint self.now) columns y result }
     {
         let row = self.brush_row(y);
         match self.source {

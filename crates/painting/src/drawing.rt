@@ -2,34 +2,31 @@
 
 ghost use Rattle.std.specs.Prelude.{◌≡◌, ◌≤◌, IfSome};
 ghost use Rattle.std.specs.Option.{option_map};
-ghost use Rattle.dc_stack.specs.Draws.{IsPlacedDraw, mark_of};
-ghost use Rattle.dc_stack.specs.Drawing.{drawing_edges, mark_edges, tools_of};
+ghost use Rattle.dc_stack.specs.Draws.{IsPlacedDraw};
+ghost use Rattle.dc_stack.specs.Drawing.{drawing_edges, tools_of};
 ghost use Rattle.dc_stack.specs.MachineState.{drawing_with};
-ghost use Rattle.draw_ops.specs.declared.objects.Pen.TheVariants.{Solid};
-ghost use Rattle.preflight_cert.specs.Layer.{fills_of, strokes_of};
-ghost use Rattle.painting.specs.Counts.{CountsDrawing, CountsLayer, HasRoomForDrawing, HasRoomForLayer};
-ghost use Rattle.painting.specs.Drawn.{DrawsDrawing, DrawsLayers, HoldsRows, SameRows};
+ghost use Rattle.painting.specs.Counts.{CountsDrawing, HasRoomForDrawing, HasRoomForLayer};
+ghost use Rattle.painting.specs.Drawn.{DrawsDrawing, HoldsRows, SameRows};
+ghost use Rattle.painting.specs.Draws.{Draws, Fills, MayDraw, Strokes};
+ghost use Rattle.painting.specs.PaintsOfLayers.{IsPenOf};
 
-use crate::blits::draw_blit;
+use crate::blits::blit;
 use crate::brushing::Brushing;
-use crate::dots::draw_dot;
+use crate::dots::put;
 use crate::figure_outline::{FigureOutline, stroked_ends};
-use crate::filling::fill_box;
+use crate::filling::{fill_box, fill_inside};
 use crate::list_lines::Ends;
-use crate::parts::{Part, paint_part, rule_of};
-use crate::rectangles::rectangle_box;
+use crate::lone_line::LoneLine;
+use crate::rectangles::placed_box;
 use crate::regions::{landed_box, misses_rows, whole_law};
 use crate::room::DrawingRoom;
-use crate::stamping::stroke_marked;
-use crate::stroking::{stroke_box, stroke_line};
+use crate::stroke::Stroke;
+use crate::stroking::{stroke_box, stroke_lines};
 use canvas::{Canvas, writing_law};
 use dc_stack::{Draw, Machine, Mark, Painting};
 use draw_ops::{Brush, Pen};
-use mapping::Colour;
 use object_tables::Table;
 use preflight_cert::{drawing_box_law, missed_rows_law};
-use raster_ops::binary_law;
-use span_fill::Line;
 
 /// Draws what a step of the machine draws, if it draws, with the tools of its moment. A drawing whose box misses the rows held is
 /// not painted: it has no pixel there. The count of writes has room for two layers of a surface of 2^26 pixels, and the
@@ -57,9 +54,30 @@ pub fn draw<'a, T: Table<'a>>(
     if misses_rows(canvas, machine.place(), drawn.bounds) {
         return;
     }
+    paint(drawn, machine, room, canvas);
+}
+
+/// Paints what a step draws: a dot is a pixel in its own colour, a blit a box, and what else there is is filled and then stroked.
+fn paint<'a, T: Table<'a>>(
+    drawn: Draw<'a>,
+    machine: &Machine<'a, T>,
+    room: &mut DrawingRoom,
+    canvas: &mut Canvas,
+)
+    requires may { MayDraw drawn machine.now room.old canvas.old }
+    requires countable { HasRoomForDrawing canvas.old }
+    ensures drawn { Draws drawn.entry machine.now canvas.old canvas.new }
+    ensures rows { SameRows canvas.old canvas.new }
+    ensures few { CountsDrawing canvas.old canvas.new }
+    ensures room { room.new.rows.room ≡ room.old.rows.room }
+{
+    writing_law();
+    whole_law(canvas);
+    let dc = machine.dc();
+    let place = machine.place();
     match drawn.mark {
-        Mark::Dot { at, colour } => draw_dot(at, colour, machine, canvas),
-        Mark::Blit(asked) => draw_blit(&asked, machine, &mut room.inks, canvas),
+        Mark::Dot { at, colour } => put(place.at(at), colour, &dc.clip, canvas),
+        Mark::Blit(asked) => blit(&asked, place, dc, &mut room.inks, canvas),
         Mark::Line { .. } | Mark::Figures { .. } | Mark::Rectangle { .. } => {
             fill(drawn, machine, room, canvas);
             stroke(drawn, machine, room, canvas);
@@ -74,123 +92,105 @@ fn fill<'a, T: Table<'a>>(
     room: &mut DrawingRoom,
     canvas: &mut Canvas,
 )
-    requires held { HoldsRows canvas.old machine.now.surface }
+    requires may { MayDraw drawn machine.now room.old canvas.old }
     requires countable { HasRoomForLayer canvas.old }
-    requires placed { IsPlacedDraw machine.now.surface machine.now.painted drawn }
-    requires lines { mark_edges (mark_of machine.now.painted drawn) ≤ room.old.rows.room }
-    ensures drawn { DrawsLayers (fills_of (mark_of machine.now.painted drawn.entry) (tools_of machine.now.state.dc)) machine.now.surface canvas.old canvas.new }
-    ensures rows { SameRows canvas.old canvas.new }
-    ensures few { CountsLayer canvas.old canvas.new }
+    ensures drawn { Fills drawn.entry machine.now canvas.old canvas.new }
     ensures room { room.new.rows.room ≡ room.old.rows.room }
 {
     writing_law();
     whole_law(canvas);
-    binary_law();
     drawing_box_law();
-    let dc = machine.dc();
-    let place = machine.place();
-    if let Brush::Null = dc.selected.brush {
+    let brush = machine.dc().selected.brush;
+    if let Brush::Null = brush {
         return;
     }
-    let paint = Brushing::with(dc.selected.brush, dc);
+    let place = machine.place();
+    let paint = Brushing::with(brush, machine);
     match drawn.mark {
+        Mark::Dot { .. } | Mark::Line { .. } | Mark::Blit(_) => {}
         Mark::Figures { painting, points } => {
             if let Painting::Stroke = painting {
                 return;
             }
             let outline = FigureOutline::new(points, Ends::Closed, machine);
-            let part = Part::Inside(rule_of(dc.modes.fill_mode));
-            let landed = landed_box(place, drawn.bounds);
-            let DrawingRoom { rows, inks, .. } = room;
-            paint_part(canvas, rows, outline, part, landed, &paint, inks);
+            fill_inside(
+                canvas,
+                room,
+                outline,
+                landed_box(place, drawn.bounds),
+                &paint,
+            );
         }
         Mark::Rectangle {
             first,
             second,
             edges,
         } => {
-            let inside = rectangle_box(place.at(first), place.at(second), edges);
+            let inside = placed_box(place, first, second, edges);
             fill_box(canvas, inside, &paint, &mut room.inks);
         }
-        Mark::Dot { .. } | Mark::Line { .. } | Mark::Blit(_) => {}
     }
 }
 
-/// Strokes what a step draws, if the pen draws.
+/// Strokes the outline of what a step draws, if it has one and the pen draws.
 fn stroke<'a, T: Table<'a>>(
     drawn: Draw<'a>,
     machine: &Machine<'a, T>,
     room: &mut DrawingRoom,
     canvas: &mut Canvas,
 )
-    requires held { HoldsRows canvas.old machine.now.surface }
+    requires may { MayDraw drawn machine.now room.old canvas.old }
     requires countable { HasRoomForLayer canvas.old }
-    requires placed { IsPlacedDraw machine.now.surface machine.now.painted drawn }
-    requires lines { mark_edges (mark_of machine.now.painted drawn) ≤ room.old.rows.room }
-    ensures drawn { DrawsLayers (strokes_of (mark_of machine.now.painted drawn.entry) (tools_of machine.now.state.dc)) machine.now.surface canvas.old canvas.new }
-    ensures rows { SameRows canvas.old canvas.new }
-    ensures few { CountsLayer canvas.old canvas.new }
+    ensures drawn { Strokes drawn.entry machine.now canvas.old canvas.new }
     ensures room { room.new.rows.room ≡ room.old.rows.room }
 {
+    whole_law(canvas);
     let Pen::Solid { colour } = machine.dc().selected.pen else {
         return;
     };
-    stroke_outline(drawn, colour, machine, room, canvas);
+    stroke_outline(drawn, &Stroke::with(colour, machine), machine, room, canvas);
 }
 
-/// Strokes the outline of what a step draws, in the colour of the pen. A dot and a blit have none.
+/// Strokes the outline of what a step draws, if it has one. The stroke is that of the pen.
 fn stroke_outline<'a, T: Table<'a>>(
     drawn: Draw<'a>,
-    colour: Colour,
+    stroke: &Stroke<'_>,
     machine: &Machine<'a, T>,
     room: &mut DrawingRoom,
     canvas: &mut Canvas,
 )
-    requires held { HoldsRows canvas.old machine.now.surface }
+    requires may { MayDraw drawn machine.now room.old canvas.old }
     requires countable { HasRoomForLayer canvas.old }
-    requires placed { IsPlacedDraw machine.now.surface machine.now.painted drawn }
-    requires lines { mark_edges (mark_of machine.now.painted drawn) ≤ room.old.rows.room }
-    requires pen { machine.now.state.dc.selected.pen.object ≡ Solid colour }
-    ensures drawn { DrawsLayers (strokes_of (mark_of machine.now.painted drawn.entry) (tools_of machine.now.state.dc)) machine.now.surface canvas.old canvas.new }
-    ensures rows { SameRows canvas.old canvas.new }
-    ensures few { CountsLayer canvas.old canvas.new }
+    requires pen { IsPenOf (tools_of machine.now.state.dc) machine.now.surface stroke.now }
+    ensures drawn { Strokes drawn.entry machine.now canvas.old canvas.new }
     ensures room { room.new.rows.room ≡ room.old.rows.room }
 {
     writing_law();
     whole_law(canvas);
-    binary_law();
     drawing_box_law();
-    let dc = machine.dc();
     let place = machine.place();
-    let paint = Brushing::with(Brush::Solid(colour), dc);
     match drawn.mark {
         Mark::Dot { .. } | Mark::Blit(_) => {}
         Mark::Line { from, to } => {
-            let line = Line {
-                from: place.at(from),
-                to: place.at(to),
-            };
-            stroke_line(canvas, line, &paint, colour);
+            let landed = landed_box(place, drawn.bounds);
+            stroke_lines(canvas, room, LoneLine::new(place, from, to), landed, stroke);
         }
         Mark::Figures { painting, points } => {
-            let Some(ends) = stroked_ends(painting) else {
-                return;
-            };
-            let outline = FigureOutline::new(points, ends, machine);
-            let landed = landed_box(place, drawn.bounds);
-            let DrawingRoom { rows, marks, inks } = room;
-            if stroke_marked(canvas, marks, outline, landed, &paint, colour) {
-                return;
+            if let Some(ends) = stroked_ends(painting) {
+                let outline = FigureOutline::new(points, ends, machine);
+                let landed = landed_box(place, drawn.bounds);
+                stroke_lines(canvas, room, outline, landed, stroke);
             }
-            paint_part(canvas, rows, outline, Part::Lines, landed, &paint, inks);
         }
         Mark::Rectangle {
             first,
             second,
             edges,
-        } => {
-            let inside = rectangle_box(place.at(first), place.at(second), edges);
-            stroke_box(canvas, inside, &paint, colour, room);
-        }
+        } => stroke_box(
+            canvas,
+            room,
+            placed_box(place, first, second, edges),
+            stroke,
+        ),
     }
 }

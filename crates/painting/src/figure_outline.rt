@@ -1,12 +1,9 @@
 //! The lines of figures that are painted, where they land.
 
-ghost use Rattle.std.specs.Prelude.{◌≡◌, ◌<◌, ◌^◌, IsTrue, length};
-ghost use Rattle.std.specs.List.{list_all};
-ghost use Rattle.mapping.specs.Surface.{lands_within_limits};
+ghost use Rattle.std.specs.Prelude.{◌≡◌, ◌<◌, ◌^◌, length};
 ghost use Rattle.dc_stack.specs.Draws.{LendsLanded, figures_drawn};
 ghost use Rattle.dc_stack.specs.Figures.{points_of_figures};
-ghost use Rattle.painting.specs.FigureEnds.{lines_of_figures, stroked_ends};
-ghost use Rattle.preflight_cert.specs.FigureLines.{placed_figures};
+ghost use Rattle.painting.specs.FigureEnds.{FiguresLand, landed_lines, stroked_ends};
 
 use crate::list_lines::Ends;
 use crate::piece_lines::PieceLines;
@@ -34,9 +31,9 @@ impl<'p, 'a> FigureOutline<'p, 'a> {
         machine: &'p Machine<'a, T>,
     ) -> FigureOutline<'p, 'a>
         requires lent { LendsLanded machine.now.surface machine.now.painted points }
-        requires land { IsTrue (list_all (λ p. lands_within_limits p machine.now.surface) (points_of_figures (figures_drawn machine.now.painted points))) }
+        requires land { FiguresLand machine.now.surface (figures_drawn machine.now.painted points) }
         requires few { length (points_of_figures (figures_drawn machine.now.painted points)) < 2 ^ 64 }
-        ensures { outline_left result ≡ lines_of_figures ends (placed_figures machine.now.surface (figures_drawn machine.now.painted points.entry)) }
+        ensures { outline_left result ≡ landed_lines machine.now.surface ends (figures_drawn machine.now.painted points.entry) }
     {
         let place = machine.place();
         match points {

@@ -1,19 +1,50 @@
-//! Boxes, painted row by row.
+//! The inside of outlines and of boxes, painted row by row.
 
-ghost use Rattle.std.specs.Prelude.{◌≡◌, IfSome};
-ghost use Rattle.canvas.specs.Writing.{Repaints};
+ghost use Rattle.std.specs.Prelude.{◌≡◌, ◌≤◌, ℕ, None, true, length, IfSome};
 ghost use Rattle.dc_stack.specs.Clip.{in_box};
+ghost use Rattle.painting.specs.Brushings.{brushing_paint, in_inside};
 ghost use Rattle.painting.specs.Counts.{CountsLayer, HasRoomForLayer};
-ghost use Rattle.painting.specs.Painted.{made, paints};
+ghost use Rattle.painting.specs.Painted.{PaintsShape};
 ghost use Rattle.painting.specs.SourceRows.{ReadsBox};
 
-use crate::brushed_row::put_row;
 use crate::brushing::Brushing;
 use crate::ink_room::InkRoom;
-use crate::regions::{common, visible};
+use crate::parts::{Part, paint_rows, rule_of};
+use crate::regions::{visible_in, whole_law};
+use crate::room::DrawingRoom;
 use crate::source_rows::read_row;
 use canvas::{Canvas, writing_law};
 use mapping::Rect;
+use span_fill::Outline;
+
+/// Paints the inside of an outline, which lies in a box, by the fill mode of the moment. Nothing is read.
+pub(crate) fn fill_inside<O: Outline + Copy>(
+    canvas: &mut Canvas,
+    room: &mut DrawingRoom,
+    outline: O,
+    bounds: Rect,
+    paint: &Brushing<'_, '_>,
+)
+    requires countable { HasRoomForLayer canvas.old }
+    requires alone { paint.now.source ≡ None }
+    requires room { length (O.lines outline) ≤ room.old.rows.room }
+    requires within { (x y : ℕ) → in_inside paint.now (O.lines outline) x y ≡ true → in_box bounds x y ≡ true }
+    ensures pixels { PaintsShape (brushing_paint paint.now) (in_inside paint.now (O.lines outline)) canvas.old canvas.new }
+    ensures few { CountsLayer canvas.old canvas.new }
+    ensures room { room.new.rows.room ≡ room.old.rows.room }
+{
+    writing_law();
+    whole_law(canvas);
+    let drawn = visible_in(canvas, paint.clip, bounds);
+    if drawn.columns.from >= drawn.columns.to {
+        return;
+    }
+    let rule = rule_of(paint.modes.fill_mode);
+    let mut lines = outline;
+    room.rows.begin_fill(&mut lines, rule, drawn.rows.from);
+    let painter = paint.painter(drawn.columns);
+    paint_rows(canvas, room, Part::Inside(rule), drawn.rows, &painter);
+}
 
 /// Paints a box, which is that of what is read, if a paint reads. A row of a picture is gathered once, and kept while the rows of the
 /// box read it.
@@ -25,20 +56,20 @@ pub(crate) fn fill_box(
 )
     requires countable { HasRoomForLayer canvas.old }
     requires reads { IfSome paint.now.source (λ reader. ReadsBox reader inside) }
-    ensures pixels { Repaints (paints paint.now (in_box inside)) (made paint.now) canvas.old canvas.new }
+    ensures pixels { PaintsShape (brushing_paint paint.now) (in_box inside) canvas.old canvas.new }
     ensures few { CountsLayer canvas.old canvas.new }
 {
     writing_law();
-    let region = visible(canvas, paint.clip);
-    let drawn = common(region, inside);
+    whole_law(canvas);
+    let drawn = visible_in(canvas, paint.clip, inside);
     let columns = drawn.columns;
     if columns.from >= columns.to {
         return;
     }
-    let same = paint.same_ink();
+    let painter = paint.painter(columns);
     let mut kept = None;
     for y in drawn.rows.from..drawn.rows.to {
         kept = read_row(&paint.source, columns, y, kept, &mut *room.sources);
-        put_row(canvas, &[columns], y, columns, paint, &same, room);
+        painter.put_row(canvas, &[columns], y, room);
     }
 }

@@ -8,7 +8,6 @@
 #![tactic(auto)]
 
 mod blits;
-mod brushed_row;
 mod brushing;
 mod dots;
 mod drawing;
@@ -18,6 +17,7 @@ mod ink_room;
 mod line_pixels;
 mod line_steps;
 mod list_lines;
+mod lone_line;
 mod mark_costs;
 mod moves;
 mod parts;
@@ -28,11 +28,15 @@ mod rectangles;
 mod regions;
 mod room;
 mod row_ink;
+mod row_painter;
 mod source_rows;
 mod stamping;
 mod stamps;
 mod strips;
+mod stroke;
 mod stroking;
+mod uncut_pixels;
+mod untaken_pixels;
 
 pub use drawing::draw;
 pub use room::DrawingRoom;

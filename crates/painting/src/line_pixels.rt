@@ -1,8 +1,7 @@
 //! The pixels of a line's steps, as a canvas takes them.
 
-ghost use Rattle.std.specs.Prelude.{◌-◌};
+ghost use Rattle.std.specs.Prelude.{◌≡◌, ◌-◌, ℕ, false};
 ghost use Rattle.painting.specs.LinePixels.{is_to_step};
-ghost use Rattle.span_fill.specs.Strokes.{OnePixelForEachStep};
 
 use canvas::{PixelAt, PixelSource};
 use span_fill::{LineSteps, line_law};
@@ -17,6 +16,8 @@ impl PixelSource for LinePixels {
     ghost to_come = { λ pixels. is_to_step pixels.steps };
 
     ghost measure = { λ pixels. pixels.steps.end - pixels.steps.next };
+
+    ghost ends_as = { λ start end. (x y : ℕ) → is_to_step end.steps x y ≡ false };
 
     fn next_pixel(&mut self) -> Option<PixelAt> {
         line_law();

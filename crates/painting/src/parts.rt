@@ -1,23 +1,20 @@
 //! Parts of outlines, painted row by row: what is inside, or the lines.
 
-ghost use Rattle.std.specs.Prelude.{◌≡◌, ℕ, None, true, ◌+◌, ◌<◌, ◌≤◌, length};
-ghost use Rattle.canvas.specs.Writing.{Repaints};
-ghost use Rattle.dc_stack.specs.Clip.{in_box};
+ghost use Rattle.std.specs.Prelude.{◌≡◌, ℕ, ◌+◌, ◌<◌, ◌≤◌};
 ghost use Rattle.preflight_cert.specs.Shape.{fill_rule_of};
 ghost use Rattle.span_fill.specs.RowState.{SameWork};
 ghost use Rattle.span_fill.specs.Spans.{AreRow};
 ghost use Rattle.painting.specs.Counts.{CountsLayer, HasRoomForLayer};
-ghost use Rattle.painting.specs.Painted.{made, paints};
-ghost use Rattle.painting.specs.Parts.{part_has, work_of};
+ghost use Rattle.painting.specs.Painted.{PaintsShape};
+ghost use Rattle.painting.specs.Parts.{HasPart, part_has, work_of};
+ghost use Rattle.painting.specs.RowPainters.{ReadsNothing, painter_paint};
 
-use crate::brushed_row::put_row;
-use crate::brushing::Brushing;
-use crate::ink_room::InkRoom;
-use crate::regions::{common, visible};
+use crate::regions::whole_law;
+use crate::room::DrawingRoom;
+use crate::row_painter::RowPainter;
 use canvas::{Canvas, writing_law};
 use draw_ops::FillMode;
-use mapping::Rect;
-use span_fill::{FillRule, Outline, RowBuf, Span};
+use span_fill::{FillRule, RowBuf, Span};
 
 /// What of an outline is painted.
 #[derive(Clone, Copy, Debug, PartialEq, Eq)]
@@ -28,18 +25,28 @@ pub(crate) enum Part {
     Lines,
 }
 
-/// Begins with a part of an outline, at row `y`.
-fn begin_rows<O: Outline>(rows: &mut RowBuf, outline: &mut O, part: Part, y: u32)
-    requires count { length (O.lines outline.old) ≤ rows.old.room }
-    requires row { y ≤ 8192 }
-    ensures lines { rows.new.lines ≡ O.lines outline.old }
-    ensures work { rows.new.work ≡ work_of part }
-    ensures next { rows.new.next ≡ y }
-    ensures room { rows.new.room ≡ rows.old.room }
+/// Paints these rows of the part of an outline that was begun with at the first of them. They and the painter's columns have what is
+/// seen of it. Nothing is read.
+pub(crate) fn paint_rows(
+    canvas: &mut Canvas,
+    room: &mut DrawingRoom,
+    part: Part,
+    span: Span,
+    painter: &RowPainter<'_, '_, '_>,
+)
+    requires countable { HasRoomForLayer canvas.old }
+    requires begun { HasPart part span painter.now.clip.now painter.now.columns room.old.rows canvas.old }
+    requires alone { ReadsNothing painter.now.inks }
+    ensures pixels { PaintsShape (painter_paint painter.now) (part_has part room.old.rows.lines) canvas.old canvas.new }
+    ensures few { CountsLayer canvas.old canvas.new }
+    ensures room { room.new.rows.room ≡ room.old.rows.room }
 {
-    match part {
-        Part::Inside(rule) => rows.begin_fill(outline, rule, y),
-        Part::Lines => rows.begin_stroke(outline, y),
+    writing_law();
+    whole_law(canvas);
+    let DrawingRoom { rows, inks, .. } = room;
+    for y in span.from..span.to {
+        next_row(rows, part, painter.columns);
+        painter.put_row(canvas, rows.spans(), y, inks);
     }
 }
 
@@ -55,40 +62,6 @@ fn next_row(rows: &mut RowBuf, part: Part, columns: Span)
     match part {
         Part::Inside(_) => rows.next_fill(columns),
         Part::Lines => rows.next_stroke(columns),
-    }
-}
-
-/// Paints a part of an outline that lies in a box. Nothing is read.
-pub(crate) fn paint_part<O: Outline + Copy>(
-    canvas: &mut Canvas,
-    rows: &mut RowBuf,
-    outline: O,
-    part: Part,
-    bounds: Rect,
-    paint: &Brushing<'_, '_>,
-    room: &mut InkRoom,
-)
-    requires countable { HasRoomForLayer canvas.old }
-    requires alone { paint.now.source ≡ None }
-    requires room { length (O.lines outline) ≤ rows.old.room }
-    requires within { (x y : ℕ) → part_has part (O.lines outline) x y ≡ true → in_box bounds x y ≡ true }
-    ensures pixels { Repaints (paints paint.now (part_has part (O.lines outline))) (made paint.now) canvas.old canvas.new }
-    ensures few { CountsLayer canvas.old canvas.new }
-    ensures room { rows.new.room ≡ rows.old.room }
-{
-    writing_law();
-    let region = visible(canvas, paint.clip);
-    let drawn = common(region, bounds);
-    let columns = drawn.columns;
-    if columns.from >= columns.to {
-        return;
-    }
-    let same = paint.same_ink();
-    let mut lines = outline;
-    begin_rows(rows, &mut lines, part, drawn.rows.from);
-    for y in drawn.rows.from..drawn.rows.to {
-        next_row(rows, part, columns);
-        put_row(canvas, rows.spans(), y, columns, paint, &same, room);
     }
 }
 

@@ -5,8 +5,7 @@ ghost use Rattle.mapping.specs.PlaceOf.{surface_of};
 ghost use Rattle.dc_stack.specs.Figures.{all_figures, points_of_figures};
 ghost use Rattle.dc_stack.specs.Pieces.{AllLandOn, figures_of};
 ghost use Rattle.span_fill.specs.Lines.{GivesFirst, HasNearEnds, IsNearPoint};
-ghost use Rattle.painting.specs.FigureEnds.{lines_of_figures};
-ghost use Rattle.preflight_cert.specs.FigureLines.{placed_figures};
+ghost use Rattle.painting.specs.FigureEnds.{landed_lines};
 ghost use Rattle.painting.specs.Moves.{IsNearMove, after_move, lines_at_end, lines_of_move};
 ghost use Rattle.painting.specs.MovesToCome.{drawn_of, figure_lines_left};
 ghost use Rattle.painting.specs.declared.moves.Move.TheVariants.{To, End};
@@ -118,8 +117,7 @@ impl<'p, 'a> PieceLines<'p, 'a> {
     pub(crate) fn new(place: Place, ends: Ends, pieces: &'p [Piece<'a>]) -> PieceLines<'p, 'a>
         requires land { AllLandOn (surface_of place) pieces.now }
         requires few { length (points_of_figures (all_figures (figures_of pieces.now))) < 2 ^ 64 }
-        ensures { piece_lines_left result
-            ≡ lines_of_figures ends (placed_figures (surface_of place) (all_figures (figures_of pieces.now))) }
+        ensures { piece_lines_left result ≡ landed_lines (surface_of place) ends (all_figures (figures_of pieces.now)) }
     {
         PieceLines {
             lines: FigureLines {

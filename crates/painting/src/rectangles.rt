@@ -1,15 +1,16 @@
 //! Rectangles on a surface.
 
-ghost use Rattle.std.specs.Prelude.{◌≡◌, IsTrue};
+ghost use Rattle.std.specs.Prelude.{◌≡◌, true, IsTrue};
 ghost use Rattle.std.specs.List.{All};
-ghost use Rattle.mapping.specs.Surface.{FitsPlace, IsPlaceCoordinate};
+ghost use Rattle.mapping.specs.PlaceOf.{surface_of};
+ghost use Rattle.mapping.specs.Surface.{FitsPlace, IsPlaceCoordinate, lands_within_limits};
 ghost use Rattle.span_fill.specs.Lines.{HasNearEnds};
 ghost use Rattle.mapping.specs.Boxes.{box_between};
 ghost use Rattle.painting.specs.RectangleBoxes.{IsNearBox};
-ghost use Rattle.preflight_cert.specs.Rectangles.{has_inside, raised, rectangle_lines};
+ghost use Rattle.preflight_cert.specs.Rectangles.{has_inside, raised, rectangle_lines, rectangle_on};
 
 use draw_ops::RectangleEdges;
-use mapping::{Point, Rect};
+use mapping::{Place, Point, Rect};
 use span_fill::{Line, Outline};
 
 /// Lines of a slice that are to come.
@@ -31,6 +32,16 @@ impl<'l> Outline for LineList<'l> {
         self.rest = rest;
         Some(*first)
     }
+}
+
+/// The box of a rectangle between two corners of the plane, where they land.
+pub(crate) fn placed_box(place: Place, first: Point, second: Point, edges: RectangleEdges) -> Rect
+    requires first { lands_within_limits first (surface_of place) ≡ true }
+    requires second { lands_within_limits second (surface_of place) ≡ true }
+    ensures value { result ≡ rectangle_on (surface_of place) first second edges }
+    ensures near { IsNearBox result }
+{
+    rectangle_box(place.at(first), place.at(second), edges)
 }
 
 /// The box of a rectangle between two placed corners, whichever of them comes first: from its left and top

@@ -1,14 +1,14 @@
 //! The part of a surface that a drawing may write.
 
-ghost use Rattle.std.specs.Prelude.{◌≡◌, ◌≤◌, ◌<◌, ◌+◌, ◌*◌, ◌^◌, ◌&&◌, ◌↔◌, ◌+ℤ◌, ◌*ℤ◌, ◌<ℤ◌, IsTrue, int_lt, pos, ℕ};
+ghost use Rattle.std.specs.Prelude.{◌≡◌, ◌≤◌, ◌<◌, ◌+◌, ◌*◌, ◌^◌, ◌&&◌, ◌↔◌, ◌+ℤ◌, ◌*ℤ◌, ◌<ℤ◌, IsTrue, int_lt, pos, true, ℕ};
 ghost use Rattle.canvas.specs.CanvasState.{HasPixel};
 ghost use Rattle.canvas.specs.WritingLaws.{IsWhole};
-ghost use Rattle.dc_stack.specs.Clip.{in_kept, is_from_to, placed_box};
+ghost use Rattle.dc_stack.specs.Clip.{in_box, in_kept, is_from_to, placed_box};
 ghost use Rattle.dc_stack.specs.Values.{placed_value};
 ghost use Rattle.mapping.specs.PlaceOf.{surface_of};
 ghost use Rattle.mapping.specs.Surface.{placed};
 ghost use Rattle.preflight_cert.specs.MissedRowsLaws.{LiesBeside};
-ghost use Rattle.painting.specs.Regions.{HasLanded, IsOfSide};
+ghost use Rattle.painting.specs.Regions.{HasLanded, HasRegion, HasVisible, IsOfSide};
 ghost use Rattle.span_fill.specs.Spans.{in_region, in_span};
 
 use crate::rectangles::rectangle_box;
@@ -21,23 +21,21 @@ use span_fill::{Region, Span};
 /// The longest side of a surface.
 const MAX_SIDE: i64 = 8192;
 
-/// The law of canvases: each is whole.
+/// The law of canvases: each is whole, and has at most 8,192 columns and 2^26 pixels.
 pub(crate) fn whole_law(canvas: &Canvas)
-    ensures { IsWhole canvas.now }
+    ensures whole { IsWhole canvas.now }
+    ensures side { canvas.now.width ≤ 8192 }
+    ensures pixels { canvas.now.rows * canvas.now.width ≤ 2 ^ 26 }
 {
     canvas.width();
+    canvas.rows();
 }
 
-/// The part of the rows held that the kept box of a clip has. A canvas is whole, and has at most 2^26 pixels.
+/// The part of the rows held that the kept box of a clip has.
 pub(crate) fn visible(canvas: &Canvas, clip: &Clip) -> Region
-    ensures right { result.columns.to ≤ canvas.now.width }
-    ensures top { canvas.now.first ≤ result.rows.from }
-    ensures bottom { result.rows.to ≤ canvas.now.first + canvas.now.rows }
+    ensures held { HasRegion canvas.now result }
     ensures columns { IsOfSide result.columns }
     ensures rows { IsOfSide result.rows }
-    ensures side { canvas.now.width ≤ 8192 }
-    ensures whole { IsWhole canvas.now }
-    ensures pixels { canvas.now.rows * canvas.now.width ≤ 2 ^ 26 }
     ensures kept { (x y : ℕ) → HasPixel canvas.now x y → in_region result x y ≡ in_kept (placed_value clip.now).kept x y }
 {
     let held = Region {
@@ -51,6 +49,16 @@ pub(crate) fn visible(canvas: &Canvas, clip: &Clip) -> Region
         None => held,
         Some(kept) => common(held, kept.placed),
     }
+}
+
+/// The part of the rows held that the kept box of a clip and a box have.
+pub(crate) fn visible_in(canvas: &Canvas, clip: &Clip, inside: Rect) -> Region
+    ensures visible { HasVisible (placed_value clip.now) (in_box inside) canvas.now result }
+    ensures columns { IsOfSide result.columns }
+    ensures rows { IsOfSide result.rows }
+    ensures boxed { (x y : ℕ) → in_region result x y ≡ true → in_box inside x y ≡ true }
+{
+    common(visible(canvas, clip), inside)
 }
 
 /// The rows that a canvas holds.

@@ -1,13 +1,12 @@
 //! What a brush makes of the pixels of a row, by a raster operation.
 
-ghost use Rattle.std.specs.Prelude.{◌≡◌, ◌≤◌, ◌<◌, ℕ, if◌then◌else◌, true, is_some, length, slice_index_or};
-ghost use Rattle.canvas.specs.MixRows.{mix_at};
+ghost use Rattle.std.specs.Prelude.{◌≡◌, ◌≤◌, ◌<◌, ℕ, true, is_some, length, slice_index_or};
 ghost use Rattle.mapping.specs.Colours.{black_colour};
 ghost use Rattle.mapping.specs.Mixes.{mixed_by};
-ghost use Rattle.mapping.specs.Pixels.{is_cell};
 ghost use Rattle.mapping.specs.declared.geometry.Colour.{Colour};
-ghost use Rattle.painting.specs.Joined.{joined_if};
-ghost use Rattle.painting.specs.RowInks.{inked, is_inked};
+ghost use Rattle.painting.specs.RowInks.{inked, is_inked, mixed_at};
+ghost use Rattle.painting.specs.RowJoins.{AreMade, colours_at, joined_patterns, joined_row, mixed_in, row_has};
+ghost use Rattle.painting.specs.Strips.{mixed_cells};
 ghost use Rattle.raster_ops.specs.BrushRows.{row_paint};
 ghost use Rattle.raster_ops.specs.Bytes.{HasBytes};
 ghost use Rattle.raster_ops.specs.TernaryOps.{ternary_colour};
@@ -69,7 +68,7 @@ pub(crate) fn row_ink<'r>(
     requires order { columns.from ≤ columns.to }
     requires end { columns.to ≤ 8192 }
     ensures test { (x : ℕ) → is_inked result x ≡ is_some (row_paint row.now x) }
-    ensures ink { (x : ℕ) (old : Colour) → columns.from ≤ x → x < columns.to → is_inked result x ≡ true → inked result x old ≡ joined_if operation.op.table black_colour (row_paint row.now x) old }
+    ensures ink { AreMade columns (is_inked result) (inked result) (joined_row operation.op (λ x. black_colour) row.now) }
 {
     match *row {
         BrushRow::Nothing => RowInk::Nothing,
@@ -107,7 +106,7 @@ fn tile_ink<'r>(
     requires end { columns.to ≤ 8192 }
     requires tiled { (x : ℕ) → is_some (row_paint row.now x) ≡ true }
     ensures test { (x : ℕ) → is_inked result x ≡ true }
-    ensures ink { (x : ℕ) (old : Colour) → columns.from ≤ x → x < columns.to → inked result x old ≡ joined_if operation.op.table black_colour (row_paint row.now x) old }
+    ensures ink { AreMade columns (λ x. true) (inked result) (joined_row operation.op (λ x. black_colour) row.now) }
 {
     let patterns = &mut *room.patterns;
     gather_pattern(row, columns.from, columns.to, patterns);
@@ -132,7 +131,7 @@ pub(crate) fn source_ink<'r>(
     requires end { columns.to ≤ 8192 }
     requires parts { (x : ℕ) (d : Colour) → columns.from ≤ x → x < columns.to → HasBytes (slice_index_or sources.now x d) }
     ensures test { (x : ℕ) → is_inked result x ≡ is_some (row_paint row.now x) }
-    ensures ink { (x : ℕ) (old : Colour) → columns.from ≤ x → x < columns.to → is_inked result x ≡ true → inked result x old ≡ joined_if operation.op.table (slice_index_or sources.entry.now x black_colour) (row_paint row.now x) old }
+    ensures ink { AreMade columns (is_inked result) (inked result) (joined_row operation.op (colours_at sources.entry.now) row.now) }
 {
     copy_law();
     if let (BrushRow::Solid(_), SRCCOPY) = (*row, operation.op.table) {
@@ -145,7 +144,7 @@ pub(crate) fn source_ink<'r>(
 /// The mixes of the columns to which a row of a brush gives a colour.
 fn mix_given<'r>(row: &BrushRow<'_>, room: &'r MixRoom) -> RowInk<'r>
     ensures test { (x : ℕ) → is_inked result x ≡ is_some (row_paint row.now x) }
-    ensures ink { (x : ℕ) (old : Colour) → is_inked result x ≡ true → inked result x old ≡ mixed_by (mix_at room.entry.now.keeps.value room.entry.now.flips.value x) old }
+    ensures ink { (x : ℕ) (old : Colour) → is_inked result x ≡ true → inked result x old ≡ mixed_in room.entry.now x old }
 {
     let (keeps, flips) = (&*room.keeps, &*room.flips);
     match *row {
@@ -175,7 +174,7 @@ fn gather_mixes(
 )
     requires order { columns.from ≤ columns.to }
     requires end { columns.to ≤ 8192 }
-    ensures { (x : ℕ) (old : Colour) → columns.from ≤ x → x < columns.to → is_some (row_paint row.now x) ≡ true → mixed_by (mix_at room.new.keeps.value room.new.flips.value x) old ≡ joined_if operation.op.table (slice_index_or sources.now x black_colour) (row_paint row.now x) old }
+    ensures { AreMade columns (row_has row.now) (mixed_in room.new) (joined_row operation.op (colours_at sources.now) row.now) }
 {
     let (from, to) = (columns.from, columns.to);
     let patterns = &mut *room.patterns;
@@ -202,7 +201,7 @@ fn mix_patterns(
 )
     requires order { columns.from ≤ columns.to }
     requires end { columns.to ≤ 8192 }
-    ensures { (x : ℕ) (d old : Colour) → columns.from ≤ x → x < columns.to → mixed_by (mix_at keeps.new flips.new x) old ≡ ternary_colour operation.op.table (slice_index_or patterns.now x d) black_colour old }
+    ensures { AreMade columns (λ x. true) (mixed_at keeps.new flips.new) (joined_patterns operation.op patterns.now) }
 {
     for x in columns.from as usize..columns.to as usize {
         let mix = operation.mix(patterns[x], BLACK);
@@ -225,7 +224,7 @@ pub(crate) fn full(mix: Mix) -> RowInk<'static>
 /// The cells are mixed by one mix, and the gaps by the other: a pattern where each makes one colour of all.
 fn two(cells: u8, mix: Mix, gaps: Mix) -> RowInk<'static>
     ensures test { (x : ℕ) → is_inked result x ≡ true }
-    ensures ink { (x : ℕ) (old : Colour) → inked result x old ≡ (if is_cell cells x then mixed_by mix old else mixed_by gaps old) }
+    ensures ink { (x : ℕ) (old : Colour) → inked result x old ≡ mixed_cells cells mix gaps x old }
 {
     if let (Some(colour), Some(gap)) = (mix.constant(), gaps.constant()) {
         return RowInk::Pattern(pattern(cells, colour, gap));

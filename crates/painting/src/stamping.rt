@@ -1,65 +1,25 @@
 //! Strokes of several lines, each by its steps: a pixel is written where no line had it before.
 
-ghost use Rattle.std.specs.Prelude.{◌≡◌, ◌+◌, ◌<◌, ◌≤◌, ◌^◌, ◌&&◌, ◌||◌, ℕ, [], true, false, pos, IfSome, IsFalse, IsTrue};
-ghost use Rattle.mapping.specs.Mixes.{mixed_by};
-ghost use Rattle.mapping.specs.declared.geometry.Colour.{Colour};
-ghost use Rattle.canvas.specs.Writing.{Repaints};
-ghost use Rattle.dc_stack.specs.Clip.{in_box};
+ghost use Rattle.std.specs.Prelude.{◌≡◌, ◌+◌, ◌*◌, ◌<◌, ◌≤◌, ◌^◌, ℕ, [], false, IsTrue};
 ghost use Rattle.dc_stack.specs.Values.{placed_value};
 ghost use Rattle.span_fill.specs.Lines.{HasNearEnds};
-ghost use Rattle.span_fill.specs.Spans.{in_region};
+ghost use Rattle.painting.specs.Counts.{HasRoomForLayer};
+ghost use Rattle.painting.specs.Regions.{HasRegion, IsOfSide};
+ghost use Rattle.painting.specs.Stamping.{MixesLines, StampsLine};
 ghost use Rattle.painting.specs.Stamps.{is_taken};
-ghost use Rattle.span_fill.specs.Strokes.{in_stroke, on_line};
-ghost use Rattle.painting.specs.Counts.{CountsLayer, HasRoomForLayer};
-ghost use Rattle.painting.specs.Painted.{made, paints};
-ghost use Rattle.painting.specs.Pens.{IsPen};
-ghost use Rattle.painting.specs.Regions.{IsOfSide};
-ghost use Rattle.painting.specs.Stamping.{MayStamp, WritesTaken};
 
-use crate::brushing::Brushing;
-use crate::ink_room::BLACK;
-use crate::line_steps::mix_pixel;
+use crate::line_pixels::LinePixels;
 use crate::mark_costs::marks_pay;
-use crate::regions::{common, visible};
+use crate::regions::whole_law;
 use crate::stamps::Stamps;
+use crate::untaken_pixels::UntakenPixels;
 use canvas::{Canvas, writing_law};
 use dc_stack::Clip;
-use mapping::{Colour, Mix, Rect};
+use mapping::Mix;
 use span_fill::{Line, Outline, Region, line_law};
 
-/// Paints the pixels of an outline's lines, which lie in a box, in the colour of a paint of one colour, if marks of the pixels that the box
-/// has of the rows held can be taken, and cost less than rows of spans: tells whether it did. Else nothing was painted.
-pub(crate) fn stroke_marked<O: Outline + Copy>(
-    canvas: &mut Canvas,
-    marks: &mut Option<Stamps>,
-    outline: O,
-    bounds: Rect,
-    paint: &Brushing<'_, '_>,
-    colour: Colour,
-) -> bool
-    requires countable { HasRoomForLayer canvas.old }
-    requires pen { IsPen paint.now colour }
-    requires within { (x y : ℕ) → in_stroke (O.lines outline) x y ≡ true → in_box bounds x y ≡ true }
-    ensures pixels { IsTrue result → Repaints (paints paint.now (in_stroke (O.lines outline))) (made paint.now) canvas.old canvas.new }
-    ensures few { IsTrue result → CountsLayer canvas.old canvas.new }
-    ensures unpainted { IsFalse result → canvas.new ≡ canvas.old }
-{
-    writing_law();
-    let Some(stamps) = marks else {
-        return false;
-    };
-    let shown = visible(canvas, paint.clip);
-    let drawn = common(shown, bounds);
-    if !begin_stamps(stamps, outline, paint.clip, drawn) {
-        return false;
-    }
-    let mix = paint.operation.mix(colour, BLACK);
-    stamp_lines(canvas, stamps, outline, mix);
-    true
-}
-
 /// Begins with the marks of a box, if it has few enough pixels, a clip cuts nothing out, and marks pay for these lines.
-fn begin_stamps<O: Outline + Copy>(
+pub(crate) fn begin_stamps<O: Outline + Copy>(
     stamps: &mut Stamps,
     outline: O,
     clip: &Clip,
@@ -80,49 +40,45 @@ fn begin_stamps<O: Outline + Copy>(
     stamps.begin(drawn)
 }
 
-/// Takes and mixes the pixels that a box has of an outline's lines, of those that aren't taken yet.
-fn stamp_lines<O: Outline + Copy>(canvas: &mut Canvas, stamps: &mut Stamps, outline: O, mix: Mix)
-    requires may { MayStamp stamps.old.region canvas.old }
+/// Mixes the pixels that a box has of an outline's lines, each once. None of the box's marks is taken yet.
+pub(crate) fn stamp_lines<O: Outline + Copy>(
+    canvas: &mut Canvas,
+    stamps: &mut Stamps,
+    outline: O,
+    mix: Mix,
+)
+    requires held { HasRegion canvas.old stamps.old.region }
+    requires none { (x y : ℕ) → is_taken stamps.old x y ≡ false }
     requires countable { HasRoomForLayer canvas.old }
-    ensures written { WritesTaken (λ x y old. mixed_by mix old) stamps.old stamps.new canvas.old canvas.new }
-    ensures taken { (x y : ℕ) → is_taken stamps.new x y ≡ (is_taken stamps.old x y || (in_region stamps.old.region x y && in_stroke (O.lines outline) x y)) }
+    ensures { MixesLines stamps.old.region (O.lines outline) mix canvas.old canvas.new }
 {
     writing_law();
-    let constant = mix.constant();
+    whole_law(canvas);
     let mut lines = outline;
     while let Some(line) = lines.next_line() {
-        stamp_line(canvas, stamps, line, mix, constant);
+        stamp_line(canvas, stamps, line, mix);
     }
 }
 
-/// Takes and mixes the pixels that a box has of a line, of those that aren't taken yet. The mix makes this colour of every colour, if it
-/// makes one. It isn't inlined, which leaves its loop enough registers.
+/// Mixes the pixels that a box has of a line, of those whose marks aren't taken yet, and takes them. It isn't inlined, which leaves its
+/// loops enough registers.
 #[inline(never)]
-fn stamp_line(
-    canvas: &mut Canvas,
-    stamps: &mut Stamps,
-    line: Line,
-    mix: Mix,
-    constant: Option<Colour>,
-)
+fn stamp_line(canvas: &mut Canvas, stamps: &mut Stamps, line: Line, mix: Mix)
     requires near { HasNearEnds line }
-    requires may { MayStamp stamps.old.region canvas.old }
-    requires countable { canvas.old.writes + 2 ^ 27 < 2 ^ 64 }
-    requires constant { IfSome constant (λ colour. (old : Colour) → mixed_by mix old ≡ colour) }
-    ensures written { WritesTaken (λ x y old. mixed_by mix old) stamps.old stamps.new canvas.old canvas.new }
-    ensures taken { (x y : ℕ) → is_taken stamps.new x y ≡ (is_taken stamps.old x y || (in_region stamps.old.region x y && on_line line (pos x) (pos y))) }
+    requires held { HasRegion canvas.old stamps.old.region }
+    requires countable { canvas.old.writes + canvas.old.rows * canvas.old.width + 1 < 2 ^ 64 }
+    ensures { StampsLine line mix stamps.old stamps.new canvas.old canvas.new }
 {
     writing_law();
+    whole_law(canvas);
     line_law();
     if is_point(line) {
         return;
     }
-    let mut steps = stamps.steps(line);
-    while let Some(pixel) = steps.next() {
-        if stamps.take(pixel.x, pixel.y) {
-            mix_pixel(canvas, pixel, mix, constant);
-        }
-    }
+    let pixels = LinePixels {
+        steps: stamps.steps(line),
+    };
+    canvas.mix_each(&mut UntakenPixels { pixels, stamps }, mix);
 }
 
 /// Whether a line ends where it begins, and so has no pixel.

@@ -92,7 +92,7 @@ impl Stamps {
     pub(crate) fn take(&mut self, x: u32, y: u32) -> bool
         requires { IsTrue (in_region self.old.region x y) }
         ensures first { result ≡ not (is_taken self.old x y) }
-        ensures taken { (column row : ℕ) → is_taken self.new column row ≡ (is_taken self.old column row || is_at x y column row) }
+        ensures taken { (a b : ℕ) → is_taken self.new a b ≡ (is_taken self.old a b || is_at x y a b) }
         ensures region { self.new.region ≡ self.old.region }
     {
         let number = number_in(self.region, x, y);

@@ -1,31 +1,34 @@
 //! Parts of a row, painted: what an ink writes of some columns, of them what no box cuts out, and of a
 //! whole row's spans.
 
-ghost use Rattle.std.specs.Prelude.{◌≡◌, ◌+◌, ◌*◌, ◌<◌, ◌≤◌, ◌^◌, ◌<ℤ◌, ◌↔◌, pos, ◌&&◌, ℕ, [], if◌then◌else◌, map, slice_index_or};
-ghost use Rattle.mapping.specs.Mixes.{mixed_by};
-ghost use Rattle.mapping.specs.Pixels.{is_cell};
+ghost use Rattle.std.specs.Prelude.{◌≡◌, ◌+◌, ◌*◌, ◌<◌, ◌≤◌, ◌^◌, ◌<ℤ◌, ◌↔◌, pos, ◌&&◌, ℕ, [], slice_index_or};
 ghost use Rattle.canvas.specs.CanvasState.{HasRow};
-ghost use Rattle.canvas.specs.MixRows.{mix_at};
-ghost use Rattle.canvas.specs.Writing.{Repaints, in_cells};
 ghost use Rattle.canvas.specs.WritingLaws.{IsWhole};
 ghost use Rattle.dc_stack.specs.Clip.{in_box, is_from_to};
-ghost use Rattle.dc_stack.specs.declared.clip.ClipBox.{ClipBox};
 ghost use Rattle.span_fill.specs.Spans.{AreApart, in_span, in_spans};
-ghost use Rattle.painting.specs.RowInks.{inked};
-ghost use Rattle.painting.specs.Strips.{CountsOnce, MayPaint, in_columns, is_painted};
+ghost use Rattle.painting.specs.RowInks.{mixed_at};
+ghost use Rattle.painting.specs.Strips.{CountsOnce, MakesCells, MakesColumns, MayPaint, PutsInk, mixed_cells, placed_boxes};
 ghost use Rattle.painting.specs.declared.row_ink.RowInk.TheVariants.{Full};
 
 use crate::ink_room::MAX_SIDE;
+use crate::regions::whole_law;
 use crate::row_ink::RowInk;
 use canvas::{Canvas, Swatch, writing_law};
 use dc_stack::ClipBox;
 use mapping::{Colour, Mix, Rect};
 use span_fill::Span;
 
+/// Some columns of a row.
+#[derive(Clone, Copy)]
+struct RowPart {
+    y: u32,
+    columns: Span,
+}
+
 /// Writes what an ink makes of some columns of a row.
 fn put_ink(canvas: &mut Canvas, ink: &RowInk<'_>, y: u32, columns: Span)
     requires { MayPaint canvas.old y columns }
-    ensures pixels { Repaints (is_painted ink.now [] y (in_span columns)) (λ column row old. inked ink.now column old) canvas.old canvas.new }
+    ensures pixels { PutsInk ink.now [] y (in_span columns) canvas.old canvas.new }
     ensures count { CountsOnce columns canvas.old canvas.new }
 {
     writing_law();
@@ -43,25 +46,25 @@ fn put_ink(canvas: &mut Canvas, ink: &RowInk<'_>, y: u32, columns: Span)
             cells,
             mix,
             gaps: Some(gaps),
-        } => put_both(canvas, *cells, *mix, *gaps, y, columns),
+        } => put_both(canvas, *cells, *mix, *gaps, RowPart { y, columns }),
         RowInk::Row(colours) => put_colours(canvas, colours, y, columns),
         RowInk::MixRow { keeps, flips } => put_mixes(canvas, keeps, flips, y, columns),
         RowInk::MixCells {
             cells,
             keeps,
             flips,
-        } => put_cells(canvas, *cells, keeps, flips, y, columns),
+        } => put_cells(canvas, *cells, keeps, flips, RowPart { y, columns }),
     }
 }
 
 /// Gives some columns of a row the colours at them.
 fn put_colours(canvas: &mut Canvas, colours: &[Colour; MAX_SIDE], y: u32, columns: Span)
     requires { MayPaint canvas.old y columns }
-    ensures pixels { Repaints (in_columns y columns) (λ column row old. slice_index_or colours.now column old) canvas.old canvas.new }
+    ensures pixels { MakesColumns y columns (slice_index_or colours.now) canvas.old canvas.new }
     ensures count { CountsOnce columns canvas.old canvas.new }
 {
     writing_law();
-    canvas.width();
+    whole_law(canvas);
     let (first, last) = (columns.from as usize, columns.to as usize);
     canvas.put_row(columns.from, y, &colours[first..last]);
 }
@@ -75,11 +78,11 @@ fn put_mixes(
     columns: Span,
 )
     requires { MayPaint canvas.old y columns }
-    ensures pixels { Repaints (in_columns y columns) (λ column row old. mixed_by (mix_at keeps.now flips.now column) old) canvas.old canvas.new }
+    ensures pixels { MakesColumns y columns (mixed_at keeps.now flips.now) canvas.old canvas.new }
     ensures count { CountsOnce columns canvas.old canvas.new }
 {
     writing_law();
-    canvas.width();
+    whole_law(canvas);
     let (first, last) = (columns.from as usize, columns.to as usize);
     canvas.mix_row(columns.from, y, &keeps[first..last], &flips[first..last]);
 }
@@ -90,30 +93,30 @@ fn put_cells(
     cells: u8,
     keeps: &[Colour; MAX_SIDE],
     flips: &[Colour; MAX_SIDE],
-    y: u32,
-    columns: Span,
+    part: RowPart,
 )
-    requires { MayPaint canvas.old y columns }
-    ensures pixels { Repaints (in_cells y columns.from columns.to cells) (λ column row old. mixed_by (mix_at keeps.now flips.now column) old) canvas.old canvas.new }
-    ensures count { CountsOnce columns canvas.old canvas.new }
+    requires { MayPaint canvas.old part.y part.columns }
+    ensures pixels { MakesCells part.y part.columns cells (mixed_at keeps.now flips.now) canvas.old canvas.new }
+    ensures count { CountsOnce part.columns canvas.old canvas.new }
 {
     writing_law();
-    canvas.width();
-    for x in columns.from..columns.to {
+    whole_law(canvas);
+    for x in part.columns.from..part.columns.to {
         let (keep, flip) = (keeps[x as usize], flips[x as usize]);
-        canvas.mix_cells(x, x + 1, y, cells, Mix { keep, flip });
+        canvas.mix_cells(x, x + 1, part.y, cells, Mix { keep, flip });
     }
 }
 
 /// Mixes the cells by one mix and the gaps between them by another.
-fn put_both(canvas: &mut Canvas, cells: u8, mix: Mix, gaps: Mix, y: u32, columns: Span)
-    requires { MayPaint canvas.old y columns }
-    ensures pixels { Repaints (in_columns y columns) (λ column row old. if is_cell cells column then mixed_by mix old else mixed_by gaps old) canvas.old canvas.new }
-    ensures count { CountsOnce columns canvas.old canvas.new }
+fn put_both(canvas: &mut Canvas, cells: u8, mix: Mix, gaps: Mix, part: RowPart)
+    requires { MayPaint canvas.old part.y part.columns }
+    ensures pixels { MakesColumns part.y part.columns (mixed_cells cells mix gaps) canvas.old canvas.new }
+    ensures count { CountsOnce part.columns canvas.old canvas.new }
 {
     writing_law();
-    canvas.mix_cells(columns.from, columns.to, y, cells, mix);
-    canvas.mix_cells(columns.from, columns.to, y, !cells, gaps);
+    let Span { from, to } = part.columns;
+    canvas.mix_cells(from, to, part.y, cells, mix);
+    canvas.mix_cells(from, to, part.y, !cells, gaps);
 }
 
 /// Those of some columns that a box has in a row.
@@ -162,7 +165,7 @@ fn within(coordinate: i32, least: u32, most: u32) -> u32
 /// Writes what an ink makes of those columns of a row that no box cuts out.
 fn put_uncut(canvas: &mut Canvas, ink: &RowInk<'_>, y: u32, columns: Span, cuts: &[ClipBox])
     requires { MayPaint canvas.old y columns }
-    ensures pixels { Repaints (is_painted ink.now (map (λ (b : ClipBox). b.placed) cuts.now) y (in_span columns)) (λ column row old. inked ink.now column old) canvas.old canvas.new }
+    ensures pixels { PutsInk ink.now (placed_boxes cuts.now) y (in_span columns) canvas.old canvas.new }
     ensures count { CountsOnce columns canvas.old canvas.new }
 {
     writing_law();
@@ -192,7 +195,7 @@ pub(crate) fn put_spans(
     requires spans { AreApart 0 canvas.old.width spans.now }
     requires row { HasRow canvas.old y }
     requires countable { canvas.old.writes + 2 * canvas.old.width < 2 ^ 64 }
-    ensures pixels { Repaints (is_painted ink.now (map (λ (b : ClipBox). b.placed) cuts.now) y (in_spans spans.now)) (λ column row old. inked ink.now column old) canvas.old canvas.new }
+    ensures pixels { PutsInk ink.now (placed_boxes cuts.now) y (in_spans spans.now) canvas.old canvas.new }
     ensures count { canvas.new.writes ≤ canvas.old.writes + canvas.old.width }
 {
     writing_law();
@@ -214,7 +217,7 @@ fn put_full(canvas: &mut Canvas, swatch: &Swatch, y: u32, spans: &[Span])
     requires spans { AreApart 0 canvas.old.width spans.now }
     requires row { HasRow canvas.old y }
     requires countable { canvas.old.writes + 2 * canvas.old.width < 2 ^ 64 }
-    ensures pixels { Repaints (is_painted (Full swatch.now) [] y (in_spans spans.now)) (λ column row old. swatch.now.colour) canvas.old canvas.new }
+    ensures pixels { PutsInk (Full swatch.now) [] y (in_spans spans.now) canvas.old canvas.new }
     ensures count { canvas.new.writes ≤ canvas.old.writes + canvas.old.width }
 {
     writing_law();

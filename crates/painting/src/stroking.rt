@@ -1,40 +1,104 @@
-//! A pen's work that isn't told by an outline: the outer pixels of a box, and a lone line by its steps.
+//! The one way in which lines are stroked.
 
-ghost use Rattle.std.specs.Prelude.{◌≡◌, ◌≤◌, pos};
-ghost use Rattle.canvas.specs.Writing.{Repaints};
-ghost use Rattle.span_fill.specs.Lines.{HasNearEnds};
-ghost use Rattle.span_fill.specs.Strokes.{in_stroke, on_line};
-ghost use Rattle.painting.specs.Counts.{CountsLayer, HasRoomForLayer};
-ghost use Rattle.painting.specs.Painted.{made, paints};
-ghost use Rattle.painting.specs.Pens.{IsPen};
+ghost use Rattle.std.specs.Prelude.{◌≡◌, ◌<◌, ◌≤◌, ℕ, true, length};
+ghost use Rattle.dc_stack.specs.Clip.{in_box};
+ghost use Rattle.dc_stack.specs.Values.{placed_value};
 ghost use Rattle.preflight_cert.specs.Rectangles.{rectangle_lines};
+ghost use Rattle.span_fill.specs.Strokes.{in_stroke};
+ghost use Rattle.painting.specs.Counts.{CountsLayer, HasRoomForLayer};
+ghost use Rattle.painting.specs.Painted.{PaintsShape};
+ghost use Rattle.painting.specs.PenStrokes.{stroke_paint};
 ghost use Rattle.painting.specs.RectangleBoxes.{IsNearBox};
+ghost use Rattle.painting.specs.Regions.{HasVisible, IsOfSide};
 
-use crate::brushing::Brushing;
-use crate::ink_room::BLACK;
-use crate::line_steps::mix_line;
-use crate::parts::{Part, paint_part};
+use crate::line_steps::step_line;
+use crate::lone_line::lone_line;
+use crate::parts::{Part, paint_rows};
 use crate::rectangles::{LineList, box_lines, has_inside};
-use crate::regions::whole_law;
+use crate::regions::{visible_in, whole_law};
 use crate::room::DrawingRoom;
-use crate::stamping::stroke_marked;
+use crate::row_ink::full;
+use crate::row_painter::{Inks, RowPainter};
+use crate::stamping::{begin_stamps, stamp_lines};
+use crate::stroke::Stroke;
 use canvas::{Canvas, writing_law};
-use mapping::{Colour, Rect};
-use span_fill::{Line, line_box_law};
+use mapping::Rect;
+use span_fill::{Outline, Region, line_box_law};
 
-/// Paints the outer pixels of a box, if it has any, in the colour of a paint of one colour.
-pub(crate) fn stroke_box(
+/// Strokes the lines of an outline, which lie in a box: a lone one by its steps, and several by marks, where these can be taken and cost
+/// less than rows of spans, and else by those. No other function knows how a stroke is painted.
+pub(crate) fn stroke_lines<O: Outline + Copy>(
     canvas: &mut Canvas,
-    inside: Rect,
-    paint: &Brushing<'_, '_>,
-    colour: Colour,
     room: &mut DrawingRoom,
+    outline: O,
+    bounds: Rect,
+    stroke: &Stroke<'_>,
 )
     requires countable { HasRoomForLayer canvas.old }
-    requires pen { IsPen paint.now colour }
+    requires room { length (O.lines outline) ≤ room.old.rows.room }
+    requires within { (x y : ℕ) → in_stroke (O.lines outline) x y ≡ true → in_box bounds x y ≡ true }
+    ensures pixels { PaintsShape (stroke_paint stroke.now) (in_stroke (O.lines outline)) canvas.old canvas.new }
+    ensures few { CountsLayer canvas.old canvas.new }
+    ensures room { room.new.rows.room ≡ room.old.rows.room }
+{
+    writing_law();
+    whole_law(canvas);
+    if let Some(line) = lone_line(outline) {
+        step_line(canvas, line, stroke);
+        return;
+    }
+    let drawn = visible_in(canvas, stroke.clip, bounds);
+    if let Some(stamps) = &mut room.marks {
+        if begin_stamps(stamps, outline, stroke.clip, drawn) {
+            stamp_lines(canvas, stamps, outline, stroke.mix);
+            return;
+        }
+    }
+    stroke_rows(canvas, room, outline, drawn, stroke);
+}
+
+/// Strokes the lines of an outline by rows of spans, in a region that has what is seen of them.
+fn stroke_rows<O: Outline + Copy>(
+    canvas: &mut Canvas,
+    room: &mut DrawingRoom,
+    outline: O,
+    drawn: Region,
+    stroke: &Stroke<'_>,
+)
+    requires countable { HasRoomForLayer canvas.old }
+    requires room { length (O.lines outline) ≤ room.old.rows.room }
+    requires visible { HasVisible (placed_value stroke.now.clip.now) (in_stroke (O.lines outline)) canvas.old drawn }
+    requires rows { IsOfSide drawn.rows }
+    ensures pixels { PaintsShape (stroke_paint stroke.now) (in_stroke (O.lines outline)) canvas.old canvas.new }
+    ensures few { CountsLayer canvas.old canvas.new }
+    ensures room { room.new.rows.room ≡ room.old.rows.room }
+{
+    writing_law();
+    whole_law(canvas);
+    if drawn.columns.from >= drawn.columns.to {
+        return;
+    }
+    let mut lines = outline;
+    room.rows.begin_stroke(&mut lines, drawn.rows.from);
+    let painter = RowPainter {
+        clip: stroke.clip,
+        columns: drawn.columns,
+        inks: Inks::Same(full(stroke.mix)),
+    };
+    paint_rows(canvas, room, Part::Lines, drawn.rows, &painter);
+}
+
+/// Strokes the outer pixels of a box, if it has any.
+pub(crate) fn stroke_box(
+    canvas: &mut Canvas,
+    room: &mut DrawingRoom,
+    inside: Rect,
+    stroke: &Stroke<'_>,
+)
+    requires countable { HasRoomForLayer canvas.old }
     requires room { 4 ≤ room.old.rows.room }
     requires near { IsNearBox inside }
-    ensures pixels { Repaints (paints paint.now (in_stroke (rectangle_lines inside))) (made paint.now) canvas.old canvas.new }
+    ensures pixels { PaintsShape (stroke_paint stroke.now) (in_stroke (rectangle_lines inside)) canvas.old canvas.new }
     ensures few { CountsLayer canvas.old canvas.new }
     ensures room { room.new.rows.room ≡ room.old.rows.room }
 {
@@ -45,23 +109,5 @@ pub(crate) fn stroke_box(
         return;
     }
     let lines = box_lines(inside);
-    let outline = LineList { rest: &lines };
-    let DrawingRoom { rows, marks, inks } = room;
-    if stroke_marked(canvas, marks, outline, inside, paint, colour) {
-        return;
-    }
-    paint_part(canvas, rows, outline, Part::Lines, inside, paint, inks);
-}
-
-/// Paints the pixels of a lone line in the colour of a paint of one colour.
-pub(crate) fn stroke_line(canvas: &mut Canvas, line: Line, paint: &Brushing<'_, '_>, colour: Colour)
-    requires countable { HasRoomForLayer canvas.old }
-    requires near { HasNearEnds line }
-    requires pen { IsPen paint.now colour }
-    ensures pixels { Repaints (paints paint.now (λ x y. on_line line (pos x) (pos y))) (made paint.now) canvas.old canvas.new }
-    ensures few { CountsLayer canvas.old canvas.new }
-{
-    writing_law();
-    whole_law(canvas);
-    mix_line(canvas, line, paint.operation.mix(colour, BLACK), paint.clip);
+    stroke_lines(canvas, room, LineList { rest: &lines }, inside, stroke);
 }

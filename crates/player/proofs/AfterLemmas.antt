@@ -1,5 +1,5 @@
 -- Steps in turn: what they need, and the room for what they draw.
-use Rattle.std.proofs.Common.{◌≡◌, ℕ, ◌≤◌, ◌⊎◌, max, List, ◌∷◌, Option, Some, None, IfSome, arith, inl, inr}
+use Rattle.std.proofs.Common.{◌≡◌, ℕ, ◌≤◌, max, List, ◌∷◌, Option, Some, None, IfSome, arith, inl, inr, refl, subst, sym}
 use Rattle.std.specs.Option.{option_map}
 use Rattle.draw_ops.specs.Content.{Content, StepValue, with_step}
 use Rattle.dc_stack.specs.Drawing.{drawing_edges, drawing_of, edge_limit}
@@ -29,7 +29,9 @@ room_behind content rest step old new is stepped on room =
       depth = omega (arith, depth, more_depth);
       slots = omega (arith, slots, more_slots);
       pieces = omega (arith, pieces, more_pieces);
-    } in rw (stepped.state, stepped.needs) left
+    } in
+    let same : needs_after rest.steps new.state new.needs ≡ needs_after rest.steps (next step.operation old.state) (greater_needs old.needs (needs_of step.operation old.state)) = rw (stepped.state, stepped.needs) refl in
+    subst (λ (needs : Needs). HasRoomFor needs new) (sym same) left
 
 -- and so are lines
 pub lines_behind : (room : ℕ) (content rest : Content) (step : StepValue) (old new : MachineState) → content ≡ with_step step rest → HasStepped step.operation old new → HasLines room content old → HasLines room rest new

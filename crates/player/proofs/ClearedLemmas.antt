@@ -1,5 +1,5 @@
 -- What a certificate that was accepted says of playing on a surface within its bound.
-use Rattle.std.proofs.Common.{◌≡◌, ℕ, ◌+◌, ◌≤◌, ◌⊎◌, List, None, inl, inr, arith}
+use Rattle.std.proofs.Common.{◌≡◌, ℕ, ◌+◌, ◌≤◌, ◌⊎◌, List, None, inl, inr, refl, subst, sym, arith}
 use Rattle.mapping.specs.PlacingLaws.{IsNoLarger, ShowsFrame}
 use Rattle.mapping.specs.Surface.{Surface}
 use Rattle.draw_ops.specs.Content.{Content}
@@ -9,7 +9,8 @@ use Rattle.dc_stack.specs.Drawing.{edge_limit}
 use Rattle.dc_stack.specs.MachineState.{MachineState}
 use Rattle.dc_stack.specs.Needs.{no_needs}
 use Rattle.dc_stack.specs.State.{start_of}
-use Rattle.preflight_cert.specs.After.{file_needs}
+use Rattle.dc_stack.specs.declared.needs.Needs.{Needs}
+use Rattle.preflight_cert.specs.After.{file_needs, needs_after}
 use Rattle.preflight_cert.specs.Answer.{AnswerLaws, Fits, IsCleared, bound_of}
 use Rattle.preflight_cert.specs.CertificateReading.{CertificateValue}
 use Rattle.preflight_cert.specs.Drawings.{drawings_of}
@@ -31,7 +32,8 @@ module _ (answers : AnswerLaws) (o : OpenedValue) (records : List ℕ) (c : Cert
         let depth = within.depth in let slots = within.slots in let pieces = within.pieces in
         let deep = room.depth in let many = room.slots in let long = room.pieces in
         let enough : HasRoomFor (file_needs content o) m = record { depth = omega (arith, depth, deep); slots = omega (arith, slots, many); pieces = omega (arith, pieces, long) } in
-        rw (state, needs) enough
+        let same : needs_after content.steps m.state m.needs ≡ file_needs content o = rw (state, needs) refl in
+        subst (λ (n : Needs). HasRoomFor n m) (sym same) enough
 
     pub lines_for_file : (count : ℕ) → (edge_limit ≤ count ⊎ c.needs.edges ≤ count) → HasLines count content m
     lines_for_file count lines = elim lines [

@@ -6,3 +6,4 @@ pub mod BandLemmas
 pub mod BandTextLemmas
 pub mod ClearedBandLemmas
 pub mod ReadyLemmas
+pub mod WriterLemmas

@@ -1,5 +1,5 @@
 -- What is ready for bands.
-use Rattle.std.proofs.Common.{◌≡◌, ℕ, ◌≤◌, ap, arith}
+use Rattle.std.proofs.Common.{◌≡◌, ◌≤◌, ap, arith}
 use Rattle.mapping.specs.Surface.{Surface}
 use Rattle.preflight_cert.specs.declared.cleared.Cleared.{Cleared}
 use Rattle.player.specs.ReadyBands.{IsReadyForBands}
@@ -9,7 +9,7 @@ use Rattle.player.specs.declared.band_room.BandRoom.{BandRoom}
 -- a plan within a certificate's bound has at most 8,192 rows
 pub few_rows : (cleared : Cleared) (plan : BandPlan) (room : BandRoom) → IsReadyForBands cleared plan room → plan.height ≤ 8192
 few_rows cleared plan room ready =
-    let height : room.play.machine.surface.height ≡ plan.height = ap (λ (t : Surface). t.height) ready.surface in
+    let height : room.machine.surface.height ≡ plan.height = ap (λ (t : Surface). t.height) ready.surface in
     let within = ready.ready.within.height in
     let bound = cleared.certificate.high.within in
     omega (arith, height, within, bound)

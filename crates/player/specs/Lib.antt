@@ -6,4 +6,4 @@ pub mod Plays
 pub mod ClearedPlay
 pub mod Bands
 pub mod ReadyBands
-pub mod Sending
+pub mod PartsWritten

@@ -8,7 +8,7 @@ use Rattle.player.specs.declared.band_room.BandRoom.{BandRoom}
 
 -- A machine plays the file on the plan's surface, and a canvas has room for a row of it.
 pub record IsReadyForBands (cleared : Cleared) (plan : BandPlan) (room : BandRoom) : Type 0 where
-  pub ready : IsReadyToPlay cleared room.play.drawings.rows.room room.play.machine
-  pub surface : room.play.machine.surface ≡ plan_surface cleared plan
+  pub ready : IsReadyToPlay cleared room.drawings.rows.room room.machine
+  pub surface : room.machine.surface ≡ plan_surface cleared plan
   pub width : room.canvas.width ≡ plan.width
   pub some : 1 ≤ room.canvas.most

@@ -10,14 +10,18 @@ use crate::band_plan::BandPlan;
 use crate::play_room::{PlayRoom, play_room};
 use crate::playing::play_rows;
 use canvas::Canvas;
+use dc_stack::Machine;
 use draw_ops::{Fault, content_law};
+use object_tables::FileTable;
+use painting::DrawingRoom;
 use preflight_cert::Cleared;
 use std::alloc::Global;
 
-/// Room for playing a cleared file, and a canvas with room for a band.
+/// A machine and room for drawings, enough for what a cleared file needs, and a canvas with room for a band.
 #[derive(Drop)]
 pub(crate) struct BandRoom<'a> {
-    pub play: PlayRoom<'a>,
+    pub machine: Machine<'a, FileTable<'a>>,
+    pub drawings: DrawingRoom,
     pub canvas: Canvas,
 }
 
@@ -34,13 +38,18 @@ pub(crate) fn band_room<'a>(
     ensures too_large { TellsTooLarge result plan.width plan.height cleared.now.certificate }
     ensures refusal { IfErr result IsPlayFault }
 {
-    let play = match play_room(alloc, cleared, plan.width, plan.height) {
-        Ok(play) => play,
+    let room = match play_room(alloc, cleared, plan.width, plan.height) {
+        Ok(room) => room,
         Err(fault) => return Err(fault),
     };
+    let PlayRoom { machine, drawings } = room;
     let rows = plan.rows.min(plan.height);
     match Canvas::band(alloc, plan.width, 0, rows, plan.start) {
-        Ok(canvas) => Ok(BandRoom { play, canvas }),
+        Ok(canvas) => Ok(BandRoom {
+            machine,
+            drawings,
+            canvas,
+        }),
         Err(_) => Err(Fault::OutOfMemory),
     }
 }
@@ -62,10 +71,14 @@ pub(crate) fn show_band<'a>(
     ensures ready { IsReadyForBands cleared.now plan room.new }
 {
     content_law();
-    let rows = room.canvas.most_rows().min(plan.height - first);
-    let (machine, drawings) = (&mut room.play.machine, &mut room.play.drawings);
+    let BandRoom {
+        machine,
+        drawings,
+        canvas,
+    } = room;
+    let rows = canvas.most_rows().min(plan.height - first);
     machine.restart(&cleared.opened);
-    room.canvas.again(first, rows, plan.start);
-    play_rows(cleared, machine, drawings, &mut room.canvas);
+    canvas.again(first, rows, plan.start);
+    play_rows(cleared, machine, drawings, canvas);
     rows
 }

@@ -9,7 +9,7 @@ ghost use Rattle.player.specs.Counts.{HasRoomForFile};
 ghost use Rattle.player.specs.Plays.{PlaysOpened};
 ghost use Rattle.player.specs.Ready.{IsAtStart, IsReadyToPlay, surface_of_file};
 
-use crate::play_room::play_room;
+use crate::play_room::{PlayRoom, play_room};
 use crate::playing::play_rows;
 use canvas::Canvas;
 use dc_stack::Machine;
@@ -35,9 +35,12 @@ pub fn play(alloc: Global, cleared: &Cleared<'_>, canvas: &mut Canvas) -> Result
     ensures rows { SameRows canvas.old canvas.new }
 {
     match play_room(alloc, cleared, canvas.width(), canvas.rows()) {
-        Ok(mut room) => {
-            let (machine, drawings) = (&mut room.machine, &mut room.drawings);
-            Ok(play_reserved(cleared, machine, drawings, canvas))
+        Ok(room) => {
+            let PlayRoom {
+                mut machine,
+                mut drawings,
+            } = room;
+            Ok(play_reserved(cleared, &mut machine, &mut drawings, canvas))
         }
         Err(fault) => Err(fault),
     }

@@ -2,7 +2,7 @@
 
 ghost use Rattle.std.specs.Prelude.{ℕ, ◌+◌, ◌^◌, ◌<◌, ◌≤◌, OnErr, OnOk};
 ghost use Rattle.canvas.specs.Ppm.{header, raster};
-ghost use Rattle.player.specs.Sending.{SendsFront, SendsText};
+ghost use Rattle.player.specs.PartsWritten.{SendsFront, SendsText};
 
 use canvas::{Canvas, FaultCount, WriteFault, write_header, write_header_to};
 use std::io::Write;

@@ -38,7 +38,7 @@ head_size = 40
 abbrev pub entry_size : ℕ
 entry_size = 20
 
--- an entry of so many bytes has at least those, and so few that sizes of certificates can be counted
+-- entries may have this size: at least a number and a box, and so little that the size of a certificate can be counted
 pub record IsEntrySize (size : ℕ) : Type 0 where
   pub least : entry_size ≤ size
   pub few : size < 2 ^ 16

@@ -11,6 +11,9 @@ use object_tables::Table;
 
 /// Plays the next step that is left of a source, and puts it and what it draws into their places: false where no step is left. The
 /// refusal is the first fault with its record, so many records being before what is left, or `OutOfMemory` without one.
+///
+/// It is compiled into each loop over records, so that no answer is moved.
+#[inline(always)]
 pub(crate) fn play_next<'a, S: OpSource<'a>, T: Table<'a>>(
     source: &mut S,
     machine: &mut Machine<'a, T>,

@@ -1,5 +1,5 @@
 use Rattle.std.proofs.Common.{sym, ◌∙◌}
-use Rattle.painting.proofs.LineStepLemmas.{no_cuts}
+use Rattle.painting.proofs.VisibleLemmas.{no_cuts}
 use Rattle.painting.proofs.stamping.begin_stamps.Goals as goal
 
 pub returns-clause-uncut : goal.returns-clause-uncut

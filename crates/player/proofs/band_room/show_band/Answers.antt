@@ -1,18 +1,15 @@
-use Rattle.std.proofs.Common.{◌≡◌, ◌+◌, ◌≤◌, ◌∙◌, ap, arith, rules, sym}
+use Rattle.std.proofs.Common.{◌∙◌, ap}
 use Rattle.mapping.specs.Image.{blank}
 use Rattle.mapping.specs.PageMap.{map_numbers}
-use Rattle.mapping.specs.Surface.{Surface}
-use Rattle.painting.specs.Drawn.{HoldsRows}
 use Rattle.canvas.specs.CanvasState.{CanvasState, image_of}
 use Rattle.meta_headers.specs.OpenedOf.{opened_of}
 use Rattle.dc_stack.specs.State.{start_state}
 use Rattle.player.specs.Bands.{plan_surface}
-use Rattle.player.proofs.BandTextLemmas.{band_played, goes_on_twice, ready_again}
-use Rattle.player.proofs.ReadyLemmas.{few_rows}
+use Rattle.player.proofs.BandTextLemmas.{band_played}
 use Rattle.player.proofs.band_room.show_band.Goals as goal
 
 pub returns-clause-played : goal.returns-clause-played
-returns-clause-played g c =
+returns-clause-played c =
     let opened = c.args.cleared.now.opened in
     let o = opened_of opened in
     let ready = c.requires.ready in

@@ -24,8 +24,8 @@ loop-first-init g c =
       faults = c.write_header.ensures.count;
     }
 
-pub show_band-requires : goal.show_band-requires
-show_band-requires g c =
+pub show_band-rows-requires : goal.show_band-rows-requires
+show_band-rows-requires g c =
     let loop = c.loop-first in
     let few = loop.invariant.few in
     let within = loop.invariant.within in
@@ -43,19 +43,19 @@ loop-first-preserved g c =
     let s = plan_surface cleared plan in
     let loop = c.loop-first in
     let inv = loop.invariant in
-    let shown = c.show_band.new.room.canvas in
-    let played = c.show_band.ensures.played in
+    let shown = c.show_band-rows.new.room.canvas in
+    let played = c.show_band-rows.ensures.played in
     let few = inv.few in
-    let bounded = c.show_band.ensures.bounded in
-    let some = c.show_band.ensures.some in
+    let bounded = c.show_band-rows.ensures.bounded in
+    let some = c.show_band-rows.ensures.some in
     let faults = inv.faults in
     let more = c.write_rows.ensures.count in
     record {
-      within = c.show_band.ensures.within;
-      ready = c.show_band.ensures.ready;
+      within = c.show_band-rows.ensures.within;
+      ready = c.show_band-rows.ensures.ready;
       few = omega (arith, few, bounded, some);
-      written = band_written laws o records s plan.start plan.wide loop.first c.show_band.result loop.room.canvas shown played _ _ _ inv.written c.in_ok-write_rows.ensures.ok;
-      counted = band_counted laws o records s plan.start plan.wide loop.first c.show_band.result loop.room.canvas shown played inv.counted;
+      written = band_written laws o records s plan.start plan.wide loop.first c.show_band-rows.result loop.room.canvas shown played _ _ _ inv.written c.in_ok-write_rows.ensures.ok;
+      counted = band_counted laws o records s plan.start plan.wide loop.first c.show_band-rows.result loop.room.canvas shown played inv.counted;
       room = c.in_ok-write_rows.ensures.room;
       faults = omega (arith, faults, more);
     }
@@ -73,7 +73,7 @@ returns-in_err-write_rows-clause-front g c =
     let plan = c.args.plan in
     let loop = c.loop-first in
     let p = err_from_is_err_and c.from_residual-in_err-write_rows.result c.from_residual-in_err-write_rows.ensures.1 in
-    rw p.1 (front_written c.rows_law.ensures (opened_of cleared.opened) cleared.opened.records.now (plan_surface cleared plan) plan.start plan.wide loop.first c.show_band.result loop.room.canvas c.show_band.new.room.canvas c.show_band.ensures.played _ _ _ c.show_band.ensures.within loop.invariant.written c.in_err-write_rows.ensures.err)
+    rw p.1 (front_written c.rows_law.ensures (opened_of cleared.opened) cleared.opened.records.now (plan_surface cleared plan) plan.start plan.wide loop.first c.show_band-rows.result loop.room.canvas c.show_band-rows.new.room.canvas c.show_band-rows.ensures.played _ _ _ c.show_band-rows.ensures.within loop.invariant.written c.in_err-write_rows.ensures.err)
 
 pub returns-clause-text : goal.returns-clause-text
 returns-clause-text g c =

@@ -1,5 +1,5 @@
 -- A cleared file writes no more than certified.
-use Rattle.std.proofs.Common.{◌≡◌, ℕ, ◌+◌, ap, rules, subst, sym}
+use Rattle.std.proofs.Common.{◌≡◌, ℕ, ◌+◌, ap, subst, sym}
 use Rattle.mapping.specs.PlacingLaws.{ShowsFrame}
 use Rattle.mapping.specs.Surface.{Surface}
 use Rattle.meta_headers.specs.OpenedOf.{opened_of}

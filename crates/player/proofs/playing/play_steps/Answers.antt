@@ -1,4 +1,4 @@
-use Rattle.std.proofs.Common.{◌≡◌, ◌+◌, ℕ, List, Bool, Result, Ok, Some, ap, length, arith, rules, ◌∙◌}
+use Rattle.std.proofs.Common.{◌≡◌, suc, Bool, Result, Ok, Some, ap, length, arith, rules, ◌∙◌}
 use Rattle.draw_ops.specs.Content.{Content, broken_by, with_step}
 use Rattle.draw_ops.specs.Gives.{Stays, put}
 use Rattle.draw_ops.specs.OperationOf.{operation_of}
@@ -33,7 +33,7 @@ loop-is_put-preserved g c =
     let begins : content loop.source ≡ with_step (step_value_of step) rest = rw is at c.next_into.ensures.gives in
     let stepped : HasStepped (operation_of step.op) old new = c.in-Ok-step_into.ensures.stepped in
     let drawn : IsDrawingOf (operation_of step.op) old new c.step_into.new.drawn = c.in-Ok-step_into.ensures.drawn in
-    let one_more : length (content loop.source).steps ≡ 1 + length rest.steps = ap (λ (k : Content). length k.steps) begins in
+    let one_more : length (content loop.source).steps ≡ suc (length rest.steps) = ap (λ (k : Content). length k.steps) begins in
     let inv = loop.invariant.few in
     let few = c.draw.ensures.few in
     record {
@@ -71,3 +71,21 @@ returns-in-Err-step_into-clause-refusal g c =
     rw loop.invariant.same_surface at
     (refused_stops c.need_law.ensures (content c.args.source.now) (content loop.source) (content c.next_into.new.self) (step_value_of step) c.args.machine.now.state loop.machine c.in-Err-step_into.fault begins loop.invariant.room refused
     (rw loop.invariant.same_surface loop.invariant.stops))
+
+pub returns-in-Err-clause-bounded : goal.returns-in-Err-clause-bounded
+unfolding record_limit
+returns-in-Err-clause-bounded g c =
+    let few = c.loop-is_put.invariant.few in
+    let short = c.requires.short in omega (arith, few, short)
+
+pub returns-then-not-is_put-clause-bounded : goal.returns-then-not-is_put-clause-bounded
+unfolding record_limit
+returns-then-not-is_put-clause-bounded g c =
+    let few = c.loop-is_put.invariant.few in
+    let short = c.requires.short in omega (arith, few, short)
+
+pub returns-in-Err-step_into-clause-bounded : goal.returns-in-Err-step_into-clause-bounded
+unfolding record_limit
+returns-in-Err-step_into-clause-bounded g c =
+    let few = c.loop-is_put.invariant.few in
+    let short = c.requires.short in omega (arith, few, short)

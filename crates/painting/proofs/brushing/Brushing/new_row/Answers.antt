@@ -4,7 +4,7 @@ use Rattle.mapping.specs.declared.geometry.Colour.{Colour}
 use Rattle.raster_ops.specs.BrushRows.{row_paint}
 use Rattle.raster_ops.specs.declared.sources.SourceReader.{SourceReader}
 use Rattle.painting.specs.Joined.{joined_if}
-use Rattle.painting.specs.Painted.{colour_of, colour_seen}
+use Rattle.painting.specs.Brushings.{colour_of, colour_seen}
 use Rattle.painting.proofs.SourceLemmas.{held_seen}
 use Rattle.painting.proofs.brushing.Brushing.new_row.Goals as goal
 

@@ -1,0 +1,15 @@
+use Rattle.std.proofs.Common.{◌≡◌}
+use Rattle.painting.specs.Parts.{part_has, work_of}
+use Rattle.painting.specs.RowPainters.{painter_paint}
+use Rattle.painting.proofs.RowLemmas.{HasRowsPainted}
+use Rattle.painting.proofs.parts.paint_rows.Given as goal
+
+-- the rows so far are painted, and the buffer is at the next
+abbrev pub invariant-loop-y : goal.invariant-loop-y
+invariant-loop-y l = record {
+  lines : l.rows.lines ≡ l.fn.room.rows.lines;
+  work : l.rows.work ≡ work_of l.part;
+  next : l.rows.next ≡ l.y;
+  room : l.rows.room ≡ l.fn.room.rows.room;
+  painted : HasRowsPainted (painter_paint l.painter) (part_has l.part l.fn.room.rows.lines) l.y l.fn.canvas l.canvas;
+}

@@ -1,0 +1,18 @@
+use Rattle.std.proofs.Common.{◌≡◌, ◌-◌, ◌≤◌, ℕ, not, ◌||◌}
+use Rattle.painting.specs.LinePixels.{is_to_step}
+use Rattle.painting.specs.Stamps.{is_taken}
+use Rattle.painting.proofs.FilterLemmas.{filtered}
+use Rattle.painting.proofs.untaken_pixels.UntakenPixelsPixelSource.next_pixel.Given as goal
+
+-- the pixels to come whose marks aren't taken are those of the start, and so are those that are to come or taken
+abbrev pub invariant-loop-pixel : goal.invariant-loop-pixel
+invariant-loop-pixel l = record {
+  name : l.self.stamps.ghost_name ≡ l.fn.self.stamps.ghost_name;
+  region : l.self.stamps.now.region ≡ l.fn.self.stamps.now.region;
+  same : (x y : ℕ) → filtered (is_to_step l.self.pixels.steps) (λ a b. not (is_taken l.self.stamps.now a b)) x y ≡ filtered (is_to_step l.fn.self.pixels.steps) (λ a b. not (is_taken l.fn.self.stamps.now a b)) x y;
+  all : (x y : ℕ) → (is_taken l.self.stamps.now x y || is_to_step l.self.pixels.steps x y) ≡ (is_taken l.fn.self.stamps.now x y || is_to_step l.fn.self.pixels.steps x y);
+  least : l.self.pixels.steps.end - l.self.pixels.steps.next ≤ l.fn.self.pixels.steps.end - l.fn.self.pixels.steps.next;
+}
+
+abbrev pub decreases-loop-pixel : goal.decreases-loop-pixel
+decreases-loop-pixel l = l.self.pixels.steps.end - l.self.pixels.steps.next

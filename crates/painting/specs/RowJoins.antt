@@ -1,0 +1,36 @@
+-- What becomes of some columns of a row, where a paint is joined with what is read.
+use Rattle.std.specs.Prelude.{◌≡◌, ℕ, ◌≤◌, ◌<◌, Bool, true, is_some, List, slice_index_or}
+use Rattle.mapping.specs.Colours.{black_colour}
+use Rattle.mapping.specs.declared.geometry.Colour.{Colour}
+use Rattle.draw_ops.specs.declared.ternary_op.TernaryOp.{TernaryOp}
+use Rattle.raster_ops.specs.BrushRows.{row_paint}
+use Rattle.raster_ops.specs.TernaryOps.{ternary_colour}
+use Rattle.raster_ops.specs.declared.rows.BrushRow.{BrushRow}
+use Rattle.span_fill.specs.declared.span.Span.{Span}
+use Rattle.painting.specs.Joined.{joined_if}
+use Rattle.painting.specs.RowInks.{mixed_at}
+use Rattle.painting.specs.declared.ink_room.MixRoom.{MixRoom}
+
+-- in these columns, what is made of the old colours is what is wanted, where a column passes the test
+abbrev pub AreMade : Span → (ℕ → Bool) → (made wanted : ℕ → Colour → Colour) → Type 0
+AreMade columns test made wanted = (x : ℕ) (old : Colour) → columns.from ≤ x → x < columns.to → test x ≡ true → made x old ≡ wanted x old
+
+-- the colour at a column, and black where there is none
+abbrev pub colours_at : List Colour → ℕ → Colour
+colours_at colours x = slice_index_or colours x black_colour
+
+-- a row of a brush has a colour for the column
+abbrev pub row_has : BrushRow → ℕ → Bool
+row_has row x = is_some (row_paint row x)
+
+-- an operation joins the row's colour with what is read at the column and the old one
+abbrev pub joined_row : TernaryOp → (ℕ → Colour) → BrushRow → ℕ → Colour → Colour
+joined_row op read row x old = joined_if op.table (read x) (row_paint row x) old
+
+-- and so it does with patterns, each at its column, where nothing is read
+abbrev pub joined_patterns : TernaryOp → List Colour → ℕ → Colour → Colour
+joined_patterns op patterns x old = ternary_colour op.table (colours_at patterns x) black_colour old
+
+-- what the mixes of a room make of a column
+abbrev pub mixed_in : MixRoom → ℕ → Colour → Colour
+mixed_in room x old = mixed_at room.keeps.value room.flips.value x old

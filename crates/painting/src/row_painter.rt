@@ -1,0 +1,59 @@
+//! What paints the rows of a shape, one after another.
+
+ghost use Rattle.std.specs.Prelude.{◌≡◌, ◌+◌, ◌*◌, ◌^◌, ◌<◌, ◌≤◌};
+ghost use Rattle.canvas.specs.CanvasState.{HasRow};
+ghost use Rattle.canvas.specs.WritingLaws.{IsWhole};
+ghost use Rattle.span_fill.specs.Spans.{AreApart};
+ghost use Rattle.painting.specs.RowsPainted.{PaintsSpans};
+
+use crate::brushing::Brushing;
+use crate::ink_room::InkRoom;
+use crate::row_ink::RowInk;
+use crate::strips::put_spans;
+use canvas::Canvas;
+use dc_stack::Clip;
+use span_fill::Span;
+
+/// The inks of the rows of a shape.
+#[derive(Clone, Copy, Debug)]
+pub(crate) enum Inks<'p, 'd, 'a> {
+    /// One for all rows, which isn't copied for a row.
+    Same(RowInk<'static>),
+    /// One for each row, of what a brush makes of it.
+    EachRow(&'p Brushing<'d, 'a>),
+}
+
+/// What paints some columns of the rows of a shape, under a clip.
+#[derive(Clone, Copy, Debug)]
+pub(crate) struct RowPainter<'p, 'd, 'a> {
+    pub(crate) clip: &'d Clip,
+    pub(crate) columns: Span,
+    pub(crate) inks: Inks<'p, 'd, 'a>,
+}
+
+impl<'p, 'd, 'a> RowPainter<'p, 'd, 'a> {
+    ghost use Rattle.painting.specs.RowPainters.{HoldsRead, painter_paint};
+
+    /// Paints the pixels in the spans of a row, what is read there being gathered.
+    pub(crate) fn put_row(&self, canvas: &mut Canvas, spans: &[Span], y: u32, room: &mut InkRoom)
+        requires whole { IsWhole canvas.old }
+        requires spans { AreApart 0 canvas.old.width spans.now }
+        requires row { HasRow canvas.old y }
+        requires countable { canvas.old.writes + 2 * canvas.old.width < 2 ^ 64 }
+        requires read { HoldsRead self.now.inks self.now.columns y room.old.sources.value }
+        requires order { self.now.columns.from ≤ self.now.columns.to }
+        requires end { self.now.columns.to ≤ 8192 }
+        ensures painted { PaintsSpans (painter_paint self.now) self.now.columns y spans.now canvas.old canvas.new }
+        ensures few { canvas.new.writes ≤ canvas.old.writes + canvas.old.width }
+        ensures sources { room.new.sources ≡ room.old.sources }
+    {
+        let cuts = self.clip.cut_boxes();
+        match &self.inks {
+            Inks::Same(ink) => put_spans(canvas, ink, y, spans, cuts),
+            Inks::EachRow(paint) => {
+                let ink = paint.new_row(y, self.columns, &*room.sources, &mut room.mixes);
+                put_spans(canvas, &ink, y, spans, cuts);
+            }
+        }
+    }
+}

@@ -1,0 +1,34 @@
+//! The pixels of a line that a clip has.
+
+ghost use Rattle.std.specs.Prelude.{◌-◌, ◌&&◌};
+ghost use Rattle.dc_stack.specs.Clip.{in_boxes};
+ghost use Rattle.dc_stack.specs.Values.{placed_value};
+ghost use Rattle.painting.specs.LinePixels.{is_to_step};
+
+use crate::line_pixels::LinePixels;
+use canvas::{PixelAt, PixelSource};
+use dc_stack::Clip;
+
+/// Those pixels of the steps that are left of a line which a clip has.
+#[derive(Drop)]
+pub(crate) struct UncutPixels<'c> {
+    pub(crate) pixels: LinePixels,
+    pub(crate) clip: &'c Clip,
+}
+
+impl<'c> PixelSource for UncutPixels<'c> {
+    ghost to_come = { λ uncut x y. is_to_step uncut.pixels.steps x y && in_boxes (placed_value uncut.clip.now) x y };
+
+    ghost measure = { λ uncut. uncut.pixels.steps.end - uncut.pixels.steps.next };
+
+    ghost ends_as = { λ start end. Unit {0} };
+
+    fn next_pixel(&mut self) -> Option<PixelAt> {
+        while let Some(pixel) = self.pixels.next_pixel() {
+            if self.clip.has(pixel.x, pixel.y) {
+                return Some(pixel);
+            }
+        }
+        None
+    }
+}

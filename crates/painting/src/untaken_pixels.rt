@@ -1,0 +1,41 @@
+//! The pixels of a line that no line had before.
+
+ghost use Rattle.std.specs.Prelude.{◌≡◌, ◌-◌, ◌&&◌, ℕ, not, true};
+ghost use Rattle.span_fill.specs.Spans.{in_region};
+ghost use Rattle.painting.specs.LinePixels.{is_to_step};
+ghost use Rattle.painting.specs.Stamps.{is_taken};
+
+use crate::line_pixels::LinePixels;
+use crate::stamps::Stamps;
+use canvas::{PixelAt, PixelSource};
+
+/// Those pixels of the steps that are left of a line whose marks aren't taken yet. The mark of a pixel is taken when it is given.
+///
+/// # Guarantees
+///
+/// - The marks are of a box that has these pixels.
+#[derive(Drop)]
+pub(crate) struct UntakenPixels<'s> {
+    pub(crate) pixels: LinePixels,
+    pub(crate) stamps: &'s mut Stamps,
+    pub(crate) ghost boxed: { (x y : ℕ) → is_to_step pixels.steps x y ≡ true → in_region stamps.now.region x y ≡ true },
+}
+
+impl<'s> PixelSource for UntakenPixels<'s> {
+    ghost use Rattle.painting.specs.UntakenPixels.{TakesAll};
+
+    ghost to_come = { λ untaken x y. is_to_step untaken.pixels.steps x y && not (is_taken untaken.stamps.now x y) };
+
+    ghost measure = { λ untaken. untaken.pixels.steps.end - untaken.pixels.steps.next };
+
+    ghost ends_as = { TakesAll };
+
+    fn next_pixel(&mut self) -> Option<PixelAt> {
+        while let Some(pixel) = self.pixels.next_pixel() {
+            if self.stamps.take(pixel.x, pixel.y) {
+                return Some(pixel);
+            }
+        }
+        None
+    }
+}
