@@ -1,7 +1,6 @@
 -- What runs make of an operation, on the smallest surface and on the largest.
-use Rattle.std.proofs.Common.{◌≡◌, ◌⊎◌, inl, inr, Option, Some, None, Result, Ok, Err, refl, ap, ◌∙◌}
+use Rattle.std.proofs.Common.{◌≡◌, inl, inr, Option, Some, None, refl, ap, ◌∙◌}
 use Rattle.std.specs.Option.{option_map, option_or}
-use Rattle.std.specs.Prelude.{IfErr}
 use Rattle.mapping.specs.Surface.{Surface}
 use Rattle.draw_ops.specs.Operation.{Operation}
 use Rattle.draw_ops.specs.declared.fault.Fault.{Fault}
@@ -29,7 +28,3 @@ refused_there laws needs operation m largest fault running refuses =
     on_larger (fault_of operation m.state m.surface) (fault_of operation m.state largest) fault
     (λ here is. laws.same_on_larger operation m.state m.surface largest here running.shows running.no_larger is)
     (refused_here needs operation m largest fault running refuses)
-
-pub all_refused_there : {T : Type 0} → FaultLaws → NeedLaws → (operation : Operation) (m : MachineState) (largest : Surface) (result : Result T Fault) → IsRunning m largest → IfErr result (RefusesStep operation m) → IfErr result (λ fault. option_map Record (fault_of operation m.state largest) ≡ Some fault)
-all_refused_there laws needs operation m largest (Ok done) running h = h
-all_refused_there laws needs operation m largest (Err fault) running h = refused_there laws needs operation m largest fault running h

@@ -1,5 +1,5 @@
 -- Where a run stops, the record's line tells the fault.
-use Rattle.std.proofs.Common.{◌≡◌, inl, inr, ℕ, suc, ◌+◌, ◌==◌, Bool, List, [], ◌∷◌, ◌++◌, length, codes, Option, Some, None, Result, Ok, Err, arith, refl, sym, ap, ◌∙◌, subst}
+use Rattle.std.proofs.Common.{◌≡◌, inl, inr, ℕ, suc, ◌+◌, ◌==◌, List, [], ◌∷◌, ◌++◌, length, codes, Option, Some, None, Result, Ok, Err, arith, refl, sym, ap, ◌∙◌}
 use Rattle.std.proofs.lemmas.Grind.{flat_map-append}
 use Rattle.std.proofs.lemmas.List.{append_assoc, append-nil, length-append}
 use Rattle.mapping.specs.PlacingLaws.{IsNoLarger, ShowsFrame}
@@ -20,7 +20,7 @@ use Rattle.dc_stack.specs.State.{State}
 use Rattle.preflight_cert.specs.Stop.{Stop, broken_behind, stop_at, stopped, stopped_or}
 use Rattle.listing.specs.Judging.{Judging, behind_record, fault_in_runs}
 use Rattle.listing.specs.Line.{fault_line, head_of, line_of, meant_text, refused_text}
-use Rattle.listing.specs.Listing.{last_line, lines_of, step_in}
+use Rattle.listing.specs.Listing.{last_line, lines_of}
 use Rattle.listing.specs.ListingLaws.{HasLine, TellsFault, refused_line, text_of_lines}
 
 -- of a stop its number and its fault

@@ -14,7 +14,7 @@ use Rattle.meta_headers.specs.declared.opened.FileFormat.{FileFormat}
 use Rattle.preflight_cert.specs.Answer.{IsAnswer, refuses}
 use Rattle.preflight_cert.specs.Run.{Run, refused}
 use Rattle.preflight_cert.specs.TextLaws.{AreBytes}
-use Rattle.listing.specs.Judging.{Judging, start_judging}
+use Rattle.listing.specs.Judging.{start_judging}
 use Rattle.listing.specs.Line.{fault_line, head_of, refused_text}
 use Rattle.listing.specs.Listing.{listing_of}
 

@@ -72,9 +72,10 @@ impl<'a> SmallestRun<'a> {
         need_law();
         let mut drawn: Option<Draw<'a>> = None;
         match self.machine.step_into(op, &mut drawn) {
-            Ok(()) => Ok(off_plane(self.machine.plane_extent(), self.largest)),
-            Err(fault) => Err(fault),
+            Ok(()) => {}
+            Err(fault) => return Err(fault),
         }
+        Ok(off_plane(self.machine.plane_extent(), self.largest))
     }
 }
 
