@@ -4,9 +4,6 @@ import unittest
 
 from clause_lengths import clauses, clauses_in, functions, functions_in
 
-# Whether the limits have to hold.
-ARE_LIMITS_ON = False
-
 # At most so many clauses are longer than so many characters.
 MOST_CLAUSES = {120: 100, 200: 0}
 
@@ -62,7 +59,6 @@ class Measures(unittest.TestCase):
         self.assertEqual([it.lines for it in functions_in(SOURCE)], [12, 1, 2, 3, 3])
 
 
-@unittest.skipUnless(ARE_LIMITS_ON, "the limits don't hold yet")
 class Limits(unittest.TestCase):
     """The limits of this repository."""
 

@@ -45,14 +45,18 @@ impl Canvas {
         self.change_each(pixels, colour);
     }
 
-    /// Changes the pixels that a source gives by the mix, each counted once.
+    /// Changes the pixels that a source gives by the mix, each counted once. Where the mix makes one colour of all, no colour is read.
     pub fn mix_each<P: PixelSource>(&mut self, pixels: &mut P, mix: Mix)
         requires held { (x y : ℕ) → P.to_come pixels.old x y ≡ true → HasPixel self.old x y }
         requires countable { self.old.writes + self.old.rows * self.old.width + 1 < 2 ^ 64 }
         ensures pixels { Repaints (P.to_come pixels.old) (λ x y old. mixed_by mix old) self.old self.new }
         ensures end { P.ends_as pixels.old pixels.new }
     {
-        self.change_each(pixels, mix);
+        self.width();
+        match mix.constant() {
+            Some(colour) => self.put_each(pixels, colour),
+            None => self.change_each(pixels, mix),
+        }
     }
 
     /// Makes of the pixels that a source gives what the change makes of them, each counted once.
