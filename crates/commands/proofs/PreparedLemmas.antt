@@ -10,7 +10,7 @@ use Rattle.meta_headers.specs.Headers.{OpenedValue}
 use Rattle.meta_headers.specs.Opening.{opened, record_bytes}
 use Rattle.point_views.specs.Numbers.{number_at}
 use Rattle.preflight_cert.specs.Answer.{Answer, AnswersOpened, AnswersRead, IsAnswer, accepted, refuses}
-use Rattle.preflight_cert.specs.CertificateReading.{CertificateValue, is_bounded, mark, read_certificate, read_whole, value_in, whole_size}
+use Rattle.preflight_cert.specs.CertificateReading.{CertificateValue, entry_size, is_bounded, mark, read_certificate, read_whole, value_in, whole_size}
 use Rattle.preflight_cert.specs.CertificateText.{certificate_text}
 use Rattle.preflight_cert.specs.CertificateOf.{certificate_of}
 use Rattle.preflight_cert.specs.Refusal.{IsWantOfMemory}
@@ -50,10 +50,10 @@ ended true trailing value c e = absurd (no_fault ShortCertificate c e)
 ended false true value c e = absurd (no_fault TrailingBytes c e)
 ended false false value c e = ap (value_or value) e
 
-is_read : (bytes : List ℕ) (c : CertificateValue) → read_certificate bytes ≡ Ok c → value_in bytes ≡ c
+is_read : (bytes : List ℕ) (c : CertificateValue) → read_certificate bytes ≡ Ok c → value_in entry_size bytes ≡ c
 is_read bytes c e =
-    ended (nat_lt (length bytes) (whole_size bytes)) (nat_lt (whole_size bytes) (length bytes)) (value_in bytes) c
-    (passed (nat_lt (length bytes) 4) (number_at bytes 0 4 == mark) (nat_lt (length bytes) 40) (is_bounded bytes) (read_whole bytes) c e)
+    ended (nat_lt (length bytes) (whole_size entry_size bytes)) (nat_lt (whole_size entry_size bytes) (length bytes)) (value_in entry_size bytes) c
+    (passed (nat_lt (length bytes) 4) (number_at bytes 0 4 == mark) (nat_lt (length bytes) 40) (is_bounded bytes) (read_whole entry_size bytes) c e)
 
 wide_back : (c : CertificateValue) → c.max_width ≤ 8192 → number_at (certificate_text c) 4 4 ≡ c.max_width
 wide_back c h = omega (arith, h)
@@ -84,7 +84,7 @@ module _ (file : List ℕ) (width height : ℕ) (bytes : List ℕ) (prepared : P
   text : IsOfSides width height bytes
   text = of_bound file width height bytes (is_bound width height) prepared
 
-  read_text : value_in (certificate_text text.certificate) ≡ value
+  read_text : value_in entry_size (certificate_text text.certificate) ≡ value
   read_text = is_read (certificate_text text.certificate) value (subst (λ (b : List ℕ). read_certificate b ≡ Ok value) text.is_text read)
 
   pub prepared_wide : width ≤ 8192 → value.max_width ≡ width
