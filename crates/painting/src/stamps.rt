@@ -49,14 +49,8 @@ impl Stamps {
         let Ok(words) = Vec::from_elem(alloc, 0, WORDS) else {
             return Err(OutOfMemory);
         };
-        let none = Span { from: 0, to: 0 };
-        Ok(Stamps {
-            words,
-            region: Region {
-                columns: none,
-                rows: none,
-            },
-        })
+        let region = empty_box();
+        Ok(Stamps { words, region })
     }
 
     /// Begins with a box of which no pixel is taken, if it has at most 1,048,576 pixels: tells whether it has. Else the marks stay what
@@ -97,6 +91,19 @@ impl Stamps {
     {
         let number = number_in(self.region, x, y);
         take_bit(&mut self.words[..], number)
+    }
+}
+
+/// A box without pixels.
+fn empty_box() -> Region
+    ensures columns { result.columns.to ≤ 8192 }
+    ensures rows { result.rows.to ≤ 8192 }
+    ensures none { pixel_count result ≡ 0 }
+{
+    let none = Span { from: 0, to: 0 };
+    Region {
+        columns: none,
+        rows: none,
     }
 }
 
