@@ -1,7 +1,8 @@
 -- A part of a list of colours, with others in its place.
-use Rattle.std.proofs.Common.{◌≡◌, ℕ, suc, ◌+◌, ◌-◌, ◌<◌, ◌≤◌, List, [], ◌∷◌, ◌++◌, length, get_or, set, take, drop, refl, ap, ◌∙◌, arith}
-use Rattle.std.proofs.lemmas.List.{get_or-append_right, get_or-drop, get_or-take, get_or_append_left, length-append, length-drop, length-take-le, set_split}
+use Rattle.std.proofs.Common.{◌≡◌, ℕ, suc, ◌+◌, ◌-◌, ◌<◌, ◌≤◌, List, [], ◌∷◌, ◌++◌, length, get_or, replicate, set, take, drop, refl, ap, sym, ◌∙◌, arith}
+use Rattle.std.proofs.lemmas.List.{get_or-append_right, get_or-drop, get_or-replicate, get_or-take, get_or_append_left, length-append, length-drop, length-replicate, length-take-le, same_lists, set_split}
 use Rattle.mapping.specs.declared.geometry.Colour.{Colour}
+use Rattle.canvas.specs.PartsMade.{EachIs}
 
 -- a part of a list with others in its place
 abbrev pub with_part : ℕ → List Colour → List Colour → List Colour
@@ -36,3 +37,10 @@ pub set_is_part : (colours : List Colour) (place : ℕ) (colour : Colour) → pl
 set_is_part colours place colour h =
     let next : suc place ≡ place + 1 = omega arith in
     set_split colours place colour h ∙ ap (λ (i : ℕ). take place colours ++ ((colour ∷ []) ++ drop i colours)) next
+
+-- so many colours, each of which is this one
+pub all_one : (colours : List Colour) (count : ℕ) (colour : Colour) → length colours ≡ count → EachIs count colours (λ k any. colour) → colours ≡ replicate count colour
+all_one colours count colour long each =
+    same_lists colours (replicate count colour) (long ∙ sym (length-replicate count colour)) (λ k d h.
+    let there : k < count = omega (arith, h, long) in
+    each k d there ∙ sym (get_or-replicate count k colour d there))

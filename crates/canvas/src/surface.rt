@@ -13,9 +13,11 @@ ghost use Rattle.canvas.specs.declared.canvas_error.ImageError.TheVariants.{BadI
 
 use crate::canvas_error::{ImageError, OutOfMemory, WriteFault};
 use crate::counting::FaultCount;
+use crate::parts::fill_with;
 use crate::ppm::{write_raster, write_text};
 use crate::ppm_counted::{write_raster_to, write_text_to};
 use crate::reading::{read_head, read_rows};
+use crate::swatch::{Swatch, same_colours};
 use mapping::Colour;
 use std::alloc::Global;
 use std::io::Write;
@@ -85,9 +87,7 @@ impl Canvas {
         requires within { first + rows ≤ surface_side_limit }
         ensures { IfOk result (λ canvas. canvas ≡ unwritten width first rows colour) }
     {
-        let Ok(colours) = Vec::from_elem(alloc, colour, room(rows, stride_of(width))) else {
-            return Err(OutOfMemory);
-        };
+        let colours = same_colours(alloc, room(rows, stride_of(width)), colour)?;
         Ok(Canvas::of(colours, width, first, rows))
     }
 
@@ -99,9 +99,9 @@ impl Canvas {
         requires most { rows ≤ self.old.most }
         ensures { self.new ≡ shown_again first rows colour self.old }
     {
-        self.colours.clear();
         let count = room(rows, self.stride);
         let _ = self.colours.resize(count, colour);
+        fill_with(&mut self.colours[..], &Swatch::new(colour));
         (self.first, self.rows) = (first, rows);
     }
 

@@ -2,7 +2,7 @@
 use Rattle.std.proofs.Common.{◌≡◌, ◌≢◌, ◌⊎◌, ℕ, ◌+◌, ◌<◌, ◌≤◌, true, List, [], ◌∷◌, ◌++◌, length, Option, Result, Ok, Err, inl, inr, arith, refl, ap, subst, sym, ◌∙◌}
 use Rattle.draw_ops.specs.declared.fault.Fault.TheVariants.{Record}
 use Rattle.std.specs.Prelude.{OnOk}
-use Rattle.std.specs.Option.{option_map, option_or}
+use Rattle.std.specs.Option.{option_map}
 use Rattle.std.proofs.lemmas.List.{append_assoc, length-append}
 use Rattle.mapping.specs.PageMap.{map_numbers}
 use Rattle.mapping.specs.Plane.{MapNumbers}
@@ -15,10 +15,10 @@ use Rattle.draw_ops.specs.declared.record_fault.RecordFault.{RecordFault}
 use Rattle.dc_stack.specs.Drawing.{points_of_lists}
 use Rattle.dc_stack.specs.Extents.{IsExtent}
 use Rattle.dc_stack.specs.Figures.{Figures, no_figures, points_gone_on, with_polygon, with_polygons, with_polyline, with_polylines}
-use Rattle.dc_stack.specs.GatheredPath.{AnswersAddition, IsGathered, addition_fault, after_lists, is_open_phase, open_piece, path_in, path_of, phase_behind}
+use Rattle.dc_stack.specs.GatheredPath.{AnswersAddition, IsGathered, after_lists, is_open_phase, open_piece, path_in, path_of, phase_behind}
 use Rattle.dc_stack.specs.Mapped.{mapped_list, mapped_point}
-use Rattle.dc_stack.specs.OperationFault.{off_plane_fault}
-use Rattle.dc_stack.specs.Path.{Path, after_lines, open_path, piece_count, piece_for, piece_limit, pieces_fault, pieces_of_lines, points_if_open}
+use Rattle.dc_stack.specs.OperationFault.{addition_fault}
+use Rattle.dc_stack.specs.Path.{Path, after_lines, open_path, piece_count, piece_for, piece_limit, pieces_of_lines, points_if_open}
 use Rattle.dc_stack.specs.Pieces.{figures_of, gone_on, page_points, plane_lists, with_end, with_lists, with_piece}
 use Rattle.dc_stack.specs.declared.piece.FigureEnd.{FigureEnd}
 use Rattle.dc_stack.specs.declared.piece.FigureEnd.TheVariants.{Open}
@@ -199,10 +199,10 @@ module _ (start : Point) (ps : List Point) (some : ps ≢ []) where
     points_begun h = rw (at, beginning f.current h) refl
 
     -- and the first fault
-    pub fault_gone_on : (s : Surface) → f.current ≢ [] → addition_fault (n + 1) ps s ≡ option_or (pieces_fault (piece_count (after_lines start ps path))) (off_plane_fault (points_if_open path (λ figures. points_gone_on start figures.current ps)) s)
+    pub fault_gone_on : (s : Surface) → f.current ≢ [] → addition_fault (n + 1) ps s ≡ addition_fault (piece_count (after_lines start ps path)) (points_if_open path (λ figures. points_gone_on start figures.current ps)) s
     fault_gone_on s h = rw (path_gone_on h, at, going_on f.current h) refl
 
-    pub fault_begun : (s : Surface) → f.current ≡ [] → addition_fault (n + 2) (start ∷ ps) s ≡ option_or (pieces_fault (piece_count (after_lines start ps path))) (off_plane_fault (points_if_open path (λ figures. points_gone_on start figures.current ps)) s)
+    pub fault_begun : (s : Surface) → f.current ≡ [] → addition_fault (n + 2) (start ∷ ps) s ≡ addition_fault (piece_count (after_lines start ps path)) (points_if_open path (λ figures. points_gone_on start figures.current ps)) s
     fault_begun s h = rw (path_begun h, at, beginning f.current h) refl
 
     pub count_gone_on : f.current ≢ [] → piece_count (after_lines start ps path) ≡ n + 1

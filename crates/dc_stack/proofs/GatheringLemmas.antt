@@ -6,9 +6,9 @@ use Rattle.mapping.specs.Surface.{Surface}
 use Rattle.mapping.specs.declared.geometry.Point.{Point}
 use Rattle.dc_stack.specs.Drawing.{points_of_lists}
 use Rattle.dc_stack.specs.Extents.{IsExtent}
-use Rattle.dc_stack.specs.GatheredPath.{LandsInside, addition_fault, gathered_points}
+use Rattle.dc_stack.specs.GatheredPath.{LandsInside, gathered_points}
 use Rattle.dc_stack.specs.Mapped.{mapped_list}
-use Rattle.dc_stack.specs.OperationFault.{off_plane_fault}
+use Rattle.dc_stack.specs.OperationFault.{addition_fault, off_plane_fault}
 use Rattle.dc_stack.specs.Path.{piece_limit}
 use Rattle.dc_stack.specs.Pieces.{AllLandOn, LandsOn, page_points, plane_lists}
 use Rattle.dc_stack.specs.declared.path.GatheredPath.{GatheredPath}

@@ -1,12 +1,16 @@
--- Points that land, or don't.
-use Rattle.std.proofs.Common.{◌≡◌, Bool, true, false, cond, ◌&&◌, List, [], ◌∷◌, Option, Some, None, refl}
+-- Points that land, or don't, and how many of them one drawing may have.
+use Rattle.std.proofs.Common.{◌≡◌, ℕ, ◌<◌, ◌≤◌, Bool, true, false, cond, ◌&&◌, List, [], ◌∷◌, length, Option, Some, None, arith, refl}
+use Rattle.std.proofs.lemmas.Bool.{le-leb, lt-leb}
+use Rattle.std.proofs.lemmas.List.{length-map}
 use Rattle.std.specs.List.{list_all}
-use Rattle.mapping.specs.Plane.{is_on_plane}
+use Rattle.mapping.specs.Plane.{MapNumbers, is_on_plane}
 use Rattle.mapping.specs.Surface.{Surface, fits_place, lands_within_limits, placed_point}
 use Rattle.mapping.specs.declared.geometry.Point.{Point}
 use Rattle.draw_ops.specs.declared.record_fault.RecordFault.{RecordFault}
-use Rattle.draw_ops.specs.declared.record_fault.RecordFault.TheVariants.{OffPlane}
-use Rattle.dc_stack.specs.OperationFault.{off_plane_fault}
+use Rattle.draw_ops.specs.declared.record_fault.RecordFault.TheVariants.{OffPlane, TooManyEdges}
+use Rattle.dc_stack.specs.Drawing.{edge_limit}
+use Rattle.dc_stack.specs.Mapped.{mapped_list, mapped_point}
+use Rattle.dc_stack.specs.OperationFault.{off_plane_fault, points_fault}
 
 -- off the plane where a test fails
 abbrev pub off_unless : Bool → Option RecordFault
@@ -55,3 +59,13 @@ module _ (s : Surface) where
       by_tests true b e = e
       by_tests false true e = cc
       by_tests false false e = e
+
+-- more points than one drawing may have, or no more
+module _ (m : MapNumbers) (points : List Point) (s : Surface) (count : ℕ) (counted : count ≡ length points) where
+  pub past_limit : 1048576 < count → Some TooManyEdges ≡ points_fault (mapped_list m points) s
+  unfolding edge_limit
+  past_limit h = rw (lt-leb (length (mapped_list m points)) 1048576 (omega (arith, length-map points (mapped_point m)))) refl
+
+  pub within_limit : count ≤ 1048576 → off_plane_fault (mapped_list m points) s ≡ points_fault (mapped_list m points) s
+  unfolding edge_limit
+  within_limit h = rw (le-leb (length (mapped_list m points)) 1048576 (omega (arith, length-map points (mapped_point m)))) refl

@@ -9,14 +9,11 @@ use Rattle.std.specs.Option.{option_or}
 use Rattle.mapping.specs.Plane.{MapNumbers}
 use Rattle.mapping.specs.Surface.{Surface, lands_within_limits}
 use Rattle.mapping.specs.declared.geometry.Point.{Point}
-use Rattle.draw_ops.specs.declared.record_fault.RecordFault.{RecordFault}
-use Rattle.draw_ops.specs.declared.record_fault.RecordFault.TheVariants.{TooManyEdges}
 use Rattle.dc_stack.specs.Drawing.{edge_limit, going_on, points_of_lists}
 use Rattle.dc_stack.specs.Figures.{Figure, figures_of_lists, points_of_figures}
 use Rattle.dc_stack.specs.Mapped.{mapped_list, mapped_lists, mapped_point}
 use Rattle.dc_stack.specs.Next.{end_of}
-use Rattle.dc_stack.specs.OperationFault.{off_plane_fault, points_fault}
-use Rattle.dc_stack.proofs.LandingLemmas.{all_land}
+use Rattle.dc_stack.specs.OperationFault.{points_fault}
 
 -- lists are mapped as their points are
 mapped_append : (m : MapNumbers) (ps qs : List Point) → mapped_list m (ps ++ qs) ≡ mapped_list m ps ++ mapped_list m qs
@@ -52,16 +49,6 @@ through_fault m start points s h = ap (λ ps. points_fault ps s) (through_joined
 
 pub through_count : (m : MapNumbers) (start : Point) (points : List Point) → 0 < length points → suc (length points) ≡ length (points_of_lists (mapped_lists m (going_on start points)))
 through_count m start points h = sym (ap length (through_joined m start points h) ∙ length-map (start ∷ points) (mapped_point m))
-
--- more points than one drawing may have, or no more
-module _ (m : MapNumbers) (points : List Point) (s : Surface) (count : ℕ) (counted : count ≡ length points) where
-  pub past_limit : 1048576 < count → Some TooManyEdges ≡ points_fault (mapped_list m points) s
-  unfolding edge_limit
-  past_limit h = rw (lt-leb (length (mapped_list m points)) 1048576 (omega (arith, length-map points (mapped_point m)))) refl
-
-  pub within_limit : count ≤ 1048576 → off_plane_fault (mapped_list m points) s ≡ points_fault (mapped_list m points) s
-  unfolding edge_limit
-  within_limit h = rw (le-leb (length (mapped_list m points)) 1048576 (omega (arith, length-map points (mapped_point m)))) refl
 
 -- as few points as this are never too many
 pub never_too_many : (count : ℕ) → count ≤ 1048576 → count ≤ edge_limit

@@ -24,7 +24,7 @@ use Rattle.dc_stack.specs.Mapped.{mapped_box, mapped_corners, mapped_list, mappe
 use Rattle.dc_stack.specs.Marking.{Marks}
 use Rattle.dc_stack.specs.Needs.{drawing_needs, greater_needs, needs_of, points_needed}
 use Rattle.dc_stack.specs.Next.{end_of, next}
-use Rattle.dc_stack.specs.OperationFault.{edges_fault, fault_of, off_plane_fault, plain_fault, plane_points, points_drawn}
+use Rattle.dc_stack.specs.OperationFault.{edges_fault, fault_of, plain_fault, plane_points, points_drawn}
 use Rattle.dc_stack.specs.Path.{Path, finished_path, is_open, no_path, open_path, piece_count, piece_for, piece_limit, pieces_fault, pieces_of_lines, points_if_open, unless_open, with_figures}
 use Rattle.dc_stack.specs.Placing.{plane_list}
 use Rattle.dc_stack.specs.State.{State, with_path, with_position}
@@ -131,9 +131,7 @@ module _ (operation : Operation) (mark : MarkValue) (position : Point) (old new 
   points_closed = points ∙ rw (none_if_closed old.state.path closed kept, drawing_closed) refl
 
   fault_closed : fault_of operation old.state old.surface ≡ mark_fault mark old.state old.surface
-  fault_closed =
-      ap (λ found. option_or found (off_plane_fault (plane_points operation old.state) old.surface)) (plain ∙ rw (count_closed, le-leb 0 piece_limit (omega arith), drawing_closed) refl)
-      ∙ ap (λ ps. option_or (edges_fault (drawing_now mark old.state)) (off_plane_fault ps old.surface)) points_closed
+  fault_closed = rw (points_closed, plain, count_closed, le-leb 0 piece_limit (omega arith), drawing_closed) refl
 
   pub plays_closed : (result : Result Outcome Fault) → DrawsApart mark position old result new → Plays operation old result new
   plays_closed = plays_drawn operation mark position old new next_closed needs_closed drawing_closed fault_closed points_closed

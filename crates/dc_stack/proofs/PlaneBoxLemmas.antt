@@ -185,7 +185,7 @@ module _ (laws : BoxLaws) (box : Rect) (points : List Point) (s : Surface) (show
   -- so both of them fit where all land, and all are on the plane
   pub corners_fit : TestsAreLimits → IsPlaneBox box points → true ≡ all_land_within points s → FitsPlace (placed_point (left_top_of box) s) × FitsPlace (placed_point (right_bottom_of box) s)
   corners_fit tests h all =
-      let near = placed_point (left_top_of box) s in
-      let far = placed_point (right_bottom_of box) s in
-      let both = and_parts (fits_place near) (fits_place far) (land_by_corners h ∙ sym all) in
-      ((tests.fits_place near).0 both.0, (tests.fits_place far).0 both.1)
+      let near = left_top_of box in
+      let far = right_bottom_of box in
+      let both = and_parts (lands_within_limits near s) (lands_within_limits far s) (sym (by_corners h.least) ∙ sym all) in
+      (((tests.lands near s).0 both.0).place, ((tests.lands far s).0 both.1).place)

@@ -148,8 +148,8 @@ waiting = begin_path ∷ polygon ((p ∷ q ∷ r ∷ []) ∷ []) ∷ polyline ((
 filled : mark_behind waiting fill_path ≡ Some (figures_painted Fill (closed (p ∷ q ∷ r ∷ []) ∷ apart (q ∷ r ∷ []) ∷ []))
 filled = refl
 
-stroked : mark_behind waiting stroke_path ≡ Some (figures_painted Stroke (closed (p ∷ q ∷ r ∷ []) ∷ apart (q ∷ r ∷ []) ∷ []))
-stroked = refl
+stroked_path : mark_behind waiting stroke_path ≡ Some (figures_painted Stroke (closed (p ∷ q ∷ r ∷ []) ∷ apart (q ∷ r ∷ []) ∷ []))
+stroked_path = refl
 
 stroked_and_filled : mark_behind waiting stroke_and_fill_path ≡ Some (figures_painted StrokeAndFill (closed (p ∷ q ∷ r ∷ []) ∷ apart (q ∷ r ∷ []) ∷ []))
 stroked_and_filled = refl

@@ -1,6 +1,6 @@
 -- What adding to an open path does to a machine.
 use Rattle.std.specs.Prelude.{◌≡◌, ◌<◌, ◌⊎◌, List, Option, None, Some, Result, Ok, Err}
-use Rattle.std.specs.Option.{option_map, option_or}
+use Rattle.std.specs.Option.{option_map}
 use Rattle.mapping.specs.declared.geometry.Point.{Point}
 use Rattle.mapping.specs.declared.geometry.Rect.{Rect}
 use Rattle.mapping.specs.Surface.{Surface}
@@ -13,8 +13,8 @@ use Rattle.dc_stack.specs.GatheredPath.{WantsPieceRoom, after_lists}
 use Rattle.dc_stack.specs.MachineState.{IsUnchanged, MachineState}
 use Rattle.dc_stack.specs.Mapped.{mapped_list, mapped_point}
 use Rattle.dc_stack.specs.Needs.{greater_needs, pieces_needed}
-use Rattle.dc_stack.specs.OperationFault.{off_plane_fault}
-use Rattle.dc_stack.specs.Path.{Path, after_lines, piece_count, pieces_fault, points_if_open}
+use Rattle.dc_stack.specs.OperationFault.{addition_fault}
+use Rattle.dc_stack.specs.Path.{Path, after_lines, piece_count, points_if_open}
 use Rattle.dc_stack.specs.Pieces.{page_points, plane_lists}
 use Rattle.dc_stack.specs.State.{with_path, with_position}
 use Rattle.dc_stack.specs.declared.piece.Joining.{Joining}
@@ -22,7 +22,7 @@ use Rattle.dc_stack.specs.declared.piece.PiecePoints.{PiecePoints}
 
 -- more pieces than a path may have, or points off the plane
 abbrev pub adding_fault : Path → List Point → Surface → Option RecordFault
-adding_fault after points s = option_or (pieces_fault (piece_count after)) (off_plane_fault points s)
+adding_fault after points s = addition_fault (piece_count after) points s
 
 -- the path is this, and so is the position, and the extent of the points is told
 pub record HasAdded (after : Path) (points : List Point) (position : Point) (old new : MachineState) (told : Option Rect) : Type 0 where

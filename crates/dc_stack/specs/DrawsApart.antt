@@ -1,6 +1,6 @@
 -- What drawing does to a machine whose path isn't open.
 use Rattle.std.specs.Prelude.{◌≡◌, false, List, Option, None, Some, IfSome, Result, Ok, Err}
-use Rattle.std.specs.Option.{option_map, option_or}
+use Rattle.std.specs.Option.{option_map}
 use Rattle.mapping.specs.declared.geometry.Point.{Point}
 use Rattle.draw_ops.specs.declared.fault.Fault.{Fault}
 use Rattle.draw_ops.specs.declared.fault.Fault.TheVariants.{Record}
@@ -11,13 +11,13 @@ use Rattle.dc_stack.specs.Extents.{IsExtent}
 use Rattle.dc_stack.specs.MachineState.{IsUnchanged, MachineState, Outcome, drawing_with}
 use Rattle.dc_stack.specs.Needs.{greater_needs, points_needed}
 use Rattle.dc_stack.specs.Next.{end_of}
-use Rattle.dc_stack.specs.OperationFault.{edges_fault, off_plane_fault}
+use Rattle.dc_stack.specs.OperationFault.{drawn_fault}
 use Rattle.dc_stack.specs.State.{State, with_position}
 use Rattle.mapping.specs.Surface.{Surface}
 
 -- the first fault of a mark
 abbrev pub mark_fault : MarkValue → State → Surface → Option RecordFault
-mark_fault mark state s = option_or (edges_fault (drawing_now mark state)) (off_plane_fault (mark_points mark) s)
+mark_fault mark state s = drawn_fault (drawing_now mark state) (mark_points mark) s
 
 -- a mark was drawn, which isn't of a path, and the position is this
 pub record HasDrawn (mark : MarkValue) (position : Point) (old new : MachineState) (told : Outcome) : Type 0 where

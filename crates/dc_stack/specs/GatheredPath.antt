@@ -14,7 +14,7 @@ use Rattle.dc_stack.specs.Drawing.{points_of_lists}
 use Rattle.dc_stack.specs.Extents.{IsExtent}
 use Rattle.dc_stack.specs.Figures.{all_figures, points_gone_on, points_of_figures}
 use Rattle.dc_stack.specs.Mapped.{mapped_point}
-use Rattle.dc_stack.specs.OperationFault.{off_plane_fault}
+use Rattle.dc_stack.specs.OperationFault.{addition_fault}
 use Rattle.dc_stack.specs.Path.{Path, after_lines, finished_path, no_path, open_path, piece_count, piece_for, piece_limit, pieces_fault, points_if_open, with_figures}
 use Rattle.dc_stack.specs.Pieces.{AllLandOn, figures_of, plane_lists, with_lists}
 use Rattle.dc_stack.specs.Placing.{mapped_piece}
@@ -92,10 +92,6 @@ pub record IsSamePath (old new : GatheredPath) : Type 0 where
   pub pieces : new.pieces.items ≡ old.pieces.items
   pub bounds : new.bounds ≡ old.bounds
   pub room : vec_capacity old.pieces ≤ vec_capacity new.pieces
-
--- the fault of an addition that makes so many pieces, of points as they are mapped
-abbrev pub addition_fault : ℕ → List Point → Surface → Option RecordFault
-addition_fault count points s = option_or (pieces_fault count) (off_plane_fault points s)
 
 -- memory was refused, though there is no fault: there was no room
 pub record WantsPieceRoom (first : Option RecordFault) (fault : Fault) (Lacks : Type 0) : Type 0 where

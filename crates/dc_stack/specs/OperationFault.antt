@@ -164,6 +164,14 @@ all_land_within points s = list_all (λ point. lands_within_limits point s) poin
 abbrev pub off_plane_fault : List Point → Surface → Option RecordFault
 off_plane_fault points s = if all_land_within points s then None else Some OffPlane
 
+-- the fault of adding points to a path that has so many pieces with them: more than a path may have, or else points off the plane
+abbrev pub addition_fault : ℕ → List Point → Surface → Option RecordFault
+addition_fault count points s = option_or (pieces_fault count) (off_plane_fault points s)
+
+-- the fault of a drawing and of its points: more than one drawing may have, or else points off the plane
+abbrev pub drawn_fault : Option Drawing → List Point → Surface → Option RecordFault
+drawn_fault drawing points s = option_or (edges_fault drawing) (off_plane_fault points s)
+
 -- more points than one drawing may have, or else points off the plane
 abbrev pub points_fault : List Point → Surface → Option RecordFault
 points_fault points s = option_or (if nat_le (length points) edge_limit then None else Some TooManyEdges) (off_plane_fault points s)

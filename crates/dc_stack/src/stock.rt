@@ -70,11 +70,9 @@ fn grey_brush<'a>(part: u8) -> Object<'a>
 fn grey_pen<'a>(part: u8) -> Object<'a>
     ensures { object_value_of result ≡ pen_object (Solid (grey part)) }
 {
-    Object::Pen(Pen::Solid {
-        colour: Colour {
-            r: part,
-            g: part,
-            b: part,
-        },
-    })
+    Object::Pen(Pen::solid(Colour {
+        r: part,
+        g: part,
+        b: part,
+    }))
 }

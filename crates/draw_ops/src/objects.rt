@@ -1,5 +1,8 @@
 //! The objects that a metafile makes, selects and deletes.
 
+ghost use Rattle.std.specs.Prelude.{◌≡◌};
+ghost use Rattle.draw_ops.specs.declared.objects.Pen.TheVariants.{Solid};
+
 use crate::hatch::Hatch;
 use dib_views::DibView;
 use mapping::Colour;
@@ -16,6 +19,15 @@ pub enum Pen {
     Null,
     /// It draws lines of this colour.
     Solid { colour: Colour },
+}
+
+impl Pen {
+    /// The pen that draws lines of this colour.
+    pub fn solid(colour: Colour) -> Pen
+        ensures { result ≡ Solid colour }
+    {
+        Pen::Solid { colour }
+    }
 }
 
 /// What fills.

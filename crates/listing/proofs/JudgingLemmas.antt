@@ -8,18 +8,14 @@ use Rattle.draw_ops.specs.declared.fault.Fault.TheVariants.{Record}
 use Rattle.draw_ops.specs.declared.record_fault.RecordFault.{RecordFault}
 use Rattle.dc_stack.specs.FaultLaws.{FaultLaws}
 use Rattle.dc_stack.specs.MachineState.{MachineState, RefusesStep}
-use Rattle.dc_stack.specs.OperationFault.{fault_of, place_fault, plain_fault}
-use Rattle.dc_stack.specs.State.{State}
+use Rattle.dc_stack.specs.OperationFault.{fault_of}
 use Rattle.preflight_cert.specs.NeedLaws.{NeedLaws}
 use Rattle.listing.specs.Judging.{IsRunning}
 
 -- without a fault on a surface there is none but that of places
-plain_then_place : (plain here there : Option RecordFault) → option_or plain here ≡ None → there ≡ option_or plain there
+pub plain_then_place : (plain here there : Option RecordFault) → option_or plain here ≡ None → there ≡ option_or plain there
 plain_then_place None here there h = refl
 plain_then_place (Some fault) here there h = cc
-
-pub off_there : (operation : Operation) (state : State) (here there : Surface) → fault_of operation state here ≡ None → place_fault operation state there ≡ fault_of operation state there
-off_there operation state here there h = plain_then_place (plain_fault operation state) (place_fault operation state here) (place_fault operation state there) h
 
 -- a machine with room for any file refuses by a fault
 pub refused_here : NeedLaws → (operation : Operation) (m : MachineState) (largest : Surface) (fault : Fault) → IsRunning m largest → RefusesStep operation m fault → option_map Record (fault_of operation m.state m.surface) ≡ Some fault

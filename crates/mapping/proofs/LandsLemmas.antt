@@ -7,13 +7,12 @@ use Rattle.std.proofs.lemmas.List.Folds.{list_all-map}
 use Rattle.std.proofs.lemmas.List.Sums.{AllPass-from_list_all, list_all-from_AllPass}
 use Rattle.mapping.specs.Boxes.{HasPoint, IsBetween, IsTight, KeepsBetween, right_bottom_of, mapped_by, left_top_of}
 use Rattle.mapping.specs.Limits.{IsFrameSide, IsWithin, place_limit, plane_limit}
-use Rattle.mapping.specs.Plane.{IsPlaneCoordinate, is_on_plane}
+use Rattle.mapping.specs.Plane.{IsPlaneCoordinate}
 use Rattle.mapping.specs.PlacingLaws.{ShowsFrame}
-use Rattle.mapping.specs.Surface.{IsPlaceCoordinate, Surface, fits_place, lands_within_limits, placed, placed_point}
+use Rattle.mapping.specs.Surface.{IsPlaceCoordinate, Surface, lands_from, lands_true, lands_within_limits, placed}
 use Rattle.mapping.specs.declared.geometry.Point.{Point}
 use Rattle.mapping.specs.declared.geometry.Rect.{Rect}
 use Rattle.mapping.proofs.BetweenLemmas.{place_keeps_between}
-use Rattle.mapping.proofs.LimitLemmas.{tests_are_limits}
 use Rattle.mapping.specs.TestLaws.{same_test}
 
 -- a coordinate is one of the plane, and lands within the limit on a side
@@ -41,16 +40,15 @@ record BothLand (s : Surface) (point : Point) : Type 0 where
 
 both_from_test : (s : Surface) (point : Point) → lands_within_limits point s ≡ true → BothLand s point
 both_from_test s point t =
-    let parts = and_parts (is_on_plane point) (fits_place (placed_point point s)) t in
-    let plane = (tests_are_limits.on_plane point).0 parts.0 in
-    let place = (tests_are_limits.fits_place (placed_point point s)).0 parts.1 in
-    record { x = record { plane = plane.x; place = place.x }; y = record { plane = plane.y; place = place.y } }
+    let lands = lands_true point s t in
+    record { x = record { plane = lands.plane.x; place = lands.place.x }; y = record { plane = lands.plane.y; place = lands.place.y } }
 
 test_from_both : (s : Surface) (point : Point) → BothLand s point → lands_within_limits point s ≡ true
 test_from_both s point both =
-    let plane = (tests_are_limits.on_plane point).1 (record { x = both.x.plane; y = both.y.plane }) in
-    let place = (tests_are_limits.fits_place (placed_point point s)).1 (record { x = both.x.place; y = both.y.place }) in
-    and_from (is_on_plane point) (fits_place (placed_point point s)) plane place
+    lands_from point s (record {
+      plane = record { x = both.x.plane; y = both.y.plane };
+      place = record { x = both.x.place; y = both.y.place };
+    })
 
 -- what all have, one has that has something else too
 met : (P Q : Point → Type 0) (R : Type 0) (xs : List Point) → All P xs → Any Q xs → ((x : Point) → P x → Q x → R) → R

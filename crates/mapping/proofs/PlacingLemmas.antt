@@ -2,15 +2,12 @@
 use Rattle.std.proofs.Common.{◌≡◌, ◌≢◌, ℕ, suc, ◌≤◌, ℤ, pos, negsuc, ◌*ℤ◌, ◌≤ℤ◌, arith, ap, sym, subst}
 use Rattle.std.proofs.Math.Nat.{mul-le-mul_left, zero-div}
 use Rattle.std.proofs.lemmas.Int.{ints}
-use Rattle.std.proofs.lemmas.Bool.{and_parts, and_from}
 use Rattle.mapping.specs.declared.geometry.Point.{Point}
 use Rattle.mapping.specs.Floor.{floor_div}
 use Rattle.mapping.specs.Limits.{IsWithin, place_limit}
-use Rattle.mapping.specs.Plane.{is_on_plane}
-use Rattle.mapping.specs.Surface.{FitsPlace, IsPlaceCoordinate, Surface, fits_place, placed, placed_point}
+use Rattle.mapping.specs.Surface.{FitsPlace, IsPlaceCoordinate, Surface, lands_from, lands_true, placed, placed_point}
 use Rattle.mapping.specs.PlacingLaws.{IsNoLarger, PlacingLaws, ShowsFrame}
 use Rattle.mapping.proofs.FloorLemmas.{floor_is_greatest}
-use Rattle.mapping.proofs.LimitLemmas.{tests_are_limits}
 
 le_trans : (a b c : ℤ) → a ≤ℤ b → b ≤ℤ c → a ≤ℤ c
 le_trans a b c h k = omega (arith, ints)
@@ -76,7 +73,6 @@ pub placing_laws : PlacingLaws
 placing_laws = record {
   keeps_order = λ side frame_side v w allowed h. quotients (v *ℤ pos side) (w *ℤ pos side) frame_side allowed.not_empty (times_count v w side h);
   lands_on_smaller = λ point smaller larger shows no_larger t.
-      let parts = and_parts (is_on_plane point) (fits_place (placed_point point larger)) t in
-      let fits = point_lands point smaller larger shows no_larger ((tests_are_limits.fits_place (placed_point point larger)).0 parts.1) in
-      and_from (is_on_plane point) (fits_place (placed_point point smaller)) parts.0 ((tests_are_limits.fits_place (placed_point point smaller)).1 fits);
+      let lands = lands_true point larger t in
+      lands_from point smaller (record { plane = lands.plane; place = point_lands point smaller larger shows no_larger lands.place });
 }

@@ -3,12 +3,12 @@ use Rattle.std.specs.Prelude.{ℕ, ℤ, IsTrue, ◌↔◌}
 use Rattle.mapping.specs.declared.geometry.Point.{Point}
 use Rattle.mapping.specs.Limits.{IsWithin, is_within, IsSurfaceSide, is_surface_side, IsFrameSide, is_frame_side}
 use Rattle.mapping.specs.Plane.{IsOnPlane, is_on_plane}
-use Rattle.mapping.specs.Surface.{FitsPlace, fits_place}
+use Rattle.mapping.specs.Surface.{LandsWithinLimits, Surface, lands_within_limits}
 
 -- each test of a limit holds exactly where the fact does
 pub record TestsAreLimits : Type 0 where
   pub within : (limit : ℕ) (v : ℤ) → IsTrue (is_within limit v) ↔ IsWithin limit v
   pub on_plane : (point : Point) → IsTrue (is_on_plane point) ↔ IsOnPlane point
-  pub fits_place : (point : Point) → IsTrue (fits_place point) ↔ FitsPlace point
+  pub lands : (point : Point) (s : Surface) → IsTrue (lands_within_limits point s) ↔ LandsWithinLimits point s
   pub surface_side : (side : ℕ) → IsTrue (is_surface_side side) ↔ IsSurfaceSide side
   pub frame_side : (side : ℕ) → IsTrue (is_frame_side side) ↔ IsFrameSide side

@@ -3,7 +3,7 @@ use Rattle.std.specs.Prelude.{◌≡◌, ℕ, ℤ, pos, negsuc, ◌*ℤ◌, Bool
 use Rattle.std.proofs.lemmas.Bool.{and_from, and_parts}
 use Rattle.mapping.specs.Floor.{floor_div}
 use Rattle.mapping.specs.Limits.{place_limit, IsWithin, is_within, within_from, within_true}
-use Rattle.mapping.specs.Plane.{is_on_plane}
+use Rattle.mapping.specs.Plane.{IsOnPlane, is_on_plane, on_plane_from, on_plane_true}
 use Rattle.mapping.specs.declared.geometry.Point.{Point}
 
 -- a surface's sides in pixels, and the sides of the frame that it shows in plane units
@@ -46,6 +46,20 @@ fits_place_from point h =
 -- A point is one of the plane, and where it lands is within the limit of placed coordinates.
 abbrev pub lands_within_limits : Point → Surface → Bool
 lands_within_limits point s = is_on_plane point && fits_place (placed_point point s)
+
+-- the same, as a fact
+pub record LandsWithinLimits (point : Point) (s : Surface) : Type 0 where
+  pub plane : IsOnPlane point
+  pub place : FitsPlace (placed_point point s)
+
+pub lands_true : (point : Point) (s : Surface) → lands_within_limits point s ≡ true → LandsWithinLimits point s
+lands_true point s test =
+    let parts = and_parts (is_on_plane point) (fits_place (placed_point point s)) test in
+    record { plane = on_plane_true point parts.0; place = fits_place_true (placed_point point s) parts.1 }
+
+pub lands_from : (point : Point) (s : Surface) → LandsWithinLimits point s → lands_within_limits point s ≡ true
+lands_from point s h =
+    and_from (is_on_plane point) (fits_place (placed_point point s)) (on_plane_from point h.plane) (fits_place_from (placed_point point s) h.place)
 
 -- a placed coordinate is the column or the row with this number
 abbrev pub is_index : ℤ → ℕ → Bool

@@ -9,9 +9,8 @@ use Rattle.mapping.specs.Boxes.{HasPoint, IsLeastBox, IsTight, box_between, righ
 use Rattle.mapping.specs.BoxLaws.{BoxLaws}
 use Rattle.mapping.specs.PixelBoxes.{from_to_true, from_to_from, in_box, is_from_to}
 use Rattle.mapping.specs.PlaceOf.{surface_of}
-use Rattle.mapping.specs.Plane.{is_on_plane}
 use Rattle.mapping.specs.PlacingLaws.{PlacingLaws, ShowsFrame}
-use Rattle.mapping.specs.Surface.{Surface, fits_place, lands_within_limits, placed_point}
+use Rattle.mapping.specs.Surface.{FitsPlace, Surface, lands_true, lands_within_limits, placed_point}
 use Rattle.mapping.specs.declared.geometry.Point.{Point}
 use Rattle.mapping.specs.declared.geometry.Rect.{Rect}
 use Rattle.mapping.specs.declared.place.Place.{Place}
@@ -70,12 +69,9 @@ module _ (laws : BoxLaws) (place : Place) (bounds : Rect) where
       let laid = laws.lands (λ v. v) (λ v. v) s bounds points (shows place) (λ from v to between. between) (λ from v to between. between) tight in
       sym laid ∙ ap (λ (ps : List Point). list_all (λ point. lands_within_limits point s) ps) same ∙ within
 
-  corner_fits : (p : Point) → lands_within_limits p s ≡ true → fits_place (placed_point p s) ≡ true
-  corner_fits p h = (and_parts (is_on_plane p) (fits_place (placed_point p s)) h).1
-
   -- so where one doesn't, nothing is reached
   pub none_reached :
-      (fits_place (placed_point (left_top_of bounds) s) && fits_place (placed_point (right_bottom_of bounds) s)) ≡ false
+      (FitsPlace (placed_point (left_top_of bounds) s) → FitsPlace (placed_point (right_bottom_of bounds) s) → ⊥)
       → (points : List Point) → IsLeastBox bounds points → list_all (λ point. lands_within_limits point s) points ≡ true → (x y : ℕ) → Reaches bounds s x y → ⊥
   none_reached off [] least within x y reached = empty (rw least at reached.wide)
     where
@@ -83,12 +79,7 @@ module _ (laws : BoxLaws) (place : Place) (bounds : Rect) where
       empty h = omega (arith, ints, h)
   none_reached off (p ∷ ps) least within x y reached =
       let both = and_parts (lands_within_limits (left_top_of bounds) s) (lands_within_limits (right_bottom_of bounds) s) (corners_land (p ∷ ps) least within) in
-      contradicts _ _ (corner_fits (left_top_of bounds) both.0) (corner_fits (right_bottom_of bounds) both.1) off
-    where
-      contradicts : (a b : Bool) → a ≡ true → b ≡ true → (a && b) ≡ false → ⊥
-      contradicts true true e f h = cc
-      contradicts true false e f h = cc
-      contradicts false b e f h = cc
+      off (lands_true (left_top_of bounds) s both.0).place (lands_true (right_bottom_of bounds) s both.1).place
 
 -- and where a box has a point, what lies between where its corners land is reached
 pub between_reached :

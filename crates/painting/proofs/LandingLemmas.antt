@@ -9,9 +9,8 @@ use Rattle.std.specs.Bool.{IsTrue}
 use Rattle.std.specs.List.{list_all}
 use Rattle.mapping.specs.Limits.{IsWithin, is_within, place_limit}
 use Rattle.mapping.specs.PageMap.{map_numbers}
-use Rattle.mapping.specs.Plane.{is_on_plane}
 use Rattle.mapping.specs.PlaceOf.{surface_of}
-use Rattle.mapping.specs.Surface.{FitsPlace, IsPlaceCoordinate, Surface, fits_place, fits_place_true, lands_within_limits, placed_point}
+use Rattle.mapping.specs.Surface.{FitsPlace, IsPlaceCoordinate, Surface, lands_true, lands_within_limits, placed_point}
 use Rattle.mapping.specs.declared.geometry.Point.{Point}
 use Rattle.mapping.specs.declared.geometry.Rect.{Rect}
 use Rattle.mapping.specs.declared.place.Place.{Place}
@@ -32,7 +31,7 @@ near_within v h = record { low = h.low; high = one_more v h.high }
 
 -- a point of the plane that lands within the limits is one of placed points, and near there
 pub landed_fits : (s : Surface) (p : Point) → lands_within_limits p s ≡ true → FitsPlace (placed_point p s)
-landed_fits s p t = fits_place_true (placed_point p s) (and_parts (is_on_plane p) (fits_place (placed_point p s)) t).1
+landed_fits s p t = (lands_true p s t).place
 
 pub landed_near : (s : Surface) (p : Point) → lands_within_limits p s ≡ true → IsNearPoint (placed_point p s)
 landed_near s p t = let fits = landed_fits s p t in record { x = near_within _ fits.x; y = near_within _ fits.y }

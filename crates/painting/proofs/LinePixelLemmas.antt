@@ -10,8 +10,7 @@ use Rattle.span_fill.specs.Spans.{in_region}
 use Rattle.span_fill.specs.Steps.{HasAllSteps, StepsState}
 use Rattle.span_fill.specs.Strokes.{OnePixelForEachStep, on_line, step_at}
 use Rattle.span_fill.specs.declared.line.Line.{Line}
-use Rattle.painting.specs.LinePixels.{is_to_step}
-use Rattle.painting.specs.Stamping.{is_visible}
+use Rattle.painting.specs.LinePixels.{is_to_step, is_visible}
 
 -- the number of a column or a row, of a coordinate
 abbrev natural : ℤ → ℕ

@@ -12,7 +12,8 @@ use Rattle.span_fill.specs.Strokes.{OnePixelForEachStep, far, in_stroke, is_stee
 use Rattle.span_fill.specs.declared.line.Line.{Line}
 use Rattle.span_fill.specs.declared.span.Region.{Region}
 use Rattle.painting.specs.Regions.{HasRegion}
-use Rattle.painting.specs.Stamping.{StampsLine, is_visible}
+use Rattle.painting.specs.LinePixels.{is_visible}
+use Rattle.painting.specs.Stamping.{StampsLine}
 use Rattle.painting.specs.Stamps.{StampState, is_taken}
 
 -- a line that ends where it begins has no pixel
@@ -46,18 +47,20 @@ same_taken : (taken visible : Bool) → visible ≡ false → taken ≡ (taken |
 same_taken true visible e = refl
 same_taken false visible e = sym e
 
--- so nothing is taken of it, and nothing written
+-- where nothing of a line is visible, nothing is taken of it, and nothing written
+pub nothing_stamped : WritingLaws → (line : Line) (mix : Mix) (stamps : StampState) (canvas : CanvasState) → IsWhole canvas → ((x y : ℕ) → is_visible stamps.region line x y ≡ false) → StampsLine line mix stamps stamps canvas canvas
+nothing_stamped laws line mix stamps canvas whole none = record {
+  region = refl;
+  taken = λ x y. same_taken (is_taken stamps x y) (is_visible stamps.region line x y) (none x y);
+  written =
+      laws.none (λ x y. is_visible stamps.region line x y && not (is_taken stamps x y)) (λ x y old. mixed_by mix old) canvas whole
+      (λ x y held. nothing_new (is_taken stamps x y) (is_visible stamps.region line x y) (none x y));
+}
+
 pub point_stamped : WritingLaws → OnePixelForEachStep → (line : Line) (mix : Mix) (stamps : StampState) (canvas : CanvasState) → IsWhole canvas → line.from.x ≡ line.to.x → line.from.y ≡ line.to.y → StampsLine line mix stamps stamps canvas canvas
 point_stamped laws law line mix stamps canvas whole e d =
-    let none : (x y : ℕ) → is_visible stamps.region line x y ≡ false =
-    λ x y. nowhere_visible (on_line line (pos x) (pos y)) (in_region stamps.region x y) (no_pixel law line e d (pos x) (pos y)) in
-    record {
-      region = refl;
-      taken = λ x y. same_taken (is_taken stamps x y) (is_visible stamps.region line x y) (none x y);
-      written =
-          laws.none (λ x y. is_visible stamps.region line x y && not (is_taken stamps x y)) (λ x y old. mixed_by mix old) canvas whole
-          (λ x y held. nothing_new (is_taken stamps x y) (is_visible stamps.region line x y) (none x y));
-    }
+    nothing_stamped laws line mix stamps canvas whole (λ x y.
+    nowhere_visible (on_line line (pos x) (pos y)) (in_region stamps.region x y) (no_pixel law line e d (pos x) (pos y)))
 
 -- the pixels of the lines before those that are left are taken, and those are written
 pub record HasStamped (mix : Mix) (all left : List Line) (region : Region) (stamps : StampState) (before after : CanvasState) : Type 0 where

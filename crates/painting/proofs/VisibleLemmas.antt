@@ -1,10 +1,11 @@
--- What is seen of a shape on a canvas, and what a pen makes of it.
+-- What is seen of a shape on a canvas, and what a paint makes of it.
 use Rattle.std.proofs.Common.{◌≡◌, ℕ, suc, Bool, true, not, ◌&&◌, List, [], ◌∷◌, length, map, arith, refl, ap, sym, ◌∙◌, ◌==◌}
 use Rattle.std.proofs.lemmas.Bool.{and_from, and_parts}
 use Rattle.std.specs.List.{list_any}
 use Rattle.mapping.specs.TestLaws.{same_test}
 use Rattle.mapping.specs.declared.geometry.Colour.{Colour}
 use Rattle.mapping.specs.declared.geometry.Rect.{Rect}
+use Rattle.mapping.specs.declared.mix.Mix.{Mix}
 use Rattle.canvas.specs.CanvasState.{CanvasState, HasPixel}
 use Rattle.canvas.specs.WritingLaws.{IsWhole, WritingLaws}
 use Rattle.mapping.specs.PixelBoxes.{in_box}
@@ -14,10 +15,8 @@ use Rattle.dc_stack.specs.declared.clip.Clip.{Clip}
 use Rattle.dc_stack.specs.declared.clip.ClipBox.{ClipBox}
 use Rattle.span_fill.specs.Spans.{in_region}
 use Rattle.span_fill.specs.declared.span.Region.{Region}
-use Rattle.painting.specs.Painted.{PaintValue, PaintsShape, SamePaint, paints}
-use Rattle.painting.specs.PenStrokes.{stroke_paint}
+use Rattle.painting.specs.Painted.{PaintValue, PaintsShape, SamePaint, mixing_paint, paints}
 use Rattle.painting.specs.Regions.{HasRegion, HasVisible}
-use Rattle.painting.specs.declared.stroke.Stroke.{Stroke}
 use Rattle.painting.proofs.StampLemmas.{inside_of}
 
 -- a canvas that has a region has its pixels
@@ -63,11 +62,10 @@ no_cuts clip (box ∷ boxes) same empty = absurd (none (length boxes) empty)
 uncut : (x y : ℕ) (cuts : List Rect) → cuts ≡ [] → not (list_any (λ box. in_box box x y) cuts) ≡ true
 uncut x y cuts none = rw none refl
 
-module _ (stroke : Stroke) (shape : ℕ → ℕ → Bool) (canvas : CanvasState) (region : Region) (visible : HasVisible (placed_value stroke.clip.now) shape canvas region) where
-  -- where nothing is cut out, a stroke writes what the region has of a shape
-  pub seen_uncut : (placed_value stroke.clip.now).cuts ≡ [] → (x y : ℕ) → HasPixel canvas x y → (in_region region x y && shape x y) ≡ paints (stroke_paint stroke) shape x y
+module _ (clip : ClipValue) (mix : Mix) (shape : ℕ → ℕ → Bool) (canvas : CanvasState) (region : Region) (visible : HasVisible clip shape canvas region) where
+  -- where nothing is cut out, a mix writes what the region has of a shape
+  pub seen_uncut : clip.cuts ≡ [] → (x y : ℕ) → HasPixel canvas x y → (in_region region x y && shape x y) ≡ paints (mixing_paint clip mix) shape x y
   seen_uncut none x y held =
-      let clip = placed_value stroke.clip.now in
       same_test _ _
       (λ h.
       let parts = and_parts (in_region region x y) (shape x y) h in
@@ -79,9 +77,8 @@ module _ (stroke : Stroke) (shape : ℕ → ℕ → Bool) (canvas : CanvasState)
       and_from (in_region region x y) (shape x y) (visible.all x y held kept.0 parts.1) parts.1)
 
   -- else of that what the clip has
-  pub seen_clipped : (x y : ℕ) → HasPixel canvas x y → ((in_region region x y && shape x y) && in_boxes (placed_value stroke.clip.now) x y) ≡ paints (stroke_paint stroke) shape x y
+  pub seen_clipped : (x y : ℕ) → HasPixel canvas x y → ((in_region region x y && shape x y) && in_boxes clip x y) ≡ paints (mixing_paint clip mix) shape x y
   seen_clipped x y held =
-      let clip = placed_value stroke.clip.now in
       same_test _ _
       (λ h.
       let a = and_parts (in_region region x y && shape x y) (in_boxes clip x y) h in

@@ -63,8 +63,8 @@ filled : drawn (corner ++ end_path ∷ fill_path ∷ []) ≡ (picture (codes "rr
 filled = refl
 
 -- and a stroke leaves it open: two lines of 4 pixels have 7 on the surface
-stroked : drawn (corner ++ end_path ∷ stroke_path ∷ []) ≡ (picture (codes "####/...#/..#./.#.."), 7)
-stroked = refl
+stroked_open : drawn (corner ++ end_path ∷ stroke_path ∷ []) ≡ (picture (codes "####/...#/..#./.#.."), 7)
+stroked_open = refl
 
 -- a rectangle's stroke goes through its plane corners, which aren't raised
 with_rectangle : drawn (begin_path ∷ rectangle (record { l = pos 3; t = pos 2; r = pos 0; b = pos 0 }) Inclusive ∷ end_path ∷ stroke_path ∷ []) ≡ (picture (codes "####/#..#/####/...."), 10)

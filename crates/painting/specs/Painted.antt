@@ -1,6 +1,8 @@
 -- What a paint makes of the pixels of a shape.
-use Rattle.std.specs.Prelude.{◌≡◌, ℕ, Bool, ◌&&◌}
+use Rattle.std.specs.Prelude.{◌≡◌, ℕ, Bool, true, ◌&&◌}
+use Rattle.mapping.specs.Mixes.{mixed_by}
 use Rattle.mapping.specs.declared.geometry.Colour.{Colour}
+use Rattle.mapping.specs.declared.mix.Mix.{Mix}
 use Rattle.canvas.specs.CanvasState.{CanvasState}
 use Rattle.canvas.specs.Writing.{Repaints}
 use Rattle.dc_stack.specs.Clip.{ClipValue, in_boxes}
@@ -10,6 +12,10 @@ pub record PaintValue : Type 0 where
   pub clip : ClipValue
   pub has : ℕ → ℕ → Bool
   pub makes : ℕ → ℕ → Colour → Colour
+
+-- one that is nowhere nothing, and mixes each pixel
+abbrev pub mixing_paint : ClipValue → Mix → PaintValue
+mixing_paint clip mix = record { clip = clip; has = λ x y. true; makes = λ x y old. mixed_by mix old }
 
 -- it writes a pixel of a shape that its clip has, where it isn't nothing
 abbrev pub paints : PaintValue → (ℕ → ℕ → Bool) → ℕ → ℕ → Bool

@@ -1,14 +1,20 @@
--- What a pen's stroke does to pixels, as a paint.
-use Rattle.std.specs.Prelude.{true}
+-- What a pen's stroke does to pixels.
+use Rattle.std.specs.Prelude.{ℕ, ◌&&◌}
 use Rattle.mapping.specs.Mixes.{mixed_by}
+use Rattle.canvas.specs.CanvasState.{CanvasState}
+use Rattle.canvas.specs.Writing.{Repaints}
+use Rattle.dc_stack.specs.Clip.{in_boxes}
 use Rattle.dc_stack.specs.Values.{placed_value}
-use Rattle.painting.specs.Painted.{PaintValue}
+use Rattle.span_fill.specs.Steps.{StepsState}
+use Rattle.painting.specs.LinePixels.{is_to_step}
+use Rattle.painting.specs.Painted.{PaintValue, mixing_paint}
 use Rattle.painting.specs.declared.stroke.Stroke.{Stroke}
 
--- it is nowhere nothing, and mixes each pixel
+-- as a paint, it mixes each pixel
 abbrev pub stroke_paint : Stroke → PaintValue
-stroke_paint stroke = record {
-  clip = placed_value stroke.clip.now;
-  has = λ x y. true;
-  makes = λ x y old. mixed_by stroke.mix old;
-}
+stroke_paint stroke = mixing_paint (placed_value stroke.clip.now) stroke.mix
+
+-- the pixels of the steps to come that its clip has are mixed
+abbrev pub MixesUncut : StepsState → Stroke → CanvasState → CanvasState → Type 0
+MixesUncut steps stroke old new =
+    Repaints (λ x y. is_to_step steps x y && in_boxes (placed_value stroke.clip.now) x y) (λ x y c. mixed_by stroke.mix c) old new

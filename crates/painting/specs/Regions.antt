@@ -2,6 +2,7 @@
 use Rattle.std.specs.Prelude.{◌≡◌, ℕ, ◌+◌, ◌≤◌, ◌≤ℤ◌, Bool, true, List, IsTrue}
 use Rattle.std.specs.List.{list_all}
 use Rattle.mapping.specs.Boxes.{IsLeastBox}
+use Rattle.mapping.specs.PlaceOf.{surface_of}
 use Rattle.mapping.specs.Surface.{Surface, lands_within_limits}
 use Rattle.mapping.specs.declared.geometry.Point.{Point}
 use Rattle.mapping.specs.declared.geometry.Rect.{Rect}
@@ -12,6 +13,8 @@ use Rattle.preflight_cert.specs.DrawingBoxLaws.{Reaches}
 use Rattle.span_fill.specs.Spans.{in_region}
 use Rattle.span_fill.specs.declared.span.Region.{Region}
 use Rattle.span_fill.specs.declared.span.Span.{Span}
+use Rattle.painting.specs.declared.regions.Bounds.{Bounds}
+use Rattle.painting.specs.declared.regions.Bounds.TheVariants.{Placed, Plane}
 
 -- the ends of a span are in order, and at most 8,192, the longest side of a surface
 pub record IsOfSide (span : Span) : Type 0 where
@@ -40,3 +43,12 @@ pub record HasLanded (s : Surface) (bounds box : Rect) : Type 0 where
   pub no_other :
       bounds.l ≤ℤ bounds.r → bounds.t ≤ℤ bounds.b
       → (x y : ℕ) → in_box box x y ≡ true → Reaches bounds s x y
+
+-- a box of the surface has each pixel of a shape
+abbrev pub HasShape : Rect → (ℕ → ℕ → Bool) → Type 0
+HasShape box shape = (x y : ℕ) → shape x y ≡ true → in_box box x y ≡ true
+
+-- so do bounds: their box, or each box in which what they are of lands
+abbrev pub HoldShape : Bounds → (ℕ → ℕ → Bool) → Type 0
+HoldShape (Placed box) shape = HasShape box shape
+HoldShape (Plane place bounds) shape = (box : Rect) → HasLanded (surface_of place) bounds box → HasShape box shape

@@ -18,10 +18,10 @@ use crate::filling::{fill_box, fill_inside};
 use crate::list_lines::Ends;
 use crate::lone_line::LoneLine;
 use crate::rectangles::placed_box;
-use crate::regions::{landed_box, misses_rows, whole_law};
+use crate::regions::{Bounds, landed_box, misses_rows, whole_law};
 use crate::room::DrawingRoom;
 use crate::stroke::Stroke;
-use crate::stroking::{stroke_box, stroke_lines};
+use crate::stroking::{StrokedLines, stroke_box, stroke_lines};
 use canvas::{Canvas, writing_law};
 use dc_stack::{Draw, Machine, Mark, Painting};
 use draw_ops::{Brush, Pen};
@@ -172,14 +172,21 @@ fn stroke_outline<'a, T: Table<'a>>(
     match drawn.mark {
         Mark::Dot { .. } | Mark::Blit(_) => {}
         Mark::Line { from, to } => {
-            let landed = landed_box(place, drawn.bounds);
-            stroke_lines(canvas, room, LoneLine::new(place, from, to), landed, stroke);
+            let lines = StrokedLines {
+                outline: LoneLine::new(place, from, to),
+                bounds: Bounds::Plane(place, drawn.bounds),
+                points: drawn.edges,
+            };
+            stroke_lines(canvas, room, lines, stroke);
         }
         Mark::Figures { painting, points } => {
             if let Some(ends) = stroked_ends(painting) {
-                let outline = FigureOutline::new(points, ends, machine);
-                let landed = landed_box(place, drawn.bounds);
-                stroke_lines(canvas, room, outline, landed, stroke);
+                let lines = StrokedLines {
+                    outline: FigureOutline::new(points, ends, machine),
+                    bounds: Bounds::Plane(place, drawn.bounds),
+                    points: drawn.edges,
+                };
+                stroke_lines(canvas, room, lines, stroke);
             }
         }
         Mark::Rectangle {

@@ -1,11 +1,13 @@
 //! A lone line, pixel by pixel.
 
-ghost use Rattle.std.specs.Prelude.{pos};
+ghost use Rattle.std.specs.Prelude.{◌≡◌, ◌+◌, ◌*◌, ◌<◌, ◌^◌, ℕ, pos, true};
+ghost use Rattle.canvas.specs.CanvasState.{HasPixel};
 ghost use Rattle.span_fill.specs.Lines.{HasNearEnds};
 ghost use Rattle.span_fill.specs.Strokes.{on_line};
 ghost use Rattle.painting.specs.Counts.{HasRoomForLayer};
+ghost use Rattle.painting.specs.LinePixels.{is_to_step};
 ghost use Rattle.painting.specs.Painted.{PaintsShape};
-ghost use Rattle.painting.specs.PenStrokes.{stroke_paint};
+ghost use Rattle.painting.specs.PenStrokes.{MixesUncut, stroke_paint};
 
 use crate::line_pixels::LinePixels;
 use crate::regions::{visible, whole_law};
@@ -29,6 +31,17 @@ pub(crate) fn step_line(canvas: &mut Canvas, line: Line, stroke: &Stroke<'_>)
         canvas.mix_each(&mut pixels, stroke.mix);
         return;
     }
+    mix_uncut(canvas, pixels, stroke);
+}
+
+/// Mixes those pixels of a line's steps that the clip has. It isn't inlined: the fewer loops stand in one function, the better the compiler
+/// knows to make two of one, for steep lines and for flat ones.
+#[inline(never)]
+fn mix_uncut(canvas: &mut Canvas, pixels: LinePixels, stroke: &Stroke<'_>)
+    requires held { (x y : ℕ) → is_to_step pixels.steps x y ≡ true → HasPixel canvas.old x y }
+    requires countable { canvas.old.writes + canvas.old.rows * canvas.old.width + 1 < 2 ^ 64 }
+    ensures { MixesUncut pixels.steps stroke.now canvas.old canvas.new }
+{
     let clip = stroke.clip;
     canvas.mix_each(&mut UncutPixels { pixels, clip }, stroke.mix);
 }

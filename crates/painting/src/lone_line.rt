@@ -49,11 +49,15 @@ impl Outline for LoneLine {
     }
 }
 
-/// The line of an outline that has no other.
-pub(crate) fn lone_line<O: Outline + Copy>(outline: O) -> Option<Line>
+/// The line of an outline that has no other. The outline of so many points isn't looked at where they are more than two, since to
+/// look places three of them.
+pub(crate) fn lone_line<O: Outline + Copy>(outline: O, points: u32) -> Option<Line>
     ensures alone { IfSome result (λ line. O.lines outline ≡ line ∷ []) }
     ensures near { IfSome result HasNearEnds }
 {
+    if points > 2 {
+        return None;
+    }
     let mut lines = outline;
     let first = lines.next_line()?;
     match lines.next_line() {

@@ -74,12 +74,7 @@ pub(crate) fn between(first: Point, second: Point) -> Rect
     ensures right { IsPlaceCoordinate result.r }
     ensures bottom { IsPlaceCoordinate result.b }
 {
-    Rect {
-        l: first.x.min(second.x),
-        t: first.y.min(second.y),
-        r: first.x.max(second.x),
-        b: first.y.max(second.y),
-    }
+    Rect::between(first, second)
 }
 
 /// Whether a box has a pixel.

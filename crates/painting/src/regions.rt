@@ -1,6 +1,6 @@
 //! The part of a surface that a drawing may write.
 
-ghost use Rattle.std.specs.Prelude.{◌≡◌, ◌≤◌, ◌<◌, ◌+◌, ◌*◌, ◌^◌, ◌&&◌, ◌↔◌, ◌+ℤ◌, ◌*ℤ◌, ◌<ℤ◌, IsTrue, int_lt, pos, true, ℕ};
+ghost use Rattle.std.specs.Prelude.{◌≡◌, ◌≤◌, ◌<◌, ◌+◌, ◌*◌, ◌^◌, ◌&&◌, ◌↔◌, ◌+ℤ◌, ◌*ℤ◌, ◌<ℤ◌, Bool, IsTrue, int_lt, pos, true, ℕ};
 ghost use Rattle.canvas.specs.CanvasState.{HasPixel};
 ghost use Rattle.canvas.specs.WritingLaws.{IsWhole};
 ghost use Rattle.mapping.specs.PixelBoxes.{in_box, is_from_to};
@@ -9,7 +9,7 @@ ghost use Rattle.dc_stack.specs.Values.{placed_value};
 ghost use Rattle.mapping.specs.PlaceOf.{surface_of};
 ghost use Rattle.mapping.specs.Surface.{placed};
 ghost use Rattle.preflight_cert.specs.MissedRowsLaws.{LiesBeside};
-ghost use Rattle.painting.specs.Regions.{HasLanded, HasRegion, HasVisible, IsOfSide};
+ghost use Rattle.painting.specs.Regions.{HasLanded, HasRegion, HasShape, HasVisible, HoldShape, IsOfSide};
 ghost use Rattle.span_fill.specs.Spans.{in_region, in_span};
 
 use crate::rectangles::rectangle_box;
@@ -109,6 +109,27 @@ pub(crate) fn landed_box(place: Place, bounds: Rect) -> Rect
         (Some(near), Some(far)) => rectangle_box(near, far, RectangleEdges::Inclusive),
         // (there is no point)
         _ => Rect::NONE,
+    }
+}
+
+/// A box that holds what is painted.
+#[derive(Clone, Copy, Debug)]
+pub(crate) enum Bounds {
+    /// This box of the surface.
+    Placed(Rect),
+    /// The box in which a drawing lies whose least box on the plane this is. It costs up to four divisions to place it.
+    Plane(Place, Rect),
+}
+
+impl Bounds {
+    /// The box of the surface.
+    pub(crate) fn on_surface(self) -> Rect
+        ensures { (shape : ℕ → ℕ → Bool) → HoldShape self shape → HasShape result shape }
+    {
+        match self {
+            Bounds::Placed(inside) => inside,
+            Bounds::Plane(place, bounds) => landed_box(place, bounds),
+        }
     }
 }
 

@@ -5,7 +5,8 @@ ghost use Rattle.dc_stack.specs.Values.{placed_value};
 ghost use Rattle.span_fill.specs.Lines.{HasNearEnds};
 ghost use Rattle.painting.specs.Counts.{HasRoomForLayer};
 ghost use Rattle.painting.specs.Regions.{HasRegion, IsOfSide};
-ghost use Rattle.painting.specs.Stamping.{MixesLines, StampsLine};
+ghost use Rattle.painting.specs.LinePixels.{MixesLines};
+ghost use Rattle.painting.specs.Stamping.{StampsLine};
 ghost use Rattle.painting.specs.Stamps.{is_taken};
 
 use crate::line_pixels::LinePixels;
@@ -75,9 +76,11 @@ fn stamp_line(canvas: &mut Canvas, stamps: &mut Stamps, line: Line, mix: Mix)
     if is_point(line) {
         return;
     }
-    let pixels = LinePixels {
-        steps: stamps.steps(line),
-    };
+    let steps = stamps.steps(line);
+    if steps.is_empty() {
+        return;
+    }
+    let pixels = LinePixels { steps };
     canvas.mix_each(&mut UntakenPixels { pixels, stamps }, mix);
 }
 

@@ -7,7 +7,7 @@ use Rattle.dc_stack.specs.MachineState.{HasFullRoom, MachineState, WantsRoom}
 use Rattle.draw_ops.specs.declared.fault.Fault.{Fault}
 use Rattle.dc_stack.specs.Needs.{greater_needs, needs_of}
 use Rattle.dc_stack.specs.Next.{next}
-use Rattle.dc_stack.specs.OperationFault.{place_fault, plain_fault}
+use Rattle.dc_stack.specs.OperationFault.{plain_fault}
 use Rattle.dc_stack.specs.Path.{piece_limit}
 use Rattle.dc_stack.specs.State.{State}
 use Rattle.dc_stack.specs.declared.needs.Needs.{Needs}
@@ -31,7 +31,7 @@ enough operation m fault room wants = elim wants.lacks [
 full : CreatedIndexIsBelowBound → (operation : Operation) (m : MachineState) (fault : Fault) → HasFullRoom m → WantsRoom operation m fault → ⊥
 unfolding piece_limit
 full laws operation m fault room wants =
-    let one = within laws operation m.state (none_first (plain_fault operation m.state) (place_fault operation m.state m.surface) wants.no_fault) in
+    let one = within laws operation m.state (none_first (plain_fault operation m.state) _ wants.no_fault) in
     let depth = one.depth in let slots = one.slots in let pieces = one.pieces in
     let deep = room.depth in let many = room.slots in let long = room.pieces in
     enough operation m fault (record { depth = omega (arith, depth, deep); slots = omega (arith, slots, many); pieces = omega (arith, pieces, long) }) wants

@@ -6,7 +6,7 @@ use Rattle.meta_headers.specs.Headers.{OpenedValue}
 use Rattle.object_tables.specs.Table.{CreatedIndexIsBelowBound, TableKind, table_kind_of}
 use Rattle.dc_stack.specs.Needs.{greater_needs, needs_of, no_needs}
 use Rattle.dc_stack.specs.Next.{next}
-use Rattle.dc_stack.specs.OperationFault.{fault_of, place_fault, plain_fault}
+use Rattle.dc_stack.specs.OperationFault.{fault_of, plain_fault}
 use Rattle.dc_stack.specs.State.{State, start_of}
 use Rattle.dc_stack.specs.declared.needs.Needs.{Needs}
 use Rattle.preflight_cert.specs.After.{file_needs, needs_after}
@@ -28,7 +28,7 @@ module _ (laws : CreatedIndexIsBelowBound) (kind : TableKind) (s : Surface) wher
   all_within [] behind state needs h e most = most
   all_within (step ∷ steps) behind state needs h e most =
       let here : fault_of step.operation state s ≡ None = none_here step.number (fault_of step.operation state s) _ h in
-      let one = within laws step.operation state (none_first (plain_fault step.operation state) (place_fault step.operation state s) here) in
+      let one = within laws step.operation state (none_first (plain_fault step.operation state) _ here) in
       let same : AreWithin (needs_of step.operation state) (most_needs kind) = subst (λ (k : TableKind). AreWithin (needs_of step.operation state) (most_needs k)) e one in
       all_within steps behind (next step.operation state) (greater_needs needs (needs_of step.operation state)) (none_later step.number _ _ h)
       (same_kind step.operation state ∙ e) (both_within needs (needs_of step.operation state) (most_needs kind) most same)

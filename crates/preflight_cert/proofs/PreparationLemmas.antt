@@ -1,10 +1,7 @@
 -- What is prepared is accepted, and it is the least that is.
 use Rattle.std.proofs.Common.{◌≡◌, ℕ, ◌*◌, ◌≤◌, List, [], ◌∷◌, None, refl, ap, sym, subst, ◌∙◌, arith}
 use Rattle.std.specs.List.{All}
-use Rattle.std.proofs.Math.Nat.{mul-le-mul_left, mul-le-mul_right}
-use Rattle.mapping.specs.Boxes.{HasPoint, IsLeastBox}
 use Rattle.mapping.specs.CellLaws.{CellLaws}
-use Rattle.mapping.specs.Cells.{cells}
 use Rattle.mapping.specs.PlacingLaws.{ShowsFrame}
 use Rattle.mapping.specs.Surface.{Surface}
 use Rattle.mapping.specs.declared.geometry.Point.{Point}
@@ -17,17 +14,16 @@ use Rattle.meta_headers.specs.Headers.{OpenedValue}
 use Rattle.meta_headers.specs.Opening.{surface_for}
 use Rattle.preflight_cert.specs.After.{file_needs}
 use Rattle.preflight_cert.specs.Answer.{Fits, bound_of, file_budget}
-use Rattle.preflight_cert.specs.Budget.{layer_cells, layers_budget}
 use Rattle.preflight_cert.specs.CertificateReading.{CertificateValue}
 use Rattle.preflight_cert.specs.Drawings.{NumberedDrawing, drawings_of}
 use Rattle.preflight_cert.specs.Entries.{AreCovered, budget_of}
-use Rattle.preflight_cert.specs.Layer.{Layer, layers_of}
+use Rattle.preflight_cert.specs.Layer.{layers_of}
 use Rattle.preflight_cert.specs.NeedLaws.{AreWithin}
 use Rattle.preflight_cert.specs.Preparation.{AreLeast, IsPrepared}
 use Rattle.preflight_cert.specs.PreparationLaws.{AreHeldBy, IsNoMore, PreparationLaws}
 use Rattle.preflight_cert.specs.Stop.{stop_of}
 use Rattle.preflight_cert.specs.declared.entry.Entry.{Entry}
-use Rattle.preflight_cert.proofs.CoverLemmas.{corners}
+use Rattle.preflight_cert.proofs.BudgetLemmas.{layers_grow}
 use Rattle.preflight_cert.proofs.LeastBoxLemmas.{held, least_has, one_least}
 use Rattle.preflight_cert.proofs.NeedLemmas.{within_same}
 
@@ -68,31 +64,13 @@ are_held (one ∷ later) (entry ∷ entries) [] least covered = absurd covered
 are_held (one ∷ later) (entry ∷ entries) (second ∷ others) least covered =
     ((least.0.number ∙ sym covered.0.number, held second.bounds entry.bounds (drawing_points one.drawing) least.0.box covered.0.box), are_held later entries others least.1 covered.1)
 
-product_grows : (a b c d : ℕ) → a ≤ c → b ≤ d → a * b ≤ c * d
-product_grows a b c d h k =
-    let first : a * b ≤ c * b = mul-le-mul_right b h in
-    let second : c * b ≤ c * d = mul-le-mul_left c k in omega (arith, first, second)
-
 module _ (laws : CellLaws) (s : Surface) (frame : ShowsFrame s) where
-  cells_grow : (layer : Layer) (box least : Rect) (points : List Point) → IsLeastBox least points → All (HasPoint box) points → layer_cells layer least s ≤ layer_cells layer box s
-  cells_grow layer box least [] is all = rw is (omega arith)
-  cells_grow layer box least (point ∷ points) is all =
-      let c = corners box least (point ∷ points) is all in
-      product_grows (cells least.l least.r s.width s.frame_width) (cells least.t least.b s.height s.frame_height) (cells box.l box.r s.width s.frame_width) (cells box.t box.b s.height s.frame_height)
-      (laws.widens box.l least.l box.r least.r s.width s.frame_width frame.wide c.left c.right)
-      (laws.widens box.t least.t box.b least.b s.height s.frame_height frame.high c.top c.bottom)
-
-  layers_grow : (layers : List Layer) (box least : Rect) (points : List Point) → IsLeastBox least points → All (HasPoint box) points → layers_budget layers least s ≤ layers_budget layers box s
-  layers_grow [] box least points is all = omega arith
-  layers_grow (layer ∷ layers) box least points is all =
-      let first = cells_grow layer box least points is all in let rest = layers_grow layers box least points is all in omega (arith, first, rest)
-
   budget_grows : (drawings : List NumberedDrawing) (entries others : List Entry) → AreLeast drawings entries → AreCovered drawings others → budget_of drawings entries s ≤ budget_of drawings others s
   budget_grows [] entries others least covered = omega arith
   budget_grows (one ∷ later) [] others least covered = omega arith
   budget_grows (one ∷ later) (entry ∷ entries) [] least covered = absurd covered
   budget_grows (one ∷ later) (entry ∷ entries) (second ∷ others) least covered =
-      let first = layers_grow (layers_of one.drawing) second.bounds entry.bounds (drawing_points one.drawing) least.0.box covered.0.box in
+      let first = layers_grow laws s frame (layers_of one.drawing) second.bounds entry.bounds (drawing_points one.drawing) least.0.box covered.0.box in
       let rest = budget_grows later entries others least.1 covered.1 in omega (arith, first, rest)
 
 -- the bound that is asked for

@@ -9,7 +9,7 @@ use Rattle.mapping.specs.declared.geometry.Rect.{Rect}
 use Rattle.dc_stack.specs.Clip.{placed_box}
 use Rattle.dc_stack.specs.Drawing.{Drawing, drawing_points}
 use Rattle.dc_stack.specs.Figures.{Figure, points_of_figures}
-use Rattle.preflight_cert.specs.Budget.{layers_budget}
+use Rattle.preflight_cert.specs.Budget.{drawing_cells}
 use Rattle.preflight_cert.specs.Layer.{layers_of}
 use Rattle.mapping.specs.PixelBoxes.{BoxHasPixel}
 use Rattle.preflight_cert.specs.Shape.{Shape, in_shape, inside_figures, inside_rectangle, pixel_under, stroke_of}
@@ -49,4 +49,4 @@ pub record DrawingBoxLaws : Type 0 where
   pub drawing :
       (drawing : Drawing) (box : Rect) (smaller larger : Surface) → ShowsFrame larger → IsNoLarger smaller larger
       → All (HasPoint box) (drawing_points drawing)
-      → writes_of_layers (layers_of drawing) smaller 0 smaller.height ≤ layers_budget (layers_of drawing) box larger
+      → writes_of_layers (layers_of drawing) smaller 0 smaller.height ≤ drawing_cells drawing box larger

@@ -8,9 +8,8 @@ use Rattle.mapping.specs.declared.geometry.Rect.{Rect}
 use Rattle.draw_ops.specs.declared.record_fault.RecordFault.{RecordFault}
 use Rattle.draw_ops.specs.declared.record_fault.RecordFault.TheVariants.{BoxTooSmall, WrongEntry}
 use Rattle.dc_stack.specs.Drawing.{Drawing, drawing_points}
-use Rattle.preflight_cert.specs.Budget.{layers_budget}
+use Rattle.preflight_cert.specs.Budget.{drawing_cells}
 use Rattle.preflight_cert.specs.Drawings.{NumberedDrawing}
-use Rattle.preflight_cert.specs.Layer.{layers_of}
 use Rattle.preflight_cert.specs.declared.entry.Entry.{Entry}
 
 -- an entry covers a drawing: its number is that of the drawing's record, and its box has each of the drawing's points
@@ -29,7 +28,7 @@ AreCovered (one ∷ later) (entry ∷ entries) = Covers entry one × AreCovered 
 abbrev pub budget_of : List NumberedDrawing → List Entry → Surface → ℕ
 budget_of [] entries s = 0
 budget_of (one ∷ later) [] s = 0
-budget_of (one ∷ later) (entry ∷ entries) s = layers_budget (layers_of one.drawing) entry.bounds s + budget_of later entries s
+budget_of (one ∷ later) (entry ∷ entries) s = drawing_cells one.drawing entry.bounds s + budget_of later entries s
 
 -- a box has a point of the plane, its right and bottom included, as a test
 abbrev pub has_point : Rect → Point → Bool
@@ -60,4 +59,4 @@ entries_behind (Some drawing) (entry ∷ entries) = entries
 abbrev pub drawing_budget : Option Drawing → List Entry → Surface → ℕ
 drawing_budget None entries s = 0
 drawing_budget (Some drawing) [] s = 0
-drawing_budget (Some drawing) (entry ∷ entries) s = layers_budget (layers_of drawing) entry.bounds s
+drawing_budget (Some drawing) (entry ∷ entries) s = drawing_cells drawing entry.bounds s

@@ -10,7 +10,7 @@ use Rattle.draw_ops.specs.Content.{Content}
 use Rattle.dc_stack.specs.Drawing.{Drawing, drawing_points}
 use Rattle.dc_stack.specs.MachineState.{MachineState}
 use Rattle.preflight_cert.specs.After.{needs_after, notes_after}
-use Rattle.preflight_cert.specs.Budget.{layers_budget}
+use Rattle.preflight_cert.specs.Budget.{drawing_cells}
 use Rattle.preflight_cert.specs.CertificateText.{entry_text}
 use Rattle.preflight_cert.specs.Drawings.{NumberedDrawing, drawings_of}
 use Rattle.preflight_cert.specs.Entries.{budget_of}
@@ -74,7 +74,7 @@ FitsEntry number (Some drawing) = IsEntry (least_entry (numbered number drawing)
 -- and how many pixels it lets a run write at most
 abbrev pub least_drawing_budget : Option Drawing → Surface → ℕ
 least_drawing_budget None s = 0
-least_drawing_budget (Some drawing) s = layers_budget (layers_of drawing) (least_box (drawing_points drawing)) s
+least_drawing_budget (Some drawing) s = drawing_cells drawing (least_box (drawing_points drawing)) s
 
 -- the entries of all steps were appended, none of which stops, and the needs and the totals are theirs, beside notes from before
 pub record Gathers (content : Content) (old : MachineState) (before noted : List ℕ) (totals : Totals) (new : MachineState) (after : List ℕ) : Type 0 where

@@ -5,8 +5,8 @@ ghost use Rattle.mapping.specs.PlaceOf.{surface_of};
 ghost use Rattle.dc_stack.specs.Drawing.{tools_of};
 ghost use Rattle.dc_stack.specs.MachineState.{drawing_with};
 ghost use Rattle.dc_stack.specs.Values.{dc_value};
-ghost use Rattle.preflight_cert.specs.Budget.{IsBudgetOf, box_cells, layers_budget};
-ghost use Rattle.preflight_cert.specs.Layer.{filled, layers_of, stroked};
+ghost use Rattle.preflight_cert.specs.Budget.{IsBudgetOf, box_cells, drawing_cells};
+ghost use Rattle.preflight_cert.specs.Layer.{filled, stroked};
 ghost use Rattle.preflight_cert.specs.Shape.{Shape};
 ghost use Rattle.preflight_cert.specs.StrokedOutline.{Outline};
 
@@ -23,7 +23,7 @@ pub(crate) fn drawing_budget<'a, T: Table<'a>>(
     machine: &Machine<'a, T>,
     bounds: Rect,
 ) -> u64
-    ensures layers { result ≡ layers_budget (layers_of (drawing_with machine.now drawn.now)) bounds machine.now.surface }
+    ensures layers { result ≡ drawing_cells (drawing_with machine.now drawn.now) bounds machine.now.surface }
     ensures few { result ≤ 134217728 }
 {
     let dc = machine.dc();

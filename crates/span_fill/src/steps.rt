@@ -1,6 +1,6 @@
 //! The pixels of a line within a region, a step at a time.
 
-ghost use Rattle.std.specs.Prelude.{◌≡◌, ◌<◌, ◌≤◌};
+ghost use Rattle.std.specs.Prelude.{◌≡◌, ◌↔◌, ◌<◌, ◌≤◌, IsTrue};
 ghost use Rattle.span_fill.specs.Lines.{HasNearEnds};
 ghost use Rattle.span_fill.specs.Steps.{GivesPixel, HasAllSteps, TakesStep};
 
@@ -62,6 +62,13 @@ impl LineSteps {
             next: clip.from,
             end: clip.to,
         }
+    }
+
+    /// Whether no step is to come.
+    pub fn is_empty(&self) -> bool
+        ensures { IsTrue result ↔ (self.now.end ≤ self.now.next) }
+    {
+        self.next >= self.end
     }
 
     /// The pixel of the next step, or none behind the last.

@@ -4,7 +4,8 @@ use Rattle.point_views.specs.Points.{points_of}
 use Rattle.dc_stack.specs.Extents.{IsPlaneBox}
 use Rattle.dc_stack.specs.Mapped.{mapped_list, mapped_point}
 use Rattle.dc_stack.proofs.LandingLemmas.{first_point_off, later_off}
-use Rattle.dc_stack.proofs.ListLemmas.{never_too_many, past_limit, within_limit}
+use Rattle.dc_stack.proofs.LandingLemmas.{past_limit, within_limit}
+use Rattle.dc_stack.proofs.ListLemmas.{never_too_many}
 use Rattle.dc_stack.proofs.PlaneBoxLemmas.{point_plane_box}
 use Rattle.dc_stack.proofs.placing.plane_lines.Goals as goal
 

@@ -6,7 +6,8 @@ use Rattle.point_views.specs.Polys.{lists_of}
 use Rattle.dc_stack.specs.Extents.{IsExtent}
 use Rattle.dc_stack.specs.Mapped.{mapped_point}
 use Rattle.dc_stack.specs.OperationFault.{points_fault}
-use Rattle.dc_stack.proofs.ListLemmas.{never_too_many, past_limit, points_mapped, within_limit}
+use Rattle.dc_stack.proofs.LandingLemmas.{past_limit, within_limit}
+use Rattle.dc_stack.proofs.ListLemmas.{never_too_many, points_mapped}
 use Rattle.dc_stack.proofs.placing.plane_lists.Goals as goal
 
 pub returns-then-len-gt-MAX_EDGES-clause-refused : goal.returns-then-len-gt-MAX_EDGES-clause-refused

@@ -32,12 +32,12 @@ stroke_lines-requires-clause-within g c =
     let least = rw c.in-Line.is at c.requires.may.placed.least in
     let within = rw c.in-Line.is at c.requires.may.placed.within in
     let lines = c.new.ensures ∙ ap (λ (r : Surface). line_from (placed_point c.in-Line.from r) (placed_point c.in-Line.to r) ∷ []) c.place-place.ensures in
-    λ x y h.
-    shape_landed c.drawing_box_law.ensures c.place-place.result s c.place-place.ensures c.args.drawn.bounds c.landed_box-landed.result c.landed_box-landed.ensures (points_of_figures figures) least within
+    λ box landed x y h.
+    shape_landed c.drawing_box_law.ensures c.place-place.result s c.place-place.ensures c.args.drawn.bounds box landed (points_of_figures figures) least within
     (stroke_of (along figures)) tt refl x y (sym (ap (λ (list : List Line). in_stroke list x y) lines) ∙ h)
 
-pub new-outline-requires : goal.new-outline-requires
-new-outline-requires g c =
+pub new-requires-in-Some : goal.new-requires-in-Some
+new-requires-in-Some g c =
     let lent = rw c.in-Figures.is at c.requires.may.placed.ready in
     let land = rw c.in-Figures.is at c.requires.may.placed.within in
     let few = few_to_count _ (rw c.in-Figures.is at c.requires.may.placed.few) in
@@ -46,7 +46,7 @@ new-outline-requires g c =
 pub stroke_lines-requires-in-Some-clause-room : goal.stroke_lines-requires-in-Some-clause-room
 stroke_lines-requires-in-Some-clause-room g c =
     let room = rw c.in-Figures.is at c.requires.may.lines in
-    let counted = lines_few c.args.machine.now.surface (figures_drawn c.args.machine.now.painted c.in-Figures.points) c.in-Some.ends (outline_left c.new-outline.result) c.new-outline.ensures in
+    let counted = lines_few c.args.machine.now.surface (figures_drawn c.args.machine.now.painted c.in-Figures.points) c.in-Some.ends (outline_left c.new-in-Some.result) c.new-in-Some.ensures in
     omega (arith, room, counted)
 
 pub stroke_lines-requires-in-Some-clause-within : goal.stroke_lines-requires-in-Some-clause-within
@@ -56,9 +56,9 @@ stroke_lines-requires-in-Some-clause-within g c =
     let figures = figures_drawn c.args.machine.now.painted c.in-Figures.points in
     let least = rw c.in-Figures.is at c.requires.may.placed.least in
     let within = rw c.in-Figures.is at c.requires.may.placed.within in
-    λ x y h.
-    let same = ap (λ (list : List Line). in_stroke list x y) c.new-outline.ensures ∙ stroked_lines s ends figures x y in
-    shape_landed c.drawing_box_law.ensures c.place-place.result s c.place-place.ensures c.args.drawn.bounds c.landed_box-landed-in-Some.result c.landed_box-landed-in-Some.ensures (points_of_figures figures) least within
+    λ box landed x y h.
+    let same = ap (λ (list : List Line). in_stroke list x y) c.new-in-Some.ensures ∙ stroked_lines s ends figures x y in
+    shape_landed c.drawing_box_law.ensures c.place-place.result s c.place-place.ensures c.args.drawn.bounds box landed (points_of_figures figures) least within
     (stroke_of (stroked_outline ends figures)) tt (stroke_told ends figures) x y (sym same ∙ h)
 
 pub placed_box-requires-clause-second : goal.placed_box-requires-clause-second
@@ -87,7 +87,7 @@ returns-in-Some-clause-drawn g c =
     let asked : stroked_ends c.in-Figures.painting ≡ Some ends = search rules in
     let outline = stroked_outline ends figures in
     let drawn = painted_layer c.writing_law.ensures s c.args.canvas.now c.stroke_lines-in-Some.new.canvas c.whole_law.ensures.whole c.requires.may.held (solid pen.colour) tools (stroke_paint c.args.stroke.now) pen.paint _ (stroke_of outline)
-    (λ x y. ap (λ (list : List Line). in_stroke list x y) c.new-outline.ensures ∙ stroked_lines s ends figures x y) c.stroke_lines-in-Some.ensures.pixels c.stroke_lines-in-Some.ensures.few in
+    (λ x y. ap (λ (list : List Line). in_stroke list x y) c.new-in-Some.ensures ∙ stroked_lines s ends figures x y) c.stroke_lines-in-Some.ensures.pixels c.stroke_lines-in-Some.ensures.few in
     rw (c.in-Figures.is, strokes_figures c.in-Figures.painting ends figures tools asked, pen_strokes outline tools pen.colour pen.pen) drawn
 
 pub returns-in-Rectangle-clause-drawn : goal.returns-in-Rectangle-clause-drawn

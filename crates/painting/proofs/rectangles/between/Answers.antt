@@ -1,15 +1,28 @@
-use Rattle.std.proofs.Common.{◌≡◌, w32, to_z, of_z, arith, refl}
+use Rattle.std.proofs.Common.{ℕ, ℤ, arith}
 use Rattle.std.proofs.lemmas.Int.{ints}
+use Rattle.std.specs.Int.{int_max, int_min}
+use Rattle.mapping.specs.Limits.{IsWithin}
 use Rattle.painting.proofs.rectangles.between.Goals as goal
 
-pub returns-clause-value : goal.returns-clause-value
-returns-clause-value c =
-    let l : to_z w32 (of_z w32 c.min.result) ≡ c.min.result = omega (arith, ints) in
-    let t : to_z w32 (of_z w32 c.min-2.result) ≡ c.min-2.result = omega (arith, ints) in
-    let r : to_z w32 (of_z w32 c.max.result) ≡ c.max.result = omega (arith, ints) in
-    let b : to_z w32 (of_z w32 c.max-2.result) ≡ c.max-2.result = omega (arith, ints) in
-    let first_x : to_z w32 (of_z w32 c.args.first.x) ≡ c.args.first.x = omega (arith, ints) in
-    let first_y : to_z w32 (of_z w32 c.args.first.y) ≡ c.args.first.y = omega (arith, ints) in
-    let second_x : to_z w32 (of_z w32 c.args.second.x) ≡ c.args.second.x = omega (arith, ints) in
-    let second_y : to_z w32 (of_z w32 c.args.second.y) ≡ c.args.second.y = omega (arith, ints) in
-    rw (l, t, r, b, c.min.ensures.value, c.min-2.ensures.value, c.max.ensures.value, c.max-2.ensures.value, first_x, first_y, second_x, second_y) refl
+-- the lesser and the greater of two coordinates within a limit are within it
+lesser_within : (limit : ℕ) (v w : ℤ) → IsWithin limit v → IsWithin limit w → IsWithin limit (int_min v w)
+lesser_within limit v w a b =
+    let v_low = a.low in let v_high = a.high in let w_low = b.low in let w_high = b.high in
+    record { low = grind (arith, ints); high = grind (arith, ints) }
+
+greater_within : (limit : ℕ) (v w : ℤ) → IsWithin limit v → IsWithin limit w → IsWithin limit (int_max v w)
+greater_within limit v w a b =
+    let v_low = a.low in let v_high = a.high in let w_low = b.low in let w_high = b.high in
+    record { low = grind (arith, ints); high = grind (arith, ints) }
+
+pub returns-clause-left : goal.returns-clause-left
+returns-clause-left c = rw c.between.ensures (lesser_within _ _ _ c.requires.first.x c.requires.second.x)
+
+pub returns-clause-top : goal.returns-clause-top
+returns-clause-top c = rw c.between.ensures (lesser_within _ _ _ c.requires.first.y c.requires.second.y)
+
+pub returns-clause-right : goal.returns-clause-right
+returns-clause-right c = rw c.between.ensures (greater_within _ _ _ c.requires.first.x c.requires.second.x)
+
+pub returns-clause-bottom : goal.returns-clause-bottom
+returns-clause-bottom c = rw c.between.ensures (greater_within _ _ _ c.requires.first.y c.requires.second.y)

@@ -1,7 +1,5 @@
 use Rattle.std.proofs.Common.{◌≡◌, arith, rules, subst, sym, ap, ◌∙◌, w32, to_z, of_z}
 use Rattle.std.proofs.lemmas.Int.{ints}
-use Rattle.std.specs.Prelude.{is_some}
-use Rattle.std.proofs.lemmas.Bool.{and_left, and_right}
 use Rattle.mapping.specs.Boxes.{box_between, right_bottom_of, left_top_of}
 use Rattle.mapping.specs.PlaceOf.{surface_of}
 use Rattle.mapping.specs.Surface.{placed_point}
@@ -28,17 +26,17 @@ returns-in-Some-Some c =
 pub returns-in_default : goal.returns-in_default
 returns-in_default c =
     let bounds = c.args.bounds in
-    let off = sym (rw c.right_bottom.ensures at c.place-far.ensures.test) ∙ ap is_some c.in_default.is-1 in
+    let off = rw (c.in_default.is-1, c.right_bottom.ensures) at c.place-far.ensures.point in
     record {
-      all = λ points least within x y reached. absurd (none_reached c.box_law.ensures c.args.place bounds (and_right _ _ off) points least within x y reached);
+      all = λ points least within x y reached. absurd (none_reached c.box_law.ensures c.args.place bounds (λ near far. off far) points least within x y reached);
       no_other = λ wide high x y inside. absurd (none_in x y inside);
     }
 
 pub returns-in_default-2 : goal.returns-in_default-2
 returns-in_default-2 c =
     let bounds = c.args.bounds in
-    let off = sym (rw c.left_top.ensures at c.place-near.ensures.test) ∙ ap is_some c.in_default.is-0 in
+    let off = rw (c.in_default.is-0, c.left_top.ensures) at c.place-near.ensures.point in
     record {
-      all = λ points least within x y reached. absurd (none_reached c.box_law.ensures c.args.place bounds (and_left _ _ off) points least within x y reached);
+      all = λ points least within x y reached. absurd (none_reached c.box_law.ensures c.args.place bounds (λ near far. off near) points least within x y reached);
       no_other = λ wide high x y inside. absurd (none_in x y inside);
     }

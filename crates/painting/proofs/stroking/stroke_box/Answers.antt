@@ -24,8 +24,8 @@ returns-then-not-has_inside-clause-pixels c =
 pub stroke_lines-requires-clause-within : goal.stroke_lines-requires-clause-within
 stroke_lines-requires-clause-within c = λ x y h.
     let some : has_inside c.args.inside ≡ true = sym c.if-not-has_inside.ensures in
-    let there = ap (λ (lines : List Line). in_stroke lines x y) c.box_lines-lines.ensures.lines in
+    let there = ap (λ (lines : List Line). in_stroke lines x y) c.box_lines-around.ensures.lines in
     stroke_within c.args.inside some c.line_box_law.ensures x y (sym there ∙ h)
 
 pub returns-clause-pixels : goal.returns-clause-pixels
-returns-clause-pixels c = rw c.box_lines-lines.ensures.lines at c.stroke_lines.ensures.pixels
+returns-clause-pixels c = rw c.box_lines-around.ensures.lines at c.stroke_lines.ensures.pixels

@@ -4,9 +4,8 @@ use Rattle.mapping.specs.declared.geometry.Rect.{Rect}
 use Rattle.dc_stack.specs.Drawing.{mark_points}
 use Rattle.dc_stack.specs.Draws.{IsPlacedDraw, mark_of}
 use Rattle.dc_stack.specs.MachineState.{drawing_with}
-use Rattle.preflight_cert.specs.Budget.{layers_budget}
+use Rattle.preflight_cert.specs.Budget.{drawing_cells}
 use Rattle.preflight_cert.specs.CertificateText.{entry_text}
-use Rattle.preflight_cert.specs.Layer.{layers_of}
 use Rattle.preflight_cert.specs.TextLaws.{IsEntry}
 use Rattle.preflight_cert.proofs.LeastBoxLemmas.{least_is}
 use Rattle.preflight_cert.proofs.gathering.add_entry.Goals as goal
@@ -33,4 +32,4 @@ returns-clause-budget g c =
     let m = c.args.machine.now in
     let placed : IsPlacedDraw m.surface m.painted d = rw c.in-Some.is at c.requires.placed in
     let least = least_is c.box_law.ensures d.bounds (mark_points (mark_of m.painted d)) placed.least in
-    rw c.in-Some.is (subst (λ (box : Rect). c.drawing_budget.result ≡ layers_budget (layers_of (drawing_with m d)) box m.surface) least c.drawing_budget.ensures.layers)
+    rw c.in-Some.is (subst (λ (box : Rect). c.drawing_budget.result ≡ drawing_cells (drawing_with m d) box m.surface) least c.drawing_budget.ensures.layers)

@@ -11,7 +11,7 @@ returns c =
     let stride = row_stride width in
     let rows = c.args.rows in
     let many : c.room.result ≡ rows * stride = c.room.ensures ∙ ap (λ n. rows * n) c.stride_of.ensures in
-    let items : c.in-Ok.colours.items ≡ replicate (rows * stride) c.args.colour = c.in-Ok.ensures.items_if_clones_equal (λ y e. e) ∙ ap (λ n. replicate n c.args.colour) many in
+    let items : c.in_ok-colours.colours.items ≡ replicate (rows * stride) c.args.colour = c.in_ok-colours.ensures ∙ ap (λ n. replicate n c.args.colour) many in
     c.of.ensures
     ∙ ap (λ (cs : List Colour). made_of cs width c.args.first rows)
     (ap (row_colours rows width stride) items ∙ row_colours_of_one rows width stride c.args.colour (omega arith))

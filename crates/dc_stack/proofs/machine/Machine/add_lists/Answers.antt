@@ -1,11 +1,10 @@
 use Rattle.std.proofs.Common.{◌≡◌, ◌≢◌, ◌+◌, ◌<◌, true, [], Err, vec_capacity, arith, refl, rules, ap, subst, sym, ◌∙◌}
 use Rattle.mapping.specs.PageMap.{map_numbers}
 use Rattle.mapping.specs.PlaceOf.{surface_of}
-use Rattle.std.specs.Option.{option_or}
 use Rattle.dc_stack.specs.GatheredPath.{path_of}
 use Rattle.dc_stack.specs.Mapped.{mapped_list}
-use Rattle.dc_stack.specs.OperationFault.{off_plane_fault}
-use Rattle.dc_stack.specs.Path.{is_open, pieces_fault}
+use Rattle.dc_stack.specs.OperationFault.{addition_fault}
+use Rattle.dc_stack.specs.Path.{is_open}
 use Rattle.dc_stack.specs.Pieces.{page_points, plane_lists}
 use Rattle.dc_stack.proofs.AddingLemmas.{lists_count, no_fault_of_none, none_on_plane, not_added, nothing_listed, pieces_counted, some_on_plane}
 use Rattle.dc_stack.proofs.AdditionLemmas.{same_answer}
@@ -43,7 +42,7 @@ returns-in-Err-clause-adds g c =
     let count = lists_count c.args.joining lists path begun (some_on_plane map c.args.points some) in
     let after = count ∙ ap (λ n. n + 1) before in
     let points = mapped_list map (page_points c.args.points) in
-    let fault = ap (λ n. option_or (pieces_fault n) (off_plane_fault points (surface_of c.self.inside.place))) (sym after) in
+    let fault = ap (λ n. addition_fault n points (surface_of c.self.inside.place)) (sym after) in
     let answer = same_answer (Err c.in-Err.fault) points points _ _ _ _ refl fault (λ lacks. subst (λ n. vec_capacity pieces < n) (sym after) lacks) c.in-Err.ensures.answer in
     rw (← c.self.view_is) (not_added _ _ _ _ c.in-Err.fault _ answer (λ lacks. lacks) (omega (arith, count)) (record {
       state = rw (same.phase, same.pieces) refl;

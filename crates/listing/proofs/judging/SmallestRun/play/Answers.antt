@@ -2,8 +2,8 @@
 use Rattle.std.proofs.Common.{◌∙◌}
 use Rattle.draw_ops.specs.OperationOf.{operation_of}
 use Rattle.mapping.specs.PlaceOf.{surface_of}
-use Rattle.dc_stack.specs.OperationFault.{plane_points}
-use Rattle.listing.proofs.JudgingLemmas.{off_there, refused_there}
+use Rattle.dc_stack.specs.OperationFault.{plain_fault, plane_points}
+use Rattle.listing.proofs.JudgingLemmas.{plain_then_place, refused_there}
 use Rattle.listing.proofs.judging.SmallestRun.play.Goals as goal
 
 pub returns-in-Err-clause-on_largest : goal.returns-in-Err-clause-on_largest
@@ -16,7 +16,6 @@ pub returns-clause-off : goal.returns-clause-off
 returns-clause-off c =
     let operation = operation_of c.args.op.now in
     let old = c.self.inside.machine in
-    let largest = surface_of c.self.inside.largest in
     rw (← c.self.view_is)
     (c.off_plane.ensures (plane_points operation old.state) (rw c.plane_extent.ensures c.in-Ok.ensures.extent)
-    ∙ off_there operation old.state old.surface largest c.in-Ok.ensures.stepped.no_fault)
+    ∙ plain_then_place (plain_fault operation old.state) _ _ c.in-Ok.ensures.stepped.no_fault)
