@@ -1,5 +1,5 @@
 -- The rows of a command that was met are what it was given.
-use Rattle.std.proofs.Common.{◌≡◌, ◌∙◌, ap, sym, subst, refl, List, Option, Some, None, IfSome, IsSome, false, true, option_map, codes, Box}
+use Rattle.std.proofs.Common.{◌≡◌, ◌∙◌, ap, sym, subst, List, Option, Some, None, IfSome, option_map, codes, Box}
 use Rattle.std.specs.Box.{box_value}
 use Rattle.clap.specs.Words.{Row, Text}
 use Rattle.clap.specs.Simple.{subcommand_rows}

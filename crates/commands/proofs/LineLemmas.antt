@@ -3,7 +3,7 @@ use Rattle.std.proofs.Common.{◌≡◌, ℕ, List, Option}
 use Rattle.std.specs.Io.KnownBytes.{Keeps}
 use Rattle.clap.specs.Words.{Text}
 use Rattle.commands.specs.CommandLine.{IsAskedByWords}
-use Rattle.commands.specs.Ends.{TellsBy, WritesBy}
+use Rattle.commands.specs.Ends.{TellsBy}
 use Rattle.commands.specs.Lines.{ErrBy, ErrOfSome, ErrOfWords, IsInput, LineWrites, OutBy, OutOfSome, OutOfWords, task_of}
 use Rattle.commands.specs.Faults.{input_end, fault_text}
 use Rattle.commands.specs.Report.{Reports, Told}

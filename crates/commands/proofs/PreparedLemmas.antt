@@ -1,11 +1,10 @@
 -- A certificate that was prepared is read with the bound that it was prepared for.
-use Rattle.std.proofs.Common.{◌≡◌, ◌∙◌, ◌≤◌, ◌<◌, ◌⊎◌, inl, inr, Bool, true, false, ◌||◌, cond, ℕ, List, length, Result, Ok, Err, IsOk, Option, ap, arith, refl, subst, sym}
-use Rattle.std.specs.Prelude.{◌==◌, nat_le, nat_lt, not}
-use Rattle.std.proofs.lemmas.Bool.{and_from, le-leb, true≢false}
+use Rattle.std.proofs.Common.{◌≡◌, ◌∙◌, ◌≤◌, ◌⊎◌, inl, inr, Bool, true, false, ◌||◌, cond, ℕ, List, length, Result, Ok, Err, IsOk, ap, arith, refl, subst, sym}
+use Rattle.std.specs.Prelude.{◌==◌, nat_lt, not}
+use Rattle.std.proofs.lemmas.Bool.{and_from, true≢false}
 use Rattle.mapping.specs.Limits.{IsSurfaceSide, is_surface_side, surface_side_from}
-use Rattle.draw_ops.specs.ExactlyOne.{ExactlyOne}
 use Rattle.draw_ops.specs.declared.fault.Fault.{Fault}
-use Rattle.draw_ops.specs.declared.fault.Fault.TheVariants.{BadBound, NotCertificate, OutOfMemory, ShortCertificate, TrailingBytes}
+use Rattle.draw_ops.specs.declared.fault.Fault.TheVariants.{BadBound, NotCertificate, ShortCertificate, TrailingBytes}
 use Rattle.meta_headers.specs.Headers.{OpenedValue}
 use Rattle.meta_headers.specs.Opening.{opened, record_bytes}
 use Rattle.point_views.specs.Numbers.{number_at}
@@ -19,7 +18,6 @@ use Rattle.preflight_cert.specs.Run.{Refused}
 use Rattle.preflight_cert.specs.declared.certificate.Certificate.{Certificate}
 use Rattle.preflight_cert.specs.declared.refusal.Refusal.{Refusal}
 use Rattle.player.specs.Bounds.{IsWithinBound}
-use Rattle.commands.specs.ClearedFiles.{RefusesSurface}
 use Rattle.preflight_cert.specs.Reached.{OpensBoth}
 
 -- a fault is no certificate

@@ -1,5 +1,5 @@
 -- A report has no numbers but whole ones, and as many drawings as there are entries.
-use Rattle.std.proofs.Common.{◌≡◌, ◌∙◌, ◌⊎◌, inl, inr, ap, subst, sym, Result, Ok, Bool, true, false, ◌||◌, cond, ℕ, List, [], ◌∷◌, length, Option, Some, None, Ordering, Less, Equal, Greater, nat_cmp, codes, refl}
+use Rattle.std.proofs.Common.{◌≡◌, ◌∙◌, ◌⊎◌, inl, inr, ap, subst, sym, Result, Ok, Bool, true, false, cond, ℕ, List, [], ◌∷◌, length, Option, Some, None, Ordering, Less, Equal, Greater, nat_cmp, codes, refl}
 use Rattle.std.specs.Prelude.{◌==◌}
 use Rattle.std.specs.Cmp.Lexicographic.{slice_cmp}
 use Rattle.std.specs.Ordering.{match_ordering}
@@ -15,7 +15,7 @@ use Rattle.dc_stack.specs.State.{start_of}
 use Rattle.meta_headers.specs.File.{IsOpenedFrom}
 use Rattle.meta_headers.specs.Headers.{OpenedValue}
 use Rattle.meta_headers.specs.OpenedOf.{opened_of}
-use Rattle.meta_headers.specs.Opening.{HasContentOf, opened, record_bytes}
+use Rattle.meta_headers.specs.Opening.{HasContentOf, record_bytes}
 use Rattle.preflight_cert.specs.After.{file_notes}
 use Rattle.preflight_cert.specs.Answer.{AnswerLaws, AnswersOpened, AnswersRead, CountsRecords, Fits, IsAnswer, RecordsAnswer, accepted, refuses}
 use Rattle.preflight_cert.specs.CertificateOf.{certificate_of}
@@ -31,7 +31,7 @@ use Rattle.draw_ops.specs.FaultTable.{fault_row}
 use Rattle.preflight_cert.specs.declared.cleared.Cleared.{Cleared}
 use Rattle.preflight_cert.specs.declared.refusal.Refusal.{Refusal}
 use Rattle.meta_headers.specs.Formats.{format_name}
-use Rattle.commands.specs.CheckReport.{ReportsAccepted, ReportsRefused, accepted_report, all_kinds, needs_data, noted_kinds, notes_data, refused_report, report_text, sides, whole, whole_if, with_kind}
+use Rattle.commands.specs.CheckReport.{ReportsAccepted, ReportsRefused, accepted_report, all_kinds, needs_data, noted_kinds, notes_data, refused_report, report_text, sides, whole, whole_if}
 use Rattle.commands.specs.ClearedFiles.{report_of}
 
 put_whole : (k : List ℕ) (d : Data) (ms : Members) → has_float d ≡ false → members_have_float ms ≡ false → members_have_float (put k d ms) ≡ false

@@ -1,6 +1,6 @@
 -- The report of a check, as JSON.
 use Rattle.std.specs.Prelude.{◌≡◌, ℕ, ◌==◌, if◌then◌else◌, List, [], ◌∷◌, ◌++◌, length, Option, Some, None, Ok, codes, true, false}
-use Rattle.serde_json.specs.Data.{Data, Items, Members, array, boolean, item, member, no_items, no_members, null, number, object, put, string, unsigned}
+use Rattle.serde_json.specs.Data.{Data, Members, array, boolean, item, member, no_items, no_members, null, number, object, put, string, unsigned}
 use Rattle.serde_json.specs.Written.{compact_text}
 use Rattle.draw_ops.specs.Content.{Content}
 use Rattle.draw_ops.specs.Fault.{record_kind_of}

@@ -7,7 +7,7 @@ use Rattle.canvas.specs.Ppm.{ppm_text}
 use Rattle.canvas.specs.PpmReading.{read_ppm}
 use Rattle.preflight_cert.specs.Answer.{IsAnswer, accepted, refuses}
 use Rattle.preflight_cert.specs.CertificateReading.{CertificateValue, read_certificate}
-use Rattle.preflight_cert.specs.Run.{Run, shown, white}
+use Rattle.preflight_cert.specs.Run.{Run, shown}
 
 -- the bytes are a certificate for surfaces of these sides
 pub record Allows (certificate : List ℕ) (width height : ℕ) : Type 0 where

@@ -1,5 +1,5 @@
 -- What a command line's command leaves on its streams.
-use Rattle.std.specs.Prelude.{◌≡◌, ℕ, List, Option, None, IfSome, codes, String, ⊤}
+use Rattle.std.specs.Prelude.{◌≡◌, ℕ, List, Option, IfSome, codes, String, ⊤}
 use Rattle.std.specs.Io.KnownBytes.{Keeps}
 use Rattle.clap.specs.Words.{Text}
 use Rattle.std.specs.declared.alloc.Global.{Global}

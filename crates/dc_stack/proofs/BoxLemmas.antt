@@ -3,15 +3,14 @@ use Rattle.std.proofs.Common.{◌≡◌, ℤ, ◌≤ℤ◌, Bool, List, [], ◌�
 use Rattle.std.proofs.lemmas.Int.{by_lt_z, ints}
 use Rattle.std.specs.Int.{int_max, int_min}
 use Rattle.std.specs.List.{list_any}
-use Rattle.mapping.specs.declared.geometry.Point.{Point}
 use Rattle.mapping.specs.declared.geometry.Rect.{Rect}
 use Rattle.mapping.specs.PlacingLaws.{PlacingLaws, ShowsFrame}
-use Rattle.mapping.specs.Surface.{Surface, placed, placed_point}
+use Rattle.mapping.specs.Surface.{Surface, placed}
 use Rattle.dc_stack.specs.Values.{IsPlacedOn, clip_value, placed_value}
 use Rattle.dc_stack.specs.declared.clip.Clip.{Clip}
 use Rattle.dc_stack.specs.declared.clip.ClipBox.{ClipBox}
 use Rattle.dc_stack.specs.Clip.{ClipValue, placed_box, placed_clip, with_kept}
-use Rattle.mapping.specs.Boxes.{common_box, box_between}
+use Rattle.mapping.specs.Boxes.{common_box}
 
 -- what keeps the order keeps the lesser and the greater
 min_kept : (f : ℤ → ℤ) → ((v w : ℤ) → v ≤ℤ w → f v ≤ℤ f w) → (v w : ℤ) → int_min (f v) (f w) ≡ f (int_min v w)

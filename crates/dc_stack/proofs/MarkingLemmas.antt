@@ -1,5 +1,5 @@
 -- Drawings that are made, and operations that draw while no path is open.
-use Rattle.std.proofs.Common.{◌≡◌, ℕ, suc, ◌<◌, ◌≤◌, Bool, true, false, cond, List, [], ◌∷◌, ◌++◌, length, Option, Some, None, Result, Ok, Err, inl, arith, refl, ap, subst, sym, ◌∙◌}
+use Rattle.std.proofs.Common.{◌≡◌, ℕ, suc, ◌<◌, ◌≤◌, Bool, true, false, cond, List, [], ◌∷◌, ◌++◌, length, Option, None, Result, Ok, Err, inl, arith, refl, ap, subst, sym, ◌∙◌}
 use Rattle.std.proofs.lemmas.Bool.{le-leb}
 use Rattle.std.specs.Option.{option_map, option_or}
 use Rattle.mapping.specs.PageMap.{map_numbers}
@@ -13,11 +13,10 @@ use Rattle.draw_ops.specs.Operation.{Operation, line_to, polygon, polyline, poly
 use Rattle.draw_ops.specs.declared.operation.RectangleEdges.{RectangleEdges}
 use Rattle.draw_ops.specs.declared.fault.Fault.{Fault}
 use Rattle.draw_ops.specs.declared.fault.Fault.TheVariants.{Record}
-use Rattle.draw_ops.specs.declared.record_fault.RecordFault.{RecordFault}
-use Rattle.dc_stack.specs.Drawing.{Drawing, MarkValue, drawing_edges, drawing_now, drawing_of, edge_limit, going_on, lines_mark, lists_mark, lists_painted, mark_edges, mark_points, points_of_lists, rectangle_mark}
+use Rattle.dc_stack.specs.Drawing.{MarkValue, drawing_now, drawing_of, edge_limit, going_on, lines_mark, lists_mark, lists_painted, mark_edges, mark_points, points_of_lists, rectangle_mark}
 use Rattle.dc_stack.specs.Draws.{IsReady, lends_path, mark_value_of}
 use Rattle.dc_stack.specs.DrawsApart.{DrawsApart, DrawsHere, DrawsLines, mark_fault}
-use Rattle.dc_stack.specs.Extents.{IsExtent, box_of}
+use Rattle.dc_stack.specs.Extents.{IsExtent}
 use Rattle.dc_stack.specs.Figures.{Figures, box_corners, points_gone_on, with_lines, with_polygons, with_polylines}
 use Rattle.dc_stack.specs.MachineState.{MachineState, Outcome, Plays}
 use Rattle.dc_stack.specs.Mapped.{mapped_box, mapped_corners, mapped_list, mapped_lists, mapped_point}

@@ -1,6 +1,6 @@
 -- The value of a path as a machine gathers it.
 use Rattle.std.specs.Prelude.{◌≡◌, ◌≢◌, ◌⊎◌, ℕ, ◌+◌, ◌<◌, ◌≤◌, Option, Some, None, Result, Ok, Err, Bool, true, false, List, [], ◌∷◌, ◌++◌, length, vec_capacity}
-use Rattle.std.specs.Option.{option_map, option_or}
+use Rattle.std.specs.Option.{option_map}
 use Rattle.mapping.specs.PageMap.{map_numbers}
 use Rattle.mapping.specs.PlaceOf.{surface_of}
 use Rattle.mapping.specs.Surface.{Surface}
@@ -15,7 +15,7 @@ use Rattle.dc_stack.specs.Extents.{IsExtent}
 use Rattle.dc_stack.specs.Figures.{all_figures, points_gone_on, points_of_figures}
 use Rattle.dc_stack.specs.Mapped.{mapped_point}
 use Rattle.dc_stack.specs.OperationFault.{addition_fault}
-use Rattle.dc_stack.specs.Path.{Path, after_lines, finished_path, no_path, open_path, piece_count, piece_for, piece_limit, pieces_fault, points_if_open, with_figures}
+use Rattle.dc_stack.specs.Path.{Path, after_lines, finished_path, no_path, open_path, piece_count, piece_for, piece_limit, points_if_open, with_figures}
 use Rattle.dc_stack.specs.Pieces.{AllLandOn, figures_of, plane_lists, with_lists}
 use Rattle.dc_stack.specs.Placing.{mapped_piece}
 use Rattle.dc_stack.specs.declared.path.GatheredPath.{GatheredPath}

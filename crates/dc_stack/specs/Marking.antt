@@ -9,7 +9,6 @@ use Rattle.dc_stack.specs.Extents.{IsExtent, box_of}
 use Rattle.dc_stack.specs.MachineState.{IsUnchanged, MachineState, Outcome}
 use Rattle.dc_stack.specs.Needs.{greater_needs, points_needed}
 use Rattle.dc_stack.specs.OperationFault.{off_plane_fault}
-use Rattle.dc_stack.specs.declared.draw.Draw.{Draw}
 use Rattle.dc_stack.specs.declared.draw.Mark.{Mark}
 
 -- the drawing of a mark is made: the points of its extent land on the surface, and the needs are raised to so many points

@@ -1,25 +1,24 @@
 -- The lines of records, one record after another.
 use Rattle.std.proofs.Common.{◌≡◌, ℕ, suc, ◌+◌, Bool, true, false, eqb, List, [], ◌++◌, length, Option, Result, Ok, Err, refl, sym, ap, ◌∙◌, arith}
 use Rattle.std.proofs.lemmas.Bool.{eqb-true}
-use Rattle.std.proofs.lemmas.List.{append_assoc, append-nil}
+use Rattle.std.proofs.lemmas.List.{append_assoc}
 use Rattle.draw_ops.specs.Content.{StepValue}
 use Rattle.draw_ops.specs.Framed.{in_front}
 use Rattle.draw_ops.specs.Meaning.{Meaning, MeantValue, step_of, step_meant}
 use Rattle.draw_ops.specs.Records.{Framed, Framing, Record}
 use Rattle.draw_ops.specs.Results.{result_map}
 use Rattle.draw_ops.specs.RecordOf.{record_of}
-use Rattle.listing.specs.Walk.{GivesFault, GivesNoRecord, GivesRecord}
+use Rattle.listing.specs.Walk.{GivesRecord}
 use Rattle.listing.specs.WalkState.{Walk}
 use Rattle.draw_ops.specs.declared.record_fault.RecordFault.{RecordFault}
 use Rattle.listing.specs.declared.walk.PlacedRecord.{PlacedRecord}
 use Rattle.meta_headers.specs.Opening.{framing_of, meaning_of}
 use Rattle.meta_headers.specs.declared.opened.FileFormat.{FileFormat}
 use Rattle.listing.specs.Judging.{Judging, behind_record, fault_in_runs}
-use Rattle.listing.specs.Line.{fault_line, line_of}
+use Rattle.listing.specs.Line.{line_of}
 use Rattle.listing.specs.Listing.{lines_of, lines_of_framed, step_in}
-use Rattle.listing.specs.Putting.{Coming, PutsLine, PutsRest, coming, listing_left}
+use Rattle.listing.specs.Putting.{Coming, PutsLine, coming, listing_left}
 use Rattle.canvas.specs.Sending.{Sending}
-use Rattle.listing.specs.declared.listing_end.ListingEnd.TheVariants.{Broken, Ended}
 use Rattle.canvas.specs.Sending.{sending_none}
 
 -- a record that doesn't end the file has the same step, whatever lies behind the end

@@ -1,5 +1,5 @@
 -- Objects in the order of their indexes, with one more and without one.
-use Rattle.std.proofs.Common.{ℕ, suc, ◌≤◌, List, [], ◌∷◌, inl, inr, arith}
+use Rattle.std.proofs.Common.{ℕ, suc, ◌≤◌, [], ◌∷◌, inl, inr, arith}
 use Rattle.std.proofs.lemmas.Bool.{cases_eq, cases_lt, eq-eqb, le-ltb, lt-ltb, ne_eqb}
 use Rattle.draw_ops.specs.Objects.{ObjectValue}
 use Rattle.object_tables.specs.OrderLaws.{OrderLaws}

@@ -1,5 +1,5 @@
 -- The definitions on worked values.
-use Rattle.std.proofs.Common.{◌≡◌, [], ◌∷◌, Option, Some, None, refl}
+use Rattle.std.proofs.Common.{◌≡◌, [], ◌∷◌, Some, None, refl}
 use Rattle.draw_ops.specs.Objects.{ObjectValue, brush_object, font_object, null_brush}
 use Rattle.draw_ops.specs.declared.record_fault.RecordFault.TheVariants.{HandleTaken, NoSuchHandle}
 use Rattle.object_tables.specs.Slots.{Slots, lowest_free, object_at, with_object, without_object}

@@ -11,7 +11,7 @@ use Rattle.dc_stack.specs.Drawing.{points_of_lists}
 use Rattle.dc_stack.specs.Projected.{projected}
 use Rattle.dc_stack.specs.declared.projection.Projection.{Projection}
 use Rattle.painting.specs.LinesToCome.{lines_if_on}
-use Rattle.preflight_cert.specs.Outlines.{closed_lines, closed_lines_of, lines_after, lines_round, open_lines, open_lines_of}
+use Rattle.preflight_cert.specs.Outlines.{closed_lines, lines_after, lines_round, open_lines, open_lines_of}
 use Rattle.painting.specs.PlacedLines.{lines_of_lists, projected_list}
 use Rattle.painting.specs.declared.list_lines.Traced.{Traced}
 use Rattle.painting.specs.declared.list_lines.Ends.{Ends}

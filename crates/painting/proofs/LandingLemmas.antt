@@ -1,5 +1,5 @@
 -- Points of the page that land within the limits.
-use Rattle.std.proofs.Common.{◌≡◌, ◌<◌, ℕ, zero, suc, slice_index_or, ℤ, pos, neg_ℤ, ◌≤ℤ◌, Bool, true, int_le, List, [], ◌∷◌, arith, ap, subst, sym, ◌∙◌}
+use Rattle.std.proofs.Common.{◌≡◌, ◌<◌, ℕ, zero, suc, slice_index_or, ℤ, pos, ◌≤ℤ◌, Bool, true, List, [], ◌∷◌, arith, ap, subst, sym, ◌∙◌}
 use Rattle.std.proofs.lemmas.Bool.{and_parts}
 use Rattle.std.proofs.lemmas.Int.{ints}
 use Rattle.std.proofs.lemmas.List.{append-nil}
@@ -7,7 +7,7 @@ use Rattle.std.proofs.lemmas.List.Elements.{All-cons, All-head, All-nil, All-res
 use Rattle.std.proofs.lemmas.List.Folds.{list_all-append}
 use Rattle.std.specs.Bool.{IsTrue}
 use Rattle.std.specs.List.{list_all}
-use Rattle.mapping.specs.Limits.{IsWithin, is_within, place_limit}
+use Rattle.mapping.specs.Limits.{place_limit}
 use Rattle.mapping.specs.PageMap.{map_numbers}
 use Rattle.mapping.specs.PlaceOf.{surface_of}
 use Rattle.mapping.specs.Surface.{FitsPlace, IsPlaceCoordinate, Surface, lands_true, lands_within_limits, placed_point}

@@ -1,8 +1,7 @@
 -- Parts of a row, painted one after another.
-use Rattle.std.proofs.Common.{◌≡◌, ℕ, zero, suc, ◌+◌, ◌-◌, ◌*◌, ◌%◌, ◌<◌, ◌≤◌, ◌^◌, ℤ, pos, ◌<ℤ◌, ◌≤ℤ◌, ◌↔◌, Bool, true, false, not, cond, eqb, leb, ltb, int_le, int_lt, ◌&&◌, ◌||◌, List, [], ◌∷◌, drop, get_or, length, inl, inr, refl, sym, ap, ◌∙◌, arith, w8}
+use Rattle.std.proofs.Common.{◌≡◌, ℕ, zero, suc, ◌+◌, ◌-◌, ◌*◌, ◌%◌, ◌<◌, ◌≤◌, ◌^◌, Bool, true, false, not, cond, eqb, leb, ltb, ◌&&◌, ◌||◌, List, [], ◌∷◌, drop, get_or, length, inl, inr, refl, sym, ap, ◌∙◌, arith, w8}
 use Rattle.std.proofs.Math.Seq.{drop-cons}
-use Rattle.std.proofs.lemmas.Bool.{and_parts, and_from, and_left, and_right, or_from, eqb-true, leb-true, ltb-true, le-leb, lt-leb, lt-ltb, le-ltb, false_from_ne_true, true≢false, cases_lt, cond-true, cond-false, not-true}
-use Rattle.std.proofs.lemmas.Int.{ints, by_lt_z}
+use Rattle.std.proofs.lemmas.Bool.{and_parts, and_left, and_right, or_from, eqb-true, leb-true, ltb-true, le-leb, lt-leb, lt-ltb, le-ltb, false_from_ne_true, true≢false, cases_lt, cond-true, cond-false, not-true}
 use Rattle.std.proofs.lemmas.Nat.Bits.{bit_at-lt, bit_at_not}
 use Rattle.std.specs.Int.{bit_at, bit_not}
 use Rattle.std.specs.List.{list_any}
@@ -16,7 +15,7 @@ use Rattle.canvas.specs.CanvasState.{CanvasState, HasRow}
 use Rattle.canvas.specs.Writing.{Repaints, in_cells, in_row_span}
 use Rattle.canvas.specs.WritingLaws.{IsWhole, WritingLaws}
 use Rattle.canvas.specs.declared.swatch.Swatch.{Swatch}
-use Rattle.mapping.specs.PixelBoxes.{in_box, is_from_to}
+use Rattle.mapping.specs.PixelBoxes.{in_box}
 use Rattle.span_fill.specs.declared.span.Span.{Span}
 use Rattle.span_fill.specs.Spans.{AreApart, in_spans}
 use Rattle.painting.specs.RowInks.{inked, is_inked}

@@ -1,8 +1,6 @@
 -- Tests of numbers, and what they tell.
-use Rattle.std.proofs.Common.{◌≡◌, ℕ, ◌≤◌, ◌<◌, ℤ, pos, ◌≤ℤ◌, ◌<ℤ◌, Bool, true, false, ◌&&◌, int_le, int_lt, nat_le, nat_lt, arith, refl, max, min, subst, ◌+◌}
+use Rattle.std.proofs.Common.{◌≡◌, ℕ, ◌≤◌, ◌<◌, Bool, true, ◌&&◌, nat_le, nat_lt}
 use Rattle.std.proofs.lemmas.Bool.{and_from, and_parts, le-leb, leb-true, lt-ltb, ltb-true}
-use Rattle.std.proofs.lemmas.Int.{ints}
-use Rattle.mapping.specs.PixelBoxes.{is_from_to}
 
 -- a column from one on, up to before another
 abbrev pub is_column : ℕ → ℕ → ℕ → Bool

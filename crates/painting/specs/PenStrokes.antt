@@ -1,5 +1,5 @@
 -- What a pen's stroke does to pixels.
-use Rattle.std.specs.Prelude.{ℕ, ◌&&◌}
+use Rattle.std.specs.Prelude.{◌&&◌}
 use Rattle.mapping.specs.Mixes.{mixed_by}
 use Rattle.canvas.specs.CanvasState.{CanvasState}
 use Rattle.canvas.specs.Writing.{Repaints}

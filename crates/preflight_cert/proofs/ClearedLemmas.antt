@@ -1,5 +1,5 @@
 -- What checking steps tells is the answer.
-use Rattle.std.proofs.Common.{◌≡◌, ◌⊎◌, inl, inr, ℕ, Bool, true, false, List, length, Option, Some, None, Result, Ok, Err, IsOk, refl, ap, sym, subst, ◌∙◌}
+use Rattle.std.proofs.Common.{◌≡◌, ◌⊎◌, inl, inr, ℕ, Bool, true, false, List, length, Option, None, Result, Ok, Err, IsOk, refl, ap, sym, subst, ◌∙◌}
 use Rattle.std.proofs.lemmas.Bool.{true≢false}
 use Rattle.mapping.specs.Surface.{Surface}
 use Rattle.draw_ops.specs.Content.{Content}
@@ -14,10 +14,9 @@ use Rattle.preflight_cert.specs.After.{file_notes, needs_after, notes_after}
 use Rattle.preflight_cert.specs.Answer.{Answer, AnswersRead, CountsRecords, IsAnswer, IsCleared, RecordsAnswer, accepted, answer_from, answer_to, bound_of, refuses, total_fault}
 use Rattle.preflight_cert.specs.CertificateReading.{CertificateValue, read_certificate}
 use Rattle.preflight_cert.specs.Checked.{check_of}
-use Rattle.preflight_cert.specs.Checks.{Checks, StopsCheck}
+use Rattle.preflight_cert.specs.Checks.{Checks}
 use Rattle.preflight_cert.specs.Drawings.{drawings_of}
 use Rattle.preflight_cert.specs.Entries.{budget_of}
-use Rattle.preflight_cert.specs.declared.refusal.Refusal.{Refusal}
 use Rattle.preflight_cert.specs.declared.walk.Totals.{Totals}
 use Rattle.preflight_cert.proofs.StartLemmas.{IsAtStart}
 

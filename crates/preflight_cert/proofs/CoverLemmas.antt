@@ -1,5 +1,5 @@
 -- A box has all points exactly where it has the least box around them.
-use Rattle.std.proofs.Common.{◌≡◌, ℤ, ◌≤ℤ◌, ◌<ℤ◌, Bool, true, false, ◌&&◌, int_le, int_lt, List, [], ◌∷◌, get_or, refl, sym, ap, arith}
+use Rattle.std.proofs.Common.{◌≡◌, ◌≤ℤ◌, ◌<ℤ◌, true, ◌&&◌, int_le, List, [], ◌∷◌, get_or, refl, ap, arith}
 use Rattle.std.specs.List.{All, Any, list_all}
 use Rattle.std.proofs.lemmas.Bool.{and_from, and_parts}
 use Rattle.std.proofs.lemmas.Int.{ints}

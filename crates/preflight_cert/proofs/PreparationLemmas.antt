@@ -1,10 +1,8 @@
 -- What is prepared is accepted, and it is the least that is.
-use Rattle.std.proofs.Common.{◌≡◌, ℕ, ◌*◌, ◌≤◌, List, [], ◌∷◌, None, refl, ap, sym, subst, ◌∙◌, arith}
-use Rattle.std.specs.List.{All}
+use Rattle.std.proofs.Common.{◌≡◌, ℕ, ◌≤◌, List, [], ◌∷◌, None, refl, ap, sym, subst, ◌∙◌, arith}
 use Rattle.mapping.specs.CellLaws.{CellLaws}
 use Rattle.mapping.specs.PlacingLaws.{ShowsFrame}
 use Rattle.mapping.specs.Surface.{Surface}
-use Rattle.mapping.specs.declared.geometry.Point.{Point}
 use Rattle.mapping.specs.declared.geometry.Rect.{Rect}
 use Rattle.draw_ops.specs.Content.{Content}
 use Rattle.dc_stack.specs.Drawing.{drawing_points}

@@ -19,15 +19,13 @@ use Rattle.preflight_cert.specs.Answer.{AnswerLaws, AnswersRead, RecordsAnswer, 
 use Rattle.preflight_cert.specs.CertificateReading.{CertificateValue, entries_in, entry_limit, entry_size, read_certificate, slot_limit}
 use Rattle.preflight_cert.specs.CertificateText.{certificate_text, entry_text, text_with}
 use Rattle.preflight_cert.specs.Drawings.{NumberedDrawing, drawings_of}
-use Rattle.preflight_cert.specs.Gathered.{Gathers, StopsGathering, least_budget, least_entries, least_texts}
+use Rattle.preflight_cert.specs.Gathered.{Gathers, least_budget, least_entries, least_texts}
 use Rattle.preflight_cert.specs.NeedLaws.{NeedLaws}
 use Rattle.preflight_cert.specs.Preparation.{AreLeast, IsPrepared, PreparesRecords}
 use Rattle.preflight_cert.specs.PreparationLaws.{PreparationLaws}
-use Rattle.preflight_cert.specs.StoppedRecords.{StopsOpened}
 use Rattle.preflight_cert.specs.Stop.{stop_of}
 use Rattle.preflight_cert.specs.TextLaws.{IsCertificate, IsEntry, TextLaws}
 use Rattle.preflight_cert.specs.TextParts.{full_text}
-use Rattle.preflight_cert.specs.declared.refusal.Refusal.{Refusal}
 use Rattle.preflight_cert.specs.declared.walk.Totals.{Totals}
 use Rattle.preflight_cert.specs.declared.writing.Head.{Head}
 use Rattle.preflight_cert.proofs.CertificateTextLemmas.{length-entries}

@@ -1,5 +1,5 @@
 -- Layers and drawings on rows that are laid together.
-use Rattle.std.proofs.Common.{◌≡◌, ℕ, suc, ◌+◌, List, [], ◌∷◌, ◌++◌, length, refl, sym, ap, ◌∙◌, arith, zero, ◌*◌, ◌/◌, ◌%◌, ◌≤◌, Bool}
+use Rattle.std.proofs.Common.{◌≡◌, ℕ, suc, ◌+◌, List, [], ◌∷◌, ◌++◌, refl, sym, ap, ◌∙◌, arith, zero, ◌*◌, ◌/◌, ◌%◌, Bool}
 use Rattle.mapping.specs.Image.{Image}
 use Rattle.mapping.specs.IndexLaws.{count_pixels_laid, length-map_indexed, repainted_laid}
 use Rattle.mapping.specs.Pixels.{count_indexes, count_pixels, repainted}

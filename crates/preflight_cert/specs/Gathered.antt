@@ -14,7 +14,6 @@ use Rattle.preflight_cert.specs.Budget.{drawing_cells}
 use Rattle.preflight_cert.specs.CertificateText.{entry_text}
 use Rattle.preflight_cert.specs.Drawings.{NumberedDrawing, drawings_of}
 use Rattle.preflight_cert.specs.Entries.{budget_of}
-use Rattle.preflight_cert.specs.Layer.{layers_of}
 use Rattle.preflight_cert.specs.Refusal.{TellsStop}
 use Rattle.preflight_cert.specs.Stop.{stop_of}
 use Rattle.preflight_cert.specs.TextLaws.{IsEntry}

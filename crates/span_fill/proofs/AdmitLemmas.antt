@@ -1,12 +1,11 @@
 -- Edges begin in the order of their first rows.
-use Rattle.std.proofs.Common.{◌≡◌, ℕ, ◌+◌, ◌<◌, ◌≤◌, true, false, List, [], ◌∷◌, ◌++◌, length, length-drop, get_or, get_or-drop, drop, map, append_assoc, refl, arith}
-use Rattle.std.specs.List.{All, filter}
+use Rattle.std.proofs.Common.{◌≡◌, ℕ, ◌+◌, ◌<◌, true, false, List, [], ◌∷◌, ◌++◌, length, length-drop, get_or, get_or-drop, drop, map, append_assoc, arith}
+use Rattle.std.specs.List.{filter}
 use Rattle.std.specs.List.Sorted.{IsNonDecreasingBy}
-use Rattle.std.proofs.lemmas.Bool.{le-leb, le-ltb, lt-leb, lt-ltb}
-use Rattle.std.proofs.lemmas.List.{drop_all, drop_more}
-use Rattle.std.proofs.lemmas.List.Elements.{All-from_get_or, All-get_or}
-use Rattle.span_fill.specs.Admitting.{BeginsEdge, NoneBegins}
-use Rattle.span_fill.specs.Edges.{IsEdge, active_at, begins_behind, begins_by, edge_first_row}
+use Rattle.std.proofs.lemmas.Bool.{lt-leb, lt-ltb}
+use Rattle.std.proofs.lemmas.List.Elements.{All-from_get_or}
+use Rattle.span_fill.specs.Admitting.{NoneBegins}
+use Rattle.span_fill.specs.Edges.{active_at, begins_behind, begins_by, edge_first_row}
 use Rattle.span_fill.specs.declared.edge.ActiveEdge.{ActiveEdge}
 use Rattle.span_fill.specs.declared.edge.Edge.{Edge}
 use Rattle.span_fill.proofs.Reordering.{filter_all, filter_none}

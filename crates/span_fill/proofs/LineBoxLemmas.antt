@@ -1,5 +1,5 @@
 -- The pixels of lines lie in each box that has the lines.
-use Rattle.std.proofs.Common.{◌≡◌, ℕ, ◌+◌, ◌*◌, ◌%◌, ℤ, pos, ◌+ℤ◌, ◌-ℤ◌, ◌*ℤ◌, ◌≤ℤ◌, ◌<ℤ◌, true, false, ◌==◌, not, int_le, int_lt, List, [], ◌∷◌, inl, inr, refl, ap, ◌∙◌, sym, arith, Bool, ◌||◌}
+use Rattle.std.proofs.Common.{◌≡◌, ℕ, ◌+◌, ◌*◌, ◌%◌, ℤ, pos, ◌+ℤ◌, ◌-ℤ◌, ◌*ℤ◌, ◌≤ℤ◌, ◌<ℤ◌, true, false, ◌==◌, not, int_le, int_lt, List, [], ◌∷◌, inl, inr, refl, ap, ◌∙◌, sym, arith}
 use Rattle.std.specs.List.{All}
 use Rattle.std.proofs.lemmas.Bool.{and_parts, and_from, eq-eqb, eqb-true, false_from_ne_true, true≢false}
 use Rattle.std.proofs.lemmas.Int.{ints, by_lt_z}

@@ -9,7 +9,6 @@ use Rattle.span_fill.specs.StrokeRows.{IsPast}
 use Rattle.span_fill.specs.Strokes.{is_steep, is_towards, on_line}
 use Rattle.span_fill.specs.declared.line.Line.{Line}
 use Rattle.span_fill.specs.declared.span.Span.{Span}
-use Rattle.span_fill.proofs.StepLemmas.{along_within}
 use Rattle.span_fill.proofs.StepsLemmas.{pixel_line}
 
 -- the rows that the course has are the line's

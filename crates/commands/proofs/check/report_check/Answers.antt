@@ -1,6 +1,5 @@
 -- What was checked is reported in the words of the file and the certificate.
-use Rattle.std.proofs.Common.{rules}
-use Rattle.commands.proofs.ReportLemmas.{refusal_reports, reports}
+use Rattle.commands.proofs.ReportLemmas.{reports}
 use Rattle.commands.proofs.check.report_check.Goals as goal
 
 pub returns-in-Ok-accepted_report : goal.returns-in-Ok-accepted_report

@@ -1,5 +1,5 @@
 -- The certificate stands behind the file, and the image behind it.
-use Rattle.std.proofs.Common.{◌≡◌, ◌∙◌, ap₂}
+use Rattle.std.proofs.Common.{◌∙◌, ap₂}
 use Rattle.std.proofs.lemmas.Result.{IfOk-weaker}
 use Rattle.clap.specs.Words.{with_rule}
 use Rattle.commands.proofs.AppLemmas.{both_local}

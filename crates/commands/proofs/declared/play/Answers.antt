@@ -1,5 +1,5 @@
 -- The certificate stands behind the file, the sides behind it, and the rows of a band behind them.
-use Rattle.std.proofs.Common.{◌≡◌, ◌∙◌, ap, ap₂}
+use Rattle.std.proofs.Common.{◌∙◌, ap, ap₂}
 use Rattle.std.proofs.lemmas.Result.{IfOk-weaker}
 use Rattle.clap.specs.Words.{with_rule}
 use Rattle.commands.specs.CommandLine.{with_sides}

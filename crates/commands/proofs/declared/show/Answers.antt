@@ -1,5 +1,5 @@
 -- The sides stand behind the file.
-use Rattle.std.proofs.Common.{◌≡◌, ◌∙◌, ap}
+use Rattle.std.proofs.Common.{◌∙◌, ap}
 use Rattle.std.proofs.lemmas.Result.{IfOk-weaker}
 use Rattle.commands.specs.CommandLine.{with_sides}
 use Rattle.commands.proofs.declared.show.Goals as goal

@@ -1,5 +1,5 @@
 -- What a line that was read leaves is what the words leave.
-use Rattle.commands.proofs.LineLemmas.{err_of_line, no_usage, out_of_line}
+use Rattle.commands.proofs.LineLemmas.{err_of_line, out_of_line}
 use Rattle.commands.proofs.program.run_words.Goals as goal
 
 pub returns-in-Ok-clause-written : goal.returns-in-Ok-clause-written

@@ -1,6 +1,5 @@
-use Rattle.std.proofs.Common.{◌≡◌, Bool, true, false, ◌||◌, [], ◌∷◌, refl, arith, sym, ap, ◌∙◌}
+use Rattle.std.proofs.Common.{◌≡◌, Bool, true, false, ◌||◌, [], ◌∷◌, refl, arith, ap, ◌∙◌}
 use Rattle.mapping.specs.PixelBoxes.{in_box}
-use Rattle.dc_stack.specs.Clip.{ClipValue}
 use Rattle.dc_stack.specs.Values.{placed_value}
 use Rattle.span_fill.specs.Spans.{in_span, in_spans}
 use Rattle.painting.specs.Brushings.{brushing_paint}

@@ -1,5 +1,4 @@
-use Rattle.std.proofs.Common.{◌≡◌, arith, rules, subst, sym, ap, ◌∙◌, w32, to_z, of_z}
-use Rattle.std.proofs.lemmas.Int.{ints}
+use Rattle.std.proofs.Common.{◌≡◌, rules, subst, sym, ap, ◌∙◌}
 use Rattle.mapping.specs.Boxes.{box_between, right_bottom_of, left_top_of}
 use Rattle.mapping.specs.PlaceOf.{surface_of}
 use Rattle.mapping.specs.Surface.{placed_point}

@@ -1,6 +1,5 @@
 use Rattle.std.proofs.Common.{◌<◌, ap, length, refl, ◌∙◌}
 use Rattle.std.proofs.lemmas.List.{get_or_read}
-use Rattle.canvas.specs.PixelSources.{counted}
 use Rattle.canvas.proofs.CallLemmas.{place_within, wrote_pixel}
 use Rattle.canvas.proofs.FieldLemmas.{lies_inside}
 use Rattle.canvas.proofs.surface.Canvas.change.Goals as goal

@@ -1,6 +1,6 @@
-use Rattle.std.proofs.Common.{◌≡◌, ◌+◌, sym, arith, ap, ◌∙◌, w64, Fits}
+use Rattle.std.proofs.Common.{arith, ap}
 use Rattle.canvas.specs.CanvasState.{CanvasState}
-use Rattle.canvas.proofs.EachLemmas.{all_changed, held_now, may_count, none_changed, one_changed, sum_fits, was_to_come}
+use Rattle.canvas.proofs.EachLemmas.{held_now, may_count, none_changed, one_changed, sum_fits, was_to_come}
 use Rattle.canvas.proofs.surface.Canvas.change_each.Goals as goal
 
 pub loop-pixel-init : goal.loop-pixel-init

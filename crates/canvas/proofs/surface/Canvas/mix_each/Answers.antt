@@ -1,6 +1,5 @@
-use Rattle.std.proofs.Common.{ℕ, refl, sym}
+use Rattle.std.proofs.Common.{refl, sym}
 use Rattle.mapping.specs.Mixes.{mixed_by}
-use Rattle.mapping.specs.declared.geometry.Colour.{Colour}
 use Rattle.canvas.proofs.WritingLawLemmas.{writing_laws}
 use Rattle.canvas.proofs.surface.Canvas.mix_each.Goals as goal
 
