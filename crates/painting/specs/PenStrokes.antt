@@ -1,5 +1,5 @@
 -- What a pen's stroke does to pixels.
-use Rattle.std.specs.Prelude.{◌&&◌}
+use Rattle.std.specs.Prelude.{ℕ, Bool, ◌&&◌}
 use Rattle.mapping.specs.Mixes.{mixed_by}
 use Rattle.canvas.specs.CanvasState.{CanvasState}
 use Rattle.canvas.specs.Writing.{Repaints}
@@ -14,7 +14,10 @@ use Rattle.painting.specs.declared.stroke.Stroke.{Stroke}
 abbrev pub stroke_paint : Stroke → PaintValue
 stroke_paint stroke = mixing_paint (placed_value stroke.clip.now) stroke.mix
 
--- the pixels of the steps to come that its clip has are mixed
+-- a pixel of a step to come that its clip has
+abbrev pub is_uncut_step : StepsState → Stroke → ℕ → ℕ → Bool
+is_uncut_step steps stroke x y = is_to_step steps x y && in_boxes (placed_value stroke.clip.now) x y
+
+-- such pixels are mixed
 abbrev pub MixesUncut : StepsState → Stroke → CanvasState → CanvasState → Type 0
-MixesUncut steps stroke old new =
-    Repaints (λ x y. is_to_step steps x y && in_boxes (placed_value stroke.clip.now) x y) (λ x y c. mixed_by stroke.mix c) old new
+MixesUncut steps stroke old new = Repaints (is_uncut_step steps stroke) (λ x y c. mixed_by stroke.mix c) old new

@@ -5,9 +5,8 @@ ghost use Rattle.canvas.specs.CanvasState.{HasPixel};
 ghost use Rattle.span_fill.specs.Lines.{HasNearEnds};
 ghost use Rattle.span_fill.specs.Strokes.{on_line};
 ghost use Rattle.painting.specs.Counts.{HasRoomForLayer};
-ghost use Rattle.painting.specs.LinePixels.{is_to_step};
 ghost use Rattle.painting.specs.Painted.{PaintsShape};
-ghost use Rattle.painting.specs.PenStrokes.{MixesUncut, stroke_paint};
+ghost use Rattle.painting.specs.PenStrokes.{MixesUncut, is_uncut_step, stroke_paint};
 
 use crate::line_pixels::LinePixels;
 use crate::regions::{visible, whole_law};
@@ -38,7 +37,7 @@ pub(crate) fn step_line(canvas: &mut Canvas, line: Line, stroke: &Stroke<'_>)
 /// knows to make two of one, for steep lines and for flat ones.
 #[inline(never)]
 fn mix_uncut(canvas: &mut Canvas, pixels: LinePixels, stroke: &Stroke<'_>)
-    requires held { (x y : ℕ) → is_to_step pixels.steps x y ≡ true → HasPixel canvas.old x y }
+    requires held { (x y : ℕ) → is_uncut_step pixels.steps stroke.now x y ≡ true → HasPixel canvas.old x y }
     requires countable { canvas.old.writes + canvas.old.rows * canvas.old.width + 1 < 2 ^ 64 }
     ensures { MixesUncut pixels.steps stroke.now canvas.old canvas.new }
 {

@@ -1,5 +1,7 @@
 use Rattle.std.proofs.Common.{sym, ◌∙◌}
+use Rattle.std.proofs.lemmas.Bool.{and_parts}
 use Rattle.dc_stack.specs.Values.{placed_value}
+use Rattle.painting.specs.LinePixels.{is_to_step}
 use Rattle.painting.proofs.LinePixelLemmas.{to_step_inside}
 use Rattle.painting.proofs.LineStepLemmas.{stepped, stepped_clipped}
 use Rattle.painting.proofs.VisibleLemmas.{no_cuts, region_pixel}
@@ -17,7 +19,8 @@ returns-then-is_empty c =
 
 pub mix_uncut-requires-clause-held : goal.mix_uncut-requires-clause-held
 mix_uncut-requires-clause-held c = λ x y h.
-    region_pixel c.args.canvas.now c.visible.result c.visible.ensures.held x y (rw c.new-steps.ensures.region at (to_step_inside c.new-steps.result x y h))
+    let there = (and_parts (is_to_step c.new-steps.result x y) _ h).0 in
+    region_pixel c.args.canvas.now c.visible.result c.visible.ensures.held x y (rw c.new-steps.ensures.region at (to_step_inside c.new-steps.result x y there))
 
 pub returns : goal.returns
 returns c =
