@@ -300,6 +300,65 @@ def late_extent():
     return Counted(WMF.file(records, 64, 0)[22:], 64, 64)
 
 
+def pens_of(*widths):
+    """Records that make pens of these widths, by their numbers from 0 on."""
+    return [WMF.step("styled_pen", number, 0, width, 0x8040) for number, width in enumerate(widths)]
+
+
+def anywhere(chance, count, width, height):
+    """The numbers of so many places on a surface."""
+    return [part for _ in range(count) for part in (chance.randrange(width), chance.randrange(height))]
+
+
+def lone_wide_lines():
+    """Single lines under pens of four widths, copied and inverted, most of them in a box that is kept: each is walked by its rows."""
+    chance, side = random.Random(16), 512
+    records = pens_of(2, 9, 40, 150)
+    for number in range(240):
+        records += WMF.records(f"select {number % 4}; raster {(13, 7)[number // 4 % 2]}")
+        records += WMF.records("keep 8 8 500 500") * (number == 40)
+        records += [WMF.step("move", *anywhere(chance, 1, side, side)), WMF.step("line", *anywhere(chance, 1, side, side))]
+    return Counted(WMF.file(records, side, 0), side, side)
+
+
+def wide_polylines():
+    """Polylines under pens of two widths, many of few lines and some of many, most of them in a box that is kept: what isn't near a
+    stroke is left alone."""
+    chance, side = random.Random(17), 512
+    records = pens_of(3, 30)
+    for number in range(600):
+        x, y = chance.randrange(side - 20), chance.randrange(side - 20)
+        near = [part for _ in range(5) for part in (x + chance.randrange(20), y + chance.randrange(20))]
+        records += WMF.records(f"select {number % 2}") + WMF.records("keep 8 8 500 500") * (number == 60)
+        records.append(WMF.step("polyline", *near))
+        if number % 30 == 0:
+            records.append(WMF.step("polyline", *anywhere(chance, 200, side, side)))
+    return Counted(WMF.file(records, side, 0), side, side)
+
+
+def lines_under_a_large_nib():
+    """Flat lines under a nib as large as the surface, and steep ones that begin and end far beside it under a larger one: a line costs no more for
+    the rows that its nib reaches."""
+    side, far = 512, 1_900
+    flat = [part for number in range(10_000) for part in (number % 2 * (side - 1), number // 20)]
+    steep = [part for number in range(500) for part in (number, (far, -far)[number % 2])]
+    records = pens_of(side, 2 * far)
+    for number, places in ((0, flat), (1, steep)):
+        records += [WMF.step("select", number)] + [WMF.step("polyline", *places)] * 2
+    return Counted(WMF.file(records, side, 0), side, side)
+
+
+def wide_strokes_in_bands():
+    """Small polylines of a thousand lines under a pen of three pixels on a surface of several bands: each is painted where it lies."""
+    chance, width, height = random.Random(18), 8192, 2048
+    records = pens_of(3) + WMF.records("select 0")
+    for _ in range(100):
+        x, y = chance.randrange(width - 16), chance.randrange(height - 16)
+        near = [part for _ in range(1_001) for part in (x + chance.randrange(16), y + chance.randrange(16))]
+        records.append(WMF.step("polyline", *near))
+    return Counted(WMF.file(records, (width, height), 0), width, height)
+
+
 FILES = {
     "10,000 small triangles, 64 by 8,192": triangles,
     "a zigzag of 20,000 points, 4,096 by 16": zigzag,
@@ -328,6 +387,10 @@ FILES = {
     "6,000 small hatched blits, 8,192 by 64": small_hatched_blits,
     "a bitmap of 1,500 rows stretched": high_bitmap,
     "a plain file whose extent is its last": late_extent,
+    "240 lone lines under wide pens, 512 by 512": lone_wide_lines,
+    "620 polylines under wide pens, 512 by 512": wide_polylines,
+    "21,000 lines under large nibs, 512 by 512": lines_under_a_large_nib,
+    "100 wide strokes in bands, 8,192 by 2,048": wide_strokes_in_bands,
 }
 
 # How many times the instructions on record a file may take, where that is less than for others: what it is to show is a part of its work.
@@ -340,6 +403,10 @@ CLOSE = dict.fromkeys(
         "6,000 polylines of two points, 1,024 by 1,024",
         "each sort of paint, 8,192 by 48",
         "a bitmap of 1,500 rows stretched",
+        "240 lone lines under wide pens, 512 by 512",
+        "620 polylines under wide pens, 512 by 512",
+        "21,000 lines under large nibs, 512 by 512",
+        "100 wide strokes in bands, 8,192 by 2,048",
     ],
     1.15,
 )

@@ -12,7 +12,8 @@ from typing import NamedTuple
 
 from built import CRATES
 from metafile.scripts import EMF, FORMS, WMF
-from reference.certificates import Certificate, Certifier, PlaneAxis
+from reference.certificates import Certificate, Certifier, Entry, PlaneAxis
+from reference.pixels import LONGEST_NIB
 from reference.player import Reference
 from reference_test import Maker
 
@@ -107,11 +108,20 @@ def with_entry(certificate, place, part, change):
     """A certificate with another number in one of its entries."""
     entries = [list(entry) for entry in certificate.entries]
     entries[place][part] += change
-    return certificate._replace(entries=tuple(map(tuple, entries)))
+    return certificate._replace(entries=tuple(Entry(*entry) for entry in entries))
+
+
+def with_nibs(certificate, place):
+    """A certificate with the nib of one of its entries a column or a row smaller, or larger, where a nib may be so."""
+    entry = certificate.entries[place]
+    sides = [(part, side) for part, side in zip((5, 6), entry.nib, strict=True)]
+    others = [(part, change) for part, side in sides for change in (-1, 1) if 1 <= side + change <= LONGEST_NIB]
+    return [with_entry(certificate, place, part, change) for part, change in others]
 
 
 def altered(certificate, chance):
-    """The certificate, and others, each with one of its numbers a little less, or with one side of a box a step further in."""
+    """The certificate, and others, each with one of its numbers a little less, with one side of a box a step further in, or with a smaller or a
+    larger nib."""
     others = [certificate]
     for part in ("writes", "depth", "slots", "edges", "pieces"):
         number = getattr(certificate, part)
@@ -120,6 +130,7 @@ def altered(certificate, chance):
     for place in chance.sample(places, min(3, len(places))):
         others += [with_entry(certificate, place, part, 1) for part in (0, 1, 2)]
         others += [with_entry(certificate, place, part, -1) for part in (1, 2, 3, 4)]
+        others += with_nibs(certificate, place)
     if len(places) > 1:
         first, second, *rest = certificate.entries
         others += [certificate._replace(entries=(second, first, *rest)), certificate._replace(entries=(second, *rest))]
@@ -135,6 +146,13 @@ class Certificates(unittest.TestCase):
         self.assertEqual(len(found), len(wanted))
         wrong = [(nth, got, want) for nth, (got, want) in enumerate(zip(found, wanted, strict=True)) if got != want]
         self.assertEqual(wrong[:3], [], f"{len(wrong)} of {len(wanted)}")
+
+    def test_many_files_are_prepared_with_nibs_and_some_have_too_wide_ones(self):
+        accepted = [it.certifier.certificate().version() for it in cases() if it.refusal is None]
+        for version in (b"MPC1", b"MPC2"):
+            self.assertGreater(4 * accepted.count(version), len(accepted), version)
+        too_wide = sum(it.refusal is not None and it.refusal[0] == "NibTooWide" for it in cases())
+        self.assertIn(too_wide, range(20, len(cases()) // 4))
 
     def test_many_files_are_accepted_and_some_refused(self):
         refused = sum(it.refusal is not None for it in cases())
@@ -154,7 +172,9 @@ class Certificates(unittest.TestCase):
         for it in cases():
             if it.refusal is None:
                 for certificate in altered(it.certifier.certificate(), chance):
-                    requests.append(asked(CHECK, (0, 0), it.given, certificate.text()))
+                    # The version with nibs may tell nibs of one pixel, too.
+                    version = chance.choice([None, None, b"MPC2"])
+                    requests.append(asked(CHECK, (0, 0), it.given, certificate.text(version)))
                     told = it.certifier.checked(certificate)
                     records = it.form.first + len(it.steps) + 1
                     wanted.append((f"accepted {records}" if told[0] == "accepted" else line_of(told), b""))

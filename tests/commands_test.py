@@ -2,6 +2,7 @@
 
 import json
 import os
+import re
 import shutil
 import struct
 import subprocess
@@ -9,7 +10,7 @@ import tempfile
 import unittest
 
 from answers import refused
-from built import DOT, DOT_IMAGE, SAMPLES, Answer, answer, for_each_program
+from built import DOT, DOT_IMAGE, ROOT, SAMPLES, Answer, answer, for_each_program
 from metafile.fields import i16, i32, u32
 from metafile.files import placeable_file, wmf_record
 from program_test import CANNOT_READ, CANNOT_WRITE, as_nobody
@@ -320,8 +321,15 @@ class Help(unittest.TestCase):
             self.assertIn(f"\n  metaplay {command} ".encode(), helped.out)
             self.assertIn(b"Usage: metaplay " + command.encode(), answer(program, [command, "--help"]).out)
         self.assertIn(b"docs/FAULTS.md", helped.out)
-        for status in range(5):
-            self.assertIn(f"\n  {status}  ".encode(), helped.out)
+
+    @for_each_program
+    def test_its_statuses_are_those_of_the_readme(self, program):
+        told = re.findall(r"(?m)^  (\d)  ([^,\n]*)", answer(program, ["--help"]).out.decode())
+        table = re.findall(r"(?m)^\| (\d) \| ([^|]*)", (ROOT / "README.md").read_text(encoding="utf-8"))
+        self.assertEqual([status for status, _ in told], ["0", "1", "2", "3", "4"])
+        self.assertEqual([status for status, _ in told], [status for status, _ in table])
+        for (status, words), (_, meaning) in zip(told, table):
+            self.assertIn(words, meaning, status)
 
 
 class LargeCertificates(CommandTest):

@@ -29,8 +29,8 @@ SMALL = b"".join(
 # Those of the sample that deletes a pen which is selected.
 HELD = b"".join(
     [
-        b"0\t40\t16\t0x02fa\tMETA_CREATEPENINDIRECT\tplayed\tcreate pen #ff0000\n",
-        b"1\t56\t16\t0x02fa\tMETA_CREATEPENINDIRECT\tplayed\tcreate pen #0000ff\n",
+        b"0\t40\t16\t0x02fa\tMETA_CREATEPENINDIRECT\tplayed\tcreate pen #ff0000 width 1\n",
+        b"1\t56\t16\t0x02fa\tMETA_CREATEPENINDIRECT\tplayed\tcreate pen #0000ff width 1\n",
         b"2\t72\t8\t0x012d\tMETA_SELECTOBJECT\tplayed\tselect 1\n",
         b"3\t80\t10\t0x0213\tMETA_LINETO\tplayed\tline 4,4\n",
         b"4\t90\t8\t0x01f0\tMETA_DELETEOBJECT\tplayed\tdelete 0\n",
@@ -104,12 +104,38 @@ STOPS = [
     (f"{FAR}; save; restore -1; restore -1", [0], (3, "NoSavedState")),
 ]
 
-# The same in EMF alone: what a path gathers is looked at where it is added and again where it is painted.
+# The same in EMF alone: what a path gathers is looked at where it is added, and not again where it is painted, since no run comes to that on a surface
+# where it is off the plane.
 PATH_STOPS = [
-    (f"begin_path; move 0 0; line 16385 0; line 0 1; end_path; stroke_path; {NEAR}", [2, 5], None),
-    ("begin_path; move 16385 0; line 0 0; line 0 1; end_path; fill_path", [2, 5], None),
+    (f"begin_path; move 0 0; line 16385 0; line 0 1; end_path; stroke_path; {NEAR}", [2], None),
+    ("begin_path; move 16385 0; line 0 0; line 0 1; end_path; fill_path", [2], None),
     ("begin_path; polygon 0 0 1 0 0 16385; abort_path; begin_path; rectangle 0 0 1 1; end_path; stroke_and_fill_path", [1], None),
     ("begin_path; end_path; fill_path; fill_path", [], (3, "PathState")),
+]
+
+# The same with pens. On the smallest surface of that page a pen's nib has twice as many columns and rows as its width, and on the largest 8,192 times
+# as many of these: each record that is told, with its fault, and the fault and the record of the runs on the largest surface and on the smallest.
+NARROW, WIDEST, TOO_WIDE = (f"styled_pen 0 0 {width} 0; select 0" for width in (1, 2048, 2049))
+NIB_STOPS = [
+    (f"{NARROW}; pixel 1 1; move 1 1", [], []),
+    ("styled_pen 0 0 0 0; select 0; line 1 1; polyline", [], []),
+    ("styled_pen 0 5 5000 0; select 0; line 1 1; polyline", [], []),
+    (f"{NARROW}; line 1 1; pixel 1 1; polyline", [(2, "NibTooWide"), (4, "NibTooWide")], [(2, "NibTooWide")]),
+    (f"{NARROW}; line 16385 0", [(2, "OffPlane")], [(2, "OffPlane")]),
+    (f"{NARROW}; polygon 0 0 1 1; restore -1", [(2, "NibTooWide"), (3, "NoSavedState")], [(2, "NibTooWide"), (3, "NoSavedState")]),
+    (f"{WIDEST}; rectangle 0 0 1 1; restore -1", [(2, "NibTooWide"), (3, "NoSavedState")], [(2, "NibTooWide"), (3, "NoSavedState")]),
+    # Behind one that is too wide on each surface nothing is told.
+    (f"{TOO_WIDE}; rectangle 0 0 1 1; restore -1", [(2, "NibTooWide")], [(2, "NibTooWide"), (2, "NibTooWide")]),
+    # The largest surface's fault is told.
+    (f"{TOO_WIDE}; line 16385 0; restore -1", [(2, "OffPlane")], [(2, "OffPlane"), (2, "NibTooWide")]),
+]
+
+# The same in EMF alone: a path has the nib of its painting.
+NIB_PATH_STOPS = [
+    (f"{NARROW}; begin_path; line 1 1; end_path; stroke_path", [(5, "NibTooWide")], [(5, "NibTooWide")]),
+    (f"{NARROW}; begin_path; line 1 1; end_path; fill_path", [], []),
+    (f"{TOO_WIDE}; begin_path; line 1 1; end_path; stroke_path; line 1 1", [(5, "NibTooWide")], [(5, "NibTooWide")] * 2),
+    (f"{TOO_WIDE}; begin_path; line 16385 0; end_path; stroke_path", [(3, "OffPlane"), (5, "NibTooWide")], [(3, "OffPlane"), (5, "NibTooWide")]),
 ]
 
 NO_METAFILE = b"-\t-\t-\t-\t-\trefused\tNotMetafile\n"
@@ -213,7 +239,8 @@ class Listings(unittest.TestCase):
                 found = stops_of(program, changed)
                 if found:
                     stops += 1
-                    self.assertEqual(first_refused(program, changed), min(found), (path.name, trial))
+                    # In one record the line tells the largest surface's fault.
+                    self.assertEqual(first_refused(program, changed), min(found, key=lambda it: it[0]), (path.name, trial))
         self.assertGreater(stops, 50)
 
     @for_each_program
@@ -227,6 +254,18 @@ class Listings(unittest.TestCase):
                 self.same(program, given, stops, (form.name, script))
                 self.assertEqual(Asked(given).list(), wanted(given, stops), (form.name, script))
                 self.assertEqual(stops_of(program, given), stops[:1] + stops[-1:] * bool(stop), (form.name, script))
+
+    @for_each_program
+    def test_each_record_whose_nib_is_too_wide_on_some_surface(self, program):
+        for form in FORMS:
+            front = form.records(DOUBLED)
+            first = form.first + len(front)
+            for script, told, runs in NIB_STOPS + (NIB_PATH_STOPS if "begin_path" in form.named else []):
+                given = form.file([*front, *form.records(script)], 1, 16)
+                told, runs = ([(first + number, fault) for number, fault in its] for its in (told, runs))
+                self.same(program, given, told, (form.name, script))
+                self.assertEqual(Asked(given).list(), wanted(given, told), (form.name, script))
+                self.assertEqual(stops_of(program, given), runs, (form.name, script))
 
     @for_each_program
     def test_the_fault_at_each_bound_is_told_on_its_line(self, program):

@@ -9,7 +9,7 @@ from answers import shown
 from built import ROOT, answer, for_each_program
 from metafile.bitmaps import bitmap
 from metafile.scripts import EMF, HANDLES, WMF
-from metafile.shapes import BETWEEN, rgb_of
+from metafile.shapes import BETWEEN, SOLID, rgb_of
 from reference.pixels import HATCHES, Axis, mixed
 from reference.player import Reference
 
@@ -44,9 +44,9 @@ def tool(name, *words):
     return [(name, [0, *words]), ("select", [0])]
 
 
-def pen(sign):
-    """A pen of a colour, or none."""
-    return tool("null_pen") if sign == "none" else tool("solid_pen", number_of(sign))
+def pen(sign, width=1):
+    """A pen of a colour, at times with a width, or none."""
+    return tool("null_pen") if sign == "none" else tool("styled_pen", SOLID, int(width), number_of(sign))
 
 
 def brush(sign):

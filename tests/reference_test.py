@@ -48,6 +48,13 @@ LEFT |= dict.fromkeys(PAINTINGS, "none")
 # How many of the drawings are blits.
 BLITS = 0.3
 
+# The widths of pens: mostly small, at times wider than a surface, and rarely wider than any nib.
+WIDTHS = [*range(41), *[1, 2, 3, 4, 5] * 8, *[300] * 2]
+TOO_WIDE, TOO_WIDE_SHARE = 5000, 0.02
+
+# The bit of a pen's style whose width is that of the page.
+GEOMETRIC = 0x10000
+
 COLOURS = [0x000000, 0xFF0000, 0x00FF00, 0x0000FF, 0x5A3C96, 0x800001, 0xFFFFFF]
 
 
@@ -131,12 +138,26 @@ class Maker:
             return words
         return [word if word == BETWEEN else max(-32768, min(word, 32767)) for word in words]
 
+    def width(self):
+        """A pen's width: at times below 0."""
+        width = TOO_WIDE if self.random.random() < TOO_WIDE_SHARE else self.random.choice(WIDTHS)
+        return width if self.random.random() < 0.8 else -width
+
+    def wide_pen(self, colour):
+        """A pen of any width, at times one whose style tells whether that is the page's, and at times one that draws nothing."""
+        style = self.random.choice([0] * 12 + [1, 4, 5, 6, 8])
+        if self.form is WMF or self.random.random() < 0.6:
+            return "styled_pen", [style, self.width(), colour]
+        measure = self.random.choice([GEOMETRIC] * 3 + [0])
+        return "styled_long_pen", [measure + style, abs(self.width()), self.random.choice([0] * 9 + [1]), colour]
+
     def tool(self):
         """A pen or a brush, made and selected."""
         colour = self.random.choice(COLOURS)
         hatch = self.random.randrange(6)
         kinds = [
-            *[("solid_pen", [colour])] * 3,
+            *[("solid_pen", [colour])] * 2,
+            *[self.wide_pen(colour)] * 3,
             *[("solid_brush", [colour])] * 2,
             *[("hatched_brush", [hatch, colour])] * 4,
             *[("tiled_brush", [self.bitmaps.tile()])] * 4,
@@ -279,6 +300,13 @@ class Files(unittest.TestCase):
         # A surface of one colour shows little.
         plain = [drawn for drawn in all_drawn() if len(set(drawn.image.values())) == 1]
         self.assertLess(2 * len(plain), len(all_drawn()))
+
+    def test_many_files_have_wide_strokes_and_few_too_wide_ones(self):
+        accepted = [drawn.script for drawn in all_drawn() if drawn.wanted.status == 0]
+        self.assertGreater(sum("styled_pen" in script for script in accepted), len(accepted) // 3)
+        self.assertGreater(sum("styled_long_pen" in script for script in accepted), len(accepted) // 8)
+        too_wide = [drawn for drawn in all_drawn() if b"NibTooWide" in drawn.wanted.err]
+        self.assertIn(len(too_wide), range(1, len(all_drawn()) // 10))
 
     def test_many_files_paint_paths_and_few_misuse_them(self):
         scripts = [drawn.script for drawn in all_drawn() if drawn.wanted.status == 0]

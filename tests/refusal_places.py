@@ -25,7 +25,7 @@ GIVES_UP = re.compile(
 # that stands on the stack, where no clause says how much there is; and a loop that goes by eights, which is dear where it ends early.
 DEAR = re.compile(
     r"\.source\(\)|\bcount_steps\(|\bfirst_extent\(|\bopen_file\(|\b(?:Wmf|Emf|Record)Ops::new\(|\bDivisor::new\(|\bPlace::new\(|(?<![\w.])cells\("
-    r"|\bchecked_(?:div|rem)\b|\b(?:div|rem)_euclid\b|(?<!\w)[/%]=? (?![A-Z][A-Z_]+\b|\d|\(1 << )"
+    r"|\b(?:checked|wrapping|overflowing|saturating)_(?:div|rem)\b|\b(?:div|rem)_euclid\b|(?<!\w)[/%]=? (?![A-Z][A-Z_]+\b|\d|\(1 << )"
     r"|(?<!&)\[[\w.()]+; (?!\d{1,2}\])[^\[\]]+\]|\bwhile .*(?:\+ PERIOD|>= \d)"
 )
 
@@ -166,16 +166,52 @@ def names_of(crate, sources, names):
     return found
 
 
-# A constant of a source file, on one line.
-CONSTANT = re.compile(r"(?m)^ *(?:pub(?:\([^)]*\))? )?const \w+:[^\n]*;$")
+# Where a constant begins, and what stands in it up to its end: text, a list, or a block, each of which may go over several lines.
+CONSTANT = re.compile(r"(?m)^ *(?:pub(?:\([^)]*\))? )?const \w+:")
+IN_CONSTANT = re.compile(r'"(?:[^"\\]|\\.)*"|\[(?:[^\[\]]|\[[^\[\]]*\])*\]|\{(?:[^{}]|\{[^{}]*\})*\}|[^;"\[{]', re.DOTALL)
+
+# An attribute, whatever stands between it and the item that it is of.
+ATTRIBUTE = re.compile(r"(?m)^ *(#!?\[(?!tactic\b)[^\n]*\])\n(?:\s*(?:#\[.*\]|//.*)\n)*\s*(.*)$")
+
+# What a line break within a constant is listed as, since a list has a line for each.
+BREAK = "⏎"
+
+
+def constant_from(text, start, end):
+    """The constant of a source file that begins here, up to the semicolon that ends it, on one line; `end` is where its type begins."""
+    while part := IN_CONSTANT.match(text, end):
+        end = part.end()
+    return text[start:end].strip().replace("\n", BREAK) + ";"
+
+
+def bodies_by_file(crate, sources, names, word, lines_of):
+    """What `lines_of` finds in each file in which functions of these names stand, as a body of this name without a reason."""
+    found = []
+    for path in sorted(sources):
+        here = any(it.name in names for it in functions(crate, sources, path))
+        lines = tuple(Line(line, False) for line in lines_of(sources[path])) if here else ()
+        if lines:
+            found.append(Body("::".join([crate, *modules_of(path), word]), lines))
+    return found
+
+
+def constants_of(text):
+    """The constants of a source file."""
+    plain = without_comments(text)
+    return [constant_from(plain, it.start(), it.end()) for it in CONSTANT.finditer(plain)]
+
+
+def attributes_of(text):
+    """The attributes of a source file but those that choose a tactic, each with the first line of its item: a text that is shown stands in one,
+    or that a function isn't inlined."""
+    return [f"{it[1]} {it[2].strip()}" for it in ATTRIBUTE.finditer(text)]
 
 
 def constants(crate, sources, names):
     """The constants of the files in which functions of these names stand, of each file as a body without a reason."""
-    found = []
-    for path in sorted(sources):
-        here = [it.name for it in functions(crate, sources, path) if it.name in names]
-        lines = [Line(it[0].strip(), False) for it in CONSTANT.finditer(without_comments(sources[path]))]
-        if here and lines:
-            found.append(Body("::".join([crate, *modules_of(path), "const"]), tuple(lines)))
-    return found
+    return bodies_by_file(crate, sources, names, "const", constants_of)
+
+
+def attributes(crate, sources, names):
+    """The attributes of these files, in the same way."""
+    return bodies_by_file(crate, sources, names, "attributes", attributes_of)

@@ -13,14 +13,14 @@ import unittest
 from typing import NamedTuple
 
 from built import CRATES
-from refusal_places import Body, Line, bodies, constants, names_of, out_of_layout, without_comments
+from refusal_places import Body, Line, attributes, bodies, constants, names_of, out_of_layout, without_comments
 
 LIST = pathlib.Path(__file__).with_name("refusals_made.txt")
 
 REASON = "because: "
 
 HEAD = """# Where the sources give up, and why it is right: each function in which they do, with its whole body, and what stands between the
-# system and the proved calls; and the constants of their files. A reason is of the line above it. tests/sources_test.py compares.
+# system and the proved calls; and the attributes, constants and names of their files. A reason is of the line above it. tests/sources_test.py compares.
 """
 
 # Functions between the system and the proved calls: no clause can know which words, names and bytes the system gives, so each
@@ -65,10 +65,10 @@ def crates_of_code():
 
 
 def with_names(crate, sources):
-    """The bodies of a crate to be listed, and what the names and constants of their files stand for."""
+    """The bodies of a crate to be listed, and the attributes, constants and names of their files."""
     found = [it for it in bodies(crate, sources) if it.is_listed() or it.function in BETWEEN]
     names = {it.function for it in found}
-    return found + constants(crate, sources, names) + names_of(crate, sources, names)
+    return found + attributes(crate, sources, names) + constants(crate, sources, names) + names_of(crate, sources, names)
 
 
 def all_bodies():
@@ -320,6 +320,7 @@ CHANGES = [
     ("        self.count\n", "        let more = Lines::reserve;\n        more(self.lines, 1 << 40);\n        self.count\n"),
     ("        self.count\n", "        if odd { return Err(fmt::Error); }\n        self.count\n"),
     ("        self.count\n", "        let spare = [0u8; 4_000_000];\n        self.count\n"),
+    ("        self.count\n", "        self.count.wrapping_div(self.room)\n"),
     ("        self.count\n", "        while self.rest >= 8 && self.count < 600 {\n            self.skip();\n        }\n        self.count\n"),
     ("    if count <= self.room {\n", "    let count = odd(count);\n    fn odd(n: usize) -> usize\n        requires { n ≤ 9 }\n    {\n        n\n    }\n    if count <= self.room {\n"),
 ]
@@ -366,6 +367,19 @@ class Reading(unittest.TestCase):
         room = "const ROOM: usize = 128;"
         sources = {"src/lines.rt": f"/// Room.\n{room}\n\nfn line() -> u8 {{\n    1\n}}\n", "src/other.rt": f"pub {room}\n"}
         self.assertEqual(constants("crate", sources, {"crate::lines::line"}), [Body("crate::lines::const", (Line(room, False),))])
+
+    def test_constants_of_several_lines_are_read(self):
+        text = 'const HELP: &str = "Status:\n  3  an input; or an output";\n'
+        sources = {"src/help.rt": f"{text}\nfn line() -> u8 {{\n    1\n}}\n", "src/sizes.rt": "const SIDES: [u32; 2] = [\n    1,\n    [2; 1],\n];\nfn a() {}\n"}
+        (help_text,), (sides,) = (constants("crate", sources, {f"crate::{name}"})[0].lines for name in ("help::line", "sizes::a"))
+        self.assertEqual(help_text.text, 'const HELP: &str = "Status:⏎  3  an input; or an output";')
+        self.assertEqual(sides.text, "const SIDES: [u32; 2] = [⏎    1,⏎    [2; 1],⏎];")
+
+    def test_attributes_are_read(self):
+        text = '#![tactic(auto)]\n\n/// A fault.\n#[derive(Error)]\npub enum Fault {\n    /// Full.\n    #[error("full")]\n    Full,\n}\n\n'
+        text += "#[inline(never)]\n#[tactic(auto)]\nfn room() -> u8 {\n    1\n}\n"
+        (found,) = attributes("crate", {"src/room.rt": text}, {"crate::room::room"})
+        self.assertEqual([line.text for line in found.lines], ["#[derive(Error)] pub enum Fault {", '#[error("full")] Full,', "#[inline(never)] fn room() -> u8 {"])
 
     def test_a_list_is_read_as_it_is_written(self):
         self.assertEqual(renewed(read(SOURCE), listed(LISTED)), HEAD + "\n" + LISTED)

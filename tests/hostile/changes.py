@@ -6,7 +6,8 @@ import struct
 from hostile.corpus import corpus, kinds_of, step
 from metafile.scripts import EMF, WMF
 from reading.opening import opened
-from reference.pixels import Refused
+from reference.certificates import ENTRY_SIZES, HEAD, NO_BOX, Entry
+from reference.pixels import ONE_PIXEL, Refused
 
 # Numbers at the ends of what fields of two and of four bytes may hold, and round limits of this project.
 ENDS = {
@@ -174,9 +175,10 @@ def changed(chance, given):
 
 def entries_changed(chance, data):
     """Entries are exchanged, doubled or left out, and mostly counted so."""
-    entries = [data[at : at + 20] for at in range(40, len(data), 20)]
+    size = ENTRY_SIZES.get(data[:4], 20)
+    entries = [data[at : at + size] for at in range(HEAD, len(data), size)]
     if not entries or chance.random() < 0.2:
-        entries.append(struct.pack("<I4i", chance.choice([0, 1, 5, len(entries)]), 0, 0, -1, -1))
+        entries.append(Entry(chance.choice([0, 1, 5, len(entries)]), *NO_BOX).text(size > 20))
     at, other = (chance.randrange(len(entries)) for _ in range(2))
     way = chance.randrange(3)
     if way == 0:
@@ -203,7 +205,34 @@ def number_changed(chance, data):
     return with_number(data, at, chance.choice([number, number, chance.choice(ENDS[4])]) % (1 << 32), 4)
 
 
+def nib_changed(chance, data):
+    """A side of an entry's nib is another: a wider one mostly one less. Where entries have no nibs, they get some first."""
+    if data[:4] == b"MPC1":
+        data = with_nibs(data) if chance.random() < 0.8 else b"MPC2" + data[4:]
+    size = ENTRY_SIZES[b"MPC2"]
+    sides = [at + part for at in range(HEAD, len(data) - size + 1, size) for part in (20, 22)]
+    if data[:4] != b"MPC2" or not sides:
+        return data
+    wide = [at for at in sides if data[at : at + 2] != b"\x01\0"]
+    at = chance.choice(wide or sides)
+    return with_number(data, at, other_side(chance, int.from_bytes(data[at : at + 2], "little")), 2)
+
+
+def other_side(chance, side):
+    """A side of a nib that is a little beside another, or at an end."""
+    if chance.random() < 0.2:
+        return chance.choice([0, 4096, 4097, 0xFFFF])
+    return min(max(1, side + chance.choice([-1, -1, -1, 1])), 0xFFFF)
+
+
+def with_nibs(data):
+    """A certificate of the version without nibs as one of the version that has them, each of one pixel."""
+    entries = [data[at : at + 20] + struct.pack("<2H", *ONE_PIXEL) for at in range(HEAD, len(data), 20)]
+    return b"MPC2" + data[4:HEAD] + b"".join(entries)
+
+
 OF_CERTIFICATES = [cut, altered, need_changed, need_changed, number_changed, number_changed, number_changed, entries_changed, entries_changed, longer]
+OF_CERTIFICATES += [nib_changed] * 2
 
 
 def certificate_changed(chance, data):

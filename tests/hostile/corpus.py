@@ -75,12 +75,23 @@ POINTS |= {"rectangle": 4, "polygon": 6, "polyline": 4}
 OFFSETS = {"offset_window": 2, "offset_viewport": 2}
 PATH_STEPS = {"begin_path": 2, "end_path": 3, "close_figure": 2, "fill_path": 2, "stroke_path": 2, "stroke_and_fill_path": 2}
 PATH_STEPS |= {"abort_path": 1, "unclip": 1}
+WIDTHS = [0, 1, 2, 2, 3, 3, 4, 9, 40, 300, 5000, -2]
 OBJECTS = ["pen", "brush", "font", "palette", "select", "select", "select", "delete", "delete", "select_palette"]
+
+
+def wide_pen(form, chance):
+    """A step that makes a pen of a width, which in EMF may be that of the page or not."""
+    index, width = chance.randint(0, 4), chance.choice(WIDTHS)
+    if form is EMF and chance.random() < 0.3:
+        return f"styled_long_pen {index} {chance.choice([0, 0x10000, 0x10000])} {abs(width)} 0 0x0000FF"
+    return f"styled_pen {index} 0 {width} 0x0000FF"
 
 
 def step(form, chance):
     """A step that changes the state, or draws by it."""
     sort = chance.randrange(10)
+    if sort < 4 and chance.random() < 0.15:
+        return wide_pen(form, chance)
     if sort < 4:
         return f"{chance.choice(OBJECTS)} {chance.randint(0, 4)}"
     if sort == 4:

@@ -3,7 +3,7 @@ the bounds of EMF's are those of what they draw."""
 
 from metafile.fields import i32
 from metafile.scripts import EMF, WMF
-from metafile.shapes import BETWEEN, BOUNDS
+from metafile.shapes import BETWEEN, BOUNDS, SOLID
 
 TRANSPARENT, OPAQUE = 1, 2
 
@@ -28,9 +28,9 @@ def numbers_of(places):
 # Records of WMF. Objects get the lowest free index.
 
 
-def wmf_pen(rgb):
-    """A solid pen, one pixel wide."""
-    return WMF.step("solid_pen", 0, number_of(rgb))
+def wmf_pen(rgb, width=1):
+    """A solid pen, so many units of the page wide."""
+    return WMF.step("styled_pen", 0, SOLID, width, number_of(rgb))
 
 
 def wmf_brush(rgb, hatch=None):
@@ -58,9 +58,9 @@ def wmf_rectangle(left, top, right, bottom):
 # Records of EMF.
 
 
-def emf_pen(index, rgb):
-    """A solid pen, one pixel wide. The least index is 1, while scripts count from 0."""
-    return EMF.step("solid_pen", index - 1, number_of(rgb))
+def emf_pen(index, rgb, width=1):
+    """A solid pen, so many units of the page wide. The least index is 1, while scripts count from 0."""
+    return EMF.step("styled_pen", index - 1, SOLID, width, number_of(rgb))
 
 
 def emf_brush(index, rgb, hatch=None):

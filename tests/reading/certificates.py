@@ -1,10 +1,8 @@
 """Reads certificates from their bytes, and checks what they say against what the records of a file draw."""
 
 from reading.fields import Record, fault
-from reference.certificates import Certificate
-
-# How many bytes stand in front of the entries, and how many one takes.
-HEAD, ENTRY = 40, 20
+from reference.certificates import ENTRY_SIZES, HEAD, Certificate, Entry, entry_refusal
+from reference.pixels import LONGEST_NIB
 
 LONGEST_SIDE = 8192
 
@@ -12,32 +10,30 @@ LONGEST_SIDE = 8192
 MOST = (256, 65535, 1 << 20, 1 << 16, 1 << 20)
 
 
+def entry_in(told):
+    """The entry of some bytes, with the nib that stands behind its box, if one does."""
+    nib = [told.u16(at) for at in range(20, len(told.data), 2)]
+    return Entry(told.u32(0), *told.signed(4, 4, 4), *nib)
+
+
 def read_certificate(data):
     """What the bytes of a certificate say, or their first fault."""
     head = Record(data)
-    if data[:4] != b"MPC1":
+    if data[:4] not in ENTRY_SIZES:
         raise fault("NotCertificate")
     if len(data) < HEAD:
         raise fault("ShortCertificate")
     sides, told = (head.u32(4), head.u32(8)), [head.u32(at) for at in range(20, HEAD, 4)]
     if not all(1 <= side <= LONGEST_SIDE for side in sides) or any(number > most for number, most in zip(told, MOST, strict=True)):
         raise fault("BadBound")
-    whole = HEAD + ENTRY * told[-1]
+    size = ENTRY_SIZES[data[:4]]
+    whole = HEAD + size * told[-1]
     if len(data) != whole:
         raise fault("ShortCertificate" if len(data) < whole else "TrailingBytes")
-    entries = tuple((head.u32(at), *head.signed(at + 4, 4, 4)) for at in range(HEAD, whole, ENTRY))
+    entries = tuple(entry_in(Record(data[at : at + size])) for at in range(HEAD, whole, size))
+    if not all(1 <= side <= LONGEST_NIB for entry in entries for side in entry.nib):
+        raise fault("BadBound")
     return Certificate(*sides, head.number(12, 8), *told[:-1], entries)
-
-
-def entry_refusal(drawings, entries):
-    """The fault of the first drawing that its entry doesn't cover."""
-    for nth, drawing in enumerate(drawings):
-        number, left, top, right, bottom = entries[nth] if nth < len(entries) else (None, 0, 0, -1, -1)
-        if number != drawing.number:
-            return "WrongEntry", drawing.number
-        if not all(left <= x <= right and top <= y <= bottom for x, y in drawing.points):
-            return "BoxTooSmall", drawing.number
-    return None
 
 
 def refusal_of(certificate, certifier, stop, records):

@@ -1,6 +1,6 @@
 """What the records of EMF ask for, [MS-EMF] 2.3, as steps of the reference player."""
 
-from reading.fields import IDENTITY, bitmap_word, brush, fault, lists_words, made, map_mode, nothing, pen, setting
+from reading.fields import GEOMETRIC_PEN, IDENTITY, bitmap_word, brush, fault, lists_words, made, map_mode, nothing, pen, setting
 from standards.emf import EMF_REFUSED, EMF_SKIPPED
 
 COMMENT = 70
@@ -101,9 +101,9 @@ def create_pen(record):
 
 
 def create_long_pen(record):
-    """EMR_EXTCREATEPEN, whose width isn't noted."""
-    record.need(52)
-    return pen(record, record.u32(8), record.u32(28), 0, 40, record.u32(36))
+    """EMR_EXTCREATEPEN, whose width isn't noted, and counts where the style says that it is the page's."""
+    style, width = record.need(52).u32(28), record.u32(32)
+    return pen(record, record.u32(8), style, width if style & GEOMETRIC_PEN else 0, 40, record.u32(36), is_noted=False)
 
 
 def create_brush(record):

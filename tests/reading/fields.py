@@ -13,6 +13,7 @@ IDENTITY = bytes.fromhex("0000803f 00000000 00000000 0000803f 00000000 00000000"
 # Styles of pens and brushes.
 NULL_PEN, LAST_PEN = 5, 8
 DASHED_PENS = (1, 2, 3, 4, 7, 8)
+GEOMETRIC_PEN = 0x10000
 SOLID, NULL, HATCHED = 0, 1, 2
 
 
@@ -106,8 +107,9 @@ def made(at, kind, name=None, words=(), notes=()):
     return "make", [at, kind, name, *words], list(notes)
 
 
-def pen(record, at, style, width, colour, brush=SOLID):
-    """A step that makes a pen of a style, of a width or of none that is told, with its colour at a place."""
+def pen(record, at, style, width, colour, brush=SOLID, is_noted=True):
+    """A step that makes a pen of a style and a width, which mostly is noted, with its colour at a place. A width below 0 counts by its distance
+    from it, and isn't noted."""
     style &= 15
     if style > LAST_PEN:
         raise fault("BadValue")
@@ -117,7 +119,7 @@ def pen(record, at, style, width, colour, brush=SOLID):
     if NULL_PEN == style or brush == NULL:
         return made(at, "pen", "null_pen", (), notes)
     shade = record.shade(colour)
-    return made(at, "pen", "solid_pen", [shade], notes + (["WidePen"] if width > 1 else []))
+    return made(at, "pen", "solid_pen", [shade, abs(width)], notes + (["WidePen"] if is_noted and width > 1 else []))
 
 
 def brush(record, at, style, colour, hatch):

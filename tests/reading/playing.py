@@ -7,23 +7,23 @@ from reading import emf, wmf
 from reading.fields import Record, fault, text_of
 from reading.opening import opened
 from reference.certificates import Certifier, PlaneAxis
-from reference.pixels import PLACED_END, Axis, OffPlane, Refused
+from reference.pixels import LONGEST_NIB, PLACED_END, Axis, NibTooWide, OffPlane, Refused
 from reference.player import Reference
 
 MOST_SAVED, MOST_CUTS, MOST_OBJECTS = 256, 16, 1024
 FIRST_STOCK = 0x80000000
 
-# Stock objects by their indexes from the first on: their kinds, and what each draws with.
+# Stock objects by their indexes from the first on: their kinds, and what each draws with. The pens have no width.
 STOCK = {
     **{nth: ("brush", "solid_brush", grey) for nth, grey in enumerate([0xFFFFFF, 0xC0C0C0, 0x808080, 0x404040, 0x000000])},
     5: ("brush", "null_brush"),
-    6: ("pen", "solid_pen", 0xFFFFFF),
-    7: ("pen", "solid_pen", 0x000000),
+    6: ("pen", "solid_pen", 0xFFFFFF, 0),
+    7: ("pen", "solid_pen", 0x000000, 0),
     8: ("pen", "null_pen"),
     **dict.fromkeys([10, 11, 12, 13, 14, 16, 17], ("font",)),
     15: ("palette",),
     18: ("brush", "solid_brush", 0xFFFFFF),
-    19: ("pen", "solid_pen", 0x000000),
+    19: ("pen", "solid_pen", 0x000000, 0),
 }
 
 
@@ -165,26 +165,31 @@ class FileReference(Records, Reference):
 
 
 class FileJudge(FileCertifier):
-    """Records on the plane of a small surface, and whether they are off the plane of a larger one."""
+    """Records on the plane of a small surface, and whether they are off the plane of a larger one, or have too wide a nib there."""
 
     def __init__(self, axes, inclusive, limits):
         super().__init__(axes, inclusive, 0)
         self.limits = limits
+        self.is_wide = False
 
-    def is_off(self, points):
-        """Whether one of some points of the plane lands too far on the larger surface."""
-        return any(not limit.has(number) for point in points for limit, number in zip(self.limits, point, strict=True))
+    def draw(self, points, fills, strokes, edges=None):
+        """A drawing whose nib is looked at on the larger surface before it is on the small one. Its points were where they were placed."""
+        axes = [axis._replace(surface=limit.side) for axis, limit in zip(self.state.axes, self.limits, strict=True)]
+        self.is_wide = strokes > 0 and max(axis.nib_side(self.state.width) for axis in axes) > LONGEST_NIB
+        super().draw(points, fills, strokes, edges)
 
     def judge(self, number, step):
-        """The fault of a record that has one on some surface, and whether it has it on each."""
-        self.first, self.drawings = number, []
+        """The fault of a record that has one on some surface, which is that of the larger one, and whether each surface has one: where the small
+        one has too wide a nib, the larger one may be off the plane."""
+        self.first, self.is_wide = number, False
         for limit in self.limits:
             limit.is_passed = False
         refusal = self.certify([step])
-        if refusal:
+        if refusal and refusal[0] != NibTooWide.__name__:
             return refusal[0], True
-        is_off = any(limit.is_passed for limit in self.limits) or any(self.is_off(it.points) for it in self.drawings)
-        return "OffPlane" if is_off else None, False
+        if any(limit.is_passed for limit in self.limits):
+            return OffPlane.__name__, refusal is not None
+        return NibTooWide.__name__ if self.is_wide else None, refusal is not None
 
 
 class Limit:

@@ -25,6 +25,15 @@ class OffPlane(Refused):
     """A coordinate is farther than the plane goes, or the surface's coordinates."""
 
 
+# The longest side of a nib, and the nib of a pen without a width: columns, then rows.
+LONGEST_NIB = 4096
+ONE_PIXEL = (1, 1)
+
+
+class NibTooWide(Refused):
+    """A pen covers more columns or rows of the surface than a nib may have."""
+
+
 class Axis(NamedTuple):
     """One axis of the page map: a window and a viewport, each by its origin and its extent, the
     frame's corner on the plane and its side, and the surface's side."""
@@ -45,6 +54,19 @@ class Axis(NamedTuple):
         if abs(plane) > PLANE_END or abs(place) > PLACED_END:
             raise OffPlane
         return place
+
+    def nib_side(self, width):
+        """How many pixels of this side a pen covers, whose width is that of the page: rounded down, but one at least."""
+        units = width * abs(self.viewport_extent) * self.surface
+        return max(1, units // (abs(self.window_extent) * self.frame))
+
+
+def nib_of(width, axes):
+    """The nib of a pen of a width of the page, which may be too wide."""
+    nib = tuple(axis.nib_side(width) for axis in axes)
+    if max(nib) > LONGEST_NIB:
+        raise NibTooWide
+    return nib
 
 
 # Shapes.
@@ -88,9 +110,33 @@ def is_on_line(start, end, x, y):
     return -abs(dx) <= 2 * (abs(x - start[0]) * dy - abs(dx) * (y - start[1])) < abs(dx)
 
 
-def is_stroked(lines, x, y):
-    """A pixel of a stroke is one of some line's."""
-    return any(is_on_line(start, end, x, y) for start, end in lines)
+def reach(count):
+    """How many of a nib's columns lie before the one that it is led along, and how many behind it: of an even number one more lies behind. Rows
+    alike."""
+    before = (count - 1) // 2
+    return before, count - 1 - before
+
+
+def is_under_nib(start, end, x, y, nib):
+    """A pixel that a nib covers which is led along a line: it lies in the nib's box around some pixel of the line. From one step along the longer
+    axis to the next a line goes at most one farther on the other, so it has pixels in all rows between those of two steps."""
+    (dx, dy), (across, down) = (end[0] - start[0], end[1] - start[1]), nib
+    if abs(dx) < abs(dy):
+        return is_under_nib(start[::-1], end[::-1], y, x, nib[::-1])
+    (left, right), (above, below) = reach(across), reach(down)
+    first, last = (start[0], end[0] - 1) if dx > 0 else (end[0] + 1, start[0])
+    first, last = max(first, x - right), min(last, x + left)
+    if first > last:
+        return False
+    rows = [start[1] + (2 * abs(column - start[0]) * dy + abs(dx)) // (2 * abs(dx)) for column in (first, last)]
+    return min(rows) - above <= y <= max(rows) + below
+
+
+def is_stroked(lines, x, y, nib=ONE_PIXEL):
+    """A pixel of a stroke is one of some line's, or one that the pen's nib covers there."""
+    if nib == ONE_PIXEL:
+        return any(is_on_line(start, end, x, y) for start, end in lines)
+    return any(is_under_nib(start, end, x, y, nib) for start, end in lines)
 
 
 def is_in_box(box, x, y):

@@ -23,6 +23,7 @@ from reference.paths import CLOSED, ENDED, OPEN, Path, PathState
 from reference.pixels import (
     ALTERNATE,
     HATCHES,
+    ONE_PIXEL,
     Axis,
     Refused,
     closed,
@@ -30,6 +31,7 @@ from reference.pixels import (
     is_in_box,
     is_stroked,
     mixed,
+    nib_of,
     opened,
 )
 
@@ -39,16 +41,22 @@ WHITE = (255, 255, 255)
 OPAQUE = 2
 COPY_PEN = 13
 
-# The parts of a state that are its brush.
+# The parts of a state that are its brush, and those that are a pen which draws nothing.
 NO_BRUSH = {"brush": None, "hatch": None, "tile": None}
+NO_PEN = {"pen": None, "width": 0}
+
+# The low bits of a pen's style, the style that draws nothing ([MS-WMF] 2.1.1.23), the bit of one whose width is that of the page ([MS-EMF]
+# 2.1.25), and the style of a brush that draws nothing.
+STYLE_BITS, NULL_STYLE, GEOMETRIC, NULL_BRUSH_STYLE = 0xF, 5, 0x10000, 1
 
 
 class State(NamedTuple):
-    """What later records are played with. A pen is its colour or nothing; a brush is nothing, a
-    colour, a hatch and a colour, or a tile, which is a picture."""
+    """What later records are played with. A pen is its colour and its width in units of the page, or nothing; a brush is nothing, a colour, a hatch
+    and a colour, or a tile, which is a picture."""
 
     axes: tuple[Axis, Axis]
     pen: tuple | None = BLACK
+    width: int = 0
     brush: tuple | None = WHITE
     hatch: int | None = None
     tile: Picture | None = None
@@ -131,10 +139,15 @@ class Reference:
         """A layer of the brush: a null one gives nothing anywhere."""
         self.layer(has, self.state.brush_at)
 
+    def nib(self):
+        """The nib of the pen of the moment, by the page map of the moment: of a null pen one pixel."""
+        return ONE_PIXEL if self.state.pen is None else nib_of(self.state.width, self.state.axes)
+
     def stroke(self, lines):
-        """A layer of the pen, if it isn't null."""
+        """A layer of the pen, if it isn't null. Without a line too the nib may be too wide."""
+        nib = self.nib()
         if self.state.pen is not None:
-            self.layer(lambda x, y: is_stroked(lines, x, y), lambda x, y: self.state.pen)
+            self.layer(lambda x, y: is_stroked(lines, x, y, nib), lambda x, y: self.state.pen)
 
     # Drawings. In an open path lines, polygons and rectangles are gathered in place of being drawn.
 
@@ -150,13 +163,12 @@ class Reference:
 
     def play_polyline_to(self, *numbers):
         points = pairs_of(numbers)
-        if not points:
-            return
-        if self.open_path():
+        through = [self.state.position, *points] if points else []
+        if not self.open_path():
+            self.stroke(opened(self.places(through)))
+        elif points:
             self.go_on(points)
-        else:
-            self.stroke(opened(self.places([self.state.position, *points])))
-        self.change(position=points[-1])
+        self.change(position=points[-1] if points else self.state.position)
 
     def play_polyline(self, *numbers):
         self.play_polylines(*numbers)
@@ -185,7 +197,9 @@ class Reference:
             self.draw_box(self.state.box(*numbers))
 
     def draw_box(self, corners):
-        """A rectangle between placed corners: its box is filled, and a rim within it stroked."""
+        """A rectangle between placed corners: its box is filled, and the lines of a rim within it stroked. Without a pixel too the nib may be too
+        wide, before anything is filled."""
+        self.nib()
         left, top, right, bottom = corners
         right, bottom = right + self.inclusive, bottom + self.inclusive
         if left == right or top == bottom:
@@ -194,7 +208,8 @@ class Reference:
         self.stroke(closed(corners_of(left, top, right - 1, bottom - 1)))
 
     def fill_and_stroke(self, lists):
-        """Polygons by the places of their corners."""
+        """Polygons by the places of their corners: nothing is filled where the nib is too wide."""
+        self.nib()
         self.fill_polygons(lists)
         self.stroke([line for places in lists for line in closed(places)])
 
@@ -328,11 +343,25 @@ class Reference:
             self.path.leave(ENDED)
         self.change(position=(x, y))
 
-    def play_solid_pen(self, index, number):
-        self.objects[index] = {"pen": rgb_of(number)}
+    def play_solid_pen(self, index, number, width=1):
+        self.objects[index] = {"pen": rgb_of(number), "width": width}
 
     def play_null_pen(self, index):
-        self.objects[index] = {"pen": None}
+        self.objects[index] = NO_PEN
+
+    def play_styled_pen(self, index, style, width, number):
+        """A width below 0 counts by its distance from it."""
+        if style & STYLE_BITS == NULL_STYLE:
+            self.play_null_pen(index)
+        else:
+            self.play_solid_pen(index, number, abs(width))
+
+    def play_styled_long_pen(self, index, style, width, brush, number):
+        """Without the bit of pens that are measured by the page, the width isn't looked at."""
+        if brush == NULL_BRUSH_STYLE:
+            self.play_null_pen(index)
+        else:
+            self.play_styled_pen(index, style, width if style & GEOMETRIC else 0, number)
 
     def play_solid_brush(self, index, number):
         self.objects[index] = NO_BRUSH | {"brush": rgb_of(number)}

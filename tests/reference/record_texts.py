@@ -50,13 +50,13 @@ def map_mode(mode):
     return f"map mode {among(mode, (1, 7, 8))}", ["Isotropic"] * (mode == 7)
 
 
-def pen(style, width, colour):
-    """A pen's text and notes; `colour` is read where the pen isn't null."""
+def pen(style, width, colour, note=True):
+    """A pen's text and notes, of which that of its width is at times left out; `colour` is read where the pen isn't null."""
     kind = among(style & 0xF, range(9))
     if kind == 5:
         return "pen null", []
-    text = f"pen {colour()}"
-    return text, ["DashedPen"] * (kind in (1, 2, 3, 4, 7, 8)) + ["WidePen"] * (width > NARROW)
+    text = f"pen {colour()} width {abs(width)}"
+    return text, ["DashedPen"] * (kind in (1, 2, 3, 4, 7, 8)) + ["WidePen"] * (note and width > NARROW)
 
 
 def brush(style, colour, hatch):
@@ -289,14 +289,15 @@ def emf_pen(record, first):
 
 
 def emf_extended_pen(record, first):
-    """An index, a bitmap that isn't read, a style, a width, a brush's style, a colour, and more."""
+    """An index, a bitmap that isn't read, a style, a width that counts by a bit of the style, a brush's style, a colour, and more."""
     needed(record, first + 44)
-    index, *_, style, _, brush_style = numbers(record, "I", first, 8)
+    index, *_, style, told, brush_style = numbers(record, "I", first, 8)
     among(style & 0xF, range(9))
     if brush_style not in (0, 1):
         raise Meaningless("Unsupported")
     # By a null brush nothing is drawn, but a style that is dashed is noted all the same.
-    text, notes = pen(style, 0, (lambda: "") if brush_style == 1 else (lambda: colour_at(record, first + 32)))
+    width = told if style >> 16 & 1 else 0
+    text, notes = pen(style, width, (lambda: "") if brush_style == 1 else (lambda: colour_at(record, first + 32)), note=False)
     return f"create {index} {'pen null' if brush_style == 1 else text}", notes
 
 

@@ -169,11 +169,13 @@ def clip_regions():
 
 def long_pens():
     """A pen's style, then its brush's, of which 0 is solid and 1 makes the pen null, then its
-    colour, which isn't read where the pen is null by either; no other field is read."""
-    unread = ["bitmap_at", "bitmap_size", "bits_at", "bits_size", "width", "hatch", "entries"]
+    colour, which isn't read where the pen is null by either. Any width is one, whether the style
+    has the bit of those that are the page's or not; no other field is read."""
+    unread = ["bitmap_at", "bitmap_size", "bits_at", "bits_size", "hatch", "entries"]
     null, null_brush = {"style": u32(5)}, {"brush_style": u32(1)}
     return [
         *[({field: u32(0xFFFFFFFF)}, ACCEPTED) for field in unread],
+        *[({"style": u32(style), "width": u32(width)}, ACCEPTED) for style in (0, 0x10000) for width in (0, 2, 1 << 31, 0xFFFFFFFF)],
         *numbers("style", u32, {ACCEPTED: [*range(9), 0x10000, 0xFFFFFFF0, 0xFFFFFFF8]}),
         *numbers("style", u32, {"BadValue": [*range(9, 16), 0x10009, 0xFFFFFFFF]}),
         *numbers("brush_style", u32, {ACCEPTED: [0, 1], "Unsupported 95": [2, 3, *far(u32, 0)]}),

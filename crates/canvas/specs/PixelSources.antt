@@ -15,10 +15,10 @@ abbrev pub GivesNext : (ℕ → ℕ → Bool) → ℕ → Option PixelAt → (�
 GivesNext old before None new after = (x y : ℕ) → old x y ≡ false
 GivesNext old before (Some pixel) new after = GivesOne old new before after pixel
 
--- a source that gives a pixel ends as the one before it would, and one that gives none has ended
-abbrev pub KeepsEnd : {S : Type 0} → (S → S → Type 0) → Option PixelAt → S → S → Type 0
+-- a source that gives something ends as the one before it would, and one that gives nothing has ended
+abbrev pub KeepsEnd : {S A : Type 0} → (S → S → Type 0) → Option A → S → S → Type 0
 KeepsEnd ends_as None old new = ends_as old new
-KeepsEnd {S} ends_as (Some pixel) old new = (end : S) → ends_as new end → ends_as old end
+KeepsEnd {S} ends_as (Some given) old new = (end : S) → ends_as new end → ends_as old end
 
 -- a canvas with so many writes more in its count
 abbrev pub counted : ℕ → CanvasState → CanvasState

@@ -10,6 +10,8 @@
 //!   `put_row`, `mix_span`, `mix_row`, `mix_cells`, `mix`, by `Repaints`).
 //! - Pixels that a source gives one after another, none twice, are written in one colour, or changed by one mix, each
 //!   counted once (`Canvas::put_each`, `Canvas::mix_each`, `PixelSource`).
+//! - The same is true of the pixels of spans of rows that a source gives one after another, no pixel in two of them
+//!   (`Canvas::put_each_span`, `Canvas::mix_each_span`, `SpanSource`).
 //! - Writes that share no pixel are put together as one (`writing_law`).
 //! - What is written out is the P6 text of the image, byte for byte, and after a failure a front of
 //!   that text (`Canvas::write_ppm`, by `ppm_text`). Header and rows can be written apart (`write_header`,
@@ -29,6 +31,7 @@ mod canvas_error;
 mod counted_sending;
 mod counting;
 mod laws;
+mod part_change;
 mod parts;
 mod pixel_change;
 mod pixel_source;
@@ -36,6 +39,7 @@ mod ppm;
 mod ppm_counted;
 mod reading;
 mod sending;
+mod span_source;
 mod surface;
 mod swatch;
 mod writing;
@@ -48,5 +52,6 @@ pub use pixel_source::{PixelAt, PixelSource};
 pub use ppm::write_header;
 pub use ppm_counted::write_header_to;
 pub use sending::send;
+pub use span_source::{RowSpan, SpanSource};
 pub use surface::Canvas;
 pub use swatch::Swatch;

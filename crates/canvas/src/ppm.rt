@@ -21,6 +21,9 @@ pub(crate) const HEADER_ROOM: usize = 32;
 /// Room for a piece, three bytes a pixel.
 pub(crate) const PIECE_ROOM: usize = HEADER_ROOM + 3 * PIECE_PIXELS;
 
+/// How many pixels are turned into bytes at once.
+const GROUP_PIXELS: usize = 16;
+
 /// Writes the header of a P6 text (ppm(5)), for an image of these sides in pixels: the text of the image is this
 /// header, and then its rows. The writer isn't flushed. `WriteFault` where the writer failed or took no byte: then a
 /// front of the header was written.
@@ -102,6 +105,7 @@ fn put_number(buffer: &mut [u8], at: usize, number: u32) -> usize
 }
 
 /// Puts a text behind the first `at` bytes, and tells where it ends.
+#[inline]
 fn put_text(buffer: &mut [u8], at: usize, text: &[u8]) -> usize
     requires { at + length text.now ≤ length buffer.old }
     ensures text { take result buffer.new ≡ take at buffer.old ++ text.now }
@@ -154,8 +158,26 @@ impl Canvas {
     }
 }
 
-/// Puts the samples of the colours behind the first `at` bytes, and tells where they end.
+/// Puts the samples of the colours after the first `at` bytes, and returns where they end. Groups of pixels are turned into bytes by themselves
+/// and copied whole, since the compiler knows how large they are.
 pub(crate) fn put_pixels(buffer: &mut [u8], at: usize, colours: &[Colour]) -> usize
+    requires { at + 3 * length colours.now ≤ length buffer.old }
+    ensures text { take result buffer.new ≡ take at buffer.old ++ raster colours.now }
+    ensures end { result ≡ at + 3 * length colours.now }
+{
+    let (mut end, mut done) = (at, 0);
+    while colours.len() - done >= GROUP_PIXELS {
+        let mut samples = [0u8; 3 * GROUP_PIXELS];
+        put_few(&mut samples, 0, &colours[done..done + GROUP_PIXELS]);
+        end = put_text(buffer, end, &samples);
+        done += GROUP_PIXELS;
+    }
+    put_few(buffer, end, &colours[done..])
+}
+
+/// The same, pixel by pixel.
+#[inline]
+fn put_few(buffer: &mut [u8], at: usize, colours: &[Colour]) -> usize
     requires { at + 3 * length colours.now ≤ length buffer.old }
     ensures text { take result buffer.new ≡ take at buffer.old ++ raster colours.now }
     ensures end { result ≡ at + 3 * length colours.now }

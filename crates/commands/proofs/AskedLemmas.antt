@@ -1,12 +1,32 @@
 -- The rows of a command that was met are what it was given.
-use Rattle.std.proofs.Common.{◌≡◌, ◌∙◌, ap, sym, subst, List, Option, Some, None, IfSome, option_map, codes, Box}
+use Rattle.std.proofs.Common.{◌≡◌, ◌∙◌, ap, sym, subst, refl, Bool, List, [], ◌∷◌, false, true, Option, Some, None, IfSome, find, option_map, Box}
+use Rattle.std.proofs.lemmas.Slice.Eq.{bytes_eq-Decides}
 use Rattle.std.specs.Box.{box_value}
-use Rattle.clap.specs.Words.{Row, Text}
+use Rattle.std.specs.Str.{bytes_eq}
+use Rattle.clap.specs.Words.{Row, Shape, Text}
 use Rattle.clap.specs.Simple.{subcommand_rows}
 use Rattle.clap.specs.declared.parser.matches.SubCommand.{SubCommand}
 use Rattle.clap.specs.declared.parser.matches.ArgMatches.TheViews.{out-SubCommand}
-use Rattle.commands.specs.CommandLine.{AllowsShow, HoldsWords, IsAskedBy, IsRightShow, command_name}
+use Rattle.commands.specs.CommandLine.{GivesAll, HoldsWords, IsAskedBy, IsRightCommand, command_name, metaplay_app}
 use Rattle.commands.specs.declared.asked.CommandLine.{CommandLine}
+
+same_inside : {A : Type 0} {x y : A} → Some x ≡ Some y → x ≡ y
+same_inside e = cc
+
+-- no command of the list was met
+abbrev pub AreNotMet : Option Text → List Shape → Type 0
+AreNotMet met [] = Unit {0}
+AreNotMet met (s ∷ others) = (met ≡ Some s.name → false ≡ true) × AreNotMet met others
+
+not_found : (shapes : List Shape) (name : Text) (shape : Shape) → AreNotMet (Some name) shapes → find (λ s. bytes_eq s.name name) shapes ≡ Some shape → ⊥
+not_found [] name shape others found = cc
+not_found (s ∷ shapes) name shape others found = go (bytes_eq s.name name) refl (not_found shapes name shape others.1)
+  where
+    go : (same : Bool) → bytes_eq s.name name ≡ same → (find (λ t. bytes_eq t.name name) shapes ≡ Some shape → ⊥) → ⊥
+    go true is behind =
+        let bad : false ≡ true = others.0 (ap Some (sym ((bytes_eq-Decides s.name name).0 is))) in
+        cc
+    go false is behind = behind (rw is at found)
 
 module _ {Z : Type 0} where
   -- the name of the command that was met
@@ -31,16 +51,22 @@ module _ {Z : Type 0} where
     gives = gives;
   }
 
-  rows_are : (met : Option (Box SubCommand Z)) (name : Text) (given rows : List Row) → subcommand_rows met ≡ Some (name, given) → rows_met met ≡ Some rows → given ≡ rows
-  rows_are met name given rows is has =
-      let same : Some given ≡ Some rows = rw is at has in
-      cc
+  -- the command of this name was given what its arguments take
+  pub right_rows : (met : Option (Box SubCommand Z)) (name : Text) (shape : Shape) (rows : List Row) → IsRightCommand (subcommand_rows met) → name_met met ≡ Some name
+      → rows_met met ≡ Some rows → find (λ s. bytes_eq s.name name) metaplay_app.subs ≡ Some shape → GivesAll shape.rules rows
+  right_rows met name shape rows right named has declared =
+      let both : (name, rows) ≡ (right.name, right.given) = same_inside (sym (both_met met name rows named has) ∙ right.command) in
+      let found : find (λ s. bytes_eq s.name right.name) metaplay_app.subs ≡ Some shape =
+      subst (λ (n : Text). find (λ (s : Shape). bytes_eq s.name n) metaplay_app.subs ≡ Some shape) (ap (λ (p : Text × List Row). p.0) both) declared in
+      let one : right.shape ≡ shape = same_inside (sym right.declared ∙ found) in
+      subst (λ (given : List Row). GivesAll shape.rules given) (sym (ap (λ (p : Text × List Row). p.1) both)) (subst (λ (s : Shape). GivesAll s.rules right.given) one right.allowed)
 
-  -- `show` was given what is right
-  pub right_rows : (met : Option (Box SubCommand Z)) (rows : List Row) → IsRightShow (subcommand_rows met) → rows_met met ≡ Some rows → AllowsShow rows
-  right_rows met rows right has = subst AllowsShow (rows_are met _ _ _ right.command has) right.allowed
+  -- what was met has the name that is right
+  name_right : (met : Option (Box SubCommand Z)) (right : IsRightCommand (subcommand_rows met)) → name_met met ≡ Some right.name
+  name_right None right = ap (option_map (λ (command : Text × List Row). command.0)) right.command
+  name_right (Some b) right = ap (option_map (λ (command : Text × List Row). command.0)) right.command
 
-  -- where another command was met, `show` was not
-  pub shown_name : (met : Option (Box SubCommand Z)) → IsRightShow (subcommand_rows met) → name_met met ≡ Some (codes "show")
-  shown_name None right = ap (option_map (λ (command : Text × List Row). command.0)) right.command
-  shown_name (Some b) right = ap (option_map (λ (command : Text × List Row). command.0)) right.command
+  -- where none of the commands was met, nothing right was
+  pub none_right : (met : Option (Box SubCommand Z)) → IsRightCommand (subcommand_rows met) → AreNotMet (name_met met) metaplay_app.subs → ⊥
+  none_right met right others =
+      not_found metaplay_app.subs right.name right.shape (subst (λ (m : Option Text). AreNotMet m metaplay_app.subs) (name_right met right) others) right.declared

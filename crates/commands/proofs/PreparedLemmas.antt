@@ -1,6 +1,6 @@
 -- A certificate that was prepared is read with the bound that it was prepared for.
-use Rattle.std.proofs.Common.{◌≡◌, ◌∙◌, ◌≤◌, ◌⊎◌, inl, inr, Bool, true, false, ◌||◌, cond, ℕ, List, length, Result, Ok, Err, IsOk, ap, arith, refl, subst, sym}
-use Rattle.std.specs.Prelude.{◌==◌, nat_lt, not}
+use Rattle.std.proofs.Common.{◌≡◌, ◌∙◌, ◌≤◌, ◌⊎◌, inl, inr, Bool, true, false, cond, ℕ, List, length, Option, Some, None, Result, Ok, Err, IsOk, ap, arith, refl, subst, sym}
+use Rattle.std.specs.Prelude.{nat_lt, not}
 use Rattle.std.proofs.lemmas.Bool.{and_from, true≢false}
 use Rattle.mapping.specs.Limits.{IsSurfaceSide, is_surface_side, surface_side_from}
 use Rattle.draw_ops.specs.declared.fault.Fault.{Fault}
@@ -9,14 +9,17 @@ use Rattle.meta_headers.specs.Headers.{OpenedValue}
 use Rattle.meta_headers.specs.Opening.{opened, record_bytes}
 use Rattle.point_views.specs.Numbers.{number_at}
 use Rattle.preflight_cert.specs.Answer.{Answer, AnswersOpened, AnswersRead, IsAnswer, accepted, refuses}
-use Rattle.preflight_cert.specs.CertificateReading.{CertificateValue, entry_size, is_bounded, mark, read_certificate, read_whole, value_in, whole_size}
-use Rattle.preflight_cert.specs.CertificateText.{certificate_text}
+use Rattle.preflight_cert.specs.CertificateReading.{CertificateValue, have_nibs, is_bounded, read_certificate, read_version, read_whole, value_in, version_of, whole_size}
+use Rattle.preflight_cert.specs.CertificateText.{HeadValue, certificate_text, entry_text, head_of, text_with}
 use Rattle.preflight_cert.specs.CertificateOf.{certificate_of}
 use Rattle.preflight_cert.specs.Refusal.{IsWantOfMemory}
 use Rattle.preflight_cert.specs.Preparation.{Prepares, PreparesIfOpened, PreparesWithin, RefusesWithin, StopsPreparing, is_bound}
 use Rattle.preflight_cert.specs.Run.{Refused}
 use Rattle.preflight_cert.specs.declared.certificate.Certificate.{Certificate}
 use Rattle.preflight_cert.specs.declared.refusal.Refusal.{Refusal}
+use Rattle.preflight_cert.specs.declared.version.Version.{Version}
+use Rattle.preflight_cert.specs.declared.version.Version.TheVariants.{Mpc1, Mpc2}
+use Rattle.std.specs.List.{flat_map}
 use Rattle.player.specs.Bounds.{IsWithinBound}
 use Rattle.preflight_cert.specs.Reached.{OpensBoth}
 
@@ -29,35 +32,56 @@ no_fault : (fault : Fault) (c : CertificateValue) → Err fault ≡ Ok c → ⊥
 unfolding is_value
 no_fault fault c e = true≢false (sym (ap is_value e))
 
+-- bytes are read as this certificate, in some version
+record IsReadAs (bytes : List ℕ) (c : CertificateValue) : Type 0 where
+  version : Version
+  value : value_in version bytes ≡ c
+
 -- bytes that pass each test
-passed : (few other short bounded : Bool) (rest : Result CertificateValue Fault) (c : CertificateValue)
-    → cond (few || not other) (Err NotCertificate) (cond short (Err ShortCertificate) (cond (not bounded) (Err BadBound) rest)) ≡ Ok c → rest ≡ Ok c
-passed true other short bounded rest c e = absurd (no_fault NotCertificate c e)
-passed false false short bounded rest c e = absurd (no_fault NotCertificate c e)
-passed false true true bounded rest c e = absurd (no_fault ShortCertificate c e)
-passed false true false false rest c e = absurd (no_fault BadBound c e)
-passed false true false true rest c e = e
+bounded : (short within : Bool) (rest : Result CertificateValue Fault) (c : CertificateValue) → cond short (Err ShortCertificate) (cond (not within) (Err BadBound) rest) ≡ Ok c → rest ≡ Ok c
+bounded true within rest c e = absurd (no_fault ShortCertificate c e)
+bounded false false rest c e = absurd (no_fault BadBound c e)
+bounded false true rest c e = e
 
 value_or : CertificateValue → Result CertificateValue Fault → CertificateValue
 value_or other (Ok c) = c
 value_or other (Err fault) = other
 
-ended : (short trailing : Bool) (value c : CertificateValue) → cond short (Err ShortCertificate) (cond trailing (Err TrailingBytes) (Ok value)) ≡ Ok c → value ≡ c
+ended : (short trailing nibs : Bool) (value c : CertificateValue) → cond short (Err ShortCertificate) (cond trailing (Err TrailingBytes) (cond nibs (Ok value) (Err BadBound))) ≡ Ok c → value ≡ c
 unfolding value_or
-ended true trailing value c e = absurd (no_fault ShortCertificate c e)
-ended false true value c e = absurd (no_fault TrailingBytes c e)
-ended false false value c e = ap (value_or value) e
+ended true trailing nibs value c e = absurd (no_fault ShortCertificate c e)
+ended false true nibs value c e = absurd (no_fault TrailingBytes c e)
+ended false false false value c e = absurd (no_fault BadBound c e)
+ended false false true value c e = ap (value_or value) e
 
-is_read : (bytes : List ℕ) (c : CertificateValue) → read_certificate bytes ≡ Ok c → value_in entry_size bytes ≡ c
-is_read bytes c e =
-    ended (nat_lt (length bytes) (whole_size entry_size bytes)) (nat_lt (whole_size entry_size bytes) (length bytes)) (value_in entry_size bytes) c
-    (passed (nat_lt (length bytes) 4) (number_at bytes 0 4 == mark) (nat_lt (length bytes) 40) (is_bounded bytes) (read_whole entry_size bytes) c e)
+passed : (few : Bool) (found : Option Version) (bytes : List ℕ) (c : CertificateValue) → cond few (Err NotCertificate) (read_version found bytes) ≡ Ok c → IsReadAs bytes c
+passed true found bytes c e = absurd (no_fault NotCertificate c e)
+passed false None bytes c e = absurd (no_fault NotCertificate c e)
+passed false (Some version) bytes c e =
+    let whole = bounded (nat_lt (length bytes) 40) (is_bounded bytes) (read_whole version bytes) c e in
+    let value = value_in version bytes in
+    record {
+      version = version;
+      value = ended (nat_lt (length bytes) (whole_size version bytes)) (nat_lt (whole_size version bytes) (length bytes)) (have_nibs value.entries) value c whole;
+    }
+
+is_read : (bytes : List ℕ) (c : CertificateValue) → read_certificate bytes ≡ Ok c → IsReadAs bytes c
+is_read bytes c e = passed (nat_lt (length bytes) 4) (version_of (number_at bytes 0 4)) bytes c e
+
+-- the sides stand where they are written, in each version
+wide_with : (version : Version) (head : HeadValue) (count : ℕ) (entries : List ℕ) → head.max_width ≤ 8192 → number_at (text_with version head count entries) 4 4 ≡ head.max_width
+wide_with Mpc1 head count entries h = omega (arith, h)
+wide_with Mpc2 head count entries h = omega (arith, h)
+
+high_with : (version : Version) (head : HeadValue) (count : ℕ) (entries : List ℕ) → head.max_height ≤ 8192 → number_at (text_with version head count entries) 8 4 ≡ head.max_height
+high_with Mpc1 head count entries h = omega (arith, h)
+high_with Mpc2 head count entries h = omega (arith, h)
 
 wide_back : (c : CertificateValue) → c.max_width ≤ 8192 → number_at (certificate_text c) 4 4 ≡ c.max_width
-wide_back c h = omega (arith, h)
+wide_back c h = wide_with c.version (head_of c) (length c.entries) (flat_map (entry_text c.version) c.entries) h
 
 high_back : (c : CertificateValue) → c.max_height ≤ 8192 → number_at (certificate_text c) 8 4 ≡ c.max_height
-high_back c h = omega (arith, h)
+high_back c h = high_with c.version (head_of c) (length c.entries) (flat_map (entry_text c.version) c.entries) h
 
 -- a certificate of these sides, whose text the bytes are
 record IsOfSides (width height : ℕ) (bytes : List ℕ) : Type 0 where
@@ -82,18 +106,18 @@ module _ (file : List ℕ) (width height : ℕ) (bytes : List ℕ) (prepared : P
   text : IsOfSides width height bytes
   text = of_bound file width height bytes (is_bound width height) prepared
 
-  read_text : value_in entry_size (certificate_text text.certificate) ≡ value
+  read_text : IsReadAs (certificate_text text.certificate) value
   read_text = is_read (certificate_text text.certificate) value (subst (λ (b : List ℕ). read_certificate b ≡ Ok value) text.is_text read)
 
   pub prepared_wide : width ≤ 8192 → value.max_width ≡ width
   prepared_wide h =
       let small : text.certificate.max_width ≤ 8192 = rw text.wide h in
-      ap (λ (v : CertificateValue). v.max_width) (sym read_text) ∙ wide_back text.certificate small ∙ text.wide
+      ap (λ (v : CertificateValue). v.max_width) (sym read_text.value) ∙ wide_back text.certificate small ∙ text.wide
 
   pub prepared_high : height ≤ 8192 → value.max_height ≡ height
   prepared_high h =
       let small : text.certificate.max_height ≤ 8192 = rw text.high h in
-      ap (λ (v : CertificateValue). v.max_height) (sym read_text) ∙ high_back text.certificate small ∙ text.high
+      ap (λ (v : CertificateValue). v.max_height) (sym read_text.value) ∙ high_back text.certificate small ∙ text.high
 
 -- an answer that accepts
 is_accepted : Answer → Bool

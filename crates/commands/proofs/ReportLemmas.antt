@@ -6,6 +6,7 @@ use Rattle.std.specs.Ordering.{match_ordering}
 use Rattle.std.proofs.lemmas.Bool.{or_parts, or_from}
 use Rattle.serde_json.specs.Data.{Data, Members, boolean, member, no_members, put, string}
 use Rattle.serde_json.specs.Written.{has_float, members_have_float}
+use Rattle.mapping.specs.Surface.{Surface}
 use Rattle.draw_ops.specs.NoteCounts.{note_count}
 use Rattle.draw_ops.specs.NoteTable.{note_row_of}
 use Rattle.draw_ops.specs.declared.fault.Fault.{Fault}
@@ -100,11 +101,11 @@ refused_whole number fault =
     e4
 
 -- there is an entry for each drawing
-pub as_many : (drawings : List NumberedDrawing) (entries : List Entry) → AreCovered drawings entries → length entries ≡ length drawings
-as_many [] [] covered = refl
-as_many [] (entry ∷ entries) covered = absurd covered
-as_many (one ∷ later) [] covered = absurd covered
-as_many (one ∷ later) (entry ∷ entries) covered = let e = as_many later entries covered.1 in rw e refl
+pub as_many : (s : Surface) (drawings : List NumberedDrawing) (entries : List Entry) → AreCovered drawings entries s → length entries ≡ length drawings
+as_many s [] [] covered = refl
+as_many s [] (entry ∷ entries) covered = absurd covered
+as_many s (one ∷ later) [] covered = absurd covered
+as_many s (one ∷ later) (entry ∷ entries) covered = let e = as_many s later entries covered.1 in rw e refl
 
 -- the answer to what was checked is one of its records
 answered : (file bytes : List ℕ) (cleared : Cleared) → IsAnswer file bytes accepted → IsOpenedFrom file cleared.opened
@@ -123,7 +124,7 @@ same_report : (cleared : Cleared) (content : Content) → HasContentOf cleared.o
     (length (drawings_of content.steps (start_of (opened_of cleared.opened)))) (file_notes content (opened_of cleared.opened))
 same_report cleared content has counts fits =
     let records = counts.all content has in
-    let drawings = as_many _ _ fits.covered in
+    let drawings = as_many _ _ _ fits.covered in
     let notes = counts.notes content has in
     rw (records, drawings, notes) refl
 

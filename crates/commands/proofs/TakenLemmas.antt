@@ -1,130 +1,144 @@
--- Five words of the right form are what clap takes, and ask for a file and two sides.
-use Rattle.std.proofs.Common.{◌≡◌, ◌∙◌, ◌<◌, ◌&&◌, ◌==◌, ◌^◌, ap, sym, subst, refl, ℕ, Bool, List, [], ◌∷◌, false, true, Some, codes, length, pos, arith, nat_le, nat_lt}
-use Rattle.std.proofs.lemmas.Bool.{ne_eqb, and_from}
-use Rattle.std.proofs.lemmas.Bool.Decides.{nat_tests}
-use Rattle.std.specs.Char.{digit_value}
-use Rattle.std.specs.List.{list_all}
-use Rattle.std.specs.Str.Parse.{AllDigits, IsNumeral, digits_value, without_leading_plus}
+-- Right words are what clap takes, and they give a command what it takes.
+use Rattle.std.proofs.Common.{◌≡◌, ◌∙◌, ◌&&◌, ap, ap₂, sym, subst, refl, Bool, List, [], ◌∷◌, false, true, Some, codes, find, pos, unwrap_or}
+use Rattle.std.specs.List.{All}
+use Rattle.std.specs.Str.{bytes_eq}
+use Rattle.std.proofs.lemmas.List.Elements.{All-cons, All-nil}
 use Rattle.mapping.specs.Limits.{surface_side_limit}
+use Rattle.clap.specs.Lexer.{without_minus}
 use Rattle.clap.specs.Simple.{Shape, built}
-use Rattle.clap.specs.Takes.{default_passes, is_valid, level_passes, settle_passes, turn_passes, walk_passes}
-use Rattle.clap.specs.ValueTests.{is_numeral, is_signed_in}
-use Rattle.clap.specs.Walk.{Row, Text, Walk, finished, nothing_held}
+use Rattle.clap.specs.Takes.{level_passes}
+use Rattle.clap.specs.ValueTests.{is_signed_in}
+use Rattle.clap.specs.Walk.{Row, Text, finished, nothing_held, one_of, rows_after}
 use Rattle.clap.specs.Words.{subcommand_of, takes}
 use Rattle.clap.proofs.OnLiterals.{clap_on_literals}
-use Rattle.commands.specs.CommandLine.{AreRightWords, IsPlainWord, IsRightShow, IsSideText, metaplay_app}
-use Rattle.commands.proofs.WordLemmas.{after_file, after_wide, first_word, given_all, no_flags, no_minus, other_words, show_rules, standing, taken, walked_plain, walked_words}
+use Rattle.commands.specs.CommandLine.{GivesAll, GivesSide, IsRightCommand, IsSideText, check_app, list_app, metaplay_app, over_app, play_app, prepare_app, show_app}
+use Rattle.commands.specs.RightWords.{AreOfKinds, AreRightWords, ArgumentKind, IsOfKind, bands, name, side, usages}
+use Rattle.commands.proofs.KindLemmas.{kinds_end, level_is, level_kinds, rows_kinds}
+use Rattle.commands.proofs.SideLemmas.{no_minus, plain_side, side_passes}
 
--- a digit is no sign
-no_sign : (c sign : ℕ) → digit_value c < 10 → digit_value sign ≡ 36 → c ≡ sign → ⊥
-no_sign c sign digit is same =
-    let big : digit_value c ≡ 36 = ap digit_value same ∙ is in
-    absurd (omega arith)
+-- a side was given
+side_given : (given : List Row) (id word : Text) → one_of id given ≡ Some (without_minus word) → IsSideText word → GivesSide given id
+side_given given id word is of_side = record { text = word; is_given = is ∙ ap Some (no_minus word (plain_side word of_side)); is_side = of_side }
 
-pub plain_side : (text : Text) → IsSideText text → IsPlainWord text
-plain_side [] side = tt
-plain_side (c ∷ cs) side = no_sign c 45 side.numeral.1.0 refl
+-- clap takes these arguments of a command, and they are what it takes
+record IsTaken (command : Text) (arguments : List Text) : Type 0 where
+  taken : (program : Text) → takes metaplay_app (program ∷ command ∷ arguments) ≡ true
+  right : (program : Text) → IsRightCommand (subcommand_of metaplay_app (program ∷ command ∷ arguments))
 
-all_digits : (ds : Text) → AllDigits 10 ds → list_all (λ d. nat_lt (digit_value d) 10) ds ≡ true
-all_digits [] digits = refl
-all_digits (d ∷ ds) digits =
-    let first : nat_lt (digit_value d) 10 ≡ true = grind (arith, nat_tests) in
-    rw first (all_digits ds digits.1)
+-- a command as clap builds it
+abbrev built_shape : Text → Shape
+built_shape command = unwrap_or (find (λ s. bytes_eq s.name command) (built metaplay_app).subs) metaplay_app.top
 
-numeral : (c : ℕ) (cs : Text) → AllDigits 10 (c ∷ cs) → is_numeral (c ∷ cs) ≡ true
-numeral c cs digits =
-    let some : nat_lt 0 (length (c ∷ cs)) ≡ true = grind (arith, nat_tests) in
-    and_from _ _ some (all_digits (c ∷ cs) digits)
+-- what clap makes of words of these kinds computes
+of_usage : (command : Text) (declared : Shape) (kinds : List ArgumentKind) (arguments : List Text) → AreOfKinds kinds arguments
+    → find (λ s. bytes_eq s.name command) metaplay_app.subs ≡ Some declared
+    → ((program : Text) → level_passes (built_shape command) [] nothing_held arguments false ≡ true → takes metaplay_app (program ∷ command ∷ arguments) ≡ true)
+    → ((program : Text) → subcommand_of metaplay_app (program ∷ command ∷ arguments) ≡ Some (command, rows_after (built_shape command).rules [] arguments))
+    → level_kinds (built_shape command) kinds arguments ≡ true
+    → GivesAll declared.rules (finished (built_shape command).rules (kinds_end (built_shape command).rules kinds arguments)) → IsTaken command arguments
+of_usage command declared kinds arguments are found enters meets passes gives = record {
+  taken = λ program. enters program (level_is (built_shape command) kinds arguments are ∙ passes);
+  right = λ program. record {
+    name = command;
+    given = finished (built_shape command).rules (kinds_end (built_shape command).rules kinds arguments);
+    shape = declared;
+    command = meets program ∙ ap (λ (rows : List Row). Some (command, rows)) (rows_kinds (built_shape command).rules kinds arguments are);
+    declared = found;
+    allowed = gives;
+  };
+}
 
--- such a text has no plus to leave out
-pub no_plus : (text : Text) → IsSideText text → without_leading_plus text ≡ text
-no_plus [] side = absurd (omega arith)
-no_plus (c ∷ cs) side = rw (ne_eqb c 43 (no_sign c 43 side.numeral.1.0 refl)) refl
+-- it holds of all words of these kinds
+abbrev OfKinds : List ArgumentKind → (List Text → Type 0) → Type 0
+OfKinds [] holds = holds []
+OfKinds (kind ∷ kinds) holds = (word : Text) → IsOfKind kind word → OfKinds kinds (λ words. holds (word ∷ words))
 
--- what it reads as fits a side's type
-pub fits_unsigned : (text : Text) → IsSideText text → IsNumeral 10 (without_leading_plus text) × (digits_value 10 (without_leading_plus text) < 2 ^ 32)
-fits_unsigned text side =
-    let small : digits_value 10 text < 2 ^ 32 = omega arith in
-    rw (no_plus text side) (side.numeral, small)
+of_kinds : (kinds : List ArgumentKind) (words : List Text) (holds : List Text → Type 0) → OfKinds kinds holds → AreOfKinds kinds words → holds words
+of_kinds [] [] holds all are = all
+of_kinds [] (word ∷ words) holds all are = absurd are
+of_kinds (kind ∷ kinds) [] holds all are = absurd are
+of_kinds (kind ∷ kinds) (word ∷ words) holds all are = of_kinds kinds words (λ rest. holds (word ∷ rest)) (all word are.0) are.1
 
-pub side_passes : (text : Text) → IsSideText text → is_signed_in (pos 1) (pos surface_side_limit) text ≡ true
-side_passes [] side = absurd (omega arith)
-side_passes (c ∷ cs) side =
-    let no_minus_there : (c == 45) ≡ false = ne_eqb c 45 (no_sign c 45 side.numeral.1.0 refl) in
-    let no_plus_there : (c == 43) ≡ false = ne_eqb c 43 (no_sign c 43 side.numeral.1.0 refl) in
-    let digits = numeral c cs side.numeral.1 in
-    let small : nat_lt (digits_value 10 (c ∷ cs)) (2 ^ 63) ≡ true = grind (arith, nat_tests) in
-    let low : nat_le 1 (digits_value 10 (c ∷ cs)) ≡ true = grind (arith, nat_tests) in
-    let high : nat_le (digits_value 10 (c ∷ cs)) 8192 ≡ true = grind (arith, nat_tests) in
-    rw (no_minus_there, no_plus_there) (rw digits (rw small (rw low (rw high refl))))
-
-abbrev first_shape : List Shape → Shape
-first_shape [] = metaplay_app.top
-first_shape (s ∷ others) = s
-
--- the command `show` as clap builds it
-abbrev show_shape : Shape
-show_shape = first_shape (built metaplay_app).subs
-
-file_turn : (file : Text) → IsPlainWord file → turn_passes show_shape [] (standing nothing_held 1) file ≡ true
+-- Each usage is taken. What clap makes of its words computes, but for the tests of the sides, of which each stands where clap makes it.
+show_taken : OfKinds (name ∷ side ∷ side ∷ []) (IsTaken (codes "show"))
 unfolding clap_on_literals
-file_turn [] plain = refl
-file_turn (byte ∷ rest) plain = rw (ne_eqb byte 45 plain) (rw (no_flags byte rest plain) refl)
+show_taken file f wide w high h =
+    of_usage (codes "show") show_app.top (name ∷ side ∷ side ∷ []) (file ∷ wide ∷ high ∷ []) (f, (w, (h, tt))) refl
+    (λ program passes. ap (λ (b : Bool). b && true) passes) (λ program. refl)
+    (ap₂ (λ (a b : Bool). ((a && true) && true) && ((b && true) && true)) (side_passes wide w) (side_passes high h))
+    (refl, (side_given _ (codes "W") wide refl w, (side_given _ (codes "H") high refl h, tt)))
 
-wide_turn : (file wide : Text) → IsPlainWord wide → turn_passes show_shape [] (after_file file) wide ≡ true
+prepare_taken : OfKinds (name ∷ side ∷ side ∷ name ∷ []) (IsTaken (codes "prepare"))
 unfolding clap_on_literals
-wide_turn file [] plain = refl
-wide_turn file (byte ∷ rest) plain = rw (ne_eqb byte 45 plain) (rw (no_flags byte rest plain) refl)
+prepare_taken file f wide w high h output o =
+    of_usage (codes "prepare") prepare_app.top (name ∷ side ∷ side ∷ name ∷ []) (file ∷ wide ∷ high ∷ output ∷ []) (f, (w, (h, (o, tt)))) refl
+    (λ program passes. ap (λ (b : Bool). b && true) passes) (λ program. refl)
+    (ap₂ (λ (a b : Bool). ((a && true) && ((b && true) && true)) && true) (side_passes wide w) (side_passes high h))
+    (refl, (side_given _ (codes "W") wide refl w, (side_given _ (codes "H") high refl h, (refl, tt))))
 
-high_turn : (file wide high : Text) → IsSideText wide → IsPlainWord high → turn_passes show_shape [] (after_wide file wide) high ≡ true
+check_taken : OfKinds (name ∷ name ∷ []) (IsTaken (codes "check"))
 unfolding clap_on_literals
-high_turn file wide [] side plain = ap (λ (b : Bool). b && true) (side_passes wide side)
-high_turn file wide (byte ∷ rest) side plain = rw (ne_eqb byte 45 plain) (rw (no_flags byte rest plain) (ap (λ (b : Bool). b && true) (side_passes wide side)))
+check_taken file f certificate c =
+    of_usage (codes "check") check_app.top (name ∷ name ∷ []) (file ∷ certificate ∷ []) (f, (c, tt)) refl
+    (λ program passes. ap (λ (b : Bool). b && true) passes) (λ program. refl) refl (refl, (refl, tt))
 
-walk_taken : (file wide high : Text) → IsPlainWord file → IsSideText wide → IsSideText high → walk_passes show_shape [] (standing nothing_held 1) (file ∷ wide ∷ high ∷ []) ≡ true
+play_taken : OfKinds (name ∷ name ∷ side ∷ side ∷ []) (IsTaken (codes "play"))
 unfolding clap_on_literals
-walk_taken file wide high plain wide_side high_side =
-    let wide_plain = plain_side wide wide_side in
-    let third : walk_passes show_shape [] (after_wide file wide) (high ∷ []) ≡ true = and_from _ _ (high_turn file wide high wide_side (plain_side high high_side)) refl in
-    let second : walk_passes show_shape [] (after_file file) (wide ∷ high ∷ []) ≡ true =
-    and_from _ _ (wide_turn file wide wide_plain) (subst (λ (w : Walk). walk_passes show_shape [] w (high ∷ []) ≡ true) (sym (walked_plain show_rules (after_file file).held 2 wide wide_plain)) third) in
-    and_from _ _ (file_turn file plain) (subst (λ (w : Walk). walk_passes show_shape [] w (wide ∷ high ∷ []) ≡ true) (sym (walked_plain show_rules nothing_held 1 file plain)) second)
+play_taken file f certificate c wide w high h =
+    of_usage (codes "play") play_app.top (name ∷ name ∷ side ∷ side ∷ []) (file ∷ certificate ∷ wide ∷ high ∷ []) (f, (c, (w, (h, tt)))) refl
+    (λ program passes. ap (λ (b : Bool). b && true) passes) (λ program. refl)
+    (ap₂ (λ (a b : Bool). ((a && true) && true) && ((b && true) && true)) (side_passes wide w) (side_passes high h))
+    (refl, (refl, (side_given _ (codes "W") wide refl w, (side_given _ (codes "H") high refl h, ((λ some. let bad : false ≡ true = some in cc), tt)))))
 
--- what is held behind the last word passes
-abbrev EndPasses : Walk → Type 0
-EndPasses w = (settle_passes show_rules show_shape.args_override_self w.held && (list_all default_passes show_rules && is_valid show_shape (finished show_rules w.held) false)) ≡ true
-
-end_taken : (file wide high : Text) → IsSideText high → EndPasses (taken (after_wide file wide) high)
+bands_taken : OfKinds (name ∷ name ∷ side ∷ side ∷ bands ∷ side ∷ []) (IsTaken (codes "play"))
 unfolding clap_on_literals
-end_taken file wide high side = and_from _ _ (ap (λ (b : Bool). b && true) (side_passes high side)) refl
+bands_taken file f certificate c wide w high h word b rows r =
+    of_usage (codes "play") play_app.top (name ∷ name ∷ side ∷ side ∷ bands ∷ side ∷ []) (file ∷ certificate ∷ wide ∷ high ∷ word ∷ rows ∷ []) (f, (c, (w, (h, (b, (r, tt)))))) refl
+    (λ program passes. ap (λ (b : Bool). b && true) passes) (λ program. refl)
+    (ap₂ (λ (a b : Bool). ((a && true) && (((b && true) && true) && true)) && ((is_signed_in (pos 1) (pos surface_side_limit) rows && true) && true)) (side_passes wide w) (side_passes high h)
+    ∙ ap (λ (b : Bool). (b && true) && true) (side_passes rows r))
+    (refl, (refl, (side_given _ (codes "W") wide refl w, (side_given _ (codes "H") high refl h, ((λ some. side_given _ (codes "ROWS") rows refl r), tt)))))
 
-show_taken : (file wide high : Text) → IsPlainWord file → IsSideText wide → IsSideText high → level_passes show_shape [] nothing_held (file ∷ wide ∷ high ∷ []) false ≡ true
-show_taken file wide high plain wide_side high_side =
-    let end = walked_words file wide high plain (plain_side wide wide_side) (plain_side high high_side) in
-    and_from _ _ (walk_taken file wide high plain wide_side high_side) (subst EndPasses (sym end) (end_taken file wide high high_side))
-
-five_taken : (program file wide high : Text) → level_passes show_shape [] nothing_held (file ∷ wide ∷ high ∷ []) false ≡ true → takes metaplay_app (program ∷ codes "show" ∷ file ∷ wide ∷ high ∷ []) ≡ true
+over_taken : OfKinds (name ∷ name ∷ name ∷ []) (IsTaken (codes "over"))
 unfolding clap_on_literals
-five_taken program file wide high passes = ap (λ (b : Bool). b && true) passes
+over_taken file f certificate c image i =
+    of_usage (codes "over") over_app.top (name ∷ name ∷ name ∷ []) (file ∷ certificate ∷ image ∷ []) (f, (c, (i, tt))) refl
+    (λ program passes. ap (λ (b : Bool). b && true) passes) (λ program. refl) refl (refl, (refl, (refl, tt)))
 
--- clap takes five words of the right form
+list_taken : OfKinds (name ∷ []) (IsTaken (codes "list"))
+unfolding clap_on_literals
+list_taken file f =
+    of_usage (codes "list") list_app.top (name ∷ []) (file ∷ []) (f, tt) refl
+    (λ program passes. ap (λ (b : Bool). b && true) passes) (λ program. refl) refl (refl, tt)
+
+abbrev UsageIsTaken : Text × List ArgumentKind → Type 0
+UsageIsTaken usage = OfKinds usage.1 (IsTaken usage.0)
+
+abbrev EachIsTaken : List (Text × List ArgumentKind) → Type 0
+EachIsTaken [] = Unit {0}
+EachIsTaken (usage ∷ others) = UsageIsTaken usage × EachIsTaken others
+
+all_of : (list : List (Text × List ArgumentKind)) → EachIsTaken list → All UsageIsTaken list
+all_of [] each = All-nil UsageIsTaken
+all_of (usage ∷ others) each = All-cons UsageIsTaken usage others each.0 (all_of others each.1)
+
+-- so all of them are
+all_taken : All UsageIsTaken usages
+all_taken = all_of usages (show_taken, (prepare_taken, (check_taken, (play_taken, (bands_taken, (over_taken, (list_taken, tt)))))))
+
+is_taken : (words : List Text) (right : AreRightWords words) → IsTaken right.command right.arguments
+is_taken words right =
+    let usage = right.right in
+    let all : UsageIsTaken usage.1 = subst UsageIsTaken usage.3 (all_taken usage.0 usage.1 usage.2) in
+    let named : IsTaken usage.1.0 right.arguments = of_kinds usage.1.1 right.arguments (IsTaken usage.1.0) all usage.4.1 in
+    subst (λ (command : Text). IsTaken command right.arguments) usage.4.0 named
+
+-- clap takes right words
 pub right_taken : (words : List Text) → AreRightWords words → takes metaplay_app words ≡ true
 right_taken words right =
-    let shown = show_taken right.file right.wide right.high right.plain right.wide_side right.high_side in
-    subst (λ (l : List Text). takes metaplay_app l ≡ true) (sym right.are) (five_taken right.program right.file right.wide right.high shown)
+    subst (λ (l : List Text). takes metaplay_app l ≡ true) (sym right.are) ((is_taken words right).taken right.program)
 
--- what the words ask for is a file and two sides
-pub right_show : (words : List Text) → AreRightWords words → IsRightShow (subcommand_of metaplay_app words)
-right_show words right =
-    let wide_plain = plain_side right.wide right.wide_side in
-    let high_plain = plain_side right.high right.high_side in
-    let rows = first_word right.program right.file right.wide right.high ∙ ap (λ (r : List Row). Some (codes "show", r)) (other_words right.file right.wide right.high right.plain wide_plain high_plain) in
-    record {
-      given = given_all right.file right.wide right.high;
-      command = ap (subcommand_of metaplay_app) right.are ∙ rows;
-      allowed = record {
-        file = refl;
-        wide = record { text = right.wide; is_given = ap Some (no_minus right.wide wide_plain); is_side = right.wide_side };
-        high = record { text = right.high; is_given = ap Some (no_minus right.high high_plain); is_side = right.high_side };
-      };
-    }
+-- and the command that they name is given what it takes
+pub right_command : (words : List Text) → AreRightWords words → IsRightCommand (subcommand_of metaplay_app words)
+right_command words right =
+    subst (λ (l : List Text). IsRightCommand (subcommand_of metaplay_app l)) (sym right.are) ((is_taken words right).right right.program)

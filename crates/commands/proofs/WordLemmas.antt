@@ -1,30 +1,16 @@
--- What clap's walk makes of `show` and three words that are no flags.
-use Rattle.std.proofs.Common.{◌≡◌, ◌∙◌, ap, sym, subst, refl, ℕ, List, [], ◌∷◌, false, Option, Some, None, arith, codes}
-use Rattle.std.proofs.lemmas.Bool.{ne_eqb}
-use Rattle.clap.specs.Lexer.{short_of, without_minus}
+-- What clap makes of `show` and three words that are no flags.
+use Rattle.std.proofs.Common.{◌≡◌, ◌∙◌, ap, sym, subst, refl, ℕ, List, [], ◌∷◌, Option, Some, arith, codes}
+use Rattle.clap.specs.Lexer.{without_minus}
 use Rattle.clap.specs.Simple.{Shape, built}
-use Rattle.clap.specs.Walk.{Held, Row, Rule, Step, Text, Walk, after_step, finished, idle, nothing_held, one_of, rows_after, value, walk, walked, word_met}
+use Rattle.clap.specs.Walk.{Row, Rule, Text, finished, one_of, rows_after}
 use Rattle.clap.specs.Words.{first_of, subcommand_of}
 use Rattle.clap.proofs.OnLiterals.{clap_on_literals}
 use Rattle.commands.specs.declared.asked.CommandLine.{CommandLine}
 use Rattle.commands.specs.declared.asked.CommandLine.TheVariants.{Check, List as ListLine, Over, Play, Prepare, Show}
 use Rattle.commands.specs.CommandLine.{AreOfWords, GivesName, GivesNumber, GivesSides, HasPlainWords, HasWords, IsAskedByWords, IsPlainWord, metaplay_app, number_of}
-
-pub no_flags : (byte : ℕ) (rest : Text) → (byte ≡ 45 → ⊥) → short_of (byte ∷ rest) ≡ None
-no_flags byte rest plain = rw (ne_eqb byte 45 plain) refl
-
--- such a word is a value
-pub plain_met : (c : List Rule) (position : ℕ) (word : Text) (h : Held) → IsPlainWord word → word_met c [] false idle position word h ≡ (h, value)
-plain_met c position [] h plain = refl
-plain_met c position (byte ∷ rest) h plain = rw (ne_eqb byte 45 plain) (rw (no_flags byte rest plain) refl)
-
--- a walk that has come to a position, with nothing that waits
-abbrev pub standing : Held → ℕ → Walk
-standing h position = record { held = h; waiting = idle; position = position; is_trailing = false; stopped = None }
-
-pub walked_plain : (c : List Rule) (h : Held) (position : ℕ) (word : Text) → IsPlainWord word → walked c [] (standing h position) word ≡ after_step c word (standing h position) h value
-unfolding clap_on_literals
-walked_plain c h position word plain = ap (λ (m : Held × Step). after_step c word (standing h position) m.0 m.1) (plain_met c position word h plain)
+use Rattle.commands.specs.RightWords as kind
+use Rattle.commands.proofs.KindLemmas.{kinds_end, rows_kinds}
+use Rattle.commands.proofs.SideLemmas.{no_minus}
 
 abbrev rules_of_first : List Shape → List Rule
 rules_of_first [] = []
@@ -38,32 +24,16 @@ pub first_word : (program file wide high : Text) → subcommand_of metaplay_app 
 unfolding clap_on_literals
 first_word program file wide high = refl
 
-abbrev pub taken : Walk → Text → Walk
-taken w word = after_step show_rules word w w.held value
-
-abbrev pub after_file : Text → Walk
-after_file file = taken (standing nothing_held 1) file
-
-abbrev pub after_wide : Text → Text → Walk
-after_wide file wide = taken (after_file file) wide
+-- three words that are no flags, one by one
+abbrev three_names : List kind.ArgumentKind
+three_names = kind.name ∷ kind.name ∷ kind.name ∷ []
 
 abbrev pub given_all : Text → Text → Text → List Row
-given_all file wide high = finished show_rules (taken (after_wide file wide) high).held
-
-pub walked_words : (file wide high : Text) → IsPlainWord file → IsPlainWord wide → IsPlainWord high → walk show_rules [] nothing_held (file ∷ wide ∷ high ∷ []) ≡ taken (after_wide file wide) high
-walked_words file wide high plain_file plain_wide plain_high =
-    let first : walked show_rules [] (standing nothing_held 1) file ≡ after_file file = walked_plain show_rules nothing_held 1 file plain_file in
-    let second : walked show_rules [] (after_file file) wide ≡ after_wide file wide = walked_plain show_rules (after_file file).held 2 wide plain_wide in
-    let third : walked show_rules [] (after_wide file wide) high ≡ taken (after_wide file wide) high = walked_plain show_rules (after_wide file wide).held 3 high plain_high in
-    ap (λ (w : Walk). walked show_rules [] (walked show_rules [] w wide) high) first ∙ ap (λ (w : Walk). walked show_rules [] w high) second ∙ third
+given_all file wide high = finished show_rules (kinds_end show_rules three_names (file ∷ wide ∷ high ∷ []))
 
 pub other_words : (file wide high : Text) → IsPlainWord file → IsPlainWord wide → IsPlainWord high → rows_after show_rules [] (file ∷ wide ∷ high ∷ []) ≡ given_all file wide high
 other_words file wide high plain_file plain_wide plain_high =
-    ap (λ (w : Walk). finished show_rules w.held) (walked_words file wide high plain_file plain_wide plain_high)
-
-pub no_minus : (word : Text) → IsPlainWord word → without_minus word ≡ word
-no_minus [] plain = refl
-no_minus (byte ∷ rest) plain = rw (ne_eqb byte 45 plain) refl
+    rows_kinds show_rules three_names (file ∷ wide ∷ high ∷ []) (plain_file, (plain_wide, (plain_high, tt)))
 
 number_given : (word : Text) (given : List Row) (id : Text) (number : ℕ) → IsPlainWord word → one_of id given ≡ Some (without_minus word) → GivesNumber given id number → number ≡ number_of word
 number_given word given id number plain is gives =

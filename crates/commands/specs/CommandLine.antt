@@ -1,10 +1,12 @@
 -- The program's command line, as clap reads it.
-use Rattle.std.specs.Prelude.{◌≡◌, ◌≤◌, ℕ, List, [], ◌∷◌, Option, Some, None, IsSome, String, codes, map, pos, string_bytes, true}
+use Rattle.std.specs.Prelude.{◌≡◌, ◌≤◌, ℕ, Bool, List, [], ◌∷◌, Option, Some, None, IsSome, String, codes, false, find, map, pos, string_bytes, true}
+use Rattle.std.specs.Str.{bytes_eq}
 use Rattle.mapping.specs.Limits.{surface_side_limit}
 use Rattle.std.specs.Str.Parse.{IsNumeral, digits_value, without_leading_plus}
 use Rattle.std.specs.declared.alloc.Global.{Global}
-use Rattle.clap.specs.Words.{App, Row, Rule, Text, first_of, new_app, new_rule, one_of, subcommand_of, with_rule, with_subcommand}
+use Rattle.clap.specs.Words.{App, Row, Rule, Shape, Text, first_of, new_app, new_rule, one_of, subcommand_of, with_rule, with_subcommand}
 use Rattle.clap.specs.declared.builder.ArgAction.TheVariants.{Set}
+use Rattle.clap.specs.declared.builder.value_parser.ValueParser.{ValueParser}
 use Rattle.clap.specs.declared.builder.value_parser.ValueParser.TheVariants.{Signed}
 use Rattle.commands.specs.Sides.{HasSides}
 use Rattle.commands.specs.declared.asked.CommandLine.{CommandLine}
@@ -17,6 +19,10 @@ name_rule id = record (new_rule id) { required = true; action = Some Set }
 -- W or H, which has to be given, from 1 to 8,192
 abbrev pub side_rule : Text → Rule
 side_rule id = record (new_rule id) { required = true; action = Some Set; parser = Some (Signed (pos 1) (pos surface_side_limit)) }
+
+-- W and H
+abbrev pub side_rules : List Rule
+side_rules = side_rule (codes "W") ∷ side_rule (codes "H") ∷ []
 
 -- a command, with FILE in front
 abbrev pub file_app : Text → App
@@ -159,28 +165,28 @@ pub record GivesSide (given : List Row) (id : Text) : Type 0 where
   pub is_given : one_of id given ≡ Some text
   pub is_side : IsSideText text
 
--- a file and two sides were given
-pub record AllowsShow (given : List Row) : Type 0 where
-  pub file : IsSome (first_of (codes "FILE") given)
-  pub wide : GivesSide given (codes "W")
-  pub high : GivesSide given (codes "H")
+-- an argument was given what it takes: a text, and where a number is read of it a side's; one that need not be given may be missing
+abbrev pub GivesRight : Bool → Option ValueParser → List Row → Text → Type 0
+GivesRight true None given id = IsSome (first_of id given)
+GivesRight true (Some parser) given id = GivesSide given id
+GivesRight false parser given id = IsSome (first_of id given) → GivesSide given id
 
--- the command that was met is `show`, and was given a file and two sides
-pub record IsRightShow (met : Option (Text × List Row)) : Type 0 where
+abbrev pub GivesArgument : Rule → List Row → Type 0
+GivesArgument rule given = GivesRight rule.required rule.parser given rule.id
+
+-- each of the arguments was given what it takes
+abbrev pub GivesAll : List Rule → List Row → Type 0
+GivesAll [] given = Unit {0}
+GivesAll (rule ∷ rules) given = GivesArgument rule given × GivesAll rules given
+
+-- the command that was met is one of metaplay's, and was given what its arguments take
+pub record IsRightCommand (met : Option (Text × List Row)) : Type 0 where
+  pub name : Text
   pub given : List Row
-  pub command : met ≡ Some (codes "show", given)
-  pub allowed : AllowsShow given
-
--- five words: the program's name, `show`, a file that does not begin with a hyphen, and two sides
-pub record AreRightWords (words : List Text) : Type 0 where
-  pub program : Text
-  pub file : Text
-  pub wide : Text
-  pub high : Text
-  pub are : words ≡ program ∷ codes "show" ∷ file ∷ wide ∷ high ∷ []
-  pub plain : IsPlainWord file
-  pub wide_side : IsSideText wide
-  pub high_side : IsSideText high
+  pub shape : Shape
+  pub command : met ≡ Some (name, given)
+  pub declared : find (λ s. bytes_eq s.name name) metaplay_app.subs ≡ Some shape
+  pub allowed : GivesAll shape.rules given
 
 -- it holds of a line that the words ask for, whose sides are sides of a surface
 pub record HoldsOfAsked (words : List Text) (holds : CommandLine → Type 0) : Type 0 where

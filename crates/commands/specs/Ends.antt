@@ -12,7 +12,7 @@ use Rattle.player.specs.Bands.{IsRunText}
 use Rattle.commands.specs.CheckReport.{ReportsAccepted, ReportsRefused}
 use Rattle.commands.specs.Images.{IsPlayedOverText, IsPlayedText, RefusesOver, RefusesPlay}
 use Rattle.commands.specs.Listings.{IsListing, Lists}
-use Rattle.commands.specs.Report.{Reports, Told}
+use Rattle.commands.specs.Report.{Reports, TellsNothing, Told}
 use Rattle.commands.specs.Tasks.{Task, check, list, over, play, prepare, show}
 use Rattle.listing.specs.declared.listing_end.ListingEnd.TheVariants.{Broken, Ended}
 use Rattle.commands.specs.declared.command_end.Completion.{Completion}
@@ -80,13 +80,13 @@ pub record TellsRefusal (task : Task) (told : Told) (old new : Option (List ℕ)
 
 -- where a task is refused, a check and a listing tell nothing, and each other task the refusal
 abbrev pub TellsRefused : Task → Told → Option (List ℕ) → Option (List ℕ) → Type 0
-TellsRefused (check file certificate) told old new = Keeps old new
-TellsRefused (list file) told old new = Keeps old new
+TellsRefused (check file certificate) told old new = TellsNothing told old new
+TellsRefused (list file) told old new = TellsNothing told old new
 TellsRefused task told old new = TellsRefusal task told old new
 
 -- What a task has told on standard error: nothing where it is done, and else one line.
 abbrev pub TellsBy : CommandEnd → Task → Told → Option (List ℕ) → Option (List ℕ) → Type 0
-TellsBy end.Done task told old new = Keeps old new
+TellsBy end.Done task told old new = TellsNothing told old new
 TellsBy end.Refused task told old new = TellsRefused task told old new
 TellsBy end.CannotWrite task told old new = Reports told old new (codes "cannot write")
 TellsBy end.OutOfMemory task told old new = Reports told old new (codes "OutOfMemory")

@@ -5,7 +5,7 @@ use Rattle.draw_ops.specs.declared.fault.Fault.TheVariants as fault
 use Rattle.preflight_cert.specs.Refusal.{refusal_text}
 use Rattle.preflight_cert.specs.declared.refusal.Refusal.{Refusal}
 use Rattle.commands.specs.Ends.{IsRefusedBy, IsTextOf, WritesFront, WritesRefused}
-use Rattle.commands.specs.Report.{Reports, Told}
+use Rattle.commands.specs.Report.{Reports, TellsNothing, Told}
 use Rattle.commands.specs.Tasks.{Task}
 use Rattle.commands.specs.declared.command_end.CommandEnd.{CommandEnd}
 use Rattle.commands.specs.declared.command_end.CommandEnd.TheVariants as end
@@ -21,7 +21,7 @@ ending_of (Err OutOfMemory) = end.OutOfMemory
 
 -- nothing is told of a task that is done, and else the line of the reason
 abbrev pub TellsEnding : Result ⊤ Failure → Told → Option (List ℕ) → Option (List ℕ) → Type 0
-TellsEnding (Ok _) told old new = Keeps old new
+TellsEnding (Ok _) told old new = TellsNothing told old new
 TellsEnding (Err (Refused r)) told old new = Reports told old new (refusal_text r)
 TellsEnding (Err CannotWrite) told old new = Reports told old new (codes "cannot write")
 TellsEnding (Err OutOfMemory) told old new = Reports told old new (codes "OutOfMemory")

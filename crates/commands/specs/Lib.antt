@@ -11,6 +11,7 @@ pub mod Listings
 pub mod Reading
 pub mod Report
 pub mod Reported
+pub mod RightWords
 pub mod Sides
 pub mod Statuses
 pub mod Tasks

@@ -5,7 +5,7 @@ use Rattle.clap.specs.Words.{Text}
 use Rattle.std.specs.declared.alloc.Global.{Global}
 use Rattle.commands.specs.CommandLine.{HoldsOfAsked, texts_of}
 use Rattle.commands.specs.Ends.{TellsBy, WritesBy}
-use Rattle.commands.specs.Report.{Reports, Told}
+use Rattle.commands.specs.Report.{Reports, TellsNothing, Told}
 use Rattle.commands.specs.Sides.{HoldsOfSome, file_of}
 use Rattle.commands.specs.Tasks.{Task, check, list, over, play, prepare, show}
 use Rattle.commands.specs.declared.command_end.Completion.{Completion}
@@ -64,7 +64,7 @@ OutBy end.WrongUsage line input old new = ⊥
 
 -- What it has told on standard error.
 abbrev pub ErrBy : CommandEnd → CommandLine → Option (List ℕ) → Told → Option (List ℕ) → Option (List ℕ) → Type 0
-ErrBy end.Done line input told old new = Keeps old new
+ErrBy end.Done line input told old new = TellsNothing told old new
 ErrBy end.Refused line input told old new = LeavesErr line input end.Refused told old new
 ErrBy end.CannotWrite line input told old new = Reports told old new (codes "cannot write")
 ErrBy end.CannotRead line input told old new = Reports told old new (codes "cannot read")

@@ -1,6 +1,6 @@
 -- What goes to standard error.
 use Rattle.std.specs.Prelude.{ℕ, List, ◌++◌, Option, Result, Ok, Err, codes, ⊤}
-use Rattle.std.specs.Io.KnownBytes.{Appends}
+use Rattle.std.specs.Io.KnownBytes.{Appends, Keeps}
 use Rattle.canvas.specs.Ppm.{AppendsFront}
 use Rattle.canvas.specs.declared.canvas_error.WriteFault.{WriteFault}
 
@@ -16,3 +16,8 @@ Told = Result ⊤ WriteFault
 abbrev pub Reports : Told → Option (List ℕ) → Option (List ℕ) → List ℕ → Type 0
 Reports (Ok _) old new text = Appends old new (program_line text)
 Reports (Err _) old new text = AppendsFront old new (program_line text)
+
+-- nothing was told, so no writer failed
+abbrev pub TellsNothing : Told → Option (List ℕ) → Option (List ℕ) → Type 0
+TellsNothing (Ok _) old new = Keeps old new
+TellsNothing (Err _) old new = ⊥

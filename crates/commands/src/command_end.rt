@@ -41,7 +41,7 @@ impl CommandEnd {
 #[derive(Clone, Copy, Debug, PartialEq, Eq)]
 pub struct Completion {
     pub end: CommandEnd,
-    /// An error where the writer failed before the last byte of what it was to be told.
+    /// An error where the writer failed before the last byte of what it was to be told, and never where it was to be told nothing.
     pub told: Result<(), WriteFault>,
 }
 

@@ -3,8 +3,10 @@
 ghost use Rattle.std.specs.Prelude.{◌≡◌, IfErr, IfOk, IfSome, IsSome, codes};
 ghost use Rattle.clap.specs.Words.{first_of, found_of, kind_of, rows_of, subcommand_rows_of};
 ghost use Rattle.mapping.specs.Limits.{IsSurfaceSide};
-ghost use Rattle.commands.specs.CommandLine.{AllowsShow, AreRightWords, HoldsWords, GivesBands, GivesName, GivesNumber, GivesSide, GivesSides};
-ghost use Rattle.commands.specs.CommandLine.{HasPlainWords, IsAskedBy, IsAskedByWords, IsRightShow, command_name, texts_of};
+ghost use Rattle.commands.specs.CommandLine.{GivesAll, GivesArgument, GivesBands, GivesName, GivesNumber, GivesSide, GivesSides};
+ghost use Rattle.commands.specs.CommandLine.{HasPlainWords, HoldsWords, IsAskedBy, IsAskedByWords, IsRightCommand, command_name, texts_of};
+ghost use Rattle.commands.specs.CommandLine.{bands_rule, check_app, list_app, over_app, play_app, prepare_app, show_app, side_rules};
+ghost use Rattle.commands.specs.RightWords.{AreRightWords};
 ghost use Rattle.commands.specs.Sides.{AreSides, HasSides};
 
 use crate::asked::CommandLine;
@@ -15,7 +17,8 @@ use mapping::MAX_SURFACE_SIDE;
 use std::alloc::Global;
 
 /// What the words of a command line ask for, the program's name first, by `clap`'s walk over them.
-/// An error has the text that the user is shown, for asked-for help too.
+/// An error has the text that the user is shown, for asked-for help too. Right words of a command are refused for want of
+/// memory alone.
 pub fn line<'a>(alloc: Global, words: &'a [String]) -> Result<CommandLine<'a>, Error>
     ensures sides { IfOk result HasSides }
     ensures asked { IfOk result (IsAskedByWords (texts_of words.entry.now)) }
@@ -34,7 +37,7 @@ pub fn line<'a>(alloc: Global, words: &'a [String]) -> Result<CommandLine<'a>, E
 fn asked<'a>(matches: &ArgMatches<'a>) -> Option<CommandLine<'a>>
     ensures sides { IfSome result HasSides }
     ensures asked { IfSome result (IsAskedBy (subcommand_rows_of matches.now)) }
-    ensures taken { IsRightShow (subcommand_rows_of matches.now) → IsSome result }
+    ensures taken { IsRightCommand (subcommand_rows_of matches.now) → IsSome result }
 {
     if let Some(given) = matches.subcommand_matches("show") {
         return asked_show(given);
@@ -62,7 +65,7 @@ fn asked_show<'a>(given: &ArgMatches<'a>) -> Option<CommandLine<'a>>
     ensures sides { IfSome result HasSides }
     ensures name { IfSome result (λ line. command_name line ≡ codes "show") }
     ensures gives { IfSome result (HoldsWords (rows_of (found_of given.now))) }
-    ensures taken { AllowsShow (rows_of (found_of given.now)) → IsSome result }
+    ensures taken { GivesAll show_app.top.rules (rows_of (found_of given.now)) → IsSome result }
 {
     let Some(file) = name_of(given, "FILE") else {
         return None;
@@ -82,6 +85,7 @@ fn asked_prepare<'a>(given: &ArgMatches<'a>) -> Option<CommandLine<'a>>
     ensures sides { IfSome result HasSides }
     ensures name { IfSome result (λ line. command_name line ≡ codes "prepare") }
     ensures gives { IfSome result (HoldsWords (rows_of (found_of given.now))) }
+    ensures taken { GivesAll prepare_app.top.rules (rows_of (found_of given.now)) → IsSome result }
 {
     let Some(file) = name_of(given, "FILE") else {
         return None;
@@ -105,6 +109,7 @@ fn asked_check<'a>(given: &ArgMatches<'a>) -> Option<CommandLine<'a>>
     ensures sides { IfSome result HasSides }
     ensures name { IfSome result (λ line. command_name line ≡ codes "check") }
     ensures gives { IfSome result (HoldsWords (rows_of (found_of given.now))) }
+    ensures taken { GivesAll check_app.top.rules (rows_of (found_of given.now)) → IsSome result }
 {
     let Some(file) = name_of(given, "FILE") else {
         return None;
@@ -120,6 +125,7 @@ fn asked_play<'a>(given: &ArgMatches<'a>) -> Option<CommandLine<'a>>
     ensures sides { IfSome result HasSides }
     ensures name { IfSome result (λ line. command_name line ≡ codes "play") }
     ensures gives { IfSome result (HoldsWords (rows_of (found_of given.now))) }
+    ensures taken { GivesAll play_app.top.rules (rows_of (found_of given.now)) → IsSome result }
 {
     let Some(file) = name_of(given, "FILE") else {
         return None;
@@ -147,6 +153,7 @@ fn asked_over<'a>(given: &ArgMatches<'a>) -> Option<CommandLine<'a>>
     ensures sides { IfSome result HasSides }
     ensures name { IfSome result (λ line. command_name line ≡ codes "over") }
     ensures gives { IfSome result (HoldsWords (rows_of (found_of given.now))) }
+    ensures taken { GivesAll over_app.top.rules (rows_of (found_of given.now)) → IsSome result }
 {
     let Some(file) = name_of(given, "FILE") else {
         return None;
@@ -169,6 +176,7 @@ fn asked_list<'a>(given: &ArgMatches<'a>) -> Option<CommandLine<'a>>
     ensures sides { IfSome result HasSides }
     ensures name { IfSome result (λ line. command_name line ≡ codes "list") }
     ensures gives { IfSome result (HoldsWords (rows_of (found_of given.now))) }
+    ensures taken { GivesAll list_app.top.rules (rows_of (found_of given.now)) → IsSome result }
 {
     let Some(file) = name_of(given, "FILE") else {
         return None;
@@ -188,7 +196,7 @@ fn name_of<'a>(given: &ArgMatches<'a>, id: &str) -> Option<&'a str>
 fn sides_of(given: &ArgMatches<'_>) -> Option<(u32, u32)>
     ensures sides { IfSome result (λ sides. AreSides sides.0 sides.1) }
     ensures given { IfSome result (λ sides. GivesSides (rows_of (found_of given.now)) sides.0 sides.1) }
-    ensures taken { AllowsShow (rows_of (found_of given.now)) → IsSome result }
+    ensures taken { GivesAll side_rules (rows_of (found_of given.now)) → IsSome result }
 {
     let Some(width) = side_of(given, "W") else {
         return None;
@@ -203,6 +211,7 @@ fn sides_of(given: &ArgMatches<'_>) -> Option<(u32, u32)>
 fn bands_of(given: &ArgMatches<'_>) -> Option<Option<u32>>
     ensures range { IfSome result (λ bands. IfSome bands IsSurfaceSide) }
     ensures given { IfSome result (GivesBands (rows_of (found_of given.now))) }
+    ensures taken { GivesArgument bands_rule (rows_of (found_of given.now)) → IsSome result }
 {
     let Some(_) = name_of(given, "ROWS") else {
         return Some(None);

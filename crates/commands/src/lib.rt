@@ -4,8 +4,9 @@
 //! # What is promised
 //!
 //! - A command line asks only for surfaces from 1 to 8,192 pixels a side, and for the files and the
-//!   sides that its words give, as `clap` walks over them. The five words of `show` are never wrong
-//!   usage where they are of the right form (`line`, `run_words`).
+//!   sides that its words give, as `clap` walks over them. The right words of each command are never
+//!   wrong usage: its name, and the names of files and the sides that it takes, in order, for `play`
+//!   with bands or without (`line`, `run_words`).
 //! - What is read of an input is all of it, or it is refused (`read_input`).
 //! - How a command ends says what its output got and what standard error was told, by one definition
 //!   for all of them (`show_command`, `prepare_command`, `check_command`, `play_command`, `over_command`,
@@ -24,7 +25,8 @@
 //! - The whole program's ends mean the same of some bytes, at the sides and for the files that the words
 //!   ask for (`run_words`, `run`); no status is above 4 (`CommandEnd::status`).
 //! - Standard error gets nothing where the work is done, and else the one line that tells why: all of it,
-//!   or a front where the writer failed, which the answer tells (`report`, `run`).
+//!   or a front where the writer failed, which the answer tells (`report`, `run`). Where nothing is told
+//!   the answer has no error of that writer.
 #![tactic(auto)]
 
 mod asked;

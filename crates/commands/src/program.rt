@@ -3,7 +3,7 @@
 ghost use Rattle.std.specs.Prelude.{◌≡◌, ◌≢◌, ◌⊎◌, ◌↔◌, codes, map, string_bytes};
 ghost use Rattle.std.specs.Io.KnownBytes.{Keeps};
 ghost use Rattle.clap.specs.Words.{kind_of};
-ghost use Rattle.commands.specs.CommandLine.{AreRightWords};
+ghost use Rattle.commands.specs.RightWords.{AreRightWords};
 ghost use Rattle.commands.specs.Faults.{input_end, fault_text};
 ghost use Rattle.commands.specs.Lines.{TaskTells, TaskWrites, TellsAsked, TellsLine, TellsMemory, TellsSome};
 ghost use Rattle.commands.specs.Lines.{WritesAsked, WritesLine, WritesSome, standard_input};

@@ -23,7 +23,7 @@ use Rattle.dc_stack.specs.MachineState.{IsUnchanged, MachineState, Plays, undraw
 use Rattle.dc_stack.specs.Mapped.{mapped_box, mapped_corners, mapped_list, mapped_lists, mapped_point}
 use Rattle.dc_stack.specs.Needs.{drawing_needs, greater_needs, needs_of, pieces_needed}
 use Rattle.dc_stack.specs.Next.{end_of, next}
-use Rattle.dc_stack.specs.OperationFault.{edges_fault, fault_of, off_plane_fault, plain_fault, plane_points, points_drawn}
+use Rattle.dc_stack.specs.OperationFault.{edges_fault, fault_of, nib_fault, off_plane_fault, place_fault, plain_fault, plane_points, points_drawn}
 use Rattle.dc_stack.specs.Path.{Path, after_lines, after_polygons, after_polylines, finished_path, is_open, no_path, open_path, piece_count, piece_limit, pieces_fault, pieces_of_lines, points_if_open, unless_open}
 use Rattle.dc_stack.specs.Pieces.{page_points, plane_lists, with_lists}
 use Rattle.dc_stack.specs.State.{State, with_path, with_position}
@@ -35,6 +35,7 @@ use Rattle.dc_stack.specs.declared.piece.Joining.TheVariants.{GoesOn, Polylines,
 use Rattle.dc_stack.specs.declared.piece.Piece.{Piece}
 use Rattle.dc_stack.specs.declared.piece.PiecePoints.{PiecePoints}
 use Rattle.dc_stack.specs.declared.piece.PiecePoints.TheVariants.{Point as OnePoint, List as OneList, Lists, Corners}
+use Rattle.dc_stack.proofs.FaultOrder.{or_none}
 use Rattle.dc_stack.proofs.AdditionLemmas.{no_polygons, no_polylines, one_piece, some_mapped}
 use Rattle.dc_stack.proofs.ListLemmas.{mapped_joined}
 
@@ -125,10 +126,6 @@ module _ (path : Path) (at : is_open path ≡ true) where
       by_path (open_path figures n) h = refl
       by_path (finished_path figures) h = cc
 
-  or_none : (fault : Option RecordFault) → option_or fault None ≡ fault
-  or_none None = refl
-  or_none (Some fault) = refl
-
   nothing_drawn : (drawing : Option Drawing) → unless_open path drawing ≡ None
   nothing_drawn drawing = rw at refl
 
@@ -136,8 +133,8 @@ module _ (path : Path) (at : is_open path ≡ true) where
   undrawn_points : (points : List Point) (drawing : Option Drawing) → points ++ points_drawn (unless_open path drawing) ≡ points
   undrawn_points points drawing = rw at (append-nil points)
 
-  undrawn_fault : (count : ℕ) (points : List Point) (drawing : Option Drawing) (s : Surface) → option_or (option_or (pieces_fault count) (edges_fault (unless_open path drawing))) (off_plane_fault (points ++ points_drawn (unless_open path drawing)) s) ≡ option_or (pieces_fault count) (off_plane_fault points s)
-  undrawn_fault count points drawing s = rw (at, le-leb 0 edge_limit (omega arith), or_none (pieces_fault count), append-nil points) refl
+  undrawn_fault : (count : ℕ) (points : List Point) (drawing : Option Drawing) (s : Surface) → option_or (option_or (pieces_fault count) (edges_fault (unless_open path drawing))) (option_or (off_plane_fault (points ++ points_drawn (unless_open path drawing)) s) (nib_fault (unless_open path drawing) s)) ≡ option_or (pieces_fault count) (off_plane_fault points s)
+  undrawn_fault count points drawing s = rw (at, le-leb 0 edge_limit (omega arith), or_none (pieces_fault count), append-nil points, or_none (off_plane_fault points s)) refl
 
 -- an operation that adds points is played
 pub plays_added : (operation : Operation) (after : Path) (points : List Point) (position : Point) (old : MachineState) (result : Result (Option Rect) Fault) (new : MachineState) → next operation old.state ≡ with_position position (with_path after old.state) → needs_of operation old.state ≡ pieces_needed (piece_count after) → drawing_of operation old.state ≡ None → fault_of operation old.state old.surface ≡ adding_fault after points old.surface → plane_points operation old.state ≡ points → Adds after points position old result new → Plays operation old (undrawn result) new
@@ -149,6 +146,7 @@ plays_added operation after points position old (Ok extent) new state needs draw
   };
   drawn = sym drawing;
   placed = tt;
+  nib = tt;
   extent = subst (IsExtent extent) (sym placed) h.extent;
   figures = λ (e : false ≡ true). cc;
 }
@@ -165,6 +163,10 @@ plays_added operation after points position old (Err e) new state needs drawing 
 }
 
 module _ (old new : MachineState) (at : is_open old.state.path ≡ true) (result : Result (Option Rect) Fault) where
+  -- more pieces than a path may have, or more points than a drawing
+  abbrev count_fault : Path → Option Drawing → Option RecordFault
+  count_fault after drawing = option_or (pieces_fault (piece_count after)) (edges_fault (unless_open old.state.path drawing))
+
   -- points are added by the figures of the path
   pub plays_kept : (operation : Operation) (after : Path) (kept : Figures → List Point) (position : Point) (drawing : Option Drawing) → next operation old.state ≡ with_position position (with_path after old.state) → needs_of operation old.state ≡ drawing_needs operation old.state → drawing_of operation old.state ≡ unless_open old.state.path drawing → plain_fault operation old.state ≡ option_or (pieces_fault (piece_count (next operation old.state).path)) (edges_fault (drawing_of operation old.state)) → plane_points operation old.state ≡ points_if_open old.state.path kept ++ points_drawn (drawing_of operation old.state) → Adds after (points_if_open old.state.path kept) position old result new → Plays operation old (undrawn result) new
   plays_kept operation after kept position drawing next_is needs draws plain placed h =
@@ -174,8 +176,9 @@ module _ (old new : MachineState) (at : is_open old.state.path ≡ true) (result
       plays_added operation after points position old result new next_is
       (needs ∙ rw (none, count) refl)
       none
-      (ap (λ fault. option_or fault (off_plane_fault (plane_points operation old.state) old.surface)) (plain ∙ rw (count, draws) refl)
-      ∙ ap (λ ps. option_or (option_or (pieces_fault (piece_count after)) (edges_fault (unless_open old.state.path drawing))) (off_plane_fault ps old.surface)) (placed ∙ rw draws refl)
+      (ap (λ fault. option_or fault (place_fault operation old.state old.surface)) (plain ∙ rw (count, draws) refl)
+      ∙ ap (λ ps. option_or (count_fault after drawing) (option_or (off_plane_fault ps old.surface) (nib_fault (drawing_of operation old.state) old.surface))) (placed ∙ rw draws refl)
+      ∙ ap (λ d. option_or (count_fault after drawing) (option_or (off_plane_fault (points ++ points_drawn (unless_open old.state.path drawing)) old.surface) (nib_fault d old.surface))) draws
       ∙ undrawn_fault old.state.path at (piece_count after) points drawing old.surface)
       (placed ∙ rw draws (undrawn_points old.state.path at points drawing))
       h

@@ -12,6 +12,7 @@ pub mod MarkingLemmas
 pub mod AddingLemmas
 pub mod AdditionLemmas
 pub mod FaultLemmas
+pub mod FaultOrder
 pub mod SavedLemmas
 pub mod WorkedStart
 pub mod WorkedRows

@@ -1,5 +1,5 @@
 -- Drawings that are made, and operations that draw while no path is open.
-use Rattle.std.proofs.Common.{◌≡◌, ℕ, suc, ◌<◌, ◌≤◌, Bool, true, false, cond, List, [], ◌∷◌, ◌++◌, length, Option, None, Result, Ok, Err, inl, arith, refl, ap, subst, sym, ◌∙◌}
+use Rattle.std.proofs.Common.{◌≡◌, ℕ, suc, ◌<◌, ◌≤◌, Bool, true, false, cond, List, [], ◌∷◌, ◌++◌, length, Option, Some, None, Result, Ok, Err, inl, arith, refl, ap, subst, sym, ◌∙◌}
 use Rattle.std.proofs.lemmas.Bool.{le-leb}
 use Rattle.std.specs.Option.{option_map, option_or}
 use Rattle.mapping.specs.PageMap.{map_numbers}
@@ -13,39 +13,66 @@ use Rattle.draw_ops.specs.Operation.{Operation, line_to, polygon, polyline, poly
 use Rattle.draw_ops.specs.declared.operation.RectangleEdges.{RectangleEdges}
 use Rattle.draw_ops.specs.declared.fault.Fault.{Fault}
 use Rattle.draw_ops.specs.declared.fault.Fault.TheVariants.{Record}
-use Rattle.dc_stack.specs.Drawing.{MarkValue, drawing_now, drawing_of, edge_limit, going_on, lines_mark, lists_mark, lists_painted, mark_edges, mark_points, points_of_lists, rectangle_mark}
-use Rattle.dc_stack.specs.Draws.{IsReady, lends_path, mark_value_of}
-use Rattle.dc_stack.specs.DrawsApart.{DrawsApart, DrawsHere, DrawsLines, mark_fault}
+use Rattle.draw_ops.specs.declared.record_fault.RecordFault.{RecordFault}
+use Rattle.dc_stack.specs.Drawing.{MarkValue, drawing_nib, drawing_now, drawing_of, edge_limit, going_on, is_stroked, lines_mark, lists_mark, lists_painted, mark_edges, mark_points, pen_width, points_of_lists, rectangle_mark, tools_of}
+use Rattle.dc_stack.specs.Draws.{IsReady, lends_path, mark_value_of, strokes}
+use Rattle.dc_stack.specs.DrawsApart.{DrawsApart, DrawsHere, DrawsLines, HasNotDrawn, mark_fault}
 use Rattle.dc_stack.specs.Extents.{IsExtent}
 use Rattle.dc_stack.specs.Figures.{Figures, box_corners, points_gone_on, with_lines, with_polygons, with_polylines}
-use Rattle.dc_stack.specs.MachineState.{MachineState, Outcome, Plays}
+use Rattle.dc_stack.specs.MachineState.{IsUnchanged, MachineState, Outcome, Plays}
 use Rattle.dc_stack.specs.Mapped.{mapped_box, mapped_corners, mapped_list, mapped_lists, mapped_point}
-use Rattle.dc_stack.specs.Marking.{Marks}
+use Rattle.dc_stack.specs.Marking.{Marks, mark_nib}
 use Rattle.dc_stack.specs.Needs.{drawing_needs, greater_needs, needs_of, points_needed}
 use Rattle.dc_stack.specs.Next.{end_of, next}
-use Rattle.dc_stack.specs.OperationFault.{edges_fault, fault_of, plain_fault, plane_points, points_drawn}
+use Rattle.dc_stack.specs.OperationFault.{edges_fault, fault_of, nib_fault, off_plane_fault, plain_fault, plane_points, points_drawn, points_fault, wide_fault}
 use Rattle.dc_stack.specs.Path.{Path, finished_path, is_open, no_path, open_path, piece_count, piece_for, piece_limit, pieces_fault, pieces_of_lines, points_if_open, unless_open, with_figures}
 use Rattle.dc_stack.specs.Placing.{plane_list}
 use Rattle.dc_stack.specs.State.{State, with_path, with_position}
 use Rattle.dc_stack.specs.declared.draw.FigurePoints.TheVariants.{Through}
 use Rattle.dc_stack.specs.declared.draw.Mark.{Mark}
-use Rattle.dc_stack.specs.declared.draw.Mark.TheVariants.{Figures as FiguresMark}
+use Rattle.dc_stack.specs.declared.draw.Mark.TheVariants.{Blit, Dot, Figures as FiguresMark, Line, Rectangle}
+use Rattle.dc_stack.specs.declared.draw.Painting.{Painting}
 use Rattle.dc_stack.specs.declared.draw.Painting.TheVariants.{Stroke, StrokeAndFill}
 use Rattle.dc_stack.specs.declared.piece.Piece.{Piece}
+use Rattle.mapping.specs.Nibs.{nib_from, nib_of}
+use Rattle.mapping.specs.Surface.{Surface}
+use Rattle.dc_stack.proofs.FaultOrder.{none_of_both, points_first}
 use Rattle.dc_stack.proofs.LandingLemmas.{all_land}
 use Rattle.dc_stack.proofs.ListLemmas.{points_listed, through, through_count, through_joined}
 use Rattle.dc_stack.proofs.PlaneBoxLemmas.{least_of_extent}
+
+-- a mark of the code is stroked where its value is
+strokes_value : (pieces : List Piece) (mark : Mark) → strokes mark ≡ is_stroked (mark_value_of pieces mark)
+strokes_value pieces (Dot at colour) = refl
+strokes_value pieces (Line from to) = refl
+strokes_value pieces (FiguresMark painting points) = refl
+strokes_value pieces (Rectangle first second edges) = refl
+strokes_value pieces (Blit blit) = refl
+
+-- so its nib is that of the drawing
+pub nib_of_mark :
+    (pieces : List Piece) (mark : Mark) (value : MarkValue) (m : MachineState) (s : Surface) → mark_value_of pieces mark ≡ value
+    → mark_nib mark m s ≡ drawing_nib (record { mark = value; tools = tools_of m.state.dc }) s
+nib_of_mark pieces mark value m s valued =
+    ap (λ (b : Bool). nib_of (cond b (pen_width m.state.dc.selected.pen.object) 0) m.state.dc.map s)
+    (strokes_value pieces mark ∙ ap is_stroked valued)
 
 -- a mark that isn't of a path, the box of whose points is known
 module _ (mark : Mark) (value : MarkValue) (extent : Option Rect) (edges : ℕ) (valued : (pieces : List Piece) → mark_value_of pieces mark ≡ value) (apart : lends_path mark ≡ false) (counted : edges ≡ mark_edges value) (few : edges ≤ edge_limit) (boxed : IsExtent extent (mark_points value)) where
   few_edges : mark_edges value ≤ edge_limit
   few_edges = subst (λ n. n ≤ edge_limit) counted few
 
+  -- neither its points nor its nib have a fault
+  fault_then : (m : MachineState) → mark_fault value m.state m.surface ≡ option_or (off_plane_fault (mark_points value) m.surface) (wide_fault (mark_nib mark m m.surface))
+  fault_then m =
+      rw (le-leb (mark_edges value) edge_limit few_edges)
+      (ap (λ nib. option_or (off_plane_fault (mark_points value) m.surface) (wide_fault nib)) (sym (nib_of_mark [] mark value m m.surface (valued []))))
+
   pub draws_marked : (old new : MachineState) (result : Result Outcome Fault) → IsReady old.surface new.painted mark → Marks mark extent edges old result new → DrawsApart value old.state.dc.position old result new
   draws_marked old new (Ok told) ready h =
       let points = mark_points value in
       rw h.tells (record {
-        no_fault = rw (le-leb (mark_edges value) edge_limit few_edges) (sym (h.lands points boxed));
+        no_fault = fault_then old ∙ none_of_both (off_plane_fault points old.surface) (wide_fault (mark_nib mark old old.surface)) (sym (h.lands points boxed)) (rw (nib_from (mark_nib mark old old.surface) h.allowed) refl);
         state = h.state;
         needs = h.needs ∙ ap (λ n. greater_needs old.needs (points_needed n)) counted;
         drawn = rw (valued new.painted, h.state) refl;
@@ -56,11 +83,15 @@ module _ (mark : Mark) (value : MarkValue) (extent : Option Rect) (edges : ℕ) 
           within = rw (valued new.painted) (all_land old.surface points (h.lands points boxed));
           few = rw (valued new.painted) few_edges;
         };
+        nib = record {
+          is = rw h.state (nib_of_mark new.painted mark (mark_value_of new.painted mark) old old.surface refl);
+          allowed = h.allowed;
+        };
         apart = apart;
         extent = boxed;
       })
   draws_marked old new (Err fault) ready h = record {
-    refused = rw (le-leb (mark_edges value) edge_limit few_edges) (h.off (mark_points value) boxed);
+    refused = ap (option_map Record) (fault_then old) ∙ h.refused (mark_points value) boxed;
     kept = h.kept;
   }
 
@@ -77,6 +108,22 @@ draws_through map start from points extent count old new result some at counted 
     (counted ∙ through_count m start through_points some ∙ sym (ap length listed)) few
     (subst (IsExtent extent) (sym (listed ∙ through_joined m start through_points some)) boxed) old new result tt h
 
+-- a mark isn't drawn whose points have a fault
+refuses_points : (mark : MarkValue) (old new : MachineState) (fault : RecordFault) → option_or (edges_fault (drawing_now mark old.state)) (off_plane_fault (mark_points mark) old.surface) ≡ Some fault → IsUnchanged old new → HasNotDrawn mark old new (Record fault)
+refuses_points mark old new fault found unchanged =
+    let drawing = drawing_now mark old.state in
+    record {
+      refused = ap (option_map Record) (points_first fault (edges_fault drawing) (off_plane_fault (mark_points mark) old.surface) (nib_fault drawing old.surface) found);
+      kept = unchanged;
+    }
+
+pub refuses_off : (mark : MarkValue) (old new : MachineState) (fault : RecordFault) → mark_edges mark ≤ edge_limit → Some fault ≡ off_plane_fault (mark_points mark) old.surface → IsUnchanged old new → HasNotDrawn mark old new (Record fault)
+refuses_off mark old new fault few off = refuses_points mark old new fault (rw (le-leb (mark_edges mark) edge_limit few) (sym off))
+
+pub refuses_lists : (painting : Painting) (lists : List (List Point)) (old new : MachineState) (fault : RecordFault) → points_fault (points_of_lists lists) old.surface ≡ Some fault → IsUnchanged old new → HasNotDrawn (lists_painted painting lists) old new (Record fault)
+refuses_lists painting lists old new fault h =
+    refuses_points (lists_painted painting lists) old new fault (ap (λ ps. points_fault ps old.surface) (points_listed lists) ∙ h)
+
 -- an operation that draws a mark, and moves the position at most
 module _ (operation : Operation) (mark : MarkValue) (position : Point) (old new : MachineState) (after : next operation old.state ≡ with_position position old.state) (needed : needs_of operation old.state ≡ points_needed (mark_edges mark)) (drawing : drawing_of operation old.state ≡ drawing_now mark old.state) (fault : fault_of operation old.state old.surface ≡ mark_fault mark old.state old.surface) (points : plane_points operation old.state ≡ mark_points mark) where
   pub plays_drawn : (result : Result Outcome Fault) → DrawsApart mark position old result new → Plays operation old result new
@@ -88,6 +135,7 @@ module _ (operation : Operation) (mark : MarkValue) (position : Point) (old new 
     };
     drawn = h.drawn ∙ sym drawing;
     placed = h.placed;
+    nib = h.nib;
     extent = subst (IsExtent told.extent) (sym points) h.extent;
     figures = λ e. absurd (no_path_painted (sym e ∙ h.apart));
   }

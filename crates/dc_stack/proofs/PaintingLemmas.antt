@@ -22,11 +22,12 @@ use Rattle.dc_stack.specs.Extents.{IsExtent}
 use Rattle.dc_stack.specs.Figures.{Figure, all_figures, box_corners, points_of_figures}
 use Rattle.dc_stack.specs.GatheredPath.{gathered_points, path_in}
 use Rattle.dc_stack.specs.MachineState.{HasPlayed, IsUnchanged, HasRefused, MachineState, Outcome, painting_operation}
-use Rattle.dc_stack.specs.Marking.{HasMarked, HasNotMarked}
+use Rattle.dc_stack.specs.DrawsApart.{mark_fault}
+use Rattle.dc_stack.specs.Marking.{HasMarked, HasNotMarked, mark_nib}
 use Rattle.dc_stack.specs.Mapped.{left_top, mapped_box, mapped_corners, mapped_list, right_bottom}
 use Rattle.dc_stack.specs.Needs.{greater_needs, needs_of, points_needed}
 use Rattle.dc_stack.specs.Next.{next}
-use Rattle.dc_stack.specs.OperationFault.{fault_of, off_plane_fault, plane_points as placed_points}
+use Rattle.dc_stack.specs.OperationFault.{fault_of, off_plane_fault, plane_points as placed_points, wide_fault}
 use Rattle.dc_stack.specs.Path.{finished_path, no_path}
 use Rattle.dc_stack.specs.Pieces.{AllLandOn, LandsOn, figures_of, page_points, plane_lists}
 use Rattle.dc_stack.specs.State.{State, with_path}
@@ -39,15 +40,12 @@ use Rattle.dc_stack.specs.declared.path.PathPhase.TheVariants.{NoPath, BetweenFi
 use Rattle.dc_stack.specs.declared.piece.Piece.{Piece}
 use Rattle.dc_stack.specs.declared.piece.PiecePoints.{PiecePoints}
 use Rattle.dc_stack.specs.declared.piece.PiecePoints.TheVariants.{Point as OnePoint, List as OneList, Lists, Corners}
+use Rattle.mapping.specs.Nibs.{nib_from}
+use Rattle.dc_stack.proofs.FaultOrder.{none_of_both}
 use Rattle.dc_stack.proofs.CornerLemmas.{of_greater, of_lesser}
 use Rattle.dc_stack.proofs.FigureLemmas.{plane_points, points_gathered}
 use Rattle.dc_stack.proofs.PlaneBoxLemmas.{least_of_extent}
 use Rattle.dc_stack.proofs.ListLemmas.{mapped_joined}
-
--- more points than there may be, or else points off the plane
-abbrev figures_fault : List Figure → Surface → Option RecordFault
-figures_fault figures s =
-    option_or (if nat_le (length (points_of_figures figures)) edge_limit then None else Some TooManyEdges) (off_plane_fault (points_of_figures figures) s)
 
 module _ (state : State) (figures : List Figure) (at : state.path ≡ finished_path figures) where
   painting_drawn : (painting : Painting) → drawing_of (painting_operation painting) state ≡ Some (record { mark = figures_painted painting figures; tools = tools_of state.dc })
@@ -60,7 +58,7 @@ module _ (state : State) (figures : List Figure) (at : state.path ≡ finished_p
   painting_next Stroke = refl
   painting_next StrokeAndFill = refl
 
-  painting_fault : (painting : Painting) (s : Surface) → fault_of (painting_operation painting) state s ≡ figures_fault figures s
+  painting_fault : (painting : Painting) (s : Surface) → fault_of (painting_operation painting) state s ≡ mark_fault (figures_painted painting figures) state s
   painting_fault Fill s = rw at refl
   painting_fault Stroke s = rw at refl
   painting_fault StrokeAndFill s = rw at refl
@@ -152,15 +150,17 @@ module _ (s : Surface) where
 
 -- a finished path is painted
 module _ (old new : MachineState) (painting : Painting) (extent : Option Rect) (edges : ℕ) (figures : List Figure) (at : old.state.path ≡ finished_path figures) (counted : edges ≡ length (points_of_figures figures)) (few : length (points_of_figures figures) ≤ edge_limit) (boxed : IsExtent extent (points_of_figures figures)) where
-  fault_then : fault_of (painting_operation painting) old.state old.surface ≡ off_plane_fault (points_of_figures figures) old.surface
-  fault_then = painting_fault old.state figures at painting old.surface ∙ rw (le-leb (length (points_of_figures figures)) edge_limit few) refl
+  fault_then : fault_of (painting_operation painting) old.state old.surface ≡ option_or (off_plane_fault (points_of_figures figures) old.surface) (wide_fault (mark_nib (Figures painting Path) old old.surface))
+  fault_then =
+      painting_fault old.state figures at painting old.surface
+      ∙ rw (le-leb (length (points_of_figures figures)) edge_limit few) refl
 
   -- whose figures are those of the pieces that are lent
   pub plays_painting : (mid : MachineState) (told : Outcome) (pieces : List Piece) → all_figures (figures_of pieces) ≡ figures → new.state ≡ with_path no_path old.state → new.painted ≡ pieces → new.needs ≡ mid.needs → AllLandOn old.surface pieces → HasMarked (Figures painting Path) extent edges old mid told → HasPlayed (painting_operation painting) old new told
   plays_painting mid told pieces same state lent needs land h =
       rw h.tells (record {
         stepped = record {
-          no_fault = fault_then ∙ sym (h.lands (points_of_figures figures) boxed);
+          no_fault = fault_then ∙ none_of_both (off_plane_fault (points_of_figures figures) old.surface) (wide_fault (mark_nib (Figures painting Path) old old.surface)) (sym (h.lands (points_of_figures figures) boxed)) (rw (nib_from (mark_nib (Figures painting Path) old old.surface) h.allowed) refl);
           state = state ∙ sym (painting_next old.state figures at painting);
           needs = needs ∙ h.needs ∙ ap (λ n. greater_needs old.needs (points_needed n)) counted ∙ ap (greater_needs old.needs) (sym (painting_needs old.state figures at painting));
         };
@@ -172,14 +172,15 @@ module _ (old new : MachineState) (painting : Painting) (extent : Option Rect) (
           within = gathered_lands old.surface pieces land;
           few = rw same few;
         });
+        nib = record { is = rw state refl; allowed = h.allowed };
         extent = subst (IsExtent extent) (sym (painting_points old.state figures at painting)) boxed;
         figures = λ e. rw (lent, at, same) refl;
       })
 
-  -- or its points don't land
-  pub refuses_off : (fault : Fault) → HasNotMarked extent old new fault → HasRefused (painting_operation painting) old new fault
-  refuses_off fault h = record {
-    refused = inl (ap (option_map Record) fault_then ∙ h.off (points_of_figures figures) boxed);
+  -- or its points don't land, or its nib is too wide
+  pub refuses_marking : (fault : Fault) → HasNotMarked (Figures painting Path) extent old new fault → HasRefused (painting_operation painting) old new fault
+  refuses_marking fault h = record {
+    refused = inl (ap (option_map Record) fault_then ∙ h.refused (points_of_figures figures) boxed);
     kept = h.kept;
   }
 

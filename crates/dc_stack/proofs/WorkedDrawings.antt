@@ -227,7 +227,7 @@ abbrev with_tools : List Operation
 with_tools =
     create None (pen_object Null) ∷ create None (brush_object null_brush) ∷ select 0 ∷ select 1 ∷ intersect_clip (box (pos 0) (pos 0) (pos 2) (pos 2)) ∷ []
 
-selected_tools : tools_behind with_tools (polygon ((p ∷ q ∷ r ∷ []) ∷ [])) ≡ Some (record { pen = Null; brush = null_brush; modes = start.dc.modes; clip = record { kept = Some (box (pos 0) (pos 0) (pos 2) (pos 2)); cuts = [] } })
+selected_tools : tools_behind with_tools (polygon ((p ∷ q ∷ r ∷ []) ∷ [])) ≡ Some (record { pen = Null; brush = null_brush; modes = start.dc.modes; clip = record { kept = Some (box (pos 0) (pos 0) (pos 2) (pos 2)); cuts = [] }; map = start.dc.map })
 selected_tools = refl
 
 -- MOVETO draws nothing, and needs nothing

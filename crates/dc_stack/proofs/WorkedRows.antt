@@ -44,11 +44,11 @@ no_brush : stock_object 0x80000005 ≡ Some (brush_object null_brush)
 no_brush = refl
 
 -- 6 a white pen
-white_pen : stock_object 0x80000006 ≡ Some (pen_object (Solid white_colour))
+white_pen : stock_object 0x80000006 ≡ Some (pen_object (Solid 0 white_colour))
 white_pen = refl
 
 -- 7 a black pen
-black_pen : stock_object 0x80000007 ≡ Some (pen_object (Solid black_colour))
+black_pen : stock_object 0x80000007 ≡ Some (pen_object (Solid 0 black_colour))
 black_pen = refl
 
 -- 8 a pen that draws nothing
@@ -92,7 +92,7 @@ brush_of_the_context : stock_object 0x80000012 ≡ Some (brush_object (solid_bru
 brush_of_the_context = refl
 
 -- 13 the device's own pen, which is black
-pen_of_the_context : stock_object 0x80000013 ≡ Some (pen_object (Solid black_colour))
+pen_of_the_context : stock_object 0x80000013 ≡ Some (pen_object (Solid 0 black_colour))
 pen_of_the_context = refl
 
 -- 9 is none of them, between the null pen and the fonts
@@ -125,14 +125,14 @@ last_own_index = refl
 
 -- a red pen
 abbrev red_pen : ObjectValue
-red_pen = pen_object (Solid (record { r = 255; g = 0; b = 0 }))
+red_pen = pen_object (Solid 0 (record { r = 255; g = 0; b = 0 }))
 
 -- a dark grey brush
 abbrev grey_64 : ObjectValue
 grey_64 = brush_object (solid_brush (grey 64))
 
 -- a pen in use changes the pen alone, and its index is kept
-pen_takes_its_place : after_selecting 5 (Some red_pen) stock_selections ≡ record { pen = record { object = Solid (record { r = 255; g = 0; b = 0 }); index = Some 5 }; brush = stock_selections.brush; font = None; palette = None }
+pen_takes_its_place : after_selecting 5 (Some red_pen) stock_selections ≡ record { pen = record { object = Solid 0 (record { r = 255; g = 0; b = 0 }); index = Some 5 }; brush = stock_selections.brush; font = None; palette = None }
 pen_takes_its_place = refl
 
 -- a brush changes the brush alone
@@ -148,7 +148,7 @@ palette_takes_its_place : after_selecting 8 (Some palette_object) stock_selectio
 palette_takes_its_place = refl
 
 -- a stock pen takes the place of a pen, whose index goes
-stock_pen_drops_the_index : after_selecting 0x80000007 (Some (pen_object (Solid black_colour))) (after_selecting 5 (Some red_pen) stock_selections) ≡ stock_selections
+stock_pen_drops_the_index : after_selecting 0x80000007 (Some (pen_object (Solid 0 black_colour))) (after_selecting 5 (Some red_pen) stock_selections) ≡ stock_selections
 stock_pen_drops_the_index = refl
 
 -- SELECTOBJECT finds no object

@@ -1,11 +1,16 @@
 -- What an operation draws, by points of the plane.
-use Rattle.std.specs.Prelude.{ℕ, List, [], ◌∷◌, length, Option, Some, None}
+use Rattle.std.specs.Prelude.{ℕ, Bool, true, false, if◌then◌else◌, List, [], ◌∷◌, length, Option, Some, None}
 use Rattle.std.specs.List.{flat_map}
 use Rattle.std.specs.Option.{option_map}
 use Rattle.mapping.specs.declared.geometry.Colour.{Colour}
 use Rattle.mapping.specs.declared.geometry.Point.{Point}
 use Rattle.mapping.specs.declared.geometry.Rect.{Rect}
+use Rattle.mapping.specs.Nibs.{nib_of}
+use Rattle.mapping.specs.Plane.{MapNumbers}
+use Rattle.mapping.specs.Surface.{Surface}
+use Rattle.mapping.specs.declared.nib.Nib.{Nib}
 use Rattle.draw_ops.specs.declared.objects.Pen.{Pen}
+use Rattle.draw_ops.specs.declared.objects.Pen.TheVariants.{Null, Solid}
 use Rattle.draw_ops.specs.declared.operation.RectangleEdges.{RectangleEdges}
 use Rattle.draw_ops.specs.Blits.{SourceValue}
 use Rattle.draw_ops.specs.Objects.{BrushValue}
@@ -31,12 +36,13 @@ pub data MarkValue : Type 0 where
 abbrev pub lists_painted : Painting → List (List Point) → MarkValue
 lists_painted painting lists = figures_painted painting (figures_of_lists lists)
 
--- what is drawn with: the pen, the brush, the modes, and the clip
+-- what is drawn with: the pen, the brush, the modes, the clip, and the page map
 pub record Tools : Type 0 where
   pub pen : Pen
   pub brush : BrushValue
   pub modes : Modes
   pub clip : ClipValue
+  pub map : MapNumbers
 
 -- the tools of the moment
 abbrev pub tools_of : DcValue → Tools
@@ -45,12 +51,39 @@ tools_of dc = record {
   brush = dc.selected.brush.object;
   modes = dc.modes;
   clip = dc.clip;
+  map = dc.map;
 }
 
 -- a drawing: its mark, and the tools of its moment
 pub record Drawing : Type 0 where
   pub mark : MarkValue
   pub tools : Tools
+
+-- more of figures is painted than their inside
+abbrev pub paints_lines : Painting → Bool
+paints_lines Fill = false
+paints_lines Stroke = true
+paints_lines StrokeAndFill = true
+
+-- a mark is stroked
+abbrev pub is_stroked : MarkValue → Bool
+is_stroked (dot point colour) = false
+is_stroked (figures_painted painting figures) = paints_lines painting
+is_stroked (rectangle_between p q edges) = true
+is_stroked (blit_between p q table source) = false
+
+-- how wide a pen is, in page units
+abbrev pub pen_width : Pen → ℕ
+pen_width Null = 0
+pen_width (Solid width colour) = width
+
+-- how wide the stroke of a drawing is, in page units: 0 where it has none
+abbrev pub stroke_width : Drawing → ℕ
+stroke_width drawing = if is_stroked drawing.mark then pen_width drawing.tools.pen else 0
+
+-- the nib of a drawing on a surface, by the page map of its moment
+abbrev pub drawing_nib : Drawing → Surface → Nib
+drawing_nib drawing s = nib_of (stroke_width drawing) drawing.tools.map s
 
 -- the drawing of a mark, with the tools of the moment
 abbrev pub drawing_now : MarkValue → State → Option Drawing

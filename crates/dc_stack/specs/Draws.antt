@@ -13,7 +13,7 @@ use Rattle.point_views.specs.declared.polys.Polys.{Polys}
 use Rattle.draw_ops.specs.Blits.{source_of}
 use Rattle.raster_ops.specs.Sources.{is_readable}
 use Rattle.raster_ops.specs.TernaryOps.{uses_source}
-use Rattle.dc_stack.specs.Drawing.{MarkValue, blit_between, dot, edge_limit, figures_painted, lists_painted, mark_edges, mark_points, rectangle_between}
+use Rattle.dc_stack.specs.Drawing.{MarkValue, blit_between, dot, edge_limit, figures_painted, lists_painted, mark_edges, mark_points, paints_lines, rectangle_between}
 use Rattle.dc_stack.specs.Figures.{Figure, all_figures, figures_of_lists}
 use Rattle.dc_stack.specs.Mapped.{mapped_list, mapped_lists}
 use Rattle.dc_stack.specs.Pieces.{AllLandOn, figures_of}
@@ -86,6 +86,14 @@ lends_path (Line from to) = false
 lends_path (Figures painting points) = is_of_path points
 lends_path (Rectangle first second edges) = false
 lends_path (Blit blit) = false
+
+-- a mark is stroked
+abbrev pub strokes : Mark → Bool
+strokes (Dot at colour) = false
+strokes (Line from to) = true
+strokes (Figures painting points) = paints_lines painting
+strokes (Rectangle first second edges) = true
+strokes (Blit blit) = false
 
 -- a path is painted
 abbrev pub paints_path : Option Draw → Bool

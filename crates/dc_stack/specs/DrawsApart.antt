@@ -8,7 +8,7 @@ use Rattle.draw_ops.specs.declared.record_fault.RecordFault.{RecordFault}
 use Rattle.dc_stack.specs.Drawing.{MarkValue, drawing_now, lines_mark, mark_edges, mark_points}
 use Rattle.dc_stack.specs.Draws.{IsPlacedDraw, paints_path}
 use Rattle.dc_stack.specs.Extents.{IsExtent}
-use Rattle.dc_stack.specs.MachineState.{IsUnchanged, MachineState, Outcome, drawing_with}
+use Rattle.dc_stack.specs.MachineState.{HasNib, IsUnchanged, MachineState, Outcome, drawing_with}
 use Rattle.dc_stack.specs.Needs.{greater_needs, points_needed}
 use Rattle.dc_stack.specs.Next.{end_of}
 use Rattle.dc_stack.specs.OperationFault.{drawn_fault}
@@ -26,6 +26,7 @@ pub record HasDrawn (mark : MarkValue) (position : Point) (old new : MachineStat
   pub needs : new.needs ≡ greater_needs old.needs (points_needed (mark_edges mark))
   pub drawn : option_map (drawing_with new) told.draw ≡ drawing_now mark old.state
   pub placed : IfSome told.draw (IsPlacedDraw old.surface new.painted)
+  pub nib : IfSome told.draw (HasNib old.surface new)
   pub apart : paints_path told.draw ≡ false
   pub extent : IsExtent told.extent (mark_points mark)
 

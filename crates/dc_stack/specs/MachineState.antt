@@ -1,6 +1,8 @@
 -- What a machine is to its callers.
 use Rattle.std.specs.Prelude.{◌≡◌, ◌⊎◌, ℕ, ◌^◌, ◌<◌, ◌≤◌, Bool, true, false, List, [], length, Option, Some, None, IfSome, Result, Ok, Err}
 use Rattle.std.specs.Option.{option_map}
+use Rattle.mapping.specs.Nibs.{IsNib}
+use Rattle.mapping.specs.declared.nib.Nib.{Nib}
 use Rattle.mapping.specs.Surface.{Surface}
 use Rattle.mapping.specs.declared.geometry.Rect.{Rect}
 use Rattle.draw_ops.specs.Objects.{ObjectValue}
@@ -8,7 +10,7 @@ use Rattle.draw_ops.specs.Operation.{Operation, create, fill_path, save, stroke_
 use Rattle.draw_ops.specs.declared.fault.Fault.{Fault}
 use Rattle.draw_ops.specs.declared.fault.Fault.TheVariants.{OutOfMemory, Record}
 use Rattle.object_tables.specs.Table.{created_index, index_bound}
-use Rattle.dc_stack.specs.Drawing.{Drawing, drawing_of, tools_of}
+use Rattle.dc_stack.specs.Drawing.{Drawing, drawing_nib, drawing_of, tools_of}
 use Rattle.dc_stack.specs.Draws.{IsPlacedDraw, mark_of, paints_path}
 use Rattle.dc_stack.specs.Extents.{IsExtent}
 use Rattle.dc_stack.specs.Needs.{greater_needs, needs_of}
@@ -53,10 +55,11 @@ pub record GoesOn (old new : MachineState) : Type 0 where
   pub slots : old.room.slots ≤ new.room.slots
   pub pieces : old.room.pieces ≤ new.room.pieces
 
--- state, pieces that are lent and needs are what they were
+-- state, pieces that are lent, the extent of the last step and needs are what they were
 pub record IsUnchanged (old new : MachineState) : Type 0 where
   pub state : new.state ≡ old.state
   pub painted : new.painted ≡ old.painted
+  pub plane_extent : new.plane_extent ≡ old.plane_extent
   pub needs : new.needs ≡ old.needs
 
 -- an operation was played: it has no fault, and the state is the next
@@ -68,6 +71,15 @@ pub record HasStepped (operation : Operation) (old new : MachineState) : Type 0 
 -- the drawing of a draw, with the tools of the moment
 abbrev pub drawing_with : MachineState → Draw → Drawing
 drawing_with m draw = record { mark = mark_of m.painted draw; tools = tools_of m.state.dc }
+
+-- a nib is that of a drawing on a surface, and has no more columns and rows than it may
+pub record IsNibOf (drawing : Drawing) (s : Surface) (nib : Nib) : Type 0 where
+  pub is : nib ≡ drawing_nib drawing s
+  pub allowed : IsNib nib
+
+-- a draw has the nib of its drawing
+abbrev pub HasNib : Surface → MachineState → Draw → Type 0
+HasNib s m draw = IsNibOf (drawing_with m draw) s draw.nib
 
 -- what is to be drawn is the operation's drawing, of the pieces that are lent, with the tools that the new state has still
 abbrev pub IsDrawingOf : Operation → MachineState → MachineState → Option Draw → Type 0
@@ -128,6 +140,7 @@ pub record HasPlayed (operation : Operation) (old new : MachineState) (told : Ou
   pub stepped : HasStepped operation old new
   pub drawn : IsDrawingOf operation old new told.draw
   pub placed : IfSome told.draw (IsPlacedDraw old.surface new.painted)
+  pub nib : IfSome told.draw (HasNib old.surface new)
   pub extent : IsExtentOf operation old told.extent
   pub figures : paints_path told.draw ≡ true → LendsFor true old.state.path new.painted
 

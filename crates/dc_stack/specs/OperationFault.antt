@@ -4,17 +4,19 @@ use Rattle.std.specs.List.{list_all}
 use Rattle.std.specs.Option.{option_or}
 use Rattle.mapping.specs.declared.geometry.Point.{Point}
 use Rattle.mapping.specs.declared.geometry.Rect.{Rect}
+use Rattle.mapping.specs.Nibs.{is_nib}
+use Rattle.mapping.specs.declared.nib.Nib.{Nib}
 use Rattle.mapping.specs.MapSettings.{is_page_point, offset_by, sets_zero_extent, viewport_origin_of, window_origin_of}
 use Rattle.mapping.specs.Surface.{Surface, lands_within_limits}
 use Rattle.draw_ops.specs.Blits.{SourceValue}
 use Rattle.draw_ops.specs.declared.record_fault.RecordFault.{RecordFault}
-use Rattle.draw_ops.specs.declared.record_fault.RecordFault.TheVariants.{OffPlane, SourceMissing, SourceOutside, TooManyCuts, TooManyEdges, ZeroExtent}
+use Rattle.draw_ops.specs.declared.record_fault.RecordFault.TheVariants.{NibTooWide, OffPlane, SourceMissing, SourceOutside, TooManyCuts, TooManyEdges, ZeroExtent}
 use Rattle.draw_ops.specs.Operation.{Operation, no_effect, save, restore, set_background_mode, set_map_mode, set_raster_op, set_fill_mode, set_background_colour, set_window_origin, set_window_extent, set_viewport_origin, set_viewport_extent, offset_window_origin, offset_viewport_origin, exclude_clip, intersect_clip, remove_clip, move_to, line_to, pixel, rectangle, polyline, polygon, polyline_to, blit, create, select, select_palette, delete, begin_path, end_path, close_figure, abort_path, fill_path, stroke_path, stroke_and_fill_path}
 use Rattle.object_tables.specs.Table.{create_fault}
 use Rattle.raster_ops.specs.Sources.{is_source_inside}
 use Rattle.raster_ops.specs.TernaryOps.{uses_source}
 use Rattle.dc_stack.specs.Clip.{ClipValue, cut_limit}
-use Rattle.dc_stack.specs.Drawing.{Drawing, drawing_edges, drawing_of, drawing_points, edge_limit, points_of_lists}
+use Rattle.dc_stack.specs.Drawing.{Drawing, drawing_edges, drawing_nib, drawing_of, drawing_points, edge_limit, points_of_lists}
 use Rattle.dc_stack.specs.Figures.{points_gone_on}
 use Rattle.dc_stack.specs.Mapped.{mapped_corners, mapped_list, mapped_lists, mapped_point}
 use Rattle.dc_stack.specs.Next.{next}
@@ -168,17 +170,26 @@ off_plane_fault points s = if all_land_within points s then None else Some OffPl
 abbrev pub addition_fault : ℕ → List Point → Surface → Option RecordFault
 addition_fault count points s = option_or (pieces_fault count) (off_plane_fault points s)
 
--- the fault of a drawing and of its points: more than one drawing may have, or else points off the plane
+-- a nib has more columns or rows than it may
+abbrev pub wide_fault : Nib → Option RecordFault
+wide_fault nib = if is_nib nib then None else Some NibTooWide
+
+-- that of a drawing has, if there is one
+abbrev pub nib_fault : Option Drawing → Surface → Option RecordFault
+nib_fault None s = None
+nib_fault (Some drawing) s = wide_fault (drawing_nib drawing s)
+
+-- the fault of a drawing and of its points: more than one drawing may have, or else points off the plane, or else too wide a nib
 abbrev pub drawn_fault : Option Drawing → List Point → Surface → Option RecordFault
-drawn_fault drawing points s = option_or (edges_fault drawing) (off_plane_fault points s)
+drawn_fault drawing points s = option_or (edges_fault drawing) (option_or (off_plane_fault points s) (nib_fault drawing s))
 
 -- more points than one drawing may have, or else points off the plane
 abbrev pub points_fault : List Point → Surface → Option RecordFault
 points_fault points s = option_or (if nat_le (length points) edge_limit then None else Some TooManyEdges) (off_plane_fault points s)
 
--- the fault that depends on the surface, and comes last
+-- the fault that depends on the surface, and comes last: points off the plane, or else too wide a nib
 abbrev pub place_fault : Operation → State → Surface → Option RecordFault
-place_fault operation state s = off_plane_fault (plane_points operation state) s
+place_fault operation state s = option_or (off_plane_fault (plane_points operation state) s) (nib_fault (drawing_of operation state) s)
 
 -- the first fault of an operation
 abbrev pub fault_of : Operation → State → Surface → Option RecordFault

@@ -49,7 +49,7 @@ pub record State : Type 0 where
 -- a black pen, a white brush, the stock font and the default palette
 abbrev pub stock_selections : Selections
 stock_selections = record {
-  pen = record { object = Solid black_colour; index = None };
+  pen = record { object = Solid 0 black_colour; index = None };
   brush = record { object = solid_brush white_colour; index = None };
   font = None;
   palette = None;

@@ -27,8 +27,8 @@ stock_objects =
     ∷ (0x80000003, brush_object (solid_brush (grey 0x40)))
     ∷ (0x80000004, brush_object (solid_brush black_colour))
     ∷ (0x80000005, brush_object null_brush)
-    ∷ (0x80000006, pen_object (Solid white_colour))
-    ∷ (0x80000007, pen_object (Solid black_colour))
+    ∷ (0x80000006, pen_object (Solid 0 white_colour))
+    ∷ (0x80000007, pen_object (Solid 0 black_colour))
     ∷ (0x80000008, pen_object Null)
     ∷ (0x8000000a, font_object)
     ∷ (0x8000000b, font_object)
@@ -39,7 +39,7 @@ stock_objects =
     ∷ (0x80000010, font_object)
     ∷ (0x80000011, font_object)
     ∷ (0x80000012, brush_object (solid_brush white_colour))
-    ∷ (0x80000013, pen_object (Solid black_colour))
+    ∷ (0x80000013, pen_object (Solid 0 black_colour))
     ∷ []
 
 -- the stock object with this index, if there is one

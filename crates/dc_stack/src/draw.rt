@@ -1,10 +1,11 @@
 //! What a step draws.
 
 ghost use Rattle.std.specs.Prelude.{◌≡◌};
-ghost use Rattle.dc_stack.specs.Draws.{is_of_path, lends_path, paints_path};
+ghost use Rattle.dc_stack.specs.Drawing.{paints_lines};
+ghost use Rattle.dc_stack.specs.Draws.{is_of_path, lends_path, paints_path, strokes};
 
 use draw_ops::{BlitSource, RectangleEdges, TernaryOp};
-use mapping::{Colour, PageMap, Point, Rect};
+use mapping::{Colour, Nib, PageMap, Point, Rect};
 use point_views::{Points, Polys};
 
 /// Which parts of figures are painted.
@@ -85,6 +86,8 @@ pub struct Draw<'a> {
     pub bounds: Rect,
     /// How many points it needs room for.
     pub edges: u32,
+    /// The nib of its stroke on the surface that is played on: one pixel where it has none.
+    pub nib: Nib,
 }
 
 /// Whether figures are those of a path.
@@ -104,6 +107,27 @@ fn lends_path(mark: &Mark<'_>) -> bool
     match mark {
         Mark::Figures { points, .. } => is_of_path(points),
         Mark::Dot { .. } | Mark::Line { .. } | Mark::Rectangle { .. } | Mark::Blit(_) => false,
+    }
+}
+
+/// Whether more of figures is painted than their inside.
+fn paints_lines(painting: Painting) -> bool
+    ensures { result ≡ paints_lines painting }
+{
+    match painting {
+        Painting::Fill => false,
+        Painting::Stroke | Painting::StrokeAndFill => true,
+    }
+}
+
+/// Whether a mark is stroked.
+pub(crate) fn strokes(mark: &Mark<'_>) -> bool
+    ensures { result ≡ strokes mark.now }
+{
+    match mark {
+        Mark::Line { .. } | Mark::Rectangle { .. } => true,
+        Mark::Figures { painting, .. } => paints_lines(*painting),
+        Mark::Dot { .. } | Mark::Blit(_) => false,
     }
 }
 

@@ -13,8 +13,8 @@
 //! - Memory is refused only where there is no room, which no call makes smaller (`Machine::step`, `reserve`).
 //! - The needs are the greatest of all steps since the start (`Machine::needs`).
 //! - The clip of a machine has a pixel exactly where the definition says so (`Machine::dc`, `Clip::has`).
-//! - Only being off the plane depends on the surface, and an operation without a fault on a surface has
-//!   none on a smaller one; with one it has that on each larger one (`fault_law`).
+//! - Being off the plane and having too wide a nib depend on the surface, and no other fault. An operation without a fault on a surface
+//!   has none on a smaller one; with one it has that on each larger one, or is off the plane there in place of too wide a nib (`fault_law`).
 //! - A step tells the least box on the plane around all points that it places, by which they land on another surface or don't
 //!   (`Machine::plane_extent`, `fits`).
 #![tactic(auto)]

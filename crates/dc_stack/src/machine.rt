@@ -1,12 +1,12 @@
 //! The machine: the playing state, and what one operation does to it.
 
-ghost use Rattle.std.specs.Prelude.{◌≡◌, ◌≤◌, ◌<◌, ◌⊎◌, [], IfErr, IfOk, IfSome, OnErr, OnOk, length};
+ghost use Rattle.std.specs.Prelude.{◌≡◌, ◌≤◌, ◌<◌, ◌⊎◌, [], IfErr, IfOk, IfSome, None, OnErr, OnOk, length};
 ghost use Rattle.mapping.specs.PageMap.{map_numbers};
 ghost use Rattle.mapping.specs.PlaceOf.{surface_of};
 ghost use Rattle.draw_ops.specs.Operation.{Operation};
 ghost use Rattle.draw_ops.specs.OperationOf.{operation_of};
 ghost use Rattle.draw_ops.specs.declared.fault.Fault.TheVariants.{OutOfMemory};
-ghost use Rattle.dc_stack.specs.MachineState.{GoesOn, HasStepped, IsDrawingOf, IsExtentOf, IsUnchanged, LacksRoom, LendsPainted, MachineState, Plays, RefusesStep, TellsUndrawn, outcome};
+ghost use Rattle.dc_stack.specs.MachineState.{GoesOn, HasNib, HasStepped, IsDrawingOf, IsExtentOf, IsUnchanged, LacksRoom, LendsPainted, MachineState, Plays, RefusesStep, TellsUndrawn, outcome};
 ghost use Rattle.dc_stack.specs.Draws.{IsPlacedDraw};
 ghost use Rattle.dc_stack.specs.Needs.{no_needs};
 ghost use Rattle.dc_stack.specs.State.{start_state};
@@ -79,6 +79,7 @@ impl<'a, T: Table<'a>> Machine<'a, T> {
         ensures surface { result.surface ≡ surface_of place }
         ensures needs { result.needs ≡ no_needs }
         ensures painted { result.painted ≡ [] }
+        ensures extent { result.plane_extent ≡ None }
         ensures depth { result.room.depth ≡ 0 }
         ensures slots { result.room.slots ≡ (T.state table).room }
         ensures pieces { result.room.pieces ≡ 0 }
@@ -99,6 +100,7 @@ impl<'a, T: Table<'a>> Machine<'a, T> {
     pub fn restart(&mut self, opened: &Opened<'_>)
         ensures state { self.new.state ≡ start_state (map_numbers opened.now.start_map) self.old.state.table_kind }
         ensures painted { self.new.painted ≡ [] }
+        ensures extent { self.new.plane_extent ≡ None }
         ensures needs { self.new.needs ≡ no_needs }
         ensures goes_on { GoesOn self.old self.new }
     {
@@ -135,12 +137,13 @@ impl<'a, T: Table<'a>> Machine<'a, T> {
     /// `TableFull`, `HandleTaken`, `NoSuchHandle`, `WrongKind` or `HeldObject`; of a saved state `DepthLimit`
     /// or `NoSavedState`; of an extent `ZeroExtent`; of a cut `TooManyCuts`; of what is added to a path
     /// `TooManyPieces`; of a drawing `PathState`, `TooManyEdges`, and of a blit `SourceMissing` or
-    /// `SourceOutside`; and last `OffPlane`. It is `OutOfMemory` where there was no room and memory was refused.
+    /// `SourceOutside`; and last `OffPlane` and `NibTooWide`. It is `OutOfMemory` where there was no room and memory was refused.
     /// After a fault nothing has changed.
     pub fn step(&mut self, op: Op<'a>) -> Result<Option<Draw<'a>>, Fault>
         ensures stepped { OnOk result (HasStepped (operation_of op.entry) self.old self.new) }
         ensures drawn { IfOk result (IsDrawingOf (operation_of op.entry) self.old self.new) }
         ensures placed { IfOk result (λ draw. IfSome draw (IsPlacedDraw self.old.surface self.new.painted)) }
+        ensures nib { IfOk result (λ draw. IfSome draw (HasNib self.old.surface self.new)) }
         ensures lent { IfOk result (λ draw. LendsPainted self.old draw self.new) }
         ensures extent { OnOk result (IsExtentOf (operation_of op.entry) self.old self.new.plane_extent) }
         ensures refused { IfErr result (RefusesStep (operation_of op.entry) self.old) }
@@ -160,6 +163,7 @@ impl<'a, T: Table<'a>> Machine<'a, T> {
         ensures stepped { OnOk result (HasStepped (operation_of op.now) self.old self.new) }
         ensures drawn { OnOk result (IsDrawingOf (operation_of op.now) self.old self.new drawn.new) }
         ensures placed { OnOk result (IfSome drawn.new (IsPlacedDraw self.old.surface self.new.painted)) }
+        ensures nib { OnOk result (IfSome drawn.new (HasNib self.old.surface self.new)) }
         ensures lent { OnOk result (LendsPainted self.old drawn.new self.new) }
         ensures extent { OnOk result (IsExtentOf (operation_of op.now) self.old self.new.plane_extent) }
         ensures refused { IfErr result (RefusesStep (operation_of op.now) self.old) }

@@ -28,7 +28,7 @@ impl<'a> Selected<'a> {
         ensures { selections_value result ≡ stock_selections }
     {
         Selected {
-            pen: Pen::solid(Colour { r: 0, g: 0, b: 0 }),
+            pen: Pen::hairline(Colour { r: 0, g: 0, b: 0 }),
             pen_handle: None,
             brush: Brush::Solid(Colour::WHITE),
             brush_handle: None,

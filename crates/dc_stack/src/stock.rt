@@ -68,9 +68,9 @@ fn grey_brush<'a>(part: u8) -> Object<'a>
 
 /// A pen of a grey, by its one part.
 fn grey_pen<'a>(part: u8) -> Object<'a>
-    ensures { object_value_of result ≡ pen_object (Solid (grey part)) }
+    ensures { object_value_of result ≡ pen_object (Solid 0 (grey part)) }
 {
-    Object::Pen(Pen::solid(Colour {
+    Object::Pen(Pen::hairline(Colour {
         r: part,
         g: part,
         b: part,

@@ -1,15 +1,16 @@
 -- The tables of faults and of notes, computed row by row.
-use Rattle.std.proofs.Common.{◌≡◌, ◌↔◌, ℕ, zero, suc, ◌+◌, ◌-◌, ◌<◌, ◌≤◌, Bool, true, false, ◌&&◌, ◌==◌, cond, nat_le, nat_lt, List, [], ◌∷◌, length, inl, inr, Option, Some, None, refl, ap, sym, ◌∙◌, arith}
-use Rattle.std.proofs.lemmas.Bool.{and_from, and_parts, cases_eq, le-leb, leb-true, ltb-true}
+use Rattle.std.proofs.Common.{◌≡◌, ◌↔◌, ℕ, zero, suc, ◌+◌, ◌-◌, ◌<◌, ◌≤◌, Bool, true, false, ◌&&◌, ◌||◌, ◌==◌, cond, nat_le, nat_lt, List, [], ◌∷◌, length, inl, inr, Option, Some, None, refl, ap, sym, ◌∙◌, arith}
+use Rattle.std.proofs.lemmas.Bool.{and_from, and_parts, cases_eq, or_left, or_right, le-leb, leb-true, ltb-true}
+use Rattle.mapping.specs.TestLaws.{by_either}
 use Rattle.draw_ops.specs.Fault.{IsInRecord, record_kind_of}
 use Rattle.draw_ops.specs.FaultTable.{fault_row}
 use Rattle.draw_ops.specs.NoteTable.{note_row_of}
-use Rattle.draw_ops.specs.TableLaws.{FaultTableLaws, IsCode, IsFromTo, IsIndex, NoteTableLaws}
+use Rattle.draw_ops.specs.TableLaws.{FaultTableLaws, IsCode, IsFromTo, IsIndex, IsRecordCode, NoteTableLaws}
 use Rattle.draw_ops.specs.declared.fault.Fault.{Fault}
 use Rattle.draw_ops.specs.declared.fault.Fault.TheVariants.{TooLong, NotMetafile, ShortHeader, BadHeader, NoFrame, NotCertificate, ShortCertificate, BadBound, TrailingBytes, Record, NeedTooSmall, BudgetTooSmall, SurfaceTooLarge, BadImage, WriteFault, OutOfMemory}
 use Rattle.draw_ops.specs.declared.note.Note.{Note}
 use Rattle.draw_ops.specs.declared.note.Note.TheVariants.{PlaceableChecksum, PlaceableFields, SizeField, AfterEnd, DashedPen, WidePen, Isotropic, EmfPlus, Skipped}
-use Rattle.draw_ops.specs.declared.record_fault.RecordFault.TheVariants.{NoEnd, ShortRecord, PastEnd, TooManyRecords, UnknownRecord, Unsupported, BadParams, BadValue, PaletteColour, MetricMode, BadDib, CompressedDib, ShortDib, TableFull, HandleTaken, NoSuchHandle, WrongKind, HeldObject, NoSavedState, DepthLimit, TooManyCuts, ZeroExtent, OffPlane, SourceMissing, SourceOutside, PathState, TooManyEdges, TooManyPieces, WrongEntry, BoxTooSmall}
+use Rattle.draw_ops.specs.declared.record_fault.RecordFault.TheVariants.{NoEnd, ShortRecord, PastEnd, TooManyRecords, UnknownRecord, Unsupported, BadParams, BadValue, PaletteColour, MetricMode, BadDib, CompressedDib, ShortDib, TableFull, HandleTaken, NoSuchHandle, WrongKind, HeldObject, NoSavedState, DepthLimit, TooManyCuts, ZeroExtent, OffPlane, SourceMissing, SourceOutside, PathState, TooManyEdges, TooManyPieces, WrongEntry, BoxTooSmall, NibTooWide, NibTooSmall}
 
 -- the same codes of a name
 abbrev same_name : List ℕ → List ℕ → Bool
@@ -20,7 +21,7 @@ same_name (c ∷ cs) (d ∷ ds) = c == d && same_name cs ds
 
 -- the faults in the order of their codes, those that speak of a kind of record with this one
 abbrev faults : ℕ → List Fault
-faults kind = TooLong ∷ NotMetafile ∷ ShortHeader ∷ BadHeader ∷ NoFrame ∷ NotCertificate ∷ ShortCertificate ∷ BadBound ∷ TrailingBytes ∷ (Record NoEnd) ∷ (Record ShortRecord) ∷ (Record PastEnd) ∷ (Record TooManyRecords) ∷ (Record (UnknownRecord kind)) ∷ (Record (Unsupported kind)) ∷ (Record BadParams) ∷ (Record BadValue) ∷ (Record PaletteColour) ∷ (Record MetricMode) ∷ (Record BadDib) ∷ (Record CompressedDib) ∷ (Record ShortDib) ∷ (Record TableFull) ∷ (Record HandleTaken) ∷ (Record NoSuchHandle) ∷ (Record WrongKind) ∷ (Record HeldObject) ∷ (Record NoSavedState) ∷ (Record DepthLimit) ∷ (Record TooManyCuts) ∷ (Record ZeroExtent) ∷ (Record OffPlane) ∷ (Record SourceMissing) ∷ (Record SourceOutside) ∷ (Record PathState) ∷ (Record TooManyEdges) ∷ (Record TooManyPieces) ∷ (Record WrongEntry) ∷ (Record BoxTooSmall) ∷ NeedTooSmall ∷ BudgetTooSmall ∷ SurfaceTooLarge ∷ BadImage ∷ WriteFault ∷ OutOfMemory ∷ []
+faults kind = TooLong ∷ NotMetafile ∷ ShortHeader ∷ BadHeader ∷ NoFrame ∷ NotCertificate ∷ ShortCertificate ∷ BadBound ∷ TrailingBytes ∷ (Record NoEnd) ∷ (Record ShortRecord) ∷ (Record PastEnd) ∷ (Record TooManyRecords) ∷ (Record (UnknownRecord kind)) ∷ (Record (Unsupported kind)) ∷ (Record BadParams) ∷ (Record BadValue) ∷ (Record PaletteColour) ∷ (Record MetricMode) ∷ (Record BadDib) ∷ (Record CompressedDib) ∷ (Record ShortDib) ∷ (Record TableFull) ∷ (Record HandleTaken) ∷ (Record NoSuchHandle) ∷ (Record WrongKind) ∷ (Record HeldObject) ∷ (Record NoSavedState) ∷ (Record DepthLimit) ∷ (Record TooManyCuts) ∷ (Record ZeroExtent) ∷ (Record OffPlane) ∷ (Record SourceMissing) ∷ (Record SourceOutside) ∷ (Record PathState) ∷ (Record TooManyEdges) ∷ (Record TooManyPieces) ∷ (Record WrongEntry) ∷ (Record BoxTooSmall) ∷ NeedTooSmall ∷ BudgetTooSmall ∷ SurfaceTooLarge ∷ BadImage ∷ WriteFault ∷ OutOfMemory ∷ (Record NibTooWide) ∷ (Record NibTooSmall) ∷ []
 
 -- the place of a fault in a list, or 0
 abbrev nth : {A : Type 0} → A → List A → ℕ → A
@@ -39,12 +40,16 @@ abbrev code_named : ℕ → List Fault → List ℕ → ℕ
 code_named code [] name = 0
 code_named code (fault ∷ rest) name = cond (same_name name (fault_row fault).name) code (code_named (suc code) rest name)
 
+-- a code is one of those of faults that lie in a record
+abbrev is_record_code : ℕ → Bool
+is_record_code code = (nat_le 10 code && nat_le code 39) || (nat_le 46 code && nat_le code 47)
+
 -- what is computed of each fault
 record Facts (fault : Fault) : Type 0 where
   at : fault_at (fault_row fault).code (record_kind_of fault) ≡ fault
   named : code_named 1 (faults 0) (fault_row fault).name ≡ (fault_row fault).code
-  within : nat_le 1 (fault_row fault).code && nat_le (fault_row fault).code 45 ≡ true
-  place : IsInRecord fault ↔ (nat_le 10 (fault_row fault).code && nat_le (fault_row fault).code 39 ≡ true)
+  within : nat_le 1 (fault_row fault).code && nat_le (fault_row fault).code 47 ≡ true
+  place : IsInRecord fault ↔ (is_record_code (fault_row fault).code ≡ true)
 
 facts : (fault : Fault) → Facts fault
 facts TooLong = record { at = refl; named = refl; within = refl; place = (λ h. absurd h, λ h. cc) }
@@ -92,12 +97,23 @@ facts SurfaceTooLarge = record { at = refl; named = refl; within = refl; place =
 facts BadImage = record { at = refl; named = refl; within = refl; place = (λ h. absurd h, λ h. cc) }
 facts WriteFault = record { at = refl; named = refl; within = refl; place = (λ h. absurd h, λ h. cc) }
 facts OutOfMemory = record { at = refl; named = refl; within = refl; place = (λ h. absurd h, λ h. cc) }
+facts (Record NibTooWide) = record { at = refl; named = refl; within = refl; place = (λ h. refl, λ h. tt) }
+facts (Record NibTooSmall) = record { at = refl; named = refl; within = refl; place = (λ h. refl, λ h. tt) }
 
 is_from_to : (first last n : ℕ) → nat_le first n && nat_le n last ≡ true → IsFromTo first last n
 is_from_to first last n h = let parts = and_parts (nat_le first n) (nat_le n last) h in record { low = leb-true _ _ parts.0; high = leb-true _ _ parts.1 }
 
 tested : (first last n : ℕ) → IsFromTo first last n → nat_le first n && nat_le n last ≡ true
 tested first last n h = and_from (nat_le first n) (nat_le n last) (le-leb _ _ h.low) (le-leb _ _ h.high)
+
+-- the codes of faults that lie in a record
+code_from : (code : ℕ) → is_record_code code ≡ true → IsRecordCode code
+code_from code t =
+    by_either (nat_le 10 code && nat_le code 39) (nat_le 46 code && nat_le code 47) t (λ h. inl (is_from_to 10 39 code h)) (λ h. inr (is_from_to 46 47 code h))
+
+code_tested : (code : ℕ) → IsRecordCode code → is_record_code code ≡ true
+code_tested code (inl h) = or_left (nat_le 10 code && nat_le code 39) (nat_le 46 code && nat_le code 47) (tested 10 39 code h)
+code_tested code (inr h) = or_right (nat_le 10 code && nat_le code 39) (nat_le 46 code && nat_le code 47) (tested 46 47 code h)
 
 -- faults whose codes count up
 abbrev CountUp : ℕ → List Fault → Type 0
@@ -112,7 +128,7 @@ has_code (fault ∷ rest) n code up a b = elim (cases_eq n code) [
 ]
 
 all_count_up : CountUp 1 (faults 0)
-all_count_up = (refl, (refl, (refl, (refl, (refl, (refl, (refl, (refl, (refl, (refl, (refl, (refl, (refl, (refl, (refl, (refl, (refl, (refl, (refl, (refl, (refl, (refl, (refl, (refl, (refl, (refl, (refl, (refl, (refl, (refl, (refl, (refl, (refl, (refl, (refl, (refl, (refl, (refl, (refl, (refl, (refl, (refl, (refl, (refl, (refl, tt)))))))))))))))))))))))))))))))))))))))))))))
+all_count_up = (refl, (refl, (refl, (refl, (refl, (refl, (refl, (refl, (refl, (refl, (refl, (refl, (refl, (refl, (refl, (refl, (refl, (refl, (refl, (refl, (refl, (refl, (refl, (refl, (refl, (refl, (refl, (refl, (refl, (refl, (refl, (refl, (refl, (refl, (refl, (refl, (refl, (refl, (refl, (refl, (refl, (refl, (refl, (refl, (refl, (refl, (refl, tt)))))))))))))))))))))))))))))))))))))))))))))))
 
 same_fault : (fault other : Fault) → (fault_row fault).code ≡ (fault_row other).code → record_kind_of fault ≡ record_kind_of other → fault ≡ other
 same_fault fault other code kind =
@@ -120,11 +136,11 @@ same_fault fault other code kind =
 
 pub fault_table : FaultTableLaws
 fault_table = record {
-  within = λ fault. is_from_to 1 45 _ (facts fault).within;
+  within = λ fault. is_from_to 1 47 _ (facts fault).within;
   none_left_out = λ code h. has_code (faults 0) code 1 all_count_up h.low (let high = h.high in omega (arith, high));
   one_code = λ fault other code kind. same_fault fault other code kind;
   one_name = λ fault other name kind. same_fault fault other (sym (facts fault).named ∙ ap (code_named 1 (faults 0)) name ∙ (facts other).named) kind;
-  in_record = λ fault. (λ h. is_from_to 10 39 _ ((facts fault).place.0 h), λ h. (facts fault).place.1 (tested 10 39 _ h));
+  in_record = λ fault. (λ h. code_from (fault_row fault).code ((facts fault).place.0 h), λ h. (facts fault).place.1 (code_tested (fault_row fault).code h));
 }
 
 -- the kinds of notes in the order of their indexes

@@ -2,7 +2,7 @@
 use Rattle.std.specs.Prelude.{ℕ, List, codes}
 use Rattle.draw_ops.specs.declared.fault.Fault.{Fault}
 use Rattle.draw_ops.specs.declared.fault.Fault.TheVariants.{TooLong, NotMetafile, ShortHeader, BadHeader, NoFrame, NotCertificate, ShortCertificate, BadBound, TrailingBytes, Record, NeedTooSmall, BudgetTooSmall, SurfaceTooLarge, BadImage, WriteFault, OutOfMemory}
-use Rattle.draw_ops.specs.declared.record_fault.RecordFault.TheVariants.{NoEnd, ShortRecord, PastEnd, TooManyRecords, UnknownRecord, Unsupported, BadParams, BadValue, PaletteColour, MetricMode, BadDib, CompressedDib, ShortDib, TableFull, HandleTaken, NoSuchHandle, WrongKind, HeldObject, NoSavedState, DepthLimit, TooManyCuts, ZeroExtent, OffPlane, SourceMissing, SourceOutside, PathState, TooManyEdges, TooManyPieces, WrongEntry, BoxTooSmall}
+use Rattle.draw_ops.specs.declared.record_fault.RecordFault.TheVariants.{NoEnd, ShortRecord, PastEnd, TooManyRecords, UnknownRecord, Unsupported, BadParams, BadValue, PaletteColour, MetricMode, BadDib, CompressedDib, ShortDib, TableFull, HandleTaken, NoSuchHandle, WrongKind, HeldObject, NoSavedState, DepthLimit, TooManyCuts, ZeroExtent, OffPlane, SourceMissing, SourceOutside, PathState, TooManyEdges, TooManyPieces, WrongEntry, BoxTooSmall, NibTooWide, NibTooSmall}
 
 -- a fault's code and name
 pub record FaultRow : Type 0 where
@@ -59,3 +59,5 @@ fault_row SurfaceTooLarge = row 42 (codes "SurfaceTooLarge")
 fault_row BadImage = row 43 (codes "BadImage")
 fault_row WriteFault = row 44 (codes "WriteFault")
 fault_row OutOfMemory = row 45 (codes "OutOfMemory")
+fault_row (Record NibTooWide) = row 46 (codes "NibTooWide")
+fault_row (Record NibTooSmall) = row 47 (codes "NibTooSmall")

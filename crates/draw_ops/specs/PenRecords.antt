@@ -42,15 +42,15 @@ is_geometric style = not (bit_and style 0x10000 == 0)
 abbrev pub log_pen_ex_fields : ℕ → ℕ → Option PenFields
 log_pen_ex_fields style width = option_map (fields_of (if is_geometric style then width else 0) false) (pen_style_of style)
 
--- a pen that draws nothing, or one of a colour that may be a fault
-abbrev styled_pen : PenStyle → Result Colour RecordFault → Result Pen RecordFault
-styled_pen Null colour = Ok NullPen
-styled_pen Solid colour = result_map SolidPen colour
-styled_pen Dashed colour = result_map SolidPen colour
+-- a pen that draws nothing, or one of a width and of a colour that may be a fault
+abbrev styled_pen : PenStyle → ℕ → Result Colour RecordFault → Result Pen RecordFault
+styled_pen Null width colour = Ok NullPen
+styled_pen Solid width colour = result_map (SolidPen width) colour
+styled_pen Dashed width colour = result_map (SolidPen width) colour
 
 -- the pen of these fields: a dashed one is played as solid, and the colour of one that draws nothing isn't looked at
 abbrev pub pen_of : PenFields → Result Colour RecordFault → Result Pen RecordFault
-pen_of fields colour = styled_pen fields.style colour
+pen_of fields colour = styled_pen fields.style fields.width colour
 
 -- a wide pen is noted
 abbrev wide_notes : Bool → List ℕ

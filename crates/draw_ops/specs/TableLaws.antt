@@ -1,5 +1,5 @@
 -- What the tables of faults and of notes are: no code and no name stands twice, and none is left out.
-use Rattle.std.specs.Prelude.{◌≡◌, ◌↔◌, ℕ, ◌<◌, ◌≤◌}
+use Rattle.std.specs.Prelude.{◌≡◌, ◌↔◌, ◌⊎◌, ℕ, ◌<◌, ◌≤◌}
 use Rattle.draw_ops.specs.Fault.{IsInRecord, record_kind_of}
 use Rattle.draw_ops.specs.FaultTable.{fault_row}
 use Rattle.draw_ops.specs.NoteTable.{note_row_of}
@@ -21,18 +21,22 @@ pub record IsIndex (index : ℕ) : Type 0 where
   pub note : Note
   pub has_it : (note_row_of note).index ≡ index
 
--- The codes of faults are 1 to 45, each that of some fault. A code, with the kind of record that the fault speaks of, is that of one fault,
--- and so is a name. The codes 10 to 39 are those of faults that lie in a record, and no others are.
+-- a code is one of those of faults that lie in a record
+abbrev pub IsRecordCode : ℕ → Type 0
+IsRecordCode code = IsFromTo 10 39 code ⊎ IsFromTo 46 47 code
+
+-- The codes of faults are 1 to 47, each that of some fault. A code, with the kind of record that the fault speaks of, is that of one fault,
+-- and so is a name. The codes 10 to 39, 46 and 47 are those of faults that lie in a record, and no others are.
 pub record FaultTableLaws : Type 0 where
-  pub within : (fault : Fault) → IsFromTo 1 45 (fault_row fault).code
-  pub none_left_out : (code : ℕ) → IsFromTo 1 45 code → IsCode code
+  pub within : (fault : Fault) → IsFromTo 1 47 (fault_row fault).code
+  pub none_left_out : (code : ℕ) → IsFromTo 1 47 code → IsCode code
   pub one_code :
       (fault other : Fault) → (fault_row fault).code ≡ (fault_row other).code
       → record_kind_of fault ≡ record_kind_of other → fault ≡ other
   pub one_name :
       (fault other : Fault) → (fault_row fault).name ≡ (fault_row other).name
       → record_kind_of fault ≡ record_kind_of other → fault ≡ other
-  pub in_record : (fault : Fault) → IsInRecord fault ↔ IsFromTo 10 39 (fault_row fault).code
+  pub in_record : (fault : Fault) → IsInRecord fault ↔ IsRecordCode (fault_row fault).code
 
 -- The indexes of notes are below 9, each that of some kind. An index is that of one kind, and so is a name.
 pub record NoteTableLaws : Type 0 where

@@ -132,6 +132,8 @@ impl Fault {
             Fault::BadImage => (43, "BadImage"),
             Fault::WriteFault => (44, "WriteFault"),
             Fault::OutOfMemory => (45, "OutOfMemory"),
+            Fault::Record(RecordFault::NibTooWide) => (46, "NibTooWide"),
+            Fault::Record(RecordFault::NibTooSmall) => (47, "NibTooSmall"),
         }
     }
 }

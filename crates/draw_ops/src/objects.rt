@@ -17,16 +17,16 @@ pub struct Handle(pub u32);
 pub enum Pen {
     /// It draws nothing.
     Null,
-    /// It draws lines of this colour.
-    Solid { colour: Colour },
+    /// It draws lines of this colour, whose width is in page units. Of width 0 they are one pixel wide.
+    Solid { width: u32, colour: Colour },
 }
 
 impl Pen {
-    /// The pen that draws lines of this colour.
-    pub fn solid(colour: Colour) -> Pen
-        ensures { result ≡ Solid colour }
+    /// The pen of width 0 that draws lines of this colour.
+    pub fn hairline(colour: Colour) -> Pen
+        ensures { result ≡ Solid 0 colour }
     {
-        Pen::Solid { colour }
+        Pen::Solid { width: 0, colour }
     }
 }
 

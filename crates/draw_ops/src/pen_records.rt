@@ -91,7 +91,10 @@ impl PenFields {
     {
         match self.style {
             PenStyle::Null => Ok(Pen::Null),
-            PenStyle::Solid | PenStyle::Dashed => Ok(Pen::Solid { colour: colour? }),
+            PenStyle::Solid | PenStyle::Dashed => Ok(Pen::Solid {
+                width: self.width,
+                colour: colour?,
+            }),
         }
     }
 

@@ -55,6 +55,8 @@ pub enum RecordFault {
     ZeroExtent,
     /// A coordinate leaves the plane, or the range of placed coordinates.
     OffPlane,
+    /// A stroke covers more than 4,096 columns or rows around a pixel.
+    NibTooWide,
     /// The raster operation needs a source bitmap, and there is none.
     SourceMissing,
     /// The source rectangle is empty, or not inside the bitmap.
@@ -70,4 +72,6 @@ pub enum RecordFault {
     WrongEntry,
     /// The box of the entry does not hold a point of the drawing.
     BoxTooSmall,
+    /// The nib of the entry is smaller than the drawing's at the bound.
+    NibTooSmall,
 }

@@ -109,7 +109,7 @@ emr_ext_create_font_indirect_w : emf_meaning 1 (record { kind = 82; bytes = 0 �
 unfolding emf_record
 emr_ext_create_font_indirect_w = refl
 
-emr_create_pen : emf_meaning 1 (record { kind = 38; bytes = 0 ∷ 0 ∷ 0 ∷ 0 ∷ 0 ∷ 0 ∷ 0 ∷ 0 ∷ 5 ∷ 0 ∷ 0 ∷ 0 ∷ 0 ∷ 0 ∷ 0 ∷ 0 ∷ 1 ∷ 0 ∷ 0 ∷ 0 ∷ 0 ∷ 0 ∷ 0 ∷ 0 ∷ 1 ∷ 2 ∷ 3 ∷ 0 ∷ [] }) ≡ Ok (unnoted (create (Some 5) (pen_object (SolidPen (record { r = 1; g = 2; b = 3 })))))
+emr_create_pen : emf_meaning 1 (record { kind = 38; bytes = 0 ∷ 0 ∷ 0 ∷ 0 ∷ 0 ∷ 0 ∷ 0 ∷ 0 ∷ 5 ∷ 0 ∷ 0 ∷ 0 ∷ 0 ∷ 0 ∷ 0 ∷ 0 ∷ 1 ∷ 0 ∷ 0 ∷ 0 ∷ 0 ∷ 0 ∷ 0 ∷ 0 ∷ 1 ∷ 2 ∷ 3 ∷ 0 ∷ [] }) ≡ Ok (unnoted (create (Some 5) (pen_object (SolidPen 1 (record { r = 1; g = 2; b = 3 })))))
 unfolding emf_record
 emr_create_pen = refl
 
@@ -173,6 +173,6 @@ emr_set_layout : emf_meaning 1 (record { kind = 115; bytes = 0 ∷ 0 ∷ 0 ∷ 0
 unfolding emf_record
 emr_set_layout = refl
 
-emr_ext_create_pen : emf_meaning 1 (record { kind = 95; bytes = 0 ∷ 0 ∷ 0 ∷ 0 ∷ 0 ∷ 0 ∷ 0 ∷ 0 ∷ 5 ∷ 0 ∷ 0 ∷ 0 ∷ 0 ∷ 0 ∷ 0 ∷ 0 ∷ 0 ∷ 0 ∷ 0 ∷ 0 ∷ 0 ∷ 0 ∷ 0 ∷ 0 ∷ 0 ∷ 0 ∷ 0 ∷ 0 ∷ 0 ∷ 0 ∷ 0 ∷ 0 ∷ 9 ∷ 0 ∷ 0 ∷ 0 ∷ 0 ∷ 0 ∷ 0 ∷ 0 ∷ 1 ∷ 2 ∷ 3 ∷ 0 ∷ 0 ∷ 0 ∷ 0 ∷ 0 ∷ 0 ∷ 0 ∷ 0 ∷ 0 ∷ [] }) ≡ Ok (unnoted (create (Some 5) (pen_object (SolidPen (record { r = 1; g = 2; b = 3 })))))
+emr_ext_create_pen : emf_meaning 1 (record { kind = 95; bytes = 0 ∷ 0 ∷ 0 ∷ 0 ∷ 0 ∷ 0 ∷ 0 ∷ 0 ∷ 5 ∷ 0 ∷ 0 ∷ 0 ∷ 0 ∷ 0 ∷ 0 ∷ 0 ∷ 0 ∷ 0 ∷ 0 ∷ 0 ∷ 0 ∷ 0 ∷ 0 ∷ 0 ∷ 0 ∷ 0 ∷ 0 ∷ 0 ∷ 0 ∷ 0 ∷ 0 ∷ 0 ∷ 9 ∷ 0 ∷ 0 ∷ 0 ∷ 0 ∷ 0 ∷ 0 ∷ 0 ∷ 1 ∷ 2 ∷ 3 ∷ 0 ∷ 0 ∷ 0 ∷ 0 ∷ 0 ∷ 0 ∷ 0 ∷ 0 ∷ 0 ∷ [] }) ≡ Ok (unnoted (create (Some 5) (pen_object (SolidPen 0 (record { r = 1; g = 2; b = 3 })))))
 unfolding emf_record
 emr_ext_create_pen = refl

@@ -1,7 +1,9 @@
 -- The law of listings, of a file.
-use Rattle.std.proofs.Common.{◌≡◌, ◌≢◌, ℕ, ℤ, unsigned_abs, ◌+◌, ◌==◌, nat_lt, Bool, true, false, ◌&&◌, ◌||◌, not, if◌then◌else◌, List, [], ◌∷◌, length, drop, Option, Some, None, Result, Ok, Err, arith, refl, sym, ap, ◌∙◌, subst}
+use Rattle.std.proofs.Common.{◌≡◌, ◌≢◌, ℕ, ℤ, unsigned_abs, ◌+◌, ◌==◌, nat_lt, Bool, true, false, ◌&&◌, ◌||◌, not, if◌then◌else◌, List, [], ◌∷◌, length, drop, Option, Some, None, Result, Ok, Err, arith, refl, sym, ap, ◌∙◌}
+use Rattle.std.proofs.lemmas.List.Elements.{All-nil}
 use Rattle.std.specs.Option.{option_or}
 use Rattle.mapping.specs.Limits.{IsSurfaceSide, is_frame_side, surface_side_limit}
+use Rattle.mapping.specs.Nibs.{NibLaws}
 use Rattle.mapping.specs.PlacingLaws.{IsNoLarger}
 use Rattle.mapping.specs.Surface.{Surface}
 use Rattle.draw_ops.specs.Content.{Content, StepValue}
@@ -11,7 +13,7 @@ use Rattle.draw_ops.specs.Records.{Framed, FramedInOneWay, Framing, IsFramed}
 use Rattle.draw_ops.specs.declared.fault.Fault.{Fault}
 use Rattle.draw_ops.specs.declared.fault.Fault.TheVariants.{BadHeader, NoFrame, NotMetafile, Record as InRecord, ShortHeader, TooLong}
 use Rattle.draw_ops.specs.declared.record_fault.RecordFault.{RecordFault}
-use Rattle.draw_ops.specs.declared.record_fault.RecordFault.TheVariants.{BoxTooSmall, WrongEntry}
+use Rattle.draw_ops.specs.declared.record_fault.RecordFault.TheVariants.{BoxTooSmall, NibTooSmall, WrongEntry}
 use Rattle.point_views.specs.Numbers.{number_at}
 use Rattle.wmf_records.specs.FirstExtent.{first_extent}
 use Rattle.meta_headers.specs.EmfHeader.{bounds_height, bounds_width, emf_file, is_emf, is_emf_header_size, opened_emf}
@@ -20,7 +22,7 @@ use Rattle.meta_headers.specs.Opening.{HasContentOf, framing_of, meaning_of, ope
 use Rattle.meta_headers.specs.PlaceableHeader.{box_sides, is_placeable, opened_placeable, placeable_file}
 use Rattle.meta_headers.specs.PlainHeader.{is_plain, opened_plain, plain_file, plain_with}
 use Rattle.meta_headers.specs.declared.opened.FileFormat.TheVariants.{Emf, Placeable, Plain}
-use Rattle.dc_stack.specs.Drawing.{Drawing, drawing_of, drawing_points}
+use Rattle.dc_stack.specs.Drawing.{Drawing, drawing_nib, drawing_of, drawing_points}
 use Rattle.dc_stack.specs.FaultLaws.{FaultLaws}
 use Rattle.dc_stack.specs.Next.{next}
 use Rattle.dc_stack.specs.OperationFault.{fault_of}
@@ -28,7 +30,7 @@ use Rattle.dc_stack.specs.State.{State, start_of}
 use Rattle.preflight_cert.specs.Answer.{AnswersOpened, AnswersRead, answer_from, bound_of, refuses}
 use Rattle.preflight_cert.specs.CertificateReading.{CertificateValue, read_certificate}
 use Rattle.preflight_cert.specs.Checked.{check_of, checked, left_over}
-use Rattle.preflight_cert.specs.Entries.{covers, drawing_fault, entries_behind, entry_fault}
+use Rattle.preflight_cert.specs.Entries.{covers, covers_nib, drawing_fault, entries_behind, entry_fault}
 use Rattle.preflight_cert.specs.Stop.{Stop, broken_behind, stop_at, stop_of, stopped, stopped_or}
 use Rattle.preflight_cert.specs.TextLaws.{TextLaws}
 use Rattle.preflight_cert.specs.declared.entry.Entry.{Entry}
@@ -36,7 +38,9 @@ use Rattle.meta_headers.specs.Formats.{format_of}
 use Rattle.listing.specs.Formats.{first_place}
 use Rattle.listing.specs.Judging.{judging_if, judging_of, start_judging}
 use Rattle.listing.specs.Listing.{framed_records, lines_of_framed, listing_of}
-use Rattle.listing.specs.ListingLaws.{ListingLaws, ShowsItsFrame, TellsEachRefusal, TellsEachStop, TellsFault}
+use Rattle.listing.specs.ListingLaws.{IsOneLine, ListingLaws, ShowsItsFrame, TellsEachRefusal, TellsEachStop, TellsStop}
+use Rattle.listing.proofs.FileLemmas.{IsReached}
+use Rattle.listing.proofs.PaintingLemmas.{meets_faults, no_painting_off}
 use Rattle.listing.proofs.StopLemmas.{same_fault, told}
 
 abbrev opens_so : OpenedValue → Result OpenedValue Fault
@@ -114,6 +118,21 @@ listing_opened file o opens =
     let at_start : judging_of file ≡ Some (start_judging o) = ap judging_if opens in
     rw (opened_format file o opens, at_start) refl
 
+-- so its first record is reached
+reached_first : (file : List ℕ) (o : OpenedValue) → opened file ≡ Ok o → IsReached file o.format 0 (first_place o.format) (framed_records o.format file).records (framed_records o.format file).fault (lines_of_framed o.format (Some (start_judging o)) 0 (first_place o.format) (framed_records o.format file))
+reached_first file o opens = record {
+  of_format = opened_format file o opens;
+  lines = [];
+  earlier = [];
+  told = refl;
+  plain = All-nil IsOneLine;
+  counted = refl;
+  begins = omega arith;
+  among = refl;
+  ends = refl;
+  text = listing_opened file o opens;
+}
+
 -- a fault of no record isn't one of a record
 in_a_record : {number : ℕ} {one other : Fault} → refuses (Some number) one ≡ refuses None other → ⊥
 in_a_record e = cc
@@ -133,19 +152,21 @@ refused_at number fault None None h = cc
 refused_at number fault None (Some e) h = cc
 refused_at number fault (Some stop) total h = stop_of_parts stop number fault (refused_number h) (refused_fault h)
 
--- the faults of entries are two
-by_box : (same fits : Bool) (fault : RecordFault) → fault ≢ WrongEntry → fault ≢ BoxTooSmall → (if same then (if fits then None else Some BoxTooSmall) else Some WrongEntry) ≡ Some fault → ⊥
-by_box true true fault not_entry not_box h = cc
-by_box true false fault not_entry not_box h = not_box cc
-by_box false fits fault not_entry not_box h = not_entry cc
+-- the faults of entries are three
+by_extent : (same fits narrow : Bool) (fault : RecordFault) → fault ≢ WrongEntry → fault ≢ BoxTooSmall → fault ≢ NibTooSmall → (if same then (if fits then (if narrow then None else Some NibTooSmall) else Some BoxTooSmall) else Some WrongEntry) ≡ Some fault → ⊥
+by_extent true true true fault not_entry not_box not_nib h = cc
+by_extent true true false fault not_entry not_box not_nib h = not_nib cc
+by_extent true false narrow fault not_entry not_box not_nib h = not_box cc
+by_extent false fits narrow fault not_entry not_box not_nib h = not_entry cc
 
-by_entries : (n : ℕ) (drawing : Drawing) (entries : List Entry) (fault : RecordFault) → fault ≢ WrongEntry → fault ≢ BoxTooSmall → drawing_fault n drawing entries ≡ Some fault → ⊥
-by_entries n drawing [] fault not_entry not_box h = not_entry cc
-by_entries n drawing (entry ∷ entries) fault not_entry not_box h = by_box (entry.number == n) (covers entry.bounds (drawing_points drawing)) fault not_entry not_box h
+by_entries : (n : ℕ) (drawing : Drawing) (entries : List Entry) (s : Surface) (fault : RecordFault) → fault ≢ WrongEntry → fault ≢ BoxTooSmall → fault ≢ NibTooSmall → drawing_fault n drawing entries s ≡ Some fault → ⊥
+by_entries n drawing [] s fault not_entry not_box not_nib h = not_entry cc
+by_entries n drawing (entry ∷ entries) s fault not_entry not_box not_nib h =
+    by_extent (entry.number == n) (covers entry.bounds (drawing_points drawing)) (covers_nib entry.nib (drawing_nib drawing s)) fault not_entry not_box not_nib h
 
-no_entry_fault : (n : ℕ) (drawing : Option Drawing) (entries : List Entry) (fault : RecordFault) → fault ≢ WrongEntry → fault ≢ BoxTooSmall → entry_fault n drawing entries ≡ Some fault → ⊥
-no_entry_fault n None entries fault not_entry not_box h = cc
-no_entry_fault n (Some drawing) entries fault not_entry not_box h = by_entries n drawing entries fault not_entry not_box h
+no_entry_fault : (n : ℕ) (drawing : Option Drawing) (entries : List Entry) (s : Surface) (fault : RecordFault) → fault ≢ WrongEntry → fault ≢ BoxTooSmall → fault ≢ NibTooSmall → entry_fault n drawing entries s ≡ Some fault → ⊥
+no_entry_fault n None entries s fault not_entry not_box not_nib h = cc
+no_entry_fault n (Some drawing) entries s fault not_entry not_box not_nib h = by_entries n drawing entries s fault not_entry not_box not_nib h
 
 -- nor is one left over
 no_left_over : (count : ℕ) (entries : List Entry) {number : ℕ} (fault : RecordFault) → fault ≢ WrongEntry → left_over count entries ≡ Some (stop_at number fault) → ⊥
@@ -163,18 +184,18 @@ module _ {number : ℕ} {fault : RecordFault} where
   at_end (Some stop) over none h = h
   at_end None over none h = absurd (none h)
 
-  stops_in_run : (steps : List StepValue) (behind : Option Stop) (count : ℕ) (state : State) (s : Surface) (entries : List Entry) → fault ≢ WrongEntry → fault ≢ BoxTooSmall → checked steps behind count state s entries ≡ Some (stop_at number fault) → stopped steps behind state s ≡ Some (stop_at number fault)
-  stops_in_run [] behind count state s entries not_entry not_box h = at_end behind (left_over count entries) (no_left_over count entries fault not_entry) h
-  stops_in_run (step ∷ steps) behind count state s entries not_entry not_box h =
-      by_step step.number (fault_of step.operation state s) (entry_fault step.number (drawing_of step.operation state) entries)
+  stops_in_run : (steps : List StepValue) (behind : Option Stop) (count : ℕ) (state : State) (s : Surface) (entries : List Entry) → fault ≢ WrongEntry → fault ≢ BoxTooSmall → fault ≢ NibTooSmall → checked steps behind count state s entries ≡ Some (stop_at number fault) → stopped steps behind state s ≡ Some (stop_at number fault)
+  stops_in_run [] behind count state s entries not_entry not_box not_nib h = at_end behind (left_over count entries) (no_left_over count entries fault not_entry) h
+  stops_in_run (step ∷ steps) behind count state s entries not_entry not_box not_nib h =
+      by_step step.number (fault_of step.operation state s) (entry_fault step.number (drawing_of step.operation state) entries s)
       (stopped steps behind (next step.operation state) s)
       (checked steps behind count (next step.operation state) s (entries_behind (drawing_of step.operation state) entries))
-      (no_entry_fault step.number (drawing_of step.operation state) entries fault not_entry not_box)
-      (stops_in_run steps behind count (next step.operation state) s (entries_behind (drawing_of step.operation state) entries) not_entry not_box) h
+      (no_entry_fault step.number (drawing_of step.operation state) entries s fault not_entry not_box not_nib)
+      (stops_in_run steps behind count (next step.operation state) s (entries_behind (drawing_of step.operation state) entries) not_entry not_box not_nib) h
 
 -- where the content of a file's records stops, on a surface of allowed sides
-module _ (laws : FaultLaws) (one : FramedInOneWay) (by_function : FramedByFunction) (file : List ℕ) (shows : ShowsItsFrame file) where
-  tells_stop : (o : OpenedValue) (content : Content) (width height number : ℕ) (fault : RecordFault) → opened file ≡ Ok o → HasContentOf o.format (record_bytes o.format file) content → IsSurfaceSide width → IsSurfaceSide height → stop_of content (start_of o) (surface_for o width height) ≡ Some (stop_at number fault) → TellsFault (listing_of file) number fault
+module _ (laws : FaultLaws) (nibs : NibLaws) (one : FramedInOneWay) (by_function : FramedByFunction) (file : List ℕ) (shows : ShowsItsFrame file) where
+  tells_stop : (o : OpenedValue) (content : Content) (width height number : ℕ) (fault : RecordFault) → opened file ≡ Ok o → HasContentOf o.format (record_bytes o.format file) content → IsSurfaceSide width → IsSurfaceSide height → stop_of content (start_of o) (surface_for o width height) ≡ Some (stop_at number fault) → TellsStop file number fault
   tells_stop o content width height number fault opens it wide high stops =
       let f = framing_of o.format in
       let framed = framed_records o.format file in
@@ -185,10 +206,9 @@ module _ (laws : FaultLaws) (one : FramedInOneWay) (by_function : FramedByFuncti
       let all = content_of f (meaning_of o.format) 0 framed in
       let all_stop : stop_of all (start_of o) s ≡ Some (stop_at number fault) = ap (λ (c : Content). stop_of c (start_of o) s) (sym meant) ∙ stops in
       let counted : 0 + length all.steps ≡ length all.steps = omega arith in
-      subst (λ (text : List ℕ). TellsFault text number fault) (sym (listing_opened file o opens))
-      (told laws o.format (surface_for o 1 1) s (surface_for o surface_side_limit surface_side_limit) (record { wide = largest.wide; high = largest.high }) largest
+      told laws nibs by_function file o.format (surface_for o 1 1) s (surface_for o surface_side_limit surface_side_limit) (record { wide = largest.wide; high = largest.high }) largest
       (up_from_smallest o width height wide high) (up_to_largest o width height wide high) (length all.steps) number fault
-      framed.records 0 (first_place o.format) framed.behind framed.fault (start_of o) [] refl counted all_stop)
+      framed.records 0 (first_place o.format) framed.behind framed.fault (start_of o) refl counted all_stop (reached_first file o opens)
 
   tells_each_stop : TellsEachStop file
   tells_each_stop width height image number fault wide high run =
@@ -198,21 +218,23 @@ module _ (laws : FaultLaws) (one : FramedInOneWay) (by_function : FramedByFuncti
       tells_stop run.headers run.content width height number fault run.of_file.opens run.of_file.records wide high stops
 
   tells_each_refusal : TextLaws → TellsEachRefusal file
-  tells_each_refusal text certificate number fault bytes not_entry not_box answers = by_opening (opened file) refl answers
+  tells_each_refusal text certificate number fault bytes not_entry not_box not_nib answers = by_opening (opened file) refl answers
     where
-      by_reading : (o : OpenedValue) → opened file ≡ Ok o → (read : Result CertificateValue Fault) → read_certificate certificate ≡ read → AnswersRead read o (record_bytes o.format file) (refuses (Some number) (InRecord fault)) → TellsFault (listing_of file) number fault
+      by_reading : (o : OpenedValue) → opened file ≡ Ok o → (read : Result CertificateValue Fault) → read_certificate certificate ≡ read → AnswersRead read o (record_bytes o.format file) (refuses (Some number) (InRecord fault)) → TellsStop file number fault
       by_reading o opens (Err e) reads h = absurd (in_a_record h)
       by_reading o opens (Ok c) reads h =
           let is = text.is_certificate certificate c bytes reads in
-          let stops = stops_in_run h.content.steps (broken_behind (length h.content.steps) h.content.fault) (length h.content.steps) (start_of o) (bound_of o c) c.entries not_entry not_box (refused_at number fault (check_of h.content (start_of o) (bound_of o c) c.entries) _ (sym h.answers)) in
+          let stops = stops_in_run h.content.steps (broken_behind (length h.content.steps) h.content.fault) (length h.content.steps) (start_of o) (bound_of o c) c.entries not_entry not_box not_nib (refused_at number fault (check_of h.content (start_of o) (bound_of o c) c.entries) _ (sym h.answers)) in
           tells_stop o h.content c.max_width c.max_height number fault opens h.of_records is.wide is.high stops
 
-      by_opening : (open_or : Result OpenedValue Fault) → opened file ≡ open_or → AnswersOpened open_or file certificate (refuses (Some number) (InRecord fault)) → TellsFault (listing_of file) number fault
+      by_opening : (open_or : Result OpenedValue Fault) → opened file ≡ open_or → AnswersOpened open_or file certificate (refuses (Some number) (InRecord fault)) → TellsStop file number fault
       by_opening (Err e) opens h = absurd (in_a_record h)
       by_opening (Ok o) opens h = by_reading o opens (read_certificate certificate) refl h
 
-pub listing_laws : FaultLaws → FramedInOneWay → FramedByFunction → TextLaws → ListingLaws
-listing_laws laws one by_function text = record {
-  stops = λ file shows. tells_each_stop laws one by_function file shows;
-  refusals = λ file shows. tells_each_refusal laws one by_function file shows text;
+pub listing_laws : FaultLaws → NibLaws → FramedInOneWay → FramedByFunction → TextLaws → ListingLaws
+listing_laws laws nibs one by_function text = record {
+  stops = λ file shows. tells_each_stop laws nibs one by_function file shows;
+  refusals = λ file shows. tells_each_refusal laws nibs one by_function file shows text;
+  runs = meets_faults;
+  paintings = no_painting_off;
 }

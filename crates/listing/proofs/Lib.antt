@@ -3,5 +3,11 @@ pub mod LineLemmas
 pub mod WalkLemmas
 pub mod TextLemmas
 pub mod JudgingLemmas
+pub mod LargestLemmas
+pub mod PathLemmas
+pub mod PaintingLemmas
+pub mod PlainTexts
+pub mod PlainLines
+pub mod FileLemmas
 pub mod StopLemmas
 pub mod LawLemmas

@@ -1,16 +1,17 @@
 -- Where a run stops, the record's line tells the fault.
-use Rattle.std.proofs.Common.{◌≡◌, inl, inr, ℕ, suc, ◌+◌, ◌==◌, List, [], ◌∷◌, ◌++◌, length, codes, Option, Some, None, Result, Ok, Err, arith, refl, sym, ap, ◌∙◌}
-use Rattle.std.proofs.lemmas.Grind.{flat_map-append}
-use Rattle.std.proofs.lemmas.List.{append_assoc, append-nil, length-append}
+use Rattle.std.proofs.Common.{◌≡◌, inl, inr, ℕ, suc, ◌+◌, ◌==◌, List, [], ◌∷◌, ◌++◌, length, codes, Option, Some, None, Result, Ok, Err, arith, refl, subst, ap, ◌∙◌}
+use Rattle.mapping.specs.Nibs.{NibLaws}
 use Rattle.mapping.specs.PlacingLaws.{IsNoLarger, ShowsFrame}
 use Rattle.mapping.specs.Surface.{Surface}
 use Rattle.draw_ops.specs.Content.{Content, StepValue}
+use Rattle.draw_ops.specs.Framed.{FramedByFunction}
 use Rattle.draw_ops.specs.Meaning.{MeantValue, step_meant}
 use Rattle.draw_ops.specs.RecordContent.{followed, steps_from}
 use Rattle.draw_ops.specs.Records.{Record}
 use Rattle.draw_ops.specs.Results.{result_map}
 use Rattle.draw_ops.specs.declared.fault.Fault.TheVariants.{Record as InRecord}
 use Rattle.draw_ops.specs.declared.record_fault.RecordFault.{RecordFault}
+use Rattle.draw_ops.specs.declared.record_fault.RecordFault.TheVariants.{OffPlane}
 use Rattle.meta_headers.specs.Opening.{framing_of, meaning_of}
 use Rattle.meta_headers.specs.declared.opened.FileFormat.{FileFormat}
 use Rattle.dc_stack.specs.FaultLaws.{FaultLaws}
@@ -18,10 +19,16 @@ use Rattle.dc_stack.specs.Next.{next}
 use Rattle.dc_stack.specs.OperationFault.{fault_of}
 use Rattle.dc_stack.specs.State.{State}
 use Rattle.preflight_cert.specs.Stop.{Stop, broken_behind, stop_at, stopped, stopped_or}
-use Rattle.listing.specs.Judging.{Judging, behind_record, fault_in_runs}
+use Rattle.listing.specs.FileRecords.{BreaksAt, HasRecord}
+use Rattle.listing.specs.Judging.{Judging, PathLands, behind_record, fault_in_runs, fault_met}
 use Rattle.listing.specs.Line.{fault_line, head_of, line_of, meant_text, refused_text}
 use Rattle.listing.specs.Listing.{last_line, lines_of}
-use Rattle.listing.specs.ListingLaws.{HasLine, TellsFault, refused_line, text_of_lines}
+use Rattle.listing.specs.ListingLaws.{TellsFault, TellsRefused, TellsStop, refused_line}
+use Rattle.listing.proofs.FileLemmas.{IsReached, line_here, line_last, own_break, own_record, reached_next}
+use Rattle.listing.proofs.JudgingLemmas.{OnLarger}
+use Rattle.listing.proofs.PaintingLemmas.{met_on_larger}
+use Rattle.listing.proofs.PathLemmas.{lands_behind}
+use Rattle.listing.proofs.PlainLines.{line_plain}
 
 -- of a stop its number and its fault
 same_stop : {one other : Stop} → Some one ≡ Some other → one ≡ other
@@ -33,30 +40,7 @@ same_number e = ap (λ (stop : Stop). stop.number) (same_stop e)
 pub same_fault : {one other : ℕ} {fault here : RecordFault} → Some (stop_at one fault) ≡ Some (stop_at other here) → fault ≡ here
 same_fault e = ap (λ (stop : Stop). stop.fault) (same_stop e)
 
--- a line behind others, and in front of more
-line_here : (before : List (List ℕ)) (line rest : List ℕ) → HasLine (text_of_lines before ++ (line ++ rest)) (length before) line
-line_here before line rest = record { before = before; count = refl; behind = rest; here = sym (append_assoc (text_of_lines before) line rest) }
-
-line_last : (before : List (List ℕ)) (line : List ℕ) → HasLine (text_of_lines before ++ line) (length before) line
-line_last before line = record { before = before; count = refl; behind = []; here = sym (append-nil (text_of_lines before ++ line)) }
-
--- the same line, told otherwise
-same_line : {text : List ℕ} {one other : ℕ} (line there : List ℕ) → HasLine text one line → one ≡ other → line ≡ there → HasLine text other there
-same_line line there h count same = record {
-  before = h.before;
-  count = h.count ∙ count;
-  behind = h.behind;
-  here = h.here ∙ ap (λ (l : List ℕ). text_of_lines h.before ++ l ++ h.behind) same;
-}
-
--- one line more
-one_more : (before : List (List ℕ)) (line rest : List ℕ) → text_of_lines before ++ ((line ++ codes "\n") ++ rest) ≡ text_of_lines (before ++ line ∷ []) ++ rest
-one_more before line rest =
-    sym (append_assoc (text_of_lines before) (line ++ codes "\n") rest)
-    ∙ ap (λ (text : List ℕ). text_of_lines before ++ text ++ rest) (sym (append-nil (line ++ codes "\n")))
-    ∙ ap (λ (text : List ℕ). text ++ rest) (sym (flat_map-append (λ (l : List ℕ). l ++ codes "\n") before (line ∷ [])))
-
-module _ (laws : FaultLaws) (format : FileFormat) (smallest s largest : Surface) (shows : ShowsFrame s) (shows_largest : ShowsFrame largest) (up : IsNoLarger smallest s) (down : IsNoLarger s largest) (total number : ℕ) (fault : RecordFault) where
+module _ (laws : FaultLaws) (nibs : NibLaws) (by_function : FramedByFunction) (file : List ℕ) (format : FileFormat) (smallest s largest : Surface) (shows : ShowsFrame s) (shows_largest : ShowsFrame largest) (up : IsNoLarger smallest s) (down : IsNoLarger s largest) (total number : ℕ) (fault : RecordFault) where
   -- what a record is judged by in a state
   abbrev judging_in : State → Judging
   judging_in state = record { state = state; smallest = smallest; largest = largest }
@@ -66,75 +50,91 @@ module _ (laws : FaultLaws) (format : FileFormat) (smallest s largest : Surface)
   Stops content state = stopped content.steps (broken_behind total content.fault) state s ≡ Some (stop_at number fault)
 
   -- the record in front of others that are told so
-  module _ (r : Record) (rs : List Record) (n place : ℕ) (behind : List ℕ) (ending : Option RecordFault) (before : List (List ℕ)) (count : length before ≡ n) where
+  module _ (r : Record) (rs : List Record) (n place : ℕ) (behind : List ℕ) (ending : Option RecordFault) where
     abbrev others : Content
     others = steps_from (framing_of format) (meaning_of format) behind (suc n) rs ending
 
-    abbrev text_of : Option Judging → Result StepValue RecordFault → List ℕ
-    text_of judging meant =
-        text_of_lines before
-        ++ (line_of format (fault_in_runs judging meant) n place r meant
-        ++ lines_of format (behind_record judging meant) (suc n) (place + length r.bytes) behind rs ending)
+    abbrev IsReachedBy : Option RecordFault → Result StepValue RecordFault → List ℕ → Type 0
+    IsReachedBy run meant rest = IsReached file format n place (r ∷ rs) ending (line_of format run n place r meant ++ rest)
+
+    abbrev left_by : Option Judging → Result StepValue RecordFault → List ℕ
+    left_by judging meant = lines_of format (behind_record judging meant) (suc n) (place + length r.bytes) behind rs ending
 
     abbrev LaterTold : Type 0
     LaterTold =
-        (state : State) (lines : List (List ℕ)) → length lines ≡ suc n → suc n + length others.steps ≡ total → Stops others state
-        → TellsFault (text_of_lines lines ++ lines_of format (Some (judging_in state)) (suc n) (place + length r.bytes) behind rs ending) number fault
+        (state : State) → PathLands state.path s
+        → IsReached file format (suc n) (place + length r.bytes) rs ending (lines_of format (Some (judging_in state)) (suc n) (place + length r.bytes) behind rs ending)
+        → suc n + length others.steps ≡ total → Stops others state → TellsStop file number fault
 
-    -- the record is refused
-    told_here : (run : Option RecordFault) (meant : Result StepValue RecordFault) (rest : List ℕ) → meant_text run meant ≡ refused_text (InRecord fault) → n ≡ number → TellsFault (text_of_lines before ++ (line_of format run n place r meant ++ rest)) number fault
-    told_here run meant rest told same =
+    -- the record is refused by a fault
+    refused_here : (run : Option RecordFault) (meant : Result StepValue RecordFault) (rest : List ℕ) (e : RecordFault) → meant_text run meant ≡ refused_text (InRecord e) → n ≡ number → IsReachedBy run meant rest → TellsRefused file number e
+    refused_here run meant rest e told same reached =
         let line = line_of format run n place r meant in
-        let is : line ≡ refused_line format number place r fault =
-        ap (λ (text : List ℕ). head_of format n place r ++ text ++ codes "\n") told ∙ ap (λ (m : ℕ). refused_line format m place r fault) same in
-        inl (record {
+        let is : line ≡ refused_line format number place r e =
+        ap (λ (text : List ℕ). head_of format n place r ++ text ++ codes "\n") told ∙ ap (λ (m : ℕ). refused_line format m place r e) same in
+        record {
           format = format;
           place = place;
           r = r;
-          line = same_line line (refused_line format number place r fault) (line_here before line rest) (count ∙ same) is;
-        })
+          its_own = subst (λ (m : ℕ). HasRecord file format m place r) same (own_record by_function reached);
+          line = line_here line rest (refused_line format number place r e) number reached same is;
+        }
+
+    -- by that of the run, or by being off the plane
+    stopped_here : (state : State) (step : StepValue) (rest : List ℕ) → OnLarger fault (fault_met step.operation state largest) → n ≡ number → IsReachedBy (fault_met step.operation state largest) (Ok step) rest → TellsStop file number fault
+    stopped_here state step rest (inl there) same reached =
+        inl (inl (refused_here (fault_met step.operation state largest) (Ok step) rest fault (rw there refl) same reached))
+    stopped_here state step rest (inr both) same reached =
+        inr (record { too_wide = both.0; off = refused_here (fault_met step.operation state largest) (Ok step) rest OffPlane (rw both.1 refl) same reached })
 
     -- or has no fault on the surface, and is behind others then
-    told_later : (state : State) (step : StepValue) → LaterTold → fault_of step.operation state s ≡ None → suc n + length others.steps ≡ total → Stops others (next step.operation state) → TellsFault (text_of (Some (judging_in state)) (Ok step)) number fault
-    told_later state step later none all stops =
-        let run = fault_of step.operation state largest in
+    told_later : (state : State) (step : StepValue) → PathLands state.path s → LaterTold → fault_of step.operation state s ≡ None → suc n + length others.steps ≡ total → Stops others (next step.operation state) → IsReachedBy (fault_met step.operation state largest) (Ok step) (left_by (Some (judging_in state)) (Ok step)) → TellsStop file number fault
+    told_later state step lands later none all stops reached =
+        let run = fault_met step.operation state largest in
         let line = head_of format n place r ++ meant_text run (Ok step) in
         let goes_on : fault_of step.operation state smallest ≡ None = laws.none_on_smaller step.operation state smallest s shows up none in
         let left = lines_of format (Some (judging_in (next step.operation state))) (suc n) (place + length r.bytes) behind rs ending in
-        let long : length (before ++ line ∷ []) ≡ suc n = let sum = length-append before (line ∷ []) in omega (arith, sum, count) in
-        rw (goes_on, one_more before line left) (later (next step.operation state) (before ++ line ∷ []) long all stops)
+        later (next step.operation state) (lands_behind s step.operation state lands none) (reached_next line left (line_plain format run n place r step) (rw goes_on at reached)) all stops
 
     -- by the fault that the step has on the surface
-    by_fault : (state : State) (step : StepValue) (found : Option RecordFault) → LaterTold → fault_of step.operation state s ≡ found → suc n + length others.steps ≡ total → stopped_or n found (stopped others.steps (broken_behind total others.fault) (next step.operation state) s) ≡ Some (stop_at number fault) → TellsFault (text_of (Some (judging_in state)) (Ok step)) number fault
-    by_fault state step None later is all stops = told_later state step later is all stops
-    by_fault state step (Some e) later is all stops =
-        let there : fault_of step.operation state largest ≡ Some fault =
-        laws.same_on_larger step.operation state s largest e shows_largest down is ∙ ap Some (same_fault stops) in
-        told_here (fault_of step.operation state largest) (Ok step) (lines_of format (behind_record (Some (judging_in state)) (Ok step)) (suc n) (place + length r.bytes) behind rs ending) (rw there refl) (same_number stops)
+    by_fault : (state : State) (step : StepValue) (found : Option RecordFault) → PathLands state.path s → LaterTold → fault_of step.operation state s ≡ found → suc n + length others.steps ≡ total → stopped_or n found (stopped others.steps (broken_behind total others.fault) (next step.operation state) s) ≡ Some (stop_at number fault) → IsReachedBy (fault_met step.operation state largest) (Ok step) (left_by (Some (judging_in state)) (Ok step)) → TellsStop file number fault
+    by_fault state step None lands later is all stops reached = told_later state step lands later is all stops reached
+    by_fault state step (Some e) lands later is all stops reached =
+        let here : fault_of step.operation state s ≡ Some fault = is ∙ ap Some (same_fault stops) in
+        stopped_here state step (left_by (Some (judging_in state)) (Ok step)) (met_on_larger laws nibs step.operation state s largest shows_largest down lands fault here)
+        (same_number stops) reached
+
+    -- what a record means, as a step
+    abbrev step_by : Result MeantValue RecordFault → Result StepValue RecordFault
+    step_by meant = result_map (step_meant (r.kind == (framing_of format).end_kind) behind n) meant
 
     -- by what the record means
-    by_meaning : (state : State) (meant : Result MeantValue RecordFault) → LaterTold → n + length (followed (result_map (step_meant (r.kind == (framing_of format).end_kind) behind n) meant) others).steps ≡ total → Stops (followed (result_map (step_meant (r.kind == (framing_of format).end_kind) behind n) meant) others) state → TellsFault (text_of (Some (judging_in state)) (result_map (step_meant (r.kind == (framing_of format).end_kind) behind n) meant)) number fault
-    by_meaning state (Err e) later all stops =
+    by_meaning : (state : State) (meant : Result MeantValue RecordFault) → PathLands state.path s → LaterTold → n + length (followed (step_by meant) others).steps ≡ total → Stops (followed (step_by meant) others) state → IsReachedBy (fault_in_runs (Some (judging_in state)) (step_by meant)) (step_by meant) (left_by (Some (judging_in state)) (step_by meant)) → TellsStop file number fault
+    by_meaning state (Err e) lands later all stops reached =
         let same : n ≡ number = let last = same_number stops in omega (arith, all, last) in
-        told_here None (Err e) (lines_of format None (suc n) (place + length r.bytes) behind rs ending) (ap (λ (f : RecordFault). refused_text (InRecord f)) (same_fault stops)) same
-    by_meaning state (Ok meant) later all stops =
+        inl (inl (refused_here None (Err e) (lines_of format None (suc n) (place + length r.bytes) behind rs ending) fault (ap (λ (f : RecordFault). refused_text (InRecord f)) (same_fault stops)) same reached))
+    by_meaning state (Ok meant) lands later all stops reached =
         let step = step_meant (r.kind == (framing_of format).end_kind) behind n meant in
-        by_fault state step (fault_of step.operation state s) later refl (omega (arith, all)) stops
+        by_fault state step (fault_of step.operation state s) lands later refl (omega (arith, all)) stops reached
 
   -- the last line
-  told_at_end : (n place : ℕ) (ending : Option RecordFault) (before : List (List ℕ)) → length before ≡ n → n + 0 ≡ total → broken_behind total ending ≡ Some (stop_at number fault) → TellsFault (text_of_lines before ++ last_line n place ending) number fault
-  told_at_end n place None before count all stops = cc
-  told_at_end n place (Some e) before count all stops =
+  told_at_end : (n place : ℕ) (ending : Option RecordFault) → n + 0 ≡ total → broken_behind total ending ≡ Some (stop_at number fault) → IsReached file format n place [] ending (last_line n place ending) → TellsFault file number fault
+  told_at_end n place None all stops reached = cc
+  told_at_end n place (Some e) all stops reached =
       let same : n ≡ number = let last = same_number stops in omega (arith, all, last) in
       let is : fault_line n place e ≡ fault_line number place fault = ap (λ (m : ℕ). fault_line m place e) same ∙ ap (fault_line number place) (same_fault stops) in
       inr (record {
+        format = format;
         place = place;
-        line = same_line (fault_line n place e) (fault_line number place fault) (line_last before (fault_line n place e)) (count ∙ same) is;
+        its_own =
+            subst (λ (f : RecordFault). BreaksAt file format number place f) (same_fault stops)
+            (subst (λ (m : ℕ). BreaksAt file format m place e) same (own_break reached));
+        line = line_last (fault_line n place e) (fault_line number place fault) number reached same is;
       })
 
   -- all records
-  pub told : (rs : List Record) (n place : ℕ) (behind : List ℕ) (ending : Option RecordFault) (state : State) (before : List (List ℕ)) → length before ≡ n → n + length (steps_from (framing_of format) (meaning_of format) behind n rs ending).steps ≡ total → Stops (steps_from (framing_of format) (meaning_of format) behind n rs ending) state → TellsFault (text_of_lines before ++ lines_of format (Some (judging_in state)) n place behind rs ending) number fault
-  told [] n place behind ending state before count all stops = told_at_end n place ending before count all stops
-  told (r ∷ rs) n place behind ending state before count all stops =
-      by_meaning r rs n place behind ending before count state (meaning_of format n r)
-      (λ later lines long all_later stops_later. told rs (suc n) (place + length r.bytes) behind ending later lines long all_later stops_later) all stops
+  pub told : (rs : List Record) (n place : ℕ) (behind : List ℕ) (ending : Option RecordFault) (state : State) → PathLands state.path s → n + length (steps_from (framing_of format) (meaning_of format) behind n rs ending).steps ≡ total → Stops (steps_from (framing_of format) (meaning_of format) behind n rs ending) state → IsReached file format n place rs ending (lines_of format (Some (judging_in state)) n place behind rs ending) → TellsStop file number fault
+  told [] n place behind ending state lands all stops reached = inl (told_at_end n place ending all stops reached)
+  told (r ∷ rs) n place behind ending state lands all stops reached =
+      by_meaning r rs n place behind ending state (meaning_of format n r) lands
+      (λ later lands_later onward all_later stops_later. told rs (suc n) (place + length r.bytes) behind ending later lands_later all_later stops_later onward) all stops reached

@@ -5,6 +5,7 @@ pub mod NoteTexts
 pub mod Judging
 pub mod Line
 pub mod Listing
+pub mod FileRecords
 pub mod ListingLaws
 pub mod Putting
 pub mod WmfNames

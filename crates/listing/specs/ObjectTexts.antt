@@ -8,10 +8,10 @@ use Rattle.draw_ops.specs.declared.objects.Pen.{Pen}
 use Rattle.draw_ops.specs.declared.objects.Pen.TheVariants.{Null as NullPen, Solid as SolidPen}
 use Rattle.listing.specs.Parts.{colour_text, point_text, sides_text}
 
--- a pen's colour, or that it draws nothing
+-- a pen's colour and its width in page units, or that it draws nothing
 abbrev pub pen_text : Pen → List ℕ
 pen_text NullPen = codes "pen null"
-pen_text (SolidPen colour) = codes "pen " ++ colour_text colour
+pen_text (SolidPen width colour) = codes "pen " ++ colour_text colour ++ codes " width " ++ decimal width
 
 -- a brush's colour, its hatch with its colour, the sides of its tile, or that it paints nothing
 abbrev pub brush_text : BrushValue → List ℕ

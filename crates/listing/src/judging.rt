@@ -1,25 +1,26 @@
 //! The faults that a file's records have in its runs, on surfaces of any sides.
 
-ghost use Rattle.std.specs.Prelude.{◌≡◌, List, Option, Some, None, IfErr, IfOk, OnErr, OnOk};
+ghost use Rattle.std.specs.Prelude.{◌≡◌, ◌↔◌, Option, Some, None, IfErr, IfOk, OnErr, OnOk, IsTrue};
 ghost use Rattle.std.specs.Option.{option_map};
 ghost use Rattle.draw_ops.specs.OperationOf.{operation_of};
 ghost use Rattle.draw_ops.specs.Results.{result_map};
 ghost use Rattle.draw_ops.specs.StepOf.{step_value_of};
 ghost use Rattle.draw_ops.specs.declared.fault.Fault.TheVariants.{Record};
 ghost use Rattle.draw_ops.specs.declared.record_fault.RecordFault.{RecordFault as TheRecordFault};
+ghost use Rattle.draw_ops.specs.declared.record_fault.RecordFault.TheVariants.{NibTooWide};
 ghost use Rattle.meta_headers.specs.OpenedOf.{opened_of};
 ghost use Rattle.mapping.specs.PlaceOf.{surface_of};
-ghost use Rattle.mapping.specs.declared.geometry.Point.{Point};
-ghost use Rattle.dc_stack.specs.Extents.{IsExtent};
-ghost use Rattle.dc_stack.specs.OperationFault.{fault_of, off_plane_fault};
+ghost use Rattle.dc_stack.specs.OperationFault.{fault_of};
 ghost use Rattle.preflight_cert.specs.Reached.{Opens};
 ghost use Rattle.listing.specs.ListingLaws.{ShowsItsFrame};
-ghost use Rattle.listing.specs.Judging.{HasFault, behind_operation, behind_record, behind_step, fault_in_runs, judging_of, run_fault, start_judging};
+ghost use Rattle.listing.specs.Judging.{HasFault, behind_operation, behind_record, behind_step, fault_in_runs, fault_met, judging_of};
+ghost use Rattle.listing.specs.Judging.{run_fault, start_judging};
 
+use crate::largest::{fault_met, is_painting, too_wide};
 use canvas::OutOfMemory;
-use dc_stack::{Draw, MAX_PIECES, MAX_SAVED_STATES, Machine, fault_law, fits};
+use dc_stack::{Draw, MAX_PIECES, MAX_SAVED_STATES, Machine, fault_law};
 use draw_ops::{Fault, Op, RecordFault, Step};
-use mapping::{MAX_SURFACE_SIDE, Place, Rect};
+use mapping::{MAX_SURFACE_SIDE, Place, nib_law};
 use meta_headers::{Opened, open_file};
 use object_tables::{FileTable, Table, full_slots};
 use preflight_cert::need_law;
@@ -35,13 +36,13 @@ struct SmallestRun<'a> {
 
 impl<'a> Model for SmallestRun<'a> {
     ghost use Rattle.mapping.specs.PlaceOf.{surface_of};
-    ghost use Rattle.listing.specs.Judging.{IsRunning, Judging};
+    ghost use Rattle.listing.specs.Judging.{IsOnItsWay, Judging};
 
     ghost Value = { Judging };
 
     ghost view = { λ r. record { state = r.machine.state; smallest = r.machine.surface; largest = surface_of r.largest } };
 
-    ghost invariant = { λ r. IsRunning r.machine (surface_of r.largest) };
+    ghost invariant = { λ r. IsOnItsWay r.machine (surface_of r.largest) };
 }
 
 impl<'a> SmallestRun<'a> {
@@ -60,22 +61,40 @@ impl<'a> SmallestRun<'a> {
         }
     }
 
-    /// Plays an operation, and tells the fault that it has on the largest surface alone, or else the one that it has on both.
+    /// Plays an operation, and tells the fault that runs meet in it on the largest surface alone; or it has this one on the smallest, and nothing
+    /// has changed.
     fn play(&mut self, op: &Op<'a>) -> Result<Option<RecordFault>, Fault>
         ensures no_fault { OnOk result (fault_of (operation_of op.now) self.old.state self.old.smallest ≡ None) }
-        ensures off { IfOk result (λ off. off ≡ fault_of (operation_of op.now) self.old.state self.old.largest) }
+        ensures there { IfOk result (λ found. found ≡ fault_met (operation_of op.now) self.old.state self.old.largest) }
         ensures played { OnOk result (self.new ≡ behind_operation (operation_of op.now) self.old) }
         ensures on_smallest { IfErr result (HasFault (operation_of op.now) self.old.state self.old.smallest) }
-        ensures on_largest { IfErr result (HasFault (operation_of op.now) self.old.state self.old.largest) }
+        ensures kept { OnErr result (self.new ≡ self.old) }
     {
-        fault_law();
         need_law();
         let mut drawn: Option<Draw<'a>> = None;
         match self.machine.step_into(op, &mut drawn) {
-            Ok(()) => {}
-            Err(fault) => return Err(fault),
+            Ok(()) => Ok(fault_met(&self.machine, op, &drawn, self.largest)),
+            Err(fault) => Err(fault),
         }
-        Ok(off_plane(self.machine.plane_extent(), self.largest))
+    }
+
+    /// The fault that runs meet on the largest surface in an operation that has this one on the smallest: the run is at its end.
+    fn stopped_by(&mut self, op: &Op<'a>, fault: Fault) -> Option<RecordFault>
+        requires { HasFault (operation_of op.now) self.old.state self.old.smallest fault }
+        ensures { result ≡ fault_met (operation_of op.now) self.old.state self.old.largest }
+    {
+        fault_law();
+        nib_law();
+        let largest = self.largest;
+        let found = in_record(fault);
+        if is_painting(op) {
+            return found;
+        }
+        if is_too_wide(found) {
+            Some(too_wide(&mut self.machine, op, largest))
+        } else {
+            found
+        }
     }
 }
 
@@ -133,23 +152,13 @@ impl<'a> Judge<'a> {
             return None;
         };
         match run.play(&step.op) {
-            Ok(off) => off,
+            Ok(found) => found,
             Err(fault) => {
+                let found = run.stopped_by(&step.op, fault);
                 self.run = None;
-                in_record(fault)
+                found
             }
         }
-    }
-}
-
-/// `OffPlane` where points don't all land on a surface, whose least box on the plane this is.
-fn off_plane(extent: Option<Rect>, place: Place) -> Option<RecordFault>
-    ensures { (points : List Point) → IsExtent extent points → result ≡ off_plane_fault points (surface_of place) }
-{
-    if fits(extent, place) {
-        None
-    } else {
-        Some(RecordFault::OffPlane)
     }
 }
 
@@ -160,5 +169,15 @@ fn in_record(fault: Fault) -> Option<RecordFault>
     match fault {
         Fault::Record(fault) => Some(fault),
         _ => None,
+    }
+}
+
+/// Whether it is the fault of too wide a nib.
+fn is_too_wide(found: Option<RecordFault>) -> bool
+    ensures { IsTrue result ↔ found ≡ Some NibTooWide }
+{
+    match found {
+        Some(RecordFault::NibTooWide) => true,
+        _ => false,
     }
 }

@@ -10,17 +10,19 @@ use crate::parts::{put_code, put_colour, put_number, put_point, put_sides};
 use draw_ops::{Blit, BlitSource, Brush, Handle, Object, Pen, SourceRectangle};
 use mapping::Point;
 
-/// Puts a pen's colour, or that it draws nothing.
+/// Puts a pen's colour and its width, or that it draws nothing.
 fn put_pen(page: &mut Page, pen: Pen)
-    requires { length page.old + 11 ≤ 8192 }
+    requires { length page.old + 28 ≤ 8192 }
     ensures text { page.new ≡ page.old ++ pen_text pen }
-    ensures short { length page.new ≤ length page.old + 11 }
+    ensures short { length page.new ≤ length page.old + 28 }
 {
     match pen {
         Pen::Null => page.put("pen null"),
-        Pen::Solid { colour } => {
+        Pen::Solid { width, colour } => {
             page.put("pen ");
             put_colour(page, colour);
+            page.put(" width ");
+            put_number(page, width);
         }
     }
 }

@@ -48,7 +48,7 @@ floor_is a side one =
     let h = floor_is_greatest a (pos side) no in record { low = h.not_above; greatest = h.greatest }
 
 -- where r is before the frame, nothing lies before where it lands
-lands_before : (r : ℤ) (w side : ℕ) → 1 ≤ side → 1 ≤ w → r <ℤ pos 0 → placed r w side <ℤ pos 0
+pub lands_before : (r : ℤ) (w side : ℕ) → 1 ≤ side → 1 ≤ w → r <ℤ pos 0 → placed r w side <ℤ pos 0
 lands_before (pos n) w side one some h = absurd (omega (arith, ints, h))
 lands_before (negsuc n) w side one some h =
     let low = (floor_is (negsuc n *ℤ pos w) side one).low in
@@ -57,7 +57,7 @@ lands_before (negsuc n) w side one some h =
     (λ (g : pos 0 ≤ℤ placed (negsuc n) w side). absurd (below_not n (placed (negsuc n) w side) w side some g low))
 
 -- and where l is behind it, it lands behind the surface
-lands_behind : (l : ℤ) (w side : ℕ) → 1 ≤ side → pos side ≤ℤ l → pos w ≤ℤ placed l w side
+pub lands_behind : (l : ℤ) (w side : ℕ) → 1 ≤ side → pos side ≤ℤ l → pos w ≤ℤ placed l w side
 lands_behind (negsuc n) w side one h = absurd (omega (arith, ints, h))
 lands_behind (pos n) w side one h =
     let le : side ≤ n = omega (arith, ints, h) in
@@ -82,12 +82,12 @@ none_behind l r w side one h =
     (λ x first small. false_from_ne_true _ (λ t. let low = (span_parts l r w side x t).0 in omega (arith, ints, low, behind, small)))
 
 -- the first column is not before where l lands, or column 0
-first_from : (l : ℤ) (w side x : ℕ) → 1 ≤ side → placed l w side ≤ℤ pos x → count_of l * w / side ≤ x
+pub first_from : (l : ℤ) (w side x : ℕ) → 1 ≤ side → placed l w side ≤ℤ pos x → count_of l * w / side ≤ x
 first_from (pos n) w side x one h = let k : pos (n * w / side) ≤ℤ pos x = h in omega (arith, ints, k)
 first_from (negsuc n) w side x one h = let z : zero * w / side ≡ 0 = ap (λ (i : ℕ). i / side) (omega arith) ∙ zero-div side in omega (arith, z)
 
 -- and the last one not behind where r lands, or the last of the surface
-last_to : (r : ℤ) (w side x : ℕ) → 1 ≤ side → x < w → pos x ≤ℤ placed r w side → x ≤ min (count_of r) side * w / side
+pub last_to : (r : ℤ) (w side x : ℕ) → 1 ≤ side → x < w → pos x ≤ℤ placed r w side → x ≤ min (count_of r) side * w / side
 last_to (negsuc n) w side x one small h =
     let before = lands_before (negsuc n) w side one (omega (arith, small)) (omega (arith, ints)) in absurd (omega (arith, ints, before, h))
 last_to (pos n) w side x one small h =
@@ -100,7 +100,7 @@ last_to (pos n) w side x one small h =
     let k : pos x ≤ℤ pos (n * w / side) = h in rw e (omega (arith, ints, k)))
 
 -- floors of two fractions are no further apart than what lies between, rounded up
-floors_apart : (m n w side : ℕ) → 1 ≤ side → m ≤ n → n * w / side - m * w / side ≤ rounded_up ((n - m) * w) side
+pub floors_apart : (m n w side : ℕ) → 1 ≤ side → m ≤ n → n * w / side - m * w / side ≤ rounded_up ((n - m) * w) side
 floors_apart m n w side one h =
     let d : (n - m) * w + m * w ≡ n * w = difference n m w h in
     let a = div-mul-le_self (n * w) side in

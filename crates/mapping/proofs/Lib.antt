@@ -4,6 +4,7 @@ pub mod LimitLemmas
 pub mod PageAxisLemmas
 pub mod PlacingLemmas
 pub mod WorkedRows
+pub mod WorkedNibs
 pub mod BetweenLemmas
 pub mod JoiningLemmas
 pub mod LandsLemmas
@@ -12,3 +13,5 @@ pub mod CountLemmas
 pub mod CellLemmas
 pub mod MetLemmas
 pub mod FitLemmas
+pub mod WideCellLemmas
+pub mod NibLemmas

@@ -4,13 +4,14 @@ pub mod Limits
 pub mod MapMode
 pub mod Plane
 pub mod Surface
+pub mod PlacingLaws
+pub mod Nibs
 pub mod LimitTests
 pub mod PageMap
 pub mod Image
 pub mod Colours
 pub mod PlaceOf
 pub mod MapSettings
-pub mod PlacingLaws
 pub mod Pixels
 pub mod IndexLaws
 pub mod Mixes

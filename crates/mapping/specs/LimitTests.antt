@@ -4,6 +4,8 @@ use Rattle.mapping.specs.declared.geometry.Point.{Point}
 use Rattle.mapping.specs.Limits.{IsWithin, is_within, IsSurfaceSide, is_surface_side, IsFrameSide, is_frame_side}
 use Rattle.mapping.specs.Plane.{IsOnPlane, is_on_plane}
 use Rattle.mapping.specs.Surface.{LandsWithinLimits, Surface, lands_within_limits}
+use Rattle.mapping.specs.Nibs.{IsNib, is_nib}
+use Rattle.mapping.specs.declared.nib.Nib.{Nib}
 
 -- each test of a limit holds exactly where the fact does
 pub record TestsAreLimits : Type 0 where
@@ -12,3 +14,4 @@ pub record TestsAreLimits : Type 0 where
   pub lands : (point : Point) (s : Surface) → IsTrue (lands_within_limits point s) ↔ LandsWithinLimits point s
   pub surface_side : (side : ℕ) → IsTrue (is_surface_side side) ↔ IsSurfaceSide side
   pub frame_side : (side : ℕ) → IsTrue (is_frame_side side) ↔ IsFrameSide side
+  pub nib : (nib : Nib) → IsTrue (is_nib nib) ↔ IsNib nib

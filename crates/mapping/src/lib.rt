@@ -25,6 +25,10 @@
 //!   where its sides do (`Rect::left_top`, `right_bottom`, `has_pixel`, `has_row`, `common`, `contains`).
 //! - A part of the plane meets at most so many columns, or rows, of a surface (`cells`), no fewer of a larger one, and a larger part
 //!   no fewer (`cell_law`).
+//! - A pen's nib has the sides that its width has on the surface, rounded down and at least 1, and there is none exactly where a side
+//!   would be above 4,096 (`Place::nib`). On a larger surface it is at least as large (`nib_law`).
+//! - A nib that is led over a part of the plane covers at most so many columns, or rows, of a surface (`wide_cells`), no fewer of a
+//!   larger one, and a larger nib no fewer (`wide_cell_law`).
 //! - A mix keeps, drops and flips the bits of a colour that it says, and no other (`Mix::apply`, by
 //!   `mixed_by`), and one of them makes a given colour of every colour (`Mix::copy`).
 //!
@@ -41,15 +45,17 @@ mod map_error;
 mod map_mode;
 mod map_settings;
 mod mix;
+mod nib;
 mod page_map;
 mod place;
 
-pub use cell_count::{cell_law, cells};
+pub use cell_count::{cell_law, cells, wide_cell_law, wide_cells};
 pub use floor::floor_division_law;
 pub use geometry::{Colour, Frame, Point, Rect};
 pub use limits::{MAX_FRAME_SIDE, MAX_SURFACE_SIDE, limits_law};
 pub use map_error::{OffPlane, ZeroExtent};
 pub use map_mode::MapMode;
 pub use mix::Mix;
+pub use nib::{MAX_NIB_SIDE, Nib, nib_law, reach_after, reach_before};
 pub use page_map::{PageAxis, PageMap};
 pub use place::{Place, box_law, placing_law};

@@ -1,5 +1,5 @@
 -- What is painted under a shape is a layer, and layers follow one another.
-use Rattle.std.proofs.Common.{◌≡◌, ℕ, ◌+◌, Bool, ◌&&◌, List, [], ◌∷◌, ◌++◌, Option, Some, None, refl, sym, ◌∙◌, ap, arith}
+use Rattle.std.proofs.Common.{◌≡◌, ℕ, ◌+◌, Bool, true, ◌&&◌, List, [], ◌∷◌, ◌++◌, Option, Some, None, refl, sym, ◌∙◌, ap, arith}
 use Rattle.std.proofs.Math.Bool.{and-true}
 use Rattle.mapping.specs.Surface.{Surface, is_pixel, placed_point}
 use Rattle.mapping.specs.declared.geometry.Colour.{Colour}
@@ -16,7 +16,9 @@ use Rattle.canvas.specs.CanvasState.{CanvasState, image_of}
 use Rattle.canvas.specs.Writing.{Repaints}
 use Rattle.canvas.specs.WritingLaws.{WritingLaws, IsWhole}
 use Rattle.dc_stack.specs.Clip.{ClipValue, in_boxes, placed_clip}
-use Rattle.dc_stack.specs.Drawing.{Tools}
+use Rattle.mapping.specs.Nibs.{nib_of}
+use Rattle.mapping.specs.declared.nib.Nib.{Nib}
+use Rattle.dc_stack.specs.Drawing.{MarkValue, Tools, drawing_nib, is_stroked}
 use Rattle.dc_stack.specs.State.{DcValue}
 use Rattle.dc_stack.specs.Values.{IsPlacedOn, dc_value, placed_value}
 use Rattle.dc_stack.specs.declared.clip.Clip.{Clip}
@@ -119,8 +121,12 @@ brush_fills (Hatched hatch colour) shape tools some same = rw (← same) refl
 brush_fills (Tiled tile) shape tools some same = rw (← same) refl
 
 -- a pen of a colour strokes a layer
-pub pen_strokes : (outline : Outline) (tools : Tools) (colour : Colour) → tools.pen ≡ SolidPen colour → stroked outline tools ≡ layer_now (stroke_of outline) (solid colour) tools ∷ []
-pen_strokes outline tools colour same = rw same refl
+pub pen_strokes : (outline : Outline) (tools : Tools) (width : ℕ) (colour : Colour) → tools.pen ≡ SolidPen width colour → stroked outline tools ≡ layer_now (stroke_of width tools.map outline) (solid colour) tools ∷ []
+pen_strokes outline tools width colour same = rw same refl
+
+-- its nib is that of the pen's width, where the mark is stroked
+pub pen_nib : (mark : MarkValue) (tools : Tools) (s : Surface) (width : ℕ) (colour : Colour) (nib drawn : Nib) → nib ≡ drawn → drawn ≡ drawing_nib (record { mark = mark; tools = tools }) s → is_stroked mark ≡ true → tools.pen ≡ SolidPen width colour → nib ≡ nib_of width tools.map s
+pen_nib mark tools s width colour nib drawn same is stroked pen = same ∙ is ∙ rw (stroked, pen) refl
 
 -- the clip of the moment, where it is placed on the surface
 pub clip_placed : (s : Surface) (clip : Clip) (dc : Dc) (state : DcValue) → clip ≡ dc.clip → dc_value dc ≡ state → IsPlacedOn s dc.clip → placed_value clip ≡ placed_clip s state.clip

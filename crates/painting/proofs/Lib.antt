@@ -28,3 +28,5 @@ pub mod FigureLemmas
 pub mod PaintedFigureLemmas
 pub mod WorkedPaths
 pub mod WorkedFigures
+pub mod WideSpanLemmas
+pub mod MaskSpanLemmas

@@ -9,13 +9,12 @@ use Rattle.mapping.specs.PlaceOf.{surface_of}
 use Rattle.mapping.specs.Surface.{Surface, lands_within_limits, placed_point}
 use Rattle.mapping.specs.declared.geometry.Point.{Point}
 use Rattle.dc_stack.specs.Boxes.{placed_list}
-use Rattle.dc_stack.specs.Drawing.{Tools, edge_limit, points_of_lists}
+use Rattle.dc_stack.specs.Drawing.{Tools, edge_limit, paints_lines, points_of_lists}
 use Rattle.dc_stack.specs.Figures.{Figure, figures_of_lists, points_of_figures}
 use Rattle.dc_stack.specs.Mapped.{mapped_list, mapped_lists}
 use Rattle.dc_stack.specs.declared.draw.Painting.{Painting}
 use Rattle.dc_stack.specs.declared.draw.Painting.TheVariants.{Fill, Stroke, StrokeAndFill}
 use Rattle.dc_stack.specs.declared.projection.Projection.{Projection}
-use Rattle.span_fill.specs.Strokes.{in_stroke}
 use Rattle.span_fill.specs.declared.line.Line.{Line}
 use Rattle.painting.specs.FigureEnds.{figure_ends, lines_of_figures, stroked_ends}
 use Rattle.preflight_cert.specs.DrawingBoxLaws.{IsClosedFigure}
@@ -23,8 +22,8 @@ use Rattle.preflight_cert.specs.FigureLines.{all_closed, placed_figures}
 use Rattle.preflight_cert.specs.Layer.{figures_filled, figures_stroked, filled, stroked}
 use Rattle.preflight_cert.specs.Outlines.{closed_lines, open_lines}
 use Rattle.painting.specs.PlacedLines.{AllListsLand, lines_between, lines_of_lists, projected_list}
-use Rattle.preflight_cert.specs.Shape.{in_shape, inside_figures, placed_lists, stroke_of}
-use Rattle.preflight_cert.specs.StrokedOutline.{Outline, along, outline_points}
+use Rattle.preflight_cert.specs.Shape.{inside_figures, placed_lists}
+use Rattle.preflight_cert.specs.StrokedOutline.{Outline, along, outline_lines, outline_points}
 use Rattle.painting.specs.declared.list_lines.Ends.{Ends}
 use Rattle.painting.specs.declared.list_lines.Ends.TheVariants.{Open, Closed}
 use Rattle.painting.proofs.FigureLemmas.{closed_lines_along, figure_lines_few, said_lines}
@@ -66,14 +65,20 @@ strokes_figures Stroke Closed figures tools h = cc
 strokes_figures StrokeAndFill Open figures tools h = cc
 strokes_figures StrokeAndFill Closed figures tools h = refl
 
+-- more than their inside is painted of figures that are stroked
+pub lines_painted : (painting : Painting) (ends : Ends) → stroked_ends painting ≡ Some ends → paints_lines painting ≡ true
+lines_painted Fill ends h = cc
+lines_painted Stroke ends h = refl
+lines_painted StrokeAndFill ends h = refl
+
 pub strokes_nothing : (painting : Painting) (figures : List Figure) (tools : Tools) → stroked_ends painting ≡ None → figures_stroked painting figures tools ≡ []
 strokes_nothing Fill figures tools h = refl
 strokes_nothing Stroke figures tools h = cc
 strokes_nothing StrokeAndFill figures tools h = cc
 
-pub stroked_lines : (s : Surface) (ends : Ends) (figures : List Figure) (x y : ℕ) → in_stroke (lines_of_figures ends (placed_figures s figures)) x y ≡ in_shape (stroke_of (stroked_outline ends figures)) s x y
-stroked_lines s Open figures x y = ap (λ (lines : List Line). in_stroke lines x y) (said_lines s figures)
-stroked_lines s Closed figures x y = ap (λ (lines : List Line). in_stroke lines x y) (closed_lines_along s figures)
+pub stroked_lines : (s : Surface) (ends : Ends) (figures : List Figure) → lines_of_figures ends (placed_figures s figures) ≡ outline_lines (stroked_outline ends figures) s
+stroked_lines s Open figures = said_lines s figures
+stroked_lines s Closed figures = closed_lines_along s figures
 
 -- and what one fills
 pub fills_figures : (painting : Painting) (figures : List Figure) (tools : Tools) → (painting ≡ Stroke → ⊥) → figures_filled painting figures tools ≡ filled (inside_figures tools.modes.fill_mode (all_closed figures)) tools

@@ -5,12 +5,13 @@ use Rattle.std.proofs.lemmas.Int.{ints}
 use Rattle.std.proofs.lemmas.List.Elements.{All-cons, All-nil, All-same}
 use Rattle.mapping.specs.declared.geometry.Point.{Point}
 use Rattle.mapping.specs.declared.geometry.Rect.{Rect}
+use Rattle.mapping.specs.declared.nib.Nib.{Nib}
 use Rattle.mapping.specs.Boxes.{HasPoint}
 use Rattle.mapping.specs.PixelBoxes.{from_to_from, in_box, is_from_to}
 use Rattle.mapping.specs.TestLaws.{int_lt-true}
-use Rattle.span_fill.specs.LineBoxes.{HasLine, LineBoxLaws}
+use Rattle.span_fill.specs.LineBoxes.{HasLine}
 use Rattle.span_fill.specs.Lines.{HasNearEnds, IsNear, IsNearPoint}
-use Rattle.span_fill.specs.Strokes.{in_stroke}
+use Rattle.span_fill.specs.WideStrokes.{WideStrokeLaws, in_wide_stroke, widened}
 use Rattle.span_fill.specs.declared.line.Line.{Line}
 use Rattle.preflight_cert.specs.Outlines.{line_from}
 use Rattle.preflight_cert.specs.Rectangles.{has_inside, rectangle_lines}
@@ -34,8 +35,8 @@ before_edge : (n : ℕ) (edge : ℤ) → pos n ≤ℤ (edge -ℤ pos 1) → pos 
 before_edge n edge h = omega (arith, ints, h)
 
 -- a box without a pixel has no lines
-pub no_stroke : (box : Rect) (x y : ℕ) → has_inside box ≡ false → in_stroke (rectangle_lines box) x y ≡ false
-no_stroke box x y none = rw none refl
+pub no_stroke : (nib : Nib) (box : Rect) (x y : ℕ) → has_inside box ≡ false → in_wide_stroke nib (rectangle_lines box) x y ≡ false
+no_stroke nib box x y none = rw none refl
 
 module _ (box : Rect) where
   -- the pixels in its corners
@@ -103,9 +104,12 @@ module _ (box : Rect) where
         (all_four (HasLine outer) (line_from left_top right_top) (line_from right_top right_bottom) (line_from right_bottom left_bottom) (line_from left_bottom left_top)
         (record { from = a; to = b }) (record { from = b; to = c }) (record { from = c; to = d }) (record { from = d; to = a }))
 
-    pub stroke_within : LineBoxLaws → (x y : ℕ) → in_stroke (rectangle_lines box) x y ≡ true → in_box box x y ≡ true
-    stroke_within laws x y h =
-        let there = laws.stroke outer (rectangle_lines box) x y lines_within h in
-        and_from (is_from_to box.l box.r x) (is_from_to box.t box.b y)
-        (from_to_from box.l box.r x there.left (before_edge x box.r there.right))
-        (from_to_from box.t box.b y there.top (before_edge y box.b there.bottom))
+    pub stroke_within : WideStrokeLaws → (nib : Nib) (x y : ℕ) → in_wide_stroke nib (rectangle_lines box) x y ≡ true → in_box (widened nib box) x y ≡ true
+    stroke_within laws nib x y h =
+        let there = laws.box nib outer (rectangle_lines box) x y lines_within h in
+        let around = widened nib box in
+        let right = there.right in
+        let bottom = there.bottom in
+        and_from (is_from_to around.l around.r x) (is_from_to around.t around.b y)
+        (from_to_from around.l around.r x there.left (omega (arith, ints, right)))
+        (from_to_from around.t around.b y there.top (omega (arith, ints, bottom)))

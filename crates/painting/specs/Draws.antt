@@ -4,7 +4,7 @@ use Rattle.mapping.specs.Surface.{Surface}
 use Rattle.canvas.specs.CanvasState.{CanvasState}
 use Rattle.dc_stack.specs.Drawing.{mark_edges, tools_of}
 use Rattle.dc_stack.specs.Draws.{IsPlacedDraw, mark_of}
-use Rattle.dc_stack.specs.MachineState.{MachineState, drawing_with}
+use Rattle.dc_stack.specs.MachineState.{HasNib, MachineState, drawing_with}
 use Rattle.dc_stack.specs.declared.draw.Draw.{Draw}
 use Rattle.preflight_cert.specs.Layer.{Layer, fills_of, layers_of, strokes_of}
 use Rattle.painting.specs.Counts.{CountsLayer}
@@ -15,6 +15,7 @@ use Rattle.painting.specs.declared.room.DrawingRoom.{DrawingRoom}
 pub record MayDraw (drawn : Draw) (machine : MachineState) (room : DrawingRoom) (canvas : CanvasState) : Type 0 where
   pub held : HoldsRows canvas machine.surface
   pub placed : IsPlacedDraw machine.surface machine.painted drawn
+  pub nib : HasNib machine.surface machine drawn
   pub lines : mark_edges (mark_of machine.painted drawn) ≤ room.rows.room
 
 -- layers were drawn that write each pixel once at most, and the canvas holds the rows that it held

@@ -32,3 +32,4 @@ pub mod Parts
 pub mod Dots
 pub mod RectangleBoxes
 pub mod Regions
+pub mod WideSpans

@@ -26,8 +26,9 @@ pub record IsPaintOf (colours : Paint) (tools : Tools) (s : Surface) (paint : Pa
 
 -- a stroke is that of the tools' pen on a surface
 pub record IsPenOf (tools : Tools) (s : Surface) (stroke : Stroke) : Type 0 where
+  pub width : ℕ
   pub colour : Colour
-  pub pen : tools.pen ≡ Solid colour
+  pub pen : tools.pen ≡ Solid width colour
   pub paint : IsPaintOf (solid colour) tools s (stroke_paint stroke)
 
 -- a brushing is that of a brush with the tools on a surface

@@ -5,7 +5,7 @@ use Rattle.dc_stack.specs.Values.{placed_value}
 use Rattle.dc_stack.specs.declared.clip.Clip.{Clip}
 use Rattle.span_fill.specs.Fill.{in_fill}
 use Rattle.span_fill.specs.RowState.{RowState, RowWork, filling, stroking}
-use Rattle.span_fill.specs.Strokes.{in_stroke}
+use Rattle.span_fill.specs.WideStrokes.{in_wide_stroke}
 use Rattle.span_fill.specs.declared.line.Line.{Line}
 use Rattle.span_fill.specs.declared.span.Span.{Span}
 use Rattle.painting.specs.Regions.{HasVisible}
@@ -15,12 +15,12 @@ use Rattle.painting.specs.declared.parts.Part.TheVariants.{Inside, Lines}
 -- the part of an outline of these lines has the pixel
 abbrev pub part_has : Part → List Line → ℕ → ℕ → Bool
 part_has (Inside rule) lines = in_fill rule lines
-part_has Lines lines = in_stroke lines
+part_has (Lines nib) lines = in_wide_stroke nib lines
 
 -- what a row buffer is at with it
 abbrev pub work_of : Part → RowWork
 work_of (Inside rule) = filling rule
-work_of Lines = stroking
+work_of (Lines nib) = stroking nib
 
 -- a row buffer begins with a part at the first of these rows, which have, in these columns, what is seen of it under a clip
 pub record HasPart (part : Part) (rows : Span) (clip : Clip) (columns : Span) (buffer : RowState) (canvas : CanvasState) : Type 0 where

@@ -2,10 +2,12 @@
 use Rattle.std.specs.Prelude.{◌≡◌, ℕ, ◌+◌, ◌≤◌, ◌≤ℤ◌, Bool, true, List, IsTrue}
 use Rattle.std.specs.List.{list_all}
 use Rattle.mapping.specs.Boxes.{IsLeastBox}
+use Rattle.mapping.specs.Nibs.{IsNib}
 use Rattle.mapping.specs.PlaceOf.{surface_of}
 use Rattle.mapping.specs.Surface.{Surface, lands_within_limits}
 use Rattle.mapping.specs.declared.geometry.Point.{Point}
 use Rattle.mapping.specs.declared.geometry.Rect.{Rect}
+use Rattle.mapping.specs.declared.nib.Nib.{Nib}
 use Rattle.canvas.specs.CanvasState.{CanvasState, HasPixel}
 use Rattle.mapping.specs.PixelBoxes.{in_box}
 use Rattle.dc_stack.specs.Clip.{ClipValue, in_kept}
@@ -34,15 +36,15 @@ pub record HasVisible (clip : ClipValue) (shape : ℕ → ℕ → Bool) (canvas 
   pub kept : (x y : ℕ) → HasPixel canvas x y → in_region region x y ≡ true → in_kept clip.kept x y ≡ true
   pub all : (x y : ℕ) → HasPixel canvas x y → in_kept clip.kept x y ≡ true → shape x y ≡ true → in_region region x y ≡ true
 
--- A box of the surface has the pixels that this least box on the plane of some points reaches, if all of them land within the limits; and no
--- other, if there is a point.
-pub record HasLanded (s : Surface) (bounds box : Rect) : Type 0 where
+-- A box of the surface has the pixels that this least box on the plane of some points reaches by a nib, if all of them land within the limits;
+-- and no other, if there is a point.
+pub record HasLanded (nib : Nib) (s : Surface) (bounds box : Rect) : Type 0 where
   pub all :
       (points : List Point) → IsLeastBox bounds points → IsTrue (list_all (λ point. lands_within_limits point s) points)
-      → (x y : ℕ) → Reaches bounds s x y → in_box box x y ≡ true
+      → (x y : ℕ) → Reaches nib bounds s x y → in_box box x y ≡ true
   pub no_other :
       bounds.l ≤ℤ bounds.r → bounds.t ≤ℤ bounds.b
-      → (x y : ℕ) → in_box box x y ≡ true → Reaches bounds s x y
+      → (x y : ℕ) → in_box box x y ≡ true → Reaches nib bounds s x y
 
 -- a box of the surface has each pixel of a shape
 abbrev pub HasShape : Rect → (ℕ → ℕ → Bool) → Type 0
@@ -51,4 +53,9 @@ HasShape box shape = (x y : ℕ) → shape x y ≡ true → in_box box x y ≡ t
 -- so do bounds: their box, or each box in which what they are of lands
 abbrev pub HoldShape : Bounds → (ℕ → ℕ → Bool) → Type 0
 HoldShape (Placed box) shape = HasShape box shape
-HoldShape (Plane place bounds) shape = (box : Rect) → HasLanded (surface_of place) bounds box → HasShape box shape
+HoldShape (Plane place bounds nib) shape = (box : Rect) → HasLanded nib (surface_of place) bounds box → HasShape box shape
+
+-- the nib of bounds, if they have one, has no more columns and rows than it may
+abbrev pub HasNarrowNib : Bounds → Type 0
+HasNarrowNib (Placed box) = Unit
+HasNarrowNib (Plane place bounds nib) = IsNib nib

@@ -4,7 +4,7 @@ ghost use Rattle.std.specs.Prelude.{◌≡◌, ◌≤◌, IfSome};
 ghost use Rattle.std.specs.Option.{option_map};
 ghost use Rattle.dc_stack.specs.Draws.{IsPlacedDraw};
 ghost use Rattle.dc_stack.specs.Drawing.{drawing_edges, tools_of};
-ghost use Rattle.dc_stack.specs.MachineState.{drawing_with};
+ghost use Rattle.dc_stack.specs.MachineState.{HasNib, drawing_with};
 ghost use Rattle.painting.specs.Counts.{CountsDrawing, HasRoomForDrawing, HasRoomForLayer};
 ghost use Rattle.painting.specs.Drawn.{DrawsDrawing, HoldsRows, SameRows};
 ghost use Rattle.painting.specs.Draws.{Draws, Fills, MayDraw, Strokes};
@@ -25,11 +25,12 @@ use crate::stroking::{StrokedLines, stroke_box, stroke_lines};
 use canvas::{Canvas, writing_law};
 use dc_stack::{Draw, Machine, Mark, Painting};
 use draw_ops::{Brush, Pen};
+use mapping::Nib;
 use object_tables::Table;
 use preflight_cert::{drawing_box_law, missed_rows_law};
 
-/// Draws what a step of the machine draws, if it draws, with the tools of its moment. A drawing whose box misses the rows held is
-/// not painted: it has no pixel there. The count of writes has room for two layers of a surface of 2^26 pixels, and the
+/// Draws what a step of the machine draws, if it draws, with the tools of its moment. A drawing whose box, widened by its nib, misses the rows
+/// held is not painted: it has no pixel there. The count of writes has room for two layers of a surface of 2^26 pixels, and the
 /// rows have room for the drawing's lines: no memory is wanted.
 pub fn draw<'a, T: Table<'a>>(
     step: Option<Draw<'a>>,
@@ -40,6 +41,7 @@ pub fn draw<'a, T: Table<'a>>(
     requires held { HoldsRows canvas.old machine.now.surface }
     requires countable { HasRoomForDrawing canvas.old }
     requires placed { IfSome step (IsPlacedDraw machine.now.surface machine.now.painted) }
+    requires nib { IfSome step (HasNib machine.now.surface machine.now) }
     requires lines { drawing_edges (option_map (drawing_with machine.now) step) ≤ room.old.rows.room }
     ensures drawn { DrawsDrawing (option_map (drawing_with machine.now) step.entry) machine.now.surface canvas.old canvas.new }
     ensures rows { SameRows canvas.old canvas.new }
@@ -51,7 +53,7 @@ pub fn draw<'a, T: Table<'a>>(
     let Some(drawn) = step else {
         return;
     };
-    if misses_rows(canvas, machine.place(), drawn.bounds) {
+    if misses_rows(canvas, machine.place(), drawn.bounds, drawn.nib) {
         return;
     }
     paint(drawn, machine, room, canvas);
@@ -117,7 +119,7 @@ fn fill<'a, T: Table<'a>>(
                 canvas,
                 room,
                 outline,
-                landed_box(place, drawn.bounds),
+                landed_box(place, drawn.bounds, Nib::ONE),
                 &paint,
             );
         }
@@ -145,10 +147,11 @@ fn stroke<'a, T: Table<'a>>(
     ensures room { room.new.rows.room ≡ room.old.rows.room }
 {
     whole_law(canvas);
-    let Pen::Solid { colour } = machine.dc().selected.pen else {
+    let Pen::Solid { colour, .. } = machine.dc().selected.pen else {
         return;
     };
-    stroke_outline(drawn, &Stroke::with(colour, machine), machine, room, canvas);
+    let stroke = Stroke::with(colour, drawn.nib, machine);
+    stroke_outline(drawn, &stroke, machine, room, canvas);
 }
 
 /// Strokes the outline of what a step draws, if it has one. The stroke is that of the pen.
@@ -162,6 +165,7 @@ fn stroke_outline<'a, T: Table<'a>>(
     requires may { MayDraw drawn machine.now room.old canvas.old }
     requires countable { HasRoomForLayer canvas.old }
     requires pen { IsPenOf (tools_of machine.now.state.dc) machine.now.surface stroke.now }
+    requires nib { stroke.now.nib ≡ drawn.nib }
     ensures drawn { Strokes drawn.entry machine.now canvas.old canvas.new }
     ensures room { room.new.rows.room ≡ room.old.rows.room }
 {
@@ -174,7 +178,7 @@ fn stroke_outline<'a, T: Table<'a>>(
         Mark::Line { from, to } => {
             let lines = StrokedLines {
                 outline: LoneLine::new(place, from, to),
-                bounds: Bounds::Plane(place, drawn.bounds),
+                bounds: Bounds::Plane(place, drawn.bounds, drawn.nib),
                 points: drawn.edges,
             };
             stroke_lines(canvas, room, lines, stroke);
@@ -183,7 +187,7 @@ fn stroke_outline<'a, T: Table<'a>>(
             if let Some(ends) = stroked_ends(painting) {
                 let lines = StrokedLines {
                     outline: FigureOutline::new(points, ends, machine),
-                    bounds: Bounds::Plane(place, drawn.bounds),
+                    bounds: Bounds::Plane(place, drawn.bounds, drawn.nib),
                     points: drawn.edges,
                 };
                 stroke_lines(canvas, room, lines, stroke);

@@ -37,6 +37,9 @@ mod stroke;
 mod stroking;
 mod uncut_pixels;
 mod untaken_pixels;
+mod wide_spans;
+mod wide_stroking;
+mod widening;
 
 pub use drawing::draw;
 pub use room::DrawingRoom;

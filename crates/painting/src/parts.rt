@@ -14,6 +14,7 @@ use crate::room::DrawingRoom;
 use crate::row_painter::RowPainter;
 use canvas::{Canvas, writing_law};
 use draw_ops::FillMode;
+use mapping::Nib;
 use span_fill::{FillRule, RowBuf, Span};
 
 /// What of an outline is painted.
@@ -21,8 +22,8 @@ use span_fill::{FillRule, RowBuf, Span};
 pub(crate) enum Part {
     /// What a rule says is inside.
     Inside(FillRule),
-    /// What lies on the lines.
-    Lines,
+    /// What a nib covers that is led along the lines.
+    Lines(Nib),
 }
 
 /// Paints these rows of the part of an outline that was begun with at the first of them. They and the painter's columns have what is
@@ -61,7 +62,7 @@ fn next_row(rows: &mut RowBuf, part: Part, columns: Span)
 {
     match part {
         Part::Inside(_) => rows.next_fill(columns),
-        Part::Lines => rows.next_stroke(columns),
+        Part::Lines(_) => rows.next_stroke(columns),
     }
 }
 

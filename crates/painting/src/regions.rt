@@ -1,6 +1,6 @@
 //! The part of a surface that a drawing may write.
 
-ghost use Rattle.std.specs.Prelude.{◌≡◌, ◌≤◌, ◌<◌, ◌+◌, ◌*◌, ◌^◌, ◌&&◌, ◌↔◌, ◌+ℤ◌, ◌*ℤ◌, ◌<ℤ◌, Bool, IsTrue, int_lt, pos, true, ℕ};
+ghost use Rattle.std.specs.Prelude.{◌≡◌, ◌≤◌, ◌<◌, ◌+◌, ◌*◌, ◌^◌, ◌&&◌, ◌↔◌, ◌+ℤ◌, ◌-ℤ◌, ◌*ℤ◌, ◌<ℤ◌, Bool, IsTrue, int_lt, pos, true, ℕ};
 ghost use Rattle.canvas.specs.CanvasState.{HasPixel};
 ghost use Rattle.canvas.specs.WritingLaws.{IsWhole};
 ghost use Rattle.mapping.specs.PixelBoxes.{in_box, is_from_to};
@@ -9,14 +9,19 @@ ghost use Rattle.dc_stack.specs.Values.{placed_value};
 ghost use Rattle.mapping.specs.PlaceOf.{surface_of};
 ghost use Rattle.mapping.specs.Surface.{placed};
 ghost use Rattle.preflight_cert.specs.MissedRowsLaws.{LiesBeside};
-ghost use Rattle.painting.specs.Regions.{HasLanded, HasRegion, HasShape, HasVisible, HoldShape, IsOfSide};
+ghost use Rattle.mapping.specs.Nibs.{IsNib, IsNibSide, reach_after, reach_before};
+ghost use Rattle.span_fill.specs.WideStrokes.{widened};
+ghost use Rattle.painting.specs.Regions.{HasLanded, HasNarrowNib, HasRegion, HasShape, HasVisible, HoldShape, IsOfSide};
 ghost use Rattle.span_fill.specs.Spans.{in_region, in_span};
 
 use crate::rectangles::rectangle_box;
+use crate::widening::widened;
 use canvas::Canvas;
 use dc_stack::Clip;
 use draw_ops::RectangleEdges;
-use mapping::{Place, Rect, box_law, floor_division_law, placing_law};
+use mapping::{
+    Nib, Place, Rect, box_law, floor_division_law, placing_law, reach_after, reach_before,
+};
 use span_fill::{Region, Span};
 
 /// The law of canvases: each is whole, and has at most 8,192 columns and 2^26 pixels.
@@ -96,17 +101,20 @@ pub(crate) fn common(region: Region, inside: Rect) -> Region
     }
 }
 
-/// The box in which the pixels of a drawing lie whose least box on the plane this is: from its left and top on, up to before its right
-/// and bottom. Its two corners land where its points do, since a place keeps what lies between.
-pub(crate) fn landed_box(place: Place, bounds: Rect) -> Rect
-    ensures { HasLanded (surface_of place) bounds result }
+/// The box in which the pixels of a drawing lie that has this least box on the plane and this nib: from its left and top on, up to before its
+/// right and bottom. Its two corners land where its points do, since a place keeps what lies between.
+pub(crate) fn landed_box(place: Place, bounds: Rect, nib: Nib) -> Rect
+    requires { IsNib nib }
+    ensures { HasLanded nib (surface_of place) bounds result }
 {
     box_law();
     placing_law();
     let near = place.place(bounds.left_top());
     let far = place.place(bounds.right_bottom());
     match (near, far) {
-        (Some(near), Some(far)) => rectangle_box(near, far, RectangleEdges::Inclusive),
+        (Some(near), Some(far)) => {
+            widened(rectangle_box(near, far, RectangleEdges::Inclusive), nib)
+        }
         // (there is no point)
         _ => Rect::NONE,
     }
@@ -117,39 +125,58 @@ pub(crate) fn landed_box(place: Place, bounds: Rect) -> Rect
 pub(crate) enum Bounds {
     /// This box of the surface.
     Placed(Rect),
-    /// The box in which a drawing lies whose least box on the plane this is. It costs up to four divisions to place it.
-    Plane(Place, Rect),
+    /// The box in which a drawing lies that has this least box on the plane and this nib. It costs up to four divisions to place it.
+    Plane(Place, Rect, Nib),
 }
 
 impl Bounds {
     /// The box of the surface.
     pub(crate) fn on_surface(self) -> Rect
+        requires { HasNarrowNib self }
         ensures { (shape : ℕ → ℕ → Bool) → HoldShape self shape → HasShape result shape }
     {
         match self {
             Bounds::Placed(inside) => inside,
-            Bounds::Plane(place, bounds) => landed_box(place, bounds),
+            Bounds::Plane(place, bounds, nib) => landed_box(place, bounds, nib),
         }
     }
 }
 
-/// Whether a drawing whose least box on the plane this is lies beside the rows that a canvas holds: it ends above them, or begins
+/// Whether a drawing that has this least box on the plane and this nib lies beside the rows that a canvas holds: it ends above them, or begins
 /// below them. So it need not be painted there.
-pub(crate) fn misses_rows(canvas: &Canvas, place: Place, bounds: Rect) -> bool
-    ensures { IsTrue result ↔ LiesBeside (placed_box (surface_of place) bounds) canvas.now.first canvas.now.rows }
+pub(crate) fn misses_rows(canvas: &Canvas, place: Place, bounds: Rect, nib: Nib) -> bool
+    requires { IsNib nib }
+    ensures { IsTrue result ↔ LiesBeside (widened nib (placed_box (surface_of place) bounds)) canvas.now.first canvas.now.rows }
 {
     let held = rows_held(canvas);
-    lands_above(place, bounds.b, held.from) || !lands_above(place, bounds.t, held.to)
+    ends_above(place, bounds.b, nib.y, held.from) || !begins_above(place, bounds.t, nib.y, held.to)
+}
+
+/// Whether all rows that a nib of so many covers from a row of the plane lie above a row of the surface.
+fn ends_above(place: Place, plane_row: i32, nib_rows: u16, row: u32) -> bool
+    requires rows { IsNibSide nib_rows }
+    requires row { row ≤ 8192 }
+    ensures { result ≡ int_lt (placed plane_row place.height place.frame.height +ℤ pos (reach_after nib_rows)) (pos row) }
+{
+    lands_above(place, plane_row, row as i32 - reach_after(nib_rows))
+}
+
+/// Whether the first of them does.
+fn begins_above(place: Place, plane_row: i32, nib_rows: u16, row: u32) -> bool
+    requires rows { IsNibSide nib_rows }
+    requires row { row ≤ 8192 }
+    ensures { result ≡ int_lt (placed plane_row place.height place.frame.height -ℤ pos (reach_before nib_rows)) (pos row) }
+{
+    lands_above(place, plane_row, row as i32 + reach_before(nib_rows))
 }
 
 /// Whether a row of the plane lands above a row of the surface. Nothing is divided: it does where it lies above that row of the
 /// surface, both times the two heights.
-fn lands_above(place: Place, plane_row: i32, row: u32) -> bool
-    requires { row ≤ 2 ^ 30 }
-    ensures { result ≡ int_lt (placed plane_row place.height place.frame.height) (pos row) }
+fn lands_above(place: Place, plane_row: i32, row: i32) -> bool
+    ensures { result ≡ int_lt (placed plane_row place.height place.frame.height) row }
 {
     floor_division_law();
-    product(plane_row, place.height) < product(row as i32, place.frame.height)
+    product(plane_row, place.height) < product(row, place.frame.height)
 }
 
 /// A row times a height.

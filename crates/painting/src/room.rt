@@ -5,7 +5,7 @@ ghost use Rattle.dc_stack.specs.Drawing.{edge_limit};
 
 use crate::ink_room::InkRoom;
 use crate::stamps::Stamps;
-use span_fill::{OutOfMemory, RowBuf};
+use span_fill::{OutOfMemory, RowBuf, StrokeMask};
 use std::alloc::Global;
 
 /// The most lines of one drawing.
@@ -22,19 +22,32 @@ pub struct DrawingRoom {
     pub rows: RowBuf,
     /// Marks for strokes of several lines, where a drawing has several.
     pub(crate) marks: Option<Stamps>,
+    /// A mask for those by wide pens, where a drawing has several lines and a pen is wide.
+    pub(crate) mask: Option<StrokeMask>,
     /// Room for the pixels of a row.
     pub(crate) inks: InkRoom,
 }
 
 impl DrawingRoom {
-    /// Room for drawings of so many lines, or for any, which takes 376 MiB; or `OutOfMemory` where that was refused.
-    pub fn for_lines(alloc: Global, lines: u32) -> Result<DrawingRoom, OutOfMemory>
+    /// Room for drawings of so many lines, or for any, which takes 376 MiB; or `OutOfMemory` where that was refused. Strokes by wide pens are
+    /// painted without room for them, too, but many lines take longer then.
+    pub fn for_lines(
+        alloc: Global,
+        lines: u32,
+        has_wide_pens: bool,
+    ) -> Result<DrawingRoom, OutOfMemory>
         ensures room { IfOk result (λ room. (edge_limit ≤ room.rows.room) ⊎ (lines ≤ room.rows.room)) }
     {
         let inks = InkRoom::new(alloc)?;
         let rows = rows_for(alloc, lines)?;
         let marks = marks_for(alloc, lines)?;
-        Ok(DrawingRoom { rows, marks, inks })
+        let mask = mask_for(alloc, lines, has_wide_pens)?;
+        Ok(DrawingRoom {
+            rows,
+            marks,
+            mask,
+            inks,
+        })
     }
 }
 
@@ -54,4 +67,17 @@ fn marks_for(alloc: Global, lines: u32) -> Result<Option<Stamps>, OutOfMemory> {
     }
     let marks = Stamps::new(alloc)?;
     Ok(Some(marks))
+}
+
+/// A mask, where a drawing has several lines and a pen is wide.
+fn mask_for(
+    alloc: Global,
+    lines: u32,
+    has_wide_pens: bool,
+) -> Result<Option<StrokeMask>, OutOfMemory> {
+    if lines < 2 || !has_wide_pens {
+        return Ok(None);
+    }
+    let mask = StrokeMask::new(alloc)?;
+    Ok(Some(mask))
 }

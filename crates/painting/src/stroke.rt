@@ -1,28 +1,35 @@
 //! What a pen's stroke does to the pixels of its shape.
 
+ghost use Rattle.std.specs.Prelude.{◌≡◌};
 ghost use Rattle.dc_stack.specs.Drawing.{tools_of};
 ghost use Rattle.preflight_cert.specs.Paint.{solid};
 ghost use Rattle.painting.specs.PaintsOfLayers.{IsPaintOf};
 
 use crate::ink_room::BLACK;
 use dc_stack::{Clip, Machine};
-use mapping::{Colour, Mix};
+use mapping::{Colour, Mix, Nib};
 use object_tables::Table;
 use raster_ops::{TernaryMixer, binary_law, ternary_of};
 
-/// A pen's stroke: each pixel of its shape that the clip has is mixed.
+/// A pen's stroke: each pixel that its nib covers along some lines, and that the clip has, is mixed.
 #[derive(Clone, Copy, Debug)]
 pub(crate) struct Stroke<'d> {
     pub(crate) mix: Mix,
     pub(crate) clip: &'d Clip,
+    pub(crate) nib: Nib,
 }
 
 impl<'d> Stroke<'d> {
     ghost use Rattle.painting.specs.PenStrokes.{stroke_paint};
 
-    /// A stroke in this colour, by the raster operation and under the clip of the moment.
-    pub(crate) fn with<'a, T: Table<'a>>(colour: Colour, machine: &'d Machine<'a, T>) -> Stroke<'d>
-        ensures { IsPaintOf (solid colour) (tools_of machine.now.state.dc) machine.now.surface (stroke_paint result) }
+    /// A stroke in this colour and by this nib, by the raster operation and under the clip of the moment.
+    pub(crate) fn with<'a, T: Table<'a>>(
+        colour: Colour,
+        nib: Nib,
+        machine: &'d Machine<'a, T>,
+    ) -> Stroke<'d>
+        ensures nib { result.nib ≡ nib }
+        ensures paint { IsPaintOf (solid colour) (tools_of machine.now.state.dc) machine.now.surface (stroke_paint result) }
     {
         binary_law();
         let dc = machine.dc();
@@ -30,6 +37,7 @@ impl<'d> Stroke<'d> {
         Stroke {
             mix: mixer.mix(colour, BLACK),
             clip: &dc.clip,
+            nib,
         }
     }
 }

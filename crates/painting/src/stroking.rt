@@ -3,12 +3,13 @@
 ghost use Rattle.std.specs.Prelude.{◌≡◌, ◌<◌, ◌≤◌, length};
 ghost use Rattle.dc_stack.specs.Values.{placed_value};
 ghost use Rattle.preflight_cert.specs.Rectangles.{rectangle_lines};
-ghost use Rattle.span_fill.specs.Strokes.{in_stroke};
+ghost use Rattle.mapping.specs.Nibs.{IsNib};
+ghost use Rattle.span_fill.specs.WideStrokes.{in_wide_stroke, one_pixel};
 ghost use Rattle.painting.specs.Counts.{CountsLayer, HasRoomForLayer};
 ghost use Rattle.painting.specs.Painted.{PaintsShape};
 ghost use Rattle.painting.specs.PenStrokes.{stroke_paint};
 ghost use Rattle.painting.specs.RectangleBoxes.{IsNearBox};
-ghost use Rattle.painting.specs.Regions.{HasVisible, HoldShape, IsOfSide};
+ghost use Rattle.painting.specs.Regions.{HasNarrowNib, HasVisible, HoldShape, IsOfSide};
 
 use crate::line_steps::step_line;
 use crate::lone_line::lone_line;
@@ -20,9 +21,11 @@ use crate::row_ink::full;
 use crate::row_painter::{Inks, RowPainter};
 use crate::stamping::{begin_stamps, stamp_lines};
 use crate::stroke::Stroke;
+use crate::wide_stroking::stroke_wide_lines;
+use crate::widening::widened;
 use canvas::{Canvas, writing_law};
-use mapping::Rect;
-use span_fill::{Outline, Region, line_box_law};
+use mapping::{Nib, Rect};
+use span_fill::{Outline, Region, wide_stroke_law};
 
 /// An outline to be stroked, and what is known of it before its lines are looked at.
 #[derive(Clone, Copy, Debug)]
@@ -34,8 +37,7 @@ pub(crate) struct StrokedLines<O> {
     pub(crate) points: u32,
 }
 
-/// Strokes the lines of an outline, which lie in a box: a lone one by its steps, and several by marks, where these can be taken and cost
-/// less than rows of spans, and else by those. No other function knows how a stroke is painted.
+/// Strokes the lines of an outline, which lie in a box. No other function knows how a stroke is painted.
 pub(crate) fn stroke_lines<O: Outline + Copy>(
     canvas: &mut Canvas,
     room: &mut DrawingRoom,
@@ -44,12 +46,39 @@ pub(crate) fn stroke_lines<O: Outline + Copy>(
 )
     requires countable { HasRoomForLayer canvas.old }
     requires room { length (O.lines lines.outline) ≤ room.old.rows.room }
-    requires within { HoldShape lines.bounds (in_stroke (O.lines lines.outline)) }
-    ensures pixels { PaintsShape (stroke_paint stroke.now) (in_stroke (O.lines lines.outline)) canvas.old canvas.new }
+    requires nib { IsNib stroke.now.nib }
+    requires bounded { HasNarrowNib lines.bounds }
+    requires within { HoldShape lines.bounds (in_wide_stroke stroke.now.nib (O.lines lines.outline)) }
+    ensures pixels { PaintsShape (stroke_paint stroke.now) (in_wide_stroke stroke.now.nib (O.lines lines.outline)) canvas.old canvas.new }
+    ensures few { CountsLayer canvas.old canvas.new }
+    ensures room { room.new.rows.room ≡ room.old.rows.room }
+{
+    if stroke.nib == Nib::ONE {
+        stroke_thin_lines(canvas, room, lines, stroke);
+        return;
+    }
+    stroke_wide_lines(canvas, room, lines, stroke);
+}
+
+/// The same by a nib of one pixel: a lone line by its steps, and several by marks, where these can be taken and cost less than rows of spans,
+/// and else by those.
+fn stroke_thin_lines<O: Outline + Copy>(
+    canvas: &mut Canvas,
+    room: &mut DrawingRoom,
+    lines: StrokedLines<O>,
+    stroke: &Stroke<'_>,
+)
+    requires countable { HasRoomForLayer canvas.old }
+    requires room { length (O.lines lines.outline) ≤ room.old.rows.room }
+    requires nib { stroke.now.nib ≡ one_pixel }
+    requires bounded { HasNarrowNib lines.bounds }
+    requires within { HoldShape lines.bounds (in_wide_stroke one_pixel (O.lines lines.outline)) }
+    ensures pixels { PaintsShape (stroke_paint stroke.now) (in_wide_stroke one_pixel (O.lines lines.outline)) canvas.old canvas.new }
     ensures few { CountsLayer canvas.old canvas.new }
     ensures room { room.new.rows.room ≡ room.old.rows.room }
 {
     writing_law();
+    wide_stroke_law();
     whole_law(canvas);
     let outline = lines.outline;
     if let Some(line) = lone_line(outline, lines.points) {
@@ -67,7 +96,7 @@ pub(crate) fn stroke_lines<O: Outline + Copy>(
 }
 
 /// Strokes the lines of an outline by rows of spans, in a region that has what is seen of them.
-fn stroke_rows<O: Outline + Copy>(
+pub(crate) fn stroke_rows<O: Outline + Copy>(
     canvas: &mut Canvas,
     room: &mut DrawingRoom,
     outline: O,
@@ -76,9 +105,10 @@ fn stroke_rows<O: Outline + Copy>(
 )
     requires countable { HasRoomForLayer canvas.old }
     requires room { length (O.lines outline) ≤ room.old.rows.room }
-    requires visible { HasVisible (placed_value stroke.now.clip.now) (in_stroke (O.lines outline)) canvas.old drawn }
+    requires nib { IsNib stroke.now.nib }
+    requires visible { HasVisible (placed_value stroke.now.clip.now) (in_wide_stroke stroke.now.nib (O.lines outline)) canvas.old drawn }
     requires rows { IsOfSide drawn.rows }
-    ensures pixels { PaintsShape (stroke_paint stroke.now) (in_stroke (O.lines outline)) canvas.old canvas.new }
+    ensures pixels { PaintsShape (stroke_paint stroke.now) (in_wide_stroke stroke.now.nib (O.lines outline)) canvas.old canvas.new }
     ensures few { CountsLayer canvas.old canvas.new }
     ensures room { room.new.rows.room ≡ room.old.rows.room }
 {
@@ -88,13 +118,14 @@ fn stroke_rows<O: Outline + Copy>(
         return;
     }
     let mut lines = outline;
-    room.rows.begin_stroke(&mut lines, drawn.rows.from);
+    room.rows
+        .begin_stroke(&mut lines, stroke.nib, drawn.rows.from);
     let painter = RowPainter {
         clip: stroke.clip,
         columns: drawn.columns,
         inks: Inks::Same(full(stroke.mix)),
     };
-    paint_rows(canvas, room, Part::Lines, drawn.rows, &painter);
+    paint_rows(canvas, room, Part::Lines(stroke.nib), drawn.rows, &painter);
 }
 
 /// Strokes the outer pixels of a box, if it has any.
@@ -107,20 +138,21 @@ pub(crate) fn stroke_box(
     requires countable { HasRoomForLayer canvas.old }
     requires room { 4 ≤ room.old.rows.room }
     requires near { IsNearBox inside }
-    ensures pixels { PaintsShape (stroke_paint stroke.now) (in_stroke (rectangle_lines inside)) canvas.old canvas.new }
+    requires nib { IsNib stroke.now.nib }
+    ensures pixels { PaintsShape (stroke_paint stroke.now) (in_wide_stroke stroke.now.nib (rectangle_lines inside)) canvas.old canvas.new }
     ensures few { CountsLayer canvas.old canvas.new }
     ensures room { room.new.rows.room ≡ room.old.rows.room }
 {
     writing_law();
     whole_law(canvas);
-    line_box_law();
+    wide_stroke_law();
     if !has_inside(inside) {
         return;
     }
     let around = box_lines(inside);
     let lines = StrokedLines {
         outline: LineList { rest: &around },
-        bounds: Bounds::Placed(inside),
+        bounds: Bounds::Placed(widened(inside, stroke.nib)),
         points: 4,
     };
     stroke_lines(canvas, room, lines, stroke);

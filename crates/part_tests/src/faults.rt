@@ -39,6 +39,18 @@ fn a_fault_shows_its_name_and_the_record_that_it_speaks_of(rt: HostRuntime) -> R
             "BudgetTooSmall",
         ),
         (Fault::OutOfMemory, 45, "OutOfMemory", "OutOfMemory"),
+        (
+            Fault::Record(RecordFault::NibTooWide),
+            46,
+            "NibTooWide",
+            "NibTooWide",
+        ),
+        (
+            Fault::Record(RecordFault::NibTooSmall),
+            47,
+            "NibTooSmall",
+            "NibTooSmall",
+        ),
     ] {
         same(&rt, fault.code(), code);
         same(&rt, fault.name(), name);

@@ -93,7 +93,7 @@ fn a_wide_dashed_pen_has_two_notes(rt: HostRuntime) -> Result<(), Fail> {
     let colour = Colour { r: 0, g: 0, b: 255 };
     let op = Op::Create {
         at: None,
-        object: Object::Pen(Pen::Solid { colour }),
+        object: Object::Pen(Pen::Solid { width: 2, colour }),
     };
     let notes = NoteSet::none().with(Note::WidePen).with(Note::DashedPen);
     assert!(rt; WmfOps::new(&pen).next_op()? == Some(first(op, notes)));

@@ -4,7 +4,7 @@ use crate::comparing::same;
 use crate::stepping::{machine, step};
 use dc_stack::{Draw, Mark, Needs};
 use draw_ops::{Fault, FillMode, Handle, Object, Op, RecordFault, SavedState};
-use mapping::{Point, Rect};
+use mapping::{Nib, Point, Rect};
 use meta_headers::open_file;
 use part_tests::{DOT, RED};
 use std::test::Fail;
@@ -33,6 +33,7 @@ fn a_pixel_is_drawn_where_it_lands(rt: HostRuntime) -> Result<(), Fail> {
             b: -1,
         },
         edges: 0,
+        nib: Nib::ONE,
     };
     same(&rt, machine.step(PIXEL), Ok(Some(drawn)));
     let left = Rect {

@@ -30,7 +30,7 @@ fn draw_part(alloc: Global, file: &[u8], canvas: &mut Canvas) -> Result<u64, Fai
         Some(drawn) => drawn.edges,
         None => 0,
     };
-    let mut room = DrawingRoom::for_lines(alloc, lines)?;
+    let mut room = DrawingRoom::for_lines(alloc, lines, true)?;
     draw(drawn, &machine, &mut room, canvas);
     Ok(canvas.writes())
 }

@@ -9,7 +9,7 @@ use draw_ops::Fault;
 use mapping::Place;
 use object_tables::FileTable;
 use painting::DrawingRoom;
-use preflight_cert::Cleared;
+use preflight_cert::{Cleared, Version};
 use span_fill::OutOfMemory;
 use std::alloc::Global;
 
@@ -72,7 +72,8 @@ fn room_within<'a>(
     ) else {
         return Err(OutOfMemory);
     };
-    let Ok(drawings) = DrawingRoom::for_lines(alloc, needs.edges) else {
+    let has_wide_pens = cleared.certificate.entries.version == Version::Mpc2;
+    let Ok(drawings) = DrawingRoom::for_lines(alloc, needs.edges, has_wide_pens) else {
         return Err(OutOfMemory);
     };
     Ok(PlayRoom { machine, drawings })

@@ -4,18 +4,20 @@ use Rattle.std.specs.Prelude.{nat_le}
 use Rattle.std.specs.Option.{option_or}
 use Rattle.std.proofs.lemmas.Bool.{and_from, and_parts, eq-eqb, eqb-true, le-leb, leb-true}
 use Rattle.mapping.specs.Image.{Image}
+use Rattle.mapping.specs.Nibs.{CoversNib}
 use Rattle.mapping.specs.PlacingLaws.{IsNoLarger, ShowsFrame}
 use Rattle.mapping.specs.Surface.{Surface}
+use Rattle.mapping.specs.declared.nib.Nib.{Nib}
 use Rattle.draw_ops.specs.Content.{Content, StepValue}
 use Rattle.draw_ops.specs.ExactlyOne.{ExactlyOne}
 use Rattle.draw_ops.specs.RecordContent.{ContentIsOne}
 use Rattle.draw_ops.specs.declared.fault.Fault.{Fault}
 use Rattle.draw_ops.specs.declared.fault.Fault.TheVariants.{BudgetTooSmall, NeedTooSmall}
-use Rattle.draw_ops.specs.declared.record_fault.RecordFault.TheVariants.{BoxTooSmall, WrongEntry}
+use Rattle.draw_ops.specs.declared.record_fault.RecordFault.TheVariants.{BoxTooSmall, NibTooSmall, WrongEntry}
 use Rattle.meta_headers.specs.File.{FileIsOne, IsFile}
 use Rattle.meta_headers.specs.Headers.{OpenedValue}
 use Rattle.meta_headers.specs.Opening.{framing_of, meaning_of, opened, record_bytes, surface_for}
-use Rattle.dc_stack.specs.Drawing.{Drawing, drawing_of, drawing_points}
+use Rattle.dc_stack.specs.Drawing.{Drawing, drawing_nib, drawing_of, drawing_points}
 use Rattle.dc_stack.specs.Next.{next}
 use Rattle.dc_stack.specs.OperationFault.{fault_of}
 use Rattle.dc_stack.specs.State.{State, start_of}
@@ -26,7 +28,7 @@ use Rattle.preflight_cert.specs.Apply.{image_after}
 use Rattle.preflight_cert.specs.CertificateReading.{CertificateValue, read_certificate}
 use Rattle.preflight_cert.specs.Checked.{checked, left_over}
 use Rattle.preflight_cert.specs.Drawings.{NumberedDrawing, drawing_then, drawings_of}
-use Rattle.preflight_cert.specs.Entries.{AreCovered, Covers, covers, entries_behind, entry_fault}
+use Rattle.preflight_cert.specs.Entries.{AreCovered, Covers, covers, covers_nib, entries_behind, entry_fault, extent_fault}
 use Rattle.preflight_cert.specs.NeedLaws.{AreWithin}
 use Rattle.preflight_cert.specs.Run.{Refused, ShowsImage, StopsInRecord, RunWrites}
 use Rattle.preflight_cert.specs.SizeLaws.{SizeLaws}
@@ -42,66 +44,79 @@ none_at_end : (behind : Option Stop) (count : ℕ) (entries : List Entry) → op
 none_at_end None count entries h = refl
 none_at_end (Some stop) count entries h = absurd (cc)
 
-covered_end : (behind : Option Stop) (count : ℕ) (entries : List Entry) → option_or behind (left_over count entries) ≡ None → AreCovered [] entries
-covered_end None count [] h = tt
-covered_end None count (entry ∷ entries) h = absurd (cc)
-covered_end (Some stop) count entries h = absurd (cc)
-
 -- an entry that is in order covers its drawing, and the other way round
-boxed : (number : ℕ) (drawing : Drawing) (entry : Entry) (test : Bool) → covers entry.bounds (drawing_points drawing) ≡ test → entry.number ≡ number
-    → cond test None (Some BoxTooSmall) ≡ None → Covers entry (record { number = number; drawing = drawing })
-boxed number drawing entry true t same h = record { number = same; box = points_in entry.bounds (drawing_points drawing) t }
-boxed number drawing entry false t same h = absurd (cc)
+module _ (s : Surface) where
+  covered_end : (behind : Option Stop) (count : ℕ) (entries : List Entry) → option_or behind (left_over count entries) ≡ None → AreCovered [] entries s
+  covered_end None count [] h = tt
+  covered_end None count (entry ∷ entries) h = absurd (cc)
+  covered_end (Some stop) count entries h = absurd (cc)
 
-numbered : (number : ℕ) (drawing : Drawing) (entry : Entry) (test : Bool) → (entry.number == number) ≡ test
-    → cond test (cond (covers entry.bounds (drawing_points drawing)) None (Some BoxTooSmall)) (Some WrongEntry) ≡ None
-    → Covers entry (record { number = number; drawing = drawing })
-numbered number drawing entry true t h = boxed number drawing entry (covers entry.bounds (drawing_points drawing)) refl (eqb-true _ _ t) h
-numbered number drawing entry false t h = absurd (cc)
+  widened : (nib other : Nib) → covers_nib nib other ≡ true → CoversNib nib other
+  widened nib other t =
+      let parts = and_parts (nat_le other.x nib.x) (nat_le other.y nib.y) t in record { x = leb-true _ _ parts.0; y = leb-true _ _ parts.1 }
 
-covered_then : (number : ℕ) (drawing : Option Drawing) (later : List NumberedDrawing) (entries : List Entry) → entry_fault number drawing entries ≡ None
-    → AreCovered later (entries_behind drawing entries) → AreCovered (drawing_then number drawing later) entries
-covered_then number None later entries h rest = rest
-covered_then number (Some drawing) later [] h rest = absurd (cc)
-covered_then number (Some drawing) later (entry ∷ entries) h rest = (numbered number drawing entry (entry.number == number) refl h, rest)
+  widens : (nib other : Nib) → CoversNib nib other → covers_nib nib other ≡ true
+  widens nib other h = and_from (nat_le other.x nib.x) (nat_le other.y nib.y) (le-leb _ _ h.x) (le-leb _ _ h.y)
 
-faultless : (number : ℕ) (drawing : Option Drawing) (later : List NumberedDrawing) (entries : List Entry) → AreCovered (drawing_then number drawing later) entries → entry_fault number drawing entries ≡ None
-faultless number None later entries h = refl
-faultless number (Some drawing) later [] h = absurd h
-faultless number (Some drawing) later (entry ∷ entries) h =
-    let right = eq-eqb _ _ h.0.number in
-    let boxed = points_of entry.bounds (drawing_points drawing) h.0.box in rw (right, boxed) refl
+  boxed : (drawing : Drawing) (entry : Entry) (has_points has_nib : Bool) → covers entry.bounds (drawing_points drawing) ≡ has_points
+      → covers_nib entry.nib (drawing_nib drawing s) ≡ has_nib → (number : ℕ) → entry.number ≡ number
+      → cond has_points (cond has_nib None (Some NibTooSmall)) (Some BoxTooSmall) ≡ None → Covers entry (record { number = number; drawing = drawing }) s
+  boxed drawing entry true true t u number same h =
+      record { number = same; box = points_in entry.bounds (drawing_points drawing) t; nib = widened entry.nib (drawing_nib drawing s) u }
+  boxed drawing entry true false t u number same h = absurd (cc)
+  boxed drawing entry false has_nib t u number same h = absurd (cc)
 
-covered_behind : (number : ℕ) (drawing : Option Drawing) (later : List NumberedDrawing) (entries : List Entry) → AreCovered (drawing_then number drawing later) entries → AreCovered later (entries_behind drawing entries)
-covered_behind number None later entries h = h
-covered_behind number (Some drawing) later [] h = absurd h
-covered_behind number (Some drawing) later (entry ∷ entries) h = h.1
+  numbered : (number : ℕ) (drawing : Drawing) (entry : Entry) (test : Bool) → (entry.number == number) ≡ test
+      → cond test (extent_fault entry drawing s) (Some WrongEntry) ≡ None
+      → Covers entry (record { number = number; drawing = drawing }) s
+  numbered number drawing entry true t h =
+      boxed drawing entry (covers entry.bounds (drawing_points drawing)) (covers_nib entry.nib (drawing_nib drawing s)) refl refl number (eqb-true _ _ t) h
+  numbered number drawing entry false t h = absurd (cc)
+
+  covered_then : (number : ℕ) (drawing : Option Drawing) (later : List NumberedDrawing) (entries : List Entry) → entry_fault number drawing entries s ≡ None
+      → AreCovered later (entries_behind drawing entries) s → AreCovered (drawing_then number drawing later) entries s
+  covered_then number None later entries h rest = rest
+  covered_then number (Some drawing) later [] h rest = absurd (cc)
+  covered_then number (Some drawing) later (entry ∷ entries) h rest = (numbered number drawing entry (entry.number == number) refl h, rest)
+
+  faultless : (number : ℕ) (drawing : Option Drawing) (later : List NumberedDrawing) (entries : List Entry) → AreCovered (drawing_then number drawing later) entries s → entry_fault number drawing entries s ≡ None
+  faultless number None later entries h = refl
+  faultless number (Some drawing) later [] h = absurd h
+  faultless number (Some drawing) later (entry ∷ entries) h =
+      let right = eq-eqb _ _ h.0.number in
+      let has_points = points_of entry.bounds (drawing_points drawing) h.0.box in
+      let has_nib = widens entry.nib (drawing_nib drawing s) h.0.nib in rw (right, has_points, has_nib) refl
+
+  covered_behind : (number : ℕ) (drawing : Option Drawing) (later : List NumberedDrawing) (entries : List Entry) → AreCovered (drawing_then number drawing later) entries s → AreCovered later (entries_behind drawing entries) s
+  covered_behind number None later entries h = h
+  covered_behind number (Some drawing) later [] h = absurd h
+  covered_behind number (Some drawing) later (entry ∷ entries) h = h.1
 
 module _ (s : Surface) (behind : Option Stop) (count : ℕ) where
   unstopped_of : (steps : List StepValue) (state : State) (entries : List Entry) → checked steps behind count state s entries ≡ None → stopped steps behind state s ≡ None
   unstopped_of [] state entries h = none_at_end behind count entries h
   unstopped_of (step ∷ steps) state entries h =
-      let here : fault_of step.operation state s ≡ None = none_first (fault_of step.operation state s) (entry_fault step.number (drawing_of step.operation state) entries) (none_here _ _ _ h) in
+      let here : fault_of step.operation state s ≡ None = none_first (fault_of step.operation state s) (entry_fault step.number (drawing_of step.operation state) entries s) (none_here _ _ _ h) in
       let rest = unstopped_of steps (next step.operation state) (entries_behind (drawing_of step.operation state) entries) (none_later _ _ _ h) in
       rw (here, rest) refl
 
-  covered_of : (steps : List StepValue) (state : State) (entries : List Entry) → checked steps behind count state s entries ≡ None → AreCovered (drawings_of steps state) entries
-  covered_of [] state entries h = covered_end behind count entries h
+  covered_of : (steps : List StepValue) (state : State) (entries : List Entry) → checked steps behind count state s entries ≡ None → AreCovered (drawings_of steps state) entries s
+  covered_of [] state entries h = covered_end s behind count entries h
   covered_of (step ∷ steps) state entries h =
-      let fits = none_second (fault_of step.operation state s) (entry_fault step.number (drawing_of step.operation state) entries) (none_here _ _ _ h) in
-      covered_then step.number (drawing_of step.operation state) (drawings_of steps (next step.operation state)) entries fits
+      let fits = none_second (fault_of step.operation state s) (entry_fault step.number (drawing_of step.operation state) entries s) (none_here _ _ _ h) in
+      covered_then s step.number (drawing_of step.operation state) (drawings_of steps (next step.operation state)) entries fits
       (covered_of steps (next step.operation state) (entries_behind (drawing_of step.operation state) entries) (none_later _ _ _ h))
 
-  checked_at_end : (entries : List Entry) → behind ≡ None → AreCovered [] entries → option_or behind (left_over count entries) ≡ None
+  checked_at_end : (entries : List Entry) → behind ≡ None → AreCovered [] entries s → option_or behind (left_over count entries) ≡ None
   checked_at_end [] h covered = rw h refl
   checked_at_end (entry ∷ entries) h covered = absurd covered
 
-  checked_from : (steps : List StepValue) (state : State) (entries : List Entry) → stopped steps behind state s ≡ None → AreCovered (drawings_of steps state) entries → checked steps behind count state s entries ≡ None
+  checked_from : (steps : List StepValue) (state : State) (entries : List Entry) → stopped steps behind state s ≡ None → AreCovered (drawings_of steps state) entries s → checked steps behind count state s entries ≡ None
   checked_from [] state entries h covered = checked_at_end entries h covered
   checked_from (step ∷ steps) state entries h covered =
       let here : fault_of step.operation state s ≡ None = none_here step.number (fault_of step.operation state s) _ h in
-      let fits = faultless step.number (drawing_of step.operation state) (drawings_of steps (next step.operation state)) entries covered in
-      let behind_it = covered_behind step.number (drawing_of step.operation state) (drawings_of steps (next step.operation state)) entries covered in
+      let fits = faultless s step.number (drawing_of step.operation state) (drawings_of steps (next step.operation state)) entries covered in
+      let behind_it = covered_behind s step.number (drawing_of step.operation state) (drawings_of steps (next step.operation state)) entries covered in
       let rest = checked_from steps (next step.operation state) (entries_behind (drawing_of step.operation state) entries) (none_later _ _ _ h) behind_it in
       rw (here, fits, rest) refl
 

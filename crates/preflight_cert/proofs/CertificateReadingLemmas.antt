@@ -1,54 +1,88 @@
 -- Bytes that are read as a certificate are its text.
-use Rattle.std.proofs.Common.{◌≡◌, Bool, true, false, ◌&&◌, ◌||◌, cond, Result, Ok, Err, ℕ, zero, suc, ◌*◌, ◌<◌, ◌≤◌, ◌^◌, List, [], ◌∷◌, ◌++◌, length, drop, codes, refl, ap, sym, subst, ◌∙◌, arith}
+use Rattle.std.proofs.Common.{◌≡◌, Bool, true, false, ◌&&◌, cond, Option, Some, None, Result, Ok, Err, ℕ, zero, suc, ◌*◌, ◌<◌, ◌≤◌, ◌^◌, List, [], ◌∷◌, ◌++◌, length, drop, refl, ap, sym, subst, ◌∙◌, arith}
 use Rattle.std.specs.List.{All, flat_map}
 use Rattle.std.specs.Prelude.{◌==◌, nat_le, nat_lt, not}
+use Rattle.std.proofs.Math.Nat.{mul-suc, mul-zero}
 use Rattle.std.proofs.lemmas.Bool.{and_parts, eqb-true, leb-true, ltb-false, true≢false}
 use Rattle.std.proofs.lemmas.List.{length-drop}
 use Rattle.std.proofs.lemmas.List.Elements.{All-cons, All-drop, All-nil}
 use Rattle.mapping.specs.Limits.{is_surface_side}
+use Rattle.mapping.specs.Nibs.{is_nib, nib_true}
 use Rattle.mapping.proofs.LimitLemmas.{tests_are_limits}
 use Rattle.draw_ops.specs.declared.fault.Fault.{Fault}
 use Rattle.draw_ops.specs.declared.fault.Fault.TheVariants.{BadBound, NotCertificate, ShortCertificate, TrailingBytes}
 use Rattle.point_views.specs.Numbers.{number_at}
 use Rattle.dc_stack.specs.Drawing.{edge_limit}
 use Rattle.dc_stack.specs.Path.{piece_limit}
-use Rattle.preflight_cert.specs.CertificateReading.{CertificateValue, are_bounded_needs, count_in, entries_in, entry_limit, entry_size, first_entry, is_bounded, mark, needs_in, read_certificate, read_whole, value_in, whole_size}
-use Rattle.preflight_cert.specs.CertificateText.{certificate_text, entry_text, number_text, text_with}
-use Rattle.preflight_cert.specs.TextLaws.{AreBytes, IsCertificate, IsEntry}
-use Rattle.preflight_cert.proofs.EntryLemmas.{length-entries_in}
-use Rattle.preflight_cert.proofs.NumberTextLemmas.{long_again, long_small, number_again, number_small, signed_fits, signed_number_again}
+use Rattle.preflight_cert.specs.CertificateReading.{CertificateValue, are_bounded_needs, count_in, entries_in, entry_limit, entry_size, first_entry, have_nibs, is_bounded, mark_of, needs_in, nib_in, read_certificate, read_version, read_whole, value_in, version_of, whole_size}
+use Rattle.preflight_cert.specs.CertificateText.{certificate_text, entry_text, head_of, mark_text, nib_text, number_text, text_with}
+use Rattle.preflight_cert.specs.TextLaws.{AreBytes, HasNibOf, IsCertificate, IsEntry}
+use Rattle.preflight_cert.specs.declared.version.Version.{Version}
+use Rattle.preflight_cert.specs.declared.version.Version.TheVariants.{Mpc1, Mpc2}
+use Rattle.preflight_cert.proofs.EntryLemmas.{entry_least, length-entries_in}
+use Rattle.preflight_cert.proofs.NumberTextLemmas.{long_again, long_small, number_again, number_small, short_again, signed_fits, signed_number_again}
+use Rattle.preflight_cert.proofs.TextPartLemmas.{number_is_mark}
 
--- bytes of one entry
-entry_again : (bytes rest : List ℕ) → AreBytes bytes → 20 ≤ length bytes → rest ≡ drop 20 bytes → entry_text (first_entry bytes) ++ rest ≡ bytes
-entry_again bytes rest all some e =
-    number_again 0 bytes all _ (omega (arith, some))
-    (signed_number_again 4 bytes all _ (omega (arith, some))
-    (signed_number_again 8 bytes all _ (omega (arith, some))
-    (signed_number_again 12 bytes all _ (omega (arith, some))
-    (signed_number_again 16 bytes all rest (omega (arith, some)) e))))
+-- bytes of a nib
+nib_again : (version : Version) (bytes rest : List ℕ) → AreBytes bytes → entry_size version ≤ length bytes → rest ≡ drop (entry_size version) bytes
+    → nib_text version (nib_in version bytes) ++ rest ≡ drop 20 bytes
+nib_again Mpc1 bytes rest all some e = e
+nib_again Mpc2 bytes rest all some e = short_again 20 bytes _ all (omega (arith, some)) (short_again 22 bytes rest all (omega (arith, some)) e)
 
-entries_again : (n : ℕ) (bytes : List ℕ) → AreBytes bytes → length bytes ≡ 20 * n → flat_map entry_text (entries_in entry_size n bytes) ≡ bytes
-entries_again zero [] all whole = refl
-entries_again zero (b ∷ bytes) all whole = absurd (omega (arith, whole))
-entries_again (suc n) bytes all whole =
-    let len = length-drop 20 bytes in
-    entry_again bytes _ all (omega (arith, whole)) (entries_again n (drop 20 bytes) (All-drop (λ byte. byte < 2 ^ 8) 20 bytes all) (omega (arith, whole, len)))
+nib_read : (version : Version) (bytes : List ℕ) → is_nib (nib_in version bytes) ≡ true → HasNibOf version (nib_in version bytes)
+nib_read Mpc1 bytes test = refl
+nib_read Mpc2 bytes test = nib_true (nib_in Mpc2 bytes) test
 
-entry_read : (bytes : List ℕ) → AreBytes bytes → 20 ≤ length bytes → IsEntry (first_entry bytes)
-entry_read bytes all some = record {
-  number = number_small 0 bytes all (omega (arith, some));
-  left = signed_fits (number_at bytes 4 4) (number_small 4 bytes all (omega (arith, some)));
-  top = signed_fits (number_at bytes 8 4) (number_small 8 bytes all (omega (arith, some)));
-  right = signed_fits (number_at bytes 12 4) (number_small 12 bytes all (omega (arith, some)));
-  bottom = signed_fits (number_at bytes 16 4) (number_small 16 bytes all (omega (arith, some)));
-}
+module _ (version : Version) where
+  abbrev size : ℕ
+  size = entry_size version
 
-entries_read : (n : ℕ) (bytes : List ℕ) → AreBytes bytes → length bytes ≡ 20 * n → All IsEntry (entries_in entry_size n bytes)
-entries_read zero bytes all whole = All-nil IsEntry
-entries_read (suc n) bytes all whole =
-    let len = length-drop 20 bytes in
-    All-cons IsEntry (first_entry bytes) (entries_in entry_size n (drop 20 bytes)) (entry_read bytes all (omega (arith, whole)))
-    (entries_read n (drop 20 bytes) (All-drop (λ byte. byte < 2 ^ 8) 20 bytes all) (omega (arith, whole, len)))
+  -- bytes of one entry
+  entry_again : (bytes rest : List ℕ) → AreBytes bytes → size ≤ length bytes → rest ≡ drop size bytes → entry_text version (first_entry version bytes) ++ rest ≡ bytes
+  entry_again bytes rest all some e =
+      let least = entry_least version in
+      number_again 0 bytes all _ (omega (arith, some, least))
+      (signed_number_again 4 bytes all _ (omega (arith, some, least))
+      (signed_number_again 8 bytes all _ (omega (arith, some, least))
+      (signed_number_again 12 bytes all _ (omega (arith, some, least))
+      (signed_number_again 16 bytes all _ (omega (arith, some, least)) (nib_again version bytes rest all some e)))))
+
+  -- bytes of so many entries are none, or one entry's and those of the others
+  none_left : (bytes : List ℕ) → length bytes ≡ size * zero → length bytes ≡ 0
+  none_left bytes whole = whole ∙ mul-zero size
+
+  one_left : (n : ℕ) (bytes : List ℕ) → length bytes ≡ size * suc n → size ≤ length bytes
+  one_left n bytes whole = let e = mul-suc size n in omega (arith, whole, e)
+
+  others_left : (n : ℕ) (bytes : List ℕ) → length bytes ≡ size * suc n → length (drop size bytes) ≡ size * n
+  others_left n bytes whole = let e = mul-suc size n in let len = length-drop size bytes in omega (arith, whole, e, len)
+
+  entries_again : (n : ℕ) (bytes : List ℕ) → AreBytes bytes → length bytes ≡ size * n → flat_map (entry_text version) (entries_in version n bytes) ≡ bytes
+  entries_again zero [] all whole = refl
+  entries_again zero (b ∷ bytes) all whole = let none = none_left (b ∷ bytes) whole in absurd (omega (arith, none))
+  entries_again (suc n) bytes all whole =
+      entry_again bytes _ all (one_left n bytes whole)
+      (entries_again n (drop size bytes) (All-drop (λ byte. byte < 2 ^ 8) size bytes all) (others_left n bytes whole))
+
+  entry_read : (bytes : List ℕ) → AreBytes bytes → size ≤ length bytes → is_nib (nib_in version bytes) ≡ true → IsEntry version (first_entry version bytes)
+  entry_read bytes all some nib =
+      let least = entry_least version in
+      record {
+        number = number_small 0 bytes all (omega (arith, some, least));
+        left = signed_fits (number_at bytes 4 4) (number_small 4 bytes all (omega (arith, some, least)));
+        top = signed_fits (number_at bytes 8 4) (number_small 8 bytes all (omega (arith, some, least)));
+        right = signed_fits (number_at bytes 12 4) (number_small 12 bytes all (omega (arith, some, least)));
+        bottom = signed_fits (number_at bytes 16 4) (number_small 16 bytes all (omega (arith, some, least)));
+        nib = nib_read version bytes nib;
+      }
+
+  entries_read : (n : ℕ) (bytes : List ℕ) → AreBytes bytes → length bytes ≡ size * n → have_nibs (entries_in version n bytes) ≡ true
+      → All (IsEntry version) (entries_in version n bytes)
+  entries_read zero bytes all whole nibs = All-nil (IsEntry version)
+  entries_read (suc n) bytes all whole nibs =
+      let parts = and_parts (is_nib (nib_in version bytes)) (have_nibs (entries_in version n (drop size bytes))) nibs in
+      All-cons (IsEntry version) (first_entry version bytes) (entries_in version n (drop size bytes)) (entry_read bytes all (one_left n bytes whole) parts.0)
+      (entries_read n (drop size bytes) (All-drop (λ byte. byte < 2 ^ 8) size bytes all) (others_left n bytes whole) parts.1)
 
 -- a fault is no certificate
 is_value : Result CertificateValue Fault → Bool
@@ -59,67 +93,91 @@ no_fault : (fault : Fault) (c : CertificateValue) → Err fault ≡ Ok c → ⊥
 unfolding is_value
 no_fault fault c e = true≢false (sym (ap is_value e))
 
--- bytes that pass each test
-passed : (few other short bounded : Bool) (rest : Result CertificateValue Fault) (c : CertificateValue)
-    → cond (few || not other) (Err NotCertificate) (cond short (Err ShortCertificate) (cond (not bounded) (Err BadBound) rest)) ≡ Ok c
-    → (other ≡ true) × (short ≡ false) × (bounded ≡ true) × (rest ≡ Ok c)
-passed true other short bounded rest c e = absurd (no_fault NotCertificate c e)
-passed false false short bounded rest c e = absurd (no_fault NotCertificate c e)
-passed false true true bounded rest c e = absurd (no_fault ShortCertificate c e)
-passed false true false false rest c e = absurd (no_fault BadBound c e)
-passed false true false true rest c e = (refl, refl, refl, e)
+-- bytes behind a mark that pass each test
+passed : (short bounded : Bool) (rest : Result CertificateValue Fault) (c : CertificateValue)
+    → cond short (Err ShortCertificate) (cond (not bounded) (Err BadBound) rest) ≡ Ok c
+    → (short ≡ false) × (bounded ≡ true) × (rest ≡ Ok c)
+passed true bounded rest c e = absurd (no_fault ShortCertificate c e)
+passed false false rest c e = absurd (no_fault BadBound c e)
+passed false true rest c e = (refl, refl, e)
 
 value_or : CertificateValue → Result CertificateValue Fault → CertificateValue
 value_or other (Ok c) = c
 value_or other (Err fault) = other
 
-ended : (short trailing : Bool) (value c : CertificateValue) → cond short (Err ShortCertificate) (cond trailing (Err TrailingBytes) (Ok value)) ≡ Ok c
-    → (short ≡ false) × (trailing ≡ false) × (value ≡ c)
+ended : (short trailing nibs : Bool) (value c : CertificateValue)
+    → cond short (Err ShortCertificate) (cond trailing (Err TrailingBytes) (cond nibs (Ok value) (Err BadBound))) ≡ Ok c
+    → (short ≡ false) × (trailing ≡ false) × (nibs ≡ true) × (value ≡ c)
 unfolding value_or
-ended true trailing value c e = absurd (no_fault ShortCertificate c e)
-ended false true value c e = absurd (no_fault TrailingBytes c e)
-ended false false value c e = (refl, refl, ap (value_or value) e)
+ended true trailing nibs value c e = absurd (no_fault ShortCertificate c e)
+ended false true nibs value c e = absurd (no_fault TrailingBytes c e)
+ended false false false value c e = absurd (no_fault BadBound c e)
+ended false false true value c e = (refl, refl, refl, ap (value_or value) e)
 
 between : (a b : ℕ) → nat_lt a b ≡ false → nat_lt b a ≡ false → a ≡ b
 between a b e f = let g = ltb-false a b e in let h = ltb-false b a f in omega (arith, g, h)
 
-mark_text : number_text mark ≡ codes "MPC1"
-unfolding mark
-mark_text = refl
+-- the mark of the version that is found
+marked_by : (n : ℕ) (first second : Bool) (version : Version) → (first ≡ true → n ≡ mark_of Mpc1) → (second ≡ true → n ≡ mark_of Mpc2)
+    → cond first (Some Mpc1) (cond second (Some Mpc2) None) ≡ Some version → n ≡ mark_of version
+marked_by n true second Mpc1 f g e = f refl
+marked_by n true second Mpc2 f g e = cc
+marked_by n false true Mpc1 f g e = cc
+marked_by n false true Mpc2 f g e = g refl
+marked_by n false false version f g e = cc
 
-marked_front : (bytes rest : List ℕ) → number_at bytes 0 4 ≡ mark → number_text (number_at bytes 0 4) ++ rest ≡ bytes → codes "MPC1" ++ rest ≡ bytes
-marked_front bytes rest marked e = ap (λ (text : List ℕ). text ++ rest) (sym mark_text) ∙ ap (λ (n : ℕ). number_text n ++ rest) (sym marked) ∙ e
+is_marked : (n : ℕ) (version : Version) → version_of n ≡ Some version → n ≡ mark_of version
+is_marked n version e = marked_by n (n == mark_of Mpc1) (n == mark_of Mpc2) version (eqb-true n (mark_of Mpc1)) (eqb-true n (mark_of Mpc2)) e
+
+marked_front : (version : Version) (bytes rest : List ℕ) → number_at bytes 0 4 ≡ mark_of version → number_text (number_at bytes 0 4) ++ rest ≡ bytes
+    → mark_text version ++ rest ≡ bytes
+marked_front version bytes rest marked e =
+    ap (λ (text : List ℕ). text ++ rest) (sym (number_is_mark version)) ∙ ap (λ (n : ℕ). number_text n ++ rest) (sym marked) ∙ e
 
 -- what was found of bytes that are read
-pub record IsRead (bytes : List ℕ) (c : CertificateValue) : Type 0 where
-  pub marked : number_at bytes 0 4 ≡ mark
+pub record IsRead (bytes : List ℕ) (found : Option Version) (c : CertificateValue) : Type 0 where
+  pub version : Version
+  pub marked : found ≡ Some version
   pub head : 40 ≤ length bytes
   pub bounded : is_bounded bytes ≡ true
-  pub whole : length bytes ≡ whole_size entry_size bytes
-  pub value : value_in entry_size bytes ≡ c
+  pub whole : length bytes ≡ whole_size version bytes
+  pub nibs : have_nibs (value_in version bytes).entries ≡ true
+  pub value : value_in version bytes ≡ c
 
-is_read : (bytes : List ℕ) (c : CertificateValue) → read_certificate bytes ≡ Ok c → IsRead bytes c
-is_read bytes c e =
-    let p = passed (nat_lt (length bytes) 4) (number_at bytes 0 4 == mark) (nat_lt (length bytes) 40) (is_bounded bytes) (read_whole entry_size bytes) c e in
-    let q = ended (nat_lt (length bytes) (whole_size entry_size bytes)) (nat_lt (whole_size entry_size bytes) (length bytes)) (value_in entry_size bytes) c p.3 in
+read_by : (few : Bool) (found : Option Version) (bytes : List ℕ) (c : CertificateValue) → cond few (Err NotCertificate) (read_version found bytes) ≡ Ok c
+    → IsRead bytes found c
+read_by true found bytes c e = absurd (no_fault NotCertificate c e)
+read_by false None bytes c e = absurd (no_fault NotCertificate c e)
+read_by false (Some version) bytes c e =
+    let p = passed (nat_lt (length bytes) 40) (is_bounded bytes) (read_whole version bytes) c e in
+    let q =
+    ended (nat_lt (length bytes) (whole_size version bytes)) (nat_lt (whole_size version bytes) (length bytes)) (have_nibs (value_in version bytes).entries)
+    (value_in version bytes) c p.2 in
     record {
-      marked = eqb-true _ _ p.0;
-      head = ltb-false (length bytes) 40 p.1;
-      bounded = p.2;
-      whole = between (length bytes) (whole_size entry_size bytes) q.0 q.1;
-      value = q.2;
+      version = version;
+      marked = refl;
+      head = ltb-false (length bytes) 40 p.0;
+      bounded = p.1;
+      whole = between (length bytes) (whole_size version bytes) q.0 q.1;
+      nibs = q.2;
+      value = q.3;
     }
 
-module _ (bytes : List ℕ) (c : CertificateValue) (all : AreBytes bytes) (h : IsRead bytes c) where
-  behind : length (drop 40 bytes) ≡ 20 * count_in bytes
+is_read : (bytes : List ℕ) (c : CertificateValue) → read_certificate bytes ≡ Ok c → IsRead bytes (version_of (number_at bytes 0 4)) c
+is_read bytes c e = read_by (nat_lt (length bytes) 4) (version_of (number_at bytes 0 4)) bytes c e
+
+module _ (bytes : List ℕ) (c : CertificateValue) (all : AreBytes bytes) (h : IsRead bytes (version_of (number_at bytes 0 4)) c) where
+  abbrev version : Version
+  version = h.version
+
+  behind : length (drop 40 bytes) ≡ entry_size version * count_in bytes
   behind = let len = length-drop 40 bytes in let whole = h.whole in omega (arith, len, whole)
 
   -- the numbers in front of the entries
-  front_again : (rest : List ℕ) → rest ≡ drop 40 bytes
-      → text_with (number_at bytes 4 4) (number_at bytes 8 4) (number_at bytes 12 8) (needs_in bytes) (count_in bytes) rest ≡ bytes
+  front_again : (rest : List ℕ) → rest ≡ drop 40 bytes → text_with version (head_of (value_in version bytes)) (count_in bytes) rest ≡ bytes
   front_again rest e =
       let head = h.head in
-      marked_front bytes _ h.marked
+      marked_front version bytes _ (is_marked (number_at bytes 0 4) version h.marked)
       (number_again 0 bytes all _ (omega (arith, head))
       (number_again 4 bytes all _ (omega (arith, head))
       (number_again 8 bytes all _ (omega (arith, head))
@@ -130,13 +188,16 @@ module _ (bytes : List ℕ) (c : CertificateValue) (all : AreBytes bytes) (h : I
       (number_again 32 bytes all _ (omega (arith, head))
       (number_again 36 bytes all rest (omega (arith, head)) e)))))))))
 
-  pub value_text : certificate_text (value_in entry_size bytes) ≡ bytes
-  value_text =
-      ap (λ (n : ℕ). text_with (number_at bytes 4 4) (number_at bytes 8 4) (number_at bytes 12 8) (needs_in bytes) n (flat_map entry_text (value_in entry_size bytes).entries))
-      (length-entries_in entry_size (count_in bytes) (drop 40 bytes))
-      ∙ front_again _ (entries_again (count_in bytes) (drop 40 bytes) (All-drop (λ byte. byte < 2 ^ 8) 40 bytes all) behind)
+  behind_bytes : AreBytes (drop 40 bytes)
+  behind_bytes = All-drop (λ byte. byte < 2 ^ 8) 40 bytes all
 
-  value_is_certificate : IsCertificate (value_in entry_size bytes)
+  pub value_text : certificate_text (value_in version bytes) ≡ bytes
+  value_text =
+      ap (λ (n : ℕ). text_with version (head_of (value_in version bytes)) n (flat_map (entry_text version) (value_in version bytes).entries))
+      (length-entries_in version (count_in bytes) (drop 40 bytes))
+      ∙ front_again _ (entries_again version (count_in bytes) (drop 40 bytes) behind_bytes behind)
+
+  value_is_certificate : IsCertificate (value_in version bytes)
   value_is_certificate =
       let head = h.head in
       let count = and_parts (is_surface_side (number_at bytes 4 4) && is_surface_side (number_at bytes 8 4) && are_bounded_needs (needs_in bytes)) (nat_le (count_in bytes) entry_limit) h.bounded in
@@ -153,8 +214,8 @@ module _ (bytes : List ℕ) (c : CertificateValue) (all : AreBytes bytes) (h : I
         slots = leb-true _ _ depth.1;
         edges = leb-true _ _ edges.1;
         pieces = leb-true _ _ pieces.1;
-        few = subst (λ (n : ℕ). n ≤ entry_limit) (sym (length-entries_in entry_size (count_in bytes) (drop 40 bytes))) (leb-true _ _ count.1);
-        entries = entries_read (count_in bytes) (drop 40 bytes) (All-drop (λ byte. byte < 2 ^ 8) 40 bytes all) behind;
+        few = subst (λ (n : ℕ). n ≤ entry_limit) (sym (length-entries_in version (count_in bytes) (drop 40 bytes))) (leb-true _ _ count.1);
+        entries = entries_read version (count_in bytes) (drop 40 bytes) behind_bytes behind h.nibs;
       }
 
 pub is_text : (bytes : List ℕ) (c : CertificateValue) → AreBytes bytes → read_certificate bytes ≡ Ok c → bytes ≡ certificate_text c

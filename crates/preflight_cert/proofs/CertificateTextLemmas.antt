@@ -1,30 +1,43 @@
 -- What is written as a certificate's text is read.
-use Rattle.std.proofs.Common.{◌≡◌, Bool, true, false, ◌||◌, cond, Result, Ok, Err, ℕ, ◌+◌, ◌*◌, ◌<◌, ◌^◌, ℤ, List, [], ◌∷◌, ◌++◌, length, drop, refl, ap, ◌∙◌, arith, w32}
-use Rattle.std.specs.Int.{cast_unsigned}
+use Rattle.std.proofs.Common.{◌≡◌, Bool, true, false, cond, Option, Some, Result, Ok, Err, ℕ, ◌+◌, ◌*◌, ◌<◌, ◌^◌, ℤ, List, [], ◌∷◌, ◌++◌, length, drop, refl, ap, sym, subst, ◌∙◌, arith, w16, w32, w64}
+use Rattle.std.specs.Int.{cast_unsigned, to_le_bytes}
 use Rattle.std.specs.List.{All, flat_map}
-use Rattle.std.specs.Prelude.{nat_le, nat_lt, not}
+use Rattle.std.specs.Prelude.{nat_le, nat_lt, if◌then◌else◌, not}
+use Rattle.std.proofs.Math.Nat.{mul-suc, mul-zero}
 use Rattle.std.proofs.lemmas.Bool.{and_from, le-leb, le-ltb}
 use Rattle.std.proofs.lemmas.List.Elements.{All-head, All-tail}
 use Rattle.mapping.specs.Limits.{is_surface_side}
+use Rattle.mapping.specs.Nibs.{is_nib, nib_from}
+use Rattle.mapping.specs.declared.nib.Nib.{Nib}
 use Rattle.mapping.proofs.LimitLemmas.{tests_are_limits}
 use Rattle.draw_ops.specs.declared.fault.Fault.{Fault}
 use Rattle.draw_ops.specs.declared.fault.Fault.TheVariants.{BadBound, NotCertificate, ShortCertificate}
 use Rattle.point_views.specs.Numbers.{number_at}
 use Rattle.dc_stack.specs.Drawing.{edge_limit}
 use Rattle.dc_stack.specs.Path.{piece_limit}
-use Rattle.preflight_cert.specs.CertificateReading.{CertificateValue, are_bounded_needs, count_in, entries_in, entry_limit, entry_size, first_entry, is_bounded, mark, needs_in, read_certificate, value_in, whole_size}
-use Rattle.preflight_cert.specs.CertificateText.{certificate_text, entry_text, number_text}
-use Rattle.preflight_cert.specs.TextLaws.{IsCertificate, IsEntry}
+use Rattle.preflight_cert.specs.CertificateReading.{CertificateValue, are_bounded_needs, count_in, entries_in, entry_limit, entry_size, first_entry, have_nibs, is_bounded, mark_of, needs_in, nib_in, read_certificate, read_version, read_whole, value_in, version_of, whole_size, with_nibs}
+use Rattle.preflight_cert.specs.CertificateText.{certificate_text, entry_text, needs_text, nib_text, number_text}
+use Rattle.preflight_cert.specs.TextLaws.{HasNibOf, IsCertificate, IsEntry}
 use Rattle.preflight_cert.specs.declared.entry.Entry.{Entry}
+use Rattle.preflight_cert.specs.declared.version.Version.{Version}
+use Rattle.preflight_cert.specs.declared.version.Version.TheVariants.{Mpc1, Mpc2}
 use Rattle.preflight_cert.proofs.EntryLemmas.{ends_with_entries}
-use Rattle.preflight_cert.proofs.NumberTextLemmas.{number_back, signed_back}
+use Rattle.preflight_cert.proofs.NumberTextLemmas.{number_back, short_back, signed_back}
+use Rattle.preflight_cert.proofs.TextPartLemmas.{number_is_mark}
 
-abbrev an_entry : ℕ → ℤ → ℤ → ℤ → ℤ → Entry
-an_entry n l t r b = record { number = n; bounds = record { l = l; t = t; r = r; b = b } }
+abbrev a_nib : ℕ → ℕ → Nib
+a_nib x y = record { x = x; y = y }
 
-same_entry : (a c : ℕ) (l m t u r s b v : ℤ) → a ≡ c → l ≡ m → t ≡ u → r ≡ s → b ≡ v → an_entry a l t r b ≡ an_entry c m u s v
-same_entry a c l m t u r s b v n e f g h =
-    ap (λ (x : ℕ). an_entry x l t r b) n ∙ ap (λ (x : ℤ). an_entry c x t r b) e ∙ ap (λ (x : ℤ). an_entry c m x r b) f ∙ ap (λ (x : ℤ). an_entry c m u x b) g ∙ ap (λ (x : ℤ). an_entry c m u s x) h
+same_nib : (x y u v : ℕ) → x ≡ u → y ≡ v → a_nib x y ≡ a_nib u v
+same_nib x y u v e f = ap (λ (n : ℕ). a_nib n y) e ∙ ap (λ (n : ℕ). a_nib u n) f
+
+abbrev an_entry : ℕ → ℤ → ℤ → ℤ → ℤ → Nib → Entry
+an_entry n l t r b nib = record { number = n; bounds = record { l = l; t = t; r = r; b = b }; nib = nib }
+
+same_entry : (a c : ℕ) (l m t u r s b v : ℤ) (x y : Nib) → a ≡ c → l ≡ m → t ≡ u → r ≡ s → b ≡ v → x ≡ y → an_entry a l t r b x ≡ an_entry c m u s v y
+same_entry a c l m t u r s b v x y n e f g h i =
+    ap (λ (k : ℕ). an_entry k l t r b x) n ∙ ap (λ (k : ℤ). an_entry c k t r b x) e ∙ ap (λ (k : ℤ). an_entry c m k r b x) f ∙ ap (λ (k : ℤ). an_entry c m u k b x) g
+    ∙ ap (λ (k : ℤ). an_entry c m u s k x) h ∙ ap (λ (k : Nib). an_entry c m u s v k) i
 
 same_list : {x y : Entry} {xs ys : List Entry} → x ≡ y → xs ≡ ys → (x ∷ xs) ≡ (y ∷ ys)
 same_list e f = cc
@@ -33,65 +46,136 @@ same_list e f = cc
 abbrev coordinate_text : ℤ → List ℕ
 coordinate_text v = number_text (cast_unsigned w32 v)
 
-entry_back : (entry : Entry) (rest : List ℕ) → IsEntry entry → first_entry (entry_text entry ++ rest) ≡ entry
-entry_back entry rest h =
-    let n = number_back entry.number (coordinate_text entry.bounds.l ++ (coordinate_text entry.bounds.t ++ (coordinate_text entry.bounds.r ++ coordinate_text entry.bounds.b)) ++ rest) h.number in
-    let l = signed_back entry.bounds.l (coordinate_text entry.bounds.t ++ (coordinate_text entry.bounds.r ++ coordinate_text entry.bounds.b) ++ rest) h.left in
-    let t = signed_back entry.bounds.t (coordinate_text entry.bounds.r ++ coordinate_text entry.bounds.b ++ rest) h.top in
-    let r = signed_back entry.bounds.r (coordinate_text entry.bounds.b ++ rest) h.right in
-    let b = signed_back entry.bounds.b rest h.bottom in
-    same_entry _ entry.number _ entry.bounds.l _ entry.bounds.t _ entry.bounds.r _ entry.bounds.b n l t r b
+-- the nib that is written is read
+nib_back : (version : Version) (entry : Entry) (rest : List ℕ) → HasNibOf version entry.nib → nib_in version (entry_text version entry ++ rest) ≡ entry.nib
+nib_back Mpc1 entry rest h = sym h
+nib_back Mpc2 entry rest h =
+    let x = h.x.within in
+    let y = h.y.within in
+    same_nib _ _ entry.nib.x entry.nib.y (short_back entry.nib.x (to_le_bytes w16 entry.nib.y ++ rest) (omega (arith, x))) (short_back entry.nib.y rest (omega (arith, y)))
 
-entries_back : (entries : List Entry) → All IsEntry entries → entries_in entry_size (length entries) (flat_map entry_text entries) ≡ entries
-entries_back [] all = refl
-entries_back (entry ∷ entries) all =
-    same_list (entry_back entry (flat_map entry_text entries) (All-head IsEntry entry entries all)) (entries_back entries (All-tail IsEntry entry entries all))
+nib_passes : (version : Version) (nib : Nib) → HasNibOf version nib → is_nib nib ≡ true
+nib_passes Mpc1 nib h = ap is_nib h
+nib_passes Mpc2 nib h = nib_from nib h
 
--- the bytes of entries, and of a certificate
-pub length-entries : (entries : List Entry) → length (flat_map entry_text entries) ≡ 20 * length entries
-length-entries [] = refl
-length-entries (entry ∷ entries) = let e = length-entries entries in omega arith
+-- an entry's bytes are as many as its version has
+behind_entry : (version : Version) (entry : Entry) (rest : List ℕ) → drop (entry_size version) (entry_text version entry ++ rest) ≡ rest
+behind_entry Mpc1 entry rest = refl
+behind_entry Mpc2 entry rest = refl
 
-pub length-text : (c : CertificateValue) → length (certificate_text c) ≡ 40 + 20 * length c.entries
-length-text c = let e = length-entries c.entries in omega arith
+length-entry : (version : Version) (entry : Entry) (rest : List ℕ) → length (entry_text version entry ++ rest) ≡ entry_size version + length rest
+length-entry Mpc1 entry rest = omega arith
+length-entry Mpc2 entry rest = omega arith
 
-passes : (few marked short bounded : Bool) (rest : Result CertificateValue Fault) → few ≡ false → marked ≡ true → short ≡ false → bounded ≡ true
-    → cond (few || not marked) (Err NotCertificate) (cond short (Err ShortCertificate) (cond (not bounded) (Err BadBound) rest)) ≡ rest
-passes few marked short bounded rest a b d e = rw (a, b, d, e) refl
+module _ (version : Version) where
+  abbrev written : List Entry → List ℕ
+  written entries = flat_map (entry_text version) entries
+
+  entry_back : (entry : Entry) (rest : List ℕ) → IsEntry version entry → first_entry version (entry_text version entry ++ rest) ≡ entry
+  entry_back entry rest h =
+      let nib = nib_text version entry.nib ++ rest in
+      let n = number_back entry.number (coordinate_text entry.bounds.l ++ (coordinate_text entry.bounds.t ++ (coordinate_text entry.bounds.r ++ (coordinate_text entry.bounds.b ++ nib)))) h.number in
+      let l = signed_back entry.bounds.l (coordinate_text entry.bounds.t ++ (coordinate_text entry.bounds.r ++ (coordinate_text entry.bounds.b ++ nib))) h.left in
+      let t = signed_back entry.bounds.t (coordinate_text entry.bounds.r ++ (coordinate_text entry.bounds.b ++ nib)) h.top in
+      let r = signed_back entry.bounds.r (coordinate_text entry.bounds.b ++ nib) h.right in
+      let b = signed_back entry.bounds.b nib h.bottom in
+      same_entry _ entry.number _ entry.bounds.l _ entry.bounds.t _ entry.bounds.r _ entry.bounds.b _ entry.nib n l t r b (nib_back version entry rest h.nib)
+
+  entries_back : (entries : List Entry) → All (IsEntry version) entries → entries_in version (length entries) (written entries) ≡ entries
+  entries_back [] all = refl
+  entries_back (entry ∷ entries) all =
+      same_list (entry_back entry (written entries) (All-head (IsEntry version) entry entries all))
+      (ap (λ (bytes : List ℕ). entries_in version (length entries) bytes) (behind_entry version entry (written entries))
+      ∙ entries_back entries (All-tail (IsEntry version) entry entries all))
+
+  nibs_pass : (entries : List Entry) → All (IsEntry version) entries → have_nibs entries ≡ true
+  nibs_pass [] all = refl
+  nibs_pass (entry ∷ entries) all =
+      and_from (is_nib entry.nib) (have_nibs entries) (nib_passes version entry.nib (All-head (IsEntry version) entry entries all).nib)
+      (nibs_pass entries (All-tail (IsEntry version) entry entries all))
+
+  -- the bytes of entries
+  pub length-entries : (entries : List Entry) → length (written entries) ≡ entry_size version * length entries
+  length-entries [] = sym (mul-zero (entry_size version))
+  length-entries (entry ∷ entries) =
+      let one = length-entry version entry (written entries) in
+      let others = length-entries entries in
+      let e = mul-suc (entry_size version) (length entries) in omega (arith, one, others, e)
+
+-- the bytes of a certificate, with its mark as a number
+abbrev marked_text : CertificateValue → List ℕ
+marked_text c =
+    number_text (mark_of c.version) ++ (number_text c.max_width ++ (number_text c.max_height
+    ++ (to_le_bytes w64 c.writes ++ needs_text c.needs (number_text (length c.entries) ++ flat_map (entry_text c.version) c.entries))))
+
+marked_is_text : (c : CertificateValue) → marked_text c ≡ certificate_text c
+marked_is_text c =
+    ap (λ (mark : List ℕ). mark ++ (number_text c.max_width ++ (number_text c.max_height
+    ++ (to_le_bytes w64 c.writes ++ needs_text c.needs (number_text (length c.entries) ++ flat_map (entry_text c.version) c.entries))))) (number_is_mark c.version)
+
+length-marked : (c : CertificateValue) → length (marked_text c) ≡ 40 + entry_size c.version * length c.entries
+length-marked c = let e = length-entries c.version c.entries in omega (arith, e)
+
+pub length-text : (c : CertificateValue) → length (certificate_text c) ≡ 40 + entry_size c.version * length c.entries
+length-text c = ap length (sym (marked_is_text c)) ∙ length-marked c
+
+-- a version is found by its mark
+found_by_mark : (version : Version) → version_of (mark_of version) ≡ Some version
+unfolding mark_of
+found_by_mark Mpc1 = refl
+found_by_mark Mpc2 = refl
+
+mark_small : (version : Version) → mark_of version < 2 ^ 32
+unfolding mark_of
+mark_small Mpc1 = omega arith
+mark_small Mpc2 = omega arith
+
+passes : (few short bounded : Bool) (rest : Result CertificateValue Fault) → few ≡ false → short ≡ false → bounded ≡ true
+    → cond few (Err NotCertificate) (cond short (Err ShortCertificate) (cond (not bounded) (Err BadBound) rest)) ≡ rest
+passes few short bounded rest a b d = rw (a, b, d) refl
 
 limits_small : (edge_limit < 2 ^ 32) × (piece_limit < 2 ^ 32) × (entry_limit < 2 ^ 32)
 unfolding edge_limit piece_limit entry_limit
 limits_small = (omega arith, omega arith, omega arith)
 
 module _ (c : CertificateValue) (h : IsCertificate c) where
-  wide_back : number_at (certificate_text c) 4 4 ≡ c.max_width
+  abbrev text : List ℕ
+  text = marked_text c
+
+  mark_back : number_at text 0 4 ≡ mark_of c.version
+  mark_back = let one = mark_small c.version in omega (arith, one)
+
+  found_back : version_of (number_at text 0 4) ≡ Some c.version
+  found_back = ap version_of mark_back ∙ found_by_mark c.version
+
+  wide_back : number_at text 4 4 ≡ c.max_width
   wide_back = let one = h.wide.within in omega (arith, one)
 
-  high_back : number_at (certificate_text c) 8 4 ≡ c.max_height
+  high_back : number_at text 8 4 ≡ c.max_height
   high_back = let one = h.high.within in omega (arith, one)
 
-  writes_back : number_at (certificate_text c) 12 8 ≡ c.writes
+  writes_back : number_at text 12 8 ≡ c.writes
   writes_back = let one = h.writes in omega (arith, one)
 
-  depth_back : number_at (certificate_text c) 20 4 ≡ c.needs.depth
+  depth_back : number_at text 20 4 ≡ c.needs.depth
   depth_back = let one = h.depth in omega (arith, one)
 
-  slots_back : number_at (certificate_text c) 24 4 ≡ c.needs.slots
+  slots_back : number_at text 24 4 ≡ c.needs.slots
   slots_back = let one = h.slots in omega (arith, one)
 
-  edges_back : number_at (certificate_text c) 28 4 ≡ c.needs.edges
+  edges_back : number_at text 28 4 ≡ c.needs.edges
   edges_back = let one = h.edges in let two = limits_small.0 in omega (arith, one, two)
 
-  pieces_back : number_at (certificate_text c) 32 4 ≡ c.needs.pieces
+  pieces_back : number_at text 32 4 ≡ c.needs.pieces
   pieces_back = let one = h.pieces in let two = limits_small.1 in omega (arith, one, two)
 
-  count_back : count_in (certificate_text c) ≡ length c.entries
+  count_back : count_in text ≡ length c.entries
   count_back = let one = h.few in let two = limits_small.2 in omega (arith, one, two)
 
-  entries_are : entries_in entry_size (count_in (certificate_text c)) (drop 40 (certificate_text c)) ≡ c.entries
-  entries_are = ap (λ (k : ℕ). entries_in entry_size k (flat_map entry_text c.entries)) count_back ∙ entries_back c.entries h.entries
+  entries_are : entries_in c.version (count_in text) (drop 40 text) ≡ c.entries
+  entries_are = ap (λ (k : ℕ). entries_in c.version k (flat_map (entry_text c.version) c.entries)) count_back ∙ entries_back c.version c.entries h.entries
 
-  needs_back : needs_in (certificate_text c) ≡ c.needs
+  needs_back : needs_in text ≡ c.needs
   needs_back = rw (depth_back, slots_back, edges_back, pieces_back) refl
 
   needs_bounded : are_bounded_needs c.needs ≡ true
@@ -99,22 +183,28 @@ module _ (c : CertificateValue) (h : IsCertificate c) where
       and_from _ (nat_le c.needs.pieces piece_limit) (and_from _ (nat_le c.needs.edges edge_limit) (and_from (nat_le c.needs.depth 256) (nat_le c.needs.slots 65535)
       (le-leb _ _ h.depth) (le-leb _ _ h.slots)) (le-leb _ _ h.edges)) (le-leb _ _ h.pieces)
 
-  bounded_back : is_bounded (certificate_text c) ≡ true
+  bounded_back : is_bounded text ≡ true
   bounded_back =
       rw (wide_back, high_back, depth_back, slots_back, edges_back, pieces_back, count_back)
       (and_from _ (nat_le (length c.entries) entry_limit) (and_from _ (are_bounded_needs c.needs) (and_from (is_surface_side c.max_width) (is_surface_side c.max_height)
       ((tests_are_limits.surface_side c.max_width).1 h.wide) ((tests_are_limits.surface_side c.max_height).1 h.high)) needs_bounded) (le-leb _ _ h.few))
 
-  value_back : value_in entry_size (certificate_text c) ≡ c
+  value_back : value_in c.version text ≡ c
   value_back = rw (wide_back, high_back, writes_back, needs_back, entries_are) refl
 
-  is_whole : length (certificate_text c) ≡ whole_size entry_size (certificate_text c)
-  is_whole = let len = length-text c in let n = count_back in omega (arith, len, n)
+  is_whole : length text ≡ whole_size c.version text
+  is_whole = let len = length-marked c in rw count_back len
+
+  with_nibs_back : with_nibs c ≡ Ok c
+  with_nibs_back = ap (λ (passed : Bool). if passed then Ok c else Err BadBound) (nibs_pass c.version c.entries h.entries)
+
+  marked_back : read_certificate text ≡ Ok c
+  marked_back =
+      let len = length-marked c in
+      let few : nat_lt (length text) 4 ≡ false = le-ltb (length text) 4 (omega (arith, len)) in
+      let short : nat_lt (length text) 40 ≡ false = le-ltb (length text) 40 (omega (arith, len)) in
+      ap (λ (found : Option Version). if nat_lt (length text) 4 then Err NotCertificate else read_version found text) found_back
+      ∙ passes _ _ _ (read_whole c.version text) few short bounded_back ∙ ends_with_entries c.version text is_whole ∙ ap with_nibs value_back ∙ with_nibs_back
 
   pub reads_back : read_certificate (certificate_text c) ≡ Ok c
-  unfolding mark
-  reads_back =
-      let len = length-text c in
-      let few : nat_lt (length (certificate_text c)) 4 ≡ false = le-ltb (length (certificate_text c)) 4 (omega (arith, len)) in
-      let short : nat_lt (length (certificate_text c)) 40 ≡ false = le-ltb (length (certificate_text c)) 40 (omega (arith, len)) in
-      passes _ _ _ _ _ few refl short bounded_back ∙ ends_with_entries entry_size (certificate_text c) is_whole ∙ ap (λ (v : CertificateValue). Ok v) value_back
+  reads_back = subst (λ (bytes : List ℕ). read_certificate bytes ≡ Ok c) (marked_is_text c) marked_back

@@ -1,53 +1,64 @@
 -- What is gathered record by record is what is gathered of all.
-use Rattle.std.proofs.Common.{◌≡◌, ℕ, ◌+◌, List, ◌++◌, Option, Some, None, refl, ap, sym, ◌∙◌, arith, append_assoc}
+use Rattle.std.proofs.Common.{◌≡◌, ℕ, ◌+◌, List, [], ◌∷◌, ◌++◌, Option, Some, None, refl, ap, sym, ◌∙◌, arith, append_assoc}
 use Rattle.std.specs.List.{All}
-use Rattle.std.proofs.lemmas.List.Elements.{All-cons}
+use Rattle.std.proofs.lemmas.List.Elements.{All-append}
 use Rattle.mapping.specs.Surface.{Surface}
 use Rattle.draw_ops.specs.Content.{Content, with_step}
 use Rattle.draw_ops.specs.OperationOf.{operation_of}
 use Rattle.draw_ops.specs.StepOf.{step_value_of}
 use Rattle.draw_ops.specs.declared.step.Step.{Step}
-use Rattle.dc_stack.specs.Drawing.{Drawing, drawing_of}
+use Rattle.mapping.specs.BoxLaws.{BoxLaws}
+use Rattle.mapping.specs.declared.geometry.Rect.{Rect}
+use Rattle.mapping.specs.declared.nib.Nib.{Nib}
+use Rattle.dc_stack.specs.Drawing.{Drawing, drawing_of, mark_points}
+use Rattle.dc_stack.specs.Draws.{IsPlacedDraw, mark_of}
+use Rattle.dc_stack.specs.MachineState.{HasNib, MachineState, drawing_with}
+use Rattle.dc_stack.specs.declared.draw.Draw.{Draw}
 use Rattle.dc_stack.specs.Next.{next}
 use Rattle.dc_stack.specs.State.{State}
 use Rattle.preflight_cert.specs.Drawings.{NumberedDrawing, drawing_then, drawings_of}
-use Rattle.preflight_cert.specs.Gathered.{FitsEntry, drawing_text, least_budget, least_drawing_budget, least_entries, least_entry, least_texts}
+use Rattle.preflight_cert.specs.Gathered.{entry_if_drawn, least_box, least_budget, least_drawing_budget, least_entries, least_entry}
 use Rattle.preflight_cert.specs.TextLaws.{IsEntry}
+use Rattle.preflight_cert.specs.declared.entry.Entry.{Entry}
+use Rattle.preflight_cert.specs.declared.version.Version.TheVariants.{Mpc2}
+use Rattle.preflight_cert.proofs.LeastBoxLemmas.{least_is}
 
-pub texts_then : (number : ℕ) (drawing : Option Drawing) (later : List NumberedDrawing) → least_texts (drawing_then number drawing later) ≡ drawing_text number drawing ++ least_texts later
-texts_then number None later = refl
-texts_then number (Some drawing) later = refl
+abbrev an_entry : ℕ → Rect → Nib → Entry
+an_entry number bounds nib = record { number = number; bounds = bounds; nib = nib }
+
+-- the entry of what is drawn has the least box around its points, and its nib
+abbrev pub told_entry : ℕ → Draw → Entry
+told_entry number draw = an_entry number draw.bounds draw.nib
+
+pub told_is_least : BoxLaws → (number : ℕ) (m : MachineState) (draw : Draw) → IsPlacedDraw m.surface m.painted draw → HasNib m.surface m draw → told_entry number draw ≡ least_entry (record { number = number; drawing = drawing_with m draw }) m.surface
+told_is_least laws number m draw placed nib =
+    let least = least_is laws draw.bounds (mark_points (mark_of m.painted draw)) placed.least in
+    ap (λ (box : Rect). an_entry number box draw.nib) least ∙ ap (λ (n : Nib). an_entry number (least_box (mark_points (mark_of m.painted draw))) n) nib.is
+
+pub entries_then : (number : ℕ) (drawing : Option Drawing) (later : List NumberedDrawing) (s : Surface) → least_entries (drawing_then number drawing later) s ≡ entry_if_drawn number drawing s ++ least_entries later s
+entries_then number None later s = refl
+entries_then number (Some drawing) later s = refl
 
 pub budget_then : (number : ℕ) (drawing : Option Drawing) (later : List NumberedDrawing) (s : Surface) → least_budget (drawing_then number drawing later) s ≡ least_drawing_budget drawing s + least_budget later s
 budget_then number None later s = omega arith
 budget_then number (Some drawing) later s = refl
 
-pub entries_then : (number : ℕ) (drawing : Option Drawing) (later : List NumberedDrawing) → FitsEntry number drawing → All IsEntry (least_entries later) → All IsEntry (least_entries (drawing_then number drawing later))
-entries_then number None later fits all = all
-entries_then number (Some drawing) later fits all = All-cons IsEntry (least_entry (record { number = number; drawing = drawing })) (least_entries later) fits all
+pub ruleset gathered = (entries_then, budget_then)
 
-pub ruleset gathered = (texts_then, budget_then)
+module _ (s : Surface) (old new : Content) (step : Step) (state after : State) (drawing : Option Drawing) (first : old ≡ with_step (step_value_of step) new) (stepped : after ≡ next (operation_of step.op) state) (drawn : drawing ≡ drawing_of (operation_of step.op) state) where
+  -- the entries of the steps that are left are the first step's and those of all later ones
+  split : least_entries (drawings_of old.steps state) s ≡ entry_if_drawn step.number drawing s ++ least_entries (drawings_of new.steps after) s
+  split =
+      rw (stepped, drawn)
+      (ap (λ (content : Content). least_entries (drawings_of content.steps state) s) first
+      ∙ entries_then step.number (drawing_of (operation_of step.op) state) (drawings_of new.steps (next (operation_of step.op) state)) s)
 
--- where a step's entry and all later ones have numbers of 32 bits, all from that step on have
-pub step_entries : (old new : Content) (step : Step) (state after : State) (drawing : Option Drawing) → old ≡ with_step (step_value_of step) new
-    → after ≡ next (operation_of step.op) state → drawing ≡ drawing_of (operation_of step.op) state → FitsEntry step.number drawing
-    → All IsEntry (least_entries (drawings_of new.steps after)) → All IsEntry (least_entries (drawings_of old.steps state))
-step_entries old new step state after drawing first stepped drawn fits all =
-    let value = step_value_of step in
-    let later = drawings_of new.steps (next value.operation state) in
-    let rest : All IsEntry (least_entries later) = rw stepped at all in
-    let here : FitsEntry step.number (drawing_of value.operation state) = rw drawn at fits in
-    let whole : All IsEntry (least_entries (drawing_then step.number (drawing_of value.operation state) later)) = entries_then step.number (drawing_of value.operation state) later here rest in
-    rw first whole
+  -- where the step's entry and all later ones have numbers within their limits, all from that step on have
+  pub step_fit : All (IsEntry Mpc2) (entry_if_drawn step.number drawing s) → All (IsEntry Mpc2) (least_entries (drawings_of new.steps after) s) → All (IsEntry Mpc2) (least_entries (drawings_of old.steps state) s)
+  step_fit here later =
+      rw split (All-append (IsEntry Mpc2) (entry_if_drawn step.number drawing s) (least_entries (drawings_of new.steps after) s) here later)
 
--- what is written up to a step, and the texts of all later ones
-pub step_texts : (old new : Content) (step : Step) (state after : State) (drawing : Option Drawing) (before now : List ℕ) → old ≡ with_step (step_value_of step) new
-    → after ≡ next (operation_of step.op) state → drawing ≡ drawing_of (operation_of step.op) state → now ≡ before ++ drawing_text step.number drawing
-    → before ++ least_texts (drawings_of old.steps state) ≡ now ++ least_texts (drawings_of new.steps after)
-step_texts old new step state after drawing before now first stepped drawn written =
-    let value = step_value_of step in
-    let later = drawings_of new.steps (next value.operation state) in
-    let text = drawing_text step.number (drawing_of value.operation state) in
-    let split : least_texts (drawings_of old.steps state) ≡ text ++ least_texts later =
-    ap (λ (content : Content). least_texts (drawings_of content.steps state)) first ∙ texts_then step.number (drawing_of value.operation state) later in
-    rw (split, stepped, written, drawn) (sym (append_assoc before text (least_texts later)))
+  -- what is gathered up to the step, and the entries of all later ones
+  pub step_entries : (before now : List Entry) → now ≡ before ++ entry_if_drawn step.number drawing s → before ++ least_entries (drawings_of old.steps state) s ≡ now ++ least_entries (drawings_of new.steps after) s
+  step_entries before now gathered =
+      rw (split, gathered) (sym (append_assoc before (entry_if_drawn step.number drawing s) (least_entries (drawings_of new.steps after) s)))

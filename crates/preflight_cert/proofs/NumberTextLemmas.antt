@@ -1,5 +1,5 @@
 -- A number's bytes, and the number of bytes.
-use Rattle.std.proofs.Common.{◌≡◌, ℕ, ◌+◌, ◌*◌, ◌<◌, ◌≤◌, ◌^◌, ℤ, FitsSigned, List, [], ◌∷◌, ◌++◌, length, drop, arith, refl, ap, sym, ◌∙◌, w32, w64}
+use Rattle.std.proofs.Common.{◌≡◌, ℕ, ◌+◌, ◌*◌, ◌<◌, ◌≤◌, ◌^◌, ℤ, FitsSigned, List, [], ◌∷◌, ◌++◌, length, drop, arith, refl, ap, sym, ◌∙◌, w16, w32, w64}
 use Rattle.std.specs.Int.{cast_signed, cast_unsigned, to_le_bytes}
 use Rattle.std.proofs.lemmas.Int.{ints, of_z-to_z}
 use Rattle.std.proofs.lemmas.List.{drop-drop, get_or-drop, length-drop}
@@ -22,6 +22,10 @@ signed_fits n h = omega (arith, ints)
 
 pub signed_back : (v : ℤ) (rest : List ℕ) → FitsSigned w32 v → i32_at (number_text (cast_unsigned w32 v) ++ rest) 0 ≡ v
 signed_back v rest h = ap (cast_signed w32) (number_back (cast_unsigned w32 v) rest (unsigned_small v h)) ∙ signed_again v h
+
+-- the same of numbers of two bytes
+pub short_back : (n : ℕ) (rest : List ℕ) → n < 2 ^ 16 → number_at (to_le_bytes w16 n ++ rest) 0 2 ≡ n
+short_back n rest h = omega arith
 
 same_four : {a b c d x y z w : ℕ} {xs ys : List ℕ} → a ≡ x → b ≡ y → c ≡ z → d ≡ w → xs ≡ ys → (a ∷ b ∷ c ∷ d ∷ xs) ≡ (x ∷ y ∷ z ∷ w ∷ ys)
 same_four e f g h i = cc
@@ -67,6 +71,28 @@ module _ (place : ℕ) (bytes : List ℕ) (all : AreBytes bytes) where
   pub signed_number_again : (rest : List ℕ) → place + 4 ≤ length bytes → rest ≡ drop (place + 4) bytes → number_text (cast_unsigned w32 (i32_at bytes place)) ++ rest ≡ drop place bytes
   signed_number_again rest within e =
       ap (λ (n : ℕ). number_text n ++ rest) (of_z-to_z w32 (number_at bytes place 4) (number_small within)) ∙ number_again rest within e
+
+-- a number of two bytes
+same_two : {a b x y : ℕ} {xs ys : List ℕ} → a ≡ x → b ≡ y → xs ≡ ys → (a ∷ b ∷ xs) ≡ (x ∷ y ∷ ys)
+same_two e f g = cc
+
+digits_of_two : (a b : ℕ) (xs : List ℕ) → a < 256 → b < 256 → to_le_bytes w16 (a + 256 * (b + 256 * 0)) ++ xs ≡ a ∷ b ∷ xs
+digits_of_two a b xs p q = same_two (omega (arith, p, q)) (omega (arith, p, q)) refl
+
+two_again : (xs rest : List ℕ) → 2 ≤ length xs → AreBytes xs → rest ≡ drop 2 xs → to_le_bytes w16 (number_at xs 0 2) ++ rest ≡ xs
+two_again [] rest some bytes e = absurd (omega (arith, some))
+two_again (a ∷ []) rest some bytes e = absurd (omega (arith, some))
+two_again (a ∷ b ∷ xs) rest some bytes e =
+    let p : a < 256 = bytes 0 0 (omega arith) in
+    let q : b < 256 = bytes 1 0 (omega arith) in
+    ap (λ (ys : List ℕ). to_le_bytes w16 (number_at (a ∷ b ∷ xs) 0 2) ++ ys) e ∙ digits_of_two a b xs p q
+
+pub short_again :
+    (place : ℕ) (bytes rest : List ℕ) → AreBytes bytes → place + 2 ≤ length bytes → rest ≡ drop (place + 2) bytes
+    → to_le_bytes w16 (number_at bytes place 2) ++ rest ≡ drop place bytes
+short_again place bytes rest all within e =
+    let len = length-drop place bytes in
+    two_again (drop place bytes) rest (omega (arith, len, within)) (All-drop (λ byte. byte < 2 ^ 8) place bytes all) (e ∙ sym (drop-drop 2 place bytes))
 
 -- the number of eight bytes is that of two halves
 halves : (place : ℕ) (bytes : List ℕ) → number_at bytes place 8 ≡ number_at bytes place 4 + 4294967296 * number_at bytes (place + 4) 4

@@ -6,14 +6,16 @@ use Rattle.std.proofs.lemmas.Bool.{and_parts, true≢false, eqb-true}
 use Rattle.std.proofs.lemmas.Int.{ints, int_max_is, int_min_is}
 use Rattle.std.proofs.lemmas.List.Elements.{All-cons, All-head, All-nil, All-tail, All-weaker}
 use Rattle.mapping.specs.Boxes.{HasPoint, box_between}
+use Rattle.mapping.specs.Nibs.{nib_of}
 use Rattle.mapping.specs.PlacingLaws.{PlacingLaws, ShowsFrame}
 use Rattle.mapping.specs.Surface.{Surface, is_index, is_pixel, placed, placed_point}
 use Rattle.mapping.specs.declared.geometry.Point.{Point}
 use Rattle.mapping.specs.declared.geometry.Rect.{Rect}
+use Rattle.mapping.specs.declared.nib.Nib.{Nib}
 use Rattle.draw_ops.specs.declared.operation.RectangleEdges.{RectangleEdges}
 use Rattle.draw_ops.specs.declared.operation.RectangleEdges.TheVariants.{HalfOpen, Inclusive}
 use Rattle.span_fill.specs.Fill.{in_fill}
-use Rattle.span_fill.specs.Strokes.{in_stroke}
+use Rattle.span_fill.specs.WideStrokes.{WideStrokeLaws, in_wide_stroke, one_pixel, widened}
 use Rattle.span_fill.specs.declared.fill_rule.FillRule.{FillRule}
 use Rattle.span_fill.specs.declared.fill_rule.FillRule.TheVariants.{EvenOdd, NonZero}
 use Rattle.span_fill.specs.declared.line.Line.{Line}
@@ -25,7 +27,7 @@ use Rattle.preflight_cert.specs.Outlines.{closed_lines}
 use Rattle.mapping.specs.PixelBoxes.{BoxHasPixel, in_box, is_from_to}
 use Rattle.mapping.specs.TestLaws.{int_le-true, int_lt-true}
 use Rattle.preflight_cert.specs.Rectangles.{corner_pixels, has_inside, raised, rectangle_on}
-use Rattle.preflight_cert.specs.Shape.{Shape, fill_rule_of, in_shape, inside_figures, inside_rectangle, pixel_under, stroke_of}
+use Rattle.preflight_cert.specs.Shape.{Shape, fill_rule_of, in_shape, inside_figures, inside_rectangle, pixel_under, shape_nib, stroke_of}
 use Rattle.preflight_cert.specs.StrokedOutline.{Outline, along, outline_lines, outline_points, round}
 use Rattle.preflight_cert.proofs.OutlineLemmas.{BothEnds, ends_along, ends_closed, figures_balanced}
 
@@ -64,6 +66,12 @@ AreIn box s line = BothEnds (IsIn box s) line
 has_line : (box : Rect) (s : Surface) (line : Line) → AreIn box s line → HasLine (placed_box s box) line
 has_line box s line h = record { from = h.from.there; to = h.to.there }
 
+-- one pixel widens a box by nothing
+unwidened : (box : Rect) (x y : ℕ) → BoxHasPixel box x y → BoxHasPixel (widened one_pixel box) x y
+unwidened box x y h =
+    let l = h.left in let t = h.top in let r = h.right in let b = h.bottom in
+    record { left = omega (arith, ints, l); top = omega (arith, ints, t); right = omega (arith, ints, r); bottom = omega (arith, ints, b) }
+
 -- pixels of points and of rectangles
 module _ (box : Rect) (s : Surface) where
   -- a pixel on which a point lands
@@ -71,7 +79,7 @@ module _ (box : Rect) (s : Surface) where
   index_is (pos m) n t = ap pos (eqb-true m n t)
   index_is (negsuc m) n t = absurd (true≢false (sym t))
 
-  dot_reaches : (p : Point) (x y : ℕ) → IsIn box s p → is_pixel p x y ≡ true → Reaches box s x y
+  dot_reaches : (p : Point) (x y : ℕ) → IsIn box s p → is_pixel p x y ≡ true → Reaches one_pixel box s x y
   dot_reaches p x y h t =
       let parts = and_parts (is_index p.x x) (is_index p.y y) t in
       let column = index_is p.x x parts.0 in
@@ -80,7 +88,7 @@ module _ (box : Rect) (s : Surface) where
       record {
         wide = h.wide;
         high = h.high;
-        pixel = record { left = rw column at there.left; top = rw row at there.top; right = rw column at there.right; bottom = rw row at there.bottom };
+        pixel = unwidened (placed_box s box) x y (record { left = rw column at there.left; top = rw row at there.top; right = rw column at there.right; bottom = rw row at there.bottom });
       }
 
   -- the edges of a rectangle between two points
@@ -111,7 +119,7 @@ module _ (box : Rect) (s : Surface) where
       let b = high_edge (placed_box s box).b p.y q.y h.there.bottom k.there.bottom in
       by_edges p q edges l t r b
 
-  inside_reaches : (rectangle : Rect) (x y : ℕ) → box.l ≤ℤ box.r → box.t ≤ℤ box.b → IsRectangleIn rectangle → in_box rectangle x y ≡ true → Reaches box s x y
+  inside_reaches : (rectangle : Rect) (x y : ℕ) → box.l ≤ℤ box.r → box.t ≤ℤ box.b → IsRectangleIn rectangle → in_box rectangle x y ≡ true → Reaches one_pixel box s x y
   inside_reaches rectangle x y wide high h t =
       let parts = and_parts (is_from_to rectangle.l rectangle.r x) (is_from_to rectangle.t rectangle.b y) t in
       let columns = and_parts (int_le rectangle.l (pos x)) (int_lt (pos x) rectangle.r) parts.0 in
@@ -124,7 +132,7 @@ module _ (box : Rect) (s : Surface) where
       record {
         wide = wide;
         high = high;
-        pixel = record { left = omega (arith, ints, a, l); top = omega (arith, ints, c, u); right = omega (arith, ints, b, r); bottom = omega (arith, ints, d, v) };
+        pixel = unwidened (placed_box s box) x y (record { left = omega (arith, ints, a, l); top = omega (arith, ints, c, u); right = omega (arith, ints, b, r); bottom = omega (arith, ints, d, v) });
       }
 
   corner_in : (x y : ℤ) → box.l ≤ℤ box.r → box.t ≤ℤ box.b →
@@ -162,26 +170,27 @@ nothing_inside EvenOdd x y = refl
 nothing_inside NonZero x y = refl
 
 -- pixels of lines, and inside of them
-module _ (boxes : LineBoxLaws) (box : Rect) (s : Surface) where
+module _ (boxes : LineBoxLaws) (strokes : WideStrokeLaws) (box : Rect) (s : Surface) where
   -- a pixel of lines whose ends are so
-  reached : (line : Line) (lines : List Line) (x y : ℕ) → All (AreIn box s) (line ∷ lines) → BoxHasPixel (placed_box s box) x y → Reaches box s x y
-  reached line lines x y all pixel =
+  reached : (nib : Nib) (line : Line) (lines : List Line) (x y : ℕ) → All (AreIn box s) (line ∷ lines) → BoxHasPixel (widened nib (placed_box s box)) x y → Reaches nib box s x y
+  reached nib line lines x y all pixel =
       let h = All-head (AreIn box s) line lines all in record { wide = h.from.wide; high = h.from.high; pixel = pixel }
 
-  stroke_reaches : (lines : List Line) (x y : ℕ) → All (AreIn box s) lines → in_stroke lines x y ≡ true → Reaches box s x y
-  stroke_reaches [] x y all t = absurd (true≢false (sym t))
-  stroke_reaches (line ∷ lines) x y all t =
-      reached line lines x y all
-      (boxes.stroke (placed_box s box) (line ∷ lines) x y (All-weaker (AreIn box s) (HasLine (placed_box s box)) (has_line box s) (line ∷ lines) all) t)
+  stroke_reaches : (nib : Nib) (lines : List Line) (x y : ℕ) → All (AreIn box s) lines → in_wide_stroke nib lines x y ≡ true → Reaches nib box s x y
+  stroke_reaches nib [] x y all t = absurd (true≢false (sym t))
+  stroke_reaches nib (line ∷ lines) x y all t =
+      reached nib line lines x y all
+      (strokes.box nib (placed_box s box) (line ∷ lines) x y (All-weaker (AreIn box s) (HasLine (placed_box s box)) (has_line box s) (line ∷ lines) all) t)
 
-  fill_reaches : (rule : FillRule) (lines : List Line) (x y : ℕ) → IsBalanced lines → All (AreIn box s) lines → in_fill rule lines x y ≡ true → Reaches box s x y
+  fill_reaches : (rule : FillRule) (lines : List Line) (x y : ℕ) → IsBalanced lines → All (AreIn box s) lines → in_fill rule lines x y ≡ true → Reaches one_pixel box s x y
   fill_reaches rule [] x y balanced all t = absurd (true≢false (sym t ∙ nothing_inside rule x y))
   fill_reaches rule (line ∷ lines) x y balanced all t =
-      reached line lines x y all
-      (boxes.fill rule (placed_box s box) (line ∷ lines) x y balanced (All-weaker (AreIn box s) (HasLine (placed_box s box)) (has_line box s) (line ∷ lines) all) t)
+      reached one_pixel line lines x y all
+      (unwidened (placed_box s box) x y
+      (boxes.fill rule (placed_box s box) (line ∷ lines) x y balanced (All-weaker (AreIn box s) (HasLine (placed_box s box)) (has_line box s) (line ∷ lines) all) t))
 
 -- pixels of each shape
-module _ (placing : PlacingLaws) (boxes : LineBoxLaws) (box : Rect) (s : Surface) (shows : ShowsFrame s) where
+module _ (placing : PlacingLaws) (boxes : LineBoxLaws) (strokes : WideStrokeLaws) (box : Rect) (s : Surface) (shows : ShowsFrame s) where
   abbrev lands : (p : Point) → HasPoint box p → IsIn box s (placed_point p s)
   lands p h = point_lands placing s shows box p h
 
@@ -197,12 +206,13 @@ module _ (placing : PlacingLaws) (boxes : LineBoxLaws) (box : Rect) (s : Surface
       let a = lands p (All-head (HasPoint box) p (q ∷ []) all) in
       round_in box s (rectangle_on s p q edges) (has_inside (rectangle_on s p q edges)) a.wide a.high (between p q edges all) refl
 
-  pub shape_reaches : (shape : Shape) (x y : ℕ) → IsClosedShape shape → All (HasPoint box) (shape_points shape) → in_shape shape s x y ≡ true → Reaches box s x y
+  pub shape_reaches : (shape : Shape) (x y : ℕ) → IsClosedShape shape → All (HasPoint box) (shape_points shape) → in_shape shape s x y ≡ true → Reaches (shape_nib shape s) box s x y
   shape_reaches (pixel_under p) x y closed all t = dot_reaches box s (placed_point p s) x y (lands p (All-head (HasPoint box) p [] all)) t
   shape_reaches (inside_figures mode figures) x y closed all t =
-      fill_reaches boxes box s (fill_rule_of mode) (lines_along (placed_figures s figures)) x y (figures_balanced s figures closed)
+      fill_reaches boxes strokes box s (fill_rule_of mode) (lines_along (placed_figures s figures)) x y (figures_balanced s figures closed)
       (ends_along s (HasPoint box) (IsIn box s) lands figures all) t
   shape_reaches (inside_rectangle p q edges) x y closed all t =
       let a = lands p (All-head (HasPoint box) p (q ∷ []) all) in
       inside_reaches box s (rectangle_on s p q edges) x y a.wide a.high (between p q edges all) t
-  shape_reaches (stroke_of outline) x y closed all t = stroke_reaches boxes box s (outline_lines outline s) x y (outline_in outline all) t
+  shape_reaches (stroke_of width map outline) x y closed all t =
+      stroke_reaches boxes strokes box s (nib_of width map s) (outline_lines outline s) x y (outline_in outline all) t

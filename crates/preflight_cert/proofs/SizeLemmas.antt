@@ -24,11 +24,11 @@ module _ (faults : FaultLaws) (boxes : DrawingBoxLaws) (smaller larger : Surface
       let rest = unstopped steps behind (next step.operation state) (none_later _ _ _ h) in
       rw (here, rest) refl
 
-  few : (drawings : List NumberedDrawing) (entries : List Entry) → AreCovered drawings entries → writes_after drawings smaller ≤ budget_of drawings entries larger
+  few : (drawings : List NumberedDrawing) (entries : List Entry) → AreCovered drawings entries larger → writes_after drawings smaller ≤ budget_of drawings entries larger
   few [] entries covered = omega arith
   few (one ∷ later) [] covered = absurd covered
   few (one ∷ later) (entry ∷ entries) covered =
-      let first = boxes.drawing one.drawing entry.bounds smaller larger shows no_larger covered.0.box in
+      let first = boxes.drawing one.drawing entry.nib entry.bounds smaller larger shows no_larger covered.0.nib covered.0.box in
       let rest = few later entries covered.1 in omega (arith, first, rest)
 
 pub size_laws : FaultLaws → DrawingBoxLaws → SizeLaws

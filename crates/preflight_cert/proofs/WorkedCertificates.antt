@@ -1,20 +1,25 @@
--- The certificate of one triangle, byte by byte, and what bytes next to it are refused by.
+-- The certificate of one triangle, byte by byte, and what bytes next to it are refused by; and one of a wide line, with its nib.
 use Rattle.std.proofs.Common.{◌≡◌, ℕ, pos, List, [], ◌∷◌, ◌++◌, take, Ok, Err, refl}
 use Rattle.std.specs.Prelude.{codes}
+use Rattle.mapping.specs.declared.nib.Nib.{Nib}
 use Rattle.draw_ops.specs.declared.fault.Fault.TheVariants.{BadBound, NotCertificate, ShortCertificate, TrailingBytes}
 use Rattle.dc_stack.specs.Drawing.{edge_limit}
 use Rattle.dc_stack.specs.Path.{piece_limit}
-use Rattle.preflight_cert.specs.CertificateReading.{CertificateValue, entry_limit, mark, read_certificate}
+use Rattle.span_fill.specs.WideStrokes.{one_pixel}
+use Rattle.preflight_cert.specs.CertificateReading.{CertificateValue, entry_limit, mark_of, read_certificate}
 use Rattle.preflight_cert.specs.CertificateText.{certificate_text}
+use Rattle.preflight_cert.specs.declared.version.Version.{Version}
+use Rattle.preflight_cert.specs.declared.version.Version.TheVariants.{Mpc1, Mpc2}
 
 -- surfaces of at most 4 by 4, at most 32 pixels, a drawing of 3 points, and one entry: the box of record 0
 abbrev triangle : CertificateValue
 triangle = record {
+  version = Mpc1;
   max_width = 4;
   max_height = 4;
   writes = 32;
   needs = record { depth = 0; slots = 0; edges = 3; pieces = 0 };
-  entries = record { number = 0; bounds = record { l = pos 0; t = pos 0; r = pos 4; b = pos 4 } } ∷ [];
+  entries = record { number = 0; bounds = record { l = pos 0; t = pos 0; r = pos 4; b = pos 4 }; nib = one_pixel } ∷ [];
 }
 
 -- a number in four bytes, where the lowest is enough
@@ -39,27 +44,75 @@ triangle_text : certificate_text triangle ≡ bytes
 triangle_text = refl
 
 triangle_read : read_certificate bytes ≡ Ok triangle
-unfolding mark edge_limit piece_limit entry_limit
+unfolding mark_of edge_limit piece_limit entry_limit
 triangle_read = refl
 
 -- one byte less, and one more
 short_text : read_certificate (take 59 bytes) ≡ Err ShortCertificate
-unfolding mark edge_limit piece_limit entry_limit
+unfolding mark_of edge_limit piece_limit entry_limit
 short_text = refl
 
 short_head : read_certificate (take 39 bytes) ≡ Err ShortCertificate
-unfolding mark
+unfolding mark_of
 short_head = refl
 
 trailing_byte : read_certificate (bytes ++ 0 ∷ []) ≡ Err TrailingBytes
-unfolding mark edge_limit piece_limit entry_limit
+unfolding mark_of edge_limit piece_limit entry_limit
 trailing_byte = refl
 
--- a side of 0, and another mark
+-- a side of 0, the later version's mark, whose entry takes four bytes more, and another mark
 no_height : read_certificate (bytes_with (codes "MPC1") 0) ≡ Err BadBound
-unfolding mark
+unfolding mark_of
 no_height = refl
 
-other_mark : read_certificate (bytes_with (codes "MPC2") 4) ≡ Err NotCertificate
-unfolding mark
+later_mark : read_certificate (bytes_with (codes "MPC2") 4) ≡ Err ShortCertificate
+unfolding mark_of edge_limit piece_limit entry_limit
+later_mark = refl
+
+other_mark : read_certificate (bytes_with (codes "MPC3") 4) ≡ Err NotCertificate
+unfolding mark_of
 other_mark = refl
+
+-- surfaces of at most 8 by 8, at most 21 pixels, one object, a drawing of 2 points, and one entry: the box of record 3, and a nib
+abbrev line_with : Version → Nib → CertificateValue
+line_with version nib = record {
+  version = version;
+  max_width = 8;
+  max_height = 8;
+  writes = 21;
+  needs = record { depth = 0; slots = 1; edges = 2; pieces = 0 };
+  entries = record { number = 3; bounds = record { l = pos 2; t = pos 4; r = pos 6; b = pos 4 }; nib = nib } ∷ [];
+}
+
+-- its bytes, with this mark, and with these of a nib
+abbrev line_bytes : List ℕ → List ℕ → List ℕ
+line_bytes marked nib =
+    marked ++ small 8 ++ small 8 ++ 21 ∷ 0 ∷ 0 ∷ 0 ∷ 0 ∷ 0 ∷ 0 ∷ 0 ∷ small 0 ++ small 1 ++ small 2 ++ small 0 ++ small 1
+    ++ small 3 ++ small 2 ++ small 4 ++ small 6 ++ small 4 ++ nib
+
+abbrev wide_line : CertificateValue
+wide_line = line_with Mpc2 (record { x = 3; y = 3 })
+
+abbrev wide_bytes : List ℕ
+wide_bytes = line_bytes (0x4d ∷ 0x50 ∷ 0x43 ∷ 0x32 ∷ []) (3 ∷ 0 ∷ 3 ∷ 0 ∷ [])
+
+-- a nib of three columns and three rows is written so, and read back
+wide_text : certificate_text wide_line ≡ wide_bytes
+wide_text = refl
+
+wide_read : read_certificate wide_bytes ≡ Ok wide_line
+unfolding mark_of edge_limit piece_limit entry_limit
+wide_read = refl
+
+-- one without a column is refused
+no_column : read_certificate (line_bytes (codes "MPC2") (0 ∷ 0 ∷ 3 ∷ 0 ∷ [])) ≡ Err BadBound
+unfolding mark_of edge_limit piece_limit entry_limit
+no_column = refl
+
+-- in the earlier version the line has no nib of its own
+thin_read : read_certificate (line_bytes (codes "MPC1") []) ≡ Ok (line_with Mpc1 one_pixel)
+unfolding mark_of edge_limit piece_limit entry_limit
+thin_read = refl
+
+thin_text : certificate_text (line_with Mpc1 one_pixel) ≡ line_bytes (codes "MPC1") []
+thin_text = refl

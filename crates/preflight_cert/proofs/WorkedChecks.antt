@@ -7,13 +7,16 @@ use Rattle.mapping.specs.Surface.{Surface}
 use Rattle.mapping.specs.declared.geometry.Point.{Point}
 use Rattle.draw_ops.specs.Content.{StepValue}
 use Rattle.draw_ops.specs.NoteCounts.{no_notes}
-use Rattle.draw_ops.specs.Operation.{Operation, line_to, no_effect, pixel}
+use Rattle.draw_ops.specs.Objects.{pen_object}
+use Rattle.draw_ops.specs.Operation.{Operation, create, line_to, no_effect, pixel, select}
+use Rattle.draw_ops.specs.declared.objects.Pen.TheVariants.{Solid}
 use Rattle.draw_ops.specs.declared.record_fault.RecordFault.{RecordFault}
-use Rattle.draw_ops.specs.declared.record_fault.RecordFault.TheVariants.{BoxTooSmall, NoEnd, OffPlane, WrongEntry}
+use Rattle.draw_ops.specs.declared.record_fault.RecordFault.TheVariants.{BoxTooSmall, NibTooSmall, NibTooWide, NoEnd, OffPlane, WrongEntry}
 use Rattle.object_tables.specs.Table.{by_lowest_free}
 use Rattle.dc_stack.specs.Drawing.{edge_limit}
 use Rattle.dc_stack.specs.Path.{piece_limit}
 use Rattle.dc_stack.specs.State.{State, start_state}
+use Rattle.span_fill.specs.WideStrokes.{one_pixel}
 use Rattle.preflight_cert.specs.Checked.{check_of}
 use Rattle.preflight_cert.specs.Stop.{Stop, stop_at}
 use Rattle.preflight_cert.specs.declared.entry.Entry.{Entry}
@@ -35,7 +38,7 @@ abbrev steps : List StepValue
 steps = step 0 (pixel (at (pos 2) (pos 1)) black_colour) ∷ step 1 (line_to (at (pos 3) (pos 0))) ∷ step 2 no_effect ∷ []
 
 abbrev entry : ℕ → ℤ → ℤ → ℤ → ℤ → Entry
-entry number l t r b = record { number = number; bounds = record { l = l; t = t; r = r; b = b } }
+entry number l t r b = record { number = number; bounds = record { l = l; t = t; r = r; b = b }; nib = one_pixel }
 
 abbrev dot_entry : Entry
 dot_entry = entry 0 (pos 2) (pos 1) (pos 2) (pos 1)
@@ -81,3 +84,39 @@ end_of_file = refl
 off_before_entry : check_of (record { steps = step 0 (line_to (at (pos 2000000000) (pos 0))) ∷ []; fault = None }) start four [] ≡ Some (stop_at 0 OffPlane)
 unfolding plane_limit place_limit edge_limit piece_limit
 off_before_entry = refl
+
+-- a pen of this width is made and selected, and draws a line to (3, 0): record 2
+abbrev wide_steps : ℕ → List StepValue
+wide_steps width = step 0 (create None (pen_object (Solid width black_colour))) ∷ step 1 (select 0) ∷ step 2 (line_to (at (pos 3) (pos 0))) ∷ []
+
+-- where they stop, beside an entry with this box and nib
+abbrev wide_stop : ℕ → ℤ → ℕ → ℕ → Option Stop
+wide_stop width right x y =
+    check_of (record { steps = wide_steps width; fault = None }) start four
+    (record { number = 2; bounds = record { l = pos 0; t = pos 0; r = right; b = pos 0 }; nib = record { x = x; y = y } } ∷ [])
+
+nib_of_its_own : wide_stop 3 (pos 3) 3 3 ≡ None
+unfolding plane_limit place_limit edge_limit piece_limit
+nib_of_its_own = refl
+
+nib_larger : wide_stop 3 (pos 3) 4 3 ≡ None
+unfolding plane_limit place_limit edge_limit piece_limit
+nib_larger = refl
+
+nib_too_low : wide_stop 3 (pos 3) 3 2 ≡ Some (stop_at 2 NibTooSmall)
+unfolding plane_limit place_limit edge_limit piece_limit
+nib_too_low = refl
+
+nib_too_narrow : wide_stop 3 (pos 3) 2 3 ≡ Some (stop_at 2 NibTooSmall)
+unfolding plane_limit place_limit edge_limit piece_limit
+nib_too_narrow = refl
+
+-- the box comes first
+box_before_nib : wide_stop 3 (pos 2) 1 1 ≡ Some (stop_at 2 BoxTooSmall)
+unfolding plane_limit place_limit edge_limit piece_limit
+box_before_nib = refl
+
+-- and the record's own fault before both
+too_wide : wide_stop 4097 (pos 2) 1 1 ≡ Some (stop_at 2 NibTooWide)
+unfolding plane_limit place_limit edge_limit piece_limit
+too_wide = refl

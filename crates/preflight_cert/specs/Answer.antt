@@ -33,7 +33,7 @@ file_budget content o c = budget_of (drawings_of content.steps (start_of o)) c.e
 -- are at least theirs.
 pub record Fits (c : CertificateValue) (o : OpenedValue) (content : Content) : Type 0 where
   pub unstopped : stop_of content (start_of o) (bound_of o c) ≡ None
-  pub covered : AreCovered (drawings_of content.steps (start_of o)) c.entries
+  pub covered : AreCovered (drawings_of content.steps (start_of o)) c.entries (bound_of o c)
   pub needs : AreWithin (file_needs content o) c.needs
   pub budget : file_budget content o c ≤ c.writes
 

@@ -6,6 +6,7 @@ use Rattle.preflight_cert.specs.declared.certificate.Certificate.{Certificate}
 -- its parts, each by its value
 abbrev pub certificate_of : Certificate → CertificateValue
 certificate_of c = record {
+  version = c.entries.version;
   max_width = c.max_width;
   max_height = c.max_height;
   writes = c.writes;

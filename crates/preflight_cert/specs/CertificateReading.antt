@@ -1,6 +1,9 @@
 -- The bytes of a certificate, and what they say.
-use Rattle.std.specs.Prelude.{◌<◌, ◌≤◌, ℕ, zero, suc, ◌+◌, ◌*◌, ◌^◌, Bool, ◌&&◌, ◌||◌, ◌==◌, not, nat_le, nat_lt, if◌then◌else◌, List, [], ◌∷◌, length, drop, codes, Result, Ok, Err}
+use Rattle.std.specs.Prelude.{ℕ, zero, suc, ◌+◌, ◌*◌, Bool, ◌&&◌, ◌==◌, not, nat_le, nat_lt, if◌then◌else◌, List, [], ◌∷◌, length, drop, codes, Option, Some, None, Result, Ok, Err}
+use Rattle.std.specs.List.{list_all}
 use Rattle.mapping.specs.Limits.{is_surface_side}
+use Rattle.mapping.specs.Nibs.{is_nib}
+use Rattle.mapping.specs.declared.nib.Nib.{Nib}
 use Rattle.point_views.specs.Numbers.{i32_at, number_at}
 use Rattle.draw_ops.specs.declared.fault.Fault.{Fault}
 use Rattle.draw_ops.specs.declared.fault.Fault.TheVariants.{BadBound, NotCertificate, ShortCertificate, TrailingBytes}
@@ -8,10 +11,14 @@ use Rattle.dc_stack.specs.Drawing.{edge_limit}
 use Rattle.dc_stack.specs.Path.{piece_limit}
 use Rattle.dc_stack.specs.SavedStates.{depth_limit}
 use Rattle.dc_stack.specs.declared.needs.Needs.{Needs}
+use Rattle.span_fill.specs.WideStrokes.{one_pixel}
 use Rattle.preflight_cert.specs.declared.entry.Entry.{Entry}
+use Rattle.preflight_cert.specs.declared.version.Version.{Version}
+use Rattle.preflight_cert.specs.declared.version.Version.TheVariants.{Mpc1, Mpc2}
 
--- a certificate: the longest sides of a surface, the most pixels written, what is needed, and an entry for each drawing
+-- a certificate: its version, the longest sides of a surface, the most pixels written, what is needed, and an entry for each drawing
 pub record CertificateValue : Type 0 where
+  pub version : Version
   pub max_width : ℕ
   pub max_height : ℕ
   pub writes : ℕ
@@ -19,8 +26,13 @@ pub record CertificateValue : Type 0 where
   pub entries : List Entry
 
 -- the first four bytes of a certificate, as a number
-unfoldable pub mark : ℕ
-mark = number_at (codes "MPC1") 0 4
+unfoldable pub mark_of : Version → ℕ
+mark_of Mpc1 = number_at (codes "MPC1") 0 4
+mark_of Mpc2 = number_at (codes "MPC2") 0 4
+
+-- the version that begins with a number
+abbrev pub version_of : ℕ → Option Version
+version_of n = if n == mark_of Mpc1 then Some Mpc1 else (if n == mark_of Mpc2 then Some Mpc2 else None)
 
 -- the most slots of objects that a certificate may tell
 abbrev pub slot_limit : ℕ
@@ -34,14 +46,10 @@ entry_limit = 1048576
 abbrev pub head_size : ℕ
 head_size = 40
 
--- how many bytes an entry takes: a number and a box
-abbrev pub entry_size : ℕ
-entry_size = 20
-
--- entries may have this size: at least a number and a box, and so little that the size of a certificate can be counted
-pub record IsEntrySize (size : ℕ) : Type 0 where
-  pub least : entry_size ≤ size
-  pub few : size < 2 ^ 16
+-- how many bytes an entry takes: a number and a box, and in the later version a nib
+abbrev pub entry_size : Version → ℕ
+entry_size Mpc1 = 20
+entry_size Mpc2 = 24
 
 -- how many entries there are to be
 abbrev pub count_in : List ℕ → ℕ
@@ -56,17 +64,27 @@ needs_in bytes = record {
   pieces = number_at bytes 32 4;
 }
 
--- the entry in the first bytes: a record's number, and a box
-abbrev pub first_entry : List ℕ → Entry
-first_entry bytes = record {
+-- the nib in an entry's bytes: one pixel where they have none
+abbrev pub nib_in : Version → List ℕ → Nib
+nib_in Mpc1 bytes = one_pixel
+nib_in Mpc2 bytes = record { x = number_at bytes 20 2; y = number_at bytes 22 2 }
+
+-- the entry in the first bytes: a record's number, a box, and a nib
+abbrev pub first_entry : Version → List ℕ → Entry
+first_entry version bytes = record {
   number = number_at bytes 0 4;
   bounds = record { l = i32_at bytes 4; t = i32_at bytes 8; r = i32_at bytes 12; b = i32_at bytes 16 };
+  nib = nib_in version bytes;
 }
 
--- so many entries, one after another, each of so many bytes
-abbrev pub entries_in : ℕ → ℕ → List ℕ → List Entry
-entries_in size zero bytes = []
-entries_in size (suc n) bytes = first_entry bytes ∷ entries_in size n (drop size bytes)
+-- so many entries, one after another
+abbrev pub entries_in : Version → ℕ → List ℕ → List Entry
+entries_in version zero bytes = []
+entries_in version (suc n) bytes = first_entry version bytes ∷ entries_in version n (drop (entry_size version) bytes)
+
+-- the nib of each entry has no more columns and rows than it may
+abbrev pub have_nibs : List Entry → Bool
+have_nibs entries = list_all (λ (entry : Entry). is_nib entry.nib) entries
 
 -- needs are within their limits
 abbrev pub are_bounded_needs : Needs → Bool
@@ -80,29 +98,38 @@ is_bounded bytes =
     is_surface_side (number_at bytes 4 4) && is_surface_side (number_at bytes 8 4) && are_bounded_needs (needs_in bytes)
     && nat_le (count_in bytes) entry_limit
 
--- what the bytes of a whole certificate say, whose entries have this size
-abbrev pub value_in : ℕ → List ℕ → CertificateValue
-value_in size bytes = record {
+-- what the bytes of a whole certificate say
+abbrev pub value_in : Version → List ℕ → CertificateValue
+value_in version bytes = record {
+  version = version;
   max_width = number_at bytes 4 4;
   max_height = number_at bytes 8 4;
   writes = number_at bytes 12 8;
   needs = needs_in bytes;
-  entries = entries_in size (count_in bytes) (drop head_size bytes);
+  entries = entries_in version (count_in bytes) (drop head_size bytes);
 }
 
 -- how many bytes a certificate has with the entries that it tells
-abbrev pub whole_size : ℕ → List ℕ → ℕ
-whole_size size bytes = head_size + size * count_in bytes
+abbrev pub whole_size : Version → List ℕ → ℕ
+whole_size version bytes = head_size + entry_size version * count_in bytes
+
+-- what a certificate says whose entries' nibs are within their limits
+abbrev pub with_nibs : CertificateValue → Result CertificateValue Fault
+with_nibs c = if have_nibs c.entries then Ok c else Err BadBound
 
 -- what the bytes say, if they end where the entries do
-abbrev pub read_whole : ℕ → List ℕ → Result CertificateValue Fault
-read_whole size bytes =
-    if nat_lt (length bytes) (whole_size size bytes) then Err ShortCertificate
-    else (if nat_lt (whole_size size bytes) (length bytes) then Err TrailingBytes else Ok (value_in size bytes))
+abbrev pub read_whole : Version → List ℕ → Result CertificateValue Fault
+read_whole version bytes =
+    if nat_lt (length bytes) (whole_size version bytes) then Err ShortCertificate
+    else (if nat_lt (whole_size version bytes) (length bytes) then Err TrailingBytes else with_nibs (value_in version bytes))
+
+-- the first fault of bytes behind the first four, or what they say
+abbrev pub read_version : Option Version → List ℕ → Result CertificateValue Fault
+read_version None bytes = Err NotCertificate
+read_version (Some version) bytes =
+    if nat_lt (length bytes) head_size then Err ShortCertificate
+    else (if not (is_bounded bytes) then Err BadBound else read_whole version bytes)
 
 -- the first fault of a certificate's bytes, or what they say
 abbrev pub read_certificate : List ℕ → Result CertificateValue Fault
-read_certificate bytes =
-    if nat_lt (length bytes) 4 || not (number_at bytes 0 4 == mark) then Err NotCertificate
-    else (if nat_lt (length bytes) head_size then Err ShortCertificate
-    else (if not (is_bounded bytes) then Err BadBound else read_whole entry_size bytes))
+read_certificate bytes = if nat_lt (length bytes) 4 then Err NotCertificate else read_version (version_of (number_at bytes 0 4)) bytes

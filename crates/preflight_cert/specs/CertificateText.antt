@@ -1,11 +1,14 @@
 -- The bytes of a certificate.
-use Rattle.std.specs.Prelude.{ℕ, List, ◌++◌, length, codes}
-use Rattle.std.specs.Int.{w32, w64, cast_unsigned, to_le_bytes}
+use Rattle.std.specs.Prelude.{ℕ, List, [], ◌++◌, length, codes}
+use Rattle.std.specs.Int.{w16, w32, w64, cast_unsigned, to_le_bytes}
 use Rattle.std.specs.List.{flat_map}
 use Rattle.mapping.specs.declared.geometry.Rect.{Rect}
+use Rattle.mapping.specs.declared.nib.Nib.{Nib}
 use Rattle.dc_stack.specs.declared.needs.Needs.{Needs}
 use Rattle.preflight_cert.specs.CertificateReading.{CertificateValue}
 use Rattle.preflight_cert.specs.declared.entry.Entry.{Entry}
+use Rattle.preflight_cert.specs.declared.version.Version.{Version}
+use Rattle.preflight_cert.specs.declared.version.Version.TheVariants.{Mpc1, Mpc2}
 
 -- a number in four bytes, the lowest first
 abbrev pub number_text : ℕ → List ℕ
@@ -17,9 +20,19 @@ box_text box =
     number_text (cast_unsigned w32 box.l) ++ (number_text (cast_unsigned w32 box.t)
     ++ (number_text (cast_unsigned w32 box.r) ++ number_text (cast_unsigned w32 box.b)))
 
--- an entry: the number of its record, and its box
-abbrev pub entry_text : Entry → List ℕ
-entry_text entry = number_text entry.number ++ box_text entry.bounds
+-- a nib: its columns and its rows, each in two bytes, where entries have one
+abbrev pub nib_text : Version → Nib → List ℕ
+nib_text Mpc1 nib = []
+nib_text Mpc2 nib = to_le_bytes w16 nib.x ++ to_le_bytes w16 nib.y
+
+-- an entry: the number of its record, its box, and its nib
+abbrev pub entry_text : Version → Entry → List ℕ
+entry_text version entry = number_text entry.number ++ (box_text entry.bounds ++ nib_text version entry.nib)
+
+-- the first four bytes
+abbrev pub mark_text : Version → List ℕ
+mark_text Mpc1 = codes "MPC1"
+mark_text Mpc2 = codes "MPC2"
 
 -- the numbers of needs, in front of what follows
 abbrev pub needs_text : Needs → List ℕ → List ℕ
@@ -27,12 +40,23 @@ needs_text needs behind =
     number_text needs.depth ++ (number_text needs.slots
     ++ (number_text needs.edges ++ (number_text needs.pieces ++ behind)))
 
+-- the numbers of a certificate but its version and its entries
+pub record HeadValue : Type 0 where
+  pub max_width : ℕ
+  pub max_height : ℕ
+  pub writes : ℕ
+  pub needs : Needs
+
 -- the mark, the sides, the most pixels written, the needs and the number of entries, in front of the entries' bytes
-abbrev pub text_with : ℕ → ℕ → ℕ → Needs → ℕ → List ℕ → List ℕ
-text_with max_width max_height writes needs count entries =
-    codes "MPC1" ++ (number_text max_width ++ (number_text max_height
-    ++ (to_le_bytes w64 writes ++ needs_text needs (number_text count ++ entries))))
+abbrev pub text_with : Version → HeadValue → ℕ → List ℕ → List ℕ
+text_with version head count entries =
+    mark_text version ++ (number_text head.max_width ++ (number_text head.max_height
+    ++ (to_le_bytes w64 head.writes ++ needs_text head.needs (number_text count ++ entries))))
+
+-- the numbers of a certificate
+abbrev pub head_of : CertificateValue → HeadValue
+head_of c = record { max_width = c.max_width; max_height = c.max_height; writes = c.writes; needs = c.needs }
 
 -- the bytes of a certificate
 abbrev pub certificate_text : CertificateValue → List ℕ
-certificate_text c = text_with c.max_width c.max_height c.writes c.needs (length c.entries) (flat_map entry_text c.entries)
+certificate_text c = text_with c.version (head_of c) (length c.entries) (flat_map (entry_text c.version) c.entries)

@@ -22,7 +22,7 @@ left_over count (entry ∷ entries) = Some (stop_at (count - 1) WrongEntry)
 abbrev pub checked : List StepValue → Option Stop → ℕ → State → Surface → List Entry → Option Stop
 checked [] behind count state s entries = option_or behind (left_over count entries)
 checked (step ∷ steps) behind count state s entries =
-    stopped_or step.number (option_or (fault_of step.operation state s) (entry_fault step.number (drawing_of step.operation state) entries))
+    stopped_or step.number (option_or (fault_of step.operation state s) (entry_fault step.number (drawing_of step.operation state) entries s))
     (checked steps behind count (next step.operation state) s (entries_behind (drawing_of step.operation state) entries))
 
 -- where a content stops that is checked against entries

@@ -2,18 +2,21 @@
 use Rattle.std.specs.Prelude.{◌≡◌, ◌≤◌, ℕ, ◌≤ℤ◌, true, List, [], ◌∷◌}
 use Rattle.std.specs.List.{All}
 use Rattle.mapping.specs.Boxes.{HasPoint}
+use Rattle.mapping.specs.Nibs.{CoversNib}
 use Rattle.mapping.specs.PlacingLaws.{IsNoLarger, ShowsFrame}
 use Rattle.mapping.specs.Surface.{Surface}
 use Rattle.mapping.specs.declared.geometry.Point.{Point}
 use Rattle.mapping.specs.declared.geometry.Rect.{Rect}
+use Rattle.mapping.specs.declared.nib.Nib.{Nib}
 use Rattle.dc_stack.specs.Clip.{placed_box}
-use Rattle.dc_stack.specs.Drawing.{Drawing, drawing_points}
+use Rattle.dc_stack.specs.Drawing.{Drawing, drawing_nib, drawing_points}
 use Rattle.dc_stack.specs.Figures.{Figure, points_of_figures}
 use Rattle.preflight_cert.specs.Budget.{drawing_cells}
 use Rattle.preflight_cert.specs.Layer.{layers_of}
 use Rattle.mapping.specs.PixelBoxes.{BoxHasPixel}
-use Rattle.preflight_cert.specs.Shape.{Shape, in_shape, inside_figures, inside_rectangle, pixel_under, stroke_of}
+use Rattle.preflight_cert.specs.Shape.{Shape, in_shape, inside_figures, inside_rectangle, pixel_under, shape_nib, stroke_of}
 use Rattle.preflight_cert.specs.StrokedOutline.{outline_points}
+use Rattle.span_fill.specs.WideStrokes.{widened}
 use Rattle.preflight_cert.specs.Writes.{writes_of_layers}
 
 -- the points of the plane by which a shape is told
@@ -21,7 +24,7 @@ abbrev pub shape_points : Shape → List Point
 shape_points (pixel_under point) = point ∷ []
 shape_points (inside_figures mode figures) = points_of_figures figures
 shape_points (inside_rectangle p q edges) = p ∷ q ∷ []
-shape_points (stroke_of outline) = outline_points outline
+shape_points (stroke_of width map outline) = outline_points outline
 
 -- a figure is closed
 abbrev pub IsClosedFigure : Figure → Type 0
@@ -32,21 +35,23 @@ abbrev pub IsClosedShape : Shape → Type 0
 IsClosedShape (pixel_under point) = Unit
 IsClosedShape (inside_figures mode figures) = All IsClosedFigure figures
 IsClosedShape (inside_rectangle p q edges) = Unit
-IsClosedShape (stroke_of outline) = Unit
+IsClosedShape (stroke_of width map outline) = Unit
 
--- a box of the plane has a point, and where it lands it has the pixel
-pub record Reaches (box : Rect) (s : Surface) (x y : ℕ) : Type 0 where
+-- a box of the plane has a point, and where it lands, widened by a nib, it has the pixel
+pub record Reaches (nib : Nib) (box : Rect) (s : Surface) (x y : ℕ) : Type 0 where
   pub wide : box.l ≤ℤ box.r
   pub high : box.t ≤ℤ box.b
-  pub pixel : BoxHasPixel (placed_box s box) x y
+  pub pixel : BoxHasPixel (widened nib (placed_box s box)) x y
 
--- A shape that isn't the inside of open figures has pixels only where a box that has its points lands. So a drawing writes at most its layers'
--- budget by such a box, on this surface and on each that is no larger.
+-- A shape that isn't the inside of open figures has pixels only where a box that has its points lands, widened by the shape's nib. So a drawing
+-- writes at most its layers' budget by such a box and by a nib that isn't smaller than the drawing's, on this surface and on each that is no
+-- larger.
 pub record DrawingBoxLaws : Type 0 where
   pub shape :
       (shape : Shape) (box : Rect) (s : Surface) (x y : ℕ) → ShowsFrame s → IsClosedShape shape → All (HasPoint box) (shape_points shape)
-      → in_shape shape s x y ≡ true → Reaches box s x y
+      → in_shape shape s x y ≡ true → Reaches (shape_nib shape s) box s x y
   pub drawing :
-      (drawing : Drawing) (box : Rect) (smaller larger : Surface) → ShowsFrame larger → IsNoLarger smaller larger
+      (drawing : Drawing) (nib : Nib) (box : Rect) (smaller larger : Surface) → ShowsFrame larger → IsNoLarger smaller larger
+      → CoversNib nib (drawing_nib drawing larger)
       → All (HasPoint box) (drawing_points drawing)
-      → writes_of_layers (layers_of drawing) smaller 0 smaller.height ≤ drawing_cells drawing box larger
+      → writes_of_layers (layers_of drawing) smaller 0 smaller.height ≤ drawing_cells drawing nib box larger

@@ -1,9 +1,9 @@
 -- The entries that a view shows.
 use Rattle.std.specs.Prelude.{◌/◌, List, length}
-use Rattle.preflight_cert.specs.CertificateReading.{entries_in}
+use Rattle.preflight_cert.specs.CertificateReading.{entries_in, entry_size}
 use Rattle.preflight_cert.specs.declared.entry.Entries.{Entries}
 use Rattle.preflight_cert.specs.declared.entry.Entry.{Entry}
 
 -- all in its bytes
 abbrev pub entries_of : Entries → List Entry
-entries_of entries = entries_in entries.entry_size (length entries.bytes.now / entries.entry_size) entries.bytes.now
+entries_of entries = entries_in entries.version (length entries.bytes.now / entry_size entries.version) entries.bytes.now

@@ -1,17 +1,16 @@
 -- What is gathered of records for a certificate, record by record.
 use Rattle.std.specs.Prelude.{◌≡◌, ℕ, List, [], ◌∷◌, ◌++◌, length, map, Option, Some, None}
 use Rattle.std.specs.Int.{int_max, int_min}
-use Rattle.std.specs.List.{All, flat_map}
+use Rattle.std.specs.List.{All}
 use Rattle.mapping.specs.Boxes.{point_box, no_box}
 use Rattle.mapping.specs.Surface.{Surface}
 use Rattle.mapping.specs.declared.geometry.Point.{Point}
 use Rattle.mapping.specs.declared.geometry.Rect.{Rect}
 use Rattle.draw_ops.specs.Content.{Content}
-use Rattle.dc_stack.specs.Drawing.{Drawing, drawing_points}
+use Rattle.dc_stack.specs.Drawing.{Drawing, drawing_nib, drawing_points}
 use Rattle.dc_stack.specs.MachineState.{MachineState}
 use Rattle.preflight_cert.specs.After.{needs_after, notes_after}
 use Rattle.preflight_cert.specs.Budget.{drawing_cells}
-use Rattle.preflight_cert.specs.CertificateText.{entry_text}
 use Rattle.preflight_cert.specs.Drawings.{NumberedDrawing, drawings_of}
 use Rattle.preflight_cert.specs.Entries.{budget_of}
 use Rattle.preflight_cert.specs.Refusal.{TellsStop}
@@ -19,6 +18,7 @@ use Rattle.preflight_cert.specs.Stop.{stop_of}
 use Rattle.preflight_cert.specs.TextLaws.{IsEntry}
 use Rattle.preflight_cert.specs.declared.entry.Entry.{Entry}
 use Rattle.preflight_cert.specs.declared.refusal.Refusal.{Refusal}
+use Rattle.preflight_cert.specs.declared.version.Version.TheVariants.{Mpc2}
 use Rattle.preflight_cert.specs.declared.walk.Totals.{Totals}
 
 -- the box around two others
@@ -40,46 +40,37 @@ abbrev pub least_box : List Point → Rect
 least_box [] = no_box
 least_box (point ∷ points) = box_around (point_box point) points
 
--- the entry of a drawing, with the least box around its points
-abbrev pub least_entry : NumberedDrawing → Entry
-least_entry one = record { number = one.number; bounds = least_box (drawing_points one.drawing) }
+-- the entry of a drawing on a surface, with the least box around its points, and its nib
+abbrev pub least_entry : NumberedDrawing → Surface → Entry
+least_entry one s = record { number = one.number; bounds = least_box (drawing_points one.drawing); nib = drawing_nib one.drawing s }
 
 -- the entries of drawings
-abbrev pub least_entries : List NumberedDrawing → List Entry
-least_entries drawings = map least_entry drawings
-
--- their texts
-abbrev pub least_texts : List NumberedDrawing → List ℕ
-least_texts drawings = flat_map entry_text (least_entries drawings)
+abbrev pub least_entries : List NumberedDrawing → Surface → List Entry
+least_entries drawings s = map (λ (one : NumberedDrawing). least_entry one s) drawings
 
 -- and how many pixels they let a run write at most
 abbrev pub least_budget : List NumberedDrawing → Surface → ℕ
-least_budget drawings s = budget_of drawings (least_entries drawings) s
+least_budget drawings s = budget_of drawings (least_entries drawings s) s
 
 -- a drawing of the record with this number
 abbrev numbered : ℕ → Drawing → NumberedDrawing
 numbered number drawing = record { number = number; drawing = drawing }
 
--- the text of its entry, if a record draws
-abbrev pub drawing_text : ℕ → Option Drawing → List ℕ
-drawing_text number None = []
-drawing_text number (Some drawing) = entry_text (least_entry (numbered number drawing))
-
--- the numbers of that entry are of 32 bits
-abbrev pub FitsEntry : ℕ → Option Drawing → Type 0
-FitsEntry number None = Unit
-FitsEntry number (Some drawing) = IsEntry (least_entry (numbered number drawing))
+-- the entry, if a record draws
+abbrev pub entry_if_drawn : ℕ → Option Drawing → Surface → List Entry
+entry_if_drawn number None s = []
+entry_if_drawn number (Some drawing) s = least_entry (numbered number drawing) s ∷ []
 
 -- and how many pixels it lets a run write at most
 abbrev pub least_drawing_budget : Option Drawing → Surface → ℕ
 least_drawing_budget None s = 0
-least_drawing_budget (Some drawing) s = drawing_cells drawing (least_box (drawing_points drawing)) s
+least_drawing_budget (Some drawing) s = drawing_cells drawing (drawing_nib drawing s) (least_box (drawing_points drawing)) s
 
 -- the entries of all steps were appended, none of which stops, and the needs and the totals are theirs, beside notes from before
-pub record Gathers (content : Content) (old : MachineState) (before noted : List ℕ) (totals : Totals) (new : MachineState) (after : List ℕ) : Type 0 where
+pub record Gathers (content : Content) (old : MachineState) (before : List Entry) (noted : List ℕ) (totals : Totals) (new : MachineState) (after : List Entry) : Type 0 where
   pub unstopped : stop_of content old.state old.surface ≡ None
-  pub texts : after ≡ before ++ least_texts (drawings_of content.steps old.state)
-  pub are_entries : All IsEntry (least_entries (drawings_of content.steps old.state))
+  pub entries : after ≡ before ++ least_entries (drawings_of content.steps old.state) old.surface
+  pub fit : All (IsEntry Mpc2) (least_entries (drawings_of content.steps old.state) old.surface)
   pub is_budget : totals.writes ≡ least_budget (drawings_of content.steps old.state) old.surface
   pub records : totals.records ≡ length content.steps
   pub notes : totals.notes.counts ≡ notes_after content.steps noted

@@ -33,7 +33,7 @@ layer_now shape paint tools = record { shape = shape; paint = paint; mixing = bi
 -- a layer along an outline in the pen's colour, or none by a null pen
 abbrev pub stroked_with : Pen → Outline → Tools → List Layer
 stroked_with Null outline tools = []
-stroked_with (Solid colour) outline tools = layer_now (stroke_of outline) (solid colour) tools ∷ []
+stroked_with (Solid width colour) outline tools = layer_now (stroke_of width tools.map outline) (solid colour) tools ∷ []
 
 -- what a brush paints, by the background of the moment
 abbrev pub brushed_now : BrushValue → Tools → Paint

@@ -8,7 +8,7 @@ use Rattle.draw_ops.specs.declared.fault.Fault.TheVariants.{Record}
 use Rattle.draw_ops.specs.declared.record_fault.RecordFault.{RecordFault}
 use Rattle.draw_ops.specs.declared.step.Step.{Step}
 use Rattle.dc_stack.specs.Draws.{IsPlacedDraw}
-use Rattle.dc_stack.specs.MachineState.{HasStepped, IsDrawingOf, MachineState, RefusesStep}
+use Rattle.dc_stack.specs.MachineState.{HasNib, HasStepped, IsDrawingOf, MachineState, RefusesStep}
 use Rattle.dc_stack.specs.declared.draw.Draw.{Draw}
 use Rattle.preflight_cert.specs.Refusal.{number_told}
 use Rattle.preflight_cert.specs.declared.refusal.Refusal.{Refusal}
@@ -19,6 +19,7 @@ pub record HasPlayedStep (left rest : Content) (old new : MachineState) (step : 
   pub stepped : HasStepped (operation_of step.op) old new
   pub drawing : IsDrawingOf (operation_of step.op) old new drawn
   pub placed : IfSome drawn (IsPlacedDraw new.surface new.painted)
+  pub nib : IfSome drawn (HasNib new.surface new)
   pub surface : new.surface ≡ old.surface
 
 -- no step was left, and the machine is as it was

@@ -1,11 +1,13 @@
 -- The certificate that is prepared for a file at a bound.
-use Rattle.std.specs.Prelude.{◌≡◌, ℕ, Bool, true, false, ◌&&◌, List, [], ◌∷◌, Option, None, Result, Ok, Err}
+use Rattle.std.specs.Prelude.{◌≡◌, ℕ, Bool, true, false, ◌&&◌, ◌==◌, if◌then◌else◌, List, [], ◌∷◌, Option, None, Result, Ok, Err}
 use Rattle.mapping.specs.Boxes.{IsLeastBox}
+use Rattle.std.specs.List.{list_all}
 use Rattle.mapping.specs.Limits.{is_surface_side}
+use Rattle.mapping.specs.Surface.{Surface}
 use Rattle.draw_ops.specs.Content.{Content}
 use Rattle.draw_ops.specs.declared.fault.Fault.{Fault}
 use Rattle.draw_ops.specs.declared.fault.Fault.TheVariants.{BadBound}
-use Rattle.dc_stack.specs.Drawing.{drawing_points}
+use Rattle.dc_stack.specs.Drawing.{drawing_nib, drawing_points}
 use Rattle.dc_stack.specs.State.{start_of}
 use Rattle.meta_headers.specs.Headers.{OpenedValue}
 use Rattle.meta_headers.specs.Opening.{HasContentOf, opened, record_bytes, surface_for}
@@ -18,25 +20,37 @@ use Rattle.preflight_cert.specs.Run.{Refused}
 use Rattle.preflight_cert.specs.Stop.{stop_of}
 use Rattle.preflight_cert.specs.declared.entry.Entry.{Entry}
 use Rattle.preflight_cert.specs.declared.refusal.Refusal.{Refusal}
+use Rattle.preflight_cert.specs.declared.version.Version.{Version}
+use Rattle.preflight_cert.specs.declared.version.Version.TheVariants.{Mpc1, Mpc2}
 
--- an entry has the number of a drawing's record, and the least box around the drawing's points
-pub record IsLeastEntry (entry : Entry) (one : NumberedDrawing) : Type 0 where
+-- an entry has the number of a drawing's record, the least box around the drawing's points, and its nib on a surface
+pub record IsLeastEntry (entry : Entry) (one : NumberedDrawing) (s : Surface) : Type 0 where
   pub number : entry.number ≡ one.number
   pub box : IsLeastBox entry.bounds (drawing_points one.drawing)
+  pub nib : entry.nib ≡ drawing_nib one.drawing s
 
 -- there is such an entry for each drawing, in order, and no other
-abbrev pub AreLeast : List NumberedDrawing → List Entry → Type 0
-AreLeast [] [] = Unit
-AreLeast [] (entry ∷ entries) = ⊥
-AreLeast (one ∷ later) [] = ⊥
-AreLeast (one ∷ later) (entry ∷ entries) = IsLeastEntry entry one × AreLeast later entries
+abbrev pub AreLeast : List NumberedDrawing → List Entry → Surface → Type 0
+AreLeast [] [] s = Unit
+AreLeast [] (entry ∷ entries) s = ⊥
+AreLeast (one ∷ later) [] s = ⊥
+AreLeast (one ∷ later) (entry ∷ entries) s = IsLeastEntry entry one s × AreLeast later entries s
 
--- The certificate that is prepared for a file's records at a bound: the least box of each drawing, how many pixels these let a run write at
--- most, and the records' needs.
+-- each entry's nib is one pixel
+abbrev pub have_single_pixels : List Entry → Bool
+have_single_pixels entries = list_all (λ (entry : Entry). entry.nib.x == 1 && entry.nib.y == 1) entries
+
+-- the version of a certificate with some entries: the first exactly where each nib is one pixel
+abbrev pub version_for : List Entry → Version
+version_for entries = if have_single_pixels entries then Mpc1 else Mpc2
+
+-- The certificate that is prepared for a file's records at a bound: the least box and the nib of each drawing, how many pixels these let a run
+-- write at most, and the records' needs.
 pub record IsPrepared (c : CertificateValue) (o : OpenedValue) (content : Content) (width height : ℕ) : Type 0 where
   pub wide : c.max_width ≡ width
   pub high : c.max_height ≡ height
-  pub entries : AreLeast (drawings_of content.steps (start_of o)) c.entries
+  pub version : c.version ≡ version_for c.entries
+  pub entries : AreLeast (drawings_of content.steps (start_of o)) c.entries (surface_for o width height)
   pub writes : c.writes ≡ file_budget content o c
   pub needs : c.needs ≡ file_needs content o
 

@@ -1,6 +1,7 @@
 -- What is prepared is accepted, and it is the least that is.
 use Rattle.std.specs.Prelude.{◌≡◌, ◌≤◌, ℕ, List, [], ◌∷◌, None}
 use Rattle.mapping.specs.Boxes.{HasPoint}
+use Rattle.mapping.specs.Nibs.{CoversNib}
 use Rattle.mapping.specs.PlacingLaws.{ShowsFrame}
 use Rattle.mapping.specs.declared.geometry.Point.{Point}
 use Rattle.draw_ops.specs.Content.{Content}
@@ -14,17 +15,23 @@ use Rattle.preflight_cert.specs.Preparation.{IsPrepared}
 use Rattle.preflight_cert.specs.Stop.{stop_of}
 use Rattle.preflight_cert.specs.declared.entry.Entry.{Entry}
 
--- entries are of the same records, one for one, and each box holds the other's
+-- an entry is of the same record as another, its box lies in the other's, and its nib is no larger
+pub record IsHeldBy (entry other : Entry) : Type 0 where
+  pub number : entry.number ≡ other.number
+  pub box : (point : Point) → HasPoint entry.bounds point → HasPoint other.bounds point
+  pub nib : CoversNib other.nib entry.nib
+
+-- so are entries, one for one
 abbrev pub AreHeldBy : List Entry → List Entry → Type 0
 AreHeldBy [] [] = Unit
 AreHeldBy [] (other ∷ others) = ⊥
 AreHeldBy (entry ∷ entries) [] = ⊥
 AreHeldBy (entry ∷ entries) (other ∷ others) =
-    (entry.number ≡ other.number × ((point : Point) → HasPoint entry.bounds point → HasPoint other.bounds point)) × AreHeldBy entries others
+    IsHeldBy entry other × AreHeldBy entries others
 
--- a certificate asks for no more than another: its boxes lie in the other's, and its needs and writes are at most the other's
+-- a certificate asks for no more than another: its boxes lie in the other's, and its nibs, needs and writes are at most the other's
 pub record IsNoMore (c other : CertificateValue) : Type 0 where
-  pub boxes : AreHeldBy c.entries other.entries
+  pub entries : AreHeldBy c.entries other.entries
   pub needs : AreWithin c.needs other.needs
   pub writes : c.writes ≤ other.writes
 

@@ -18,4 +18,4 @@ pub record SizeLaws : Type 0 where
       → stop_of content state larger ≡ None → stop_of content state smaller ≡ None
   pub few :
       (drawings : List NumberedDrawing) (entries : List Entry) (smaller larger : Surface) → ShowsFrame larger → IsNoLarger smaller larger
-      → AreCovered drawings entries → writes_after drawings smaller ≤ budget_of drawings entries larger
+      → AreCovered drawings entries larger → writes_after drawings smaller ≤ budget_of drawings entries larger

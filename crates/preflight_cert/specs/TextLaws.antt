@@ -3,24 +3,35 @@ use Rattle.std.specs.Prelude.{FitsSigned, ◌≡◌, ◌<◌, ◌≤◌, ◌^◌
 use Rattle.std.specs.Int.{w32}
 use Rattle.std.specs.List.{All}
 use Rattle.mapping.specs.Limits.{IsSurfaceSide}
+use Rattle.mapping.specs.Nibs.{IsNib}
+use Rattle.mapping.specs.declared.nib.Nib.{Nib}
 use Rattle.dc_stack.specs.Drawing.{edge_limit}
 use Rattle.dc_stack.specs.Path.{piece_limit}
 use Rattle.dc_stack.specs.SavedStates.{depth_limit}
 use Rattle.preflight_cert.specs.CertificateReading.{CertificateValue, entry_limit, read_certificate, slot_limit}
 use Rattle.preflight_cert.specs.CertificateText.{certificate_text}
+use Rattle.span_fill.specs.WideStrokes.{one_pixel}
 use Rattle.preflight_cert.specs.declared.entry.Entry.{Entry}
+use Rattle.preflight_cert.specs.declared.version.Version.{Version}
+use Rattle.preflight_cert.specs.declared.version.Version.TheVariants.{Mpc1, Mpc2}
 
 -- the numbers are bytes
 abbrev pub AreBytes : List ℕ → Type 0
 AreBytes bytes = All (λ byte. byte < 2 ^ 8) bytes
 
--- an entry's numbers are of 32 bits
-pub record IsEntry (entry : Entry) : Type 0 where
+-- an entry of a version has this nib: one pixel where it tells none
+abbrev pub HasNibOf : Version → Nib → Type 0
+HasNibOf Mpc1 nib = nib ≡ one_pixel
+HasNibOf Mpc2 nib = IsNib nib
+
+-- an entry's numbers are of 32 bits, and its nib is within its limits
+pub record IsEntry (version : Version) (entry : Entry) : Type 0 where
   pub number : entry.number < 2 ^ 32
   pub left : FitsSigned w32 entry.bounds.l
   pub top : FitsSigned w32 entry.bounds.t
   pub right : FitsSigned w32 entry.bounds.r
   pub bottom : FitsSigned w32 entry.bounds.b
+  pub nib : HasNibOf version entry.nib
 
 -- a certificate's numbers are within their limits
 pub record IsCertificate (c : CertificateValue) : Type 0 where
@@ -32,7 +43,7 @@ pub record IsCertificate (c : CertificateValue) : Type 0 where
   pub edges : c.needs.edges ≤ edge_limit
   pub pieces : c.needs.pieces ≤ piece_limit
   pub few : length c.entries ≤ entry_limit
-  pub entries : All IsEntry c.entries
+  pub entries : All (IsEntry c.version) c.entries
 
 -- what is written is read as it was; bytes that are read are the text of what they say, and that is a certificate
 pub record TextLaws : Type 0 where

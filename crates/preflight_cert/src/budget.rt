@@ -1,64 +1,78 @@
 //! How many pixels a drawing writes at most, layer by layer.
 
-ghost use Rattle.std.specs.Prelude.{◌≡◌, ◌≤◌, ◌*◌};
+ghost use Rattle.std.specs.Prelude.{◌≡◌, ◌≤◌, ◌*◌, List};
 ghost use Rattle.mapping.specs.PlaceOf.{surface_of};
+ghost use Rattle.mapping.specs.declared.geometry.Point.{Point};
+ghost use Rattle.draw_ops.specs.declared.operation.RectangleEdges.{RectangleEdges};
+ghost use Rattle.draw_ops.specs.declared.settings.FillMode.{FillMode};
 ghost use Rattle.dc_stack.specs.Drawing.{tools_of};
+ghost use Rattle.dc_stack.specs.Figures.{Figure};
 ghost use Rattle.dc_stack.specs.MachineState.{drawing_with};
 ghost use Rattle.dc_stack.specs.Values.{dc_value};
-ghost use Rattle.preflight_cert.specs.Budget.{IsBudgetOf, box_cells, drawing_cells};
+ghost use Rattle.preflight_cert.specs.Budget.{box_cells, drawing_cells, layers_budget, wide_box_cells};
 ghost use Rattle.preflight_cert.specs.Layer.{filled, stroked};
-ghost use Rattle.preflight_cert.specs.Shape.{Shape};
+ghost use Rattle.preflight_cert.specs.Shape.{inside_figures, inside_rectangle};
 ghost use Rattle.preflight_cert.specs.StrokedOutline.{Outline};
 
+use crate::entry::Entry;
 use dc_stack::{Dc, Draw, Machine, Mark, Painting};
 use draw_ops::{Brush, Pen};
-use mapping::{Place, Rect};
+use mapping::{Nib, Place, Rect};
 use object_tables::Table;
 
-/// How many pixels of the machine's surface a drawing writes at most, by a box of the plane that has its points: those of what
-/// is filled, of a dot or a blit, and of what is stroked.
+/// How many pixels of the machine's surface a drawing writes at most, by an entry's box of the plane, which has its points, and the entry's
+/// nib: those of what is filled, of a dot or a blit, and of what is stroked.
 #[tactic(auto, using(crate::proofs::BudgetLemmas::budgets))]
 pub(crate) fn drawing_budget<'a, T: Table<'a>>(
     drawn: &Draw<'a>,
     machine: &Machine<'a, T>,
-    bounds: Rect,
+    entry: &Entry,
 ) -> u64
-    ensures layers { result ≡ drawing_cells (drawing_with machine.now drawn.now) bounds machine.now.surface }
+    ensures layers { result ≡ drawing_cells (drawing_with machine.now drawn.now) entry.now.nib entry.now.bounds machine.now.surface }
     ensures few { result ≤ 134217728 }
 {
     let dc = machine.dc();
-    let cells = box_cells(bounds, machine.place());
+    let place = machine.place();
+    let bounds = entry.bounds;
     match drawn.mark {
-        Mark::Dot { .. } | Mark::Blit(_) => cells,
-        Mark::Line { .. } => stroke_cells(dc, cells),
-        Mark::Rectangle { .. } => fill_cells(dc, cells) + stroke_cells(dc, cells),
+        Mark::Dot { .. } | Mark::Blit(_) => box_cells(bounds, place),
+        Mark::Line { .. } => stroke_cells(dc, bounds, entry.nib, place),
+        Mark::Rectangle { .. } => {
+            fill_cells(dc, bounds, place) + stroke_cells(dc, bounds, entry.nib, place)
+        }
         Mark::Figures { painting, .. } => match painting {
-            Painting::Fill => fill_cells(dc, cells),
-            Painting::Stroke => stroke_cells(dc, cells),
-            Painting::StrokeAndFill => fill_cells(dc, cells) + stroke_cells(dc, cells),
+            Painting::Fill => fill_cells(dc, bounds, place),
+            Painting::Stroke => stroke_cells(dc, bounds, entry.nib, place),
+            Painting::StrokeAndFill => {
+                fill_cells(dc, bounds, place) + stroke_cells(dc, bounds, entry.nib, place)
+            }
         },
     }
 }
 
-/// How many pixels the brush fills at most in a box that meets so many: none where it paints nothing.
-fn fill_cells(dc: &Dc<'_>, cells: u64) -> u64
-    ensures budget { (shape : Shape) → IsBudgetOf (filled shape (tools_of (dc_value dc.now))) cells result }
-    ensures few { result ≤ cells }
+/// How many pixels the brush fills at most in a box of the plane: none where it paints nothing.
+fn fill_cells(dc: &Dc<'_>, bounds: Rect, place: Place) -> u64
+    ensures figures { (mode : FillMode) (figures : List Figure) (nib : Nib)
+        → result ≡ layers_budget (filled (inside_figures mode figures) (tools_of (dc_value dc.now))) nib bounds (surface_of place) }
+    ensures rectangle { (p q : Point) (edges : RectangleEdges) (nib : Nib)
+        → result ≡ layers_budget (filled (inside_rectangle p q edges) (tools_of (dc_value dc.now))) nib bounds (surface_of place) }
+    ensures few { result ≤ 67108864 }
 {
     match dc.selected.brush {
         Brush::Null => 0,
-        Brush::Solid(_) | Brush::Hatched { .. } | Brush::Tiled(_) => cells,
+        Brush::Solid(_) | Brush::Hatched { .. } | Brush::Tiled(_) => box_cells(bounds, place),
     }
 }
 
-/// How many pixels the pen strokes at most in a box that meets so many: none where it draws nothing.
-fn stroke_cells(dc: &Dc<'_>, cells: u64) -> u64
-    ensures budget { (outline : Outline) → IsBudgetOf (stroked outline (tools_of (dc_value dc.now))) cells result }
-    ensures few { result ≤ cells }
+/// How many pixels the pen strokes at most by a nib that is led over a box of the plane: none where it draws nothing.
+fn stroke_cells(dc: &Dc<'_>, bounds: Rect, nib: Nib, place: Place) -> u64
+    ensures budget { (outline : Outline)
+        → result ≡ layers_budget (stroked outline (tools_of (dc_value dc.now))) nib bounds (surface_of place) }
+    ensures few { result ≤ 67108864 }
 {
     match dc.selected.pen {
         Pen::Null => 0,
-        Pen::Solid { .. } => cells,
+        Pen::Solid { .. } => wide_box_cells(bounds, nib, place),
     }
 }
 
@@ -69,6 +83,16 @@ fn box_cells(bounds: Rect, place: Place) -> u64
 {
     let columns = place.columns(bounds.l, bounds.r);
     let rows = place.rows(bounds.t, bounds.b);
+    product(columns, rows)
+}
+
+/// How many a nib covers at most that is led over the box.
+fn wide_box_cells(bounds: Rect, nib: Nib, place: Place) -> u64
+    ensures cells { result ≡ wide_box_cells nib bounds (surface_of place) }
+    ensures few { result ≤ 67108864 }
+{
+    let columns = place.wide_columns(bounds.l, bounds.r, nib.x);
+    let rows = place.wide_rows(bounds.t, bounds.b, nib.y);
     product(columns, rows)
 }
 

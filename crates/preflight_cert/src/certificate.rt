@@ -4,13 +4,11 @@ ghost use Rattle.std.specs.Prelude.{◌≡◌, ◌<◌, length, IfErr, Some, sli
 ghost use Rattle.mapping.specs.Limits.{IsSurfaceSide};
 
 use crate::certificate_reading::{HEAD_SIZE, is_bounded, read_whole};
-use crate::entry::{ENTRY_SIZE, Entries, Entry};
+use crate::entry::{Entries, Entry};
+use crate::version::Version;
 use dc_stack::Needs;
 use draw_ops::Fault;
 use point_views::u32_at;
-
-/// The first four bytes, `MPC1`, as a number.
-pub(crate) const MARK: u32 = 0x3143_504d;
 
 /// A certificate of a file: for surfaces of at most these sides, how many pixels playing it writes at most, what it
 /// needs room for, and an entry for each of its drawings.
@@ -37,24 +35,27 @@ impl<'a> Certificate<'a> {
     ghost use Rattle.preflight_cert.specs.EntriesOf.{entries_of};
 
     /// Reads a certificate, or tells the first fault of its bytes: `NotCertificate` where they don't begin with the
-    /// mark, `ShortCertificate` where numbers are missing, `BadBound` where one is above its limit or a side is 0,
-    /// `ShortCertificate` where entries are missing, and `TrailingBytes` where bytes stand behind them.
-    #[tactic(auto, unfolding(crate::specs::CertificateReading::mark))]
+    /// mark of a version, `ShortCertificate` where numbers are missing, `BadBound` where one is above its limit or a side is 0,
+    /// `ShortCertificate` where entries are missing, `TrailingBytes` where bytes stand behind them, and `BadBound` where a side of a
+    /// nib isn't from 1 to 4,096.
     pub fn read(bytes: &'a [u8]) -> Result<Certificate<'a>, Fault>
         ensures value { read_certificate bytes.now ≡ result_map certificate_of result }
         ensures in_no_record { IfErr result (λ fault. IsInRecord fault → ⊥) }
         ensures no_memory { IfErr result (λ fault. fault ≡ Fault.OutOfMemory → ⊥) }
     {
-        if bytes.len() < 4 || u32_at(bytes, 0) != MARK {
+        if bytes.len() < 4 {
             return Err(Fault::NotCertificate);
         }
+        let Some(version) = Version::of_mark(u32_at(bytes, 0)) else {
+            return Err(Fault::NotCertificate);
+        };
         if bytes.len() < HEAD_SIZE {
             return Err(Fault::ShortCertificate);
         }
         if !is_bounded(bytes) {
             return Err(Fault::BadBound);
         }
-        read_whole(bytes, ENTRY_SIZE)
+        read_whole(version, bytes)
     }
 
     /// How many entries there are.

@@ -8,10 +8,12 @@ ghost use Rattle.draw_ops.specs.Results.{result_map};
 ghost use Rattle.dc_stack.specs.Drawing.{edge_limit};
 ghost use Rattle.dc_stack.specs.Path.{piece_limit};
 ghost use Rattle.preflight_cert.specs.CertificateOf.{certificate_of};
-ghost use Rattle.preflight_cert.specs.CertificateReading.{IsEntrySize, are_bounded_needs, count_in, entry_limit, head_size, is_bounded, needs_in, read_whole};
+ghost use Rattle.preflight_cert.specs.EntriesOf.{entries_of};
+ghost use Rattle.preflight_cert.specs.CertificateReading.{are_bounded_needs, count_in, entry_limit, entry_size, have_nibs, head_size, is_bounded, needs_in, read_whole};
 
 use crate::certificate::Certificate;
 use crate::entry::Entries;
+use crate::version::Version;
 use byteorder::{ByteOrder, LittleEndian};
 use dc_stack::{MAX_PIECES, MAX_SAVED_STATES, Needs};
 use draw_ops::Fault;
@@ -84,42 +86,68 @@ pub(crate) fn is_side(side: u32) -> bool
     1 <= side && side <= MAX_SURFACE_SIDE
 }
 
-/// What the bytes of a certificate say, if they end where the entries do, each of which takes so many bytes.
-pub(crate) fn read_whole(bytes: &[u8], entry_size: usize) -> Result<Certificate<'_>, Fault>
+/// What the bytes of a certificate say, if they end where the entries do and the entries' nibs are within their limits.
+pub(crate) fn read_whole(version: Version, bytes: &[u8]) -> Result<Certificate<'_>, Fault>
     requires head { head_size ≤ length bytes.now }
     requires wide { IsSurfaceSide (number_at bytes.now 4 4) }
     requires high { IsSurfaceSide (number_at bytes.now 8 4) }
-    requires size { IsEntrySize entry_size }
-    ensures value { read_whole entry_size bytes.now ≡ result_map certificate_of result }
+    ensures value { read_whole version bytes.now ≡ result_map certificate_of result }
     ensures in_no_record { IfErr result (λ fault. IsInRecord fault → ⊥) }
     ensures no_memory { IfErr result (λ fault. fault ≡ Fault.OutOfMemory → ⊥) }
 {
-    let end = HEAD_SIZE + product(entry_size, u32_at(bytes, 36));
+    let end = HEAD_SIZE + entries_size(version, u32_at(bytes, 36));
     if bytes.len() < end {
         return Err(Fault::ShortCertificate);
     }
     if end < bytes.len() {
         return Err(Fault::TrailingBytes);
     }
+    let entries = Entries {
+        bytes: &bytes[HEAD_SIZE..],
+        version,
+    };
+    if !have_nibs(entries) {
+        return Err(Fault::BadBound);
+    }
     Ok(Certificate {
         max_width: u32_at(bytes, 4),
         max_height: u32_at(bytes, 8),
         writes: u64_at(bytes, 12),
         needs: needs_in(bytes),
-        entries: Entries {
-            bytes: &bytes[HEAD_SIZE..],
-            entry_size,
-        },
+        entries,
     })
 }
 
-/// How many bytes so many entries of a size take.
-fn product(entry_size: usize, count: u32) -> usize
-    requires few { entry_size < 65536 }
-    ensures product { result ≡ entry_size * count }
+/// How many bytes so many entries take.
+fn entries_size(version: Version, count: u32) -> usize
+    ensures product { result ≡ entry_size version * count }
     ensures few { result < 281474976710656 }
 {
-    entry_size * count as usize
+    version.entry_size() * count as usize
+}
+
+/// Whether each entry's nib is within its limits.
+fn have_nibs(entries: Entries<'_>) -> bool
+    ensures { result ≡ have_nibs (entries_of entries.entry) }
+{
+    match entries.version {
+        Version::Mpc1 => true,
+        Version::Mpc2 => are_nibs(entries),
+    }
+}
+
+/// The same, entry by entry.
+fn are_nibs(entries: Entries<'_>) -> bool
+    ensures { result ≡ have_nibs (entries_of entries.entry) }
+{
+    let mut left = entries;
+    while let Some((entry, rest)) = left.split_first() {
+        if !entry.nib.is_allowed() {
+            return false;
+        }
+        left = rest;
+    }
+    true
 }
 
 /// What is needed.

@@ -5,19 +5,21 @@ ghost use Rattle.std.specs.Result.{result_err};
 ghost use Rattle.mapping.specs.Boxes.{IsLeastBox};
 ghost use Rattle.mapping.specs.declared.geometry.Point.{Point};
 ghost use Rattle.dc_stack.specs.Draws.{IsPlacedDraw};
+ghost use Rattle.dc_stack.specs.MachineState.{HasNib};
 ghost use Rattle.preflight_cert.specs.Drawings.{drawn_by};
-ghost use Rattle.preflight_cert.specs.Entries.{covers, drawing_budget, entries_behind, entry_fault};
+ghost use Rattle.preflight_cert.specs.Entries.{covers, covers_nib, drawing_budget, entries_behind, entry_fault};
 ghost use Rattle.preflight_cert.specs.EntriesOf.{entries_of};
 
 use crate::budget::drawing_budget;
 use crate::entry::Entries;
 use dc_stack::{Draw, Machine};
 use draw_ops::RecordFault;
-use mapping::Rect;
+use mapping::{Nib, Rect};
 use object_tables::Table;
 
 /// Takes the entry of what a record draws, if it draws, and tells how many pixels its layers write at most: `WrongEntry`
-/// where the next entry is of another record, or there is none, and `BoxTooSmall` where its box lacks a point.
+/// where the next entry is of another record, or there is none, `BoxTooSmall` where its box lacks a point, and `NibTooSmall` where its nib has
+/// fewer columns or rows than the drawing's.
 pub(crate) fn take_entry<'a, T: Table<'a>>(
     number: u32,
     drawn: &Option<Draw<'a>>,
@@ -25,7 +27,8 @@ pub(crate) fn take_entry<'a, T: Table<'a>>(
     entries: &mut Entries<'_>,
 ) -> Result<u64, RecordFault>
     requires placed { IfSome drawn.now (IsPlacedDraw machine.now.surface machine.now.painted) }
-    ensures fault { result_err result ≡ entry_fault number (drawn_by machine.now drawn.now) (entries_of entries.old) }
+    requires nib { IfSome drawn.now (HasNib machine.now.surface machine.now) }
+    ensures fault { result_err result ≡ entry_fault number (drawn_by machine.now drawn.now) (entries_of entries.old) machine.now.surface }
     ensures budget { IfOk result
         (λ n. n ≡ drawing_budget (drawn_by machine.now drawn.now) (entries_of entries.old) machine.now.surface) }
     ensures few { IfOk result (λ n. n ≤ 134217728) }
@@ -44,8 +47,11 @@ pub(crate) fn take_entry<'a, T: Table<'a>>(
     if !covers(entry.bounds, drawn.bounds) {
         return Err(RecordFault::BoxTooSmall);
     }
+    if !covers_nib(entry.nib, drawn.nib) {
+        return Err(RecordFault::NibTooSmall);
+    }
     *entries = rest;
-    Ok(drawing_budget(drawn, machine, entry.bounds))
+    Ok(drawing_budget(drawn, machine, &entry))
 }
 
 /// Whether a box of the plane has all points around which another is the least: that is so where it contains
@@ -58,4 +64,11 @@ fn covers(bounds: Rect, least: Rect) -> bool
         return true;
     }
     bounds.contains(least)
+}
+
+/// Whether a nib has at least as many columns and rows as another.
+fn covers_nib(nib: Nib, other: Nib) -> bool
+    ensures { result ≡ covers_nib nib other }
+{
+    other.x <= nib.x && other.y <= nib.y
 }

@@ -1,35 +1,32 @@
 //! The entries of a certificate, read in place.
 
 ghost use Rattle.std.specs.Prelude.{◌≡◌, ◌+◌, ◌<◌, ◌≤◌, ◌%◌, ◌∷◌, ◌↔◌, [], length, IsNone, IsTrue, IfSome, Some, slice_get};
-ghost use Rattle.preflight_cert.specs.CertificateReading.{IsEntrySize, first_entry};
+ghost use Rattle.preflight_cert.specs.CertificateReading.{entry_size, first_entry, nib_in};
 
-use mapping::Rect;
-use point_views::{i32_at, u32_at};
+use crate::version::Version;
+use mapping::{Nib, Rect};
+use point_views::{i32_at, u16_at, u32_at};
 
-/// How many bytes an entry takes: a number and a box.
-pub(crate) const ENTRY_SIZE: usize = 20;
-
-/// An entry of a certificate: the number of a record that draws, and a box of the plane that has the points of its
-/// drawing, its right and bottom included.
+/// An entry of a certificate: the number of a record that draws, a box of the plane that has the points of its
+/// drawing, its right and bottom included, and a nib that is no smaller than the drawing's at the certificate's bound.
 #[derive(Clone, Copy, Debug, PartialEq, Eq)]
 pub struct Entry {
     pub number: u32,
     pub bounds: Rect,
+    pub nib: Nib,
 }
 
-/// Entries, one after another in a certificate's bytes, each of the same size.
+/// Entries, one after another in a certificate's bytes.
 ///
 /// # Guarantees
 ///
-/// - `bytes` holds the entries and nothing else, so two views of one size are equal exactly where their bytes are.
+/// - `bytes` holds the entries and nothing else, so two views of one version are equal exactly where their bytes are.
 #[derive(Clone, Copy, Debug, PartialEq, Eq)]
 pub struct Entries<'a> {
     /// The entries' bytes.
     pub bytes: &'a [u8],
-    /// How many bytes each of them takes.
-    pub entry_size: usize,
-    pub ghost sized: { IsEntrySize entry_size },
-    pub ghost whole: { length bytes.now % entry_size ≡ 0 },
+    pub version: Version,
+    pub ghost whole: { length bytes.now % entry_size version ≡ 0 },
 }
 
 #[tactic(auto, using(crate::proofs::EntryLemmas::entries))]
@@ -40,7 +37,7 @@ impl<'a> Entries<'a> {
     pub fn len(self) -> usize
         ensures { result ≡ length (entries_of self.entry) }
     {
-        self.bytes.len() / self.entry_size
+        self.bytes.len() / self.version.entry_size()
     }
 
     /// Whether there is no entry.
@@ -55,7 +52,7 @@ impl<'a> Entries<'a> {
         requires { i < length (entries_of self) }
         ensures { slice_get (entries_of self.entry) i ≡ Some result }
     {
-        first_entry(&self.bytes[self.entry_size * i..])
+        first_entry(self.version, &self.bytes[self.version.entry_size() * i..])
     }
 
     /// The first entry, and the entries after it: none exactly where there is no entry.
@@ -63,21 +60,22 @@ impl<'a> Entries<'a> {
         ensures none { IsNone result ↔ (entries_of self.entry ≡ []) }
         ensures entries { IfSome result (λ split. entries_of self.entry ≡ split.0 ∷ entries_of split.1) }
     {
-        if self.bytes.len() < self.entry_size {
+        let size = self.version.entry_size();
+        if self.bytes.len() < size {
             return None;
         }
         let rest = Entries {
-            bytes: &self.bytes[self.entry_size..],
-            entry_size: self.entry_size,
+            bytes: &self.bytes[size..],
+            version: self.version,
         };
-        Some((first_entry(self.bytes), rest))
+        Some((first_entry(self.version, self.bytes), rest))
     }
 }
 
 /// The entry in the first bytes.
-fn first_entry(bytes: &[u8]) -> Entry
-    requires { 20 ≤ length bytes.now }
-    ensures { result ≡ first_entry bytes.now }
+fn first_entry(version: Version, bytes: &[u8]) -> Entry
+    requires { entry_size version ≤ length bytes.now }
+    ensures { result ≡ first_entry version bytes.now }
 {
     Entry {
         number: u32_at(bytes, 0),
@@ -86,6 +84,21 @@ fn first_entry(bytes: &[u8]) -> Entry
             t: i32_at(bytes, 8),
             r: i32_at(bytes, 12),
             b: i32_at(bytes, 16),
+        },
+        nib: nib_in(version, bytes),
+    }
+}
+
+/// The nib in an entry's bytes.
+fn nib_in(version: Version, bytes: &[u8]) -> Nib
+    requires { entry_size version ≤ length bytes.now }
+    ensures { result ≡ nib_in version bytes.now }
+{
+    match version {
+        Version::Mpc1 => Nib::ONE,
+        Version::Mpc2 => Nib {
+            x: u16_at(bytes, 20),
+            y: u16_at(bytes, 22),
         },
     }
 }

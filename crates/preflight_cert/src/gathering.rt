@@ -2,20 +2,24 @@
 
 ghost use Rattle.std.specs.Prelude.{◌≡◌, ◌≤◌, ◌⊎◌, ◌+◌, ◌*◌, ◌^◌, ◌++◌, IfErr, IfOk, IfSome, OnOk, length};
 ghost use Rattle.draw_ops.specs.Records.{record_limit};
+ghost use Rattle.std.specs.List.{All};
+ghost use Rattle.mapping.specs.Nibs.{IsNib};
 ghost use Rattle.dc_stack.specs.Draws.{IsPlacedDraw};
+ghost use Rattle.dc_stack.specs.MachineState.{HasNib};
 ghost use Rattle.preflight_cert.specs.Drawings.{drawn_by};
-ghost use Rattle.preflight_cert.specs.Gathered.{FitsEntry, Gathers, StopsGathering, drawing_text, least_drawing_budget};
+ghost use Rattle.preflight_cert.specs.Gathered.{Gathers, StopsGathering, entry_if_drawn, least_drawing_budget};
 ghost use Rattle.preflight_cert.specs.Refusal.{IsWantOfMemory, TellsNumber};
+ghost use Rattle.preflight_cert.specs.TextLaws.{IsEntry};
+ghost use Rattle.preflight_cert.specs.declared.version.Version.TheVariants.{Mpc2};
 
 use crate::budget::drawing_budget;
 use crate::entry::Entry;
 use crate::refusal::Refusal;
 use crate::stepping::play_next;
 use crate::walk::Totals;
-use crate::writing::put_entry;
 use dc_stack::{Draw, Machine};
 use draw_ops::{Fault, Notes, OpSource, Step};
-use mapping::box_law;
+use mapping::{Nib, Rect, box_law};
 use object_tables::Table;
 use span_fill::OutOfMemory;
 
@@ -25,12 +29,12 @@ pub(crate) fn gather<'a, S: OpSource<'a>, T: Table<'a>>(
     source: &mut S,
     machine: &mut Machine<'a, T>,
     noted: Notes,
-    entries: &mut Vec<u8>,
+    entries: &mut Vec<Entry>,
 ) -> Result<Totals, Refusal>
     requires short { length (S.content source.old).steps ≤ record_limit }
     ensures gathers { IfOk result
         (λ totals. Gathers (S.content source.old) machine.old entries.old.items noted.counts totals machine.new entries.new.items) }
-    ensures few { OnOk result (length entries.new.items ≤ length entries.old.items + 20 * 2 ^ 20) }
+    ensures few { OnOk result (length entries.new.items ≤ length entries.old.items + 2 ^ 20) }
     ensures refusal { IfErr result (λ r. StopsGathering (S.content source.old) machine.old r ⊎ IsWantOfMemory r) }
     ensures number_told { IfErr result TellsNumber }
 {
@@ -58,27 +62,44 @@ pub(crate) fn gather<'a, S: OpSource<'a>, T: Table<'a>>(
     }
 }
 
-/// Appends the entry of what a record draws, if it draws, with the least box, and tells how many pixels it lets a run write at most.
+/// Appends the entry of what a record draws, if it draws, with the least box and the nib, and tells how many pixels it lets a run write at
+/// most.
 fn add_entry<'a, T: Table<'a>>(
     number: u32,
     drawn: &Option<Draw<'a>>,
     machine: &Machine<'a, T>,
-    entries: &mut Vec<u8>,
+    entries: &mut Vec<Entry>,
 ) -> Result<u64, OutOfMemory>
     requires placed { IfSome drawn.now (IsPlacedDraw machine.now.surface machine.now.painted) }
-    ensures text { OnOk result
-        (entries.new.items ≡ entries.old.items ++ drawing_text number (drawn_by machine.now drawn.now)) }
-    ensures fits { OnOk result (FitsEntry number (drawn_by machine.now drawn.now)) }
+    requires nib { IfSome drawn.now (HasNib machine.now.surface machine.now) }
+    ensures entries { OnOk result
+        (entries.new.items ≡ entries.old.items ++ entry_if_drawn number (drawn_by machine.now drawn.now) machine.now.surface) }
+    ensures fits { OnOk result (All (IsEntry Mpc2) (entry_if_drawn number (drawn_by machine.now drawn.now) machine.now.surface)) }
     ensures budget { IfOk result
         (λ n. n ≡ least_drawing_budget (drawn_by machine.now drawn.now) machine.now.surface) }
     ensures few { IfOk result (λ n. n ≤ 134217728) }
-    ensures most { OnOk result (length entries.new.items ≤ length entries.old.items + 20) }
+    ensures most { OnOk result (length entries.new.items ≤ length entries.old.items + 1) }
 {
     let Some(drawn) = drawn else {
         return Ok(0);
     };
     box_law();
-    let bounds = drawn.bounds;
-    put_entry(entries, Entry { number, bounds })?;
-    Ok(drawing_budget(drawn, machine, bounds))
+    let entry = entry_of(number, drawn.bounds, drawn.nib);
+    match entries.push(entry) {
+        Ok(()) => Ok(drawing_budget(drawn, machine, &entry)),
+        Err(_) => Err(OutOfMemory),
+    }
+}
+
+/// The entry of a record's drawing with this box and nib.
+fn entry_of(number: u32, bounds: Rect, nib: Nib) -> Entry
+    requires { IsNib nib }
+    ensures parts { result ≡ record { number = number; bounds = bounds; nib = nib } }
+    ensures fits { IsEntry Mpc2 result }
+{
+    Entry {
+        number,
+        bounds,
+        nib,
+    }
 }

@@ -13,10 +13,10 @@ ghost use Rattle.preflight_cert.specs.TextLaws.{TextLaws};
 
 use dc_stack::fault_law;
 use draw_ops::content_law;
-use mapping::{cell_law, placing_law};
+use mapping::{cell_law, nib_law, placing_law, wide_cell_law};
 use meta_headers::file_law;
 use object_tables::{created_index_law, order_law};
-use span_fill::line_box_law;
+use span_fill::{line_box_law, wide_stroke_law};
 
 /// A run ends in one way, and whether it is refused, and by which fault, doesn't depend on the image
 /// that it starts from; without a fault it writes one number of pixels. At any point of it the objects are in the
@@ -32,13 +32,16 @@ pub fn run_law()
 }
 
 /// The law of drawings' boxes: a shape that isn't the inside of open figures has pixels only where a box
-/// that has its points lands, and a drawing writes at most its layers' budget by such a box, on this
-/// surface and on each that is no larger.
+/// that has its points lands, widened by its nib, and a drawing writes at most its layers' budget by such a
+/// box and by a nib no smaller than its own, on this surface and on each that is no larger.
 pub fn drawing_box_law()
     ensures { DrawingBoxLaws }
 {
     cell_law();
+    wide_cell_law();
+    nib_law();
     line_box_law();
+    wide_stroke_law();
     placing_law();
 }
 
@@ -48,13 +51,15 @@ pub fn rows_law()
     ensures { RowsLaws }
 {}
 
-/// The law of missed rows: a drawing leaves rows beside which a box lands that has its points as they are, and writes no pixel of
-/// them.
+/// The law of missed rows: a drawing leaves rows as they are, and writes no pixel of them, beside which a box lands that has its points,
+/// widened by its nib.
 pub fn missed_rows_law()
     ensures { MissedRowsLaws }
 {
     cell_law();
+    wide_cell_law();
     line_box_law();
+    wide_stroke_law();
     placing_law();
 }
 
@@ -92,6 +97,7 @@ pub fn preparation_law()
     ensures { PreparationLaws }
 {
     cell_law();
+    wide_cell_law();
 }
 
 /// What is written as a certificate's text is read as it was, and bytes that are read are the text of the

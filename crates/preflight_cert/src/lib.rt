@@ -34,6 +34,7 @@ mod prepared;
 mod preparing;
 mod refusal;
 mod stepping;
+mod version;
 mod walk;
 mod writing;
 
@@ -48,3 +49,4 @@ pub use laws::{
 pub use prepared::Prepared;
 pub use preparing::prepare;
 pub use refusal::Refusal;
+pub use version::Version;

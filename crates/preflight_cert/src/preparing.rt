@@ -5,15 +5,16 @@ ghost use Rattle.draw_ops.specs.declared.fault.Fault.TheVariants.{BadBound};
 ghost use Rattle.mapping.specs.Limits.{IsSurfaceSide};
 ghost use Rattle.preflight_cert.specs.Answer.{IsAnswer, accepted};
 ghost use Rattle.preflight_cert.specs.OpenedRecords.{AnswersBytesOf, CountsRecordsOf, PreparesRecordsOf, StopsRecordsOf};
-ghost use Rattle.preflight_cert.specs.Preparation.{Prepares, StopsPreparing, is_bound};
+ghost use Rattle.preflight_cert.specs.Preparation.{Prepares, StopsPreparing, have_single_pixels, is_bound, version_for};
 ghost use Rattle.preflight_cert.specs.Reached.{OpensAt};
 ghost use Rattle.preflight_cert.specs.Refusal.{IsWantOfMemory, TellsNumber};
 
-use crate::entry::{ENTRY_SIZE, Entries};
+use crate::entry::Entry;
 use crate::gathering::gather;
 use crate::laws::{answer_law, need_law, preparation_law, text_law};
 use crate::prepared::Prepared;
 use crate::refusal::Refusal;
+use crate::version::Version;
 use crate::walk::Totals;
 use crate::writing::{Head, put_text};
 use dc_stack::Machine;
@@ -24,8 +25,8 @@ use object_tables::FileTable;
 use span_fill::OutOfMemory;
 use std::alloc::Global;
 
-/// Prepares the certificate of a file for surfaces of at most these sides: the least box of each drawing, how many pixels these let a
-/// run write at most, and what it needs. `check` accepts it. The refusal is `BadBound` where a side isn't from 1 to 8,192, and else
+/// Prepares the certificate of a file for surfaces of at most these sides: the least box and the nib of each drawing, how many pixels these let
+/// a run write at most, and what it needs. It is an `MPC1` exactly where each nib is one pixel, and else an `MPC2`. `check` accepts it. The refusal is `BadBound` where a side isn't from 1 to 8,192, and else
 /// the first fault of the file's run at the bound. Memory is asked for only once the file opens.
 pub fn prepare(
     alloc: Global,
@@ -85,12 +86,28 @@ pub(crate) fn prepare_opened(
         writes: totals.writes,
         needs: machine.needs(),
     };
-    let entries = Entries {
-        bytes: &entries[..],
-        entry_size: ENTRY_SIZE,
-    };
-    match put_text(alloc, head, entries) {
+    match put_text(alloc, version_for(&entries[..]), head, &entries[..]) {
         Ok(text) => Ok((text, totals)),
         Err(OutOfMemory) => Err(Refusal::of_file(Fault::OutOfMemory)),
     }
+}
+
+/// The version of a certificate with some entries: `MPC1` exactly where each nib is one pixel.
+fn version_for(entries: &[Entry]) -> Version
+    ensures { result ≡ version_for entries.now }
+{
+    if have_single_pixels(entries) {
+        Version::Mpc1
+    } else {
+        Version::Mpc2
+    }
+}
+
+/// Whether each entry's nib is one pixel.
+fn have_single_pixels(entries: &[Entry]) -> bool
+    ensures { result ≡ have_single_pixels entries.now }
+{
+    entries
+        .iter()
+        .all(|entry| entry.nib.x == 1 && entry.nib.y == 1)
 }

@@ -1,16 +1,16 @@
 //! Writing the text of a certificate.
 
-ghost use Rattle.std.specs.Prelude.{◌≡◌, ◌<◌, ◌^◌, ◌++◌, [], IfOk, OnOk, length};
-ghost use Rattle.std.specs.Int.{to_le_bytes, w64};
-ghost use Rattle.preflight_cert.specs.CertificateText.{box_text, entry_text, needs_text, number_text};
-ghost use Rattle.preflight_cert.specs.EntriesOf.{entries_of};
-ghost use Rattle.preflight_cert.specs.TextLaws.{IsEntry};
-ghost use Rattle.preflight_cert.specs.TextParts.{bound_text, four_text, full_text, totals_text};
+ghost use Rattle.std.specs.Prelude.{◌≡◌, ◌<◌, ◌^◌, ◌++◌, [], ◌∷◌, IfOk, OnOk, length};
+ghost use Rattle.std.specs.Int.{cast_unsigned, to_le_bytes, w16, w32, w64};
+ghost use Rattle.std.specs.List.{flat_map};
+ghost use Rattle.preflight_cert.specs.CertificateText.{entry_text, needs_text, nib_text, number_text, text_with};
+ghost use Rattle.preflight_cert.specs.TextParts.{bound_text, head_value, totals_text};
 
-use crate::certificate::MARK;
-use crate::entry::{Entries, Entry};
+use crate::entry::Entry;
+use crate::version::Version;
+use byteorder::{ByteOrder, LittleEndian};
 use dc_stack::Needs;
-use mapping::Rect;
+use mapping::{Nib, Rect};
 use span_fill::OutOfMemory;
 use std::alloc::Global;
 
@@ -34,40 +34,62 @@ pub(crate) fn put_long(text: &mut Vec<u8>, number: u64) -> Result<(), OutOfMemor
     }
 }
 
-/// Appends four numbers.
-fn put_four(
-    text: &mut Vec<u8>,
-    first: u32,
-    second: u32,
-    third: u32,
-    fourth: u32,
-) -> Result<(), OutOfMemory>
-    ensures { OnOk result (text.new.items ≡ text.old.items ++ four_text first second third fourth) }
+/// Appends a number in two bytes.
+fn put_short(text: &mut Vec<u8>, number: u16) -> Result<(), OutOfMemory>
+    ensures { OnOk result (text.new.items ≡ text.old.items ++ to_le_bytes w16 number) }
 {
-    put_number(text, first)?;
-    put_number(text, second)?;
-    put_number(text, third)?;
-    put_number(text, fourth)
+    match text.extend_from_slice(&number.to_le_bytes()) {
+        Ok(()) => Ok(()),
+        Err(_) => Err(OutOfMemory),
+    }
 }
 
-/// Appends a box.
-fn put_box(text: &mut Vec<u8>, bounds: Rect) -> Result<(), OutOfMemory>
-    ensures { OnOk result (text.new.items ≡ text.old.items ++ box_text bounds) }
+/// Appends a nib, where entries have one.
+fn put_nib(text: &mut Vec<u8>, version: Version, nib: Nib) -> Result<(), OutOfMemory>
+    ensures { OnOk result (text.new.items ≡ text.old.items ++ nib_text version nib) }
 {
-    let l = bounds.l.cast_unsigned();
-    let t = bounds.t.cast_unsigned();
-    let r = bounds.r.cast_unsigned();
-    let b = bounds.b.cast_unsigned();
-    put_four(text, l, t, r, b)
+    match version {
+        Version::Mpc1 => Ok(()),
+        Version::Mpc2 => {
+            put_short(text, nib.x)?;
+            put_short(text, nib.y)
+        }
+    }
 }
 
-/// Appends an entry.
-pub(crate) fn put_entry(text: &mut Vec<u8>, entry: Entry) -> Result<(), OutOfMemory>
-    ensures text { OnOk result (text.new.items ≡ text.old.items ++ entry_text entry) }
-    ensures fits { IsEntry entry }
+/// A record's number and the edges of its box, all as numbers from 0 on.
+fn numbers(number: u32, bounds: Rect) -> [u32; 5]
+    ensures { result ≡ number ∷ cast_unsigned w32 bounds.l ∷ cast_unsigned w32 bounds.t ∷ cast_unsigned w32 bounds.r ∷ cast_unsigned w32 bounds.b ∷ [] }
 {
-    put_number(text, entry.number)?;
-    put_box(text, entry.bounds)
+    [
+        number,
+        bounds.l.cast_unsigned(),
+        bounds.t.cast_unsigned(),
+        bounds.r.cast_unsigned(),
+        bounds.b.cast_unsigned(),
+    ]
+}
+
+/// Appends an entry: its five numbers at once, and then its nib.
+fn put_entry(text: &mut Vec<u8>, version: Version, entry: Entry) -> Result<(), OutOfMemory>
+    ensures { OnOk result (text.new.items ≡ text.old.items ++ entry_text version entry) }
+{
+    let mut bytes = [0; 20];
+    LittleEndian::write_u32_into(&numbers(entry.number, entry.bounds), &mut bytes);
+    match text.extend_from_slice(&bytes) {
+        Ok(()) => put_nib(text, version, entry.nib),
+        Err(_) => Err(OutOfMemory),
+    }
+}
+
+/// Appends entries, one after another.
+fn put_entries(text: &mut Vec<u8>, version: Version, entries: &[Entry]) -> Result<(), OutOfMemory>
+    ensures { OnOk result (text.new.items ≡ text.old.items ++ flat_map (entry_text version) entries.now) }
+{
+    for entry in entries {
+        put_entry(text, version, *entry)?;
+    }
+    Ok(())
 }
 
 /// Appends needs.
@@ -90,10 +112,15 @@ pub struct Head {
 }
 
 /// Appends the mark, and the sides.
-fn put_bound(text: &mut Vec<u8>, max_width: u32, max_height: u32) -> Result<(), OutOfMemory>
-    ensures { OnOk result (text.new.items ≡ text.old.items ++ bound_text max_width max_height) }
+fn put_bound(
+    text: &mut Vec<u8>,
+    version: Version,
+    max_width: u32,
+    max_height: u32,
+) -> Result<(), OutOfMemory>
+    ensures { OnOk result (text.new.items ≡ text.old.items ++ bound_text version max_width max_height) }
 {
-    put_number(text, MARK)?;
+    put_number(text, version.mark())?;
     put_number(text, max_width)?;
     put_number(text, max_height)
 }
@@ -114,21 +141,20 @@ fn put_totals(text: &mut Vec<u8>, writes: u64, needs: Needs, count: u32) -> Resu
     put_counts(text, needs, count)
 }
 
-/// The text of a certificate with these entries.
-#[tactic(auto, using(crate::proofs::TextPartLemmas::parts))]
+/// The text of a certificate of this version with these entries.
 pub(crate) fn put_text(
     alloc: Global,
+    version: Version,
     head: Head,
-    entries: Entries<'_>,
+    entries: &[Entry],
 ) -> Result<Vec<u8>, OutOfMemory>
-    requires { length (entries_of entries) < 2 ^ 32 }
-    ensures { IfOk result (λ v. v.items ≡ full_text head entries.entry.entry_size entries.entry.bytes.now) }
+    requires { length entries.now < 2 ^ 32 }
+    ensures { IfOk result
+        (λ v. v.items ≡ text_with version (head_value head) (length entries.now) (flat_map (entry_text version) entries.now)) }
 {
     let mut text = Vec::new(alloc);
-    put_bound(&mut text, head.max_width, head.max_height)?;
+    put_bound(&mut text, version, head.max_width, head.max_height)?;
     put_totals(&mut text, head.writes, head.needs, entries.len() as u32)?;
-    match text.extend_from_slice(entries.bytes) {
-        Ok(()) => Ok(text),
-        Err(_) => Err(OutOfMemory),
-    }
+    put_entries(&mut text, version, entries)?;
+    Ok(text)
 }

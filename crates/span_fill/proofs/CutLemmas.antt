@@ -1,53 +1,52 @@
 -- A fraction that is moved, and how large it is.
-use Rattle.std.proofs.Common.{◌≡◌, ◌+◌, ◌^◌, ℤ, pos, negsuc, neg_ℤ, ◌+ℤ◌, ◌*ℤ◌, ◌≤ℤ◌, ◌<ℤ◌, arith, ap, subst, sym, ◌∙◌}
+use Rattle.std.proofs.Common.{◌≡◌, ◌+◌, ◌^◌, ℤ, pos, negsuc, neg_ℤ, ◌+ℤ◌, ◌*ℤ◌, ◌≤ℤ◌, ◌<ℤ◌, arith, ap, ◌∙◌}
 use Rattle.std.proofs.lemmas.Int.{ints, by_lt_z}
-use Rattle.span_fill.specs.Cuts.{CutCanMove, IsCut, IsMovedCut}
+use Rattle.span_fill.specs.Cuts.{CutCanMove, IsCut, IsCutStep, IsMovedCut}
 use Rattle.span_fill.specs.declared.cut.Cut.{Cut}
+use Rattle.span_fill.specs.declared.cut.CutStep.{CutStep}
 use Rattle.span_fill.proofs.Products.{mul_add, mul_comm_ℤ, mul_neg, mul_one, order_mul}
 
-cut_kept : (total step divisor : ℤ) (old new : Cut) → (old.rest +ℤ old.more) <ℤ old.divisor → IsCut total step divisor old → IsMovedCut old new → IsCut (total +ℤ step) step divisor new
-cut_kept total step divisor old new under is moved =
+cut_kept :
+    (total add divisor : ℤ) (step : CutStep) (old new : Cut) → (old.rest +ℤ step.more) <ℤ step.divisor → IsCutStep add divisor step → IsCut total divisor old
+    → IsMovedCut step old new → IsCut (total +ℤ add) divisor new
+cut_kept total add divisor step old new under adds is moved =
     let there = moved.kept under in
     let column = there.0 in
     let rest = there.1 in
-    let by = is.by in
-    let sum = mul_add divisor old.column old.across in
-    let product : divisor *ℤ new.column ≡ divisor *ℤ old.column +ℤ divisor *ℤ old.across = ap (λ n. divisor *ℤ n) column ∙ sum in
+    let by = adds.by in
+    let sum = mul_add divisor old.column step.across in
+    let product : divisor *ℤ new.column ≡ divisor *ℤ old.column +ℤ divisor *ℤ step.across = ap (λ n. divisor *ℤ n) column ∙ sum in
     record {
-      by = moved.divisor ∙ is.by;
-      divided = omega (arith, ints, product, rest, is.divided, is.steps);
-      rest_low = omega (arith, ints, rest, is.rest_low, is.more_low);
+      divided = omega (arith, ints, product, rest, is.divided, adds.steps);
+      rest_low = omega (arith, ints, rest, is.rest_low, adds.more_low);
       rest_high = omega (arith, ints, rest, under, by);
-      steps = is.steps ∙ ap (λ n. divisor *ℤ n +ℤ old.more) (sym moved.across) ∙ ap (λ n. divisor *ℤ new.across +ℤ n) (sym moved.more);
-      more_low = subst (λ (n : ℤ). pos 0 ≤ℤ n) (sym moved.more) is.more_low;
-      more_high = subst (λ (n : ℤ). n <ℤ divisor) (sym moved.more) is.more_high;
     }
 
-cut_carried : (total step divisor : ℤ) (old new : Cut) → old.divisor ≤ℤ (old.rest +ℤ old.more) → IsCut total step divisor old → IsMovedCut old new → IsCut (total +ℤ step) step divisor new
-cut_carried total step divisor old new over is moved =
+cut_carried :
+    (total add divisor : ℤ) (step : CutStep) (old new : Cut) → step.divisor ≤ℤ (old.rest +ℤ step.more) → IsCutStep add divisor step → IsCut total divisor old
+    → IsMovedCut step old new → IsCut (total +ℤ add) divisor new
+cut_carried total add divisor step old new over adds is moved =
     let there = moved.carried over in
     let column = there.0 in
     let rest = there.1 in
-    let by = is.by in
-    let sum = mul_add divisor (old.column +ℤ old.across) (pos 1) in
-    let inner = mul_add divisor old.column old.across in
+    let by = adds.by in
+    let sum = mul_add divisor (old.column +ℤ step.across) (pos 1) in
+    let inner = mul_add divisor old.column step.across in
     let once = mul_one divisor in
-    let product : divisor *ℤ new.column ≡ divisor *ℤ old.column +ℤ divisor *ℤ old.across +ℤ divisor = ap (λ n. divisor *ℤ n) column ∙ omega (arith, ints, sum, inner, once) in
+    let product : divisor *ℤ new.column ≡ divisor *ℤ old.column +ℤ divisor *ℤ step.across +ℤ divisor = ap (λ n. divisor *ℤ n) column ∙ omega (arith, ints, sum, inner, once) in
     record {
-      by = moved.divisor ∙ is.by;
-      divided = omega (arith, ints, product, rest, is.divided, is.steps, by);
+      divided = omega (arith, ints, product, rest, is.divided, adds.steps, by);
       rest_low = omega (arith, ints, rest, over);
-      rest_high = omega (arith, ints, rest, is.rest_high, is.more_high, by);
-      steps = is.steps ∙ ap (λ n. divisor *ℤ n +ℤ old.more) (sym moved.across) ∙ ap (λ n. divisor *ℤ new.across +ℤ n) (sym moved.more);
-      more_low = subst (λ (n : ℤ). pos 0 ≤ℤ n) (sym moved.more) is.more_low;
-      more_high = subst (λ (n : ℤ). n <ℤ divisor) (sym moved.more) is.more_high;
+      rest_high = omega (arith, ints, rest, is.rest_high, adds.more_high, by);
     }
 
-pub cut_moved : (total step divisor : ℤ) (old new : Cut) → IsCut total step divisor old → IsMovedCut old new → IsCut (total +ℤ step) step divisor new
-cut_moved total step divisor old new is moved =
-    by_lt_z (old.rest +ℤ old.more) old.divisor
-    (λ under. cut_kept total step divisor old new under is moved)
-    (λ over. cut_carried total step divisor old new over is moved)
+pub cut_moved :
+    (total add divisor : ℤ) (step : CutStep) (old new : Cut) → IsCutStep add divisor step → IsCut total divisor old → IsMovedCut step old new
+    → IsCut (total +ℤ add) divisor new
+cut_moved total add divisor step old new adds is moved =
+    by_lt_z (old.rest +ℤ step.more) step.divisor
+    (λ under. cut_kept total add divisor step old new under adds is moved)
+    (λ over. cut_carried total add divisor step old new over adds is moved)
 
 -- a factor is no further from 0 than a product with a number above 0
 factor_below : (d q : ℤ) → pos 1 ≤ℤ d → pos 0 ≤ℤ q → q ≤ℤ (d *ℤ q)
@@ -66,18 +65,20 @@ factor_least d q b some high h =
     by_lt_z (pos 0) q (λ (g : pos 0 <ℤ q). omega (arith, ints, g, high)) (λ (g : q ≤ℤ pos 0). let e = factor_above d q some g in omega (arith, ints, e, h))
 
 -- so a fraction whose numbers are not too large may be moved
-pub cut_can_move : (total step divisor : ℤ) (cut : Cut) → IsCut total step divisor cut → negsuc (2 ^ 61) ≤ℤ total → total ≤ℤ pos (2 ^ 61) → negsuc (2 ^ 31) ≤ℤ step → step ≤ℤ pos (2 ^ 31) → divisor ≤ℤ pos (2 ^ 31) → CutCanMove cut
-cut_can_move total step divisor cut is low high step_low step_high small =
+pub cut_can_move :
+    (total add divisor : ℤ) (step : CutStep) (cut : Cut) → IsCutStep add divisor step → IsCut total divisor cut
+    → negsuc (2 ^ 61) ≤ℤ total → total ≤ℤ pos (2 ^ 61) → negsuc (2 ^ 31) ≤ℤ add → add ≤ℤ pos (2 ^ 31) → divisor ≤ℤ pos (2 ^ 31) → CutCanMove step cut
+cut_can_move total add divisor step cut adds is low high add_low add_high small =
     let rest_low = is.rest_low in
     let rest_high = is.rest_high in
-    let more_low = is.more_low in
-    let more_high = is.more_high in
-    let by = is.by in
+    let more_low = adds.more_low in
+    let more_high = adds.more_high in
+    let by = adds.by in
     let some : pos 1 ≤ℤ divisor = omega (arith, ints, rest_low, rest_high) in
     let column_high = factor_most divisor cut.column (pos (2 ^ 61)) some (omega (arith, ints)) (omega (arith, ints, is.divided, high, rest_low)) in
     let column_low = factor_least divisor cut.column (negsuc (2 ^ 61 + 2 ^ 31)) some (omega (arith, ints)) (omega (arith, ints, is.divided, low, rest_high, small)) in
-    let across_high = factor_most divisor cut.across (pos (2 ^ 31)) some (omega (arith, ints)) (omega (arith, ints, is.steps, step_high, more_low)) in
-    let across_low = factor_least divisor cut.across (negsuc (2 ^ 31 + 2 ^ 31)) some (omega (arith, ints)) (omega (arith, ints, is.steps, step_low, more_high, small)) in
+    let across_high = factor_most divisor step.across (pos (2 ^ 31)) some (omega (arith, ints)) (omega (arith, ints, adds.steps, add_high, more_low)) in
+    let across_low = factor_least divisor step.across (negsuc (2 ^ 31 + 2 ^ 31)) some (omega (arith, ints)) (omega (arith, ints, adds.steps, add_low, more_high, small)) in
     record {
       column_low = omega (arith, ints, column_low);
       column_high = omega (arith, ints, column_high);

@@ -11,7 +11,6 @@ pub mod CutLemmas
 pub mod StripLemmas
 pub mod HullLemmas
 pub mod StripExact
-pub mod StrokeLemmas
 pub mod SweepLemmas
 pub mod PairLemmas
 pub mod EdgeLemmas
@@ -22,10 +21,28 @@ pub mod MoveLemmas
 pub mod FillLemmas
 pub mod RowLemmas
 mod WorkedFills
+mod WorkedNibs
 pub mod InsertionLemmas
 pub mod JoiningLemmas
 pub mod StrokingLemmas
-pub mod StripStart
 pub mod RowLawLemmas
 pub mod LineBoxLemmas
 pub mod SpanLemmas
+pub mod CoverLemmas
+pub mod ChainLemmas
+pub mod SeveralRows
+pub mod WideLawLemmas
+pub mod TotalLemmas
+pub mod StripWindows
+pub mod StripMoves
+pub mod StripSeen
+pub mod StrokeLemmas
+pub mod WideLineLemmas
+pub mod MaskFrameLemmas
+pub mod AnyLemmas
+pub mod MaskRowLemmas
+pub mod WideningLemmas
+pub mod MarkLemmas
+pub mod SharedRowLemmas
+pub mod BitWordLemmas
+pub mod BitRowLemmas

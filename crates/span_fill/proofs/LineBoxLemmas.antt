@@ -56,27 +56,27 @@ in_rows : (box : Rect) (point : Point) → HasPoint box point → LiesFromTo box
 in_rows box point h = record { least = h.top; most = h.bottom }
 
 -- a pixel of a line
-on_line_lies : (box : Rect) (line : Line) (x y : ℕ) → HasLine box line → on_line line (pos x) (pos y) ≡ true → BoxHasPixel box x y
-on_line_lies box line x y h t =
+pub on_line_has : (box : Rect) (line : Line) (x y : ℤ) → HasLine box line → on_line line x y ≡ true → HasPoint box (record { x = x; y = y })
+on_line_has box line x y h t =
     by_axis line
     (λ (e : is_steep line ≡ true).
-    let on = sym (on_steep line (pos x) (pos y) e) ∙ t in
-    let towards = (along_parts line.from.y line.from.x line.to.y line.to.x (pos y) (pos x) on).0 in
-    let row = towards_lies box.t box.b line.from.y line.to.y (pos y) (in_rows box line.from h.from) (in_rows box line.to h.to) towards in
-    let column = along_lies box.l box.r line.from.y line.from.x line.to.y line.to.x (pos y) (pos x) (in_columns box line.from h.from) (in_columns box line.to h.to) on in
+    let on = sym (on_steep line x y e) ∙ t in
+    let towards = (along_parts line.from.y line.from.x line.to.y line.to.x y x on).0 in
+    let row = towards_lies box.t box.b line.from.y line.to.y y (in_rows box line.from h.from) (in_rows box line.to h.to) towards in
+    let column = along_lies box.l box.r line.from.y line.from.x line.to.y line.to.x y x (in_columns box line.from h.from) (in_columns box line.to h.to) on in
     record { left = column.least; top = row.least; right = column.most; bottom = row.most })
     (λ (e : is_steep line ≡ false).
-    let on = sym (on_flat line (pos x) (pos y) e) ∙ t in
-    let towards = (along_parts line.from.x line.from.y line.to.x line.to.y (pos x) (pos y) on).0 in
-    let column = towards_lies box.l box.r line.from.x line.to.x (pos x) (in_columns box line.from h.from) (in_columns box line.to h.to) towards in
-    let row = along_lies box.t box.b line.from.x line.from.y line.to.x line.to.y (pos x) (pos y) (in_rows box line.from h.from) (in_rows box line.to h.to) on in
+    let on = sym (on_flat line x y e) ∙ t in
+    let towards = (along_parts line.from.x line.from.y line.to.x line.to.y x y on).0 in
+    let column = towards_lies box.l box.r line.from.x line.to.x x (in_columns box line.from h.from) (in_columns box line.to h.to) towards in
+    let row = along_lies box.t box.b line.from.x line.from.y line.to.x line.to.y x y (in_rows box line.from h.from) (in_rows box line.to h.to) on in
     record { left = column.least; top = row.least; right = column.most; bottom = row.most })
 
 stroke_lies : (box : Rect) (lines : List Line) (x y : ℕ) → All (HasLine box) lines → in_stroke lines x y ≡ true → BoxHasPixel box x y
 stroke_lies box [] x y all t = absurd (true≢false (sym t))
 stroke_lies box (line ∷ lines) x y all t =
     by_either (on_line line (pos x) (pos y)) (in_stroke lines x y) t
-    (λ (here : on_line line (pos x) (pos y) ≡ true). on_line_lies box line x y (All-head (HasLine box) line lines all) here)
+    (λ (here : on_line line (pos x) (pos y) ≡ true). on_line_has box line (pos x) (pos y) (All-head (HasLine box) line lines all) here)
     (λ (there : in_stroke lines x y ≡ true). stroke_lies box lines x y (All-tail (HasLine box) line lines all) there)
 
 -- the middle of a row, seen from a line's ends

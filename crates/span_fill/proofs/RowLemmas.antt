@@ -7,6 +7,7 @@ use Rattle.std.proofs.lemmas.List.Sorted.{All-permutation, IsPermutation-append,
 use Rattle.span_fill.specs.Edges.{IsEdge, active_at, begins_behind, begins_by, column_of, edges_from, ends_behind, edge_first_row, goes_to, moved}
 use Rattle.span_fill.specs.Events.{IsQuietAbove, first_begin, first_end}
 use Rattle.span_fill.specs.Lines.{HasNearEnds}
+use Rattle.mapping.specs.declared.nib.Nib.{Nib}
 use Rattle.span_fill.specs.RowFields.{IsFilling, row_work}
 use Rattle.span_fill.specs.RowState.{FillsRow, IsFillingWork}
 use Rattle.span_fill.specs.Sweep.{swept}
@@ -86,9 +87,9 @@ filling_grows y room more lines edges begun active event h filling =
     }
 
 -- a row that is swept
-pub filled_swept : (work : Work) (rule : FillRule) (y room : ℕ) (lines : List Line) (edges : List Edge) (begun : ℕ) (active : List ActiveEdge) (event : ℕ) (interval : Span) (spans : List Span) → IsFillingWork (row_work work rule) → All HasNearEnds lines → IsFilling lines y room edges begun active event → interval.to ≤ 8192 → interval.from < interval.to → spans ≡ swept rule interval.to active interval.from 0 0 (record { from = interval.from; to = interval.from }) → FillsRow (row_work work rule) lines y interval spans
-filled_swept Idle rule y room lines edges begun active event interval spans h near filling end order is = absurd h
-filled_swept Stroking rule y room lines edges begun active event interval spans h near filling end order is = absurd h
-filled_swept Filling rule y room lines edges begun active event interval spans h near filling end order is =
+pub filled_swept : (work : Work) (rule : FillRule) (nib : Nib) (y room : ℕ) (lines : List Line) (edges : List Edge) (begun : ℕ) (active : List ActiveEdge) (event : ℕ) (interval : Span) (spans : List Span) → IsFillingWork (row_work work rule nib) → All HasNearEnds lines → IsFilling lines y room edges begun active event → interval.to ≤ 8192 → interval.from < interval.to → spans ≡ swept rule interval.to active interval.from 0 0 (record { from = interval.from; to = interval.from }) → FillsRow (row_work work rule nib) lines y interval spans
+filled_swept Idle rule nib y room lines edges begun active event interval spans h near filling end order is = absurd h
+filled_swept Stroking rule nib y room lines edges begun active event interval spans h near filling end order is = absurd h
+filled_swept Filling rule nib y room lines edges begun active event interval spans h near filling end order is =
     let row = swept_is_row rule interval active (sorted_places active filling.sorted) (omega (arith, order)) in
     rw is (record { apart = row.apart; exact = λ x low high. row.exact x low high ∙ inside_is rule lines active y x near (omega (arith, high, end)) filling.crosses })

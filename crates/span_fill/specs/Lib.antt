@@ -12,6 +12,7 @@ pub mod Steps
 pub mod StepsInside
 pub mod Cuts
 pub mod Slants
+pub mod WideStrokes
 pub mod Strips
 pub mod StrokeRows
 pub mod Sweep
@@ -24,3 +25,12 @@ pub mod Insertion
 pub mod Joining
 pub mod Stroking
 pub mod LineBoxes
+pub mod WideLines
+pub mod WideLineInside
+pub mod BitWords
+pub mod BitRows
+pub mod BitRowsInside
+pub mod StrokeMasks
+pub mod StrokeMaskInside
+pub mod MaskFrames
+pub mod MaskMarks

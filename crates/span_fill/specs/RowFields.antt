@@ -2,6 +2,7 @@
 use Rattle.std.specs.Prelude.{◌≡◌, ℕ, ◌+◌, ◌-◌, ◌^◌, ◌<◌, ◌≤◌, ℤ, List, drop, length, filter, vec_capacity}
 use Rattle.std.specs.List.{All}
 use Rattle.std.specs.List.Sorted.{IsNonDecreasingBy, IsPermutation}
+use Rattle.mapping.specs.declared.nib.Nib.{Nib}
 use Rattle.span_fill.specs.Edges.{IsEdge, active_edges, begins_behind, column_of, edges_from, edge_first_row}
 use Rattle.span_fill.specs.Events.{IsQuietAbove}
 use Rattle.span_fill.specs.Lines.{HasNearEnds}
@@ -18,14 +19,14 @@ use Rattle.span_fill.specs.declared.strokes.Strokes.{Strokes}
 use Rattle.span_fill.specs.declared.row_buf.Work.TheVariants.{Filling, Idle, Stroking}
 
 -- the work, with its rule
-abbrev pub row_work : Work → FillRule → RowWork
-row_work Idle rule = idle
-row_work Filling rule = filling rule
-row_work Stroking rule = stroking
+abbrev pub row_work : Work → FillRule → Nib → RowWork
+row_work Idle rule nib = idle
+row_work Filling rule nib = filling rule
+row_work Stroking rule nib = stroking nib
 
 -- what callers see of the fields
 abbrev pub row_state : Inside → RowState
-row_state a = record { lines = a.lines.items; work = row_work a.work a.rule; next = a.next; spans = a.spans.items; room = a.room }
+row_state a = record { lines = a.lines.items; work = row_work a.work a.rule a.strokes.nib; next = a.next; spans = a.spans.items; crossings = a.crossings.items; room = a.room }
 
 -- there is memory for so many lines
 pub record HasRoom (a : Inside) : Type 0 where
@@ -54,7 +55,7 @@ pub record IsFilling (lines : List Line) (y room : ℕ) (edges : List Edge) (beg
 pub record IsStroking (lines : List Line) (y room : ℕ) (strokes : Strokes) : Type 0 where
   pub row : y ≤ 8192
   pub are : AreStrokes y strokes
-  pub have : (x : ℤ) (n : ℕ) → y ≤ n → n < 8192 → strokes_have strokes x n ≡ lines_have lines x n
+  pub have : (x : ℤ) (n : ℕ) → y ≤ n → n < 8192 → strokes_have strokes x n ≡ lines_have strokes.nib lines x n
   pub count : stroke_count strokes ≤ room
 
 -- the buffer has memory for its lines, and its edges or strips are where its work is
@@ -62,5 +63,5 @@ pub record IsRowBuf (a : Inside) : Type 0 where
   pub room : HasRoom a
   pub count : length a.lines.items ≤ a.room
   pub near : All HasNearEnds a.lines.items
-  pub filling : IsFillingWork (row_work a.work a.rule) → IsFilling a.lines.items a.next a.room a.edges.items a.begun a.active.items a.event
-  pub stroking : IsStrokingWork (row_work a.work a.rule) → IsStroking a.lines.items a.next a.room a.strokes
+  pub filling : IsFillingWork (row_work a.work a.rule a.strokes.nib) → IsFilling a.lines.items a.next a.room a.edges.items a.begun a.active.items a.event
+  pub stroking : IsStrokingWork (row_work a.work a.rule a.strokes.nib) → IsStroking a.lines.items a.next a.room a.strokes

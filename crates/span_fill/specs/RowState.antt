@@ -1,8 +1,12 @@
 -- What a row buffer is to its callers.
 use Rattle.std.specs.Prelude.{◌≡◌, ℕ, List, []}
+use Rattle.std.specs.List.Sorted.{IsPermutation}
+use Rattle.span_fill.specs.Crossings.{crossings_of}
 use Rattle.span_fill.specs.Fill.{in_fill}
 use Rattle.span_fill.specs.Spans.{AreRow}
-use Rattle.span_fill.specs.Strokes.{in_stroke}
+use Rattle.span_fill.specs.WideStrokes.{in_wide_stroke}
+use Rattle.mapping.specs.declared.nib.Nib.{Nib}
+use Rattle.span_fill.specs.declared.crossing.Crossing.{Crossing}
 use Rattle.span_fill.specs.declared.fill_rule.FillRule.{FillRule}
 use Rattle.span_fill.specs.declared.line.Line.{Line}
 use Rattle.span_fill.specs.declared.span.Span.{Span}
@@ -11,38 +15,49 @@ use Rattle.span_fill.specs.declared.span.Span.{Span}
 pub data RowWork : Type 0 where
   idle : RowWork
   filling : FillRule → RowWork
-  stroking : RowWork
+  stroking : Nib → RowWork
 
--- the lines, what is done with them, which row is next, the spans of the row before, and how many lines it has memory for
+-- the lines, what is done with them, which row is next, the spans of the row before, the crossings that were found last, and how many lines
+-- it has memory for
 pub record RowState : Type 0 where
   pub lines : List Line
   pub work : RowWork
   pub next : ℕ
   pub spans : List Span
+  pub crossings : List Crossing
   pub room : ℕ
 
 -- the inside of the lines is being filled
 abbrev pub IsFillingWork : RowWork → Type 0
 IsFillingWork idle = ⊥
 IsFillingWork (filling rule) = Unit {0}
-IsFillingWork stroking = ⊥
+IsFillingWork (stroking nib) = ⊥
 
 -- the lines themselves are being drawn
 abbrev pub IsStrokingWork : RowWork → Type 0
 IsStrokingWork idle = ⊥
 IsStrokingWork (filling rule) = ⊥
-IsStrokingWork stroking = Unit {0}
+IsStrokingWork (stroking nib) = Unit {0}
 
 -- the spans are what the row has within the interval
 abbrev pub FillsRow : RowWork → List Line → ℕ → Span → List Span → Type 0
 FillsRow idle lines y interval spans = ⊥
 FillsRow (filling rule) lines y interval spans = AreRow (λ x. in_fill rule lines x y) interval spans
-FillsRow stroking lines y interval spans = AreRow (λ x. in_stroke lines x y) interval spans
+FillsRow (stroking nib) lines y interval spans = AreRow (λ x. in_wide_stroke nib lines x y) interval spans
 
 -- the buffer goes on with its work
 pub record SameWork (old new : RowState) : Type 0 where
   pub lines : new.lines ≡ old.lines
   pub work : new.work ≡ old.work
+  pub room : new.room ≡ old.room
+
+-- the crossings of the next row were found, each once and in no order, and nothing else differs
+pub record HasFoundCrossings (old new : RowState) : Type 0 where
+  pub crossings : IsPermutation new.crossings (crossings_of old.lines old.next)
+  pub lines : new.lines ≡ old.lines
+  pub work : new.work ≡ old.work
+  pub next : new.next ≡ old.next
+  pub spans : new.spans ≡ old.spans
   pub room : new.room ≡ old.room
 
 -- nothing but the room differs
@@ -61,9 +76,9 @@ pub record BeginsFill (rule : FillRule) (given : List Line) (y size : ℕ) (new 
   pub room : new.room ≡ size
 
 -- the drawing of these lines begins at row y
-pub record BeginsStroke (given : List Line) (y size : ℕ) (new : RowState) : Type 0 where
+pub record BeginsStroke (nib : Nib) (given : List Line) (y size : ℕ) (new : RowState) : Type 0 where
   pub lines : new.lines ≡ given
-  pub work : new.work ≡ stroking
+  pub work : new.work ≡ stroking nib
   pub next : new.next ≡ y
   pub spans : new.spans ≡ []
   pub room : new.room ≡ size

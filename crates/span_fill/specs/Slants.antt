@@ -1,5 +1,5 @@
 -- How a line's crossing goes from row to row.
-use Rattle.std.specs.Prelude.{ℕ, zero, suc, ◌^◌, ◌≤◌, ℤ, pos, negsuc, neg_ℤ, ◌+ℤ◌, ◌-ℤ◌, ◌*ℤ◌, ◌≤ℤ◌, Bool, true, false, if◌then◌else◌, int_lt, unsigned_abs}
+use Rattle.std.specs.Prelude.{zero, suc, ◌^◌, ◌≤◌, ℤ, pos, negsuc, neg_ℤ, ◌+ℤ◌, ◌-ℤ◌, ◌*ℤ◌, ◌≤ℤ◌, Bool, true, false, if◌then◌else◌, int_lt, unsigned_abs}
 use Rattle.mapping.specs.declared.geometry.Point.{Point}
 use Rattle.span_fill.specs.Courses.{length_of, rise_of}
 use Rattle.span_fill.specs.declared.course.Course.{Course}
@@ -36,5 +36,5 @@ pub record IsSmallSlant (slant : Slant) : Type 0 where
   pub divisor_high : slant.divisor ≤ℤ pos (2 ^ 31)
 
 -- what is divided in a row
-abbrev pub total_of : Slant → Point → ℕ → ℤ
-total_of slant start row = slant.step *ℤ (pos row -ℤ start.y) +ℤ slant.base +ℤ slant.divisor *ℤ start.x
+abbrev pub total_of : Slant → Point → ℤ → ℤ
+total_of slant start row = slant.step *ℤ (row -ℤ start.y) +ℤ slant.base +ℤ slant.divisor *ℤ start.x

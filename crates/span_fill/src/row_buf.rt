@@ -1,9 +1,8 @@
 //! A buffer that gives the spans of an outline's rows, one row after another.
 
 ghost use Rattle.std.specs.Prelude.{◌≡◌, ◌+◌, ◌<◌, ◌≤◌, ◌^◌, [], length, OnOk, OnErr};
-ghost use Rattle.std.specs.List.Sorted.{IsPermutation};
-ghost use Rattle.span_fill.specs.Crossings.{crossings_of};
-ghost use Rattle.span_fill.specs.RowState.{BeginsFill, BeginsStroke, DiffersInRoom, FillsRow, SameWork, IsFillingWork, IsStrokingWork, filling, idle, stroking};
+ghost use Rattle.mapping.specs.Nibs.{IsNib};
+ghost use Rattle.span_fill.specs.RowState.{BeginsFill, BeginsStroke, DiffersInRoom, FillsRow, HasFoundCrossings, SameWork, IsFillingWork, IsStrokingWork, filling, idle, stroking};
 
 use crate::active_edges::{admit, retire, sort_edges};
 use crate::crossing::Crossing;
@@ -21,6 +20,7 @@ use crate::row_spans::{RowSpans, grow_spans};
 use crate::span::Span;
 use crate::strokes::Strokes;
 use crate::sweep::sweep;
+use mapping::Nib;
 use smallvec::SmallVec;
 use std::alloc::Global;
 use std::marker::Model;
@@ -169,16 +169,17 @@ impl RowBuf {
     }
 
     /// Begins with the pixels of the outline's lines, at row `y`. All lines of the outline are taken.
-    pub fn begin_stroke<O: Outline>(&mut self, outline: &mut O, y: u32)
+    pub fn begin_stroke<O: Outline>(&mut self, outline: &mut O, nib: Nib, y: u32)
         requires count { length (O.lines outline.old) ≤ self.old.room }
+        requires nib { IsNib nib }
         requires row { y ≤ 8192 }
-        ensures { BeginsStroke (O.lines outline.old) y self.old.room self.new }
+        ensures { BeginsStroke nib (O.lines outline.old) y self.old.room self.new }
     {
         copy_lines(outline, &mut self.lines);
         self.spans.clear();
         self.work = Work::Stroking;
         self.next = y;
-        self.strokes.begin(self.lines.as_slice(), y);
+        self.strokes.begin(self.lines.as_slice(), nib, y);
     }
 
     /// The spans of the next row within the interval.
@@ -195,17 +196,18 @@ impl RowBuf {
     }
 
     /// The spans of one row: a begin and its first row.
-    pub fn stroke_row<O: Outline>(&mut self, outline: &mut O, y: u32, interval: Span)
+    pub fn stroke_row<O: Outline>(&mut self, outline: &mut O, nib: Nib, y: u32, interval: Span)
         requires count { length (O.lines outline.old) ≤ self.old.room }
+        requires nib { IsNib nib }
         requires row { y < 8192 }
         requires interval { interval.to ≤ 8192 }
-        ensures work { self.new.work ≡ stroking }
+        ensures work { self.new.work ≡ stroking nib }
         ensures lines { self.new.lines ≡ O.lines outline.old }
-        ensures spans { FillsRow stroking (O.lines outline.old) y interval self.new.spans }
+        ensures spans { FillsRow (stroking nib) (O.lines outline.old) y interval self.new.spans }
         ensures next { self.new.next ≡ y + 1 }
         ensures room { self.new.room ≡ self.old.room }
     {
-        self.begin_stroke(outline, y);
+        self.begin_stroke(outline, nib, y);
         self.next_stroke(interval);
     }
 
@@ -216,13 +218,19 @@ impl RowBuf {
         self.spans.as_slice()
     }
 
-    /// Where the lines cross the middle of the next row: each line once that has it between its ends, and
-    /// no other, in no order. Each is divided anew, for whoever asks.
-    pub fn crossings(&mut self) -> &[Crossing]
+    /// Finds where the lines cross the middle of the next row: each line once that has it between its ends, and no other. Each is
+    /// divided anew, for whoever asks.
+    pub fn find_crossings(&mut self)
         requires { IsFillingWork self.old.work }
-        ensures { IsPermutation result.now (crossings_of self.old.lines self.old.next) }
+        ensures { HasFoundCrossings self.old self.new }
     {
         tell(&mut self.crossings, self.lines.as_slice(), self.next);
+    }
+
+    /// The crossings that were found last, in no order.
+    pub fn crossings(&self) -> &[Crossing]
+        ensures { result.now ≡ self.now.crossings }
+    {
         self.crossings.as_slice()
     }
 

@@ -35,11 +35,11 @@ impl Slant {
     }
 
     /// What is divided in a row.
-    pub(crate) fn total(self, from: Point, row: u32) -> i64
+    pub(crate) fn total(self, from: Point, row: i64) -> i64
         requires small { IsSmallSlant self }
         requires x { unsigned_abs from.x ≤ 2 ^ 28 + 1 }
         requires y { unsigned_abs from.y ≤ 2 ^ 28 + 1 }
-        requires row { row ≤ 8192 }
+        requires row { unsigned_abs row ≤ 2 ^ 14 }
         ensures value { result ≡ total_of self from row }
         ensures bound { unsigned_abs result ≤ 2 ^ 60 + 2 ^ 50 }
     {
@@ -47,14 +47,14 @@ impl Slant {
     }
 
     /// What the rows from where the line begins add.
-    fn down(self, y: i32, row: u32) -> i64
+    fn down(self, y: i32, row: i64) -> i64
         requires small { IsSmallSlant self }
         requires y { unsigned_abs y ≤ 2 ^ 28 + 1 }
-        requires row { row ≤ 8192 }
-        ensures value { result ≡ self.step *ℤ (pos row -ℤ y) }
-        ensures bound { unsigned_abs result ≤ 2 ^ 59 + 2 ^ 45 }
+        requires row { unsigned_abs row ≤ 2 ^ 14 }
+        ensures value { result ≡ self.step *ℤ (row -ℤ y) }
+        ensures bound { unsigned_abs result ≤ 2 ^ 59 + 2 ^ 46 }
     {
-        product(self.step, i64::from(row) - i64::from(y))
+        product(self.step, rows_behind(y, row))
     }
 
     /// What the column where the line begins adds.
@@ -62,7 +62,7 @@ impl Slant {
         requires small { IsSmallSlant self }
         requires x { unsigned_abs x ≤ 2 ^ 28 + 1 }
         ensures value { result ≡ self.divisor *ℤ x }
-        ensures bound { unsigned_abs result ≤ 2 ^ 59 + 2 ^ 45 }
+        ensures bound { unsigned_abs result ≤ 2 ^ 59 + 2 ^ 46 }
     {
         product(self.divisor, i64::from(x))
     }
@@ -144,12 +144,22 @@ impl Slant {
     }
 }
 
+/// How many rows a row lies behind another.
+fn rows_behind(y: i32, row: i64) -> i64
+    requires y { unsigned_abs y ≤ 2 ^ 28 + 1 }
+    requires row { unsigned_abs row ≤ 2 ^ 14 }
+    ensures value { result ≡ row -ℤ y }
+    ensures bound { unsigned_abs result ≤ 2 ^ 28 + 2 ^ 15 }
+{
+    row - i64::from(y)
+}
+
 /// A product of numbers of a line.
 fn product(a: i64, b: i64) -> i64
     requires a { unsigned_abs a ≤ 2 ^ 31 }
-    requires b { unsigned_abs b ≤ 2 ^ 28 + 2 ^ 14 }
+    requires b { unsigned_abs b ≤ 2 ^ 28 + 2 ^ 15 }
     ensures value { result ≡ a *ℤ b }
-    ensures bound { unsigned_abs result ≤ 2 ^ 59 + 2 ^ 45 }
+    ensures bound { unsigned_abs result ≤ 2 ^ 59 + 2 ^ 46 }
 {
     a * b
 }

@@ -40,7 +40,7 @@ unfolding wmf_record
 three_lists = refl
 
 -- META_CREATEPENINDIRECT of a wide, dashed, blue pen
-blue_dashes : wmf_meaning 0 (wmf 0x02fa (8 ∷ 0 ∷ 0 ∷ 0 ∷ 0xfa ∷ 2 ∷ 1 ∷ 0 ∷ 2 ∷ 0 ∷ 0 ∷ 0 ∷ 0 ∷ 0 ∷ 255 ∷ 0 ∷ [])) ≡ Ok (record { operation = create None (pen_object (SolidPen (record { r = 0; g = 0; b = 255 }))); notes = noted (noted no_notes WidePen) DashedPen })
+blue_dashes : wmf_meaning 0 (wmf 0x02fa (8 ∷ 0 ∷ 0 ∷ 0 ∷ 0xfa ∷ 2 ∷ 1 ∷ 0 ∷ 2 ∷ 0 ∷ 0 ∷ 0 ∷ 0 ∷ 0 ∷ 255 ∷ 0 ∷ [])) ≡ Ok (record { operation = create None (pen_object (SolidPen 2 (record { r = 0; g = 0; b = 255 }))); notes = noted (noted no_notes WidePen) DashedPen })
 unfolding wmf_record
 blue_dashes = refl
 

@@ -1,28 +1,32 @@
 //! How a step draws: what it marks is made a drawing in one place.
 
-ghost use Rattle.std.specs.Prelude.{◌≡◌, [], ◌∷◌};
+ghost use Rattle.std.specs.Prelude.{◌≡◌, [], ◌∷◌, if◌then◌else◌, IfErr, IfOk, SomeIff, is_some};
+ghost use Rattle.mapping.specs.Nibs.{IsNib, is_nib};
+ghost use Rattle.mapping.specs.PlaceOf.{surface_of};
 ghost use Rattle.point_views.specs.Points.{points_of};
 ghost use Rattle.point_views.specs.Polys.{lists_of};
-ghost use Rattle.dc_stack.specs.Drawing.{lists_mark, rectangle_mark};
+ghost use Rattle.dc_stack.specs.Drawing.{drawing_nib, lists_mark, pen_width, rectangle_mark};
+ghost use Rattle.dc_stack.specs.Draws.{strokes};
 ghost use Rattle.dc_stack.specs.DrawsApart.{DrawsHere, DrawsLines};
 ghost use Rattle.dc_stack.specs.declared.draw.Painting.TheVariants.{Stroke};
-ghost use Rattle.dc_stack.specs.MachineState.{GoesOn, outcome};
-ghost use Rattle.dc_stack.specs.Marking.{Marks};
+ghost use Rattle.dc_stack.specs.MachineState.{GoesOn, drawing_with, outcome};
+ghost use Rattle.dc_stack.specs.Marking.{AllLand, IsPlaceFault, Marks, mark_nib, stroke_nib};
 ghost use Rattle.dc_stack.specs.Next.{end_of};
 
-use crate::draw::{Draw, FigurePoints, Mark, Painting};
+use crate::draw::{Draw, FigurePoints, Mark, Painting, strokes};
 use crate::lone_line::lone_line;
 use crate::machine::Machine;
 use crate::placing::{plane_lines, plane_lists, plane_pair};
 use crate::plane_box::{fits, least};
-use draw_ops::{Fault, RecordFault, RectangleEdges};
-use mapping::{Point, Rect};
+use draw_ops::{Fault, Pen, RecordFault, RectangleEdges};
+use mapping::{Nib, Place, Point, Rect};
 use object_tables::Table;
 use point_views::{Points, Polys};
 
 impl<'a, T: Table<'a>> Machine<'a, T> {
     /// Makes the drawing of a mark, by the least box around its points on the plane and how many points it needs room for: `OffPlane` where
-    /// they don't all land. No step draws otherwise.
+    /// they don't all land, and `NibTooWide` where its nib would be too wide. No step draws otherwise.
+    #[inline(always)]
     pub(super) fn make_draw(
         &mut self,
         mark: Mark<'a>,
@@ -33,16 +37,53 @@ impl<'a, T: Table<'a>> Machine<'a, T> {
         ensures marks { Marks mark.entry extent edges self.old (outcome result drawn.new) self.new }
         ensures goes_on { GoesOn self.old self.new }
     {
-        if !fits(extent, self.place) {
-            return Err(Fault::Record(RecordFault::OffPlane));
-        }
+        let nib = match self.placed_nib(extent, stroke_width(&mark, self.dc.selected.pen)) {
+            Ok(nib) => nib,
+            Err(fault) => return Err(Fault::Record(fault)),
+        };
         self.needs.raise_edges(edges);
         *drawn = Some(Draw {
             mark,
             bounds: least(extent),
             edges,
+            nib,
         });
         Ok(extent)
+    }
+
+    /// The nib of a stroke of this width, where the points of a drawing land and the nib isn't too wide. It isn't inlined, so that what draws
+    /// is made in its place.
+    #[inline(never)]
+    fn placed_nib(&self, extent: Option<Rect>, width: u32) -> Result<Nib, RecordFault>
+        ensures nib { IfOk result (λ nib. nib ≡ stroke_nib width self.now self.now.surface) }
+        ensures allowed { IfOk result IsNib }
+        ensures lands { IfOk result (λ nib. AllLand extent self.now.surface) }
+        ensures refused { IfErr result (IsPlaceFault extent (stroke_nib width self.now self.now.surface) self.now.surface) }
+    {
+        if !fits(extent, self.place) {
+            return Err(RecordFault::OffPlane);
+        }
+        match self.place.nib(width, &self.dc.map) {
+            Some(nib) => Ok(nib),
+            None => Err(RecordFault::NibTooWide),
+        }
+    }
+
+    /// The nib of the last step's drawing on a surface: that of the selected pen by the page map of the moment, and one pixel where nothing
+    /// is stroked. There is none where a side would be above 4,096 pixels.
+    pub fn nib_on(&self, draw: &Draw<'a>, place: Place) -> Option<Nib>
+        ensures nib { let nib = drawing_nib (drawing_with self.now draw.now) (surface_of place) in SomeIff result (IsNib nib) nib }
+        ensures test { is_some result ≡ is_nib (drawing_nib (drawing_with self.now draw.now) (surface_of place)) }
+    {
+        self.mark_nib(&draw.mark, place)
+    }
+
+    /// The same, of a mark.
+    fn mark_nib(&self, mark: &Mark<'a>, place: Place) -> Option<Nib>
+        ensures nib { let nib = mark_nib mark.now self.now (surface_of place) in SomeIff result (IsNib nib) nib }
+        ensures test { is_some result ≡ is_nib (mark_nib mark.now self.now (surface_of place)) }
+    {
+        place.nib(stroke_width(mark, self.dc.selected.pen), &self.dc.map)
     }
 
     /// Draws a line from the position to a point, which is then the position.
@@ -170,6 +211,19 @@ impl<'a, T: Table<'a>> Machine<'a, T> {
             }
             Err(fault) => Err(fault),
         }
+    }
+}
+
+/// How wide a mark is stroked by a pen, in page units: 0 where it isn't stroked.
+fn stroke_width(mark: &Mark<'_>, pen: Pen) -> u32
+    ensures { result ≡ (if strokes mark.now then pen_width pen else 0) }
+{
+    if !strokes(mark) {
+        return 0;
+    }
+    match pen {
+        Pen::Null => 0,
+        Pen::Solid { width, .. } => width,
     }
 }
 

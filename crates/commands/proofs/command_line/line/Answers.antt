@@ -1,10 +1,11 @@
 -- What is asked for by five plain words follows of what the words ask for.
 use Rattle.std.proofs.Common.{◌≡◌, ◌∙◌, List, Option, Result, Ok, Err, IfErr, IsErrAnd, ap, false, map, string_bytes, subst, sym, true}
-use Rattle.commands.specs.CommandLine.{AreRightWords, IsAskedBy, IsAskedByWords, IsRightShow, metaplay_app}
+use Rattle.commands.specs.CommandLine.{IsAskedBy, IsAskedByWords, IsRightCommand, metaplay_app}
+use Rattle.commands.specs.RightWords.{AreRightWords}
 use Rattle.clap.specs.Words.{App, Row, Text, app_of, is_simple, kind_of, subcommand_of, subcommand_rows_of, takes}
 use Rattle.clap.specs.declared.error.Error.{Error}
 use Rattle.clap.specs.declared.error.kind.ErrorKind.TheVariants.{OutOfMemory}
-use Rattle.commands.proofs.TakenLemmas.{right_show, right_taken}
+use Rattle.commands.proofs.TakenLemmas.{right_command, right_taken}
 use Rattle.commands.proofs.WordLemmas.{plain_words}
 use Rattle.commands.proofs.command_line.line.Goals as goal
 
@@ -41,6 +42,6 @@ returns-clause-taken c = λ right.
     let app : app_of c.in_ok-command.command ≡ metaplay_app = c.in_ok-command.ensures in
     let met : subcommand_rows_of c.in_ok-matches.matches ≡ subcommand_of metaplay_app (map string_bytes c.args.words.now) =
     (c.in_ok-matches.ensures.ok.2 (ap is_simple app)).1 ∙ ap (λ (a : App). subcommand_of a (map string_bytes c.args.words.now)) app in
-    let show : IsRightShow (subcommand_rows_of c.in_ok-matches.matches) = subst IsRightShow (sym met) (right_show (map string_bytes c.args.words.now) right) in
-    let bad : false ≡ true = c.in-None.ensures.taken show in
+    let command : IsRightCommand (subcommand_rows_of c.in_ok-matches.matches) = subst IsRightCommand (sym met) (right_command (map string_bytes c.args.words.now) right) in
+    let bad : false ≡ true = c.in-None.ensures.taken command in
     cc

@@ -8,7 +8,7 @@ use Rattle.clap.specs.Words.{ReadsOne, Text, found_of, one_text, rows_of}
 use Rattle.clap.specs.declared.parser.matches.Found.{Found}
 use Rattle.clap.proofs.WalkLemmas.{one_text-rows}
 use Rattle.commands.specs.CommandLine.{GivesNumber, GivesSide}
-use Rattle.commands.proofs.TakenLemmas.{fits_unsigned, no_plus}
+use Rattle.commands.proofs.SideLemmas.{fits_unsigned, no_plus}
 use Rattle.commands.proofs.command_line.side_of.Goals as goal
 use Rattle.commands.proofs.command_line.side_of.Goals.{then-side-ge1, else-side-ge1}
 

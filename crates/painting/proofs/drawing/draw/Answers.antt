@@ -1,9 +1,11 @@
 use Rattle.std.proofs.Common.{subst}
 use Rattle.mapping.specs.PlacingLaws.{ShowsFrame}
 use Rattle.mapping.specs.Surface.{Surface}
+use Rattle.mapping.specs.declared.nib.Nib.{Nib}
+use Rattle.span_fill.specs.WideStrokes.{widened}
 use Rattle.dc_stack.specs.Clip.{placed_box}
 use Rattle.dc_stack.specs.Draws.{IsPlacedDraw}
-use Rattle.dc_stack.specs.MachineState.{drawing_with}
+use Rattle.dc_stack.specs.MachineState.{HasNib, drawing_with}
 use Rattle.preflight_cert.specs.MissedRowsLaws.{LiesBeside}
 use Rattle.painting.proofs.LandedBoxLemmas.{shows}
 use Rattle.painting.proofs.MissedLemmas.{missed_drawn}
@@ -18,5 +20,7 @@ returns-then-misses_rows-clause-drawn g c =
     let place = c.place.result in
     let placed : IsPlacedDraw machine.surface machine.painted drawn = rw c.in-Some.is at c.requires.placed in
     let shown : ShowsFrame machine.surface = subst ShowsFrame c.place.ensures (shows place) in
-    let beside = subst (λ (s : Surface). LiesBeside (placed_box s drawn.bounds) canvas.first canvas.rows) c.place.ensures (c.misses_rows.ensures.0 c.if-misses_rows.true) in
+    let nib : HasNib machine.surface machine drawn = rw c.in-Some.is at c.requires.nib in
+    let here = subst (λ (s : Surface). LiesBeside (widened drawn.nib (placed_box s drawn.bounds)) canvas.first canvas.rows) c.place.ensures (c.misses_rows.ensures.0 c.if-misses_rows.true) in
+    let beside = subst (λ (n : Nib). LiesBeside (widened n (placed_box machine.surface drawn.bounds)) canvas.first canvas.rows) nib.is here in
     rw c.in-Some.is (missed_drawn c.missed_rows_law.ensures machine.surface (drawing_with machine drawn) drawn.bounds canvas shown c.whole_law.ensures.whole c.requires.held placed.least beside)

@@ -20,6 +20,7 @@ use Rattle.painting.proofs.FigureLemmas.{closed_lines_along}
 use Rattle.painting.proofs.LandedBoxLemmas.{shape_landed}
 use Rattle.painting.proofs.LandingLemmas.{lands_place, two_land}
 use Rattle.painting.proofs.PaintedFigureLemmas.{few_to_count, figures_closed, fills_figures, lines_few, points_closed}
+use Rattle.span_fill.specs.WideStrokes.{one_pixel}
 use Rattle.painting.proofs.drawing.fill.Goals as goal
 
 pub new-outline-requires : goal.new-outline-requires
@@ -45,8 +46,8 @@ fill_inside-requires g c =
       alone = c.with-paint.ensures.alone;
       room = omega (arith, room, counted);
       within = λ x y h.
-          shape_landed c.drawing_box_law.ensures c.place-place.result s c.place-place.ensures c.args.drawn.bounds c.landed_box.result c.landed_box.ensures (points_of_figures figures) least within
-          shape (figures_closed figures) (points_closed figures) x y (sym (ap (λ (list : List Line). in_fill rule list x y) lines) ∙ h);
+          shape_landed c.drawing_box_law.ensures one_pixel c.place-place.result s c.place-place.ensures c.args.drawn.bounds c.landed_box.result c.landed_box.ensures (points_of_figures figures) least within
+          shape refl (figures_closed figures) (points_closed figures) x y (sym (ap (λ (list : List Line). in_fill rule list x y) lines) ∙ h);
     }
 
 pub placed_box-inside-requires : goal.placed_box-inside-requires

@@ -1,35 +1,41 @@
--- The box that a draw is told with is the least one.
-use Rattle.std.proofs.Common.{◌≡◌, ◌++◌, subst}
-use Rattle.mapping.specs.declared.geometry.Rect.{Rect}
-use Rattle.dc_stack.specs.Drawing.{mark_points}
-use Rattle.dc_stack.specs.Draws.{IsPlacedDraw, mark_of}
-use Rattle.dc_stack.specs.MachineState.{drawing_with}
+-- The entry that is appended has the least box and the drawing's nib.
+use Rattle.std.proofs.Common.{◌≡◌, [], ◌∷◌, ◌++◌, ap, subst, rules, ◌∙◌}
+use Rattle.std.specs.List.{All}
+use Rattle.std.proofs.lemmas.List.Elements.{All-cons, All-nil}
+use Rattle.dc_stack.specs.Draws.{IsPlacedDraw}
+use Rattle.dc_stack.specs.MachineState.{HasNib, drawing_with}
 use Rattle.preflight_cert.specs.Budget.{drawing_cells}
-use Rattle.preflight_cert.specs.CertificateText.{entry_text}
 use Rattle.preflight_cert.specs.TextLaws.{IsEntry}
-use Rattle.preflight_cert.proofs.LeastBoxLemmas.{least_is}
+use Rattle.preflight_cert.specs.declared.entry.Entry.{Entry}
+use Rattle.preflight_cert.specs.declared.version.Version.TheVariants.{Mpc2}
+use Rattle.preflight_cert.proofs.GatheredLemmas.{told_entry, told_is_least}
 use Rattle.preflight_cert.proofs.gathering.add_entry.Goals as goal
 
-pub returns-clause-text : goal.returns-clause-text
-returns-clause-text g c =
+pub returns-in-Ok-clause-entries : goal.returns-in-Ok-clause-entries
+returns-in-Ok-clause-entries g c =
     let d = c.in-Some.drawn in
     let m = c.args.machine.now in
     let placed : IsPlacedDraw m.surface m.painted d = rw c.in-Some.is at c.requires.placed in
-    let least = least_is c.box_law.ensures d.bounds (mark_points (mark_of m.painted d)) placed.least in
-    rw c.in-Some.is (subst (λ (box : Rect). c.put_entry.new.text.items ≡ c.args.entries.now.items ++ entry_text (record { number = c.args.number; bounds = box })) least c.in_ok-put_entry.ensures.text)
+    let nib : HasNib m.surface m d = rw c.in-Some.is at c.requires.nib in
+    let pushed : c.push.new.self.items ≡ c.args.entries.now.items ++ (told_entry c.args.number d ∷ []) = rw c.entry_of-entry.ensures.parts at c.in-Ok.ensures.items in
+    rw c.in-Some.is (pushed ∙ ap (λ (entry : Entry). c.args.entries.now.items ++ (entry ∷ [])) (told_is_least c.box_law.ensures c.args.number m d placed nib))
 
-pub returns-clause-fits : goal.returns-clause-fits
-returns-clause-fits g c =
+pub returns-in-Ok-clause-fits : goal.returns-in-Ok-clause-fits
+returns-in-Ok-clause-fits g c =
     let d = c.in-Some.drawn in
     let m = c.args.machine.now in
     let placed : IsPlacedDraw m.surface m.painted d = rw c.in-Some.is at c.requires.placed in
-    let least = least_is c.box_law.ensures d.bounds (mark_points (mark_of m.painted d)) placed.least in
-    rw c.in-Some.is (subst (λ (box : Rect). IsEntry (record { number = c.args.number; bounds = box })) least c.put_entry.ensures.fits)
+    let nib : HasNib m.surface m d = rw c.in-Some.is at c.requires.nib in
+    let told : IsEntry Mpc2 (told_entry c.args.number d) = subst (IsEntry Mpc2) c.entry_of-entry.ensures.parts c.entry_of-entry.ensures.fits in
+    let fits = subst (IsEntry Mpc2) (told_is_least c.box_law.ensures c.args.number m d placed nib) told in
+    rw c.in-Some.is (All-cons (IsEntry Mpc2) _ [] fits (All-nil (IsEntry Mpc2)))
 
-pub returns-clause-budget : goal.returns-clause-budget
-returns-clause-budget g c =
+pub returns-in-Ok-clause-budget : goal.returns-in-Ok-clause-budget
+returns-in-Ok-clause-budget g c =
     let d = c.in-Some.drawn in
     let m = c.args.machine.now in
     let placed : IsPlacedDraw m.surface m.painted d = rw c.in-Some.is at c.requires.placed in
-    let least = least_is c.box_law.ensures d.bounds (mark_points (mark_of m.painted d)) placed.least in
-    rw c.in-Some.is (subst (λ (box : Rect). c.drawing_budget.result ≡ drawing_cells (drawing_with m d) box m.surface) least c.drawing_budget.ensures.layers)
+    let nib : HasNib m.surface m d = rw c.in-Some.is at c.requires.nib in
+    rw c.in-Some.is
+    (subst (λ (entry : Entry). c.drawing_budget.result ≡ drawing_cells (drawing_with m d) entry.nib entry.bounds m.surface)
+    (told_is_least c.box_law.ensures c.args.number m d placed nib) (rw c.entry_of-entry.ensures.parts at c.drawing_budget.ensures.layers))

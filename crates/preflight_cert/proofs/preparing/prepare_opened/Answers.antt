@@ -8,26 +8,18 @@ use Rattle.meta_headers.specs.SourceContent.{source_content}
 use Rattle.object_tables.specs.Table.{TableKind}
 use Rattle.dc_stack.specs.State.{start_state}
 use Rattle.preflight_cert.specs.Gathered.{Gathers}
-use Rattle.preflight_cert.specs.TextParts.{full_text}
+use Rattle.preflight_cert.specs.declared.entry.Entry.{Entry}
 use Rattle.preflight_cert.proofs.ClearedLemmas.{records_counted}
-use Rattle.preflight_cert.proofs.EntryLemmas.{length-entries_in}
-use Rattle.preflight_cert.specs.CertificateReading.{entry_size}
-use Rattle.preflight_cert.proofs.PreparedLemmas.{a_head, entries_whole, records_prepared, records_read}
+use Rattle.preflight_cert.proofs.PreparedLemmas.{gathered_text, records_prepared, records_read}
 use Rattle.preflight_cert.proofs.StartLemmas.{IsAtStart}
 use Rattle.preflight_cert.proofs.preparing.prepare_opened.Goals as goal
 
--- what was gathered is whole entries, so few that they can be counted
-pub invariant_of-entries : goal.invariant_of-entries
-invariant_of-entries c =
-    let gathers = subst (λ (before : List ℕ). Gathers (source_content c.source.result) c.new-machine.result before c.of-noted.result.counts c.in-Ok.totals c.gather.new.machine c.gather.new.entries.items) c.new-entries.ensures.items c.in-Ok.ensures.gathers in
-    let whole = entries_whole (source_content c.source.result) c.new-machine.result c.of-noted.result.counts c.in-Ok.totals c.gather.new.machine c.gather.new.entries.items gathers in
-    record { sized = record { least = omega arith; few = omega arith }; whole = ap (λ (bytes : List ℕ). length bytes % 20) c.deref.ensures.value ∙ whole }
-
+-- so few entries were gathered that they can be counted
 pub put_text-requires : goal.put_text-requires
 put_text-requires c =
-    let few : length c.gather.new.entries.items ≤ 20 * 2 ^ 20 = search rules in
-    let same : length c.deref.result.now ≡ length c.gather.new.entries.items = ap (λ (bytes : List ℕ). length bytes) c.deref.ensures.value in
-    rw (length-entries_in 20 (length c.deref.result.now / 20) c.deref.result.now) (omega (arith, few, same))
+    let few : length c.gather.new.entries.items ≤ 2 ^ 20 = search rules in
+    let same : length c.deref-2.result.now ≡ length c.gather.new.entries.items = ap (λ (entries : List Entry). length entries) c.deref-2.ensures.value in
+    omega (arith, few, same)
 
 pub returns-in-Ok-put_text : goal.returns-in-Ok-put_text
 returns-in-Ok-put_text c =
@@ -44,8 +36,9 @@ returns-in-Ok-put_text c =
     let new = c.gather.new.machine in
     let after = c.gather.new.entries.items in
     let text = c.in-Ok-put_text.text.items in
-    let gathers = subst (λ (before : List ℕ). Gathers content m before noted totals new after) c.new-entries.ensures.items c.in-Ok.ensures.gathers in
-    let written : text ≡ full_text (a_head w h totals.writes new.needs) entry_size after = search rules in
+    let gathers = subst (λ (before : List Entry). Gathers content m before noted totals new after) c.new-entries.ensures.items c.in-Ok.ensures.gathers in
+    let written : text ≡ gathered_text w h totals.writes new.needs after =
+    rw (c.version_for.ensures, c.deref.ensures.value, c.deref-2.ensures.value, c.needs.ensures) at c.in-Ok-put_text.ensures in
     let handles : IfSome o.handles (λ n. n < 2 ^ 16) = search rules in
     let fits : totals.writes < 2 ^ 64 = search rules in
     record {

@@ -15,6 +15,7 @@ returns-in-Ok-step_into-clause-plays g c =
       stepped = stepped.stepped;
       drawing = stepped.drawn;
       placed = rw stepped.goes_on.surface stepped.placed;
+      nib = rw stepped.goes_on.surface stepped.nib;
       surface = stepped.goes_on.surface;
     }
 

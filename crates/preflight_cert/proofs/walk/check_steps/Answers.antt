@@ -18,7 +18,8 @@ take_entry-requires g c =
     let content = g.S.HasContent.content in
     let next = c.play_next.new in
     let played : HasPlayedStep (content c.loop-is_played.source) (content next.source) c.loop-is_played.machine next.machine next.step next.drawn = rw (c.in-Ok.is ∙ ap Ok c.if-not-is_played.false) at c.play_next.ensures.plays in
-    let placed = played.placed in search (placed, rules)
+    let placed = played.placed in
+    let nib = played.nib in search (placed, nib, rules)
 
 pub loop-is_played-preserved : goal.loop-is_played-preserved
 loop-is_played-preserved g c =

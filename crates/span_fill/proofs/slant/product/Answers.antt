@@ -7,7 +7,7 @@ use Rattle.std.proofs.lemmas.Nat.{mul-le}
 use Rattle.span_fill.proofs.slant.product.Goals as goal
 
 product_fits : (c : goal.Start) → FitsSigned w64 (c.args.a *ℤ c.args.b)
-product_fits c = fits_signed_mul w64 c.args.a c.args.b (2 ^ 31) (2 ^ 28 + 2 ^ 14) c.requires.a c.requires.b (omega arith)
+product_fits c = fits_signed_mul w64 c.args.a c.args.b (2 ^ 31) (2 ^ 28 + 2 ^ 15) c.requires.a c.requires.b (omega arith)
 
 pub overflow_mul-result : goal.overflow_mul-result
 overflow_mul-result c =

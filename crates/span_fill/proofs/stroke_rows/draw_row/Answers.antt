@@ -1,18 +1,16 @@
--- One strip more.
-use Rattle.std.proofs.Common.{◌<◌, length, arith}
-use Rattle.span_fill.proofs.StrokeLemmas.{parts_more, passed_more}
+-- The strips that go on have what the lines had.
+use Rattle.std.proofs.Common.{◌≡◌, List, length, drop, ◌++◌, take, ap, ◌∙◌, arith}
+use Rattle.std.proofs.lemmas.List.{take_at}
+use Rattle.span_fill.specs.StrokeRows.{strips_have}
+use Rattle.span_fill.proofs.StrokeLemmas.{same_lines}
 use Rattle.span_fill.proofs.stroke_rows.draw_row.Goals as goal
 
-pub loop-strip-preserved : goal.loop-strip-preserved
-loop-strip-preserved c =
-    let within : c.loop-strip.strip-index < length c.args.active.now = omega arith in
-    let there = c.loop-strip.invariant in
-    record {
-      parts = λ x h. parts_more c.args.active.now c.loop-strip.strip-index _ _ _ c.args.row x within (c.draw_strip-next.ensures.parts x h) (there.parts x h);
-      passed = c.pass.ensures.passed;
-      have = λ x y h k. passed_more c.args.active.now c.loop-strip.strip-index _ c.loop-strip.passed.items c.pass.new.passed.items c.draw_strip-next.result.line x y within c.draw_strip-next.ensures.next.line (c.pass.ensures.have x y h k) (there.have x y h k);
-      parts_length = omega arith;
-      passed_length = omega arith;
-      parts_room = omega arith;
-      passed_room = omega arith;
-    }
+pub returns-clause-have : goal.returns-clause-have
+returns-clause-have c = λ x y h k.
+    let strips = c.draw_strips.new.active in
+    let long : length strips ≡ c.args.active.now.len = omega (arith, c.draw_strips.auto.active, c.as_mut_slice.ensures.len) in
+    let lines = rw c.as_mut_slice.ensures.value at c.draw_strips.ensures.lines in
+    let there = take_at strips (drop (length strips) c.args.active.now.items) c.args.active.now.len long in
+    c.retire.ensures.have x y h k
+    ∙ ap (λ l. strips_have c.args.nib l x y) there
+    ∙ same_lines c.args.nib c.args.active.now.items strips x y lines

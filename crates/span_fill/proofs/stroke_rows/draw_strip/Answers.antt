@@ -1,27 +1,23 @@
--- The strip's columns are its line's pixels.
-use Rattle.std.proofs.Common.{rules, FitsSigned, ap, ◌∙◌, ◌||◌}
+-- The strip's columns are what the nib covers, and the strip goes one row on.
+use Rattle.std.proofs.Common.{rules, FitsSigned, pos, ◌||◌, ap, ◌∙◌, arith}
 use Rattle.std.specs.Int.{w64}
-use Rattle.std.proofs.lemmas.Int.{to_z-of_z}
+use Rattle.std.proofs.lemmas.Int.{ints, to_z-of_z}
 use Rattle.span_fill.specs.Spans.{in_spans}
-use Rattle.span_fill.proofs.StrokeLemmas.{active_can_move, active_next, in_spans_more, part_test}
+use Rattle.span_fill.proofs.StripSeen.{active_passed, reaches_next}
+use Rattle.span_fill.proofs.StrokeLemmas.{in_spans_more, part_test}
 use Rattle.span_fill.proofs.stroke_rows.draw_strip.Goals as goal
-
-pub next_row-next-requires : goal.next_row-next-requires
-next_row-next-requires c = active_can_move c.args.row c.args.strip c.requires.active c.requires.row
-
-pub part-requires-clause-low : goal.part-requires-clause-low
-part-requires-clause-low c = (active_can_move c.args.row c.args.strip c.requires.active c.requires.row).column_low
-
-pub part-requires-clause-high : goal.part-requires-clause-high
-part-requires-clause-high c = (active_can_move c.args.row c.args.strip c.requires.active c.requires.row).column_high
 
 pub returns-clause-parts : goal.returns-clause-parts
 returns-clause-parts c = λ x h.
-    let fits : FitsSigned w64 c.next_row-next.result.cut.column = search rules in
     ap (λ l. in_spans l x) c.push_reserved.ensures.items
     ∙ in_spans_more c.args.parts.now.items c.part.result x
-    ∙ ap (λ t. in_spans c.args.parts.now.items x || t)
-    (part_test c.args.row c.args.strip c.next_row-next.result.cut c.part.result c.requires.active c.requires.row c.next_row-next.ensures.cut (λ n. simp to_z-of_z at (c.part.ensures n)) x h)
+    ∙ ap (λ t. in_spans c.args.parts.now.items x || t) (part_test c.args.nib (pos c.args.row) (pos 8192) c.args.strip.now c.part.result c.requires.nib c.requires.active c.part.ensures.exact x h)
 
-pub returns-clause-next : goal.returns-clause-next
-returns-clause-next c = active_next c.args.row c.args.strip c.next_row-next.result c.requires.active c.next_row-next.ensures.cut c.next_row-next.ensures.same
+pub returns-clause-passed : goal.returns-clause-passed
+returns-clause-passed c =
+    let from : FitsSigned w64 c.from.result = search rules in
+    let moved = simp to_z-of_z at c.move_on.ensures.at in
+    let at = rw c.from.ensures at moved in
+    let small = c.requires.row in
+    active_passed c.args.nib (pos c.args.row) (pos 8192) c.args.strip.now c.move_on.new.self c.requires.active c.move_on.ensures.line c.move_on.ensures.rows c.move_on.ensures.seen
+    (λ more. at c.requires.active.at (record { low = omega (arith, ints); high = omega (arith, ints, small) }) (reaches_next c.args.nib (pos c.args.row) (pos 8192) c.args.strip.now c.requires.active more))

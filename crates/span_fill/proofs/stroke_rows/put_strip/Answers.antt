@@ -2,17 +2,19 @@
 use Rattle.std.proofs.Common.{pos, ap, ◌∙◌, ◌||◌, ◌∷◌, [], ◌++◌}
 use Rattle.std.proofs.lemmas.List.Elements.{All-push, All-same}
 use Rattle.span_fill.specs.StrokeRows.{IsWaiting, strips_have}
-use Rattle.span_fill.specs.Strokes.{on_line}
+use Rattle.span_fill.specs.WideStrokes.{on_wide_line}
 use Rattle.span_fill.proofs.StrokeLemmas.{have_more}
 use Rattle.span_fill.proofs.stroke_rows.put_strip.Goals as goal
 
 pub returns-clause-waiting : goal.returns-clause-waiting
 returns-clause-waiting c =
-    All-same (IsWaiting c.args.row) _ (c.args.strips.now.items ++ c.in-Some.strip ∷ []) c.push_reserved.ensures.items
-    (All-push (IsWaiting c.args.row) c.args.strips.now.items c.in-Some.strip c.requires.waiting c.in-Some.ensures.waiting)
+    let from = c.rows_from.ensures.from in
+    let to = c.rows_from.ensures.to in
+    All-same (IsWaiting c.args.nib (pos c.args.row) (pos 8192)) _ (c.args.strips.now.items ++ c.in-Some.strip ∷ []) c.push_reserved.ensures.items
+    (All-push (IsWaiting c.args.nib (pos c.args.row) (pos 8192)) c.args.strips.now.items c.in-Some.strip c.requires.waiting (rw (from, to) at c.in-Some.ensures.waiting))
 
 pub returns-clause-have : goal.returns-clause-have
 returns-clause-have c = λ x y h k.
-    ap (λ l. strips_have l x y) c.push_reserved.ensures.items
-    ∙ have_more c.args.strips.now.items c.in-Some.strip x y
-    ∙ ap (λ l. strips_have c.args.strips.now.items x y || on_line l x (pos y)) c.in-Some.ensures.line_is
+    ap (λ l. strips_have c.args.nib l x y) c.push_reserved.ensures.items
+    ∙ have_more c.args.nib c.args.strips.now.items c.in-Some.strip x y
+    ∙ ap (λ l. strips_have c.args.nib c.args.strips.now.items x y || on_wide_line c.args.nib l x (pos y)) c.in-Some.ensures.line_is

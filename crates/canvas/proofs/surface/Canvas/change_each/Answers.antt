@@ -1,6 +1,6 @@
 use Rattle.std.proofs.Common.{arith, ap}
 use Rattle.canvas.specs.CanvasState.{CanvasState}
-use Rattle.canvas.proofs.EachLemmas.{held_now, may_count, none_changed, one_changed, sum_fits, was_to_come}
+use Rattle.canvas.proofs.EachLemmas.{gives_pixel, held_now, is_itself, none_changed, piece_changed, sum_fits}
 use Rattle.canvas.proofs.surface.Canvas.change_each.Goals as goal
 
 pub loop-pixel-init : goal.loop-pixel-init
@@ -14,21 +14,28 @@ loop-pixel-init g c =
 pub change-requires : goal.change-requires
 change-requires g c =
     let inv = c.loop-pixel.invariant in
-    let asked = c.requires.held c.in-Some.pixel.x c.in-Some.pixel.y (was_to_come (g.P.PixelSource.to_come c.args.pixels.now) (g.C.PixelChange.made c.args.change) c.args.self.now inv.whole (g.P.PixelSource.to_come c.loop-pixel.pixels) (g.P.PixelSource.to_come c.next_pixel.new.self) _ _ c.loop-pixel.count c.in-Some.pixel c.loop-pixel.self inv.changed c.in-Some.ensures.pixel) in
-    held_now (g.P.PixelSource.to_come c.args.pixels.now) (g.C.PixelChange.made c.args.change) c.args.self.now inv.whole (g.P.PixelSource.to_come c.loop-pixel.pixels) (g.P.PixelSource.to_come c.next_pixel.new.self) _ _ c.loop-pixel.count c.in-Some.pixel c.loop-pixel.self inv.changed c.in-Some.ensures.pixel asked
+    let pixel = c.in-Some.pixel in
+    held_now (g.P.PixelSource.to_come c.args.pixels.now) (g.C.PixelChange.made c.args.change) c.args.self.now inv.whole (g.P.PixelSource.to_come c.loop-pixel.pixels) (g.P.PixelSource.to_come c.next_pixel.new.self) _ c.loop-pixel.count c.loop-pixel.self inv.changed
+    (gives_pixel _ _ _ _ pixel c.in-Some.ensures.pixel)
+    c.requires.held pixel.x pixel.y (is_itself pixel.x pixel.y)
 
 pub overflow_add-count : goal.overflow_add-count
 overflow_add-count g c =
     let inv = c.loop-pixel.invariant in
-    let few = may_count (g.P.PixelSource.to_come c.args.pixels.now) (g.C.PixelChange.made c.args.change) c.args.self.now inv.whole (g.P.PixelSource.to_come c.loop-pixel.pixels) (g.P.PixelSource.to_come c.next_pixel.new.self) _ _ c.loop-pixel.count c.in-Some.pixel c.loop-pixel.self inv.changed c.in-Some.ensures.pixel c.requires.countable in
-    omega (arith, few)
+    let changed = piece_changed (g.P.PixelSource.to_come c.args.pixels.now) (g.C.PixelChange.made c.args.change) c.args.self.now inv.whole (g.P.PixelSource.to_come c.loop-pixel.pixels) (g.P.PixelSource.to_come c.next_pixel.new.self) _ c.loop-pixel.count c.loop-pixel.self inv.changed
+    (gives_pixel _ _ _ _ c.in-Some.pixel c.in-Some.ensures.pixel)
+    1 c.change.new.self c.change.ensures.count c.change.ensures.repaints in
+    let fits = sum_fits _ _ _ _ c.args.self.now c.change.new.self changed c.requires.countable in
+    omega (arith, fits)
 
 pub loop-pixel-preserved : goal.loop-pixel-preserved
 loop-pixel-preserved g c =
     let inv = c.loop-pixel.invariant in
     record {
       whole = inv.whole;
-      changed = one_changed (g.P.PixelSource.to_come c.args.pixels.now) (g.C.PixelChange.made c.args.change) c.args.self.now inv.whole (g.P.PixelSource.to_come c.loop-pixel.pixels) (g.P.PixelSource.to_come c.next_pixel.new.self) _ _ c.loop-pixel.count c.in-Some.pixel c.loop-pixel.self inv.changed c.in-Some.ensures.pixel c.change.new.self c.change.ensures.count c.change.ensures.repaints;
+      changed = piece_changed (g.P.PixelSource.to_come c.args.pixels.now) (g.C.PixelChange.made c.args.change) c.args.self.now inv.whole (g.P.PixelSource.to_come c.loop-pixel.pixels) (g.P.PixelSource.to_come c.next_pixel.new.self) _ c.loop-pixel.count c.loop-pixel.self inv.changed
+          (gives_pixel _ _ _ _ c.in-Some.pixel c.in-Some.ensures.pixel)
+          1 c.change.new.self c.change.ensures.count c.change.ensures.repaints;
       end = λ end h. inv.end end (c.in-Some.ensures.end end h);
     }
 

@@ -47,5 +47,6 @@ returns-in-Err-clause-adds g c =
     rw (← c.self.view_is) (not_added _ _ _ _ c.in-Err.fault _ answer (λ lacks. lacks) (omega (arith, count)) (record {
       state = rw (same.phase, same.pieces) refl;
       painted = rw (same.phase, same.pieces) refl;
+      plane_extent = refl;
       needs = refl;
     }))

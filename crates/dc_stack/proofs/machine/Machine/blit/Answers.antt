@@ -11,6 +11,7 @@ use Rattle.dc_stack.specs.Extents.{IsPlaneBox}
 use Rattle.dc_stack.specs.Mapped.{mapped_point, opposite_corner}
 use Rattle.dc_stack.specs.OperationFault.{source_fault}
 use Rattle.dc_stack.proofs.BlitLemmas.{readable}
+use Rattle.dc_stack.proofs.FaultOrder.{first_of_both}
 use Rattle.dc_stack.proofs.ListLemmas.{few_then, never_too_many}
 use Rattle.dc_stack.proofs.MarkingLemmas.{draws_marked, plays_drawn}
 use Rattle.dc_stack.proofs.machine.Machine.blit.Goals as goal
@@ -37,6 +38,6 @@ returns-in-Err-clause-plays g c =
     let shows : ShowsFrame (surface_of place) = record { wide = place.frame.wide; high = place.frame.high } in
     let none : source_fault asked.operation.table (source_of asked.source) ≡ None = search rules in
     rw (← c.self.view_is) (record {
-      refused = inl (rw none (ap (option_map Record) (sym (c.in-Err.ensures.off (surface_of place) shows))));
-      kept = record { state = refl; painted = refl; needs = refl };
+      refused = inl (rw none (ap (option_map Record) (first_of_both _ _ _ (sym (c.in-Err.ensures.off (surface_of place) shows)))));
+      kept = record { state = refl; painted = refl; plane_extent = refl; needs = refl };
     })

@@ -13,6 +13,7 @@ returns-in-Ok-clause-draws g c =
       needs = drawn.needs;
       drawn = drawn.drawn;
       placed = drawn.placed;
+      nib = drawn.nib;
       apart = drawn.apart;
       extent = drawn.extent;
     }

@@ -1,6 +1,4 @@
 use Rattle.std.proofs.Common.{ap, refl, sym, ◌∙◌}
-use Rattle.std.specs.Option.{option_map}
-use Rattle.draw_ops.specs.declared.fault.Fault.TheVariants.{Record}
 use Rattle.mapping.specs.PageMap.{map_numbers}
 use Rattle.mapping.specs.PlaceOf.{surface_of}
 use Rattle.mapping.specs.PlacingLaws.{ShowsFrame}
@@ -8,10 +6,10 @@ use Rattle.point_views.specs.Points.{points_of}
 use Rattle.dc_stack.specs.Drawing.{going_on}
 use Rattle.dc_stack.specs.Mapped.{mapped_lists}
 use Rattle.dc_stack.specs.Next.{end_of}
-use Rattle.dc_stack.specs.OperationFault.{points_fault}
+use Rattle.dc_stack.specs.declared.draw.Painting.TheVariants.{Stroke}
 use Rattle.dc_stack.specs.State.{with_position}
-use Rattle.dc_stack.proofs.ListLemmas.{has_points, points_listed, through_fault}
-use Rattle.dc_stack.proofs.MarkingLemmas.{draws_through}
+use Rattle.dc_stack.proofs.ListLemmas.{has_points, through_fault}
+use Rattle.dc_stack.proofs.MarkingLemmas.{draws_through, refuses_lists}
 use Rattle.dc_stack.proofs.machine.Machine.draw_lines.Goals as goal
 
 pub returns-in-Ok-make_draw-clause-draws : goal.returns-in-Ok-make_draw-clause-draws
@@ -27,6 +25,7 @@ returns-in-Ok-make_draw-clause-draws g c =
       needs = told.needs;
       drawn = told.drawn;
       placed = told.placed;
+      nib = told.nib;
       apart = told.apart;
       extent = told.extent;
     })
@@ -47,7 +46,5 @@ returns-in-Err-clause-draws g c =
     let start = c.self.inside.dc.position in
     let points = points_of c.args.points in
     let some = has_points points _ c.is_empty.ensures c.if-is_empty.false in
-    rw (← c.self.view_is) (record {
-      refused = ap (option_map Record) (ap (λ ps. points_fault ps s) (points_listed (mapped_lists map (going_on start points))) ∙ through_fault map start points s some ∙ sym (c.in-Err.ensures.refused s shows));
-      kept = record { state = refl; painted = refl; needs = refl };
-    })
+    rw (← c.self.view_is)
+    (refuses_lists Stroke (mapped_lists map (going_on start points)) _ _ c.in-Err.fault (through_fault map start points s some ∙ sym (c.in-Err.ensures.refused s shows)) (record { state = refl; painted = refl; plane_extent = refl; needs = refl }))

@@ -1,6 +1,4 @@
 use Rattle.std.proofs.Common.{length, ap, refl, sym, ◌∙◌, subst}
-use Rattle.std.specs.Option.{option_map}
-use Rattle.draw_ops.specs.declared.fault.Fault.TheVariants.{Record}
 use Rattle.mapping.specs.PageMap.{map_numbers}
 use Rattle.mapping.specs.PlaceOf.{surface_of}
 use Rattle.mapping.specs.PlacingLaws.{ShowsFrame}
@@ -8,9 +6,8 @@ use Rattle.point_views.specs.Polys.{lists_of}
 use Rattle.dc_stack.specs.Drawing.{lists_painted}
 use Rattle.dc_stack.specs.Extents.{IsExtent}
 use Rattle.dc_stack.specs.Mapped.{mapped_lists}
-use Rattle.dc_stack.specs.OperationFault.{points_fault}
 use Rattle.dc_stack.proofs.ListLemmas.{points_listed}
-use Rattle.dc_stack.proofs.MarkingLemmas.{draws_marked}
+use Rattle.dc_stack.proofs.MarkingLemmas.{draws_marked, refuses_lists}
 use Rattle.dc_stack.proofs.machine.Machine.draw_lists.Goals as goal
 
 pub returns-in-Ok-clause-draws : goal.returns-in-Ok-clause-draws
@@ -27,7 +24,5 @@ returns-in-Err-clause-draws g c =
     let s = surface_of c.self.inside.place in
     let shows : ShowsFrame s = record { wide = c.self.inside.place.frame.wide; high = c.self.inside.place.frame.high } in
     let on_plane = mapped_lists (map_numbers c.self.inside.dc.map) (lists_of c.args.lists) in
-    rw (← c.self.view_is) (record {
-      refused = ap (option_map Record) (ap (λ ps. points_fault ps s) (points_listed on_plane) ∙ sym (c.in-Err.ensures.refused s shows));
-      kept = record { state = refl; painted = refl; needs = refl };
-    })
+    rw (← c.self.view_is)
+    (refuses_lists c.args.painting on_plane _ _ c.in-Err.fault (sym (c.in-Err.ensures.refused s shows)) (record { state = refl; painted = refl; plane_extent = refl; needs = refl }))

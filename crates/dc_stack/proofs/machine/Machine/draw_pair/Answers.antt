@@ -1,14 +1,12 @@
-use Rattle.std.proofs.Common.{[], ◌∷◌, arith, refl, sym, ap}
-use Rattle.std.specs.Option.{option_map}
-use Rattle.draw_ops.specs.declared.fault.Fault.TheVariants.{Record}
+use Rattle.std.proofs.Common.{[], ◌∷◌, arith, refl}
 use Rattle.mapping.specs.PlaceOf.{surface_of}
 use Rattle.mapping.specs.PlacingLaws.{ShowsFrame}
 use Rattle.dc_stack.specs.Drawing.{lists_painted}
 use Rattle.dc_stack.specs.Extents.{IsPlaneBox}
 use Rattle.dc_stack.specs.declared.draw.Mark.TheVariants.{Line}
 use Rattle.dc_stack.specs.declared.draw.Painting.TheVariants.{Stroke}
-use Rattle.dc_stack.proofs.ListLemmas.{few_then, never_too_many}
-use Rattle.dc_stack.proofs.MarkingLemmas.{draws_marked}
+use Rattle.dc_stack.proofs.ListLemmas.{never_too_many}
+use Rattle.dc_stack.proofs.MarkingLemmas.{draws_marked, refuses_off}
 use Rattle.dc_stack.proofs.machine.Machine.draw_pair.Goals as goal
 
 pub returns-in-Ok-clause-draws : goal.returns-in-Ok-clause-draws
@@ -24,7 +22,5 @@ pub returns-in-Err-clause-draws : goal.returns-in-Err-clause-draws
 returns-in-Err-clause-draws g c =
     let place = c.self.inside.place in
     let shows : ShowsFrame (surface_of place) = record { wide = place.frame.wide; high = place.frame.high } in
-    rw (← c.self.view_is) (record {
-      refused = rw (few_then 2 (omega arith)) (ap (option_map Record) (sym (c.in-Err.ensures.off (surface_of place) shows)));
-      kept = record { state = refl; painted = refl; needs = refl };
-    })
+    rw (← c.self.view_is)
+    (refuses_off _ _ _ c.in-Err.fault (never_too_many 2 (omega arith)) (c.in-Err.ensures.off (surface_of place) shows) (record { state = refl; painted = refl; plane_extent = refl; needs = refl }))

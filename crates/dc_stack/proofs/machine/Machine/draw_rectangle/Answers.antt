@@ -1,13 +1,11 @@
-use Rattle.std.proofs.Common.{[], ◌∷◌, arith, refl, sym, ap}
-use Rattle.std.specs.Option.{option_map}
-use Rattle.draw_ops.specs.declared.fault.Fault.TheVariants.{Record}
+use Rattle.std.proofs.Common.{[], ◌∷◌, arith, refl}
 use Rattle.mapping.specs.PlaceOf.{surface_of}
 use Rattle.mapping.specs.PlacingLaws.{ShowsFrame}
 use Rattle.dc_stack.specs.Drawing.{rectangle_between}
 use Rattle.dc_stack.specs.Extents.{IsPlaneBox}
 use Rattle.dc_stack.specs.declared.draw.Mark.TheVariants.{Rectangle}
-use Rattle.dc_stack.proofs.ListLemmas.{few_then, never_too_many}
-use Rattle.dc_stack.proofs.MarkingLemmas.{draws_marked}
+use Rattle.dc_stack.proofs.ListLemmas.{never_too_many}
+use Rattle.dc_stack.proofs.MarkingLemmas.{draws_marked, refuses_off}
 use Rattle.dc_stack.proofs.machine.Machine.draw_rectangle.Goals as goal
 
 pub returns-in-Ok-clause-draws : goal.returns-in-Ok-clause-draws
@@ -26,7 +24,5 @@ returns-in-Err-clause-draws g c =
     let place = c.self.inside.place in
     let shows : ShowsFrame (surface_of place) = record { wide = place.frame.wide; high = place.frame.high } in
     let off = rw (c.left_top.ensures, c.right_bottom.ensures) at c.in-Err.ensures.off in
-    rw (← c.self.view_is) (record {
-      refused = rw (few_then 4 (omega arith)) (ap (option_map Record) (sym (off (surface_of place) shows)));
-      kept = record { state = refl; painted = refl; needs = refl };
-    })
+    rw (← c.self.view_is)
+    (refuses_off _ _ _ c.in-Err.fault (never_too_many 4 (omega arith)) (off (surface_of place) shows) (record { state = refl; painted = refl; plane_extent = refl; needs = refl }))

@@ -6,7 +6,7 @@ use Rattle.dc_stack.specs.Pieces.{AllLandOn, figures_of}
 use Rattle.dc_stack.specs.State.{State, with_path}
 use Rattle.dc_stack.specs.declared.path.PathPhase.{PathPhase}
 use Rattle.dc_stack.specs.declared.path.PathPhase.TheVariants.{Finished}
-use Rattle.dc_stack.proofs.PaintingLemmas.{finished_figures, plays_painting, refuses_off, refuses_painting}
+use Rattle.dc_stack.proofs.PaintingLemmas.{finished_figures, plays_painting, refuses_marking, refuses_painting}
 use Rattle.dc_stack.proofs.machine.Machine.paint_path.Goals as goal
 
 pub returns-in-None-clause-plays : goal.returns-in-None-clause-plays
@@ -14,7 +14,7 @@ returns-in-None-clause-plays g c =
     let pieces = c.self.inside.path.pieces.items in
     let phase : c.self.inside.path.phase ≡ Finished = search rules in
     let at : path_of c.self.inside.path ≡ finished_path (all_figures (figures_of pieces)) = ap (λ (p : PathPhase). path_in p pieces) phase in
-    rw (← c.self.view_is) (refuses_painting _ _ c.args.painting pieces at c.in-None.ensures.many (record { state = refl; painted = refl; needs = refl }))
+    rw (← c.self.view_is) (refuses_painting _ _ c.args.painting pieces at c.in-None.ensures.many (record { state = refl; painted = refl; plane_extent = refl; needs = refl }))
 
 pub returns-in-Err-clause-plays : goal.returns-in-Err-clause-plays
 returns-in-Err-clause-plays g c =
@@ -22,7 +22,7 @@ returns-in-Err-clause-plays g c =
     let phase : c.self.inside.path.phase ≡ Finished = search rules in
     let at : path_of c.self.inside.path ≡ finished_path (all_figures (figures_of pieces)) = ap (λ (p : PathPhase). path_in p pieces) phase in
     let marks = rw (← c.self.view_is) at c.in-Err.ensures.marks in
-    rw (← c.self.view_is) (refuses_off _ _ c.args.painting _ c.in-Some.count (all_figures (figures_of pieces)) at c.in-Some.ensures.count c.in-Some.ensures.few c.self.invariant.points.least _ marks)
+    rw (← c.self.view_is) (refuses_marking _ _ c.args.painting _ c.in-Some.count (all_figures (figures_of pieces)) at c.in-Some.ensures.count c.in-Some.ensures.few c.self.invariant.points.least _ marks)
 
 pub returns-in-Ok-clause-plays : goal.returns-in-Ok-clause-plays
 returns-in-Ok-clause-plays g c =

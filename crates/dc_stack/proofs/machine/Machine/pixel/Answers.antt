@@ -9,6 +9,7 @@ use Rattle.dc_stack.specs.Drawing.{dot}
 use Rattle.dc_stack.specs.Extents.{IsPlaneBox}
 use Rattle.dc_stack.specs.Mapped.{mapped_point}
 use Rattle.dc_stack.specs.declared.draw.Mark.TheVariants.{Dot}
+use Rattle.dc_stack.proofs.FaultOrder.{first_of_both}
 use Rattle.dc_stack.proofs.ListLemmas.{few_then, never_too_many}
 use Rattle.dc_stack.proofs.MarkingLemmas.{draws_marked, plays_drawn}
 use Rattle.dc_stack.proofs.PlaneBoxLemmas.{point_plane_box}
@@ -30,6 +31,6 @@ returns-in-Err-clause-plays g c =
     let place = c.self.inside.place in
     let shows : ShowsFrame (surface_of place) = record { wide = place.frame.wide; high = place.frame.high } in
     rw (← c.self.view_is) (record {
-      refused = inl (ap (option_map Record) (sym (c.in-Err.ensures.off (surface_of place) shows)));
-      kept = record { state = refl; painted = refl; needs = refl };
+      refused = inl (ap (option_map Record) (first_of_both _ _ _ (sym (c.in-Err.ensures.off (surface_of place) shows))));
+      kept = record { state = refl; painted = refl; plane_extent = refl; needs = refl };
     })

@@ -15,6 +15,7 @@ returns-clause-plays g c =
       };
       drawn = refl;
       placed = tt;
+      nib = tt;
       extent = refl;
       figures = λ (e : false ≡ true). cc;
     })

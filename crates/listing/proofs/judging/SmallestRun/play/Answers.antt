@@ -1,21 +1,29 @@
--- A fault on the smallest surface is that on the largest, too.
-use Rattle.std.proofs.Common.{◌∙◌}
+-- What refuses a machine with room for any file is a fault of the operation.
+use Rattle.std.proofs.Common.{rules}
 use Rattle.draw_ops.specs.OperationOf.{operation_of}
-use Rattle.mapping.specs.PlaceOf.{surface_of}
-use Rattle.dc_stack.specs.OperationFault.{plain_fault, plane_points}
-use Rattle.listing.proofs.JudgingLemmas.{plain_then_place, refused_there}
+use Rattle.listing.proofs.JudgingLemmas.{refused_here}
+use Rattle.listing.proofs.PathLemmas.{stays_landed, unchanged_landed}
 use Rattle.listing.proofs.judging.SmallestRun.play.Goals as goal
+use Rattle.listing.proofs.judging.SmallestRun.play.Goals.{in-Ok, in-Err}
 
-pub returns-in-Err-clause-on_largest : goal.returns-in-Err-clause-on_largest
-returns-in-Err-clause-on_largest c =
-    rw (← c.self.view_is)
-    (refused_there c.fault_law.ensures c.need_law.ensures (operation_of c.args.op.now) c.self.inside.machine (surface_of c.self.inside.largest) c.in-Err.fault c.self.invariant c.in-Err.ensures.refused)
+pub returns-clause-on_smallest : goal.returns-clause-on_smallest
+returns-clause-on_smallest c =
+    elim c.match-step_into.branch [
+      | in-Ok w ↦ rw w.result-is tt
+      | in-Err w ↦
+          rw (w.result-is, ← c.self.view_is)
+          (refused_here c.need_law.ensures (operation_of c.args.op.now) c.self.inside.machine w.in-Err.fault c.self.invariant.running.room w.in-Err.ensures.refused)
+    ]
 
--- Without a fault on the smallest, the one on the largest is that of places.
-pub returns-clause-off : goal.returns-clause-off
-returns-clause-off c =
-    let operation = operation_of c.args.op.now in
-    let old = c.self.inside.machine in
-    rw (← c.self.view_is)
-    (c.off_plane.ensures (plane_points operation old.state) (rw c.plane_extent.ensures c.in-Ok.ensures.extent)
-    ∙ plain_then_place (plain_fault operation old.state) _ _ c.in-Ok.ensures.stepped.no_fault)
+pub invariant_of-self : goal.invariant_of-self
+invariant_of-self c =
+    elim c.match-step_into.branch [
+      | in-Ok w ↦ record {
+        running = search rules;
+        landed = stays_landed (operation_of c.args.op.now) c.self.inside.machine _ w.in-Ok.ensures.stepped w.in-Ok.ensures.goes_on c.self.invariant.landed;
+      }
+      | in-Err w ↦ record {
+        running = search rules;
+        landed = unchanged_landed c.self.inside.machine _ w.in-Err.ensures.kept w.in-Err.ensures.goes_on c.self.invariant.landed;
+      }
+    ]

@@ -7,8 +7,8 @@ use Rattle.painting.specs.Joined.{joined_if}
 use Rattle.painting.proofs.DrawingLemmas.{clip_placed, joined_same}
 use Rattle.painting.proofs.stroke.Stroke.with.Goals as goal
 
-pub returns : goal.returns
-returns g c =
+pub returns-clause-paint : goal.returns-clause-paint
+returns-clause-paint g c =
     let s = c.args.machine.now.surface in
     let state = c.args.machine.now.state.dc in
     let dc = c.dc-dc.result.now in

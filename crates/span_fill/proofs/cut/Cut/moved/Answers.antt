@@ -3,20 +3,14 @@ use Rattle.std.proofs.Common.{arith}
 use Rattle.std.proofs.lemmas.Int.{ints}
 use Rattle.span_fill.proofs.cut.Cut.moved.Goals as goal
 
-pub returns-then-sum-self : goal.returns-then-sum-self
-returns-then-sum-self c = record {
-  divisor = omega (arith, ints);
-  across = omega (arith, ints);
-  more = omega (arith, ints);
+pub returns-then-sum-step : goal.returns-then-sum-step
+returns-then-sum-step c = record {
   kept = λ h. (omega (arith, ints), omega (arith, ints));
   carried = λ h. absurd (omega (arith, ints, h));
 }
 
-pub returns-else-sum-self : goal.returns-else-sum-self
-returns-else-sum-self c = record {
-  divisor = omega (arith, ints);
-  across = omega (arith, ints);
-  more = omega (arith, ints);
+pub returns-else-sum-step : goal.returns-else-sum-step
+returns-else-sum-step c = record {
   kept = λ h. absurd (omega (arith, ints, h));
   carried = λ h. (omega (arith, ints), omega (arith, ints));
 }

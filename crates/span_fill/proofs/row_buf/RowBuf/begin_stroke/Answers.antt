@@ -1,5 +1,6 @@
 -- The strips are those of the outline's lines.
-use Rattle.std.proofs.Common.{◌≡◌, ◌≤◌, length, ap, ◌∙◌, arith}
+use Rattle.std.proofs.Common.{◌≡◌, ◌≤◌, length, ap, sym, ◌∙◌, arith}
+use Rattle.mapping.specs.declared.nib.Nib.{Nib}
 use Rattle.span_fill.specs.RowState.{RowState}
 use Rattle.span_fill.specs.StrokeRows.{lines_have}
 use Rattle.span_fill.proofs.row_buf.RowBuf.begin_stroke.Goals as goal
@@ -28,7 +29,7 @@ invariant_of-self g c =
       stroking = λ h. record {
         row = c.requires.row;
         are = c.begin.ensures.strokes;
-        have = λ x n k m. c.begin.ensures.have x n k m ∙ ap (λ l. lines_have l x n) c.as_slice.ensures.value;
+        have = λ x n k m. c.begin.ensures.have x n k m ∙ ap (λ l. lines_have c.args.nib l x n) c.as_slice.ensures.value ∙ ap (λ (b : Nib). lines_have b c.copy_lines.new.lines.items x n) (sym c.begin.ensures.nib);
         count = omega (arith, c.begin.ensures.count, given, count);
       };
     }

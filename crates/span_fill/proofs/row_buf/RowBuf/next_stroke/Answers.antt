@@ -1,6 +1,9 @@
 -- The strips' spans are the lines', and the strips go on to the next row.
-use Rattle.std.proofs.Common.{◌<◌, subst, sym, ◌∙◌, arith}
-use Rattle.span_fill.specs.RowState.{FillsRow, IsStrokingWork, RowState}
+use Rattle.std.proofs.Common.{◌<◌, ap, subst, sym, ◌∙◌, arith}
+use Rattle.mapping.specs.declared.nib.Nib.{Nib}
+use Rattle.span_fill.specs.StrokeRows.{lines_have}
+use Rattle.span_fill.specs.RowFields.{row_work}
+use Rattle.span_fill.specs.RowState.{FillsRow, IsFillingWork, IsStrokingWork, RowState}
 use Rattle.span_fill.proofs.StrokingLemmas.{not_both, stroked}
 use Rattle.span_fill.proofs.row_buf.RowBuf.next_stroke.Goals as goal
 
@@ -36,11 +39,11 @@ invariant_of-self c =
       };
       count = c.self.invariant.count;
       near = c.self.invariant.near;
-      filling = λ h. absurd (not_both _ h work);
+      filling = λ h. absurd (not_both _ (subst (λ (n : Nib). IsFillingWork (row_work c.self.inside.work c.self.inside.rule n)) c.next_row.ensures.nib h) work);
       stroking = λ h. record {
         row = omega (arith, next);
         are = c.next_row.ensures.strokes;
-        have = λ x n k m. c.next_row.ensures.have x n (omega (arith, k)) m ∙ strokes.have x n (omega (arith, k)) m;
+        have = λ x n k m. c.next_row.ensures.have x n (omega (arith, k)) m ∙ strokes.have x n (omega (arith, k)) m ∙ ap (λ (b : Nib). lines_have b c.self.inside.lines.items x n) (sym c.next_row.ensures.nib);
         count = omega (arith, c.next_row.ensures.count, strokes.count);
       };
     }

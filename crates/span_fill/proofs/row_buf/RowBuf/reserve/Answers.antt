@@ -1,5 +1,8 @@
 -- There is more room, and nothing else differs.
-use Rattle.std.proofs.Common.{arith}
+use Rattle.std.proofs.Common.{arith, subst}
+use Rattle.mapping.specs.declared.nib.Nib.{Nib}
+use Rattle.span_fill.specs.RowFields.{row_work}
+use Rattle.span_fill.specs.RowState.{IsFillingWork, IsStrokingWork}
 use Rattle.span_fill.proofs.RowLemmas.{filling_grows}
 use Rattle.span_fill.proofs.StrokingLemmas.{stroking_grows}
 use Rattle.span_fill.proofs.row_buf.RowBuf.reserve.Goals as goal
@@ -23,8 +26,8 @@ invariant_of-self-2 c =
       };
       count = rw c.grow.ensures.items (omega arith);
       near = rw c.grow.ensures.items c.self.invariant.near;
-      filling = λ work. rw (c.grow.ensures.items, c.grow-2.ensures.items, c.grow-3.ensures.items) (filling_grows c.self.inside.next c.self.inside.room c.args.lines c.self.inside.lines.items c.self.inside.edges.items c.self.inside.begun c.self.inside.active.items c.self.inside.event (omega arith) (c.self.invariant.filling work));
-      stroking = λ work. rw c.grow.ensures.items (stroking_grows c.self.inside.lines.items c.self.inside.next c.self.inside.room c.args.lines c.self.inside.strokes c.reserve.new.self (omega arith) c.reserve.ensures.strokes c.reserve.ensures.have c.reserve.ensures.count (c.self.invariant.stroking work));
+      filling = λ work. rw (c.grow.ensures.items, c.grow-2.ensures.items, c.grow-3.ensures.items) (filling_grows c.self.inside.next c.self.inside.room c.args.lines c.self.inside.lines.items c.self.inside.edges.items c.self.inside.begun c.self.inside.active.items c.self.inside.event (omega arith) (c.self.invariant.filling (subst (λ (n : Nib). IsFillingWork (row_work c.self.inside.work c.self.inside.rule n)) c.reserve.ensures.nib work)));
+      stroking = λ work. rw c.grow.ensures.items (stroking_grows c.self.inside.lines.items c.self.inside.next c.self.inside.room c.args.lines c.self.inside.strokes c.reserve.new.self (omega arith) c.reserve.ensures.strokes c.reserve.ensures.have c.reserve.ensures.count c.reserve.ensures.nib (c.self.invariant.stroking (subst (λ (n : Nib). IsStrokingWork (row_work c.self.inside.work c.self.inside.rule n)) c.reserve.ensures.nib work)));
     }
 
 pub invariant_of-self-in_err-reserve : goal.invariant_of-self-in_err-reserve
@@ -47,6 +50,6 @@ invariant_of-self-in_err-reserve c =
       };
       count = rw c.grow.ensures.items c.self.invariant.count;
       near = rw c.grow.ensures.items c.self.invariant.near;
-      filling = λ work. rw (c.grow.ensures.items, c.grow-2.ensures.items, c.grow-3.ensures.items) (c.self.invariant.filling work);
-      stroking = λ work. rw c.grow.ensures.items (stroking_grows c.self.inside.lines.items c.self.inside.next c.self.inside.room c.self.inside.room c.self.inside.strokes c.reserve.new.self (omega arith) c.reserve.ensures.strokes c.reserve.ensures.have c.reserve.ensures.count (c.self.invariant.stroking work));
+      filling = λ work. rw (c.grow.ensures.items, c.grow-2.ensures.items, c.grow-3.ensures.items) (c.self.invariant.filling (subst (λ (n : Nib). IsFillingWork (row_work c.self.inside.work c.self.inside.rule n)) c.reserve.ensures.nib work));
+      stroking = λ work. rw c.grow.ensures.items (stroking_grows c.self.inside.lines.items c.self.inside.next c.self.inside.room c.self.inside.room c.self.inside.strokes c.reserve.new.self (omega arith) c.reserve.ensures.strokes c.reserve.ensures.have c.reserve.ensures.count c.reserve.ensures.nib (c.self.invariant.stroking (subst (λ (n : Nib). IsStrokingWork (row_work c.self.inside.work c.self.inside.rule n)) c.reserve.ensures.nib work)));
     }

@@ -6,6 +6,6 @@ use Rattle.span_fill.proofs.strokes.Strokes.begin.Goals as goal
 
 pub returns-clause-have : goal.returns-clause-have
 returns-clause-have c = λ x y h k.
-    ap (λ l. strips_have l x y || strips_have c.sort_strips.new.strips.items x y) c.clear.ensures.items
-    ∙ have_sorted c.collect_strips.new.strips.items c.sort_strips.new.strips.items x y c.sort_strips.ensures.permutation
+    ap (λ l. strips_have c.args.nib l x y || strips_have c.args.nib c.sort_strips.new.strips.items x y) c.clear.ensures.items
+    ∙ have_sorted c.args.nib c.collect_strips.new.strips.items c.sort_strips.new.strips.items x y c.sort_strips.ensures.permutation
     ∙ c.collect_strips.ensures.have x y h k

@@ -1,5 +1,5 @@
 -- The row's spans are those of the strips that have it, and the others go on waiting.
-use Rattle.std.proofs.Common.{pos, drop, length, vec_capacity, ap, ◌∙◌, arith}
+use Rattle.std.proofs.Common.{pos, ◌+◌, ◌+ℤ◌, drop, length, ap, ◌∙◌, arith}
 use Rattle.span_fill.specs.Spans.{in_spans}
 use Rattle.span_fill.specs.StrokeRows.{strips_have}
 use Rattle.span_fill.specs.Stroking.{strokes_have}
@@ -10,21 +10,20 @@ use Rattle.span_fill.proofs.strokes.Strokes.next_row.Goals as goal
 pub join_within-requires-clause-room : goal.join_within-requires-clause-room
 join_within-requires-clause-room c = λ some.
     let waiting = ap (λ xs. length xs) c.as_slice.ensures.value in
-    let active = ap (λ xs. length xs) c.as_slice-2.ensures.value in
-    let parts = ap (λ xs. length xs) c.as_slice-3.ensures.value in
-    let room = c.requires.room (omega (arith, some, waiting, active, parts, c.enter-self.ensures.length, c.draw_row.ensures.parts_length, c.sort_parts.ensures.length)) in
-    omega (arith, room, waiting, active, parts, c.enter-self.ensures.length, c.draw_row.ensures.parts_length, c.sort_parts.ensures.length)
+    let parts = ap (λ xs. length xs) c.as_slice-2.ensures.value in
+    let room = c.requires.room (omega (arith, some, waiting, parts, c.enter-self.ensures.length, c.draw_row.ensures.parts_length, c.sort_parts.ensures.length)) in
+    omega (arith, room, waiting, parts, c.enter-self.ensures.length, c.draw_row.ensures.parts_length, c.sort_parts.ensures.length)
 
 pub returns-clause-spans : goal.returns-clause-spans
 returns-clause-spans c =
     let old = c.args.self.now in
     let behind = rw c.as_slice.ensures.value at c.enter-self.ensures.waiting in
     let have = rw c.as_slice.ensures.value at c.enter-self.ensures.have in
-    row_of_same (λ x. in_spans c.as_slice-3.result.now x) (λ x. strokes_have c.args.self.now (pos x) c.args.row) c.args.interval c.join_within.new.spans.items
+    row_of_same (λ x. in_spans c.as_slice-2.result.now x) (λ x. strokes_have c.args.self.now (pos x) c.args.row) c.args.interval c.join_within.new.spans.items
     (λ x h.
-    ap (λ l. in_spans l x) c.as_slice-3.ensures.value
-    ∙ row_of_strips c.args.row x old.active.items c.enter-self.new.active.items (drop old.begun old.waiting.items) (drop c.enter-self.result old.waiting.items) c.draw_row.new.parts.items c.sort_parts.new.parts.items c.requires.row behind (have (pos x) c.args.row)
-    (c.draw_row.ensures.parts x (omega (arith, h, c.requires.interval)) ∙ ap (λ l. strips_have l (pos x) c.args.row) c.as_slice-2.ensures.value)
+    ap (λ l. in_spans l x) c.as_slice-2.ensures.value
+    ∙ row_of_strips old.nib c.args.row x old.active.items c.enter-self.new.active.items (drop old.begun old.waiting.items) (drop c.enter-self.result old.waiting.items) c.draw_row.new.parts.items c.sort_parts.new.parts.items c.requires.row behind (have (pos x) c.args.row)
+    (c.draw_row.ensures.parts x (omega (arith, h, c.requires.interval)))
     (in_spans-sorted c.draw_row.new.parts.items c.sort_parts.new.parts.items x c.sort_parts.ensures.permutation))
     c.join_within.ensures.spans
 
@@ -32,20 +31,16 @@ pub returns-clause-strokes : goal.returns-clause-strokes
 returns-clause-strokes c =
     let behind = rw c.as_slice.ensures.value at c.enter-self.ensures.waiting in
     let waiting = ap (λ xs. length xs) c.as_slice.ensures.value in
-    let active = ap (λ xs. length xs) c.as_slice-2.ensures.value in
-    let passed_length = ap (λ v. length v.items) c.swap.ensures.x_after in
-    let passed_room = ap vec_capacity c.swap.ensures.x_after in
-    let active_room = ap vec_capacity c.swap.ensures.y_after in
     let there = c.requires.strokes.room in
     record {
-      active = rw c.swap.ensures.x_after c.draw_row.ensures.passed;
-      waiting = wait_on c.args.row (drop c.enter-self.result c.args.self.now.waiting.items) behind;
+      nib = c.requires.strokes.nib;
+      active = c.draw_row.ensures.active;
+      waiting = wait_on c.args.self.now.nib (pos c.args.row) (pos 8192) (drop c.enter-self.result c.args.self.now.waiting.items) behind;
       sorted = c.requires.strokes.sorted;
       begun = omega (arith, waiting, c.enter-self.ensures.within);
       room = record {
-        waiting = omega (arith, waiting, active, passed_length, c.enter-self.ensures.length, c.draw_row.ensures.length, there.waiting);
-        active = omega (arith, waiting, active, passed_length, passed_room, c.enter-self.ensures.length, c.draw_row.ensures.length, c.draw_row.ensures.passed_room, there.passed);
-        passed = omega (arith, waiting, active, passed_length, active_room, c.enter-self.ensures.length, c.enter-self.ensures.room, c.draw_row.ensures.length, there.active);
-        parts = omega (arith, waiting, active, passed_length, c.enter-self.ensures.length, c.draw_row.ensures.length, c.draw_row.ensures.parts_room, c.sort_parts.ensures.room, there.parts);
+        waiting = omega (arith, waiting, c.enter-self.ensures.length, c.draw_row.ensures.length, there.waiting);
+        active = omega (arith, waiting, c.enter-self.ensures.length, c.enter-self.ensures.room, c.draw_row.ensures.length, c.draw_row.ensures.room, there.active);
+        parts = omega (arith, waiting, c.enter-self.ensures.length, c.draw_row.ensures.length, c.draw_row.ensures.parts_room, c.sort_parts.ensures.room, there.parts);
       };
     }

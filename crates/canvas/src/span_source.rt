@@ -1,0 +1,110 @@
+//! Spans of rows that a source gives one after another, and that are written.
+
+ghost use Rattle.std.specs.Prelude.{◌≡◌, ◌+◌, ◌*◌, ◌<◌, ◌≤◌, ◌^◌, ℕ, Bool, true};
+ghost use Rattle.mapping.specs.Mixes.{mixed_by};
+ghost use Rattle.canvas.specs.CanvasState.{HasPixel, HasRow};
+ghost use Rattle.canvas.specs.PixelSources.{KeepsEnd};
+ghost use Rattle.canvas.specs.SpanSources.{ChangesSpan, GivesNextSpan};
+ghost use Rattle.canvas.specs.Writing.{Repaints, in_row_span};
+
+use crate::part_change::PartChange;
+use crate::surface::{Canvas, place};
+use crate::swatch::Swatch;
+use mapping::{Colour, Mix};
+
+/// Columns of a row of a surface, from the first up to before the last. Where `to` isn't above `from` there is none.
+#[derive(Clone, Copy, Debug, PartialEq, Eq)]
+pub struct RowSpan {
+    pub y: u32,
+    pub from: u32,
+    pub to: u32,
+}
+
+/// Spans of a surface's rows, one after another, no pixel in two of them.
+pub trait SpanSource {
+    /// Whether a pixel is to come.
+    ghost to_come: { Self → ℕ → ℕ → Bool };
+
+    /// A number that each span makes less.
+    ghost measure: { Self → ℕ };
+
+    /// What a source is, once it has given all its spans.
+    ghost ends_as: { Self → Self → Type 0 };
+
+    /// The next span, which may be empty, or none after the last.
+    fn next_span(&mut self) -> Option<RowSpan>
+        ensures span { GivesNextSpan (to_come self.old) (measure self.old) result (to_come self.new) (measure self.new) }
+        ensures end { KeepsEnd ends_as result self.old self.new };
+}
+
+impl Canvas {
+    /// Writes the pixels of all spans that a source gives in one colour, each counted once.
+    pub fn put_each_span<S: SpanSource>(&mut self, spans: &mut S, colour: Colour)
+        requires held { (x y : ℕ) → S.to_come spans.old x y ≡ true → HasPixel self.old x y }
+        requires countable { self.old.writes + self.old.rows * self.old.width + 1 < 2 ^ 64 }
+        ensures pixels { Repaints (S.to_come spans.old) (λ x y old. colour) self.old self.new }
+        ensures end { S.ends_as spans.old spans.new }
+    {
+        self.change_spans(spans, &Swatch::new(colour));
+    }
+
+    /// Changes the pixels of all spans that a source gives by the mix, each counted once. Where the mix makes one
+    /// colour of all, no colour is read.
+    pub fn mix_each_span<S: SpanSource>(&mut self, spans: &mut S, mix: Mix)
+        requires held { (x y : ℕ) → S.to_come spans.old x y ≡ true → HasPixel self.old x y }
+        requires countable { self.old.writes + self.old.rows * self.old.width + 1 < 2 ^ 64 }
+        ensures pixels { Repaints (S.to_come spans.old) (λ x y old. mixed_by mix old) self.old self.new }
+        ensures end { S.ends_as spans.old spans.new }
+    {
+        self.width();
+        match mix.constant() {
+            Some(colour) => self.put_each_span(spans, colour),
+            None => self.change_spans(spans, &mix),
+        }
+    }
+
+    /// Makes of the pixels of all spans that a source gives what the change makes of them, each counted once.
+    fn change_spans<S: SpanSource, C: PartChange>(&mut self, spans: &mut S, change: &C)
+        requires held { (x y : ℕ) → S.to_come spans.old x y ≡ true → HasPixel self.old x y }
+        requires countable { self.old.writes + self.old.rows * self.old.width + 1 < 2 ^ 64 }
+        ensures pixels { Repaints (S.to_come spans.old) (λ x y old. C.made change.now old) self.old self.new }
+        ensures end { S.ends_as spans.old spans.new }
+    {
+        self.width();
+        // (the writes are counted here: a count in the canvas would go through memory for each span)
+        let mut count: u64 = 0;
+        while let Some(span) = spans.next_span() {
+            count += self.change_span(span, change);
+        }
+        self.writes += count;
+    }
+
+    /// Makes of the pixels of a span what the change makes of them, and tells how many they are. It counts none of them.
+    fn change_span<C: PartChange>(&mut self, span: RowSpan, change: &C) -> u64
+        requires { (x y : ℕ) → in_row_span span.y span.from span.to x y ≡ true → HasPixel self.old x y }
+        ensures pixels { ChangesSpan span (C.made change.now) result self.old self.new }
+        ensures count { self.new.writes ≡ self.old.writes }
+    {
+        self.width();
+        // (the row of an empty span need not be held)
+        if span.from >= span.to {
+            return 0;
+        }
+        self.change_columns(span, change)
+    }
+
+    /// The same for a span of a row that is held.
+    fn change_columns<C: PartChange>(&mut self, span: RowSpan, change: &C) -> u64
+        requires columns { span.from ≤ span.to }
+        requires width { span.to ≤ self.old.width }
+        requires row { HasRow self.old span.y }
+        ensures pixels { ChangesSpan span (C.made change.now) result self.old self.new }
+        ensures count { self.new.writes ≡ self.old.writes }
+    {
+        let length = span.to - span.from;
+        let start = place(self.stride, span.y - self.first, span.from);
+        let end = start + length as usize;
+        change.change(&mut self.colours[start..end]);
+        u64::from(length)
+    }
+}

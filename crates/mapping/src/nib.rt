@@ -1,0 +1,152 @@
+//! The nib of a pen: how many columns and rows of a surface it covers.
+
+ghost use Rattle.std.specs.Prelude.{◌≡◌, ◌≤◌, ◌≤ℤ◌, ◌*◌, ◌/◌, pos, max, unsigned_abs, is_some, SomeIff, IsTrue, ◌↔◌};
+ghost use Rattle.mapping.specs.Nibs.{IsNib, IsNibSide, NibLaws, is_nib, is_nib_side, nib_of, nib_side, reach_after, reach_before};
+ghost use Rattle.mapping.specs.PageMap.{axis_numbers, map_numbers};
+ghost use Rattle.mapping.specs.PlaceOf.{surface_of};
+
+use crate::divisor::Divisor;
+use crate::limits::limits_law;
+use crate::page_map::{PageAxis, PageMap};
+use crate::place::Place;
+
+/// The longest side of a nib, in pixels.
+pub const MAX_NIB_SIDE: u16 = 4096;
+
+/// The pixels that a pen covers at once: a box of `x` columns by `y` rows.
+#[derive(Clone, Copy, Debug, PartialEq, Eq)]
+pub struct Nib {
+    /// The number of columns.
+    pub x: u16,
+    /// The number of rows.
+    pub y: u16,
+}
+
+impl Nib {
+    /// The nib of one pixel.
+    pub const ONE: Nib = Nib { x: 1, y: 1 };
+
+    /// Whether both sides are from 1 to 4,096 pixels.
+    pub fn is_allowed(self) -> bool
+        ensures limits { IsTrue result ↔ IsNib self }
+        ensures test { result ≡ is_nib self }
+    {
+        limits_law();
+        1 <= self.x && self.x <= MAX_NIB_SIDE && 1 <= self.y && self.y <= MAX_NIB_SIDE
+    }
+}
+
+impl Place {
+    /// The nib of a pen of this width, in page units, under a page map: none exactly where a side would be above 4,096 pixels.
+    pub fn nib(&self, width: u32, map: &PageMap) -> Option<Nib>
+        ensures nib { let nib = nib_of width (map_numbers map.now) (surface_of self.now) in SomeIff result (IsNib nib) nib }
+        ensures test { is_some result ≡ is_nib (nib_of width (map_numbers map.now) (surface_of self.now)) }
+    {
+        let Some(x) = map.x.nib_side(width, self.width, self.by_width) else {
+            return None;
+        };
+        let Some(y) = map.y.nib_side(width, self.height, self.by_height) else {
+            return None;
+        };
+        Some(Nib { x, y })
+    }
+}
+
+impl PageAxis {
+    /// How many pixels of a surface's side a pen of this width covers, or none where that is above 4,096. A map whose extents have the same
+    /// length on the axis scales nothing, and then the frame's side alone divides.
+    fn nib_side(&self, width: u32, surface_side: u32, frame_side: Divisor) -> Option<u16>
+        ensures side { let side = nib_side width (axis_numbers self.now) surface_side frame_side.number in SomeIff result (IsNibSide side) side }
+        ensures test { is_some result ≡ is_nib_side (nib_side width (axis_numbers self.now) surface_side frame_side.number) }
+    {
+        let (viewport, window) = (self.viewport_length(), self.window_length());
+        if viewport == window {
+            return unscaled_side(times(width, surface_side), frame_side);
+        }
+        allowed_side(scaled(
+            times(width, viewport),
+            surface_side,
+            times(window, frame_side.number),
+        ))
+    }
+
+    /// The length of the viewport, whichever way it extends.
+    fn viewport_length(&self) -> u32
+        ensures { result ≡ unsigned_abs self.now.viewport_extent }
+    {
+        self.viewport_extent.unsigned_abs()
+    }
+
+    /// The length of the window, whichever way it extends.
+    fn window_length(&self) -> u32
+        ensures length { result ≡ unsigned_abs self.now.window_extent }
+        ensures some { 1 ≤ result }
+    {
+        self.window_extent.unsigned_abs()
+    }
+}
+
+/// The product of two numbers, in twice their bits.
+fn times(one: u32, other: u32) -> u64
+    ensures { result ≡ one * other }
+{
+    u64::from(one) * u64::from(other)
+}
+
+/// A length times a surface's side, divided: in 64 bits where the product fits.
+fn scaled(length: u64, surface_side: u32, whole: u64) -> u128
+    requires { 1 ≤ whole }
+    ensures { result ≡ length * surface_side / whole }
+{
+    match length.checked_mul(u64::from(surface_side)) {
+        Some(part) => u128::from(part / whole),
+        None => u128::from(length) * u128::from(surface_side) / u128::from(whole),
+    }
+}
+
+/// The side of a nib that is so many parts of a frame's side wide. Most pens cover one pixel, which a comparison tells.
+fn unscaled_side(part: u64, frame_side: Divisor) -> Option<u16>
+    ensures side { let side = max 1 (part / frame_side.number) in SomeIff result (IsNibSide side) side }
+    ensures test { is_some result ≡ is_nib_side (max 1 (part / frame_side.number)) }
+{
+    if part < times(2, frame_side.number) {
+        return Some(1);
+    }
+    allowed_side(u128::from(frame_side.quotient(part)))
+}
+
+/// The side of a nib that covers at least one pixel, or none where that is above 4,096.
+fn allowed_side(pixels: u128) -> Option<u16>
+    ensures side { let side = max 1 pixels in SomeIff result (IsNibSide side) side }
+    ensures test { is_some result ≡ is_nib_side (max 1 pixels) }
+{
+    let side = pixels.max(1);
+    if side <= u128::from(MAX_NIB_SIDE) {
+        Some(side as u16)
+    } else {
+        None
+    }
+}
+
+/// How many columns, or rows, of a nib with this side lie before the one that it is led along.
+pub fn reach_before(side: u16) -> i32
+    requires { IsNibSide side }
+    ensures reach { result ≡ pos (reach_before side) }
+    ensures few { result ≤ℤ pos 4095 }
+{
+    i32::from((side - 1) / 2)
+}
+
+/// How many lie after it.
+pub fn reach_after(side: u16) -> i32
+    requires { IsNibSide side }
+    ensures reach { result ≡ pos (reach_after side) }
+    ensures few { result ≤ℤ pos 4095 }
+{
+    i32::from(side - 1 - (side - 1) / 2)
+}
+
+/// The law of nibs: on a longer side of a surface a pen covers at least as many pixels, and a pen of width 0 covers one.
+pub fn nib_law()
+    ensures { NibLaws }
+{}

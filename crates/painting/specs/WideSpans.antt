@@ -1,0 +1,26 @@
+-- What is to come of a wide line, and what a nib covers of several.
+use Rattle.std.specs.Prelude.{ℕ, ◌-◌, pos, unsigned_abs, Bool, ◌&&◌, int_le, int_lt, List}
+use Rattle.mapping.specs.Mixes.{mixed_by}
+use Rattle.mapping.specs.declared.mix.Mix.{Mix}
+use Rattle.mapping.specs.declared.nib.Nib.{Nib}
+use Rattle.canvas.specs.CanvasState.{CanvasState}
+use Rattle.canvas.specs.Writing.{Repaints}
+use Rattle.span_fill.specs.Spans.{in_region, in_span}
+use Rattle.span_fill.specs.WideLines.{WideLineState}
+use Rattle.span_fill.specs.WideStrokes.{in_wide_stroke, on_wide_line}
+use Rattle.span_fill.specs.declared.line.Line.{Line}
+use Rattle.span_fill.specs.declared.span.Region.{Region}
+use Rattle.span_fill.specs.declared.span.Span.{Span}
+
+-- the nib covers the pixel in a row of the line that is to come, in one of these columns
+abbrev pub is_wide_to_come : WideLineState → Span → ℕ → ℕ → Bool
+is_wide_to_come wide columns x y =
+    (in_span columns x && on_wide_line wide.nib wide.line (pos x) (pos y)) && (int_le wide.next (pos y) && int_lt (pos y) wide.end)
+
+-- how many rows of the highest surface are to come
+abbrev pub rows_left : WideLineState → ℕ
+rows_left wide = 8192 - unsigned_abs wide.next
+
+-- the pixels that a nib covers in a region along some lines are mixed, each once
+abbrev pub MixesWide : Region → Nib → List Line → Mix → CanvasState → CanvasState → Type 0
+MixesWide region nib lines mix old new = Repaints (λ x y. in_region region x y && in_wide_stroke nib lines x y) (λ x y c. mixed_by mix c) old new

@@ -1,0 +1,103 @@
+//! Strokes by nibs of several pixels.
+
+ghost use Rattle.std.specs.Prelude.{◌≡◌, ◌≤◌, [], ◌∷◌, length};
+ghost use Rattle.dc_stack.specs.Values.{placed_value};
+ghost use Rattle.mapping.specs.Nibs.{IsNib};
+ghost use Rattle.span_fill.specs.Lines.{HasNearEnds};
+ghost use Rattle.span_fill.specs.StrokeMasks.{HasMaskRoom};
+ghost use Rattle.span_fill.specs.WideStrokes.{in_wide_stroke};
+ghost use Rattle.painting.specs.Counts.{CountsLayer, HasRoomForLayer};
+ghost use Rattle.painting.specs.Painted.{PaintsShape};
+ghost use Rattle.painting.specs.PenStrokes.{stroke_paint};
+ghost use Rattle.painting.specs.Regions.{HasNarrowNib, HasRegion, HoldShape, IsOfSide};
+ghost use Rattle.painting.specs.WideSpans.{MixesWide};
+
+use crate::lone_line::lone_line;
+use crate::regions::{visible_in, whole_law};
+use crate::room::DrawingRoom;
+use crate::stroke::Stroke;
+use crate::stroking::{StrokedLines, stroke_rows};
+use crate::wide_spans::{MaskSpans, WideLineSpans};
+use canvas::{Canvas, writing_law};
+use mapping::{Mix, Nib};
+use span_fill::{Line, Outline, Region, StrokeMask, WideLine};
+
+/// Strokes the lines of an outline by a nib of several pixels: a lone line row by row, and several by a mask, where that has room for what is
+/// seen of them. By rows of spans it goes else, and where a clip cuts boxes out, since a cut is asked about a span of a row then.
+pub(crate) fn stroke_wide_lines<O: Outline + Copy>(
+    canvas: &mut Canvas,
+    room: &mut DrawingRoom,
+    lines: StrokedLines<O>,
+    stroke: &Stroke<'_>,
+)
+    requires countable { HasRoomForLayer canvas.old }
+    requires room { length (O.lines lines.outline) ≤ room.old.rows.room }
+    requires nib { IsNib stroke.now.nib }
+    requires bounded { HasNarrowNib lines.bounds }
+    requires within { HoldShape lines.bounds (in_wide_stroke stroke.now.nib (O.lines lines.outline)) }
+    ensures pixels { PaintsShape (stroke_paint stroke.now) (in_wide_stroke stroke.now.nib (O.lines lines.outline)) canvas.old canvas.new }
+    ensures few { CountsLayer canvas.old canvas.new }
+    ensures room { room.new.rows.room ≡ room.old.rows.room }
+{
+    writing_law();
+    whole_law(canvas);
+    let drawn = visible_in(canvas, stroke.clip, lines.bounds.on_surface());
+    if !stroke.clip.cut_boxes().is_empty() {
+        stroke_rows(canvas, room, lines.outline, drawn, stroke);
+        return;
+    }
+    if let Some(line) = lone_line(lines.outline, lines.points) {
+        mix_wide_line(canvas, line, stroke.nib, drawn, stroke.mix);
+        return;
+    }
+    if let Some(mask) = &mut room.mask {
+        if mask.has_room(drawn) {
+            mix_by_mask(canvas, mask, lines.outline, drawn, stroke);
+            return;
+        }
+    }
+    stroke_rows(canvas, room, lines.outline, drawn, stroke);
+}
+
+/// Mixes what a region has of a line under a nib.
+fn mix_wide_line(canvas: &mut Canvas, line: Line, nib: Nib, drawn: Region, mix: Mix)
+    requires near { HasNearEnds line }
+    requires nib { IsNib nib }
+    requires held { HasRegion canvas.old drawn }
+    requires columns { IsOfSide drawn.columns }
+    requires rows { IsOfSide drawn.rows }
+    requires countable { HasRoomForLayer canvas.old }
+    ensures { MixesWide drawn nib (line ∷ []) mix canvas.old canvas.new }
+{
+    writing_law();
+    whole_law(canvas);
+    let wide = WideLine::new(line, nib, drawn.rows.from as i32, drawn.rows.to as i32);
+    let mut spans = WideLineSpans {
+        wide,
+        columns: drawn.columns,
+    };
+    canvas.mix_each_span(&mut spans, mix);
+}
+
+/// Mixes what a region has of the lines of an outline under a stroke's nib, by a mask that has room for it.
+fn mix_by_mask<O: Outline + Copy>(
+    canvas: &mut Canvas,
+    mask: &mut StrokeMask,
+    outline: O,
+    drawn: Region,
+    stroke: &Stroke<'_>,
+)
+    requires nib { IsNib stroke.now.nib }
+    requires held { HasRegion canvas.old drawn }
+    requires columns { IsOfSide drawn.columns }
+    requires rows { IsOfSide drawn.rows }
+    requires small { HasMaskRoom drawn }
+    requires countable { HasRoomForLayer canvas.old }
+    ensures { MixesWide drawn stroke.now.nib (O.lines outline) stroke.now.mix canvas.old canvas.new }
+{
+    writing_law();
+    whole_law(canvas);
+    let mut lines = outline;
+    mask.begin(&mut lines, stroke.nib, drawn);
+    canvas.mix_each_span(&mut MaskSpans { mask }, stroke.mix);
+}

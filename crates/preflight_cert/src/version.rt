@@ -1,0 +1,50 @@
+//! The versions of certificates.
+
+ghost use Rattle.std.specs.Prelude.{◌≡◌};
+ghost use Rattle.preflight_cert.specs.CertificateReading.{entry_size, mark_of, version_of};
+
+/// What a certificate's entries tell. Its first four bytes say which version it is.
+#[derive(Clone, Copy, Debug, PartialEq, Eq)]
+pub enum Version {
+    /// `MPC1`: an entry takes 20 bytes, and has no nib. The nib of each drawing is one pixel.
+    Mpc1,
+    /// `MPC2`: an entry takes 24 bytes, of which the last four are its nib.
+    Mpc2,
+}
+
+impl Version {
+    /// The version of a certificate that begins with four bytes, read as a number.
+    #[tactic(auto, unfolding(crate::specs::CertificateReading::mark_of))]
+    pub(crate) fn of_mark(mark: u32) -> Option<Version>
+        ensures { result ≡ version_of mark }
+    {
+        if mark == Version::Mpc1.mark() {
+            Some(Version::Mpc1)
+        } else if mark == Version::Mpc2.mark() {
+            Some(Version::Mpc2)
+        } else {
+            None
+        }
+    }
+
+    /// The first four bytes, as a number.
+    #[tactic(auto, unfolding(crate::specs::CertificateReading::mark_of))]
+    pub(crate) fn mark(self) -> u32
+        ensures { result ≡ mark_of self }
+    {
+        match self {
+            Version::Mpc1 => 0x3143_504d,
+            Version::Mpc2 => 0x3243_504d,
+        }
+    }
+
+    /// How many bytes an entry takes.
+    pub(crate) fn entry_size(self) -> usize
+        ensures { result ≡ entry_size self }
+    {
+        match self {
+            Version::Mpc1 => 20,
+            Version::Mpc2 => 24,
+        }
+    }
+}

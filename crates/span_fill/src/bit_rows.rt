@@ -1,0 +1,147 @@
+//! Rows of bits, in which pixels are marked many at a time.
+
+ghost use Rattle.std.specs.Prelude.{◌≡◌, ◌+◌, ◌*◌, ◌<◌, ◌≤◌, ℕ, IfOk, IsTrue, false, true};
+ghost use Rattle.span_fill.specs.BitRows.{HasSize, IsNext, JoinsRows, SetsBits, has_bit, has_room};
+
+use crate::bit_words::{fill_words, join_words, next_bit, set_bits};
+use crate::row_error::OutOfMemory;
+use std::alloc::Global;
+use std::marker::Model;
+
+/// How many words there are, each of 64 bits.
+const WORDS: usize = 32_768;
+
+/// Rows of bits, a bit for each column.
+///
+/// # Guarantees
+///
+/// - No call but `new` wants memory, whatever the rows.
+#[derive(Drop)]
+pub(crate) struct BitRows {
+    /// The bits, row by row, 64 columns a word, and behind them what earlier rows left.
+    words: Vec<u64>,
+    /// How many words a row has.
+    stride: usize,
+    rows: u32,
+    columns: u32,
+}
+
+impl Model for BitRows {
+    ghost use Rattle.span_fill.specs.BitRows.{BitRowsState};
+
+    ghost Value = { BitRowsState };
+
+    ghost use Rattle.span_fill.specs.BitRowsInside.{IsBitRows, bit_rows_state};
+
+    ghost view = { bit_rows_state };
+
+    ghost invariant = { IsBitRows };
+}
+
+impl BitRows {
+    /// No rows, with memory for 2^21 bits: 256 KiB, or `OutOfMemory` where they were refused.
+    pub(crate) fn new(alloc: Global) -> Result<BitRows, OutOfMemory>
+        ensures { IfOk result (λ bits. HasSize bits 0 0) }
+    {
+        let Ok(words) = Vec::from_elem(alloc, 0, WORDS) else {
+            return Err(OutOfMemory);
+        };
+        Ok(BitRows {
+            words,
+            stride: 0,
+            rows: 0,
+            columns: 0,
+        })
+    }
+
+    /// Whether there is memory for so many rows and columns.
+    pub(crate) fn has_room(&self, rows: u32, columns: u32) -> bool
+        ensures { result ≡ has_room rows columns }
+    {
+        rows as usize * (columns as usize).div_ceil(64) <= self.words.len()
+    }
+
+    /// Begins with so many rows and columns, of which no bit is set.
+    pub(crate) fn begin(&mut self, rows: u32, columns: u32)
+        requires { IsTrue (has_room rows columns) }
+        ensures size { HasSize self.new rows columns }
+        ensures none { (x i : ℕ) → x < columns → i < rows → has_bit self.new x i ≡ false }
+    {
+        self.rows = rows;
+        self.columns = columns;
+        self.stride = (columns as usize).div_ceil(64);
+        let count = rows as usize * self.stride;
+        fill_words(&mut self.words[..], 0, count, 0);
+    }
+
+    /// Sets the bits of a row from column `from` up to before `to`.
+    pub(crate) fn set(&mut self, row: u32, from: u32, to: u32)
+        requires row { row < self.old.rows }
+        requires order { from ≤ to }
+        requires columns { to ≤ self.old.columns }
+        ensures size { HasSize self.new self.old.rows self.old.columns }
+        ensures bits { SetsBits row from to self.old self.new }
+    {
+        let start = self.start(row);
+        set_bits(
+            &mut self.words[..],
+            start + from as usize,
+            start + to as usize,
+        );
+    }
+
+    /// Joins to each of the first rows the row that lies `distance` rows ahead.
+    pub(crate) fn join(&mut self, rows: u32, distance: u32)
+        requires { rows + distance ≤ self.old.rows }
+        ensures size { HasSize self.new self.old.rows self.old.columns }
+        ensures rows { JoinsRows rows distance self.old self.new }
+    {
+        let (count, ahead) = (rows as usize * self.stride, distance as usize * self.stride);
+        join_words(&mut self.words[..], count, ahead);
+    }
+
+    /// The first column from `from` up to before `to` whose bit in the row is set, or `to` where there is none.
+    pub(crate) fn next_set(&self, row: u32, from: u32, to: u32) -> u32
+        requires row { row < self.now.rows }
+        requires order { from ≤ to }
+        requires columns { to ≤ self.now.columns }
+        ensures { IsNext self.now true row from to result }
+    {
+        self.next(true, row, from, to)
+    }
+
+    /// The first column from `from` up to before `to` whose bit in the row isn't set, or `to` where there is none.
+    pub(crate) fn next_clear(&self, row: u32, from: u32, to: u32) -> u32
+        requires row { row < self.now.rows }
+        requires order { from ≤ to }
+        requires columns { to ≤ self.now.columns }
+        ensures { IsNext self.now false row from to result }
+    {
+        self.next(false, row, from, to)
+    }
+
+    /// The first column from `from` up to before `to` whose bit in the row is `bit`, or `to` where there is none.
+    fn next(&self, bit: bool, row: u32, from: u32, to: u32) -> u32
+        requires row { row < self.now.rows }
+        requires order { from ≤ to }
+        requires columns { to ≤ self.now.columns }
+        ensures { IsNext self.now bit row from to result }
+    {
+        let start = self.start(row);
+        let next = next_bit(
+            &self.words[..],
+            bit,
+            start + from as usize,
+            start + to as usize,
+        );
+        (next - start) as u32
+    }
+
+    /// The number of a row's first bit.
+    fn start(&self, row: u32) -> usize
+        requires { row < self.now.rows }
+        ensures { result ≡ 64 * (row * self.now.stride) }
+    {
+        64 * (row as usize * self.stride)
+    }
+}

@@ -1,0 +1,74 @@
+//! Bits of words, by their numbers: a word has 64.
+
+ghost use Rattle.std.specs.Prelude.{◌≡◌, ◌+◌, ◌*◌, ◌^◌, ◌<◌, ◌≤◌, ◌||◌, ◌&&◌, ℕ, cond, length, nat_le, nat_lt, slice_index};
+ghost use Rattle.std.specs.Int.{bit_not, w64};
+ghost use Rattle.span_fill.specs.BitWords.{IsNextBit, joined_word, word_bit};
+
+/// Writes the value into the words from `from` up to before `to`.
+pub(crate) fn fill_words(words: &mut [u64], from: usize, to: usize, value: u64)
+    requires order { from ≤ to }
+    requires within { to ≤ length words.old }
+    ensures below { (k : ℕ) → k < from → slice_index words.new k ≡ slice_index words.old k }
+    ensures filled { (k : ℕ) → from ≤ k → k < to → slice_index words.new k ≡ value }
+    ensures above { (k : ℕ) → to ≤ k → slice_index words.new k ≡ slice_index words.old k }
+{
+    words[from..to].fill(value);
+}
+
+/// Sets the bits from number `from` up to before `to`.
+pub(crate) fn set_bits(words: &mut [u64], from: usize, to: usize)
+    requires order { from ≤ to }
+    requires within { to ≤ 64 * length words.old }
+    ensures { (n : ℕ) → word_bit words.new n ≡ (word_bit words.old n || (nat_le from n && nat_lt n to)) }
+{
+    if from == to {
+        return;
+    }
+    let (first, last) = (from / 64, (to - 1) / 64);
+    // Of the first word the bits from one on, of the last those up to one, and between them all.
+    let head = u64::MAX << (from % 64);
+    let tail = u64::MAX >> (63 - (to - 1) % 64);
+    if first == last {
+        words[first] |= head & tail;
+        return;
+    }
+    words[first] |= head;
+    fill_words(words, first + 1, last, u64::MAX);
+    words[last] |= tail;
+}
+
+/// Joins to each of the first words the one that lies `ahead` words ahead.
+pub(crate) fn join_words(words: &mut [u64], count: usize, ahead: usize)
+    requires { count + ahead ≤ length words.old }
+    ensures joined { (k : ℕ) → k < count → slice_index words.new k ≡ joined_word words.old ahead k }
+    ensures others { (k : ℕ) → count ≤ k → slice_index words.new k ≡ slice_index words.old k }
+{
+    for at in 0..count {
+        words[at] |= words[at + ahead];
+    }
+}
+
+/// The first number from `from` up to before `to` whose bit is `bit`, or `to` where there is none.
+pub(crate) fn next_bit(words: &[u64], bit: bool, from: usize, to: usize) -> usize
+    requires few { length words.now ≤ 2 ^ 32 }
+    requires order { from ≤ to }
+    requires within { to ≤ 64 * length words.now }
+    ensures { IsNextBit words.now bit from to result }
+{
+    let mut at = from;
+    while at < to {
+        let rest = bits_that_are(bit, words[at / 64]) >> (at % 64);
+        if rest != 0 {
+            return to.min(at + rest.trailing_zeros() as usize);
+        }
+        at += 64 - at % 64;
+    }
+    to
+}
+
+/// The word whose bits are set where those of `word` are `bit`.
+fn bits_that_are(bit: bool, word: u64) -> u64
+    ensures { result ≡ cond bit word (bit_not w64 word) }
+{
+    if bit { word } else { !word }
+}

@@ -1,0 +1,152 @@
+//! Where the rows of lines lie in a mask.
+
+ghost use Rattle.std.specs.Prelude.{◌≡◌, ◌*◌, ◌<◌, ◌≤◌, pos, negsuc, ◌≤ℤ◌, ◌<ℤ◌};
+ghost use Rattle.mapping.specs.Nibs.{IsNib};
+ghost use Rattle.span_fill.specs.StrokeMasks.{IsMaskRegion, height_of, width_of};
+ghost use Rattle.span_fill.specs.WideStrokes.{row_of};
+
+use crate::span::{Region, Span};
+use mapping::{Nib, reach_after};
+
+/// A nib that is led along lines, and the region of a surface of which a mask is made.
+///
+/// The mask's first rows are those of the lines: of the rows from which the nib reaches the region, in their order. Rows from which it reaches
+/// all of the region share one row of the mask, so that twice the region's rows are always enough.
+#[derive(Clone, Copy, Debug)]
+pub(crate) struct MaskFrame {
+    pub(crate) nib: Nib,
+    pub(crate) region: Region,
+}
+
+impl MaskFrame {
+    ghost use Rattle.span_fill.specs.MaskFrames.{IsMaskFrame, IsPartOf, depth_of, first_row, mask_row, row_at, row_count, shared_nib, shared_row, spare_of};
+
+    /// How many columns the region has.
+    pub(crate) fn width(self) -> u32
+        requires { IsMaskRegion self.region }
+        ensures width { result ≡ width_of self.region }
+        ensures limit { result ≤ 8192 }
+    {
+        self.region.columns.to - self.region.columns.from
+    }
+
+    /// How many rows the region has.
+    pub(crate) fn height(self) -> u32
+        requires { IsMaskRegion self.region }
+        ensures height { result ≡ height_of self.region }
+        ensures limit { result ≤ 8192 }
+    {
+        self.region.rows.to - self.region.rows.from
+    }
+
+    /// The nib's columns.
+    pub(crate) fn row_of_nib(self) -> Nib
+        requires { IsMaskFrame self }
+        ensures nib { result ≡ row_of self.nib }
+        ensures is_nib { IsNib result }
+    {
+        Nib {
+            x: self.nib.x,
+            y: 1,
+        }
+    }
+
+    /// The first row of lines from which the nib reaches the region.
+    pub(crate) fn first_row(self) -> i32
+        requires { IsMaskFrame self }
+        ensures row { result ≡ first_row self }
+        ensures low { negsuc 4095 ≤ℤ result }
+        ensures high { result ≤ℤ pos 8192 }
+    {
+        self.region.rows.from as i32 - reach_after(self.nib.y)
+    }
+
+    /// How many rows of lines there are from which it does.
+    pub(crate) fn row_count(self) -> u32
+        requires { IsMaskFrame self }
+        ensures { result ≡ row_count self }
+    {
+        self.height() + u32::from(self.nib.y) - 1
+    }
+
+    /// The row of lines that lies so many rows behind the first, or the end of the rows.
+    pub(crate) fn row_at(self, number: u32) -> i32
+        requires frame { IsMaskFrame self }
+        requires number { number ≤ row_count self }
+        ensures row { result ≡ row_at self number }
+        ensures low { negsuc 4095 ≤ℤ result }
+        ensures high { result ≤ℤ pos 12288 }
+    {
+        self.first_row() + number as i32
+    }
+
+    /// How many rows of the mask cover a row of the region.
+    pub(crate) fn depth(self) -> u32
+        requires { IsMaskFrame self }
+        ensures { result ≡ depth_of self }
+    {
+        u32::from(self.nib.y).min(self.height())
+    }
+
+    /// How many rows of lines have no row of the mask of their own.
+    pub(crate) fn spare(self) -> u32
+        requires { IsMaskFrame self }
+        ensures { result ≡ spare_of self }
+    {
+        u32::from(self.nib.y) - self.depth()
+    }
+
+    /// The row of the mask that a row of lines has, counted from the first.
+    pub(crate) fn mask_row(self, row: u32) -> u32
+        requires frame { IsMaskFrame self }
+        requires row { row < row_count self }
+        requires some { 1 ≤ height_of self.region }
+        ensures row { result ≡ mask_row self row }
+        ensures within { result < 2 * height_of self.region }
+    {
+        row.min(self.height() - 1)
+            .max(row.saturating_sub(self.spare()))
+    }
+
+    /// A nib as wide that covers at once what the nib's columns cover in the rows of lines that share a row of the mask.
+    pub(crate) fn shared_nib(self) -> Nib
+        requires frame { IsMaskFrame self }
+        requires some { 1 ≤ height_of self.region }
+        ensures nib { result ≡ shared_nib self }
+        ensures is_nib { IsNib result }
+    {
+        Nib {
+            x: self.nib.x,
+            y: (self.spare() + 1) as u16,
+        }
+    }
+
+    /// The row that this nib is led along.
+    pub(crate) fn shared_row(self) -> i32
+        requires frame { IsMaskFrame self }
+        requires some { 1 ≤ height_of self.region }
+        ensures row { result ≡ shared_row self }
+        ensures low { negsuc 4095 ≤ℤ result }
+        ensures high { result <ℤ pos 12288 }
+    {
+        self.row_at(self.height() - 1) + reach_after(self.shared_nib().y)
+    }
+
+    /// What columns of a surface have of the region, counted from its first column.
+    pub(crate) fn columns_of(self, columns: Span) -> Span
+        requires { IsMaskRegion self.region }
+        ensures columns { IsPartOf self.region columns result }
+        ensures order { result.from ≤ result.to }
+        ensures within { result.to ≤ width_of self.region }
+    {
+        let start = self.region.columns.from;
+        let cut = self
+            .region
+            .columns
+            .between(i64::from(columns.from), i64::from(columns.to));
+        Span {
+            from: cut.from - start,
+            to: cut.to - start,
+        }
+    }
+}

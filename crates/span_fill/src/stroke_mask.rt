@@ -1,0 +1,157 @@
+//! What a nib covers that is led along many lines, as a mask of bits.
+
+ghost use Rattle.std.specs.Prelude.{◌≡◌, ◌↔◌, ℕ, ◌<◌, false, IsTrue, IfOk};
+ghost use Rattle.mapping.specs.Nibs.{IsNib};
+ghost use Rattle.span_fill.specs.StrokeMasks.{GivesRun, GivesSpan, GivesSpanOfRow, HasMaskRoom, HasStrokeToCome, IsMaskRegion, to_come};
+
+use crate::bit_rows::BitRows;
+use crate::mask_frame::MaskFrame;
+use crate::mask_marks::cover;
+use crate::outline::Outline;
+use crate::row_error::OutOfMemory;
+use crate::span::{Region, Span};
+use mapping::Nib;
+use std::alloc::Global;
+use std::marker::Model;
+
+/// A span of a row of a surface.
+#[derive(Clone, Copy, Debug, PartialEq, Eq)]
+pub struct RowSpan {
+    /// The row.
+    pub y: u32,
+    /// The columns.
+    pub columns: Span,
+}
+
+/// What a nib covers in a region that is led along many lines: marked in bits, widened at once, given span by span.
+///
+/// A line marks its own rows alone, with what the nib's columns cover there. The nib's rows are added to all lines at once, so that their
+/// number costs a mask its logarithm, and a line nothing.
+///
+/// # Guarantees
+///
+/// - No call but `new` takes memory.
+#[derive(Drop)]
+pub struct StrokeMask {
+    /// The region's rows of bits, from its first row and its first column on.
+    bits: BitRows,
+    region: Region,
+    /// The row and the column from which pixels are to come.
+    row: u32,
+    column: u32,
+}
+
+impl Model for StrokeMask {
+    ghost use Rattle.span_fill.specs.StrokeMasks.{StrokeMaskState};
+
+    ghost Value = { StrokeMaskState };
+
+    ghost view = { λ a. record { bits = a.bits; region = a.region; row = a.row; column = a.column } };
+
+    ghost use Rattle.span_fill.specs.StrokeMaskInside.{IsStrokeMask};
+
+    ghost invariant = { IsStrokeMask };
+}
+
+impl StrokeMask {
+    /// A mask of which nothing is to come. It takes all memory that it ever takes.
+    pub fn new(alloc: Global) -> Result<StrokeMask, OutOfMemory>
+        ensures { IfOk result (λ mask. (x y : ℕ) → to_come mask x y ≡ false) }
+    {
+        let bits = BitRows::new(alloc)?;
+        let nothing = Span { from: 0, to: 0 };
+        Ok(StrokeMask {
+            bits,
+            region: Region {
+                columns: nothing,
+                rows: nothing,
+            },
+            row: 0,
+            column: 0,
+        })
+    }
+
+    /// Whether a region is small enough.
+    pub fn has_room(&self, region: Region) -> bool
+        requires { IsMaskRegion region }
+        ensures { IsTrue result ↔ HasMaskRoom region }
+    {
+        let frame = MaskFrame {
+            nib: Nib::ONE,
+            region,
+        };
+        self.bits.has_room(2 * frame.height(), frame.width())
+    }
+
+    /// Begins with what a nib covers in a region that is led along the lines of an outline. All of these are taken, unless the region has no
+    /// row.
+    pub fn begin<O: Outline>(&mut self, outline: &mut O, nib: Nib, region: Region)
+        requires nib { IsNib nib }
+        requires region { IsMaskRegion region }
+        requires room { HasMaskRoom region }
+        ensures region { self.new.region ≡ region }
+        ensures stroke { HasStrokeToCome nib region (O.lines outline.old) self.new }
+    {
+        let frame = MaskFrame { nib, region };
+        self.bits.begin(2 * frame.height(), frame.width());
+        cover(&mut self.bits, outline, frame);
+        self.region = region;
+        self.row = region.rows.from;
+        self.column = region.columns.from;
+    }
+
+    /// The next span, in the order of rows and columns, or none behind the last.
+    pub fn next_span(&mut self) -> Option<RowSpan>
+        ensures { GivesSpan self.old result self.new }
+    {
+        while self.has_row() {
+            if let Some(span) = self.next_of_row() {
+                return Some(span);
+            }
+        }
+        None
+    }
+
+    /// Whether there is a row to look at.
+    fn has_row(&self) -> bool
+        ensures { IsTrue result ↔ (self.now.row < self.now.region.rows.to) }
+    {
+        self.row < self.region.rows.to
+    }
+
+    /// The next span of the row, or on to the next row.
+    fn next_of_row(&mut self) -> Option<RowSpan>
+        requires { self.old.row < self.old.region.rows.to }
+        ensures { GivesSpanOfRow self.old result self.new }
+    {
+        let Some(columns) = self.next_run() else {
+            self.row += 1;
+            self.column = self.region.columns.from;
+            return None;
+        };
+        self.column = columns.to;
+        Some(RowSpan {
+            y: self.row,
+            columns,
+        })
+    }
+
+    /// The next columns of the row that are set.
+    fn next_run(&self) -> Option<Span>
+        requires { self.now.row < self.now.region.rows.to }
+        ensures { GivesRun self.now result }
+    {
+        let row = self.row - self.region.rows.from;
+        let start = self.region.columns.from;
+        let end = self.region.columns.to - start;
+        let from = self.bits.next_set(row, self.column - start, end);
+        if from >= end {
+            return None;
+        }
+        let to = self.bits.next_clear(row, from, end);
+        Some(Span {
+            from: start + from,
+            to: start + to,
+        })
+    }
+}

@@ -1,0 +1,98 @@
+//! What a nib covers that is led along one line, a row at a time.
+
+ghost use Rattle.std.specs.Prelude.{◌≡◌, pos, negsuc, ◌≤ℤ◌, ◌<ℤ◌};
+ghost use Rattle.mapping.specs.Nibs.{IsNib};
+ghost use Rattle.span_fill.specs.Lines.{HasNearEnds};
+ghost use Rattle.span_fill.specs.WideLines.{GivesRow, HasAllRows, TakesRow};
+
+use crate::bounds::CoordinateRange;
+use crate::line::Line;
+use crate::span::Span;
+use crate::strip::Strip;
+use mapping::Nib;
+use std::marker::Model;
+
+/// The columns that a nib covers in a row.
+#[derive(Clone, Copy, Debug)]
+pub struct WideRow {
+    pub y: i32,
+    /// Those of the columns from 0 to 8,191.
+    pub columns: Span,
+}
+
+/// What a nib covers that is led along a line, row by row: in each row one span.
+///
+/// # Guarantees
+///
+/// - No call takes memory, and nothing is divided but when a line begins.
+#[derive(Debug, Drop)]
+pub struct WideLine {
+    nib: Nib,
+    /// The line at row `next`, if that is one of its rows to come.
+    strip: Strip,
+    next: i32,
+}
+
+impl Model for WideLine {
+    ghost use Rattle.span_fill.specs.WideLines.{WideLineState};
+
+    ghost Value = { WideLineState };
+
+    ghost view = { λ a. record { line = a.strip.line; nib = a.nib; next = a.next; end = a.strip.seen.to } };
+
+    ghost use Rattle.span_fill.specs.WideLineInside.{IsWideLine};
+
+    ghost invariant = { IsWideLine };
+}
+
+impl WideLine {
+    /// The rows of those from `from` up to before `to` in which the nib covers something. They are of the rows from -4,096 to 12,287:
+    /// those of a surface, and those from which a nib reaches it.
+    pub fn new(line: Line, nib: Nib, from: i32, to: i32) -> WideLine
+        requires near { HasNearEnds line }
+        requires nib { IsNib nib }
+        requires low { negsuc 4095 ≤ℤ from }
+        requires order { from ≤ℤ to }
+        requires high { to ≤ℤ pos 12288 }
+        ensures line { result.line ≡ line }
+        ensures nib { result.nib ≡ nib }
+        ensures all { HasAllRows from to result }
+    {
+        match Strip::new(line, nib, CoordinateRange { from, to }) {
+            Some(strip) => WideLine {
+                nib,
+                strip,
+                next: strip.seen.from,
+            },
+            None => WideLine {
+                nib,
+                strip: Strip::unseen(line, from),
+                next: from,
+            },
+        }
+    }
+
+    /// The next row, or none after the last.
+    pub fn next(&mut self) -> Option<WideRow>
+        ensures { GivesRow self.old result self.new }
+    {
+        if self.next >= self.strip.seen.to {
+            return None;
+        }
+        Some(self.take())
+    }
+
+    /// The next row.
+    fn take(&mut self) -> WideRow
+        requires { self.old.next <ℤ self.old.end }
+        ensures { TakesRow self.old self.new result }
+    {
+        let row = WideRow {
+            y: self.next,
+            columns: self.strip.part(self.nib),
+        };
+        self.strip.move_on(self.nib, i64::from(self.next));
+        self.next += 1;
+        row
+    }
+}
