@@ -157,7 +157,8 @@ impl<'a, T: Table<'a>> Machine<'a, T> {
         }
     }
 
-    /// The same for an operation that stays where it is, whose drawing is put into a place: a loop over records moves neither.
+    /// The same for a borrowed operation, whose drawing is written to `drawn`, so that a loop over records moves neither. After a fault
+    /// `drawn` is `None`.
     #[inline(never)]
     pub fn step_into(&mut self, op: &Op<'a>, drawn: &mut Option<Draw<'a>>) -> Result<(), Fault>
         ensures stepped { OnOk result (HasStepped (operation_of op.now) self.old self.new) }
@@ -168,6 +169,7 @@ impl<'a, T: Table<'a>> Machine<'a, T> {
         ensures extent { OnOk result (IsExtentOf (operation_of op.now) self.old self.new.plane_extent) }
         ensures refused { IfErr result (RefusesStep (operation_of op.now) self.old) }
         ensures kept { OnErr result (IsUnchanged self.old self.new) }
+        ensures undrawn { OnErr result (drawn.new ≡ None) }
         ensures goes_on { GoesOn self.old self.new }
     {
         match self.play(op, drawn) {
@@ -178,7 +180,10 @@ impl<'a, T: Table<'a>> Machine<'a, T> {
                 }
                 Ok(())
             }
-            Err(fault) => Err(fault),
+            Err(fault) => {
+                *drawn = None;
+                Err(fault)
+            }
         }
     }
 

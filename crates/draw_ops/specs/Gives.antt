@@ -1,5 +1,5 @@
 -- What a call of a source gives.
-use Rattle.std.specs.Prelude.{◌≡◌, Bool, true, false, Option, Some, None, Result, Ok, Err}
+use Rattle.std.specs.Prelude.{◌≡◌, Bool, true, false, Option, Some, None, Result, Ok, Err, ⊤}
 use Rattle.draw_ops.specs.Content.{Content, nothing_left, broken_by, with_step}
 use Rattle.draw_ops.specs.StepOf.{step_value_of}
 use Rattle.draw_ops.specs.declared.record_fault.RecordFault.{RecordFault}
@@ -21,3 +21,9 @@ abbrev pub put : Result Bool RecordFault → Step → Result (Option Step) Recor
 put (Ok true) step = Ok (Some step)
 put (Ok false) step = Ok None
 put (Err fault) step = Err fault
+
+-- a call that writes no step leaves the place for it as it was
+abbrev pub KeepsPlace : Result Bool RecordFault → Step → Step → Type 0
+KeepsPlace (Ok true) old new = ⊤
+KeepsPlace (Ok false) old new = new ≡ old
+KeepsPlace (Err fault) old new = new ≡ old

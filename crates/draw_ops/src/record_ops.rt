@@ -1,6 +1,6 @@
 //! The steps of a file's records, one at a time, in any format.
 
-ghost use Rattle.std.specs.Prelude.{◌≡◌, ◌<◌, ◌≤◌, length, OnOk};
+ghost use Rattle.std.specs.Prelude.{◌≡◌, ◌<◌, ◌≤◌, length, OnErr, OnOk};
 ghost use Rattle.draw_ops.specs.Meaning.{end_notes, step_of};
 ghost use Rattle.draw_ops.specs.NoteSet.{notes_in};
 ghost use Rattle.draw_ops.specs.Reading.{front_step};
@@ -117,6 +117,7 @@ fn put_step<'a, F: Format>(
     ensures head { OnOk result (F.framing.head_length ≤ length bytes.entry.now) }
     ensures within { OnOk result (size_of F.framing bytes.entry.now ≤ length bytes.entry.now) }
     ensures below_limit { OnOk result (number < record_limit) }
+    ensures kept { OnErr result (step.new ≡ step.old) }
 {
     let front = first_record::<F>(number, bytes)?;
     put_meant::<F>(number, front, &bytes[front.bytes.len()..], step)
@@ -131,6 +132,7 @@ fn put_meant<'a, F: Format>(
     step: &mut Step<'a>,
 ) -> Result<(), RecordFault>
     ensures value { step_of F.framing F.meaning behind.now number (record_of front.entry) ≡ step_or_fault step.new result }
+    ensures kept { OnErr result (step.new ≡ step.old) }
 {
     match &F::read(number, front) {
         Ok(meant) => {

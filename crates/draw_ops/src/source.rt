@@ -1,7 +1,7 @@
 //! Where steps come from: the records of a file, or a list.
 
 ghost use Rattle.draw_ops.specs.Content.{Content};
-ghost use Rattle.draw_ops.specs.Gives.{Gives, put};
+ghost use Rattle.draw_ops.specs.Gives.{Gives, KeepsPlace, put};
 
 use crate::record_fault::RecordFault;
 use crate::step::Step;
@@ -19,8 +19,9 @@ pub trait OpSource<'a>: HasContent {
     fn next_op(&mut self) -> Result<Option<Step<'a>>, RecordFault>
         ensures gives { Gives (Self.content self.old) result (Self.content self.new) };
 
-    /// The same for a step that is put into a place, where it can be read: a loop over records moves none. It is false where there
-    /// was none to put.
+    /// The same, but the step is written to `step`, so that a loop over records moves none. It is false after the last step. `step` keeps
+    /// what it had unless a step is written.
     fn next_into(&mut self, step: &mut Step<'a>) -> Result<bool, RecordFault>
-        ensures gives { Gives (Self.content self.old) (put result step.new) (Self.content self.new) };
+        ensures gives { Gives (Self.content self.old) (put result step.new) (Self.content self.new) }
+        ensures kept { KeepsPlace result step.old step.new };
 }

@@ -30,13 +30,13 @@ overflow_add-self g c = search rules
 pub returns-in-Err : goal.returns-in-Err
 returns-in-Err g c =
     let e : c.args.self.now ≡ broken_by c.in-Err.fault =
-    left_by g.F.Format.framing g.F.Format.meaning _ _ _ _ _ c.in-Records.is c.self.invariant c.self.view_is (rw c.in-Err.is at c.put_step.ensures.value) in record { gives = record { is = e; stays = sym e } }
+    left_by g.F.Format.framing g.F.Format.meaning _ _ _ _ _ c.in-Records.is c.self.invariant c.self.view_is (rw c.in-Err.is at c.put_step.ensures.value) in record { gives = record { is = e; stays = sym e }; kept = rw c.in-Err.is at c.put_step.ensures.kept }
 
 pub returns-then-kind-end_kind : goal.returns-then-kind-end_kind
 returns-then-kind-end_kind g c =
     let e = left_by g.F.Format.framing g.F.Format.meaning _ _ _ _ _ c.in-Records.is c.self.invariant c.self.view_is (rw c.in-Ok.is at c.put_step.ensures.value) in
     let last = eq-eqb _ _ (sym c.kind.ensures ∙ c.if-kind-end_kind.true ∙ c.end_kind.ensures) in
-    record { gives = rw last at e }
+    record { gives = rw last at e; kept = record {} }
 
 pub returns-else-kind-end_kind : goal.returns-else-kind-end_kind
 returns-else-kind-end_kind g c =
@@ -45,4 +45,5 @@ returns-else-kind-end_kind g c =
     record {
       gives = rw goes_on at e
           ∙ ap (with_step (step_value_of c.put_step.new.step)) (sym (left_behind g.F.Format.framing g.F.Format.meaning c.self.inside.reading c.self.inside.number c.size.result c.self.inside.rest.now c.in-Records.is c.size.ensures));
+      kept = record {};
     }
