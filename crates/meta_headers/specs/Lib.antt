@@ -7,3 +7,4 @@ pub mod OpenedOf
 pub mod SourceContent
 pub mod File
 pub mod Formats
+pub mod OpeningLaws

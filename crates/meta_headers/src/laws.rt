@@ -1,6 +1,7 @@
 //! Laws of opened files.
 
 ghost use Rattle.meta_headers.specs.File.{FileIsOne};
+ghost use Rattle.meta_headers.specs.OpeningLaws.{OpeningLaws};
 
 use draw_ops::content_law;
 
@@ -10,3 +11,8 @@ pub fn file_law()
 {
     content_law();
 }
+
+/// A file that opens has a frame whose sides are from 1 to 2^28, and a handle count of 16 bits, if any.
+pub fn opening_law()
+    ensures { OpeningLaws }
+{}

@@ -1,0 +1,13 @@
+-- The numbers of a file that opens are within their limits.
+use Rattle.std.specs.Prelude.{◌≡◌, ◌<◌, ◌^◌, ℕ, List, IfSome, Ok}
+use Rattle.std.specs.List.{All}
+use Rattle.mapping.specs.PlacingLaws.{ShowsFrame}
+use Rattle.meta_headers.specs.Headers.{OpenedValue}
+use Rattle.meta_headers.specs.Opening.{opened, surface_for}
+
+-- A file that opens has a frame whose sides are within their limits; and where it is a list of bytes, a handle count of 16 bits, if any.
+pub record OpeningLaws : Type 0 where
+  pub frame : (file : List ℕ) (o : OpenedValue) (width height : ℕ) → opened file ≡ Ok o → ShowsFrame (surface_for o width height)
+  pub handles :
+      (file : List ℕ) (o : OpenedValue) → All (λ byte. byte < 2 ^ 8) file → opened file ≡ Ok o
+      → IfSome o.handles (λ n. n < 2 ^ 16)
