@@ -1,5 +1,5 @@
 //! Answers requests of tests (tests/certificates_test.py), one after another on standard input: to prepare the certificate of a file, to
-//! check one, and to play a file by one over an image. A request is five numbers of four bytes, the lowest first, and the bytes that these
+//! check one, to play a file by one over an image, and to count what playing it on white writes. A request is five numbers of four bytes, the lowest first, and the bytes that these
 //! count: its kind, two sides, and how many bytes the file and the certificate have; an image has three bytes a pixel.
 #![tactic(auto)]
 
@@ -121,6 +121,26 @@ fn answer_play<W: Write>(
     }
 }
 
+/// Plays a file on a white surface, and writes how many pixels were written.
+fn answer_count<W: Write>(
+    alloc: Global,
+    cleared: &Cleared<'_>,
+    request: &Request<'_>,
+    out: &mut W,
+) -> io::Result<()> {
+    let (width, height) = (request.width, request.height);
+    if width < 1 || MAX_SURFACE_SIDE < width || height < 1 || MAX_SURFACE_SIDE < height {
+        return writeln!(out, "no canvas");
+    }
+    let Ok(mut canvas) = Canvas::new(alloc, width, height, Colour::WHITE) else {
+        return writeln!(out, "no canvas");
+    };
+    match play(alloc, cleared, &mut canvas) {
+        Err(fault) => writeln!(out, "{fault}"),
+        Ok(writes) => writeln!(out, "wrote {writes}"),
+    }
+}
+
 /// Answers a request: by a line, and by the bytes that are made.
 fn answer<W: Write>(alloc: Global, request: &Request<'_>, out: &mut W) -> io::Result<()> {
     if request.kind == 0 {
@@ -139,7 +159,8 @@ fn answer<W: Write>(alloc: Global, request: &Request<'_>, out: &mut W) -> io::Re
             let records = cleared.records;
             writeln!(out, "accepted {records}")
         }
-        Ok(cleared) => answer_play(alloc, &cleared, request, out),
+        Ok(cleared) if request.kind == 2 => answer_play(alloc, &cleared, request, out),
+        Ok(cleared) => answer_count(alloc, &cleared, request, out),
     }
 }
 
