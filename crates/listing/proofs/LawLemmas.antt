@@ -19,6 +19,7 @@ use Rattle.wmf_records.specs.FirstExtent.{first_extent}
 use Rattle.meta_headers.specs.EmfHeader.{bounds_height, bounds_width, emf_file, is_emf, is_emf_header_size, opened_emf}
 use Rattle.meta_headers.specs.Headers.{OpenedValue, has_version, is_header, is_too_long}
 use Rattle.meta_headers.specs.Opening.{HasContentOf, framing_of, meaning_of, opened, record_bytes, surface_for}
+use Rattle.meta_headers.specs.OpeningLaws.{OpeningLaws}
 use Rattle.meta_headers.specs.PlaceableHeader.{box_sides, is_placeable, opened_placeable, placeable_file}
 use Rattle.meta_headers.specs.PlainHeader.{is_plain, opened_plain, plain_file, plain_with}
 use Rattle.meta_headers.specs.declared.opened.FileFormat.TheVariants.{Emf, Placeable, Plain}
@@ -38,7 +39,7 @@ use Rattle.meta_headers.specs.Formats.{format_of}
 use Rattle.listing.specs.Formats.{first_place}
 use Rattle.listing.specs.Judging.{judging_if, judging_of, start_judging}
 use Rattle.listing.specs.Listing.{framed_records, lines_of_framed, listing_of}
-use Rattle.listing.specs.ListingLaws.{IsOneLine, ListingLaws, ShowsItsFrame, TellsEachRefusal, TellsEachStop, TellsStop}
+use Rattle.listing.specs.ListingLaws.{IsOneLine, ListingLaws, TellsEachRefusal, TellsEachStop, TellsStop}
 use Rattle.listing.proofs.FileLemmas.{IsReached}
 use Rattle.listing.proofs.PaintingLemmas.{meets_faults, no_painting_off}
 use Rattle.listing.proofs.StopLemmas.{same_fault, told}
@@ -194,13 +195,13 @@ module _ {number : ℕ} {fault : RecordFault} where
       (stops_in_run steps behind count (next step.operation state) s (entries_behind (drawing_of step.operation state) entries) not_entry not_box not_nib) h
 
 -- where the content of a file's records stops, on a surface of allowed sides
-module _ (laws : FaultLaws) (nibs : NibLaws) (one : FramedInOneWay) (by_function : FramedByFunction) (file : List ℕ) (shows : ShowsItsFrame file) where
+module _ (laws : FaultLaws) (nibs : NibLaws) (one : FramedInOneWay) (by_function : FramedByFunction) (opening : OpeningLaws) (file : List ℕ) where
   tells_stop : (o : OpenedValue) (content : Content) (width height number : ℕ) (fault : RecordFault) → opened file ≡ Ok o → HasContentOf o.format (record_bytes o.format file) content → IsSurfaceSide width → IsSurfaceSide height → stop_of content (start_of o) (surface_for o width height) ≡ Some (stop_at number fault) → TellsStop file number fault
   tells_stop o content width height number fault opens it wide high stops =
       let f = framing_of o.format in
       let framed = framed_records o.format file in
       let s = surface_for o width height in
-      let largest = shows o opens in
+      let largest = opening.frame file o surface_side_limit surface_side_limit opens in
       let meant : content ≡ content_of f (meaning_of o.format) 0 framed =
       it.meant ∙ ap (content_of f (meaning_of o.format) 0) (only_framed one by_function f (record_bytes o.format file) it.framed it.is_framed) in
       let all = content_of f (meaning_of o.format) 0 framed in
@@ -231,10 +232,10 @@ module _ (laws : FaultLaws) (nibs : NibLaws) (one : FramedInOneWay) (by_function
       by_opening (Err e) opens h = absurd (in_a_record h)
       by_opening (Ok o) opens h = by_reading o opens (read_certificate certificate) refl h
 
-pub listing_laws : FaultLaws → NibLaws → FramedInOneWay → FramedByFunction → TextLaws → ListingLaws
-listing_laws laws nibs one by_function text = record {
-  stops = λ file shows. tells_each_stop laws nibs one by_function file shows;
-  refusals = λ file shows. tells_each_refusal laws nibs one by_function file shows text;
+pub listing_laws : FaultLaws → NibLaws → FramedInOneWay → FramedByFunction → OpeningLaws → TextLaws → ListingLaws
+listing_laws laws nibs one by_function opening text = record {
+  stops = tells_each_stop laws nibs one by_function opening;
+  refusals = λ file. tells_each_refusal laws nibs one by_function opening file text;
   runs = meets_faults;
   paintings = no_painting_off;
 }

@@ -1,9 +1,8 @@
 -- What a listing tells of the records in which runs of the file stop.
-use Rattle.std.specs.Prelude.{◌≡◌, ◌≢◌, ◌⊎◌, ℕ, List, ◌++◌, length, codes, true, Option, Some, None, Ok}
+use Rattle.std.specs.Prelude.{◌≡◌, ◌≢◌, ◌⊎◌, ℕ, List, ◌++◌, length, codes, true, Option, Some, None}
 use Rattle.std.specs.List.{All, flat_map}
 use Rattle.mapping.specs.Image.{Image}
 use Rattle.mapping.specs.Limits.{IsSurfaceSide}
-use Rattle.mapping.specs.PlacingLaws.{ShowsFrame}
 use Rattle.mapping.specs.Surface.{Surface}
 use Rattle.draw_ops.specs.Content.{StepValue}
 use Rattle.draw_ops.specs.Operation.{Operation}
@@ -12,7 +11,6 @@ use Rattle.draw_ops.specs.declared.fault.Fault.TheVariants.{Record as InRecord}
 use Rattle.draw_ops.specs.declared.record_fault.RecordFault.{RecordFault}
 use Rattle.draw_ops.specs.declared.record_fault.RecordFault.TheVariants.{BoxTooSmall, NibTooSmall, NibTooWide, OffPlane, WrongEntry}
 use Rattle.meta_headers.specs.Headers.{OpenedValue}
-use Rattle.meta_headers.specs.Opening.{opened}
 use Rattle.meta_headers.specs.declared.opened.FileFormat.{FileFormat}
 use Rattle.dc_stack.specs.Next.{next}
 use Rattle.dc_stack.specs.OperationFault.{fault_of}
@@ -21,7 +19,7 @@ use Rattle.preflight_cert.specs.Answer.{IsAnswer, refuses}
 use Rattle.preflight_cert.specs.Run.{Run, refused}
 use Rattle.preflight_cert.specs.TextLaws.{AreBytes}
 use Rattle.listing.specs.FileRecords.{BreaksAt, HasRecord}
-use Rattle.listing.specs.Judging.{Judging, PathLands, fault_met, is_painting, run_fault, start_judging}
+use Rattle.listing.specs.Judging.{Judging, PathLands, fault_met, is_painting, run_fault}
 use Rattle.listing.specs.Line.{fault_line, head_of, refused_text}
 use Rattle.listing.specs.Listing.{listing_of}
 
@@ -86,10 +84,6 @@ TellsEachRefusal file =
     (certificate : List ℕ) (number : ℕ) (fault : RecordFault) → AreBytes certificate → fault ≢ WrongEntry → fault ≢ BoxTooSmall → fault ≢ NibTooSmall
     → IsAnswer file certificate (refuses (Some number) (InRecord fault)) → TellsStop file number fault
 
--- the frame of a file that opens has allowed sides
-abbrev pub ShowsItsFrame : List ℕ → Type 0
-ShowsItsFrame file = (o : OpenedValue) → opened file ≡ Ok o → ShowsFrame (start_judging o).largest
-
 -- in a run on a surface the fault that is met is the operation's: the path's points land there at the start, and behind each operation without a fault
 pub record MeetsFaults : Type 0 where
   pub at_start : (o : OpenedValue) (s : Surface) → PathLands (start_of o).path s
@@ -104,7 +98,7 @@ NoPaintingIsOffPlane = (judging : Option Judging) (step : StepValue) → is_pain
 
 -- So it is of each file, and so lines tell what runs meet.
 pub record ListingLaws : Type 0 where
-  pub stops : (file : List ℕ) → ShowsItsFrame file → TellsEachStop file
-  pub refusals : (file : List ℕ) → ShowsItsFrame file → TellsEachRefusal file
+  pub stops : (file : List ℕ) → TellsEachStop file
+  pub refusals : (file : List ℕ) → TellsEachRefusal file
   pub runs : MeetsFaults
   pub paintings : NoPaintingIsOffPlane

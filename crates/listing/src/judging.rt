@@ -12,7 +12,6 @@ ghost use Rattle.meta_headers.specs.OpenedOf.{opened_of};
 ghost use Rattle.mapping.specs.PlaceOf.{surface_of};
 ghost use Rattle.dc_stack.specs.OperationFault.{fault_of};
 ghost use Rattle.preflight_cert.specs.Reached.{Opens};
-ghost use Rattle.listing.specs.ListingLaws.{ShowsItsFrame};
 ghost use Rattle.listing.specs.Judging.{HasFault, behind_operation, behind_record, behind_step, fault_in_runs, fault_met, judging_of};
 ghost use Rattle.listing.specs.Judging.{run_fault, start_judging};
 
@@ -119,7 +118,6 @@ impl<'a> Judge<'a> {
     pub fn new(alloc: Global, file: &'a [u8]) -> Result<Judge<'a>, OutOfMemory>
         ensures start { IfOk result (λ judge. judge ≡ judging_of file.entry.now) }
         ensures opens { OnErr result (Opens file.entry.now) }
-        ensures shows { ShowsItsFrame file.entry.now }
     {
         let opened = match open_file(file) {
             Ok(opened) => opened,

@@ -5,6 +5,7 @@ ghost use Rattle.listing.specs.ListingLaws.{ListingLaws};
 use dc_stack::fault_law;
 use draw_ops::records_law;
 use mapping::nib_law;
+use meta_headers::opening_law;
 use preflight_cert::text_law;
 
 /// Wherever and by whatever fault of a record the run of a file stops, on a surface of allowed sides, and a certificate is refused for
@@ -17,6 +18,7 @@ pub fn listing_law()
 {
     fault_law();
     nib_law();
+    opening_law();
     records_law();
     text_law();
 }

@@ -1,9 +1,8 @@
 -- A file that opens has a frame and a handle count within their limits.
-use Rattle.std.proofs.Common.{◌≡◌, ◌≢◌, ℕ, zero, suc, ℤ, pos, negsuc, ◌-◌, ◌-ℤ◌, ◌*◌, ◌+◌, ◌≤◌, Bool, true, false, ◌&&◌, ◌||◌, ◌==◌, not, cond, List, [], ◌∷◌, drop, length, Option, Some, None, Result, Ok, Err, refl, ap, sym, ◌∙◌, subst, arith}
+use Rattle.std.proofs.Common.{◌≡◌, ℕ, zero, suc, ℤ, pos, negsuc, ◌-◌, ◌-ℤ◌, ◌≤◌, Bool, true, false, ◌&&◌, ◌||◌, ◌==◌, not, cond, List, [], ◌∷◌, drop, length, Option, Some, None, Result, Ok, Err, refl, subst, arith}
 use Rattle.std.specs.Prelude.{◌^◌, ◌<◌, IfSome, nat_lt, slice_index, unsigned_abs}
 use Rattle.std.specs.List.{All}
 use Rattle.std.proofs.lemmas.List.Elements.{All-head, All-tail}
-use Rattle.std.specs.Int.{cast_signed, w16}
 use Rattle.std.specs.Option.{option_or}
 use Rattle.std.proofs.lemmas.Bool.{and_parts, ltb-false, ltb-true}
 use Rattle.std.proofs.lemmas.Int.{ints}
@@ -104,11 +103,11 @@ boxed file =
     let sides = box_sides file in
     by_test HasSides (unsigned_abs sides.x == 0 || unsigned_abs sides.y == 0) _ _ (λ e. no_fault HasSides _)
     (λ e.
-      let some = neither _ _ e in
-      is_it HasSides (opened_placeable file) (record {
-        wide = side_between (i16_at file 10) (i16_at file 6) (small_at file 10) (small_at file 6) (not_zero _ some.0);
-        high = side_between (i16_at file 12) (i16_at file 8) (small_at file 12) (small_at file 8) (not_zero _ some.1);
-      }))
+    let some = neither _ _ e in
+    is_it HasSides (opened_placeable file) (record {
+      wide = side_between (i16_at file 10) (i16_at file 6) (small_at file 10) (small_at file 6) (not_zero _ some.0);
+      high = side_between (i16_at file 12) (i16_at file 8) (small_at file 12) (small_at file 8) (not_zero _ some.1);
+    }))
 
 -- an extent that a record has
 record IsExtent (extent : ℤ × ℤ) : Type 0 where

@@ -23,11 +23,12 @@ use Rattle.dc_stack.specs.OperationFault.{fault_of}
 use Rattle.dc_stack.specs.State.{State, start_of}
 use Rattle.dc_stack.specs.declared.needs.Needs.{Needs}
 use Rattle.preflight_cert.specs.After.{file_needs}
-use Rattle.preflight_cert.specs.Answer.{Answer, AnswerLaws, AnswersOpened, AnswersRead, Fits, IsAnswer, RecordsAnswer, Sound, accepted, answer_from, answer_to, are_within, bound_of, file_budget, refuses}
+use Rattle.preflight_cert.specs.Answer.{Answer, AnswerLaws, AnswersOpened, AnswersRead, Fits, RecordsAnswer, Sound, accepted, answer_from, answer_to, are_within, bound_of, file_budget, refuses}
 use Rattle.preflight_cert.specs.Apply.{image_after}
 use Rattle.preflight_cert.specs.CertificateReading.{CertificateValue, read_certificate}
 use Rattle.preflight_cert.specs.Checked.{checked, left_over}
 use Rattle.preflight_cert.specs.Drawings.{NumberedDrawing, drawing_then, drawings_of}
+use Rattle.meta_headers.specs.OpeningLaws.{OpeningLaws}
 use Rattle.preflight_cert.specs.Entries.{AreCovered, Covers, covers, covers_nib, entries_behind, entry_fault, extent_fault}
 use Rattle.preflight_cert.specs.NeedLaws.{AreWithin}
 use Rattle.preflight_cert.specs.Run.{Refused, ShowsImage, StopsInRecord, RunWrites}
@@ -223,18 +224,20 @@ module _ (one : FileIsOne) (laws : SizeLaws) (file : List ℕ) (o : OpenedValue)
 from_answer : (o : Result OpenedValue Fault) (v : OpenedValue) (c : CertificateValue) (file bytes : List ℕ) (answer : Answer) → o ≡ Ok v → read_certificate bytes ≡ Ok c → AnswersOpened o file bytes answer → RecordsAnswer v (record_bytes v.format file) c answer
 from_answer o v c file bytes answer e f h = let k : AnswersRead (read_certificate bytes) v (record_bytes v.format file) answer = rw e at h in rw f at k
 
-sound : FileIsOne → SizeLaws → (file bytes : List ℕ) (o : OpenedValue) (c : CertificateValue) → opened file ≡ Ok o → read_certificate bytes ≡ Ok c → ShowsFrame (bound_of o c) → IsAnswer file bytes accepted → Sound file c.max_width c.max_height c.writes
-sound one laws file bytes o c e f frame h =
-    let answer = from_answer (opened file) o c file bytes accepted e f h in
+pub sound_of :
+    FileIsOne → OpeningLaws → SizeLaws → (file : List ℕ) (o : OpenedValue) (c : CertificateValue) → opened file ≡ Ok o → RecordsAnswer o (record_bytes o.format file) c accepted
+    → Sound file c.max_width c.max_height c.writes
+sound_of one opening laws file o c e answer =
+    let frame = opening.frame file o c.max_width c.max_height e in
     record {
       shows = λ width height image w k. record { after = _; ends = shows_image one laws file o e c frame answer width height image w k };
       faultless = λ width height image number fault w k r. never_refused one laws file o e c frame answer width height number fault w k r;
       few = λ width height writes w k r. few_written one laws file o e c frame answer width height writes w k r;
     }
 
-pub answer_laws : ContentIsOne → FileIsOne → SizeLaws → AnswerLaws
-answer_laws one of_file laws = record {
+pub answer_laws : ContentIsOne → FileIsOne → OpeningLaws → SizeLaws → AnswerLaws
+answer_laws one of_file opening laws = record {
   one = λ file certificate. one_opened one (opened file) file certificate;
   fits = λ content o c. (fits_of content o c, accepted_of content o c);
-  sound = sound of_file laws;
+  sound = λ file bytes o c e f h. sound_of of_file opening laws file o c e (from_answer (opened file) o c file bytes accepted e f h);
 }

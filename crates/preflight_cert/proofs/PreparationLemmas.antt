@@ -1,5 +1,5 @@
 -- What is prepared is accepted, and it is the least that is.
-use Rattle.std.proofs.Common.{◌≡◌, ℕ, ◌≤◌, List, [], ◌∷◌, None, refl, ap, sym, subst, ◌∙◌, arith}
+use Rattle.std.proofs.Common.{◌≡◌, ℕ, ◌≤◌, List, [], ◌∷◌, None, Ok, refl, ap, sym, subst, ◌∙◌, arith}
 use Rattle.mapping.specs.CellLaws.{CellLaws, WideCellLaws}
 use Rattle.mapping.specs.Nibs.{CoversNib}
 use Rattle.mapping.specs.declared.nib.Nib.{Nib}
@@ -11,12 +11,13 @@ use Rattle.dc_stack.specs.Drawing.{drawing_nib, drawing_points}
 use Rattle.dc_stack.specs.State.{start_of}
 use Rattle.dc_stack.specs.declared.needs.Needs.{Needs}
 use Rattle.meta_headers.specs.Headers.{OpenedValue}
-use Rattle.meta_headers.specs.Opening.{surface_for}
+use Rattle.meta_headers.specs.Opening.{opened, surface_for}
 use Rattle.preflight_cert.specs.After.{file_needs}
 use Rattle.preflight_cert.specs.Answer.{Fits, bound_of, file_budget}
 use Rattle.preflight_cert.specs.CertificateReading.{CertificateValue}
 use Rattle.preflight_cert.specs.Drawings.{NumberedDrawing, drawings_of}
 use Rattle.preflight_cert.specs.Entries.{AreCovered, budget_of}
+use Rattle.meta_headers.specs.OpeningLaws.{OpeningLaws}
 use Rattle.preflight_cert.specs.Layer.{layers_of}
 use Rattle.preflight_cert.specs.NeedLaws.{AreWithin}
 use Rattle.preflight_cert.specs.Preparation.{AreLeast, IsPrepared, version_for}
@@ -130,9 +131,10 @@ module _ (c other : CertificateValue) (o : OpenedValue) (content : Content) (wid
       (h.version ∙ ap version_for same_entries ∙ sym k.version) (h.wide ∙ sym k.wide) (h.high ∙ sym k.high) same_writes
       (h.needs ∙ sym k.needs) same_entries
 
-least : CellLaws → WideCellLaws → (c other : CertificateValue) (o : OpenedValue) (content : Content) → ShowsFrame (bound_of o other)
+least : CellLaws → WideCellLaws → OpeningLaws → (c other : CertificateValue) (file : List ℕ) (o : OpenedValue) (content : Content) → opened file ≡ Ok o
     → IsPrepared c o content other.max_width other.max_height → Fits other o content → IsNoMore c other
-least laws wide_laws c other o content frame h fitting =
+least laws wide_laws opening c other file o content opens h fitting =
+    let frame = opening.frame file o other.max_width other.max_height opens in
     let drawings = drawings_of content.steps (start_of o) in
     let grows = budget_grows (bound_of o other) laws wide_laws frame drawings c.entries other.entries h.entries fitting.covered in
     let same : file_budget content o c ≡ budget_of drawings c.entries (bound_of o other) = ap (λ (s : Surface). budget_of drawings c.entries s) (same_bound c o other.max_width other.max_height h.wide h.high) in
@@ -143,5 +145,5 @@ least laws wide_laws c other o content frame h fitting =
       writes = omega (arith, grows, same, is, enough);
     }
 
-pub preparation_laws : CellLaws → WideCellLaws → PreparationLaws
-preparation_laws laws wide_laws = record { fits = fits; one = one; least = least laws wide_laws }
+pub preparation_laws : CellLaws → WideCellLaws → OpeningLaws → PreparationLaws
+preparation_laws laws wide_laws opening = record { fits = fits; one = one; least = least laws wide_laws opening }

@@ -41,7 +41,7 @@ abbrev a_head : ℕ → ℕ → ℕ → Needs → Head
 a_head width height writes needs = record { max_width = width; max_height = height; writes = writes; needs = needs }
 
 -- the certificate that is gathered
-abbrev least_certificate : Content → OpenedValue → ℕ → ℕ → CertificateValue
+abbrev pub least_certificate : Content → OpenedValue → ℕ → ℕ → CertificateValue
 least_certificate content o width height = record {
   version = version_for (least_entries (drawings_of content.steps (start_of o)) (surface_for o width height));
   max_width = width;
@@ -55,7 +55,7 @@ are_least : BoxLaws → (s : Surface) (drawings : List NumberedDrawing) → AreL
 are_least laws s [] = tt
 are_least laws s (one ∷ later) = (record { number = refl; box = is_least laws (drawing_points one.drawing); nib = refl }, are_least laws s later)
 
-is_prepared : BoxLaws → (content : Content) (o : OpenedValue) (width height : ℕ) → IsPrepared (least_certificate content o width height) o content width height
+pub is_prepared : BoxLaws → (content : Content) (o : OpenedValue) (width height : ℕ) → IsPrepared (least_certificate content o width height) o content width height
 is_prepared laws content o width height = record {
   wide = refl;
   high = refl;
@@ -65,7 +65,7 @@ is_prepared laws content o width height = record {
   needs = refl;
 }
 
-few_entries : (n : ℕ) → n ≤ 2 ^ 20 → n ≤ entry_limit
+pub few_entries : (n : ℕ) → n ≤ 2 ^ 20 → n ≤ entry_limit
 unfolding entry_limit
 few_entries n h = omega (arith, h)
 
@@ -87,12 +87,12 @@ thinned (entry ∷ entries) t all =
     (record { number = h.number; left = h.left; top = h.top; right = h.right; bottom = h.bottom; nib = one_is entry.nib parts.0 })
     (thinned entries parts.1 (All-tail (IsEntry Mpc2) entry entries all))
 
-by_version : (test : Bool) (entries : List Entry) → have_single_pixels entries ≡ test → All (IsEntry Mpc2) entries → All (IsEntry (if test then Mpc1 else Mpc2)) entries
+pub by_version : (test : Bool) (entries : List Entry) → have_single_pixels entries ≡ test → All (IsEntry Mpc2) entries → All (IsEntry (if test then Mpc1 else Mpc2)) entries
 by_version true entries t all = thinned entries t all
 by_version false entries t all = all
 
 -- an index of 16 bits bounds the slots
-few_slots : (handles : Option ℕ) → IfSome handles (λ n. n < 2 ^ 16) → index_bound (table_kind_of handles) ≤ slot_limit
+pub few_slots : (handles : Option ℕ) → IfSome handles (λ n. n < 2 ^ 16) → index_bound (table_kind_of handles) ≤ slot_limit
 few_slots None h = omega arith
 few_slots (Some n) h = omega (arith, h)
 

@@ -1,7 +1,6 @@
 -- What a check answers, and what an accepted certificate promises.
 use Rattle.std.specs.Prelude.{◌≡◌, ◌≤◌, ◌↔◌, ℕ, Bool, ◌&&◌, nat_le, if◌then◌else◌, List, length, Option, Some, None, Result, Ok, Err}
 use Rattle.mapping.specs.Image.{Image}
-use Rattle.mapping.specs.PlacingLaws.{ShowsFrame}
 use Rattle.mapping.specs.Surface.{Surface}
 use Rattle.draw_ops.specs.Content.{Content}
 use Rattle.draw_ops.specs.ExactlyOne.{ExactlyOne}
@@ -116,4 +115,4 @@ pub record AnswerLaws : Type 0 where
   pub fits : (content : Content) (o : OpenedValue) (c : CertificateValue) → (accepted ≡ answer_to content o c) ↔ Fits c o content
   pub sound :
       (file bytes : List ℕ) (o : OpenedValue) (c : CertificateValue) → opened file ≡ Ok o → read_certificate bytes ≡ Ok c
-      → ShowsFrame (bound_of o c) → IsAnswer file bytes accepted → Sound file c.max_width c.max_height c.writes
+      → IsAnswer file bytes accepted → Sound file c.max_width c.max_height c.writes

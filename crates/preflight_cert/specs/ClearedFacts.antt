@@ -1,5 +1,6 @@
 -- What is told of a file and a certificate that were checked.
 use Rattle.std.specs.Prelude.{ℕ, List}
+use Rattle.meta_headers.specs.File.{IsOpenedFrom}
 use Rattle.meta_headers.specs.OpenedOf.{opened_of}
 use Rattle.preflight_cert.specs.Answer.{CountsRecords, Sound}
 use Rattle.preflight_cert.specs.declared.cleared.Cleared.{Cleared}
@@ -11,3 +12,11 @@ CountsItsRecords c = CountsRecords (opened_of c.opened) c.opened.records.now c.r
 -- The file is sound within the certificate's bound and writes.
 abbrev pub IsSoundFor : List ℕ → Cleared → Type 0
 IsSoundFor file c = Sound file c.certificate.max_width c.certificate.max_height c.certificate.writes
+
+-- whichever file it was opened from is so
+abbrev pub IsSoundWhereOpened : Cleared → Type 0
+IsSoundWhereOpened c = (file : List ℕ) → IsOpenedFrom file c.opened → IsSoundFor file c
+
+-- each file and certificate that were checked are so
+abbrev pub ClearedIsSound : Type 0
+ClearedIsSound = (c : Cleared) → IsSoundWhereOpened c

@@ -33,6 +33,7 @@ pub mod Answer
 pub mod Preparation
 pub mod Reached
 pub mod PreparationLaws
+pub mod PreparedLaws
 pub mod Gathered
 pub mod StoppedRecords
 pub mod OpenedRecords

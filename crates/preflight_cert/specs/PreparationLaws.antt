@@ -1,14 +1,13 @@
 -- What is prepared is accepted, and it is the least that is.
-use Rattle.std.specs.Prelude.{◌≡◌, ◌≤◌, ℕ, List, [], ◌∷◌, None}
+use Rattle.std.specs.Prelude.{◌≡◌, ◌≤◌, ℕ, List, [], ◌∷◌, None, Ok}
 use Rattle.mapping.specs.Boxes.{HasPoint}
 use Rattle.mapping.specs.Nibs.{CoversNib}
-use Rattle.mapping.specs.PlacingLaws.{ShowsFrame}
 use Rattle.mapping.specs.declared.geometry.Point.{Point}
 use Rattle.draw_ops.specs.Content.{Content}
 use Rattle.dc_stack.specs.State.{start_of}
 use Rattle.meta_headers.specs.Headers.{OpenedValue}
-use Rattle.meta_headers.specs.Opening.{surface_for}
-use Rattle.preflight_cert.specs.Answer.{Fits, bound_of}
+use Rattle.meta_headers.specs.Opening.{opened, surface_for}
+use Rattle.preflight_cert.specs.Answer.{Fits}
 use Rattle.preflight_cert.specs.CertificateReading.{CertificateValue}
 use Rattle.preflight_cert.specs.NeedLaws.{AreWithin}
 use Rattle.preflight_cert.specs.Preparation.{IsPrepared}
@@ -45,5 +44,5 @@ pub record PreparationLaws : Type 0 where
       (c other : CertificateValue) (o : OpenedValue) (content : Content) (width height : ℕ)
       → IsPrepared c o content width height → IsPrepared other o content width height → c ≡ other
   pub least :
-      (c other : CertificateValue) (o : OpenedValue) (content : Content) → ShowsFrame (bound_of o other)
+      (c other : CertificateValue) (file : List ℕ) (o : OpenedValue) (content : Content) → opened file ≡ Ok o
       → IsPrepared c o content other.max_width other.max_height → Fits other o content → IsNoMore c other

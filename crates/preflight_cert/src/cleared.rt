@@ -1,7 +1,7 @@
 //! A file and a certificate that were checked.
 
 ghost use Rattle.meta_headers.specs.OpenedOf.{opened_of};
-ghost use Rattle.preflight_cert.specs.Answer.{IsCleared};
+ghost use Rattle.preflight_cert.specs.Answer.{CountsRecords, IsCleared};
 ghost use Rattle.preflight_cert.specs.CertificateOf.{certificate_of};
 
 use crate::certificate::Certificate;
@@ -12,7 +12,7 @@ use meta_headers::Opened;
 ///
 /// # Guarantees
 ///
-/// - The certificate fits the file's records.
+/// - The certificate fits the file's records, and these are counted as they are (`cleared_law` says what follows).
 #[derive(Clone, Copy, Debug)]
 pub struct Cleared<'a> {
     pub opened: Opened<'a>,
@@ -22,4 +22,5 @@ pub struct Cleared<'a> {
     /// How often each kind is noted of the file's headers and records.
     pub notes: Notes,
     pub ghost checked: { IsCleared (opened_of opened) opened.records.now (certificate_of certificate) },
+    pub ghost counted: { CountsRecords (opened_of opened) opened.records.now records notes.counts },
 }

@@ -1,20 +1,22 @@
 //! Laws of runs, of what drawings paint, of sizes and needs, and of a certificate's text.
 
 ghost use Rattle.preflight_cert.specs.Answer.{AnswerLaws};
+ghost use Rattle.preflight_cert.specs.ClearedFacts.{ClearedIsSound};
 ghost use Rattle.preflight_cert.specs.DrawingBoxLaws.{DrawingBoxLaws};
 ghost use Rattle.preflight_cert.specs.MissedRowsLaws.{MissedRowsLaws};
 ghost use Rattle.preflight_cert.specs.NeedLaws.{NeedLaws};
 ghost use Rattle.preflight_cert.specs.ObjectOrder.{ObjectsAreInOrder};
 ghost use Rattle.preflight_cert.specs.PreparationLaws.{PreparationLaws};
+ghost use Rattle.preflight_cert.specs.PreparedLaws.{PreparedLaws};
 ghost use Rattle.preflight_cert.specs.RowsLaws.{RowsLaws};
 ghost use Rattle.preflight_cert.specs.Run.{RefusedOverAnyImage, RunEndsInOneWay, WritesAreOne};
 ghost use Rattle.preflight_cert.specs.SizeLaws.{SizeLaws};
 ghost use Rattle.preflight_cert.specs.TextLaws.{TextLaws};
 
 use dc_stack::fault_law;
-use draw_ops::content_law;
-use mapping::{cell_law, nib_law, placing_law, wide_cell_law};
-use meta_headers::file_law;
+use draw_ops::{content_law, numbers_law};
+use mapping::{box_law, cell_law, nib_law, placing_law, wide_cell_law};
+use meta_headers::{file_law, opening_law};
 use object_tables::{created_index_law, order_law};
 use span_fill::{line_box_law, wide_stroke_law};
 
@@ -79,6 +81,17 @@ pub fn answer_law()
 {
     content_law();
     file_law();
+    opening_law();
+    size_law();
+}
+
+/// Each file and certificate that were checked: the file that was opened is sound within the certificate's bound and writes.
+pub fn cleared_law()
+    ensures { ClearedIsSound }
+{
+    content_law();
+    file_law();
+    opening_law();
     size_law();
 }
 
@@ -98,6 +111,7 @@ pub fn preparation_law()
 {
     cell_law();
     wide_cell_law();
+    opening_law();
 }
 
 /// What is written as a certificate's text is read as it was, and bytes that are read are the text of the
@@ -105,3 +119,17 @@ pub fn preparation_law()
 pub fn text_law()
     ensures { TextLaws }
 {}
+
+/// The law of prepared certificates: a file that plays at a bound has a certificate there, and what is prepared for a file has all numbers
+/// within their limits and is accepted.
+pub fn prepared_law()
+    ensures { PreparedLaws }
+{
+    answer_law();
+    box_law();
+    need_law();
+    numbers_law();
+    opening_law();
+    preparation_law();
+    text_law();
+}

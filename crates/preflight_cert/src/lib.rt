@@ -16,8 +16,12 @@
 //! - There is one answer to a file and a certificate. It is accepted exactly where the certificate fits the file's records, and then the
 //!   file is sound within the certificate's bound and writes (`answer_law`). `check` gives that answer, or wants memory,
 //!   which it asks for only where the file opens and the certificate reads.
+//! - A file and a certificate that were checked (`Cleared`) carry what `check` found out: the certificate fits the file's records, and these
+//!   are counted. So the file is sound within the certificate's bound and writes, whoever made the value (`cleared_law`).
 //! - What is prepared is accepted, there is one such certificate of a file and a bound, and no other accepted one asks for less
 //!   (`prepare`, `preparation_law`). So it is cleared without being checked (`Prepared::clear`).
+//! - A file that plays at a bound has a certificate there. What is prepared for a file is a certificate, all its numbers within their limits,
+//!   and is accepted (`prepared_law`).
 //! - Reading gives back what was written, and bytes that are read are the text of what they say (`text_law`).
 #![tactic(auto)]
 
@@ -43,8 +47,8 @@ pub use checking::check;
 pub use cleared::Cleared;
 pub use entry::{Entries, Entry};
 pub use laws::{
-    answer_law, drawing_box_law, missed_rows_law, need_law, preparation_law, rows_law, run_law,
-    size_law, text_law,
+    answer_law, cleared_law, drawing_box_law, missed_rows_law, need_law, preparation_law,
+    prepared_law, rows_law, run_law, size_law, text_law,
 };
 pub use prepared::Prepared;
 pub use preparing::prepare;

@@ -5,9 +5,10 @@ ghost use Rattle.std.specs.Result.{ForOk};
 ghost use Rattle.draw_ops.specs.declared.fault.Fault.TheVariants.{BadBound};
 ghost use Rattle.meta_headers.specs.File.{IsOpenedFrom};
 ghost use Rattle.meta_headers.specs.OpenedOf.{opened_of};
-ghost use Rattle.preflight_cert.specs.Answer.{IsAnswer, IsCleared, accepted};
+ghost use Rattle.preflight_cert.specs.Answer.{CountsRecords, IsAnswer, IsCleared, accepted};
 ghost use Rattle.preflight_cert.specs.CertificateOf.{certificate_of};
 ghost use Rattle.preflight_cert.specs.CertificateReading.{read_certificate};
+ghost use Rattle.preflight_cert.specs.ClearedFacts.{IsSoundWhereOpened};
 ghost use Rattle.preflight_cert.specs.OpenedRecords.{CountsRecordsOf};
 ghost use Rattle.preflight_cert.specs.Preparation.{Prepares, StopsPreparing, is_bound};
 ghost use Rattle.preflight_cert.specs.Reached.{OpensAt};
@@ -16,6 +17,7 @@ ghost use Rattle.preflight_cert.specs.Refusal.{IsWantOfMemory, TellsNumber};
 use crate::certificate::Certificate;
 use crate::certificate_reading::is_side;
 use crate::cleared::Cleared;
+use crate::laws::cleared_law;
 use crate::preparing::prepare_opened;
 use crate::refusal::Refusal;
 use draw_ops::{Fault, Notes, content_law};
@@ -26,7 +28,7 @@ use std::alloc::Global;
 ///
 /// # Guarantees
 ///
-/// - The certificate is accepted for the file's records.
+/// - The certificate is accepted for the file's records, and these are counted as they are.
 #[derive(Drop)]
 pub struct Prepared<'a> {
     pub opened: Opened<'a>,
@@ -38,6 +40,7 @@ pub struct Prepared<'a> {
     pub notes: Notes,
     pub ghost readable: { IsOk (read_certificate text.items) },
     pub ghost cleared: { ForOk (read_certificate text.items) (IsCleared (opened_of opened) opened.records.now) },
+    pub ghost counted: { CountsRecords (opened_of opened) opened.records.now records notes.counts },
 }
 
 impl<'a> Prepared<'a> {
@@ -82,7 +85,9 @@ impl<'a> Prepared<'a> {
         ensures read { read_certificate self.now.text.items ≡ Ok (certificate_of result.certificate) }
         ensures records { result.records ≡ self.now.records }
         ensures notes { result.notes ≡ self.now.notes }
+        ensures sound { IsSoundWhereOpened result }
     {
+        cleared_law();
         match Certificate::read(&self.text[..]) {
             Ok(certificate) => Cleared {
                 opened: self.opened,

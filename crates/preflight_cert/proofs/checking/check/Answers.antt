@@ -10,7 +10,7 @@ returns-in-Ok-check_opened-clause-sound c =
     let o = c.in-Ok.opened in
     let k = c.in-Ok-read.certificate in
     let answer = file_answer c.args.file.now c.args.certificate.now o.records.now (opened_of o) (certificate_of k) accepted c.in-Ok.ensures.opened c.in-Ok-read.ensures.value c.in-Ok.ensures.records c.in-Ok-check_opened.ensures.accepted in
-    let sound = c.answer_law.ensures.sound c.args.file.now c.args.certificate.now (opened_of o) (certificate_of k) c.in-Ok.ensures.opened c.in-Ok-read.ensures.value (record { wide = o.frame.wide; high = o.frame.high }) answer in
+    let sound = c.answer_law.ensures.sound c.args.file.now c.args.certificate.now (opened_of o) (certificate_of k) c.in-Ok.ensures.opened c.in-Ok-read.ensures.value answer in
     rw c.in-Ok-check_opened.ensures.certificate sound
 
 pub returns-in-Err-check_opened-clause-refusal : goal.returns-in-Err-check_opened-clause-refusal

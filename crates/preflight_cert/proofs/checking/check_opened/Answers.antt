@@ -21,6 +21,8 @@ invariant_of-result c =
           (record { state = state; surface = c.new-machine.ensures.surface ∙ c.new-place.ensures.surface; needs = c.new-machine.ensures.needs })
           c.of.result.counts c.check_steps.new.machine c.in-Ok.totals c.in-Ok.ensures.checked
           (ap (λ (needs : Needs). total_fault needs c.in-Ok.totals.writes (certificate_of c.args.certificate)) (sym c.needs.ensures) ∙ sym c.total_fault.ensures.fault ∙ c.in-None.is));
+      counted = records_counted c.content_law.ensures (source_content c.source.result) o c.args.opened.records.now c.source.ensures.content c.of.result.counts c.in-Ok.totals c.of.ensures
+          c.in-Ok.ensures.checked.records c.in-Ok.ensures.checked.notes;
     }
 
 pub returns-in-None-clause-counts : goal.returns-in-None-clause-counts

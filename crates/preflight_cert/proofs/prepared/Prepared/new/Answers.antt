@@ -10,4 +10,5 @@ invariant_of-result c =
     record {
       readable = accepted_reads _ o opened.records.now answer;
       cleared = cleared_if_read c.content_law.ensures _ o opened.records.now answer;
+      counted = c.in-Ok-prepare_opened.ensures.counts;
     }
