@@ -31,7 +31,7 @@ def count(program, name):
     with tempfile.TemporaryDirectory() as folder:
         pathlib.Path(folder, "file").write_bytes(counted.given)
         words = [valgrind, "--tool=callgrind", "--callgrind-out-file=/dev/null", os.path.abspath(program)]
-        words += ["show", "file", str(counted.width), str(counted.height)]
+        words += counted.words()
         ended = subprocess.run(words, cwd=folder, env={}, stdout=subprocess.DEVNULL, stderr=subprocess.PIPE, text=True)
     told = re.search(r"Collected : (\d+)", ended.stderr)
     if ended.returncode != 0 or told is None:

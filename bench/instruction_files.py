@@ -4,15 +4,24 @@ a list that is sorted by insertion, points that are counted again for each recor
 import random
 from typing import NamedTuple
 
-from writers import BETWEEN, EMF, MASKED, PATCOPY, PATINVERT, SRCCOPY, WMF, Bitmap, header
+from writers import BETWEEN, EMF, MASKED, PATCOPY, PATINVERT, SRCCOPY, WMF, Bitmap, header, u32
 
 
 class Counted(NamedTuple):
-    """A file, and the surface that it is shown on."""
+    """A file, and the surface that it is shown on, or that it is listed and not shown."""
 
     given: bytes
     width: int
     height: int
+    is_listed: bool = False
+
+    def words(self):
+        """The words of the command that is counted, on a file named `file`."""
+        return ["list", "file"] if self.is_listed else ["show", "file", str(self.width), str(self.height)]
+
+
+# EMR_COMMENT, [MS-EMF] 2.3.3.
+COMMENT = 70
 
 
 def noise(side, depth):
@@ -359,6 +368,90 @@ def wide_strokes_in_bands():
     return Counted(WMF.file(records, (width, height), 0), width, height)
 
 
+def open_path(pieces):
+    """A path that is gathered, of so many pieces."""
+    chance = random.Random(19)
+    return [EMF.step("begin_path"), *(EMF.step("line", chance.randrange(64), chance.randrange(64)) for _ in range(pieces))]
+
+
+def records_in_a_long_path():
+    """Records that don't add to a path, many times over, while one of 60,000 pieces is open: none of them may look at its pieces."""
+    each = f"pat_blt {PATINVERT} 1 1 2 2; select_palette 1; select_palette 2; brush 5; select 5; select 3; delete 5; font 6; select 6; select 4; delete 6"
+    records = EMF.records("palette 1; palette 2; brush 3; font 4") + open_path(60_000)
+    records += (EMF.records(each) + [EMF.record(COMMENT, u32(4) + b"none")]) * 2_000
+    return Counted(EMF.file([*records, EMF.step("abort_path")], 64, 16), 64, 64)
+
+
+def listed_records_in_a_long_path():
+    """The same, listed."""
+    return records_in_a_long_path()._replace(is_listed=True)
+
+
+def offsets_in_a_full_state():
+    """Offsets of window and viewport, many times over, while 255 states are saved and 1,020 objects are there."""
+    records = [WMF.step(("pen", "brush", "font")[index % 3], index) for index in range(1_020)] + WMF.records("255x save")
+    records += WMF.records("offset_window 1 1; offset_window -1 -1; offset_viewport 1 1; offset_viewport -1 -1; pixel 1 1") * 4_000
+    return Counted(WMF.file(records, 64, 0), 64, 64)
+
+
+def listed_offsets_in_a_full_state():
+    """The same, listed."""
+    return offsets_in_a_full_state()._replace(is_listed=True)
+
+
+def longest_zigzag():
+    """A polygon as `zigzag` has one, of as many points as there may be, in one row of a wide surface."""
+    width, points = 8192, 1 << 20
+    places = [part for number in range(points) for part in ((number * 2_654_435_761) % width, number % 2)]
+    records = EMF.records("null_pen 0; solid_brush 1 0x206040; select 0; select 1")
+    return Counted(EMF.file([*records, EMF.step("short_polygon", *places)], (width, 1), 16), width, 1)
+
+
+def small_drawings_in_bands():
+    """Small polygons and strokes on a surface of many bands: each is painted where it lies, and passed over elsewhere."""
+    chance, width, height = random.Random(20), 8192, 2048
+    records = WMF.records("solid_brush 0 0x206040; select 0")
+    for number in range(10_000):
+        x, y = chance.randrange(width - 9), chance.randrange(height - 9)
+        near = [part for _ in range(4) for part in (x + chance.randrange(9), y + chance.randrange(9))]
+        records.append(WMF.step(("polygon", "polyline")[number % 2], *near))
+    return Counted(WMF.file(records, (width, height), 0), width, height)
+
+
+def edges_of_one_row():
+    """A polygon of 100,000 edges of one row each, on a high surface: an edge is looked at in its own row alone."""
+    width, height, edges = 64, 8192, 100_000
+    rows = [min(number % (2 * height), 2 * height - number % (2 * height)) for number in range(edges)]
+    places = [part for number, row in enumerate(rows) for part in ((number * 2_654_435_761) % width, row)]
+    records = EMF.records("null_pen 0; solid_brush 1 0x206040; select 0; select 1")
+    return Counted(EMF.file([*records, EMF.step("short_polygon", *places)], (width, height), 16), width, height)
+
+
+def long_polylines():
+    """Upright and flat polylines of many lines on the widest surface, without and with a box that is kept."""
+    chance, width, height = random.Random(21), 8192, 96
+    records = []
+    for kept in ("", "keep 8 2 8180 90"):
+        records += WMF.records(kept)
+        for _ in range(40):
+            upright = [part for number in range(100) for part in (chance.randrange(width), number % 2 * (height - 1))]
+            flat = [part for number in range(8) for part in (number % 2 * (width - 1), chance.randrange(height))]
+            records += [WMF.step("polyline", *upright), WMF.step("polyline", *flat)]
+    return Counted(WMF.file(records, (width, height), 0), width, height)
+
+
+def unseen_ink():
+    """Tiled polygons of two small triangles in opposite corners of a large surface, and blits of a bitmap under a box that is cut out and as large
+    as the surface: nothing is gathered where nothing is painted."""
+    width, height = 8192, 1024
+    records = [WMF.step("tiled_brush", 0, str(noise(24, 24))), WMF.step("null_pen", 1)] + WMF.records("select 0; select 1")
+    right, bottom = width - 1, height - 1
+    apart = 0, 0, 2, 0, 0, 2, 0, 0, right, bottom, right - 2, bottom, right, bottom - 2, right, bottom, 0, 0
+    records += 10 * [WMF.step("polygon", *apart)] + WMF.records(f"cut 0 0 {width} {height}")
+    records += 10 * [WMF.step("stretch_dib", SRCCOPY, 0, 0, width, height, 0, 0, 64, 64, str(noise(64, 24)))]
+    return Counted(WMF.file(records, (width, height), 0), width, height)
+
+
 FILES = {
     "10,000 small triangles, 64 by 8,192": triangles,
     "a zigzag of 20,000 points, 4,096 by 16": zigzag,
@@ -391,6 +484,15 @@ FILES = {
     "620 polylines under wide pens, 512 by 512": wide_polylines,
     "21,000 lines under large nibs, 512 by 512": lines_under_a_large_nib,
     "100 wide strokes in bands, 8,192 by 2,048": wide_strokes_in_bands,
+    "24,000 records while a path is open": records_in_a_long_path,
+    "24,000 records while a path is open, listed": listed_records_in_a_long_path,
+    "20,000 offsets in a full state": offsets_in_a_full_state,
+    "20,000 offsets in a full state, listed": listed_offsets_in_a_full_state,
+    "a zigzag of 1,048,576 points, 8,192 by 1": longest_zigzag,
+    "10,000 small drawings in bands, 8,192 by 2,048": small_drawings_in_bands,
+    "a polygon of 100,000 short edges, 64 by 8,192": edges_of_one_row,
+    "160 upright and flat polylines, 8,192 by 96": long_polylines,
+    "tiles and blits of which little is seen": unseen_ink,
 }
 
 # How many times the instructions on record a file may take, where that is less than for others: what it is to show is a part of its work.

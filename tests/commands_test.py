@@ -7,6 +7,7 @@ import shutil
 import struct
 import subprocess
 import tempfile
+import threading
 import unittest
 
 from answers import refused
@@ -220,6 +221,20 @@ class Over(CommandTest):
         self.assertEqual(self.over(program, PAGE), Answer(0, PRINTED, b""))
         image = self.file("image", PAGE)
         self.assertEqual(answer(program, ["over", "stdin", self.certificate, image], DOT), Answer(0, PRINTED, b""))
+
+    @for_each_program
+    def test_each_input_comes_through_a_pipe(self, program):
+        # A pipe is empty when it is read a second time.
+        inputs = {"file": DOT, "certificate": DOT_CERT, "image": PAGE}
+        for piped in inputs:
+            paths = {name: self.file(name, given) for name, given in inputs.items()}
+            os.remove(paths[piped])
+            os.mkfifo(paths[piped])
+            writer = threading.Thread(target=self.file, args=(piped, inputs[piped]), daemon=True)
+            writer.start()
+            self.assertEqual(answer(program, ["over", *paths.values()]), Answer(0, PRINTED, b""), piped)
+            writer.join(60)
+            os.remove(paths[piped])
 
     @for_each_program
     def test_a_file_that_saves_as_many_states_as_may_be(self, program):

@@ -196,6 +196,45 @@ class CertifiedMemory(unittest.TestCase):
             self.check(program, EMF, script)
 
 
+# How many bytes an entry of a certificate takes while it is prepared.
+ENTRY = 24
+
+
+def grown(count):
+    """The room of a list that has grown to so many: a power of two."""
+    return 1 << (count - 1).bit_length()
+
+
+class HeldOnce(unittest.TestCase):
+    """What is large is held once, beside what is made of it."""
+
+    @for_each_program
+    def test_a_certificate_of_many_drawings_is_held_beside_its_entries(self, program):
+        drawings = 100_000
+        given = WMF.file(WMF.records("pixel 1 1") * drawings, SIDE, 0)
+        with tempfile.TemporaryDirectory() as folder:
+            file, certificate = pathlib.Path(folder, "file"), pathlib.Path(folder, "certificate")
+            file.write_bytes(given)
+            text = 40 + 20 * drawings
+            limit = bare(program) + grown(len(given)) + ENTRY * grown(drawings) + text + LITTLE
+            words = ["prepare", file, str(SIDE), str(SIDE), certificate]
+            self.assertEqual(answer_within(limit, program, words), Answer(0, b"", b""))
+            self.assertEqual(certificate.stat().st_size, text)
+            self.assertEqual(answer_within(limit, program, ["show", file, str(SIDE), str(SIDE)]).status, 0)
+
+    @for_each_program
+    def test_an_image_is_held_beside_the_surface_that_it_is_played_on(self, program):
+        side = 4096
+        with tempfile.TemporaryDirectory() as folder:
+            certificate, image = pathlib.Path(folder, "certificate"), pathlib.Path(folder, "image")
+            self.assertEqual(answer(program, ["prepare", "stdin", str(side), str(side), certificate], DOT), Answer(0, b"", b""))
+            paper = b"P6\n%d %d\n255\n" % (side, side) + b"\x7f" * (3 * side * side)
+            image.write_bytes(paper)
+            limit = bare(program) + grown(len(paper)) + 3 * side * side + LITTLE
+            played = answer_within(limit, program, ["over", "stdin", certificate, image], DOT)
+            self.assertEqual((played.status, played.err, len(played.out)), (0, b"", len(paper)))
+
+
 class LittleMemory(unittest.TestCase):
     """Runs under limits that are too low."""
 
