@@ -20,6 +20,7 @@ pub mod DrawingLemmas
 pub mod DotLemmas
 pub mod BlitLemmas
 pub mod RegionLemmas
+pub mod SeenColumnLemmas
 pub mod SourceLemmas
 pub mod RectangleLemmas
 pub mod MoveLemmas

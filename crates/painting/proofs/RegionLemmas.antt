@@ -1,5 +1,5 @@
 -- A shape is painted row by row, in a region that has what is seen of it.
-use Rattle.std.proofs.Common.{◌≡◌, ℕ, ◌+◌, ◌<◌, ◌≤◌, Bool, true, ◌&&◌, arith, sym, ◌∙◌}
+use Rattle.std.proofs.Common.{◌≡◌, ℕ, ◌+◌, ◌<◌, ◌≤◌, Bool, true, ◌&&◌, arith, ◌∙◌}
 use Rattle.std.proofs.lemmas.Bool.{and_parts, and_from}
 use Rattle.mapping.specs.TestLaws.{same_test}
 use Rattle.mapping.specs.declared.geometry.Rect.{Rect}
@@ -10,11 +10,12 @@ use Rattle.mapping.specs.PixelBoxes.{in_box}
 use Rattle.dc_stack.specs.Clip.{in_kept}
 use Rattle.span_fill.specs.Spans.{in_region, in_span}
 use Rattle.span_fill.specs.declared.span.Region.{Region}
+use Rattle.span_fill.specs.declared.span.Span.{Span}
 use Rattle.painting.specs.Painted.{PaintValue, PaintsShape}
 use Rattle.painting.specs.Regions.{HasVisible}
 use Rattle.painting.specs.RowInks.{inked}
 use Rattle.painting.specs.RowsPainted.{IsInk}
-use Rattle.painting.specs.Strips.{is_painted}
+use Rattle.painting.specs.Strips.{is_painted, is_uncut}
 use Rattle.painting.specs.declared.row_ink.RowInk.{RowInk}
 use Rattle.painting.proofs.RowLemmas.{HasRowsPainted, before_first, behind_last, nothing_painted, one_row_more, pixel_held, seen, seen_in_rows}
 use Rattle.painting.proofs.TestLemmas.{column_from, column_true}
@@ -53,18 +54,18 @@ module _
 
   -- one row more is
   pub row_added :
-      (now new : CanvasState) (y : ℕ) (ink : RowInk) (written : ℕ → Bool)
+      (now new : CanvasState) (y : ℕ) (ink : RowInk) (written : ℕ → Bool) (columns : Span)
       → ((x : ℕ) → written x ≡ (in_span region.columns x && shape x y))
-      → IsInk paint region.columns y ink
+      → IsInk paint columns y ink
+      → ((x : ℕ) → written x ≡ true → is_uncut paint.clip.cuts x y ≡ true → in_span columns x ≡ true)
       → region.rows.from ≤ y → y < region.rows.to → HasRow canvas y
       → HasRowsPainted paint shape y canvas now
       → Repaints (is_painted ink paint.clip.cuts y written) (λ column row old. inked ink column old) now new
       → HasRowsPainted paint shape (y + 1) canvas new
-  row_added now new y ink written same inks low high held so_far row =
+  row_added now new y ink written columns same inks within low high held so_far row =
       one_row_more paint shape laws canvas whole now new y ink written inks.test
-      (λ x old there i.
-      let column = (and_parts (in_span region.columns x) (shape x y) (sym (same x) ∙ there)).0 in
-      let at = column_true region.columns.from region.columns.to x column in
+      (λ x old there uncut i.
+      let at = column_true columns.from columns.to x (within x there uncut) in
       inks.colour x old at.0 at.1 i)
       (λ x column. same x ∙ row_kept x y low high held column)
       so_far row

@@ -140,7 +140,7 @@ module _ (paint : PaintValue) (shape : ℕ → ℕ → Bool) where
     }
 
     -- one row more is
-    pub one_row_more : (now new : CanvasState) (y : ℕ) (ink : RowInk) (columns : ℕ → Bool) → ((x : ℕ) → is_inked ink x ≡ paint.has x y) → ((x : ℕ) (old : Colour) → columns x ≡ true → is_inked ink x ≡ true → inked ink x old ≡ paint.makes x y old) → ((x : ℕ) → x < start.width → columns x ≡ (in_kept paint.clip.kept x y && shape x y)) → HasRowsPainted y start now → Repaints (is_painted ink paint.clip.cuts y columns) (λ column row old. inked ink column old) now new → HasRowsPainted (y + 1) start new
+    pub one_row_more : (now new : CanvasState) (y : ℕ) (ink : RowInk) (columns : ℕ → Bool) → ((x : ℕ) → is_inked ink x ≡ paint.has x y) → ((x : ℕ) (old : Colour) → columns x ≡ true → is_uncut paint.clip.cuts x y ≡ true → is_inked ink x ≡ true → inked ink x old ≡ paint.makes x y old) → ((x : ℕ) → x < start.width → columns x ≡ (in_kept paint.clip.kept x y && shape x y)) → HasRowsPainted y start now → Repaints (is_painted ink paint.clip.cuts y columns) (λ column row old. inked ink column old) now new → HasRowsPainted (y + 1) start new
     one_row_more now new y ink columns test colour same so_far row =
         let clip = paint.clip in
         let width = so_far.painted.width in
@@ -149,7 +149,7 @@ module _ (paint : PaintValue) (shape : ℕ → ℕ → Bool) where
         (λ x r old held painted.
         let a = painted_parts ink clip.cuts y columns x r painted in
         let at = eqb-true r y a.0 in
-        subst (λ (q : ℕ). inked ink x old ≡ paint.makes x q old) (sym at) (colour x old a.1 a.3))
+        subst (λ (q : ℕ). inked ink x old ≡ paint.makes x q old) (sym at) (colour x old a.1 (subst (λ (q : ℕ). is_uncut clip.cuts x q ≡ true) at a.2) a.3))
         row in
         let next : suc y ≡ y + 1 = omega arith in
         let both = laws.both (paints_above paint shape y) (paints_row paint shape y) paint.makes start now new whole (λ x r held. above_not_row y x r) so_far.painted here in

@@ -92,6 +92,14 @@ held_seen None columns y sources held some x low high = cc
 held_seen (Some r) columns y sources held some x low high = held.read x black_colour low high
 
 -- inks with which nothing is read need nothing gathered
+-- what some columns read, a part of them reads
+pub narrowed : (source : Option SourceReader) (columns part : Span) (y : ℕ) → columns.from ≤ part.from → part.to ≤ columns.to → IfSome source (λ r. ReadsRow r columns y) → IfSome source (λ r. ReadsRow r part y)
+narrowed None columns part y first last h = tt
+narrowed (Some r) columns part y first last h =
+    let left = h.left in
+    let right = h.right in
+    record { left = omega (arith, ints, left, first); right = omega (arith, ints, right, last); top = h.top; bottom = h.bottom }
+
 pub nothing_read : (inks : Inks) (columns : Span) (y : ℕ) (sources : List Colour) → ReadsNothing inks → HoldsRead inks columns y sources
 nothing_read (Same ink) columns y sources alone = tt
 nothing_read (EachRow paint) columns y sources alone = rw alone tt

@@ -46,5 +46,5 @@ HoldsRead (Same ink) columns y sources = Unit
 HoldsRead (EachRow paint) columns y sources = HoldsSource paint.now.source columns y sources
 
 -- what is gathered of a source is what inks read
-abbrev pub ReadsAs : Option SourceReader → Span → Inks → Type 0
-ReadsAs source columns inks = (y : ℕ) (sources : List Colour) → HoldsSource source columns y sources → HoldsRead inks columns y sources
+abbrev pub ReadsAs : Option SourceReader → Inks → Type 0
+ReadsAs source inks = (columns : Span) (y : ℕ) (sources : List Colour) → HoldsSource source columns y sources → HoldsRead inks columns y sources

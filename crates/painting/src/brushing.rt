@@ -93,7 +93,7 @@ impl<'d, 'a> Brushing<'d, 'a> {
         ensures columns { result.columns ≡ columns }
         ensures clip { result.clip.now ≡ self.now.clip.now }
         ensures alone { self.now.source ≡ None → ReadsNothing result.inks }
-        ensures reads { ReadsAs self.now.source columns result.inks }
+        ensures reads { ReadsAs self.now.source result.inks }
     {
         let inks = match self.same_ink() {
             Some(ink) => Inks::Same(ink),

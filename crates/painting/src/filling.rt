@@ -12,6 +12,7 @@ use crate::ink_room::InkRoom;
 use crate::parts::{Part, paint_rows, rule_of};
 use crate::regions::{visible_in, whole_law};
 use crate::room::DrawingRoom;
+use crate::seen_columns::uncut_part;
 use crate::source_rows::read_row;
 use canvas::{Canvas, writing_law};
 use mapping::Rect;
@@ -66,10 +67,11 @@ pub(crate) fn fill_box(
     if columns.from >= columns.to {
         return;
     }
-    let painter = paint.painter(columns);
+    let mut painter = paint.painter(columns);
     let mut kept = None;
     for y in drawn.rows.from..drawn.rows.to {
-        kept = read_row(&paint.source, columns, y, kept, &mut *room.sources);
+        painter.columns = uncut_part(columns, y, painter.clip.cut_boxes());
+        kept = read_row(&paint.source, painter.columns, y, kept, &mut *room.sources);
         painter.put_row(canvas, &[columns], y, room);
     }
 }

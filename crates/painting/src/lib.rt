@@ -29,6 +29,7 @@ mod regions;
 mod room;
 mod row_ink;
 mod row_painter;
+mod seen_columns;
 mod source_rows;
 mod stamping;
 mod stamps;

@@ -12,6 +12,7 @@ ghost use Rattle.painting.specs.RowPainters.{ReadsNothing, painter_paint};
 use crate::regions::whole_law;
 use crate::room::DrawingRoom;
 use crate::row_painter::RowPainter;
+use crate::seen_columns::{hull, uncut_part};
 use canvas::{Canvas, writing_law};
 use draw_ops::FillMode;
 use mapping::Nib;
@@ -45,9 +46,12 @@ pub(crate) fn paint_rows(
     writing_law();
     whole_law(canvas);
     let DrawingRoom { rows, inks, .. } = room;
+    let mut row_painter = *painter;
     for y in span.from..span.to {
         next_row(rows, part, painter.columns);
-        painter.put_row(canvas, rows.spans(), y, inks);
+        let spans = rows.spans();
+        row_painter.columns = uncut_part(hull(spans), y, painter.clip.cut_boxes());
+        row_painter.put_row(canvas, spans, y, inks);
     }
 }
 

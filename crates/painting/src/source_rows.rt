@@ -1,6 +1,6 @@
 //! What a blit reads, a row of its box at a time.
 
-ghost use Rattle.std.specs.Prelude.{◌≡◌, ◌<◌, ◌≤◌, ◌≤ℤ◌, ◌+ℤ◌, pos, IfSome};
+ghost use Rattle.std.specs.Prelude.{◌≡◌, ◌<◌, ◌≤◌, ◌≤ℤ◌, ◌+ℤ◌, pos, IfSome, Some, true};
 ghost use Rattle.dib_views.specs.PictureOf.{picture_of};
 ghost use Rattle.raster_ops.specs.Readers.{row_read};
 ghost use Rattle.painting.specs.SourceRows.{HoldsRow, ReadsRow};
@@ -10,28 +10,47 @@ use mapping::Colour;
 use raster_ops::SourceReader;
 use span_fill::Span;
 
-/// Gathers what these columns of a row read, each at its column, if something is read, and tells the row of the picture that is held
-/// then. Nothing is gathered where that row was kept.
+/// What was gathered last.
+#[derive(Clone, Copy, Debug)]
+pub(crate) struct Gathered {
+    /// The row of the picture.
+    row: u32,
+    /// For which columns of the surface.
+    columns: Span,
+}
+
+/// Gathers what these columns of a row read, each at its column, if something is read, and answers with what was gathered. Nothing is
+/// gathered where the same was gathered last.
 pub(crate) fn read_row(
     source: &Option<SourceReader<'_>>,
     columns: Span,
     y: u32,
-    kept: Option<u32>,
+    last: Option<Gathered>,
     sources: &mut [Colour; MAX_SIDE],
-) -> Option<u32>
+) -> Option<Gathered>
     requires order { columns.from ≤ columns.to }
     requires end { columns.to ≤ 8192 }
     requires reads { IfSome source.now (λ reader. ReadsRow reader columns y) }
-    requires kept { IfSome kept (λ row. IfSome source.now (λ reader. HoldsRow reader columns row sources.old)) }
-    ensures kept { IfSome result (λ row. IfSome source.now (λ reader. HoldsRow reader columns row sources.new)) }
+    requires last { IfSome last (λ it. IfSome source.now (λ reader. HoldsRow reader it.columns it.row sources.old)) }
+    ensures gathered { IfSome result (λ it. IfSome source.now (λ reader. HoldsRow reader it.columns it.row sources.new)) }
     ensures read { IfSome source.now (λ reader. HoldsRow reader columns (row_read reader y) sources.new) }
 {
     let Some(reader) = source else {
         return None;
     };
     let row = reader.row_at(y);
-    if kept != Some(row) {
+    if !is_gathered(last, row, columns) {
         reader.gather(row, columns.from, columns.to, sources);
     }
-    Some(row)
+    Some(Gathered { row, columns })
+}
+
+/// Whether this was gathered last.
+fn is_gathered(last: Option<Gathered>, row: u32, columns: Span) -> bool
+    ensures { result ≡ true → last ≡ Some (record { row = row; columns = columns }) }
+{
+    match last {
+        Some(it) => it.row == row && it.columns == columns,
+        None => false,
+    }
 }

@@ -120,7 +120,7 @@ fn put_both(canvas: &mut Canvas, cells: u8, mix: Mix, gaps: Mix, part: RowPart)
 }
 
 /// Those of some columns that a box has in a row.
-fn hidden(cut: Rect, y: u32, columns: Span) -> Span
+pub(crate) fn hidden(cut: Rect, y: u32, columns: Span) -> Span
     requires order { columns.from ≤ columns.to }
     ensures hidden { (x : ℕ) → in_span columns x && in_box cut x y ≡ in_span result x }
     ensures first { columns.from ≤ result.from }

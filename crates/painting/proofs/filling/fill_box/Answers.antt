@@ -1,4 +1,4 @@
-use Rattle.std.proofs.Common.{◌≡◌, Bool, true, false, ◌||◌, [], ◌∷◌, refl, arith, ap, ◌∙◌}
+use Rattle.std.proofs.Common.{◌≡◌, Bool, true, false, ◌||◌, [], ◌∷◌, refl, arith, ap, sym, ◌∙◌}
 use Rattle.mapping.specs.PixelBoxes.{in_box}
 use Rattle.dc_stack.specs.Values.{placed_value}
 use Rattle.span_fill.specs.Spans.{in_span, in_spans}
@@ -6,7 +6,7 @@ use Rattle.painting.specs.Brushings.{brushing_paint}
 use Rattle.painting.specs.RowPainters.{painter_paint}
 use Rattle.painting.proofs.RegionLemmas.{box_row, none_seen, row_added, rows_begun, rows_done}
 use Rattle.painting.proofs.RowLemmas.{few_written}
-use Rattle.painting.proofs.SourceLemmas.{columns_read}
+use Rattle.painting.proofs.SourceLemmas.{columns_read, narrowed}
 use Rattle.painting.proofs.VisibleLemmas.{painted_same}
 use Rattle.painting.proofs.filling.fill_box.Goals as goal
 
@@ -24,13 +24,17 @@ loop-y-init c =
     let drawn = c.visible_in-drawn in
     let visible = rw (← ap placed_value c.painter-painter.ensures.clip) at drawn.ensures.visible in
     record {
+      clip = refl;
+      inks = refl;
       painted = rows_begun (painter_paint c.painter-painter.result) (in_box c.args.inside) c.args.canvas.now c.writing_law.ensures c.whole_law.ensures.whole drawn.result visible;
       held = tt;
     }
 
 pub read_row-kept-requires-clause-reads : goal.read_row-kept-requires-clause-reads
 read_row-kept-requires-clause-reads c =
-    columns_read c.args.paint.now.source c.args.inside c.visible_in-drawn.result c.visible_in-drawn.ensures.boxed c.requires.reads c.if-columns.false c.loop-y.y c.loop-y.auto.y c.loop-y-test.true
+    let part = c.uncut_part-painter.ensures in
+    narrowed c.args.paint.now.source c.visible_in-drawn.result.columns c.uncut_part-painter.result c.loop-y.y part.first part.last
+    (columns_read c.args.paint.now.source c.args.inside c.visible_in-drawn.result c.visible_in-drawn.ensures.boxed c.requires.reads c.if-columns.false c.loop-y.y c.loop-y.auto.y c.loop-y-test.true)
 
 pub loop-y-preserved : goal.loop-y-preserved
 loop-y-preserved c =
@@ -42,14 +46,18 @@ loop-y-preserved c =
     let top = drawn.ensures.visible.held.top in
     let bottom = drawn.ensures.visible.held.bottom in
     let row = c.put_row.ensures.painted in
-    let is_ink = rw c.painter-painter.ensures.columns at row.is_ink in
+    let inv = c.loop-y.invariant in
+    let is_ink = rw (inv.clip, inv.inks) at row.is_ink in
+    let cuts = rw (c.cut_boxes.ensures, inv.clip) at c.uncut_part-painter.ensures.all in
     record {
       painted = row_added (painter_paint c.painter-painter.result) (in_box c.args.inside) c.args.canvas.now c.writing_law.ensures c.whole_law.ensures.whole drawn.result visible
-          c.loop-y.canvas c.put_row.new.canvas c.loop-y.y row.ink (in_spans (columns ∷ []))
+          c.loop-y.canvas c.put_row.new.canvas c.loop-y.y row.ink (in_spans (columns ∷ [])) c.uncut_part-painter.result
           (λ x. lone (in_span columns x) ∙ box_row drawn.result c.args.inside drawn.ensures.boxed x c.loop-y.y low high)
-          is_ink low high (record { from_first = omega (arith, low, top); to_last = omega (arith, high, bottom) })
-          c.loop-y.invariant.painted row.painted;
-      held = rw c.put_row.ensures.sources c.read_row-kept.ensures.kept;
+          is_ink (λ x h uncut. cuts x (sym (lone (in_span columns x)) ∙ h) uncut) low high (record { from_first = omega (arith, low, top); to_last = omega (arith, high, bottom) })
+          inv.painted (rw inv.clip at row.painted);
+      clip = inv.clip;
+      inks = inv.inks;
+      held = rw c.put_row.ensures.sources c.read_row-kept.ensures.gathered;
     }
 
 pub returns-clause-few : goal.returns-clause-few
@@ -78,19 +86,23 @@ put_row-requires c =
     let width = painted.width in
     let first = painted.first in
     let rows = painted.rows in
-    let columns = c.painter-painter.ensures.columns in
+    let inv = c.loop-y.invariant in
+    let part = c.uncut_part-painter.ensures in
+    let part_order = part.order in
+    let part_last = part.last in
     record {
       whole = c.loop-y.invariant.painted.whole;
       spans = (omega arith, omega (arith, some), omega (arith, right, width), tt);
       row = record { from_first = omega (arith, low, top, first); to_last = omega (arith, high, bottom, first, rows) };
       countable = omega (arith, few, right, side, countable, width);
-      read = rw columns (c.painter-painter.ensures.reads c.loop-y.y _ c.read_row-kept.ensures.read);
-      order = rw columns (omega (arith, some));
-      end = rw columns (omega (arith, right, side));
+      read = rw inv.inks (c.painter-painter.ensures.reads c.uncut_part-painter.result c.loop-y.y _ c.read_row-kept.ensures.read);
+      order = part_order;
+      end = omega (arith, right, side, part_last);
     }
 
 pub read_row-kept-requires-clause-end : goal.read_row-kept-requires-clause-end
 read_row-kept-requires-clause-end c =
     let right = c.visible_in-drawn.ensures.visible.held.right in
     let side = c.whole_law.ensures.side in
-    omega (arith, right, side)
+    let last = c.uncut_part-painter.ensures.last in
+    omega (arith, right, side, last)

@@ -1,3 +1,4 @@
+use Rattle.std.proofs.Common.{◌≡◌}
 use Rattle.std.specs.Prelude.{IfSome}
 use Rattle.mapping.specs.PixelBoxes.{in_box}
 use Rattle.painting.specs.RowPainters.{painter_paint}
@@ -8,6 +9,8 @@ use Rattle.painting.proofs.filling.fill_box.Given as goal
 -- the rows so far are painted, and what was gathered last is held
 abbrev pub invariant-loop-y : goal.invariant-loop-y
 invariant-loop-y l = record {
-  painted : HasRowsPainted (painter_paint l.painter) (in_box l.fn.inside) l.y l.fn.canvas l.canvas;
-  held : IfSome l.kept (λ row. IfSome l.paint.source (λ reader. HoldsRow reader l.columns row l.room.sources.value));
+  clip : l.painter.clip ≡ l.initial.painter.clip;
+  inks : l.painter.inks ≡ l.initial.painter.inks;
+  painted : HasRowsPainted (painter_paint l.initial.painter) (in_box l.fn.inside) l.y l.fn.canvas l.canvas;
+  held : IfSome l.kept (λ it. IfSome l.paint.source (λ reader. HoldsRow reader it.columns it.row l.room.sources.value));
 }

@@ -1,8 +1,9 @@
-use Rattle.std.proofs.Common.{◌+◌, arith, ap, refl, ◌∙◌}
-use Rattle.span_fill.specs.Spans.{in_spans}
+use Rattle.std.proofs.Common.{◌≡◌, ℕ, ◌+◌, true, arith, ap, refl, ◌∙◌}
+use Rattle.span_fill.specs.Spans.{in_span, in_spans}
 use Rattle.span_fill.specs.declared.span.Region.{Region}
 use Rattle.painting.specs.Parts.{part_has}
 use Rattle.painting.specs.RowPainters.{painter_paint}
+use Rattle.painting.specs.Strips.{is_uncut}
 use Rattle.painting.proofs.RegionLemmas.{row_added, rows_begun, rows_done}
 use Rattle.painting.proofs.RowLemmas.{apart_within, few_written, spans_are}
 use Rattle.painting.proofs.SourceLemmas.{nothing_read}
@@ -17,6 +18,8 @@ loop-y-init c =
       work = begun.work;
       next = begun.next;
       room = refl;
+      clip = refl;
+      inks = refl;
       painted = rows_begun (painter_paint c.args.painter.now) (part_has c.args.part c.args.room.now.rows.lines) c.args.canvas.now c.writing_law.ensures c.whole_law.ensures.whole region begun.visible;
     }
 
@@ -36,16 +39,21 @@ loop-y-preserved c =
     let spans = c.next_row.new.rows.spans in
     let row = rw (inv.lines, inv.next) at c.next_row.ensures.spans in
     let painted = c.put_row.ensures.painted in
+    let seen = c.uncut_part-row_painter in
+    let uncut = rw c.cut_boxes.ensures at seen.ensures.all in
+    let within : (x : ℕ) → in_spans spans x ≡ true → is_uncut paint.clip.cuts x c.loop-y.y ≡ true → in_span seen.result x ≡ true = λ x h not_cut. uncut x (c.hull.ensures.all x (rw c.spans-spans.ensures h)) not_cut in
     record {
       lines = same.lines ∙ inv.lines;
       work = same.work ∙ inv.work;
       next = c.next_row.ensures.next ∙ ap (λ n. n + 1) inv.next;
       room = same.room ∙ inv.room;
       painted = row_added paint shape c.args.canvas.now c.writing_law.ensures c.whole_law.ensures.whole region begun.visible
-          c.loop-y.canvas c.put_row.new.canvas c.loop-y.y painted.ink (in_spans spans)
+          c.loop-y.canvas c.put_row.new.canvas c.loop-y.y painted.ink (in_spans spans) seen.result
           (λ x. spans_are region.columns spans (λ n. shape n c.loop-y.y) x row)
-          painted.is_ink low high (record { from_first = omega (arith, low, top); to_last = omega (arith, high, bottom) })
-          inv.painted (rw c.spans.ensures at painted.painted);
+          (rw (inv.clip, inv.inks) at painted.is_ink) within low high (record { from_first = omega (arith, low, top); to_last = omega (arith, high, bottom) })
+          inv.painted (rw (c.spans-spans.ensures, inv.clip) at painted.painted);
+      clip = inv.clip;
+      inks = inv.inks;
     }
 
 pub put_row-requires-clause-spans : goal.put_row-requires-clause-spans
@@ -55,7 +63,7 @@ put_row-requires-clause-spans c =
     let row = rw (inv.lines, inv.next) at c.next_row.ensures.spans in
     let right = c.requires.begun.visible.held.right in
     let width = inv.painted.painted.width in
-    rw c.spans.ensures (apart_within columns.from columns.to 0 c.loop-y.canvas.width c.next_row.new.rows.spans (omega arith) (omega (arith, right, width)) row.apart)
+    rw c.spans-spans.ensures (apart_within columns.from columns.to 0 c.loop-y.canvas.width c.next_row.new.rows.spans (omega arith) (omega (arith, right, width)) row.apart)
 
 pub put_row-requires-clause-countable : goal.put_row-requires-clause-countable
 put_row-requires-clause-countable c =
@@ -87,4 +95,13 @@ returns-clause-pixels c =
     c.loop-y.canvas c.loop-y.y c.loop-y-test.false c.loop-y.invariant.painted
 
 pub put_row-requires-clause-read : goal.put_row-requires-clause-read
-put_row-requires-clause-read c = nothing_read c.args.painter.now.inks c.args.painter.now.columns c.loop-y.y _ c.requires.alone
+put_row-requires-clause-read c = rw c.loop-y.invariant.inks (nothing_read c.args.painter.now.inks c.uncut_part-row_painter.result c.loop-y.y _ c.requires.alone)
+
+pub hull-requires : goal.hull-requires
+hull-requires c =
+    let inv = c.loop-y.invariant in
+    let columns = c.args.painter.now.columns in
+    let row = rw (inv.lines, inv.next) at c.next_row.ensures.spans in
+    let right = c.requires.begun.visible.held.right in
+    let side = c.whole_law.ensures.side in
+    record { apart = rw c.spans-spans.ensures (apart_within columns.from columns.to 0 8192 c.next_row.new.rows.spans (omega arith) (omega (arith, right, side)) row.apart) }

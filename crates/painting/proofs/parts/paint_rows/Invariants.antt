@@ -11,5 +11,7 @@ invariant-loop-y l = record {
   work : l.rows.work ≡ work_of l.part;
   next : l.rows.next ≡ l.y;
   room : l.rows.room ≡ l.fn.room.rows.room;
+  clip : l.row_painter.clip ≡ l.painter.clip;
+  inks : l.row_painter.inks ≡ l.painter.inks;
   painted : HasRowsPainted (painter_paint l.painter) (part_has l.part l.fn.room.rows.lines) l.y l.fn.canvas l.canvas;
 }
