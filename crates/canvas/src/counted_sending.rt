@@ -41,10 +41,7 @@ pub fn flush_sent<W: FaultCount>(out: &mut W) -> Result<(), WriteFault>
     ensures room { OnOk result (W.fault_count out.new < 2 ^ 64 - 1) }
     ensures count { W.fault_count out.old ≤ W.fault_count out.new }
 {
-    match out.flush_counted() {
-        Ok(()) => Ok(()),
-        Err(_) => Err(WriteFault),
-    }
+    out.flush_counted().map_err(|_| WriteFault)
 }
 
 /// Writes all of a text, as `send_counted` does, and has the writer pass it on. So a text that is finished was flushed.
