@@ -48,6 +48,7 @@ mod preparing;
 mod program;
 mod reporting;
 mod show;
+mod shown;
 mod writing;
 
 pub use asked::CommandLine;
@@ -61,5 +62,5 @@ pub use over::over_command;
 pub use play::play_command;
 pub use prepare::prepare_command;
 pub use program::{no_input, run, run_words, usage};
-pub use reporting::report;
+pub use reporting::{report, report_refusal};
 pub use show::show_command;
