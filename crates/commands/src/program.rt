@@ -194,7 +194,11 @@ pub fn no_input<E: FaultCount>(fault: InputFault, err: &mut E) -> Completion
 }
 
 /// Shows the usage, or the help that was asked for, where `clap` says.
-pub fn usage<O: FaultCount, E: FaultCount>(error: &clap::Error, out: &mut O, err: &mut E) -> Completion
+pub fn usage<O: FaultCount, E: FaultCount>(
+    error: &clap::Error,
+    out: &mut O,
+    err: &mut E,
+) -> Completion
     requires room_out { O.fault_count out.old < 2 ^ 64 - 1 }
     requires room_err { E.fault_count err.old < 2 ^ 64 - 1 }
     ensures memory { result.end ≡ CommandEnd.OutOfMemory ↔ kind_of error.now ≡ ErrorKind.OutOfMemory }

@@ -90,7 +90,7 @@ fn with_number(text: InlineText<TEXT_ROOM>, more: &str, number: u32) -> InlineTe
 /// A text with another behind it, where there is room.
 fn joined<const N: usize>(text: InlineText<N>, more: &str) -> InlineText<N>
     requires { length (inline_text text) + length more.now ≤ N }
-    ensures { inline_text result ≡ inline_text text ++ more.now }
+    ensures { inline_text result ≡ inline_text text.entry ++ more.now }
 {
     text.and_str(more, N)
 }

@@ -3,8 +3,10 @@
 use crate::bands::Full;
 use crate::canvases::Slow;
 use crate::comparing::same;
-use canvas::{Canvas, Counting, FaultCount, WriteFault};
-use canvas::{flush_sent, send_counted, send_finished, write_header_to};
+use canvas::{
+    Canvas, Counting, FaultCount, WriteFault, flush_sent, send_counted, send_finished,
+    write_header_to,
+};
 use mapping::Colour;
 use std::alloc::Global;
 use std::io;
