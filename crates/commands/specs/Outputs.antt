@@ -5,7 +5,7 @@ use Rattle.commands.specs.CommandLine.{HoldsOfAsked, texts_of}
 use Rattle.commands.specs.declared.command_end.Completion.{Completion}
 use Rattle.commands.specs.declared.command_end.CommandEnd.TheVariants as end
 use Rattle.commands.specs.declared.asked.CommandLine.{CommandLine}
-use Rattle.commands.specs.declared.asked.CommandLine.TheVariants.{Check, List as ListLine, Over, Play, Prepare, Show}
+use Rattle.commands.specs.declared.asked.CommandLine.TheVariants.{Prepare}
 
 module _ {W : Type 0} where
   -- a writer failed: its count of faults rose
