@@ -193,7 +193,7 @@ pub fn no_input<E: FaultCount>(fault: InputFault, err: &mut E) -> Completion
     Completion { end, told }
 }
 
-/// Shows the usage, or the help that was asked for, where `clap` says.
+/// Shows the usage, or the help that was asked for, where `clap` says, and answers whether its writer failed.
 pub fn usage<O: FaultCount, E: FaultCount>(
     error: &clap::Error,
     out: &mut O,
