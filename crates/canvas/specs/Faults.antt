@@ -1,4 +1,4 @@
--- How a writer's faults are counted.
+-- How a writer's faults are counted, and when all that it took is flushed.
 use Rattle.std.specs.Prelude.{◌≡◌, ◌==◌, ℕ, ◌+◌, Bool, true, ◌&&◌, nat_lt, if◌then◌else◌, List, length, Result, Ok, Err}
 
 -- a write failed, or took no byte of some
@@ -9,3 +9,18 @@ is_fault (Err e) bytes = true
 -- the count rises by one where the write was a fault, and else stays
 abbrev pub CountsFault : {E : Type 0} → ℕ → ℕ → Result ℕ E → List ℕ → Type 0
 CountsFault old new result bytes = new ≡ old + (if is_fault result bytes then 1 else 0)
+
+-- the count rises by one where the flush failed, and else stays
+abbrev pub CountsFlush : {T E : Type 0} → ℕ → ℕ → Result T E → Type 0
+CountsFlush old new (Ok _) = new ≡ old
+CountsFlush old new (Err _) = new ≡ old + 1
+
+-- whether all is flushed after a write: no longer where the write took a byte
+abbrev pub flushed_by_write : {E : Type 0} → Bool → Result ℕ E → Bool
+flushed_by_write flushed (Ok count) = flushed && count == 0
+flushed_by_write flushed (Err e) = flushed
+
+-- whether all is flushed after a flush: from now on where the flush succeeded
+abbrev pub flushed_by_flush : {T E : Type 0} → Bool → Result T E → Bool
+flushed_by_flush flushed (Ok _) = true
+flushed_by_flush flushed (Err e) = flushed

@@ -1,9 +1,9 @@
 //! Writers that count how often they failed.
 
-ghost use Rattle.std.specs.Prelude.{◌≡◌, ℕ, ◌-◌, ◌^◌, ◌<◌};
+ghost use Rattle.std.specs.Prelude.{◌≡◌, ℕ, Bool, false, ◌-◌, ◌^◌, ◌<◌};
 ghost use Rattle.std.specs.Io.{WritesAtMost};
-ghost use Rattle.std.specs.Io.KnownBytes.{WriteAppends};
-ghost use Rattle.canvas.specs.Faults.{CountsFault};
+ghost use Rattle.std.specs.Io.KnownBytes.{Keeps, WriteAppends};
+ghost use Rattle.canvas.specs.Faults.{CountsFault, CountsFlush, flushed_by_flush, flushed_by_write};
 
 use std::io;
 use std::io::Write;
@@ -12,6 +12,9 @@ use std::io::Write;
 /// can be shown to tell a fault only where there was one.
 pub trait FaultCount: Write {
     ghost fault_count: { Self → ℕ };
+
+    /// Whether a flush succeeded and no byte was taken after it.
+    ghost is_flushed: { Self → Bool };
 
     /// How many faults there were.
     fn faults(&self) -> u64
@@ -22,7 +25,15 @@ pub trait FaultCount: Write {
         requires room { fault_count self.old < 2 ^ 64 - 1 }
         ensures bound { WritesAtMost result buf.now }
         ensures bytes { WriteAppends (Self.contents self.old) (Self.contents self.new) result buf.now }
-        ensures count { CountsFault (fault_count self.old) (fault_count self.new) result buf.now };
+        ensures count { CountsFault (fault_count self.old) (fault_count self.new) result buf.now }
+        ensures flushed { is_flushed self.new ≡ flushed_by_write (is_flushed self.old) result };
+
+    /// Passes on what it holds back, as `flush` does, and counts a failure.
+    fn flush_counted(&mut self) -> io::Result<()>
+        requires room { fault_count self.old < 2 ^ 64 - 1 }
+        ensures bytes { Keeps (Self.contents self.old) (Self.contents self.new) }
+        ensures count { CountsFlush (fault_count self.old) (fault_count self.new) result }
+        ensures flushed { is_flushed self.new ≡ flushed_by_flush (is_flushed self.old) result };
 }
 
 /// Any writer, with a count of its faults. Bytes written by `write` go to it as they are, and aren't looked at.
@@ -30,6 +41,7 @@ pub trait FaultCount: Write {
 pub struct Counting<W> {
     writer: W,
     faults: u64,
+    flushed: bool,
 }
 
 impl<W: Write + Drop> Counting<W> {
@@ -37,8 +49,13 @@ impl<W: Write + Drop> Counting<W> {
     pub fn new(writer: W) -> Counting<W>
         ensures contents { ⟦<Counting<W> as Write>⟧.contents result ≡ W.contents writer }
         ensures count { ⟦<Counting<W> as FaultCount>⟧.fault_count result ≡ 0 }
+        ensures flushed { ⟦<Counting<W> as FaultCount>⟧.is_flushed result ≡ false }
     {
-        Counting { writer, faults: 0 }
+        Counting {
+            writer,
+            faults: 0,
+            flushed: false,
+        }
     }
 
     /// The writer itself.
@@ -52,7 +69,12 @@ impl<W: Write + Drop> Counting<W> {
 impl<W: Write + Drop> Write for Counting<W> {
     ghost contents = { λ counting. W.contents counting.writer };
 
-    fn write(&mut self, buf: &[u8]) -> io::Result<usize> {
+    fn write(&mut self, buf: &[u8]) -> io::Result<usize>
+        ensures bound { WritesAtMost result buf.now }
+        ensures bytes { WriteAppends (W.contents self.old.writer) (W.contents self.new.writer) result buf.now }
+        ensures flushed { ⟦<Counting<W> as FaultCount>⟧.is_flushed self.new ≡ false }
+    {
+        self.flushed = false;
         self.writer.write(buf)
     }
 
@@ -64,6 +86,8 @@ impl<W: Write + Drop> Write for Counting<W> {
 impl<W: Write + Drop> FaultCount for Counting<W> {
     ghost fault_count = { λ counting. counting.faults };
 
+    ghost is_flushed = { λ counting. counting.flushed };
+
     fn faults(&self) -> u64 {
         self.faults
     }
@@ -74,7 +98,23 @@ impl<W: Write + Drop> FaultCount for Counting<W> {
                 self.faults += 1;
                 Ok(0)
             }
-            Ok(count) => Ok(count),
+            Ok(count) => {
+                self.flushed = self.flushed && count == 0;
+                Ok(count)
+            }
+            Err(error) => {
+                self.faults += 1;
+                Err(error)
+            }
+        }
+    }
+
+    fn flush_counted(&mut self) -> io::Result<()> {
+        match self.writer.flush() {
+            Ok(()) => {
+                self.flushed = true;
+                Ok(())
+            }
             Err(error) => {
                 self.faults += 1;
                 Err(error)

@@ -20,8 +20,9 @@
 //!   none (`Canvas::from_ppm`, by `read_ppm`); the text that is written for an image reads back as that image (`ppm_law`).
 //! - Bytes are sent whole, or a front of them, whatever the writer takes a call (`send`).
 //! - Over a writer that counts its faults, a `WriteFault` comes only where the count rose in that call, and so never over
-//!   one that never failed (`send_counted`, `write_header_to`, `Canvas::write_ppm_to`, `Canvas::write_rows_to`); `Counting`
-//!   makes such a writer of any other.
+//!   one that never failed (`send_counted`, `write_header_to`, `Canvas::write_ppm_to`, `Canvas::write_rows_to`, `flush_sent`);
+//!   `Counting` makes such a writer of any other. A text that such a writer took whole was flushed, and nothing was written
+//!   after that (`send_finished`).
 //!
 //! Memory, three bytes a pixel with what lies between rows, is taken when a canvas is made. No other call takes any: no
 //! contract says that but by the room that a canvas has, and a test over the built program counts its calls for memory.
@@ -45,7 +46,7 @@ mod swatch;
 mod writing;
 
 pub use canvas_error::{ImageError, OutOfMemory, WriteFault};
-pub use counted_sending::send_counted;
+pub use counted_sending::{flush_sent, send_counted, send_finished};
 pub use counting::{Counting, FaultCount};
 pub use laws::{band_law, ppm_law, writing_law};
 pub use pixel_source::{PixelAt, PixelSource};

@@ -3,6 +3,7 @@
 use crate::comparing::{same, same_want_of_memory};
 use crate::files::{DOT, NIL, NIL_CERT, NOTED, NOTED_CERT, TRI, TRI_CERT, changed};
 use crate::limited;
+use canvas::Counting;
 use commands::check_command;
 use std::alloc::Global;
 use std::process::Abort;
@@ -17,9 +18,11 @@ fn reports(
     status: u8,
     want: &str,
 ) {
-    let mut out = Vec::new(alloc);
-    let mut err = Vec::new(alloc);
+    let mut out = Counting::new(Vec::new(alloc));
+    let mut err = Counting::new(Vec::new(alloc));
     let answer = check_command(alloc, file, certificate, &mut out, &mut err);
+    let out = out.into_writer();
+    let err = err.into_writer();
     same(rt, (want, answer.status()), (want, status));
     same(rt, out.as_slice(), want.as_bytes());
     same(rt, (err.len(), answer.told), (0, Ok(())));
@@ -189,9 +192,10 @@ fn a_report_that_cannot_be_written_has_status_3(rt: HostRuntime) -> Result<(), F
         (b"".as_slice(), 40, true),
         (b"".as_slice(), 1000, false),
     ] {
-        let mut out = limited(rt.alloc(), most, can_flush);
-        let mut err = Vec::new(rt.alloc());
+        let mut out = Counting::new(limited(rt.alloc(), most, can_flush));
+        let mut err = Counting::new(Vec::new(rt.alloc()));
         let answer = check_command(rt.alloc(), file, TRI_CERT, &mut out, &mut err);
+        let err = err.into_writer();
         same(&rt, answer.status(), 3);
         same(&rt, err.as_slice(), b"metaplay: cannot write\n".as_slice());
     }
@@ -206,8 +210,8 @@ fn checking_under_refused_growth(rt: HostRuntime) -> Result<(), Fail> {
         rt.alloc(),
         DOT,
         b"",
-        &mut out.as_mut_slice(),
-        &mut err.as_mut_slice(),
+        &mut Counting::new(out.as_mut_slice()),
+        &mut Counting::new(err.as_mut_slice()),
     );
     if answer.status() == 1 {
         let want = b"{\"accepted\":false,\"code\":6,\"fault\":\"NotCertificate";

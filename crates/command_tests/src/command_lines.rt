@@ -1,11 +1,13 @@
 //! Command lines, and what each wrong one is answered.
 
 use crate::comparing::same;
+use canvas::Counting;
 use commands::{CommandLine, line, usage};
 use std::alloc::{AllocError, Global};
 use std::test::Fail;
 
-fn words(alloc: Global, words: &[&str]) -> Result<Vec<String>, AllocError> {
+/// The words of a command line.
+pub(crate) fn words(alloc: Global, words: &[&str]) -> Result<Vec<String>, AllocError> {
     let mut list = Vec::new(alloc);
     for word in words {
         list.push(String::from_str(alloc, word)?)?;
@@ -228,14 +230,15 @@ fn each_wrong_command_line_has_status_2(rt: HostRuntime) -> Result<(), Fail> {
         let Err(error) = line(rt.alloc(), asked.as_slice()) else {
             return Err(Fail::from("a wrong command line was taken"));
         };
-        let mut out = Vec::new(rt.alloc());
-        let mut err = Vec::new(rt.alloc());
+        let mut out = Counting::new(Vec::new(rt.alloc()));
+        let mut err = Counting::new(Vec::new(rt.alloc()));
         same(
             &rt,
             (text, usage(&error, &mut out, &mut err).status()),
             (text, 2),
         );
-        assert!(rt; out.is_empty(), "{text}");
+        assert!(rt; out.into_writer().is_empty(), "{text}");
+        let err = err.into_writer();
         let shown = str::from_utf8(err.as_slice())?;
         assert!(rt; shown.contains(text), "{text} in {shown}");
     }
@@ -258,10 +261,11 @@ fn help_that_was_asked_for_goes_to_standard_output(rt: HostRuntime) -> Result<()
         let Err(error) = line(rt.alloc(), asked.as_slice()) else {
             return Err(Fail::from("help was taken for work"));
         };
-        let mut out = Vec::new(rt.alloc());
-        let mut err = Vec::new(rt.alloc());
+        let mut out = Counting::new(Vec::new(rt.alloc()));
+        let mut err = Counting::new(Vec::new(rt.alloc()));
         same(&rt, usage(&error, &mut out, &mut err).status(), 2);
-        assert!(rt; err.is_empty());
+        assert!(rt; err.into_writer().is_empty());
+        let out = out.into_writer();
         assert!(rt; str::from_utf8(out.as_slice())?.contains("Usage: metaplay"));
     }
     Ok(())

@@ -3,6 +3,7 @@
 use crate::comparing::{same, same_want_of_memory};
 use crate::files::{DOT, FAR, NIL};
 use crate::limited;
+use canvas::Counting;
 use commands::list_command;
 use std::alloc::Global;
 use std::process::Abort;
@@ -26,9 +27,11 @@ const FAR_LINES: &str = "0\t40\t8\t0x0103\tMETA_SETMAPMODE\tplayed\tmap mode 8\n
 
 /// Ends the test unless listing a file ends with this status and these lines.
 fn lists(rt: &impl Abort, alloc: Global, file: &[u8], status: u8, want: &str) {
-    let mut out = Vec::new(alloc);
-    let mut err = Vec::new(alloc);
+    let mut out = Counting::new(Vec::new(alloc));
+    let mut err = Counting::new(Vec::new(alloc));
     let answer = list_command(alloc, file, &mut out, &mut err);
+    let out = out.into_writer();
+    let err = err.into_writer();
     same(rt, (want, answer.status()), (want, status));
     same(rt, out.as_slice(), want.as_bytes());
     same(rt, (err.len(), answer.told), (0, Ok(())));
@@ -70,9 +73,11 @@ fn records_that_break_have_status_1_and_a_line_for_that(rt: HostRuntime) -> Resu
 #[test]
 fn a_listing_that_cannot_be_written_has_status_3(rt: HostRuntime) -> Result<(), Fail> {
     for (most, can_flush) in [(0, true), (20, true), (DOT_LINES.len(), false)] {
-        let mut out = limited(rt.alloc(), most, can_flush);
-        let mut err = Vec::new(rt.alloc());
+        let mut out = Counting::new(limited(rt.alloc(), most, can_flush));
+        let mut err = Counting::new(Vec::new(rt.alloc()));
         let status = list_command(rt.alloc(), DOT, &mut out, &mut err).status();
+        let out = out.into_writer();
+        let err = err.into_writer();
         same(&rt, (most, status), (most, 3));
         same(&rt, err.as_slice(), b"metaplay: cannot write\n".as_slice());
         same(&rt, out.taken.len(), most);
@@ -87,8 +92,8 @@ fn listing_under_refused_growth(rt: HostRuntime) -> Result<(), Fail> {
     let answer = list_command(
         rt.alloc(),
         DOT,
-        &mut out.as_mut_slice(),
-        &mut err.as_mut_slice(),
+        &mut Counting::new(out.as_mut_slice()),
+        &mut Counting::new(err.as_mut_slice()),
     );
     if answer.status() == 0 {
         let want = b"0\t40\t14\t0x041f\tMETA_SETPIXEL\tplayed\tpixel 2,1 #ff0000\n\

@@ -3,6 +3,7 @@
 use crate::comparing::{same, same_want_of_memory};
 use crate::files::{DOT, DOT_CERT, NIL, NIL_CERT, TRI, TRI_CERT, changed};
 use crate::limited;
+use canvas::Counting;
 use commands::over_command;
 use std::test::Fail;
 
@@ -37,9 +38,11 @@ fn a_file_is_played_over_an_image_at_its_size(rt: HostRuntime) -> Result<(), Fai
         (NIL, NIL_CERT, b"P6 2 1 255 abcdef", b"P6\n2 1\n255\nabcdef"),
     ];
     for (file, certificate, image, want) in cases {
-        let mut out = limited(rt.alloc(), 1000, true);
-        let mut err = Vec::new(rt.alloc());
+        let mut out = Counting::new(limited(rt.alloc(), 1000, true));
+        let mut err = Counting::new(Vec::new(rt.alloc()));
         let answer = over_command(rt.alloc(), file, certificate, image, &mut out, &mut err);
+        let out = out.into_writer();
+        let err = err.into_writer();
         same(&rt, answer.status(), 0);
         same(&rt, out.taken.as_slice(), want);
         assert!(rt; err.is_empty() && answer.told.is_ok());
@@ -84,9 +87,11 @@ fn the_check_refuses_before_the_image_and_that_before_its_size(
         ),
     ];
     for (file, certificate, image, text) in cases {
-        let mut out = limited(rt.alloc(), 1000, false);
-        let mut err = Vec::new(rt.alloc());
+        let mut out = Counting::new(limited(rt.alloc(), 1000, false));
+        let mut err = Counting::new(Vec::new(rt.alloc()));
         let answer = over_command(rt.alloc(), file, certificate, image, &mut out, &mut err);
+        let out = out.into_writer();
+        let err = err.into_writer();
         same(&rt, answer.status(), 1);
         same(&rt, err.as_slice(), text);
         assert!(rt; out.taken.is_empty());
@@ -97,9 +102,11 @@ fn the_check_refuses_before_the_image_and_that_before_its_size(
 #[test]
 fn an_image_over_another_that_cannot_be_written_has_status_3(rt: HostRuntime) -> Result<(), Fail> {
     for (most, can_flush) in [(0, true), (58, true), (59, false)] {
-        let mut out = limited(rt.alloc(), most, can_flush);
-        let mut err = Vec::new(rt.alloc());
+        let mut out = Counting::new(limited(rt.alloc(), most, can_flush));
+        let mut err = Counting::new(Vec::new(rt.alloc()));
         let answer = over_command(rt.alloc(), DOT, DOT_CERT, PAGE, &mut out, &mut err);
+        let out = out.into_writer();
+        let err = err.into_writer();
         same(&rt, (most, answer.status()), (most, 3));
         same(&rt, out.taken.len(), most);
         same(&rt, err.as_slice(), b"metaplay: cannot write\n".as_slice());
@@ -116,8 +123,8 @@ fn playing_over_an_image_under_refused_growth(rt: HostRuntime) -> Result<(), Fai
         DOT,
         DOT_CERT,
         b"P6\n1 1\n255\nabc",
-        &mut out.as_mut_slice(),
-        &mut err.as_mut_slice(),
+        &mut Counting::new(out.as_mut_slice()),
+        &mut Counting::new(err.as_mut_slice()),
     );
     if answer.status() == 0 {
         let want = b"P6\n1 1\n255\n\xff\0\0";

@@ -3,6 +3,7 @@
 use crate::comparing::{same, same_want_of_memory};
 use crate::files::{NIL, NIL_CERT, TRI, TRI_CERT, changed};
 use crate::limited;
+use canvas::Counting;
 use commands::play_command;
 use std::alloc::{AllocError, Global};
 use std::test::Fail;
@@ -33,8 +34,8 @@ fn a_file_is_played_at_the_bound_and_below(rt: HostRuntime) -> Result<(), Fail> 
     for (file, certificate, width, height, header, rows) in cases {
         let want = text_of(rt.alloc(), header, rows)?;
         for bands in [None, Some(1), Some(2), Some(3), Some(8192)] {
-            let mut out = limited(rt.alloc(), 1000, true);
-            let mut err = Vec::new(rt.alloc());
+            let mut out = Counting::new(limited(rt.alloc(), 1000, true));
+            let mut err = Counting::new(Vec::new(rt.alloc()));
             let answer = play_command(
                 rt.alloc(),
                 file,
@@ -45,6 +46,8 @@ fn a_file_is_played_at_the_bound_and_below(rt: HostRuntime) -> Result<(), Fail> 
                 &mut out,
                 &mut err,
             );
+            let out = out.into_writer();
+            let err = err.into_writer();
             same(&rt, answer.status(), 0);
             same(&rt, out.taken.as_slice(), want.as_slice());
             assert!(rt; err.is_empty() && answer.told.is_ok());
@@ -65,8 +68,8 @@ fn a_surface_above_the_bound_is_refused_behind_the_check(rt: HostRuntime) -> Res
         (b"", b"", 5, 4, b"metaplay: NotMetafile\n"),
     ];
     for (file, certificate, width, height, text) in cases {
-        let mut out = limited(rt.alloc(), 1000, false);
-        let mut err = Vec::new(rt.alloc());
+        let mut out = Counting::new(limited(rt.alloc(), 1000, false));
+        let mut err = Counting::new(Vec::new(rt.alloc()));
         let answer = play_command(
             rt.alloc(),
             file,
@@ -77,6 +80,8 @@ fn a_surface_above_the_bound_is_refused_behind_the_check(rt: HostRuntime) -> Res
             &mut out,
             &mut err,
         );
+        let out = out.into_writer();
+        let err = err.into_writer();
         same(&rt, answer.status(), 1);
         same(&rt, err.as_slice(), text);
         assert!(rt; out.taken.is_empty());
@@ -87,9 +92,11 @@ fn a_surface_above_the_bound_is_refused_behind_the_check(rt: HostRuntime) -> Res
 #[test]
 fn an_image_that_cannot_be_written_has_status_3(rt: HostRuntime) -> Result<(), Fail> {
     for (most, can_flush) in [(0, true), (22, true), (23, false)] {
-        let mut out = limited(rt.alloc(), most, can_flush);
-        let mut err = Vec::new(rt.alloc());
+        let mut out = Counting::new(limited(rt.alloc(), most, can_flush));
+        let mut err = Counting::new(Vec::new(rt.alloc()));
         let answer = play_command(rt.alloc(), TRI, TRI_CERT, 2, 2, Some(1), &mut out, &mut err);
+        let out = out.into_writer();
+        let err = err.into_writer();
         same(&rt, (most, answer.status()), (most, 3));
         same(&rt, out.taken.len(), most);
         same(&rt, err.as_slice(), b"metaplay: cannot write\n".as_slice());
@@ -108,8 +115,8 @@ fn playing_under_refused_growth(rt: HostRuntime) -> Result<(), Fail> {
         1,
         1,
         None,
-        &mut out.as_mut_slice(),
-        &mut err.as_mut_slice(),
+        &mut Counting::new(out.as_mut_slice()),
+        &mut Counting::new(err.as_mut_slice()),
     );
     if answer.status() == 0 {
         same(&rt, &out[..14], b"P6\n1 1\n255\n\0\0\0".as_slice());

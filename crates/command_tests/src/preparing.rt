@@ -3,6 +3,7 @@
 use crate::comparing::{same, same_want_of_memory};
 use crate::files::{DOT, NIL, NIL_CERT, TRI, TRI_CERT};
 use crate::limited;
+use canvas::Counting;
 use commands::prepare_command;
 use std::alloc::Global;
 use std::test::Fail;
@@ -20,9 +21,11 @@ fn a_certificate_is_written_whole(rt: HostRuntime) -> Result<(), Fail> {
         (NIL, 2, 3, NIL_CERT),
     ];
     for (file, width, height, want) in cases {
-        let mut out = limited(rt.alloc(), 1000, true);
-        let mut err = Vec::new(rt.alloc());
+        let mut out = Counting::new(limited(rt.alloc(), 1000, true));
+        let mut err = Counting::new(Vec::new(rt.alloc()));
         let answer = prepare_command(rt.alloc(), file, width, height, &mut out, &mut err);
+        let out = out.into_writer();
+        let err = err.into_writer();
         same(&rt, answer.status(), 0);
         same(&rt, out.taken.as_slice(), want);
         assert!(rt; err.is_empty() && answer.told.is_ok());
@@ -38,9 +41,11 @@ fn no_certificate_is_written_of_a_refused_file(rt: HostRuntime) -> Result<(), Fa
         (&DOT[..50], b"metaplay: PastEnd at record 0\n"),
     ];
     for (file, text) in cases {
-        let mut out = limited(rt.alloc(), 1000, false);
-        let mut err = Vec::new(rt.alloc());
+        let mut out = Counting::new(limited(rt.alloc(), 1000, false));
+        let mut err = Counting::new(Vec::new(rt.alloc()));
         let answer = prepare_command(rt.alloc(), file, 4, 4, &mut out, &mut err);
+        let out = out.into_writer();
+        let err = err.into_writer();
         same(&rt, answer.status(), 1);
         same(&rt, err.as_slice(), text);
         assert!(rt; out.taken.is_empty());
@@ -51,9 +56,11 @@ fn no_certificate_is_written_of_a_refused_file(rt: HostRuntime) -> Result<(), Fa
 #[test]
 fn a_certificate_that_cannot_be_written_has_status_3(rt: HostRuntime) -> Result<(), Fail> {
     for (most, can_flush) in [(0, true), (59, true), (60, false)] {
-        let mut out = limited(rt.alloc(), most, can_flush);
-        let mut err = Vec::new(rt.alloc());
+        let mut out = Counting::new(limited(rt.alloc(), most, can_flush));
+        let mut err = Counting::new(Vec::new(rt.alloc()));
         let answer = prepare_command(rt.alloc(), TRI, 4, 4, &mut out, &mut err);
+        let out = out.into_writer();
+        let err = err.into_writer();
         same(&rt, (most, answer.status()), (most, 3));
         same(&rt, out.taken.as_slice(), &TRI_CERT[..most]);
         same(&rt, err.as_slice(), b"metaplay: cannot write\n".as_slice());
@@ -70,8 +77,8 @@ fn preparing_under_refused_growth(rt: HostRuntime) -> Result<(), Fail> {
         DOT,
         4,
         4,
-        &mut out.as_mut_slice(),
-        &mut err.as_mut_slice(),
+        &mut Counting::new(out.as_mut_slice()),
+        &mut Counting::new(err.as_mut_slice()),
     );
     if answer.status() == 0 {
         for at in 0..60 {

@@ -1,8 +1,8 @@
 //! Lines on standard error.
 
 use crate::comparing::same;
-use canvas::WriteFault;
-use commands::{CommandEnd, Completion, InputFault, no_input, report};
+use canvas::{Counting, WriteFault};
+use commands::{CommandEnd, Completion, InputFault, no_input, report, report_refusal};
 use draw_ops::{Fault, RecordFault};
 use preflight_cert::Refusal;
 use std::alloc::{AllocError, Global};
@@ -25,12 +25,13 @@ fn an_input_that_fails_is_reported_in_one_line(rt: HostRuntime) -> Result<(), Fa
         ),
     ];
     for (fault, end, status, text) in cases {
-        let mut err = Vec::new(rt.alloc());
+        let mut err = Counting::new(Vec::new(rt.alloc()));
         same(
             &rt,
             no_input(fault, &mut err),
             Completion { end, told: Ok(()) },
         );
+        let err = err.into_writer();
         same(&rt, end.status(), status);
         same(&rt, err.as_slice(), text);
     }
@@ -52,8 +53,9 @@ fn the_longest_refusal_has_room(rt: HostRuntime) -> Result<(), Fail> {
         number: Some(u32::MAX),
         fault: Fault::Record(RecordFault::UnknownRecord(u32::MAX)),
     };
-    let mut err = Vec::new(rt.alloc());
-    same(&rt, report(&mut err, refusal), Ok(()));
+    let mut err = Counting::new(Vec::new(rt.alloc()));
+    same(&rt, report_refusal(&mut err, refusal), Ok(()));
+    let err = err.into_writer();
     let line = b"metaplay: UnknownRecord 4294967295 at record 4294967295\n";
     same(&rt, err.as_slice(), line.as_slice());
     Ok(())
@@ -84,8 +86,13 @@ fn a_refusal_in_each_record_is_told_whole(rt: HostRuntime) -> Result<(), Fail> {
             fault: Fault::Record(RecordFault::PastEnd),
         };
         let want = format!(in rt.alloc(); "metaplay: PastEnd at record {number}\n")?;
-        let mut err = Vec::new(rt.alloc());
-        same(&rt, (number, report(&mut err, refusal)), (number, Ok(())));
+        let mut err = Counting::new(Vec::new(rt.alloc()));
+        same(
+            &rt,
+            (number, report_refusal(&mut err, refusal)),
+            (number, Ok(())),
+        );
+        let err = err.into_writer();
         same(&rt, (number, err.as_slice()), (number, want.as_bytes()));
     }
     Ok(())
@@ -98,8 +105,9 @@ fn a_line_of_each_length_is_told_whole(rt: HostRuntime) -> Result<(), Fail> {
     for length in 0..118 {
         let told = text.as_str().get(..length).ok_or("a front")?;
         let want = format!(in rt.alloc(); "metaplay: {told}\n")?;
-        let mut err = Vec::new(rt.alloc());
+        let mut err = Counting::new(Vec::new(rt.alloc()));
         same(&rt, (length, report(&mut err, told)), (length, Ok(())));
+        let err = err.into_writer();
         same(&rt, (length, err.as_slice()), (length, want.as_bytes()));
     }
     Ok(())
@@ -109,17 +117,18 @@ fn a_line_of_each_length_is_told_whole(rt: HostRuntime) -> Result<(), Fail> {
 fn a_line_is_told_whole_or_not_at_all(rt: HostRuntime) -> Result<(), Fail> {
     // 117 bytes, the program's name and the line feed fill a line.
     let text = "0123456789".repeat(rt.alloc(), 12)?;
-    let mut err = Vec::new(rt.alloc());
+    let mut err = Counting::new(Vec::new(rt.alloc()));
     same(&rt, report(&mut err, &text.as_str()[..117]), Ok(()));
+    let err = err.into_writer();
     assert!(rt; err.len() == 128);
     same(&rt, &err[..13], b"metaplay: 012".as_slice());
     same(&rt, &err[124..], b"456\n".as_slice());
-    let mut err = Vec::new(rt.alloc());
+    let mut err = Counting::new(Vec::new(rt.alloc()));
     same(
         &rt,
         report(&mut err, &text.as_str()[..118]),
         Err(WriteFault),
     );
-    assert!(rt; err.is_empty());
+    assert!(rt; err.into_writer().is_empty());
     Ok(())
 }

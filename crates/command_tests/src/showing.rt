@@ -3,6 +3,7 @@
 use crate::comparing::{same, same_want_of_memory};
 use crate::files::DOT;
 use crate::limited;
+use canvas::Counting;
 use commands::show_command;
 use std::alloc::{AllocError, Global};
 use std::test::Fail;
@@ -34,9 +35,11 @@ fn text_of(alloc: Global, strip: &Strip) -> Result<Vec<u8>, AllocError> {
 
 #[test]
 fn showing_a_dot_writes_its_image(rt: HostRuntime) -> Result<(), Fail> {
-    let mut out = limited(rt.alloc(), 1000, true);
-    let mut err = Vec::new(rt.alloc());
+    let mut out = Counting::new(limited(rt.alloc(), 1000, true));
+    let mut err = Counting::new(Vec::new(rt.alloc()));
     let status = show_command(rt.alloc(), DOT, 2, 2, &mut out, &mut err).status();
+    let out = out.into_writer();
+    let err = err.into_writer();
     same(&rt, status, 0);
     let want = b"P6\n2 2\n255\n\xff\xff\xff\xff\x00\x00\xff\xff\xff\xff\xff\xff";
     same(&rt, out.taken.as_slice(), want.as_slice());
@@ -49,9 +52,11 @@ fn a_file_that_draws_nothing_is_white(rt: HostRuntime) -> Result<(), Fail> {
     let mut file = Vec::new(rt.alloc());
     file.extend_from_slice(&DOT[..40])?;
     file.extend_from_slice(&DOT[54..])?;
-    let mut out = limited(rt.alloc(), 1000, true);
-    let mut err = Vec::new(rt.alloc());
+    let mut out = Counting::new(limited(rt.alloc(), 1000, true));
+    let mut err = Counting::new(Vec::new(rt.alloc()));
     let status = show_command(rt.alloc(), file.as_slice(), 2, 1, &mut out, &mut err).status();
+    let out = out.into_writer();
+    let err = err.into_writer();
     same(&rt, status, 0);
     let want = b"P6\n2 1\n255\n\xff\xff\xff\xff\xff\xff";
     same(&rt, out.taken.as_slice(), want.as_slice());
@@ -97,9 +102,11 @@ fn sides_of_1_8191_and_8192_are_shown(rt: HostRuntime) -> Result<(), Fail> {
     for strip in strips {
         let (width, height) = (strip.width, strip.height);
         let want = text_of(rt.alloc(), &strip)?;
-        let mut out = limited(rt.alloc(), 100000, true);
-        let mut err = Vec::new(rt.alloc());
+        let mut out = Counting::new(limited(rt.alloc(), 100000, true));
+        let mut err = Counting::new(Vec::new(rt.alloc()));
         let status = show_command(rt.alloc(), DOT, width, height, &mut out, &mut err).status();
+        let out = out.into_writer();
+        let err = err.into_writer();
         same(&rt, status, 0);
         assert!(rt;
             out.taken.as_slice() == want.as_slice(),
@@ -114,9 +121,11 @@ fn sides_of_1_8191_and_8192_are_shown(rt: HostRuntime) -> Result<(), Fail> {
 fn each_height_from_1_to_8192_is_shown(rt: HostRuntime) -> Result<(), Fail> {
     for height in 1..=8192u32 {
         let header = format!(in rt.alloc(); "P6\n1 {height}\n255\n")?;
-        let mut out = Vec::new(rt.alloc());
-        let mut err = Vec::new(rt.alloc());
+        let mut out = Counting::new(Vec::new(rt.alloc()));
+        let mut err = Counting::new(Vec::new(rt.alloc()));
         let answer = show_command(rt.alloc(), DOT, 1, height, &mut out, &mut err);
+        let out = out.into_writer();
+        let err = err.into_writer();
         same(&rt, (height, answer.status()), (height, 0));
         assert!(rt;
             out.as_slice().starts_with(header.as_bytes()),
@@ -136,14 +145,17 @@ fn a_refused_file_is_reported_in_one_line(rt: HostRuntime) -> Result<(), Fail> {
         (&DOT[..50], b"metaplay: PastEnd at record 0\n"),
     ];
     for (file, text) in cases {
-        let mut out = limited(rt.alloc(), 1000, true);
-        let mut err = Vec::new(rt.alloc());
+        let mut out = Counting::new(limited(rt.alloc(), 1000, true));
+        let mut err = Counting::new(Vec::new(rt.alloc()));
         let status = show_command(rt.alloc(), file, 4, 4, &mut out, &mut err).status();
+        let out = out.into_writer();
+        let err = err.into_writer();
         same(&rt, status, 1);
         same(&rt, err.as_slice(), text);
         assert!(rt; out.taken.is_empty());
         // A fault of standard error changes no status, and is told.
-        let mut closed = limited(rt.alloc(), 0, false);
+        let mut out = Counting::new(limited(rt.alloc(), 1000, true));
+        let mut closed = Counting::new(limited(rt.alloc(), 0, false));
         let answer = show_command(rt.alloc(), file, 4, 4, &mut out, &mut closed);
         same(&rt, answer.status(), 1);
         assert!(rt; answer.told.is_err());
@@ -160,8 +172,8 @@ fn showing_under_refused_growth(rt: HostRuntime) -> Result<(), Fail> {
         DOT,
         1,
         1,
-        &mut out.as_mut_slice(),
-        &mut err.as_mut_slice(),
+        &mut Counting::new(out.as_mut_slice()),
+        &mut Counting::new(err.as_mut_slice()),
     )
     .status();
     if status == 0 {

@@ -1,9 +1,11 @@
 //! Writers that fail, refuse, stop short or are interrupted.
 
+use crate::command_lines::words;
 use crate::comparing::same;
 use crate::files::DOT;
 use crate::limited;
-use commands::show_command;
+use canvas::Counting;
+use commands::{line, show_command, usage};
 use std::alloc::Global;
 use std::io;
 use std::io::Write;
@@ -75,9 +77,11 @@ impl Write for Deaf {
 #[test]
 fn a_failed_write_or_flush_has_status_3(rt: HostRuntime) -> Result<(), Fail> {
     for (most, can_flush) in [(0, true), (10, true), (58, true), (59, false)] {
-        let mut out = limited(rt.alloc(), most, can_flush);
-        let mut err = Vec::new(rt.alloc());
+        let mut out = Counting::new(limited(rt.alloc(), most, can_flush));
+        let mut err = Counting::new(Vec::new(rt.alloc()));
         let status = show_command(rt.alloc(), DOT, 4, 4, &mut out, &mut err).status();
+        let out = out.into_writer();
+        let err = err.into_writer();
         same(&rt, (most, status), (most, 3));
         same(&rt, err.as_slice(), b"metaplay: cannot write\n".as_slice());
         same(&rt, out.taken.len(), most);
@@ -87,9 +91,11 @@ fn a_failed_write_or_flush_has_status_3(rt: HostRuntime) -> Result<(), Fail> {
 
 #[test]
 fn an_image_is_flushed_once_behind_its_last_byte(rt: HostRuntime) -> Result<(), Fail> {
-    let mut out = Slow::new(rt.alloc(), u32::MAX, io::ErrorKind::Other);
-    let mut err = Slow::new(rt.alloc(), u32::MAX, io::ErrorKind::Other);
+    let mut out = Counting::new(Slow::new(rt.alloc(), u32::MAX, io::ErrorKind::Other));
+    let mut err = Counting::new(Slow::new(rt.alloc(), u32::MAX, io::ErrorKind::Other));
     let status = show_command(rt.alloc(), DOT, 4, 1, &mut out, &mut err).status();
+    let out = out.into_writer();
+    let err = err.into_writer();
     same(&rt, status, 0);
     same(&rt, out.taken.as_slice(), ROW);
     same(&rt, (out.flushes, out.taken_at_flush), (1, ROW.len()));
@@ -99,9 +105,11 @@ fn an_image_is_flushed_once_behind_its_last_byte(rt: HostRuntime) -> Result<(), 
 
 #[test]
 fn a_refused_file_writes_and_flushes_nothing(rt: HostRuntime) -> Result<(), Fail> {
-    let mut out = Slow::new(rt.alloc(), u32::MAX, io::ErrorKind::Other);
-    let mut err = Slow::new(rt.alloc(), u32::MAX, io::ErrorKind::Other);
+    let mut out = Counting::new(Slow::new(rt.alloc(), u32::MAX, io::ErrorKind::Other));
+    let mut err = Counting::new(Slow::new(rt.alloc(), u32::MAX, io::ErrorKind::Other));
     let status = show_command(rt.alloc(), &DOT[..50], 4, 1, &mut out, &mut err).status();
+    let out = out.into_writer();
+    let err = err.into_writer();
     same(&rt, status, 1);
     same(&rt, (out.calls, out.flushes), (0, 0));
     same(
@@ -114,9 +122,11 @@ fn a_refused_file_writes_and_flushes_nothing(rt: HostRuntime) -> Result<(), Fail
 
 #[test]
 fn an_image_of_one_row_may_fail_at_its_flush(rt: HostRuntime) -> Result<(), Fail> {
-    let mut out = limited(rt.alloc(), 1000, false);
-    let mut err = Vec::new(rt.alloc());
+    let mut out = Counting::new(limited(rt.alloc(), 1000, false));
+    let mut err = Counting::new(Vec::new(rt.alloc()));
     let status = show_command(rt.alloc(), DOT, 4, 1, &mut out, &mut err).status();
+    let out = out.into_writer();
+    let err = err.into_writer();
     same(&rt, status, 3);
     same(&rt, out.taken.as_slice(), ROW);
     same(&rt, err.as_slice(), b"metaplay: cannot write\n".as_slice());
@@ -126,9 +136,11 @@ fn an_image_of_one_row_may_fail_at_its_flush(rt: HostRuntime) -> Result<(), Fail
 #[test]
 fn an_interrupted_write_is_tried_again(rt: HostRuntime) -> Result<(), Fail> {
     for fails_at in [0, 1, 10, 22] {
-        let mut out = Slow::new(rt.alloc(), fails_at, io::ErrorKind::Interrupted);
-        let mut err = Vec::new(rt.alloc());
+        let mut out = Counting::new(Slow::new(rt.alloc(), fails_at, io::ErrorKind::Interrupted));
+        let mut err = Counting::new(Vec::new(rt.alloc()));
         let status = show_command(rt.alloc(), DOT, 4, 1, &mut out, &mut err).status();
+        let out = out.into_writer();
+        let err = err.into_writer();
         same(&rt, (fails_at, status), (fails_at, 0));
         same(&rt, out.taken.as_slice(), ROW);
         same(&rt, out.flushes, 1);
@@ -145,9 +157,11 @@ fn a_write_that_fails_otherwise_is_tried_once(rt: HostRuntime) -> Result<(), Fai
         io::ErrorKind::BrokenPipe,
     ] {
         for fails_at in [0, 5] {
-            let mut out = Slow::new(rt.alloc(), fails_at, kind);
-            let mut err = Vec::new(rt.alloc());
+            let mut out = Counting::new(Slow::new(rt.alloc(), fails_at, kind));
+            let mut err = Counting::new(Vec::new(rt.alloc()));
             let status = show_command(rt.alloc(), DOT, 4, 1, &mut out, &mut err).status();
+            let out = out.into_writer();
+            let err = err.into_writer();
             same(&rt, status, 3);
             same(&rt, (out.calls, out.flushes), (fails_at + 1, 0));
             same(&rt, out.taken.as_slice(), &ROW[..fails_at as usize]);
@@ -159,12 +173,13 @@ fn a_write_that_fails_otherwise_is_tried_once(rt: HostRuntime) -> Result<(), Fai
 
 #[test]
 fn a_writer_that_takes_nothing_cannot_be_written(rt: HostRuntime) -> Result<(), Fail> {
-    let mut err = Vec::new(rt.alloc());
-    let status = show_command(rt.alloc(), DOT, 4, 1, &mut Deaf, &mut err).status();
+    let mut err = Counting::new(Vec::new(rt.alloc()));
+    let status = show_command(rt.alloc(), DOT, 4, 1, &mut Counting::new(Deaf), &mut err).status();
+    let err = err.into_writer();
     same(&rt, status, 3);
     same(&rt, err.as_slice(), b"metaplay: cannot write\n".as_slice());
-    let mut out = Vec::new(rt.alloc());
-    let status = show_command(rt.alloc(), b"", 4, 1, &mut out, &mut Deaf).status();
+    let mut out = Counting::new(Vec::new(rt.alloc()));
+    let status = show_command(rt.alloc(), b"", 4, 1, &mut out, &mut Counting::new(Deaf)).status();
     same(&rt, status, 1);
     Ok(())
 }
@@ -172,9 +187,10 @@ fn a_writer_that_takes_nothing_cannot_be_written(rt: HostRuntime) -> Result<(), 
 #[test]
 fn a_line_is_told_whole_where_standard_error_is_slow(rt: HostRuntime) -> Result<(), Fail> {
     for fails_at in [0, 3, 21] {
-        let mut out = Vec::new(rt.alloc());
-        let mut err = Slow::new(rt.alloc(), fails_at, io::ErrorKind::Interrupted);
+        let mut out = Counting::new(Vec::new(rt.alloc()));
+        let mut err = Counting::new(Slow::new(rt.alloc(), fails_at, io::ErrorKind::Interrupted));
         let status = show_command(rt.alloc(), b"", 4, 1, &mut out, &mut err).status();
+        let err = err.into_writer();
         same(&rt, status, 1);
         same(
             &rt,
@@ -187,11 +203,29 @@ fn a_line_is_told_whole_where_standard_error_is_slow(rt: HostRuntime) -> Result<
 
 #[test]
 fn a_line_ends_where_standard_error_fails(rt: HostRuntime) -> Result<(), Fail> {
-    let mut out = Vec::new(rt.alloc());
-    let mut err = Slow::new(rt.alloc(), 4, io::ErrorKind::WouldBlock);
+    let mut out = Counting::new(Vec::new(rt.alloc()));
+    let mut err = Counting::new(Slow::new(rt.alloc(), 4, io::ErrorKind::WouldBlock));
     let status = show_command(rt.alloc(), b"", 4, 1, &mut out, &mut err).status();
+    let err = err.into_writer();
     same(&rt, status, 1);
     same(&rt, err.taken.as_slice(), b"meta".as_slice());
     same(&rt, err.calls, 5);
+    Ok(())
+}
+
+#[test]
+fn a_usage_is_told_whole_or_up_to_where_its_writer_fails(rt: HostRuntime) -> Result<(), Fail> {
+    let asked = words(rt.alloc(), &["metaplay"])?;
+    let Err(error) = line(rt.alloc(), asked.as_slice()) else {
+        return Err(Fail::from("a wrong command line was taken"));
+    };
+    for (most, whole) in [(0, false), (20, false), (1000, true)] {
+        let mut out = Counting::new(limited(rt.alloc(), 0, true));
+        let mut err = Counting::new(limited(rt.alloc(), most, true));
+        let answer = usage(&error, &mut out, &mut err);
+        same(&rt, (answer.status(), answer.told.is_ok()), (2, whole));
+        let err = err.into_writer();
+        same(&rt, err.taken.len().min(20), most.min(20));
+    }
     Ok(())
 }

@@ -45,6 +45,28 @@ holds_by (Err (Refused r)) a P e h memory = cc
 holds_by (Err CannotWrite) a P e h memory = cc
 holds_by (Err OutOfMemory) a P e h memory = h refl
 
+-- what holds where the output failed
+pub fails_by :
+    (done : Result ⊤ Failure) (a : Completion) (P : Type 0) → a.end ≡ ending_of done → IfErr done (λ failure. failure ≡ CannotWrite → P)
+    → a.end ≡ end.CannotWrite → P
+fails_by (Ok u) a P e h failed = cc
+fails_by (Err (Refused r)) a P e h failed = cc
+fails_by (Err CannotWrite) a P e h failed = h refl
+fails_by (Err OutOfMemory) a P e h failed = cc
+
+-- what holds where the task is done
+pub done_by : (done : Result ⊤ Failure) (a : Completion) (P : Type 0) → a.end ≡ ending_of done → OnOk done P → a.end ≡ end.Done → P
+done_by (Ok u) a P e h is = h
+done_by (Err (Refused r)) a P e h is = cc
+done_by (Err CannotWrite) a P e h is = cc
+done_by (Err OutOfMemory) a P e h is = cc
+
+-- a refusal is no output that failed
+pub no_output : (r : Refusal) (failure : Failure) (P : Type 0) → IsFailureOf r failure → failure ≡ CannotWrite → P
+no_output r (Refused other) P by e = cc
+no_output r CannotWrite P by e = absurd by
+no_output r OutOfMemory P by e = cc
+
 -- a refusal by which nothing was written
 pub refusal_fails :
     (task : Task) (r : Refusal) (failure : Failure) (held : Option (List ℕ)) → (IsRefusedBy task r.number r.fault ⊎ IsWantOfMemory r)

@@ -9,4 +9,5 @@ pub mod PreparedLemmas
 pub mod ReportLemmas
 pub mod SideLemmas
 pub mod TakenLemmas
+pub mod TextLemmas
 pub mod WordLemmas

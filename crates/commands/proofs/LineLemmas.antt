@@ -1,13 +1,13 @@
 -- What a task leaves is what its line leaves, and that is what the words leave.
-use Rattle.std.proofs.Common.{◌≡◌, ℕ, List, Option}
+use Rattle.std.proofs.Common.{◌≡◌, ◌⊎◌, inl, inr, ℕ, List, Option}
 use Rattle.std.specs.Io.KnownBytes.{Keeps}
 use Rattle.clap.specs.Words.{Text}
-use Rattle.commands.specs.CommandLine.{IsAskedByWords}
+use Rattle.commands.specs.CommandLine.{HoldsOfAsked, IsAskedByWords}
 use Rattle.commands.specs.Ends.{TellsBy}
 use Rattle.commands.specs.Lines.{ErrBy, ErrOfSome, ErrOfWords, IsInput, LineWrites, OutBy, OutOfSome, OutOfWords, task_of}
 use Rattle.commands.specs.Faults.{input_end, fault_text}
 use Rattle.commands.specs.Report.{Reports, Told}
-use Rattle.commands.specs.Sides.{HasSides, file_of}
+use Rattle.commands.specs.Sides.{HasSides, HoldsOfSome, file_of}
 use Rattle.commands.specs.declared.command_end.CommandEnd.{CommandEnd}
 use Rattle.commands.specs.declared.command_end.CommandEnd.TheVariants as end
 use Rattle.commands.specs.declared.asked.CommandLine.{CommandLine}
@@ -50,6 +50,15 @@ pub err_unread : (line : CommandLine) (input : Option (List ℕ)) (f : InputFaul
 err_unread line input fault.CannotRead e told old new is reports = rw is reports
 err_unread line input fault.OutOfMemory e told old new is reports = rw is reports
 
+-- and that is no output that failed, and no work that is done
+pub unread_failed : (f : InputFault) (e : CommandEnd) (P : Type 0) → e ≡ input_end f → e ≡ end.CannotWrite → P
+unread_failed fault.CannotRead e P is failed = cc
+unread_failed fault.OutOfMemory e P is failed = cc
+
+pub unread_done : (f : InputFault) (e : CommandEnd) (P : Type 0) → e ≡ input_end f → e ≡ end.Done → P
+unread_done fault.CannotRead e P is done = cc
+unread_done fault.OutOfMemory e P is done = cc
+
 module _ (words : List Text) (line : CommandLine) (input : Option (List ℕ)) (sides : HasSides line) (asked : IsAskedByWords words line) where
   pub out_of_line : (e : CommandEnd) (old new : Option (List ℕ)) → OutBy e line input old new → OutOfWords e words input old new
   out_of_line end.Done old new fact = record { line = line; sides = sides; asked = asked; fact = fact }
@@ -69,6 +78,23 @@ module _ (words : List Text) (line : CommandLine) (input : Option (List ℕ)) (s
 
   pub no_usage : (old new : Option (List ℕ)) → OutBy end.WrongUsage line input old new → ⊥
   no_usage old new fact = fact
+
+-- what holds of a line that was read holds of one that the words ask for
+pub holds_of_line : (words : List Text) (line : CommandLine) (holds : CommandLine → Type 0) → HasSides line → IsAskedByWords words line → holds line → HoldsOfAsked words holds
+holds_of_line words line holds sides asked fact = record { line = line; sides = sides; asked = asked; fact = fact }
+
+-- and of some line
+pub holds_of_some : (words : List Text) (holds : CommandLine → Type 0) → HoldsOfAsked words holds → HoldsOfSome holds
+holds_of_some words holds asked = record { line = asked.line; sides = asked.sides; fact = asked.fact }
+
+-- wrong usage, or want of memory, is no output that failed, and no work that is done
+pub usage_failed : (e : CommandEnd) (P : Type 0) → (e ≡ end.WrongUsage ⊎ e ≡ end.OutOfMemory) → e ≡ end.CannotWrite → P
+usage_failed e P (inl wrong) failed = cc
+usage_failed e P (inr memory) failed = cc
+
+pub usage_done : (e : CommandEnd) (P : Type 0) → (e ≡ end.WrongUsage ⊎ e ≡ end.OutOfMemory) → e ≡ end.Done → P
+usage_done e P (inl wrong) done = cc
+usage_done e P (inr memory) done = cc
 
 -- and what words leave is what some line leaves
 pub out_of_asked : (words : List Text) (input : Option (List ℕ)) (e : CommandEnd) (old new : Option (List ℕ)) → OutOfWords e words input old new → OutOfSome e input old new

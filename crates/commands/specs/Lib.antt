@@ -8,6 +8,7 @@ pub mod Faults
 pub mod Images
 pub mod Lines
 pub mod Listings
+pub mod Outputs
 pub mod Reading
 pub mod Report
 pub mod Reported

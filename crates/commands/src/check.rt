@@ -1,6 +1,6 @@
 //! The command `check`.
 
-ghost use Rattle.std.specs.Prelude.{IfOk};
+ghost use Rattle.std.specs.Prelude.{◌≡◌, ◌⊎◌, ◌-◌, ◌^◌, ◌<◌, IfOk, OnErr, true};
 ghost use Rattle.commands.specs.Reported.{IsReportOf};
 ghost use Rattle.commands.specs.Ends.{Tells, Writes};
 ghost use Rattle.commands.specs.Tasks.{check};
@@ -8,26 +8,30 @@ ghost use Rattle.commands.specs.Tasks.{check};
 use crate::check_report::{accepted_report, refused_report};
 use crate::command_end::{CommandEnd, Completion};
 use crate::reporting::report;
-use crate::writing::write_text;
+use canvas::{FaultCount, send_finished};
 use draw_ops::Fault;
 use preflight_cert::{answer_law, check};
 use std::alloc::{AllocError, Global};
-use std::io::Write;
 
 /// Checks a certificate against a file, and writes the report to `out` as one line of JSON, whether it is accepted or refused. Of a
 /// refusal nothing goes to `err`; a fault of `err` changes no status.
-pub fn check_command<O: Write, E: Write>(
+pub fn check_command<O: FaultCount, E: FaultCount>(
     alloc: Global,
     file: &[u8],
     certificate: &[u8],
     out: &mut O,
     err: &mut E,
 ) -> Completion
+    requires room_out { O.fault_count out.old < 2 ^ 64 - 1 }
+    requires room_err { E.fault_count err.old < 2 ^ 64 - 1 }
     ensures written { Writes (check file.now certificate.now) result O.contents out.old out.new }
     ensures told { Tells (check file.now certificate.now) result E.contents err.old err.new }
+    ensures cannot_write { result.end ≡ CommandEnd.CannotWrite → O.fault_count out.old < O.fault_count out.new }
+    ensures unreported { OnErr result.told (E.fault_count err.old < E.fault_count err.new) }
+    ensures flushed { result.end ≡ CommandEnd.Done ⊎ result.end ≡ CommandEnd.Refused → O.is_flushed out.new ≡ true }
 {
     match report_check(alloc, file, certificate) {
-        Ok(Report::Accepted(text)) => match write_text(text.as_slice(), out) {
+        Ok(Report::Accepted(text)) => match send_finished(out, text.as_slice()) {
             Ok(()) => Completion {
                 end: CommandEnd::Done,
                 told: Ok(()),
@@ -37,7 +41,7 @@ pub fn check_command<O: Write, E: Write>(
                 told: report(err, "cannot write"),
             },
         },
-        Ok(Report::Refused(text)) => match write_text(text.as_slice(), out) {
+        Ok(Report::Refused(text)) => match send_finished(out, text.as_slice()) {
             Ok(()) => Completion {
                 end: CommandEnd::Refused,
                 told: Ok(()),

@@ -1,13 +1,13 @@
 //! Why a command isn't done, and how it ends then.
 
-ghost use Rattle.std.specs.Prelude.{◌≡◌};
+ghost use Rattle.std.specs.Prelude.{◌≡◌, ◌-◌, ◌^◌, ◌<◌, OnErr};
 ghost use Rattle.commands.specs.Failures.{IsFailureOf, TellsEnding, ending_of};
 
 use crate::command_end::{CommandEnd, Completion};
-use crate::reporting::report;
+use crate::reporting::{report, report_refusal};
+use canvas::FaultCount;
 use draw_ops::Fault;
 use preflight_cert::Refusal;
-use std::io::Write;
 
 /// Why a command isn't done.
 #[derive(Clone, Copy, Debug)]
@@ -31,9 +31,11 @@ pub(crate) fn failure_of(refusal: Refusal) -> Failure
 }
 
 /// How a command ends, which goes to `err` as one line where it isn't done. A fault of `err` changes no status.
-pub(crate) fn ending<E: Write>(done: Result<(), Failure>, err: &mut E) -> Completion
+pub(crate) fn ending<E: FaultCount>(done: Result<(), Failure>, err: &mut E) -> Completion
+    requires room { E.fault_count err.old < 2 ^ 64 - 1 }
     ensures end { result.end ≡ ending_of done }
     ensures told { TellsEnding done result.told (E.contents err.old) (E.contents err.new) }
+    ensures unreported { OnErr result.told (E.fault_count err.old < E.fault_count err.new) }
 {
     match done {
         Ok(()) => Completion {
@@ -42,7 +44,7 @@ pub(crate) fn ending<E: Write>(done: Result<(), Failure>, err: &mut E) -> Comple
         },
         Err(Failure::Refused(refusal)) => Completion {
             end: CommandEnd::Refused,
-            told: report(err, refusal),
+            told: report_refusal(err, refusal),
         },
         Err(Failure::CannotWrite) => Completion {
             end: CommandEnd::CannotWrite,

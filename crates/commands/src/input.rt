@@ -31,7 +31,8 @@ pub enum InputFault {
 impl InputFault {
     /// What went wrong, as a line on standard error tells it.
     pub fn text(self) -> &'static str
-        ensures { result.now ≡ fault_text self }
+        ensures text { result.now ≡ fault_text self }
+        ensures short { length result.now ≤ 117 }
     {
         match self {
             InputFault::CannotRead => "cannot read",

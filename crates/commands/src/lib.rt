@@ -21,12 +21,16 @@
 //!   `over` between them that the text is no image. Then nothing was written, and of `check` the refusal's
 //!   report; of `list` the listing of records that break. Where memory was refused nothing was written,
 //!   and of `show`, `prepare` and `list` the file opens, and of `play` and `over` the certificate reads, too.
-//! - Where an output failed, it got a front of such a text.
+//! - Where an output failed, it got a front of such a text. A command ends by `CannotWrite` only where its output failed: that counts
+//!   its faults, and the count rose. Where a command is done, its output was flushed after the last byte, and so was a report of a
+//!   refusal, and a listing of records that break. A certificate that is prepared goes to a file of its own, and standard output then
+//!   stays as it was (`run_words`, `run`).
 //! - The whole program's ends mean the same of some bytes, at the sides and for the files that the words
 //!   ask for (`run_words`, `run`); no status is above 4 (`CommandEnd::status`).
 //! - Standard error gets nothing where the work is done, and else the one line that tells why: all of it,
 //!   or a front where the writer failed, which the answer tells (`report`, `run`). Where nothing is told
-//!   the answer has no error of that writer.
+//!   the answer has no error of that writer, and else it has one only where that writer failed: each line of
+//!   the program has room (`report_refusal`).
 #![tactic(auto)]
 
 mod asked;
@@ -48,6 +52,7 @@ mod preparing;
 mod program;
 mod reporting;
 mod show;
+mod shown;
 mod writing;
 
 pub use asked::CommandLine;
@@ -61,5 +66,5 @@ pub use over::over_command;
 pub use play::play_command;
 pub use prepare::prepare_command;
 pub use program::{no_input, run, run_words, usage};
-pub use reporting::report;
+pub use reporting::{report, report_refusal};
 pub use show::show_command;

@@ -1,6 +1,6 @@
 //! The command `list`.
 
-ghost use Rattle.std.specs.Prelude.{◌≡◌, IfOk, OnErr};
+ghost use Rattle.std.specs.Prelude.{◌≡◌, ◌⊎◌, ◌-◌, ◌^◌, ◌<◌, IfOk, OnErr, OnOk, true};
 ghost use Rattle.commands.specs.Ends.{Tells, Writes, WritesFront, WritesText};
 ghost use Rattle.preflight_cert.specs.Reached.{Opens};
 ghost use Rattle.commands.specs.Listings.{IsListing, Lists};
@@ -10,24 +10,28 @@ ghost use Rattle.listing.specs.ListingLaws.{TellsEachRefusal, TellsEachStop};
 
 use crate::command_end::{CommandEnd, Completion};
 use crate::reporting::report;
-use canvas::WriteFault;
-use listing::{Judge, ListingEnd, listing_law, write_listing};
+use canvas::{FaultCount, WriteFault, flush_sent};
+use listing::{Judge, ListingEnd, listing_law, write_listing_to};
 use std::alloc::Global;
-use std::io::Write;
 
 /// Lists the records of a file to `out`, a line each, with the faults that the file's runs have in them, on surfaces of any sides, and
 /// tells by its end whether the records end with an end record. Of the listing nothing goes to `err`, whose fault changes no status.
-pub fn list_command<O: Write, E: Write>(
+pub fn list_command<O: FaultCount, E: FaultCount>(
     alloc: Global,
     file: &[u8],
     out: &mut O,
     err: &mut E,
 ) -> Completion
+    requires room_out { O.fault_count out.old < 2 ^ 64 - 1 }
+    requires room_err { E.fault_count err.old < 2 ^ 64 - 1 }
     ensures written { Writes (list file.now) result O.contents out.old out.new }
     ensures told { Tells (list file.now) result E.contents err.old err.new }
     ensures memory { result.end ≡ CommandEnd.OutOfMemory → Opens file.now }
     ensures each_stop { TellsEachStop file.now }
     ensures each_refusal { TellsEachRefusal file.now }
+    ensures cannot_write { result.end ≡ CommandEnd.CannotWrite → O.fault_count out.old < O.fault_count out.new }
+    ensures unreported { OnErr result.told (E.fault_count err.old < E.fault_count err.new) }
+    ensures flushed { result.end ≡ CommandEnd.Done ⊎ result.end ≡ CommandEnd.Refused → O.is_flushed out.new ≡ true }
 {
     listing_law();
     match Judge::new(alloc, file) {
@@ -53,18 +57,19 @@ pub fn list_command<O: Write, E: Write>(
 }
 
 /// Writes a listing, and has the writer pass on what it holds back.
-fn send_listing<'a, O: Write>(
+fn send_listing<'a, O: FaultCount>(
     file: &'a [u8],
     judge: Judge<'a>,
     out: &mut O,
 ) -> Result<ListingEnd, WriteFault>
-    requires { judge ≡ judging_of file.now }
+    requires judge { judge ≡ judging_of file.now }
+    requires room { O.fault_count out.old < 2 ^ 64 - 1 }
     ensures ok { IfOk result (λ listed. WritesText (Lists file.now listed) (O.contents out.old) (O.contents out.new)) }
     ensures err { OnErr result (WritesFront (IsListing file.now) (O.contents out.old) (O.contents out.new)) }
+    ensures fault { OnErr result (O.fault_count out.old < O.fault_count out.new) }
+    ensures flushed { OnOk result (O.is_flushed out.new ≡ true) }
 {
-    let listed = write_listing(file, judge, out)?;
-    match out.flush() {
-        Ok(()) => Ok(listed),
-        Err(_) => Err(WriteFault),
-    }
+    let listed = write_listing_to(file, judge, out)?;
+    flush_sent(out)?;
+    Ok(listed)
 }

@@ -1,6 +1,6 @@
 //! The command `over`.
 
-ghost use Rattle.std.specs.Prelude.{◌≡◌, ◌≤◌, ◌⊎◌, ◌^◌, IfErr, IfOk, OnOk};
+ghost use Rattle.std.specs.Prelude.{◌≡◌, ◌-◌, ◌<◌, ◌≤◌, ◌⊎◌, ◌^◌, IfErr, IfOk, OnErr, OnOk, true};
 ghost use Rattle.canvas.specs.CanvasState.{image_of};
 ghost use Rattle.preflight_cert.specs.Reached.{OpensBoth};
 ghost use Rattle.preflight_cert.specs.Refusal.{IsWantOfMemory};
@@ -14,17 +14,16 @@ ghost use Rattle.commands.specs.Tasks.{over};
 use crate::command_end::{CommandEnd, Completion};
 use crate::failure::{Failure, ending, failure_of};
 use crate::writing::write_image;
-use canvas::{Canvas, ImageError};
+use canvas::{Canvas, FaultCount, ImageError};
 use draw_ops::Fault;
 use player::play;
 use preflight_cert::{Cleared, Refusal, check};
 use std::alloc::Global;
-use std::io::Write;
 
 /// Checks a certificate against a file, plays the file over an image at its size, and writes what that leaves to `out` as P6 text once the
 /// whole file has been played. A refusal, the check's, or else `BadImage`, or else `SurfaceTooLarge`, goes to `err` as one line; a fault
 /// of `err` changes no status.
-pub fn over_command<O: Write, E: Write>(
+pub fn over_command<O: FaultCount, E: FaultCount>(
     alloc: Global,
     file: &[u8],
     certificate: &[u8],
@@ -32,25 +31,33 @@ pub fn over_command<O: Write, E: Write>(
     out: &mut O,
     err: &mut E,
 ) -> Completion
+    requires room_out { O.fault_count out.old < 2 ^ 64 - 1 }
+    requires room_err { E.fault_count err.old < 2 ^ 64 - 1 }
     ensures written { Writes (over file.now certificate.now image.now) result O.contents out.old out.new }
     ensures told { Tells (over file.now certificate.now image.now) result E.contents err.old err.new }
     ensures memory { result.end ≡ CommandEnd.OutOfMemory → OpensBoth file.now certificate.now }
+    ensures cannot_write { result.end ≡ CommandEnd.CannotWrite → O.fault_count out.old < O.fault_count out.new }
+    ensures unreported { OnErr result.told (E.fault_count err.old < E.fault_count err.new) }
+    ensures flushed { result.end ≡ CommandEnd.Done → O.is_flushed out.new ≡ true }
 {
     let done = write_over(alloc, file, certificate, image, out);
     ending(done, err)
 }
 
 /// Checks a certificate against a file, plays the file over an image, and writes what that leaves.
-fn write_over<O: Write>(
+fn write_over<O: FaultCount>(
     alloc: Global,
     file: &[u8],
     certificate: &[u8],
     image: &[u8],
     out: &mut O,
 ) -> Result<(), Failure>
+    requires room { O.fault_count out.old < 2 ^ 64 - 1 }
     ensures done { OnOk result (WritesDone (over file.now certificate.now image.now) O.contents out.old out.new) }
     ensures failed { IfErr result (FailsWith (over file.now certificate.now image.now) O.contents out.old out.new) }
     ensures memory { IfErr result (λ failure. failure ≡ Failure.OutOfMemory → OpensBoth file.now certificate.now) }
+    ensures fault { IfErr result (λ failure. failure ≡ Failure.CannotWrite → O.fault_count out.old < O.fault_count out.new) }
+    ensures flushed { OnOk result (O.is_flushed out.new ≡ true) }
 {
     let canvas = match over_file(alloc, file, certificate, image) {
         Ok(canvas) => canvas,

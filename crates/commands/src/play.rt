@@ -1,6 +1,6 @@
 //! The command `play`.
 
-ghost use Rattle.std.specs.Prelude.{◌≡◌, ◌≤◌, IfErr, IfSome, OnOk};
+ghost use Rattle.std.specs.Prelude.{◌≡◌, ◌-◌, ◌^◌, ◌<◌, ◌≤◌, IfErr, IfSome, OnErr, OnOk, true};
 ghost use Rattle.mapping.specs.Colours.{white_colour};
 ghost use Rattle.mapping.specs.Limits.{IsSurfaceSide};
 ghost use Rattle.preflight_cert.specs.Reached.{OpensBoth};
@@ -11,16 +11,16 @@ ghost use Rattle.commands.specs.Tasks.{planned, play};
 use crate::command_end::{CommandEnd, Completion};
 use crate::failure::{Failure, ending, failure_of};
 use crate::playing::{band_rows, write_played};
+use canvas::FaultCount;
 use mapping::Colour;
 use player::BandPlan;
 use preflight_cert::check;
 use std::alloc::Global;
-use std::io::Write;
 
 /// Checks a certificate against a file, plays the file on a white surface, in bands of so many rows or of the program's own choosing,
 /// and writes the image to `out` as P6 text. A refusal, the check's or else `SurfaceTooLarge`, comes before any byte and goes to `err`
 /// as one line; a fault of `err` changes no status.
-pub fn play_command<O: Write, E: Write>(
+pub fn play_command<O: FaultCount, E: FaultCount>(
     alloc: Global,
     file: &[u8],
     certificate: &[u8],
@@ -33,9 +33,14 @@ pub fn play_command<O: Write, E: Write>(
     requires wide { IsSurfaceSide width }
     requires high { IsSurfaceSide height }
     requires bands { IfSome bands (λ rows. 1 ≤ rows) }
+    requires room_out { O.fault_count out.old < 2 ^ 64 - 1 }
+    requires room_err { E.fault_count err.old < 2 ^ 64 - 1 }
     ensures written { Writes (play file.now certificate.now width height) result O.contents out.old out.new }
     ensures told { Tells (play file.now certificate.now width height) result E.contents err.old err.new }
     ensures memory { result.end ≡ CommandEnd.OutOfMemory → OpensBoth file.now certificate.now }
+    ensures cannot_write { result.end ≡ CommandEnd.CannotWrite → O.fault_count out.old < O.fault_count out.new }
+    ensures unreported { OnErr result.told (E.fault_count err.old < E.fault_count err.new) }
+    ensures flushed { result.end ≡ CommandEnd.Done → O.is_flushed out.new ≡ true }
 {
     let plan = BandPlan {
         width,
@@ -48,7 +53,7 @@ pub fn play_command<O: Write, E: Write>(
 }
 
 /// Checks a certificate against a file, and plays the file on a white surface.
-fn play_checked<O: Write>(
+fn play_checked<O: FaultCount>(
     alloc: Global,
     file: &[u8],
     certificate: &[u8],
@@ -56,9 +61,12 @@ fn play_checked<O: Write>(
     out: &mut O,
 ) -> Result<(), Failure>
     requires white { plan.start ≡ white_colour }
+    requires room { O.fault_count out.old < 2 ^ 64 - 1 }
     ensures done { OnOk result (WritesDone (planned file.now certificate.now plan) O.contents out.old out.new) }
     ensures failed { IfErr result (FailsWith (planned file.now certificate.now plan) O.contents out.old out.new) }
     ensures memory { IfErr result (λ failure. failure ≡ Failure.OutOfMemory → OpensBoth file.now certificate.now) }
+    ensures fault { IfErr result (λ failure. failure ≡ Failure.CannotWrite → O.fault_count out.old < O.fault_count out.new) }
+    ensures flushed { OnOk result (O.is_flushed out.new ≡ true) }
 {
     let cleared = match check(alloc, file, certificate) {
         Ok(cleared) => cleared,

@@ -1,15 +1,15 @@
 //! Playing a file whose certificate was accepted, on white, band by band, and writing the image's text.
 
-ghost use Rattle.std.specs.Prelude.{◌≡◌, ◌≤◌, IfErr, IfSome, OnOk};
+ghost use Rattle.std.specs.Prelude.{◌≡◌, ◌-◌, ◌^◌, ◌<◌, ◌≤◌, IfErr, IfSome, OnOk, true};
 ghost use Rattle.mapping.specs.Colours.{white_colour};
 ghost use Rattle.commands.specs.ClearedFiles.{FailsToPlay, PlaysTo};
 
 use crate::failure::{Failure, failure_of};
+use canvas::{FaultCount, flush_sent};
 use draw_ops::Fault;
-use player::{BandPlan, play_bands};
+use player::{BandPlan, play_bands_to};
 use preflight_cert::{Cleared, Refusal};
 use std::alloc::Global;
-use std::io::Write;
 
 /// How many pixels a band has at most where it has more rows than the fewest: 3 MiB of them.
 const BAND_PIXELS: u32 = 1 << 20;
@@ -31,15 +31,18 @@ pub(crate) fn band_rows(width: u32, bands: Option<u32>) -> u32
 
 /// Plays a cleared file on a white surface in bands, and writes the image's P6 text to `out`. It is refused by `SurfaceTooLarge` exactly
 /// where a side is above the certificate's bound, before memory is asked for.
-pub(crate) fn write_played<O: Write>(
+pub(crate) fn write_played<O: FaultCount>(
     alloc: Global,
     cleared: &Cleared<'_>,
     plan: BandPlan,
     out: &mut O,
 ) -> Result<(), Failure>
     requires white { plan.start ≡ white_colour }
+    requires room { O.fault_count out.old < 2 ^ 64 - 1 }
     ensures done { OnOk result (PlaysTo cleared.now plan O.contents out.old out.new) }
     ensures failed { IfErr result (FailsToPlay cleared.now plan.width plan.height O.contents out.old out.new) }
+    ensures fault { IfErr result (λ failure. failure ≡ Failure.CannotWrite → O.fault_count out.old < O.fault_count out.new) }
+    ensures flushed { OnOk result (O.is_flushed out.new ≡ true) }
 {
     let BandPlan {
         width,
@@ -48,8 +51,8 @@ pub(crate) fn write_played<O: Write>(
         rows,
         ..
     } = plan;
-    match play_bands(alloc, cleared, width, height, start, rows, out) {
-        Ok(_) => match out.flush() {
+    match play_bands_to(alloc, cleared, width, height, start, rows, out) {
+        Ok(_) => match flush_sent(out) {
             Ok(()) => Ok(()),
             Err(_) => Err(Failure::CannotWrite),
         },

@@ -1,6 +1,6 @@
 //! The command `prepare`.
 
-ghost use Rattle.std.specs.Prelude.{◌≡◌, IfErr, OnOk};
+ghost use Rattle.std.specs.Prelude.{◌≡◌, ◌-◌, ◌^◌, ◌<◌, IfErr, OnErr, OnOk, true};
 ghost use Rattle.mapping.specs.Limits.{IsSurfaceSide};
 ghost use Rattle.commands.specs.Ends.{IsDoneBy, Tells, Writes, WritesText};
 ghost use Rattle.preflight_cert.specs.Reached.{Opens};
@@ -10,13 +10,12 @@ ghost use Rattle.commands.specs.Tasks.{prepare};
 use crate::command_end::{CommandEnd, Completion};
 use crate::failure::{Failure, ending, failure_of};
 use crate::preparing::prepare_file;
-use crate::writing::write_text;
+use canvas::{FaultCount, send_finished};
 use std::alloc::Global;
-use std::io::Write;
 
 /// Prepares a file's certificate for surfaces up to these sides and writes it to `out`, once the whole file has been gone through. A
 /// refusal goes to `err` as one line; a fault of `err` changes no status.
-pub fn prepare_command<O: Write, E: Write>(
+pub fn prepare_command<O: FaultCount, E: FaultCount>(
     alloc: Global,
     file: &[u8],
     width: u32,
@@ -26,16 +25,21 @@ pub fn prepare_command<O: Write, E: Write>(
 ) -> Completion
     requires wide { IsSurfaceSide width }
     requires high { IsSurfaceSide height }
+    requires room_out { O.fault_count out.old < 2 ^ 64 - 1 }
+    requires room_err { E.fault_count err.old < 2 ^ 64 - 1 }
     ensures written { Writes (prepare file.now width height) result O.contents out.old out.new }
     ensures told { Tells (prepare file.now width height) result E.contents err.old err.new }
     ensures memory { result.end ≡ CommandEnd.OutOfMemory → Opens file.now }
+    ensures cannot_write { result.end ≡ CommandEnd.CannotWrite → O.fault_count out.old < O.fault_count out.new }
+    ensures unreported { OnErr result.told (E.fault_count err.old < E.fault_count err.new) }
+    ensures flushed { result.end ≡ CommandEnd.Done → O.is_flushed out.new ≡ true }
 {
     let done = write_prepared(alloc, file, width, height, out);
     ending(done, err)
 }
 
 /// Prepares a file's certificate for surfaces up to these sides, and writes it.
-fn write_prepared<O: Write>(
+fn write_prepared<O: FaultCount>(
     alloc: Global,
     file: &[u8],
     width: u32,
@@ -44,15 +48,18 @@ fn write_prepared<O: Write>(
 ) -> Result<(), Failure>
     requires wide { IsSurfaceSide width }
     requires high { IsSurfaceSide height }
+    requires room { O.fault_count out.old < 2 ^ 64 - 1 }
     ensures done { OnOk result (WritesText (IsDoneBy (prepare file.now width height)) (O.contents out.old) (O.contents out.new)) }
     ensures failed { IfErr result (FailsWith (prepare file.now width height) O.contents out.old out.new) }
     ensures memory { IfErr result (λ failure. failure ≡ Failure.OutOfMemory → Opens file.now) }
+    ensures fault { IfErr result (λ failure. failure ≡ Failure.CannotWrite → O.fault_count out.old < O.fault_count out.new) }
+    ensures flushed { OnOk result (O.is_flushed out.new ≡ true) }
 {
     let prepared = match prepare_file(alloc, file, width, height) {
         Ok(prepared) => prepared,
         Err(refusal) => return Err(failure_of(refusal)),
     };
-    match write_text(prepared.text.as_slice(), out) {
+    match send_finished(out, prepared.text.as_slice()) {
         Ok(()) => Ok(()),
         Err(_) => Err(Failure::CannotWrite),
     }

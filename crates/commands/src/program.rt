@@ -1,14 +1,15 @@
 //! The program: the command line, its inputs, and the command that they ask for.
 
-ghost use Rattle.std.specs.Prelude.{◌≡◌, ◌≢◌, ◌⊎◌, ◌↔◌, codes, map, string_bytes};
+ghost use Rattle.std.specs.Prelude.{◌≡◌, ◌≢◌, ◌⊎◌, ◌↔◌, ◌-◌, ◌^◌, ◌<◌, OnErr, codes, map, string_bytes};
 ghost use Rattle.std.specs.Io.KnownBytes.{Keeps};
 ghost use Rattle.clap.specs.Words.{kind_of};
+ghost use Rattle.commands.specs.Outputs.{FailsAsked, FlushesAsked, IsUnreported, OutputFailed, OutputFlushed, Rises};
 ghost use Rattle.commands.specs.RightWords.{AreRightWords};
 ghost use Rattle.commands.specs.Faults.{input_end, fault_text};
 ghost use Rattle.commands.specs.Lines.{TaskTells, TaskWrites, TellsAsked, TellsLine, TellsMemory, TellsSome};
 ghost use Rattle.commands.specs.Lines.{WritesAsked, WritesLine, WritesSome, standard_input};
 ghost use Rattle.commands.specs.Report.{Reports};
-ghost use Rattle.commands.specs.Sides.{HasSides, file_of};
+ghost use Rattle.commands.specs.Sides.{HasSides, HoldsOfSome, file_of};
 
 use crate::asked::CommandLine;
 use crate::check::check_command;
@@ -23,11 +24,12 @@ use crate::play::play_command;
 use crate::prepare::prepare_command;
 use crate::reporting::report;
 use crate::show::show_command;
-use canvas::WriteFault;
+use crate::shown::show_error;
+use canvas::{Counting, FaultCount};
 use clap::error::ErrorKind;
 use std::alloc::Global;
 use std::env;
-use std::io::{Read, Write};
+use std::io::Read;
 use std::rt::{Env, Files};
 
 /// Runs the program.
@@ -35,11 +37,17 @@ pub fn run<R, I, O, E>(rt: &R, input: &mut I, out: &mut O, err: &mut E) -> Compl
 where
     R: Env + Files + AllocGlobal,
     I: Read,
-    O: Write,
-    E: Write,
+    O: FaultCount,
+    E: FaultCount,
+    requires room_out { O.fault_count out.old < 2 ^ 64 - 1 }
+    requires room_err { E.fault_count err.old < 2 ^ 64 - 1 }
     ensures written { WritesSome (I.remaining input.old) result O.contents out.old out.new }
     ensures told { TellsSome (I.remaining input.old) result E.contents err.old err.new }
     ensures usage_unread { result.end ≡ CommandEnd.WrongUsage → Keeps (I.remaining input.old) (I.remaining input.new) }
+    ensures cannot_write { result.end ≡ CommandEnd.CannotWrite → HoldsOfSome (OutputFailed O.fault_count out.old out.new) }
+    ensures flushed { result.end ≡ CommandEnd.Done → HoldsOfSome (OutputFlushed O.is_flushed out.old out.new) }
+    ensures unreported { IsUnreported result E.fault_count err.old err.new }
+    ensures unshown { OnErr result.told (Rises E.fault_count err.old err.new ⊎ Rises O.fault_count out.old out.new) }
 {
     match words(rt) {
         Ok(words) => run_words(words.as_slice(), rt, input, out, err),
@@ -65,12 +73,18 @@ pub fn run_words<R, I, O, E>(
 where
     R: Files + AllocGlobal,
     I: Read,
-    O: Write,
-    E: Write,
+    O: FaultCount,
+    E: FaultCount,
+    requires room_out { O.fault_count out.old < 2 ^ 64 - 1 }
+    requires room_err { E.fault_count err.old < 2 ^ 64 - 1 }
     ensures written { WritesAsked words.entry.now (I.remaining input.old) result O.contents out.old out.new }
     ensures told { TellsAsked words.entry.now (I.remaining input.old) result E.contents err.old err.new }
     ensures usage_wrong { result.end ≡ CommandEnd.WrongUsage → AreRightWords (map string_bytes words.entry.now) → ⊥ }
     ensures usage_unread { result.end ≡ CommandEnd.WrongUsage → Keeps (I.remaining input.old) (I.remaining input.new) }
+    ensures cannot_write { result.end ≡ CommandEnd.CannotWrite → FailsAsked words.entry.now O.fault_count out.old out.new }
+    ensures flushed { result.end ≡ CommandEnd.Done → FlushesAsked words.entry.now O.is_flushed out.old out.new }
+    ensures unreported { IsUnreported result E.fault_count err.old err.new }
+    ensures unshown { OnErr result.told (Rises E.fault_count err.old err.new ⊎ Rises O.fault_count out.old out.new) }
 {
     match line(rt.alloc(), words) {
         Ok(line) => perform(rt, line, input, out, err),
@@ -89,12 +103,17 @@ fn perform<R, I, O, E>(
 where
     R: Files + AllocGlobal,
     I: Read,
-    O: Write,
-    E: Write,
+    O: FaultCount,
+    E: FaultCount,
     requires sides { HasSides line }
+    requires room_out { O.fault_count out.old < 2 ^ 64 - 1 }
+    requires room_err { E.fault_count err.old < 2 ^ 64 - 1 }
     ensures written { WritesLine line.entry (I.remaining input.old) result O.contents out.old out.new }
     ensures told { TellsLine line.entry (I.remaining input.old) result E.contents err.old err.new }
     ensures unread { file_of line.entry ≢ standard_input → Keeps (I.remaining input.old) (I.remaining input.new) }
+    ensures cannot_write { result.end ≡ CommandEnd.CannotWrite → OutputFailed O.fault_count out.old out.new line.entry }
+    ensures flushed { result.end ≡ CommandEnd.Done → OutputFlushed O.is_flushed out.old out.new line.entry }
+    ensures unreported { OnErr result.told (E.fault_count err.old < E.fault_count err.new) }
 {
     match read_inputs(rt, line, input) {
         Ok(inputs) => run_task(rt, line, &inputs, out, err),
@@ -103,7 +122,7 @@ where
 }
 
 /// Runs the command that a line asks for, over the bytes of its inputs.
-fn run_task<R: Files + AllocGlobal, O: Write, E: Write>(
+fn run_task<R: Files + AllocGlobal, O: FaultCount, E: FaultCount>(
     rt: &R,
     line: CommandLine<'_>,
     inputs: &Inputs,
@@ -111,8 +130,13 @@ fn run_task<R: Files + AllocGlobal, O: Write, E: Write>(
     err: &mut E,
 ) -> Completion
     requires sides { HasSides line }
+    requires room_out { O.fault_count out.old < 2 ^ 64 - 1 }
+    requires room_err { E.fault_count err.old < 2 ^ 64 - 1 }
     ensures written { TaskWrites line.entry inputs.now result O.contents out.old out.new }
     ensures told { TaskTells line.entry inputs.now result E.contents err.old err.new }
+    ensures cannot_write { result.end ≡ CommandEnd.CannotWrite → OutputFailed O.fault_count out.old out.new line.entry }
+    ensures flushed { result.end ≡ CommandEnd.Done → OutputFlushed O.is_flushed out.old out.new line.entry }
+    ensures unreported { OnErr result.told (E.fault_count err.old < E.fault_count err.new) }
 {
     let (file, certificate) = (inputs.file.as_slice(), inputs.certificate.as_slice());
     match line {
@@ -125,7 +149,7 @@ fn run_task<R: Files + AllocGlobal, O: Write, E: Write>(
             output,
             ..
         } => {
-            let mut output = NamedOutput::new(rt, output);
+            let mut output = Counting::new(NamedOutput::new(rt, output));
             prepare_command(rt.alloc(), file, width, height, &mut output, err)
         }
         CommandLine::Check { .. } => check_command(rt.alloc(), file, certificate, out, err),
@@ -155,9 +179,11 @@ fn words<R: Env + AllocGlobal>(rt: &R) -> Result<Vec<String>, InputFault> {
 }
 
 /// Reports that an input was not read.
-pub fn no_input<E: Write>(fault: InputFault, err: &mut E) -> Completion
+pub fn no_input<E: FaultCount>(fault: InputFault, err: &mut E) -> Completion
+    requires room { E.fault_count err.old < 2 ^ 64 - 1 }
     ensures end { result.end ≡ input_end fault }
     ensures line { Reports result.told (E.contents err.old) (E.contents err.new) (fault_text fault) }
+    ensures unreported { OnErr result.told (E.fault_count err.old < E.fault_count err.new) }
 {
     let told = report(err, fault.text());
     let end = match fault {
@@ -167,23 +193,31 @@ pub fn no_input<E: Write>(fault: InputFault, err: &mut E) -> Completion
     Completion { end, told }
 }
 
-/// Shows the usage, or the help that was asked for, where `clap` says.
-pub fn usage<O: Write, E: Write>(error: &clap::Error, out: &mut O, err: &mut E) -> Completion
+/// Shows the usage, or the help that was asked for, where `clap` says, and answers whether its writer failed.
+pub fn usage<O: FaultCount, E: FaultCount>(
+    error: &clap::Error,
+    out: &mut O,
+    err: &mut E,
+) -> Completion
+    requires room_out { O.fault_count out.old < 2 ^ 64 - 1 }
+    requires room_err { E.fault_count err.old < 2 ^ 64 - 1 }
     ensures memory { result.end ≡ CommandEnd.OutOfMemory ↔ kind_of error.now ≡ ErrorKind.OutOfMemory }
     ensures ends { (result.end ≡ CommandEnd.WrongUsage) ⊎ (result.end ≡ CommandEnd.OutOfMemory) }
     ensures unwritten { result.end ≡ CommandEnd.OutOfMemory → Keeps (O.contents out.old) (O.contents out.new) }
     ensures line { result.end ≡ CommandEnd.OutOfMemory → TellsMemory result E.contents err.old err.new }
+    ensures unreported { IsUnreported result E.fault_count err.old err.new }
+    ensures unshown { OnErr result.told (Rises E.fault_count err.old err.new ⊎ Rises O.fault_count out.old out.new) }
 {
     if error.kind() == ErrorKind::OutOfMemory {
         return no_input(InputFault::OutOfMemory, err);
     }
-    let shown = if error.use_stderr() {
-        write!(err, "{error}")
+    let told = if error.use_stderr() {
+        show_error(error, err)
     } else {
-        write!(out, "{error}")
+        show_error(error, out)
     };
     Completion {
         end: CommandEnd::WrongUsage,
-        told: shown.map_err(|_| WriteFault),
+        told,
     }
 }

@@ -1,36 +1,96 @@
 //! Lines on standard error.
 
-ghost use Rattle.std.specs.Prelude.{◌≡◌, IfSome};
+ghost use Rattle.std.specs.Prelude.{◌≡◌, ◌+◌, ◌-◌, ◌*◌, ◌^◌, ◌<◌, ◌≤◌, ◌++◌, IfSome, IsSome, OnErr, decimal, length};
 ghost use Rattle.std.specs.Fmt.InlineText.{inline_text};
+ghost use Rattle.draw_ops.specs.Fault.{text_of};
+ghost use Rattle.preflight_cert.specs.Refusal.{refusal_text};
 ghost use Rattle.commands.specs.Report.{Reports, program_line};
 
-use canvas::{WriteFault, send};
-use std::fmt;
-use std::fmt::{Display, InlineText};
-use std::io::Write;
+use canvas::{FaultCount, WriteFault, send_counted};
+use draw_ops::Fault;
+use itoa::Buffer;
+use preflight_cert::Refusal;
+use std::fmt::InlineText;
 
 /// Room for a line. The program's own have at most 56 bytes.
 const LINE_ROOM: usize = 128;
 
-/// Writes one line about what went wrong, and answers whether it went out whole. A line that is too
-/// long is a `WriteFault` too, and nothing is written of it.
-pub fn report<E: Write, D: Display + Drop>(err: &mut E, text: D) -> Result<(), WriteFault>
-    ensures { IfSome (D.output text) (Reports result (E.contents err.old) (E.contents err.new)) }
+/// Room for what a line tells, beside the program's name and the line feed.
+const TEXT_ROOM: usize = 117;
+
+/// Writes one line about what went wrong, and answers whether it went out whole. A text of more than 117 bytes is a
+/// `WriteFault` too, and nothing is written of it.
+pub fn report<E: FaultCount>(err: &mut E, text: &str) -> Result<(), WriteFault>
+    requires room { E.fault_count err.old < 2 ^ 64 - 1 }
+    ensures line { Reports result (E.contents err.old) (E.contents err.new) text.now }
+    ensures unreported { length text.now ≤ 117 → OnErr result (E.fault_count err.old < E.fault_count err.new) }
 {
-    match line(&text) {
-        Some(line) => send(err, line.as_str().as_bytes()),
+    match line(text) {
+        Some(line) => send_counted(err, line.as_str().as_bytes()),
         None => Err(WriteFault),
     }
 }
 
+/// Writes the line that tells a refusal, and answers whether it went out whole.
+pub fn report_refusal<E: FaultCount>(err: &mut E, refusal: Refusal) -> Result<(), WriteFault>
+    requires room { E.fault_count err.old < 2 ^ 64 - 1 }
+    ensures line { Reports result (E.contents err.old) (E.contents err.new) (refusal_text refusal) }
+    ensures unreported { OnErr result (E.fault_count err.old < E.fault_count err.new) }
+{
+    report(err, told_refusal(refusal).as_str())
+}
+
 /// The line that tells a text, if there is room for it. No memory is taken, so that want of memory
 /// can be told.
-fn line<D: Display>(text: &D) -> Option<InlineText<LINE_ROOM>>
-    ensures { IfSome (D.output text.now) (λ shown. IfSome result (λ line. inline_text line ≡ program_line shown)) }
+fn line(text: &str) -> Option<InlineText<LINE_ROOM>>
+    ensures line { IfSome result (λ line. inline_text line ≡ program_line text.now) }
+    ensures fits { length text.now ≤ 117 → IsSome result }
 {
-    let mut line = InlineText::new();
-    match fmt::Write::writeln(&mut line, format_args!("metaplay: {text}")) {
-        Ok(()) => Some(line),
-        Err(_) => None,
+    if text.len() > TEXT_ROOM {
+        return None;
     }
+    let told = joined(joined(InlineText::new(), "metaplay: "), text);
+    Some(joined(told, "\n"))
+}
+
+/// What a line tells of a refusal.
+fn told_refusal(refusal: Refusal) -> InlineText<TEXT_ROOM>
+    ensures text { inline_text result ≡ refusal_text refusal }
+    ensures short { length (inline_text result) ≤ 117 }
+{
+    let text = told_fault(refusal.fault);
+    match refusal.number {
+        Some(number) => with_number(text, " at record ", number),
+        None => text,
+    }
+}
+
+/// What a line tells of a fault.
+fn told_fault(fault: Fault) -> InlineText<TEXT_ROOM>
+    ensures text { inline_text result ≡ text_of fault }
+    ensures short { length (inline_text result) ≤ 27 }
+{
+    let text = joined(InlineText::new(), fault.name());
+    match fault.number() {
+        Some(kind) => with_number(text, " ", kind),
+        None => text,
+    }
+}
+
+/// A text with another behind it, and a number behind that.
+fn with_number(text: InlineText<TEXT_ROOM>, more: &str, number: u32) -> InlineText<TEXT_ROOM>
+    requires { length (inline_text text) + length more.now + 10 ≤ 117 }
+    ensures text { inline_text result ≡ inline_text text ++ (more.now ++ decimal number) }
+    ensures short { length (inline_text result) ≤ length (inline_text text) + length more.now + 10 }
+{
+    let mut digits = Buffer::new();
+    joined(joined(text, more), digits.format(number))
+}
+
+/// A text with another behind it, where there is room.
+fn joined<const N: usize>(text: InlineText<N>, more: &str) -> InlineText<N>
+    requires { length (inline_text text) + length more.now ≤ N }
+    ensures { inline_text result ≡ inline_text text.entry ++ more.now }
+{
+    text.and_str(more, N)
 }

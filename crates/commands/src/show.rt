@@ -1,6 +1,6 @@
 //! The command `show`.
 
-ghost use Rattle.std.specs.Prelude.{◌≡◌, IfErr, OnOk};
+ghost use Rattle.std.specs.Prelude.{◌≡◌, ◌-◌, ◌^◌, ◌<◌, IfErr, OnErr, OnOk, true};
 ghost use Rattle.mapping.specs.Limits.{IsSurfaceSide};
 ghost use Rattle.commands.specs.Ends.{Tells, Writes, WritesDone};
 ghost use Rattle.preflight_cert.specs.Reached.{Opens};
@@ -11,14 +11,14 @@ use crate::command_end::{CommandEnd, Completion};
 use crate::failure::{Failure, ending, failure_of};
 use crate::playing::{band_rows, write_played};
 use crate::preparing::prepare_file;
+use canvas::FaultCount;
 use mapping::Colour;
 use player::BandPlan;
 use std::alloc::Global;
-use std::io::Write;
 
 /// Prepares a file at the size of a surface, plays it on white, and writes the image to `out` as P6 text. A refusal comes before any
 /// byte and goes to `err` as one line; a fault of `err` changes no status.
-pub fn show_command<O: Write, E: Write>(
+pub fn show_command<O: FaultCount, E: FaultCount>(
     alloc: Global,
     file: &[u8],
     width: u32,
@@ -28,9 +28,14 @@ pub fn show_command<O: Write, E: Write>(
 ) -> Completion
     requires wide { IsSurfaceSide width }
     requires high { IsSurfaceSide height }
+    requires room_out { O.fault_count out.old < 2 ^ 64 - 1 }
+    requires room_err { E.fault_count err.old < 2 ^ 64 - 1 }
     ensures written { Writes (show file.now width height) result O.contents out.old out.new }
     ensures told { Tells (show file.now width height) result E.contents err.old err.new }
     ensures memory { result.end ≡ CommandEnd.OutOfMemory → Opens file.now }
+    ensures cannot_write { result.end ≡ CommandEnd.CannotWrite → O.fault_count out.old < O.fault_count out.new }
+    ensures unreported { OnErr result.told (E.fault_count err.old < E.fault_count err.new) }
+    ensures flushed { result.end ≡ CommandEnd.Done → O.is_flushed out.new ≡ true }
 {
     let done = show_file(alloc, file, width, height, out);
     ending(done, err)
@@ -38,7 +43,7 @@ pub fn show_command<O: Write, E: Write>(
 
 /// Prepares a file at the size of a surface, and plays it on white, by what was prepared: its own certificate isn't checked. A file that
 /// doesn't open is refused before any memory is asked for.
-fn show_file<O: Write>(
+fn show_file<O: FaultCount>(
     alloc: Global,
     file: &[u8],
     width: u32,
@@ -47,9 +52,12 @@ fn show_file<O: Write>(
 ) -> Result<(), Failure>
     requires wide { IsSurfaceSide width }
     requires high { IsSurfaceSide height }
+    requires room { O.fault_count out.old < 2 ^ 64 - 1 }
     ensures done { OnOk result (WritesDone (show file.now width height) O.contents out.old out.new) }
     ensures failed { IfErr result (FailsWith (show file.now width height) O.contents out.old out.new) }
     ensures memory { IfErr result (λ failure. failure ≡ Failure.OutOfMemory → Opens file.now) }
+    ensures fault { IfErr result (λ failure. failure ≡ Failure.CannotWrite → O.fault_count out.old < O.fault_count out.new) }
+    ensures flushed { OnOk result (O.is_flushed out.new ≡ true) }
 {
     let prepared = match prepare_file(alloc, file, width, height) {
         Ok(prepared) => prepared,

@@ -3,7 +3,8 @@
 //! # What is promised
 //!
 //! - A listing is a line for each record of the file, in order, and where the records break a line that tells the
-//!   fault of framing (`write_listing`, by `listing_of`). Of a writer that fails a front of it has been taken.
+//!   fault of framing (`write_listing`, by `listing_of`). Of a writer that fails a front of it has been taken. Over a writer
+//!   that counts its faults, a write fault comes only where the count rose (`write_listing_to`).
 //! - A line tells the record's number, its place in the file, its size, its function or type in the format's own base,
 //!   the standard's name, what the player does with it, and what it asks for, or its fault (`line_of`).
 //! - Where a record has a fault in the file's runs, it is told on its line: also being off the plane, or having too wide a nib, on some surface
@@ -36,6 +37,7 @@ mod noting;
 mod object_texts;
 mod page;
 mod parts;
+mod sender;
 mod walk;
 mod wmf_names;
 mod writing;
@@ -47,4 +49,4 @@ pub use laws::listing_law;
 pub use listing_end::ListingEnd;
 pub use walk::{PlacedRecord, RecordWalk};
 pub use wmf_names::{function_name, wmf_names_law};
-pub use writing::write_listing;
+pub use writing::{write_listing, write_listing_to};

@@ -2,9 +2,12 @@
 //! commands (`commands::run`).
 #![tactic(auto)]
 
+use canvas::Counting;
 use std::process::ExitCode;
 
 fn main(rt: HostRuntime) -> ExitCode {
-    let answer = commands::run(&rt, &mut rt.stdin(), &mut rt.stdout(), &mut rt.stderr());
+    let mut out = Counting::new(rt.stdout());
+    let mut err = Counting::new(rt.stderr());
+    let answer = commands::run(&rt, &mut rt.stdin(), &mut out, &mut err);
     ExitCode::from(answer.status())
 }

@@ -3,12 +3,52 @@
 use crate::bands::Full;
 use crate::canvases::Slow;
 use crate::comparing::same;
-use canvas::{Canvas, Counting, FaultCount, WriteFault, send_counted, write_header_to};
+use canvas::{
+    Canvas, Counting, FaultCount, WriteFault, flush_sent, send_counted, send_finished,
+    write_header_to,
+};
 use mapping::Colour;
-use std::io::Write;
+use std::alloc::Global;
+use std::io;
+use std::io::{ErrorKind, Write};
 use std::test::Fail;
 
 const GREY: Colour = Colour { r: 7, g: 8, b: 9 };
+
+/// A writer that takes every byte, and whose first flushes fail.
+#[derive(Drop)]
+struct Stuck {
+    taken: Vec<u8>,
+    /// How many bytes of them were flushed.
+    flushed: usize,
+    failures: usize,
+}
+
+impl Stuck {
+    fn new(alloc: Global, failures: usize) -> Stuck {
+        Stuck {
+            taken: Vec::new(alloc),
+            flushed: 0,
+            failures,
+        }
+    }
+}
+
+impl Write for Stuck {
+    fn write(&mut self, buf: &[u8]) -> io::Result<usize> {
+        self.taken.extend_from_slice(buf)?;
+        Ok(buf.len())
+    }
+
+    fn flush(&mut self) -> io::Result<()> {
+        if self.failures > 0 {
+            self.failures -= 1;
+            return Err(io::Error::from(ErrorKind::StorageFull));
+        }
+        self.flushed = self.taken.len();
+        Ok(())
+    }
+}
 
 #[test]
 fn a_writer_that_takes_all_has_no_fault(rt: HostRuntime) -> Result<(), Fail> {
@@ -96,5 +136,51 @@ fn nothing_is_sent_without_a_fault(rt: HostRuntime) -> Result<(), Fail> {
     same(&rt, out.write_counted(b"a".as_slice()).is_ok(), true);
     same(&rt, out.faults(), 1);
     out.flush()?;
+    Ok(())
+}
+
+#[test]
+fn a_plain_flush_answers_as_the_writer_does(rt: HostRuntime) -> Result<(), Fail> {
+    let mut out = Counting::new(Stuck::new(rt.alloc(), 1));
+    assert!(rt; out.faults() == 0);
+    send_counted(&mut out, b"ab".as_slice())?;
+    same(&rt, out.flush().is_ok(), false);
+    same(&rt, out.faults(), 0);
+    same(&rt, out.flush().is_ok(), true);
+    same(&rt, out.into_writer().flushed, 2);
+    Ok(())
+}
+
+#[test]
+fn a_flush_that_fails_is_counted(rt: HostRuntime) -> Result<(), Fail> {
+    let mut out = Counting::new(Stuck::new(rt.alloc(), 2));
+    assert!(rt; out.faults() == 0);
+    send_counted(&mut out, b"ab".as_slice())?;
+    assert!(rt; out.faults() == 0);
+    same(&rt, out.flush_counted().is_ok(), false);
+    assert!(rt; out.faults() == 1);
+    same(&rt, flush_sent(&mut out), Err(WriteFault));
+    assert!(rt; out.faults() == 2);
+    same(&rt, out.flush_counted().is_ok(), true);
+    same(&rt, out.faults(), 2);
+    same(&rt, out.into_writer().flushed, 2);
+    Ok(())
+}
+
+#[test]
+fn a_finished_text_was_flushed(rt: HostRuntime) -> Result<(), Fail> {
+    let mut out = Counting::new(Stuck::new(rt.alloc(), 1));
+    assert!(rt; out.faults() == 0);
+    same(
+        &rt,
+        send_finished(&mut out, b"ab".as_slice()),
+        Err(WriteFault),
+    );
+    assert!(rt; out.faults() == 1);
+    send_finished(&mut out, b"cde".as_slice())?;
+    same(&rt, out.faults(), 1);
+    let stuck = out.into_writer();
+    same(&rt, stuck.taken.as_slice(), b"abcde".as_slice());
+    same(&rt, stuck.flushed, 5);
     Ok(())
 }

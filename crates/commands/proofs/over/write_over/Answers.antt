@@ -1,5 +1,5 @@
 -- What is refused was refused by the check, the image or the surface.
-use Rattle.commands.proofs.FailureLemmas.{is_want, kept, refusal_fails}
+use Rattle.commands.proofs.FailureLemmas.{is_want, kept, no_output, refusal_fails}
 use Rattle.commands.specs.Tasks.{over}
 use Rattle.commands.proofs.over.write_over.Goals as goal
 
@@ -8,3 +8,6 @@ returns-in-Err-clause-failed g c = refusal_fails (over c.args.file.now c.args.ce
 
 pub returns-in-Err-clause-memory : goal.returns-in-Err-clause-memory
 returns-in-Err-clause-memory g c = λ e. c.in-Err.ensures.memory (is_want c.in-Err.refusal c.failure_of.result c.failure_of.ensures e)
+
+pub returns-in-Err-clause-fault : goal.returns-in-Err-clause-fault
+returns-in-Err-clause-fault g c = λ e. no_output c.in-Err.refusal c.failure_of.result _ c.failure_of.ensures e

@@ -1,6 +1,6 @@
 -- What was checked is played, or refused behind the check.
 use Rattle.std.proofs.lemmas.Result.{IfErr-weaker, on_ok_weaker}
-use Rattle.commands.proofs.FailureLemmas.{is_want}
+use Rattle.commands.proofs.FailureLemmas.{is_want, no_output}
 use Rattle.commands.proofs.PreparedLemmas.{accepted_opens}
 use Rattle.commands.proofs.PlayLemmas.{check_fails, play_done, play_fails}
 use Rattle.commands.proofs.play.play_checked.Goals as goal
@@ -23,3 +23,6 @@ returns-in-Err-clause-memory g c = λ e. c.in-Err.ensures.memory (is_want c.in-E
 
 pub returns-clause-memory : goal.returns-clause-memory
 returns-clause-memory g c = IfErr-weaker c.write_played.result _ _ (λ failure fails e. accepted_opens _ _ c.in-Ok.ensures.accepted) c.write_played.ensures.failed
+
+pub returns-in-Err-clause-fault : goal.returns-in-Err-clause-fault
+returns-in-Err-clause-fault g c = λ e. no_output c.in-Err.refusal c.failure_of.result _ c.failure_of.ensures e

@@ -1,5 +1,5 @@
--- The end says what was written and told.
-use Rattle.commands.proofs.FailureLemmas.{holds_by, told_by, written_by}
+-- The end says what was written and told, whether the output failed, and that a text that was finished is flushed.
+use Rattle.commands.proofs.FailureLemmas.{done_by, fails_by, holds_by, told_by, written_by}
 use Rattle.commands.proofs.prepare.prepare_command.Goals as goal
 
 pub returns-clause-written : goal.returns-clause-written
@@ -10,3 +10,9 @@ returns-clause-told g c = told_by _ c.write_prepared-done.result c.ending.result
 
 pub returns-clause-memory : goal.returns-clause-memory
 returns-clause-memory g c = holds_by c.write_prepared-done.result c.ending.result _ c.ending.ensures.end c.write_prepared-done.ensures.memory
+
+pub returns-clause-cannot_write : goal.returns-clause-cannot_write
+returns-clause-cannot_write g c = fails_by c.write_prepared-done.result c.ending.result _ c.ending.ensures.end c.write_prepared-done.ensures.fault
+
+pub returns-clause-flushed : goal.returns-clause-flushed
+returns-clause-flushed g c = done_by c.write_prepared-done.result c.ending.result _ c.ending.ensures.end c.write_prepared-done.ensures.flushed

@@ -1,6 +1,6 @@
 -- What a task leaves of the bytes that were read is what its line leaves.
 use Rattle.std.proofs.Common.{rules}
-use Rattle.commands.proofs.LineLemmas.{err_of_task, err_unread, out_of_task, out_unread}
+use Rattle.commands.proofs.LineLemmas.{err_of_task, err_unread, out_of_task, out_unread, unread_done, unread_failed}
 use Rattle.commands.proofs.program.perform.Goals as goal
 
 pub returns-in-Ok-clause-written : goal.returns-in-Ok-clause-written
@@ -16,3 +16,9 @@ returns-in-Err-clause-written g c = out_unread c.args.line _ c.in-Err.fault _ _ 
 
 pub returns-in-Err-clause-told : goal.returns-in-Err-clause-told
 returns-in-Err-clause-told g c = err_unread c.args.line _ c.in-Err.fault _ _ _ _ c.no_input.ensures.end c.no_input.ensures.line
+
+pub returns-in-Err-clause-cannot_write : goal.returns-in-Err-clause-cannot_write
+returns-in-Err-clause-cannot_write g c = unread_failed c.in-Err.fault _ _ c.no_input.ensures.end
+
+pub returns-in-Err-clause-flushed : goal.returns-in-Err-clause-flushed
+returns-in-Err-clause-flushed g c = unread_done c.in-Err.fault _ _ c.no_input.ensures.end

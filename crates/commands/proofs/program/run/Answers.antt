@@ -1,5 +1,5 @@
 -- What the words leave is what some line leaves.
-use Rattle.commands.proofs.LineLemmas.{err_of_asked, out_of_asked}
+use Rattle.commands.proofs.LineLemmas.{err_of_asked, holds_of_some, out_of_asked}
 use Rattle.commands.proofs.program.run.Goals as goal
 
 pub returns-in-Ok-clause-written : goal.returns-in-Ok-clause-written
@@ -7,3 +7,9 @@ returns-in-Ok-clause-written g c = out_of_asked _ _ c.run_words.result.end _ _ c
 
 pub returns-in-Ok-clause-told : goal.returns-in-Ok-clause-told
 returns-in-Ok-clause-told g c = err_of_asked _ _ c.run_words.result.end _ _ _ c.run_words.ensures.told
+
+pub returns-in-Ok-clause-cannot_write : goal.returns-in-Ok-clause-cannot_write
+returns-in-Ok-clause-cannot_write g c = λ e. holds_of_some _ _ (c.run_words.ensures.cannot_write e)
+
+pub returns-in-Ok-clause-flushed : goal.returns-in-Ok-clause-flushed
+returns-in-Ok-clause-flushed g c = λ e. holds_of_some _ _ (c.run_words.ensures.flushed e)

@@ -1,5 +1,5 @@
--- The end says what was written and told.
-use Rattle.commands.proofs.FailureLemmas.{holds_by, told_by, written_by}
+-- The end says what was written and told, whether the output failed, and that a text that was finished is flushed.
+use Rattle.commands.proofs.FailureLemmas.{done_by, fails_by, holds_by, told_by, written_by}
 use Rattle.commands.proofs.show.show_command.Goals as goal
 
 pub returns-clause-written : goal.returns-clause-written
@@ -10,3 +10,9 @@ returns-clause-told g c = told_by _ c.show_file-done.result c.ending.result _ _ 
 
 pub returns-clause-memory : goal.returns-clause-memory
 returns-clause-memory g c = holds_by c.show_file-done.result c.ending.result _ c.ending.ensures.end c.show_file-done.ensures.memory
+
+pub returns-clause-cannot_write : goal.returns-clause-cannot_write
+returns-clause-cannot_write g c = fails_by c.show_file-done.result c.ending.result _ c.ending.ensures.end c.show_file-done.ensures.fault
+
+pub returns-clause-flushed : goal.returns-clause-flushed
+returns-clause-flushed g c = done_by c.show_file-done.result c.ending.result _ c.ending.ensures.end c.show_file-done.ensures.flushed

@@ -1,6 +1,6 @@
 -- What is refused was refused by the file's run, and what was prepared is played: the surface is within the bound that it was prepared for.
 use Rattle.std.proofs.lemmas.Result.{IfErr-weaker, on_ok_weaker}
-use Rattle.commands.proofs.FailureLemmas.{is_want, kept, refusal_fails}
+use Rattle.commands.proofs.FailureLemmas.{is_want, kept, no_output, refusal_fails}
 use Rattle.commands.proofs.PlayLemmas.{show_done, show_fails}
 use Rattle.commands.proofs.PreparedLemmas.{accepted_opens, prepared_within}
 use Rattle.commands.specs.Tasks.{show}
@@ -24,3 +24,6 @@ returns-clause-failed g c =
 
 pub returns-clause-memory : goal.returns-clause-memory
 returns-clause-memory g c = IfErr-weaker c.write_played.result _ _ (λ failure fails e. (accepted_opens _ _ c.in-Ok.ensures.accepted).opens) c.write_played.ensures.failed
+
+pub returns-in-Err-clause-fault : goal.returns-in-Err-clause-fault
+returns-in-Err-clause-fault g c = λ e. no_output c.in-Err.refusal c.failure_of.result _ c.failure_of.ensures e

@@ -1,5 +1,5 @@
 -- A line is put for each record, and what is on the page is sent before it is full and at the end.
-use Rattle.std.proofs.Common.{◌≡◌, ap, refl, sym, ◌∙◌}
+use Rattle.std.proofs.Common.{◌≡◌, ap, arith, refl, sym, ◌∙◌}
 use Rattle.std.proofs.lemmas.Result.{err_from_is_err_and}
 use Rattle.listing.specs.Formats.{first_place}
 use Rattle.listing.specs.Judging.{judging_of}
@@ -17,6 +17,8 @@ loop-page-init g c =
           (begins (g.W.Write.contents c.args.out.now) c.args.format (judging_of c.args.file.now) (framed_records c.args.format c.args.file.now) (first_place c.args.format) c.new-page.result c.new-walk.result
           c.new-page.ensures c.new-walk.ensures.number (c.new-walk.ensures.place ∙ c.first_place.ensures.value) framed);
       end = ap listed_by framed;
+      room = c.requires.room;
+      count = omega arith;
     }
 
 pub returns-in_err-make_room-clause-err : goal.returns-in_err-make_room-clause-err
@@ -28,10 +30,14 @@ returns-in_err-make_room-clause-err g c =
 pub loop-page-preserved : goal.loop-page-preserved
 loop-page-preserved g c =
     let left = listing_left c.args.format (coming c.loop-page.walk c.loop-page.judge) in
+    let before = c.loop-page.invariant.count in
+    let here = c.in_ok-make_room.ensures.count in
     let puts : PutsLine c.args.format c.make_room.new.page (coming c.loop-page.walk c.loop-page.judge) c.put_next.new.page (coming c.put_next.new.walk c.put_next.new.judge) = c.in_default.ensures in
     record {
       sending = sending_same (sending_part left c.loop-page.invariant.sending c.in_ok-make_room.ensures.sent) puts.put;
       end = puts.end ∙ c.loop-page.invariant.end;
+      room = c.in_ok-make_room.ensures.room;
+      count = omega (arith, before, here);
     }
 
 pub returns-in_err-send-clause-err : goal.returns-in_err-send-clause-err

@@ -1,0 +1,34 @@
+//! What `clap` shows, on its way to a writer that counts its faults.
+
+ghost use Rattle.std.specs.Prelude.{◌<◌, OnErr};
+
+use canvas::{FaultCount, WriteFault, send_counted};
+use std::fmt;
+use std::fmt::Write;
+
+/// Text that goes to a writer as it is formatted, so that no memory is taken for it.
+#[derive(Drop)]
+struct Shown<'a, W: FaultCount> {
+    out: &'a mut W,
+}
+
+impl<W: FaultCount> fmt::Write for Shown<'_, W> {
+    fn write_str(&mut self, text: &str) -> fmt::Result {
+        if self.out.faults() == u64::MAX {
+            return Err(fmt::Error);
+        }
+        send_counted(self.out, text.as_bytes()).map_err(|_| fmt::Error)
+    }
+}
+
+/// Shows an error of `clap` on a writer, whose faults are the only reason for a `WriteFault`.
+pub(crate) fn show_error<W: FaultCount>(error: &clap::Error, out: &mut W) -> Result<(), WriteFault>
+    ensures { OnErr result (W.fault_count out.old < W.fault_count out.new) }
+{
+    let before = out.faults();
+    let shown = write!(Shown { out }, "{error}");
+    if shown.is_err() && before < out.faults() {
+        return Err(WriteFault);
+    }
+    Ok(())
+}
