@@ -7,7 +7,7 @@ ghost use Rattle.span_fill.specs.RowState.{BeginsFill, BeginsStroke, DiffersInRo
 use crate::active_edges::{admit, retire, sort_edges};
 use crate::counted_row::{ColumnCount, count_row, is_counted, most_counts};
 use crate::crossing::Crossing;
-use crate::crossing_moves::move_all;
+use crate::crossing_moves::move_edges;
 use crate::crossings::tell;
 use crate::edge::{ActiveEdge, Edge};
 use crate::edge_list::collect_edges;
@@ -280,11 +280,11 @@ impl RowBuf {
     {
         self.next += 1;
         if self.next < self.event {
-            self.is_sorted = move_all(self.active.as_mut_slice());
+            self.is_sorted = move_edges(&mut self.active);
             return;
         }
         retire(&mut self.active, self.next);
-        move_all(self.active.as_mut_slice());
+        move_edges(&mut self.active);
         self.begun = admit(
             &mut self.active,
             self.edges.as_slice(),
