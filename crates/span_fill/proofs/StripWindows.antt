@@ -1,6 +1,6 @@
 -- What a strip at a row says of the row.
 use Rattle.std.proofs.Common.{◌≡◌, ℕ, ◌^◌, ◌≤◌, Bool, true, false, ℤ, pos, negsuc, ◌+ℤ◌, ◌-ℤ◌, ◌≤ℤ◌, ◌<ℤ◌, refl, ap, sym, subst, ◌∙◌, arith}
-use Rattle.std.specs.Prelude.{FitsSigned, ◌↔◌, IsTrue, unsigned_abs}
+use Rattle.std.specs.Prelude.{FitsSigned, ◌↔◌, IsTrue, int_lt, unsigned_abs}
 use Rattle.std.specs.Int.{int_max, int_min, w32, w64}
 use Rattle.std.proofs.lemmas.Int.{ints, by_lt_z, fits_signed_from_abs}
 use Rattle.mapping.specs.Nibs.{IsNib, reach_before, reach_after}
@@ -8,7 +8,7 @@ use Rattle.mapping.specs.declared.nib.Nib.{Nib}
 use Rattle.span_fill.specs.Clips.{IsIn}
 use Rattle.span_fill.specs.Courses.{course_of, length_of}
 use Rattle.span_fill.specs.declared.course.Course.{Course}
-use Rattle.span_fill.specs.Slants.{total_of}
+use Rattle.span_fill.specs.Slants.{slant_of, total_of}
 use Rattle.span_fill.specs.declared.bounds.CoordinateRange.{CoordinateRange}
 use Rattle.span_fill.specs.Strokes.{is_steep}
 use Rattle.span_fill.specs.Strips.{HasColumns, HasRow, HasRows, IsDrawn, IsHull, IsRun, IsAtRow, ReachesRows, strip_slant, IsGreater, IsLesser, IsMeet, LiesNear, MissesRow, bottom_of, column_in, end_row, high_over, last_in, low_over, part_high, part_low, top_of}
@@ -18,7 +18,7 @@ use Rattle.span_fill.specs.declared.span.Span.{Span}
 use Rattle.span_fill.specs.declared.strip.Strip.{Strip}
 use Rattle.span_fill.proofs.CoverLemmas.{covered}
 use Rattle.span_fill.proofs.SeveralRows.{column_is}
-use Rattle.span_fill.proofs.WideLawLemmas.{drawn_flat, drawn_steep, flat_columns, flat_rows, meet_from, no_pixel, steep_columns, steep_rows, steep_some, wide_exact, window_from}
+use Rattle.span_fill.proofs.WideLawLemmas.{drawn_flat, drawn_steep, flat_columns, flat_rows, meet_from, no_pixel, none_reached, steep_columns, steep_rows, steep_some, wide_exact, window_from}
 
 -- a number of 32 bits
 pub least_32 : (v : ℤ) → FitsSigned w32 v → negsuc (2 ^ 31) ≤ℤ v

@@ -19,6 +19,7 @@ use Rattle.span_fill.specs.Spans.{in_span, in_spans}
 use Rattle.span_fill.specs.StrokeRows.{AllBehind, BeginsStrip, IsActive, IsPassed, IsWaiting, lines_have, strips_have}
 use Rattle.span_fill.specs.Strips.{LiesNear, part_high, part_low}
 use Rattle.span_fill.specs.WideStrokes.{on_wide_line}
+use Rattle.span_fill.specs.declared.line.Line.{Line}
 use Rattle.span_fill.specs.declared.span.Span.{Span}
 use Rattle.span_fill.specs.declared.strip.Strip.{Strip}
 use Rattle.span_fill.proofs.StripSeen.{behind_past, passed_active, passed_past, waiting_active, waiting_behind}
