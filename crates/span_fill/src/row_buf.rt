@@ -255,7 +255,7 @@ impl RowBuf {
         if interval.from >= interval.to {
             return;
         }
-        if is_counted(self.active.len(), interval) {
+        if is_counted(self.active.len(), self.is_sorted, interval) {
             count_row(
                 self.rule,
                 self.active.as_slice(),
