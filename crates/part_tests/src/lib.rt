@@ -22,6 +22,8 @@ mod images;
 #[cfg(test)]
 mod lists_of_points;
 #[cfg(test)]
+mod many_edges;
+#[cfg(test)]
 mod notes;
 #[cfg(test)]
 mod places;

@@ -13,6 +13,7 @@ pub mod HullLemmas
 pub mod StripExact
 pub mod SweepLemmas
 pub mod PairLemmas
+pub mod CountLemmas
 pub mod EdgeLemmas
 pub mod Reordering
 pub mod AdmitLemmas

@@ -16,6 +16,7 @@ pub mod WideStrokes
 pub mod Strips
 pub mod StrokeRows
 pub mod Sweep
+pub mod CountedRows
 pub mod Edges
 pub mod Admitting
 pub mod Events

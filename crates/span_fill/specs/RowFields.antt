@@ -1,8 +1,9 @@
 -- What is true of the fields of every row buffer.
-use Rattle.std.specs.Prelude.{◌≡◌, ℕ, ◌+◌, ◌-◌, ◌^◌, ◌<◌, ◌≤◌, ℤ, List, drop, length, filter, vec_capacity}
+use Rattle.std.specs.Prelude.{◌≡◌, ℕ, ◌+◌, ◌-◌, ◌^◌, ◌<◌, ◌≤◌, ℤ, Bool, IsTrue, List, drop, length, filter, vec_capacity}
 use Rattle.std.specs.List.{All}
 use Rattle.std.specs.List.Sorted.{IsNonDecreasingBy, IsPermutation}
 use Rattle.mapping.specs.declared.nib.Nib.{Nib}
+use Rattle.span_fill.specs.CountedRows.{most_counts}
 use Rattle.span_fill.specs.Edges.{IsEdge, active_edges, begins_behind, column_of, edges_from, edge_first_row}
 use Rattle.span_fill.specs.Events.{IsQuietAbove}
 use Rattle.span_fill.specs.Lines.{HasNearEnds}
@@ -35,19 +36,20 @@ pub record HasRoom (a : Inside) : Type 0 where
   pub edges : a.room ≤ vec_capacity a.edges
   pub active : a.room ≤ vec_capacity a.active
   pub crossings : a.room ≤ vec_capacity a.crossings
+  pub counts : most_counts a.room ≤ vec_capacity a.counts
   pub spans : a.room + 2 ≤ a.spans.capacity
   pub strokes : HasStrokeRoom a.room a.strokes
 
--- the edges of the lines: those that cross row y, in the order of their columns, and those that wait, in the order of their rows; the
--- rows above `event` have the same edges
-pub record IsFilling (lines : List Line) (y room : ℕ) (edges : List Edge) (begun : ℕ) (active : List ActiveEdge) (event : ℕ) : Type 0 where
+-- the edges of the lines: those that cross row y, in the order of their columns if so, and those that wait, in the order of their rows;
+-- the rows above `event` have the same edges
+pub record IsFilling (lines : List Line) (y room : ℕ) (edges : List Edge) (begun : ℕ) (active : List ActiveEdge) (is_sorted : Bool) (event : ℕ) : Type 0 where
   pub row : y ≤ 8192
   pub are_edges : All IsEdge edges
   pub ordered : IsNonDecreasingBy edge_first_row edges
   pub within : begun ≤ length edges
   pub waits : IsPermutation (filter (begins_behind y) (edges_from 0 lines)) (drop begun edges)
   pub crosses : IsPermutation (active_edges y (edges_from 0 lines)) active
-  pub sorted : IsNonDecreasingBy column_of active
+  pub sorted : IsTrue is_sorted → IsNonDecreasingBy column_of active
   pub count : length active + (length edges - begun) ≤ room
   pub quiet : IsQuietAbove event active (drop begun edges)
 
@@ -63,5 +65,5 @@ pub record IsRowBuf (a : Inside) : Type 0 where
   pub room : HasRoom a
   pub count : length a.lines.items ≤ a.room
   pub near : All HasNearEnds a.lines.items
-  pub filling : IsFillingWork (row_work a.work a.rule a.strokes.nib) → IsFilling a.lines.items a.next a.room a.edges.items a.begun a.active.items a.event
+  pub filling : IsFillingWork (row_work a.work a.rule a.strokes.nib) → IsFilling a.lines.items a.next a.room a.edges.items a.begun a.active.items a.is_sorted a.event
   pub stroking : IsStrokingWork (row_work a.work a.rule a.strokes.nib) → IsStroking a.lines.items a.next a.room a.strokes

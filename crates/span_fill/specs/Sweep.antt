@@ -17,6 +17,10 @@ abbrev pub upwards_at : List ActiveEdge → ℕ → ℕ
 upwards_at [] x = 0
 upwards_at (edge ∷ edges) x = (if not edge.is_down && nat_le (column_of edge) x then 1 else 0) + upwards_at edges x
 
+-- column x of the row is inside
+abbrev pub is_inside_of : FillRule → List ActiveEdge → ℕ → Bool
+is_inside_of rule edges x = is_inside rule (downwards_at edges x) (upwards_at edges x)
+
 -- no edge crosses before this column
 abbrev pub CrossFrom : ℕ → List ActiveEdge → Type 0
 CrossFrom column [] = Unit

@@ -1,9 +1,10 @@
 //! Edges that go on to the next row: by additions.
 
-ghost use Rattle.std.specs.Prelude.{◌≡◌, ◌+◌, ◌≤◌, ◌^◌, pos, ◌+ℤ◌, ◌-ℤ◌, ◌*ℤ◌, ◌≤ℤ◌, ◌<ℤ◌, if◌then◌else◌, ◌&&◌, int_le, map};
+ghost use Rattle.std.specs.Prelude.{◌≡◌, ◌+◌, ◌≤◌, ◌^◌, pos, ◌+ℤ◌, ◌-ℤ◌, ◌*ℤ◌, ◌≤ℤ◌, ◌<ℤ◌, if◌then◌else◌, ◌&&◌, int_le, map, IsTrue, vec_len, vec_capacity};
 ghost use Rattle.std.specs.List.{All};
+ghost use Rattle.std.specs.List.Sorted.{IsNonDecreasingBy};
 ghost use Rattle.mapping.specs.Limits.{IsWithin};
-ghost use Rattle.span_fill.specs.Edges.{EdgeCanMove, is_over, moved, moved_column, moved_rest};
+ghost use Rattle.span_fill.specs.Edges.{EdgeCanMove, column_of, is_over, moved, moved_column, moved_rest};
 ghost use Rattle.span_fill.specs.Insertion.{are_in_order, lowest};
 
 use crate::edge::ActiveEdge;
@@ -22,8 +23,19 @@ impl ActiveEdge {
     }
 }
 
+/// All edges one row on: if so, they are in the order of the columns where they cross it.
+pub(crate) fn move_edges(active: &mut Vec<ActiveEdge>) -> bool
+    requires { All EdgeCanMove active.old.items }
+    ensures edges { active.new.items ≡ map moved active.old.items }
+    ensures sorted { IsTrue result → IsNonDecreasingBy column_of active.new.items }
+    ensures length { vec_len active.new ≡ vec_len active.old }
+    ensures room { vec_capacity active.new ≡ vec_capacity active.old }
+{
+    move_all(active.as_mut_slice())
+}
+
 /// All edges one row on: whether they still are in the order of their columns.
-pub(crate) fn move_all(active: &mut [ActiveEdge]) -> bool
+fn move_all(active: &mut [ActiveEdge]) -> bool
     requires { All EdgeCanMove active.old }
     ensures edges { active.new ≡ map moved active.old }
     ensures order { result ≡ are_in_order lowest active.new }

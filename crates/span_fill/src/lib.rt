@@ -26,6 +26,7 @@ mod bit_rows;
 mod bit_words;
 mod bounds;
 mod clip;
+mod counted_row;
 mod course;
 mod crossing;
 mod crossing_moves;

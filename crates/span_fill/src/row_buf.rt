@@ -5,13 +5,15 @@ ghost use Rattle.mapping.specs.Nibs.{IsNib};
 ghost use Rattle.span_fill.specs.RowState.{BeginsFill, BeginsStroke, DiffersInRoom, FillsRow, HasFoundCrossings, SameWork, IsFillingWork, IsStrokingWork, filling, idle, stroking};
 
 use crate::active_edges::{admit, retire, sort_edges};
+use crate::counted_row::{ColumnCount, count_row, is_counted, most_counts};
 use crate::crossing::Crossing;
+use crate::crossing_moves::move_edges;
 use crate::crossings::tell;
 use crate::edge::{ActiveEdge, Edge};
 use crate::edge_list::collect_edges;
 use crate::events::next_event;
 use crate::fill_rule::FillRule;
-use crate::insertion::{move_in_order, sort_active};
+use crate::insertion::sort_active;
 use crate::line::Line;
 use crate::memory::grow;
 use crate::outline::{Outline, copy_lines};
@@ -47,12 +49,16 @@ pub struct RowBuf {
     edges: Vec<Edge>,
     /// How many of them have begun.
     begun: usize,
-    /// Those that cross the next row, in the order of the columns where they do.
+    /// Those that cross the next row.
     active: Vec<ActiveEdge>,
+    /// Whether these are in the order of the columns where they do.
+    is_sorted: bool,
     /// The first row in which one of these has ended or another begins.
     event: u32,
     /// Where the lines cross the next row, once that was asked for.
     crossings: Vec<Crossing>,
+    /// Room for the counts of a row's columns.
+    counts: Vec<ColumnCount>,
     spans: RowSpans,
     /// The lines themselves.
     strokes: Strokes,
@@ -87,8 +93,10 @@ impl RowBuf {
             edges: Vec::new(alloc),
             begun: 0,
             active: Vec::new(alloc),
+            is_sorted: true,
             event: 0,
             crossings: Vec::new(alloc),
+            counts: Vec::new(alloc),
             spans: SmallVec::new(alloc),
             strokes: Strokes::new(alloc),
             work: Work::Idle,
@@ -115,6 +123,7 @@ impl RowBuf {
         grow(&mut self.edges, lines)?;
         grow(&mut self.active, lines)?;
         grow(&mut self.crossings, lines)?;
+        grow(&mut self.counts, most_counts(lines))?;
         grow_spans(&mut self.spans, lines + 2)?;
         self.strokes.reserve(lines)?;
         self.room = lines;
@@ -136,7 +145,7 @@ impl RowBuf {
         sort_edges(&mut self.edges);
         self.active.clear();
         self.begun = admit(&mut self.active, self.edges.as_slice(), 0, y);
-        sort_active(&mut self.active);
+        self.is_sorted = false;
         self.event = next_event(self.active.as_slice(), self.edges.as_slice(), self.begun);
     }
 
@@ -243,9 +252,22 @@ impl RowBuf {
         ensures same { SameWork self.old self.new }
     {
         self.spans.clear();
-        if interval.from < interval.to {
-            sweep(self.rule, self.active.as_slice(), interval, &mut self.spans);
+        if interval.from >= interval.to {
+            return;
         }
+        if is_counted(self.active.len(), self.is_sorted, interval) {
+            count_row(
+                self.rule,
+                self.active.as_slice(),
+                interval,
+                &mut self.counts,
+                &mut self.spans,
+            );
+            return;
+        }
+        sort_active(&mut self.active, self.is_sorted);
+        self.is_sorted = true;
+        sweep(self.rule, self.active.as_slice(), interval, &mut self.spans);
     }
 
     /// On to the next row.
@@ -258,18 +280,18 @@ impl RowBuf {
     {
         self.next += 1;
         if self.next < self.event {
-            move_in_order(&mut self.active);
+            self.is_sorted = move_edges(&mut self.active);
             return;
         }
         retire(&mut self.active, self.next);
-        move_in_order(&mut self.active);
+        move_edges(&mut self.active);
         self.begun = admit(
             &mut self.active,
             self.edges.as_slice(),
             self.begun,
             self.next,
         );
-        sort_active(&mut self.active);
+        self.is_sorted = false;
         self.event = next_event(self.active.as_slice(), self.edges.as_slice(), self.begun);
     }
 }

@@ -121,15 +121,15 @@ fn column_behind(at: u32, edge: &ActiveEdge, end: u32) -> u32
 }
 
 /// One more where the edge counts.
-fn counted(count: u32, counts: bool) -> u32
-    requires { count < 2 ^ 20 }
+pub(crate) fn counted(count: u32, counts: bool) -> u32
+    requires { count ≤ 2 ^ 20 }
     ensures { result ≡ count + (if counts then 1 else 0) }
 {
     count + u32::from(counts)
 }
 
 /// Whether a pixel with so many edges to its left is inside.
-fn is_inside_at(rule: FillRule, downs: u32, ups: u32) -> bool
+pub(crate) fn is_inside_at(rule: FillRule, downs: u32, ups: u32) -> bool
     requires { downs + ups < 2 ^ 32 }
     ensures { result ≡ is_inside rule downs ups }
 {

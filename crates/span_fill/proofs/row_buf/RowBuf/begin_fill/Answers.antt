@@ -32,21 +32,12 @@ invariant_of-self g c =
         edges = omega arith;
         active = omega arith;
         crossings = omega arith;
+        counts = c.self.invariant.room.counts;
         spans = omega (arith, c.self.invariant.room.spans);
         strokes = c.self.invariant.room.strokes;
       };
       count = count;
       near = c.copy_lines.ensures.near;
-      filling = λ h. filling_begins c.args.y c.self.inside.room c.copy_lines.new.lines.items c.collect_edges.new.edges.items c.sort_edges.new.edges.items c.admit-self-inside.result c.admit-self-inside.new.active.items c.sort_active.new.active.items c.next_event-self-inside.result c.copy_lines.ensures.near c.requires.row collected c.sort_edges.ensures.permutation c.sort_edges.ensures.sorted admitted left (omega (arith, edges, c.admit-self-inside.ensures.within)) c.sort_active.ensures.permutation c.sort_active.ensures.sorted (omega (arith, edges, count, given, c.admit-self-inside.ensures.length, c.collect_edges.ensures.length)) event;
+      filling = λ h. filling_begins c.args.y c.self.inside.room c.copy_lines.new.lines.items c.collect_edges.new.edges.items c.sort_edges.new.edges.items c.admit-self-inside.result c.admit-self-inside.new.active.items c.next_event-self-inside.result c.copy_lines.ensures.near c.requires.row collected c.sort_edges.ensures.permutation c.sort_edges.ensures.sorted admitted left (omega (arith, edges, c.admit-self-inside.ensures.within)) (omega (arith, edges, count, given, c.admit-self-inside.ensures.length, c.collect_edges.ensures.length)) event;
       stroking = λ h. absurd h;
     }
-
-pub sort_active-requires : goal.sort_active-requires
-sort_active-requires g c =
-    let room : c.self.inside.room ≡ c.args.self.now.room = ap (λ (s : RowState). s.room) c.self.view_is in
-    let lines : length c.copy_lines.new.lines.items ≡ length (g.O.Outline.lines c.args.outline.now) = ap (λ xs. length xs) c.copy_lines.ensures.lines in
-    let asked : length (g.O.Outline.lines c.args.outline.now) ≤ c.args.self.now.room = c.requires.count in
-    let count : length c.copy_lines.new.lines.items ≤ c.self.inside.room = omega (arith, room, lines, asked) in
-    let given = ap (λ xs. length xs) c.as_slice.ensures.value in
-    let edges = ap (λ xs. length xs) c.as_slice-2.ensures.value in
-    omega (arith, edges, count, given, c.admit-self-inside.ensures.length, c.collect_edges.ensures.length, c.self.invariant.room.limit)

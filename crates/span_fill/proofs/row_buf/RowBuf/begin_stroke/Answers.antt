@@ -20,6 +20,7 @@ invariant_of-self g c =
         edges = there.edges;
         active = there.active;
         crossings = there.crossings;
+        counts = there.counts;
         spans = omega (arith, there.spans, c.clear.ensures.capacity);
         strokes = c.begin.ensures.room c.self.inside.room there.strokes;
       };

@@ -34,6 +34,7 @@ invariant_of-self c =
         edges = there.edges;
         active = there.active;
         crossings = there.crossings;
+        counts = there.counts;
         spans = omega (arith, there.spans, c.next_row.ensures.spans_room);
         strokes = c.next_row.ensures.room c.self.inside.room there.strokes;
       };

@@ -13,6 +13,7 @@ invariant_of-self-2 c =
     let edges = c.in_ok-grow-2.ensures.ok in
     let active = c.in_ok-grow-3.ensures.ok in
     let crossings = c.in_ok-grow-4.ensures.ok in
+    let counts = rw c.most_counts.ensures at c.in_ok-grow-5.ensures.ok in
     let spans = c.in_ok-grow_spans.ensures.ok in
     record {
       room = record {
@@ -21,12 +22,13 @@ invariant_of-self-2 c =
         edges = edges;
         active = active;
         crossings = crossings;
+        counts = counts;
         spans = spans;
         strokes = c.in_ok-reserve.ensures.ok;
       };
       count = rw c.grow.ensures.items (omega arith);
       near = rw c.grow.ensures.items c.self.invariant.near;
-      filling = λ work. rw (c.grow.ensures.items, c.grow-2.ensures.items, c.grow-3.ensures.items) (filling_grows c.self.inside.next c.self.inside.room c.args.lines c.self.inside.lines.items c.self.inside.edges.items c.self.inside.begun c.self.inside.active.items c.self.inside.event (omega arith) (c.self.invariant.filling (subst (λ (n : Nib). IsFillingWork (row_work c.self.inside.work c.self.inside.rule n)) c.reserve.ensures.nib work)));
+      filling = λ work. rw (c.grow.ensures.items, c.grow-2.ensures.items, c.grow-3.ensures.items) (filling_grows c.self.inside.next c.self.inside.room c.args.lines c.self.inside.lines.items c.self.inside.edges.items c.self.inside.begun c.self.inside.active.items c.self.inside.is_sorted c.self.inside.event (omega arith) (c.self.invariant.filling (subst (λ (n : Nib). IsFillingWork (row_work c.self.inside.work c.self.inside.rule n)) c.reserve.ensures.nib work)));
       stroking = λ work. rw c.grow.ensures.items (stroking_grows c.self.inside.lines.items c.self.inside.next c.self.inside.room c.args.lines c.self.inside.strokes c.reserve.new.self (omega arith) c.reserve.ensures.strokes c.reserve.ensures.have c.reserve.ensures.count c.reserve.ensures.nib (c.self.invariant.stroking (subst (λ (n : Nib). IsStrokingWork (row_work c.self.inside.work c.self.inside.rule n)) c.reserve.ensures.nib work)));
     }
 
@@ -37,6 +39,7 @@ invariant_of-self-in_err-reserve c =
     let edges_kept = c.grow-2.ensures.kept in
     let active_kept = c.grow-3.ensures.kept in
     let crossings_kept = c.grow-4.ensures.kept in
+    let counts_kept = c.grow-5.ensures.kept in
     let spans_kept = c.grow_spans.ensures.kept in
     record {
       room = record {
@@ -45,6 +48,7 @@ invariant_of-self-in_err-reserve c =
         edges = omega (arith, there.edges, edges_kept);
         active = omega (arith, there.active, active_kept);
         crossings = omega (arith, there.crossings, crossings_kept);
+        counts = omega (arith, there.counts, counts_kept);
         spans = omega (arith, there.spans, spans_kept);
         strokes = c.reserve.ensures.kept c.self.inside.room there.strokes;
       };

@@ -1,8 +1,8 @@
 -- The edges that cross the next row.
-use Rattle.std.proofs.Common.{◌+◌, ◌<◌, List, length, ap, subst, sym, arith, refl}
+use Rattle.std.proofs.Common.{◌+◌, ◌<◌, false, List, length, map, ap, subst, sym, ◌∙◌, arith, refl}
 use Rattle.std.specs.List.Sorted.{IsNonDecreasingBy}
 use Rattle.std.proofs.lemmas.List.Elements.{All-filter}
-use Rattle.span_fill.specs.Edges.{EdgeCanMove, edge_first_row, goes_to}
+use Rattle.span_fill.specs.Edges.{EdgeCanMove, edge_first_row, goes_to, moved}
 use Rattle.span_fill.specs.RowState.{IsFillingWork, RowState}
 use Rattle.span_fill.specs.declared.edge.Edge.{Edge}
 use Rattle.span_fill.proofs.EventLemmas.{quiet_above}
@@ -11,14 +11,14 @@ use Rattle.span_fill.proofs.RowLemmas.{filling_goes_on, filling_steps}
 use Rattle.span_fill.proofs.StrokingLemmas.{not_both}
 use Rattle.span_fill.proofs.row_buf.RowBuf.step.Goals as goal
 
-pub move_in_order-requires-clause-can_move : goal.move_in_order-requires-clause-can_move
-move_in_order-requires-clause-can_move c =
+pub move_edges-self-inside-requires : goal.move_edges-self-inside-requires
+move_edges-self-inside-requires c =
     let work = subst (λ (s : RowState). IsFillingWork s.work) (sym c.self.view_is) c.requires.filling in
     let filling = c.self.invariant.filling work in
     all_can_move c.self.inside.next _ c.self.inside.active.items (edges_near 0 c.self.inside.lines.items c.self.invariant.near) filling.row filling.crosses
 
-pub move_in_order-requires-2-clause-can_move : goal.move_in_order-requires-2-clause-can_move
-move_in_order-requires-2-clause-can_move c =
+pub move_edges-requires : goal.move_edges-requires
+move_edges-requires c =
     let work = subst (λ (s : RowState). IsFillingWork s.work) (sym c.self.view_is) c.requires.filling in
     let filling = c.self.invariant.filling work in
     rw c.retire.ensures.edges (All-filter (goes_to (c.self.inside.next + 1)) EdgeCanMove c.self.inside.active.items (all_can_move c.self.inside.next _ c.self.inside.active.items (edges_near 0 c.self.inside.lines.items c.self.invariant.near) filling.row filling.crosses))
@@ -33,12 +33,13 @@ invariant_of-self c =
         edges = c.self.invariant.room.edges;
         active = omega arith;
         crossings = c.self.invariant.room.crossings;
+        counts = c.self.invariant.room.counts;
         spans = c.self.invariant.room.spans;
         strokes = c.self.invariant.room.strokes;
       };
       count = c.self.invariant.count;
       near = c.self.invariant.near;
-      filling = λ work. filling_goes_on c.self.inside.next (c.self.inside.next + 1) c.self.inside.room c.self.inside.lines.items c.self.inside.edges.items c.self.inside.begun c.self.inside.active.items c.move_in_order.new.active.items c.self.inside.event refl next c.if-self.true c.self.invariant.near (c.self.invariant.filling work) c.move_in_order.ensures.permutation c.move_in_order.ensures.sorted (omega (arith, c.move_in_order.ensures.length));
+      filling = λ work. filling_goes_on c.self.inside.next (c.self.inside.next + 1) c.self.inside.room c.self.inside.lines.items c.self.inside.edges.items c.self.inside.begun c.self.inside.active.items c.move_edges-self-inside.new.active.items c.self.inside.is_sorted c.move_edges-self-inside.result c.self.inside.event refl next c.if-self.true c.self.invariant.near (c.self.invariant.filling work) c.move_edges-self-inside.ensures.edges c.move_edges-self-inside.ensures.sorted;
       stroking = λ h. absurd (not_both _ (subst (λ (s : RowState). IsFillingWork s.work) (sym c.self.view_is) c.requires.filling) h);
     }
 
@@ -52,6 +53,7 @@ invariant_of-self-2 c =
         edges = c.self.invariant.room.edges;
         active = omega arith;
         crossings = c.self.invariant.room.crossings;
+        counts = c.self.invariant.room.counts;
         spans = c.self.invariant.room.spans;
         strokes = c.self.invariant.room.strokes;
       };
@@ -59,22 +61,15 @@ invariant_of-self-2 c =
       near = c.self.invariant.near;
       filling = λ work.
           let filling = c.self.invariant.filling work in
-          let moved = rw c.retire.ensures.edges at c.move_in_order-2.ensures.permutation in
-          let admitted = rw c.as_slice.ensures.value at c.admit-self-inside.ensures.active in
+          let on = c.move_edges.ensures.edges ∙ ap (map moved) c.retire.ensures.edges in
+          let admitted = rw (c.as_slice.ensures.value, on) at c.admit-self-inside.ensures.active in
           let left = rw c.as_slice.ensures.value at c.admit-self-inside.ensures.left in
           let edges = ap (λ xs. length xs) c.as_slice.ensures.value in
           let event = rw (c.as_slice-2.ensures.value, c.as_slice-3.ensures.value) at c.next_event-self-inside.ensures in
-          let quiet = quiet_above c.next_event-self-inside.result c.admit-self-inside.result c.sort_active.new.active.items c.self.inside.edges.items filling.ordered event in
-          filling_steps c.self.inside.next (c.self.inside.next + 1) c.self.inside.room c.self.inside.lines.items c.self.inside.edges.items c.self.inside.begun c.admit-self-inside.result c.self.inside.active.items c.move_in_order-2.new.active.items c.admit-self-inside.new.active.items c.sort_active.new.active.items c.self.inside.event c.next_event-self-inside.result refl next c.self.invariant.near filling moved admitted left (omega (arith, edges, c.admit-self-inside.ensures.within)) c.sort_active.ensures.permutation c.sort_active.ensures.sorted (omega (arith, edges, filling.count, c.admit-self-inside.ensures.length)) quiet;
+          let quiet = quiet_above c.next_event-self-inside.result c.admit-self-inside.result c.admit-self-inside.new.active.items c.self.inside.edges.items filling.ordered event in
+          filling_steps c.self.inside.next (c.self.inside.next + 1) c.self.inside.room c.self.inside.lines.items c.self.inside.edges.items c.self.inside.begun c.admit-self-inside.result c.self.inside.active.items c.admit-self-inside.new.active.items c.self.inside.is_sorted false c.self.inside.event c.next_event-self-inside.result refl next c.self.invariant.near filling admitted left (omega (arith, edges, c.admit-self-inside.ensures.within)) (λ t. absurd cc) (omega (arith, edges, filling.count, c.retire.ensures.length, c.move_edges.ensures.length, c.admit-self-inside.ensures.length)) quiet;
       stroking = λ h. absurd (not_both _ (subst (λ (s : RowState). IsFillingWork s.work) (sym c.self.view_is) c.requires.filling) h);
     }
-
-pub sort_active-requires : goal.sort_active-requires
-sort_active-requires c =
-    let work = subst (λ (s : RowState). IsFillingWork s.work) (sym c.self.view_is) c.requires.filling in
-    let filling = c.self.invariant.filling work in
-    let edges = ap (λ xs. length xs) c.as_slice.ensures.value in
-    omega (arith, edges, filling.count, c.retire.ensures.length, c.move_in_order-2.ensures.length, c.admit-self-inside.ensures.length, c.self.invariant.room.limit)
 
 pub admit-self-inside-requires-clause-sorted : goal.admit-self-inside-requires-clause-sorted
 admit-self-inside-requires-clause-sorted c =
