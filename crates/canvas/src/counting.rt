@@ -13,7 +13,7 @@ use std::io::Write;
 pub trait FaultCount: Write {
     ghost fault_count: { Self → ℕ };
 
-    /// Whether a flush succeeded and no byte was taken after it.
+    /// True only where a flush succeeded and no byte was taken after it.
     ghost is_flushed: { Self → Bool };
 
     /// How many faults there were.

@@ -214,7 +214,7 @@ fn a_line_ends_where_standard_error_fails(rt: HostRuntime) -> Result<(), Fail> {
 }
 
 #[test]
-fn a_usage_is_told_whole_or_up_to_where_its_writer_fails(rt: HostRuntime) -> Result<(), Fail> {
+fn a_usage_is_shown_whole_or_up_to_where_its_writer_fails(rt: HostRuntime) -> Result<(), Fail> {
     let asked = words(rt.alloc(), &["metaplay"])?;
     let Err(error) = line(rt.alloc(), asked.as_slice()) else {
         return Err(Fail::from("a wrong command line was taken"));

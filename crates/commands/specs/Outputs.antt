@@ -29,6 +29,6 @@ module _ {W : Type 0} where
   abbrev pub FlushesAsked : List (String Global) → (W → Bool) → W → W → Type 0
   FlushesAsked words flushed old new = HoldsOfAsked (texts_of words) (OutputFlushed flushed old new)
 
-  -- but for a usage, what was told on standard error failed only where its writer did
+  -- but for a usage, what was to be reported on standard error failed only where its writer did
   abbrev pub IsUnreported : Completion → (W → ℕ) → W → W → Type 0
   IsUnreported answer count old new = answer.end ≢ end.WrongUsage → OnErr answer.told (Rises count old new)

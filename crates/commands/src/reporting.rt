@@ -15,7 +15,7 @@ use std::fmt::InlineText;
 /// Room for a line. The program's own have at most 56 bytes.
 const LINE_ROOM: usize = 128;
 
-/// Room for what a line tells, beside the program's name and the line feed.
+/// Room for what a line reports, beside the program's name and the line feed.
 const TEXT_ROOM: usize = 117;
 
 /// Writes one line about what went wrong, and answers whether it went out whole. A text of more than 117 bytes is a
@@ -31,17 +31,17 @@ pub fn report<E: FaultCount>(err: &mut E, text: &str) -> Result<(), WriteFault>
     }
 }
 
-/// Writes the line that tells a refusal, and answers whether it went out whole.
+/// Writes the line that reports a refusal, and answers whether it went out whole.
 pub fn report_refusal<E: FaultCount>(err: &mut E, refusal: Refusal) -> Result<(), WriteFault>
     requires room { E.fault_count err.old < 2 ^ 64 - 1 }
     ensures line { Reports result (E.contents err.old) (E.contents err.new) (refusal_text refusal) }
     ensures unreported { OnErr result (E.fault_count err.old < E.fault_count err.new) }
 {
-    report(err, told_refusal(refusal).as_str())
+    report(err, text_of_refusal(refusal).as_str())
 }
 
-/// The line that tells a text, if there is room for it. No memory is taken, so that want of memory
-/// can be told.
+/// The line that reports a text, if there is room for it. No memory is taken, so that want of memory
+/// can be reported.
 fn line(text: &str) -> Option<InlineText<LINE_ROOM>>
     ensures line { IfSome result (λ line. inline_text line ≡ program_line text.now) }
     ensures fits { length text.now ≤ 117 → IsSome result }
@@ -53,20 +53,20 @@ fn line(text: &str) -> Option<InlineText<LINE_ROOM>>
     Some(joined(told, "\n"))
 }
 
-/// What a line tells of a refusal.
-fn told_refusal(refusal: Refusal) -> InlineText<TEXT_ROOM>
+/// What a line reports of a refusal.
+fn text_of_refusal(refusal: Refusal) -> InlineText<TEXT_ROOM>
     ensures text { inline_text result ≡ refusal_text refusal }
     ensures short { length (inline_text result) ≤ 117 }
 {
-    let text = told_fault(refusal.fault);
+    let text = text_of_fault(refusal.fault);
     match refusal.number {
         Some(number) => with_number(text, " at record ", number),
         None => text,
     }
 }
 
-/// What a line tells of a fault.
-fn told_fault(fault: Fault) -> InlineText<TEXT_ROOM>
+/// What a line reports of a fault.
+fn text_of_fault(fault: Fault) -> InlineText<TEXT_ROOM>
     ensures text { inline_text result ≡ text_of fault }
     ensures short { length (inline_text result) ≤ 27 }
 {
@@ -77,7 +77,7 @@ fn told_fault(fault: Fault) -> InlineText<TEXT_ROOM>
     }
 }
 
-/// A text with another behind it, and a number behind that.
+/// A text with another after it, and a number after that.
 fn with_number(text: InlineText<TEXT_ROOM>, more: &str, number: u32) -> InlineText<TEXT_ROOM>
     requires { length (inline_text text) + length more.now + 10 ≤ 117 }
     ensures text { inline_text result ≡ inline_text text ++ (more.now ++ decimal number) }
@@ -87,7 +87,7 @@ fn with_number(text: InlineText<TEXT_ROOM>, more: &str, number: u32) -> InlineTe
     joined(joined(text, more), digits.format(number))
 }
 
-/// A text with another behind it, where there is room.
+/// A text with another after it, where there is room.
 fn joined<const N: usize>(text: InlineText<N>, more: &str) -> InlineText<N>
     requires { length (inline_text text) + length more.now ≤ N }
     ensures { inline_text result ≡ inline_text text.entry ++ more.now }

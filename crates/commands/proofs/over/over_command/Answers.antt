@@ -1,4 +1,4 @@
--- The end says what was written and told, whether the output failed, and that a text that was finished is flushed.
+-- The end says what was written and reported, whether the output failed, and that a text that was finished is flushed.
 use Rattle.commands.proofs.FailureLemmas.{done_by, fails_by, holds_by, told_by, written_by}
 use Rattle.commands.proofs.over.over_command.Goals as goal
 
