@@ -16,7 +16,6 @@ use Rattle.preflight_cert.specs.declared.cleared.Cleared.{Cleared}
 use Rattle.preflight_cert.specs.declared.refusal.Refusal.{Refusal}
 use Rattle.player.specs.Bands.{WritesRun, WritesRunFront}
 use Rattle.player.specs.Bounds.{IsAboveBound, IsWithinBound}
-use Rattle.player.specs.declared.band_plan.BandPlan.{BandPlan}
 use Rattle.commands.specs.CheckReport.{accepted_report}
 use Rattle.commands.specs.declared.failure.Failure.{Failure}
 use Rattle.commands.specs.declared.failure.Failure.TheVariants as why
@@ -54,8 +53,8 @@ pub record RefusesToPlay (cleared : Cleared) (width height : ℕ) (r : Refusal) 
 
 module _ {W : Type 0} where
   -- a cleared file was played so, and the text went to a writer that holds these bytes
-  abbrev pub PlaysTo : Cleared → BandPlan → (W → Option (List ℕ)) → W → W → Type 0
-  PlaysTo cleared plan contents old new = WritesPlayed cleared plan.width plan.height (contents old) (contents new)
+  abbrev pub PlaysTo : Cleared → ℕ → ℕ → (W → Option (List ℕ)) → W → W → Type 0
+  PlaysTo cleared width height contents old new = WritesPlayed cleared width height (contents old) (contents new)
 
   -- why a cleared file wasn't played, and what was written then
   abbrev pub FailsToPlay : Cleared → ℕ → ℕ → (W → Option (List ℕ)) → W → W → Failure → Type 0

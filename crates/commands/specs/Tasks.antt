@@ -1,6 +1,5 @@
 -- What a command has to do.
 use Rattle.std.specs.Prelude.{ℕ, List}
-use Rattle.player.specs.declared.band_plan.BandPlan.{BandPlan}
 
 -- a command with the bytes of its inputs, and the sides of its surface: of a file, of a certificate for it, and of an image
 pub data Task : Type 0 where
@@ -19,7 +18,3 @@ file_in (check file certificate) = file
 file_in (play file certificate width height) = file
 file_in (over file certificate image) = file
 file_in (list file) = file
-
--- the task of playing on a plan's surface
-abbrev pub planned : List ℕ → List ℕ → BandPlan → Task
-planned file certificate plan = play file certificate plan.width plan.height

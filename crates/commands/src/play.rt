@@ -1,19 +1,16 @@
 //! The command `play`.
 
 ghost use Rattle.std.specs.Prelude.{◌≡◌, ◌-◌, ◌^◌, ◌<◌, ◌≤◌, IfErr, IfSome, OnErr, OnOk, true};
-ghost use Rattle.mapping.specs.Colours.{white_colour};
 ghost use Rattle.mapping.specs.Limits.{IsSurfaceSide};
 ghost use Rattle.preflight_cert.specs.Reached.{OpensBoth};
 ghost use Rattle.commands.specs.Ends.{Tells, Writes, WritesDone};
 ghost use Rattle.commands.specs.Failures.{FailsWith};
-ghost use Rattle.commands.specs.Tasks.{planned, play};
+ghost use Rattle.commands.specs.Tasks.{play};
 
 use crate::command_end::{CommandEnd, Completion};
 use crate::failure::{Failure, ending, failure_of};
-use crate::playing::{band_rows, write_played};
+use crate::playing::{AskedSurface, write_played};
 use canvas::FaultCount;
-use mapping::Colour;
-use player::BandPlan;
 use preflight_cert::check;
 use std::alloc::Global;
 
@@ -42,13 +39,12 @@ pub fn play_command<O: FaultCount, E: FaultCount>(
     ensures unreported { OnErr result.told (E.fault_count err.old < E.fault_count err.new) }
     ensures flushed { result.end ≡ CommandEnd.Done → O.is_flushed out.new ≡ true }
 {
-    let plan = BandPlan {
+    let asked = AskedSurface {
         width,
         height,
-        start: Colour::WHITE,
-        rows: band_rows(width, bands),
+        bands,
     };
-    let done = play_checked(alloc, file, certificate, plan, out);
+    let done = play_checked(alloc, file, certificate, asked, out);
     ending(done, err)
 }
 
@@ -57,13 +53,12 @@ fn play_checked<O: FaultCount>(
     alloc: Global,
     file: &[u8],
     certificate: &[u8],
-    plan: BandPlan,
+    asked: AskedSurface,
     out: &mut O,
 ) -> Result<(), Failure>
-    requires white { plan.start ≡ white_colour }
     requires room { O.fault_count out.old < 2 ^ 64 - 1 }
-    ensures done { OnOk result (WritesDone (planned file.now certificate.now plan) O.contents out.old out.new) }
-    ensures failed { IfErr result (FailsWith (planned file.now certificate.now plan) O.contents out.old out.new) }
+    ensures done { OnOk result (WritesDone (play file.now certificate.now asked.width asked.height) O.contents out.old out.new) }
+    ensures failed { IfErr result (FailsWith (play file.now certificate.now asked.width asked.height) O.contents out.old out.new) }
     ensures memory { IfErr result (λ failure. failure ≡ Failure.OutOfMemory → OpensBoth file.now certificate.now) }
     ensures fault { IfErr result (λ failure. failure ≡ Failure.CannotWrite → O.fault_count out.old < O.fault_count out.new) }
     ensures flushed { OnOk result (O.is_flushed out.new ≡ true) }
@@ -72,5 +67,5 @@ fn play_checked<O: FaultCount>(
         Ok(cleared) => cleared,
         Err(refusal) => return Err(failure_of(refusal)),
     };
-    write_played(alloc, &cleared, plan, out)
+    write_played(alloc, &cleared, asked, out)
 }

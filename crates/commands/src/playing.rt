@@ -1,32 +1,67 @@
 //! Playing a file whose certificate was accepted, on white, band by band, and writing the image's text.
 
 ghost use Rattle.std.specs.Prelude.{◌≡◌, ◌-◌, ◌^◌, ◌<◌, ◌≤◌, IfErr, IfSome, OnOk, true};
-ghost use Rattle.mapping.specs.Colours.{white_colour};
 ghost use Rattle.commands.specs.ClearedFiles.{FailsToPlay, PlaysTo};
 
 use crate::failure::{Failure, failure_of};
 use canvas::{FaultCount, flush_sent};
 use draw_ops::Fault;
-use player::{BandPlan, play_bands_to};
+use mapping::Colour;
+use player::play_bands_to;
 use preflight_cert::{Cleared, Refusal};
 use std::alloc::Global;
 
-/// How many pixels a band has at most where it has more rows than the fewest: 3 MiB of them.
-const BAND_PIXELS: u32 = 1 << 20;
+/// The most pixels that a band has, unless the fewest rows have more: 3 MiB of them.
+const MOST_PIXELS: u64 = 1 << 20;
 
-/// How many rows a band has at least.
+/// The fewest pixels that a band has, if the surface has so many.
+const FEWEST_PIXELS: u64 = 1 << 16;
+
+/// The fewest rows that a band has.
 const FEWEST_ROWS: u32 = 8;
 
-/// How many rows a band of a surface has that is so wide: so many as are asked for, or of the program's own choosing.
-pub(crate) fn band_rows(width: u32, bands: Option<u32>) -> u32
-    requires wide { 1 ≤ width }
-    requires bands { IfSome bands (λ rows. 1 ≤ rows) }
+/// So many records and lines take less time to read again, in all bands together, than 3 MiB of memory do to be touched for the first time.
+const LITTLE_WORK: u64 = 1 << 12;
+
+/// So many bytes of a file take no longer to go through than a record.
+const BYTES_A_RECORD: usize = 16;
+
+/// The surface that is asked for.
+///
+/// # Guarantees
+///
+/// - Each side is at least 1, and so are the rows of a band.
+#[derive(Clone, Copy, Debug)]
+pub(crate) struct AskedSurface {
+    /// How many pixels a row has.
+    pub(crate) width: u32,
+    /// How many rows there are.
+    pub(crate) height: u32,
+    /// How many rows a band has, or `None` to choose.
+    pub(crate) bands: Option<u32>,
+    pub(crate) ghost wide: { 1 ≤ width },
+    pub(crate) ghost high: { 1 ≤ height },
+    pub(crate) ghost some: { IfSome bands (λ rows. 1 ≤ rows) },
+}
+
+/// How many rows a band has.
+fn band_rows(asked: AskedSurface, cleared: &Cleared<'_>) -> u32
     ensures { 1 ≤ result }
 {
-    match bands {
+    match asked.bands {
         Some(rows) => rows,
-        None => FEWEST_ROWS.max(BAND_PIXELS / width),
+        None => FEWEST_ROWS.max(band_pixels(asked, cleared) / asked.width),
     }
+}
+
+/// How many pixels a band has: the more, the more work it is to read the records again for each band. A small band stays in the cache.
+fn band_pixels(asked: AskedSurface, cleared: &Cleared<'_>) -> u32 {
+    let surface = u64::from(asked.width) * u64::from(asked.height);
+    let lines = u64::from(cleared.certificate.needs.edges) + 1;
+    let work = u64::from(cleared.records).saturating_mul(lines);
+    let work = work.max((cleared.opened.records.len() / BYTES_A_RECORD) as u64);
+    let share = surface.saturating_mul(work) / LITTLE_WORK;
+    share.max(FEWEST_PIXELS).min(MOST_PIXELS) as u32
 }
 
 /// Plays a cleared file on a white surface in bands, and writes the image's P6 text to `out`. It is refused by `SurfaceTooLarge` exactly
@@ -34,24 +69,18 @@ pub(crate) fn band_rows(width: u32, bands: Option<u32>) -> u32
 pub(crate) fn write_played<O: FaultCount>(
     alloc: Global,
     cleared: &Cleared<'_>,
-    plan: BandPlan,
+    asked: AskedSurface,
     out: &mut O,
 ) -> Result<(), Failure>
-    requires white { plan.start ≡ white_colour }
     requires room { O.fault_count out.old < 2 ^ 64 - 1 }
-    ensures done { OnOk result (PlaysTo cleared.now plan O.contents out.old out.new) }
-    ensures failed { IfErr result (FailsToPlay cleared.now plan.width plan.height O.contents out.old out.new) }
+    ensures done { OnOk result (PlaysTo cleared.now asked.width asked.height O.contents out.old out.new) }
+    ensures failed { IfErr result (FailsToPlay cleared.now asked.width asked.height O.contents out.old out.new) }
     ensures fault { IfErr result (λ failure. failure ≡ Failure.CannotWrite → O.fault_count out.old < O.fault_count out.new) }
     ensures flushed { OnOk result (O.is_flushed out.new ≡ true) }
 {
-    let BandPlan {
-        width,
-        height,
-        start,
-        rows,
-        ..
-    } = plan;
-    match play_bands_to(alloc, cleared, width, height, start, rows, out) {
+    let rows = band_rows(asked, cleared);
+    let (width, height) = (asked.width, asked.height);
+    match play_bands_to(alloc, cleared, width, height, Colour::WHITE, rows, out) {
         Ok(_) => match flush_sent(out) {
             Ok(()) => Ok(()),
             Err(_) => Err(Failure::CannotWrite),

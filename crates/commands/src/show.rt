@@ -9,11 +9,9 @@ ghost use Rattle.commands.specs.Tasks.{show};
 
 use crate::command_end::{CommandEnd, Completion};
 use crate::failure::{Failure, ending, failure_of};
-use crate::playing::{band_rows, write_played};
+use crate::playing::{AskedSurface, write_played};
 use crate::preparing::prepare_file;
 use canvas::FaultCount;
-use mapping::Colour;
-use player::BandPlan;
 use std::alloc::Global;
 
 /// Prepares a file at the size of a surface, plays it on white, and writes the image to `out` as P6 text. A refusal comes before any
@@ -63,11 +61,10 @@ fn show_file<O: FaultCount>(
         Ok(prepared) => prepared,
         Err(refusal) => return Err(failure_of(refusal)),
     };
-    let plan = BandPlan {
+    let asked = AskedSurface {
         width,
         height,
-        start: Colour::WHITE,
-        rows: band_rows(width, None),
+        bands: None,
     };
-    write_played(alloc, &prepared.clear(), plan, out)
+    write_played(alloc, &prepared.clear(), asked, out)
 }

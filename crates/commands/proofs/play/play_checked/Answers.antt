@@ -6,7 +6,7 @@ use Rattle.commands.proofs.PlayLemmas.{check_fails, play_done, play_fails}
 use Rattle.commands.proofs.play.play_checked.Goals as goal
 
 pub returns-in-Err-clause-failed : goal.returns-in-Err-clause-failed
-returns-in-Err-clause-failed g c = check_fails c.args.file.now c.args.certificate.now c.args.plan.width c.args.plan.height c.in-Err.refusal c.failure_of.result (g.O.Write.contents c.args.out.now) c.in-Err.ensures.refusal c.failure_of.ensures
+returns-in-Err-clause-failed g c = check_fails c.args.file.now c.args.certificate.now c.args.asked.width c.args.asked.height c.in-Err.refusal c.failure_of.result (g.O.Write.contents c.args.out.now) c.in-Err.ensures.refusal c.failure_of.ensures
 
 pub returns-clause-done : goal.returns-clause-done
 returns-clause-done g c =
