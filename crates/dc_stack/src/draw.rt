@@ -1,6 +1,6 @@
 //! What a step draws.
 
-ghost use Rattle.std.specs.Prelude.{◌≡◌};
+ghost use Rattle.std.specs.Prelude.{◌≡◌, None};
 ghost use Rattle.dc_stack.specs.Drawing.{paints_lines};
 ghost use Rattle.dc_stack.specs.Draws.{is_of_path, lends_path, paints_path, strokes};
 
@@ -139,4 +139,12 @@ pub(crate) fn paints_path(drawn: &Option<Draw<'_>>) -> bool
         None => false,
         Some(drawn) => lends_path(&drawn.mark),
     }
+}
+
+/// Leaves no drawing. It isn't inlined, since its caller would clear the room of an empty drawing in every step.
+#[inline(never)]
+pub(crate) fn clear_drawing(drawn: &mut Option<Draw<'_>>)
+    ensures { drawn.new ≡ None }
+{
+    *drawn = None;
 }

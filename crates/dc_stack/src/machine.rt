@@ -22,7 +22,7 @@ mod saving;
 mod settings;
 
 use crate::dc::Dc;
-use crate::draw::{Draw, Painting, paints_path};
+use crate::draw::{Draw, Painting, clear_drawing, paints_path};
 use crate::needs::Needs;
 use crate::path::GatheredPath;
 use crate::piece::Piece;
@@ -181,7 +181,7 @@ impl<'a, T: Table<'a>> Machine<'a, T> {
                 Ok(())
             }
             Err(fault) => {
-                *drawn = None;
+                clear_drawing(drawn);
                 Err(fault)
             }
         }
