@@ -15,7 +15,7 @@ length-items_in item size zero bytes = refl
 length-items_in item size (suc n) bytes = ap suc (length-items_in item size n (drop size bytes))
 
 -- the items after the first are those in the bytes after it
-drop_next : (size i : ℕ) (bytes : List ℕ) → drop (size * i) (drop size bytes) ≡ drop (size * suc i) bytes
+pub drop_next : (size i : ℕ) (bytes : List ℕ) → drop (size * i) (drop size bytes) ≡ drop (size * suc i) bytes
 drop_next size i bytes = drop-drop (size * i) size bytes ∙ ap (λ k. drop k bytes) (omega arith)
 
 pub slice_get-items_in : {A : Type 0} (item : List ℕ → A) (size n i : ℕ) (bytes : List ℕ) → i < n → slice_get (items_in item size n bytes) i ≡ Some (item (drop (size * i) bytes))

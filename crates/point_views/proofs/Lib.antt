@@ -5,3 +5,5 @@ pub mod PointLemmas
 pub mod CountLemmas
 pub mod SplitLemmas
 pub mod TakenLemmas
+pub mod ZeroLemmas
+pub mod EmptyLemmas

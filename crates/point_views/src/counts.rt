@@ -4,6 +4,7 @@ ghost use Rattle.std.specs.Prelude.{◌≡◌, ◌+◌, ◌*◌, ◌%◌, ◌^�
 ghost use Rattle.point_views.specs.Numbers.{number_size};
 
 use crate::numbers::{NumberWidth, unsigned_at};
+use crate::zeros::zeros;
 
 /// Counts, one after another in a file's bytes, each a number without a sign.
 ///
@@ -23,6 +24,7 @@ pub struct Counts<'a> {
 #[tactic(auto, using(crate::proofs::CountLemmas::counts, crate::proofs::SplitLemmas::sums))]
 impl<'a> Counts<'a> {
     ghost use Rattle.point_views.specs.Counts.{counts_in, counts_of};
+    ghost use Rattle.point_views.specs.PassedOver.{after_zeros};
 
     /// The first `n` counts in the bytes, each in 16 bits: none exactly where fewer than `2 * n`
     /// bytes are there. Bytes after the counts don't matter.
@@ -96,6 +98,17 @@ impl<'a> Counts<'a> {
     {
         Counts {
             bytes: &self.bytes[self.place(1)..],
+            width: self.width,
+        }
+    }
+
+    /// The counts from the first one that isn't 0 on. Zeros are passed over several at a time.
+    pub fn after_zeros(self) -> Counts<'a>
+        ensures { counts_of result ≡ after_zeros (counts_of self.entry) }
+    {
+        let passed = self.width.held_in(zeros(self.bytes));
+        Counts {
+            bytes: &self.bytes[self.place(passed)..],
             width: self.width,
         }
     }

@@ -27,6 +27,7 @@ mod numbers;
 mod parted_points;
 mod points;
 mod polys;
+mod zeros;
 
 pub use counts::Counts;
 pub use laws::number_law;

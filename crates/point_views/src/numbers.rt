@@ -1,6 +1,6 @@
 //! How numbers stand in a file: the one place where bytes become numbers.
 
-ghost use Rattle.std.specs.Prelude.{◌≡◌, ◌+◌, ◌≤◌, length, drop};
+ghost use Rattle.std.specs.Prelude.{◌≡◌, ◌+◌, ◌/◌, ◌≤◌, length, drop};
 ghost use Rattle.point_views.specs.Numbers.{i8_at, i16_at, i32_at, number_at, number_size, signed_number, unsigned_number};
 
 use byteorder::{ByteOrder, LittleEndian};
@@ -70,6 +70,16 @@ impl NumberWidth {
         match self {
             NumberWidth::Short => 2,
             NumberWidth::Long => 4,
+        }
+    }
+
+    /// How many numbers so many bytes hold.
+    pub(crate) fn held_in(self, bytes: usize) -> usize
+        ensures { result ≡ bytes / number_size self }
+    {
+        match self {
+            NumberWidth::Short => bytes / 2,
+            NumberWidth::Long => bytes / 4,
         }
     }
 }

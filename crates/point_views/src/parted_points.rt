@@ -35,6 +35,7 @@ pub struct PartedPoints<'a> {
 #[tactic(auto, using(crate::proofs::SplitLemmas::splits, crate::proofs::SplitLemmas::sums, crate::proofs::PointLemmas::points))]
 impl<'a> PartedPoints<'a> {
     ghost use Rattle.point_views.specs.PartedPoints.{parts_of};
+    ghost use Rattle.point_views.specs.PassedOver.{after_empty};
     ghost use Rattle.point_views.specs.Split.{split_by};
 
     /// The points cut as the counts say.
@@ -112,6 +113,13 @@ impl<'a> PartedPoints<'a> {
         let after = points.part(end, points.len());
         let rest = PartedPoints::new(counts.after_first(), after);
         (points.part(0, end), rest)
+    }
+
+    /// The lists from the first one with points on.
+    pub(crate) fn after_empty(self) -> PartedPoints<'a>
+        ensures { parts_of result ≡ after_empty (parts_of self.entry) }
+    {
+        PartedPoints::new(self.counts().after_zeros(), self.points())
     }
 }
 

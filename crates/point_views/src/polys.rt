@@ -4,6 +4,7 @@ ghost use Rattle.std.specs.Prelude.{◌≡◌, ◌<◌, ◌↔◌, [], ◌∷◌
 ghost use Rattle.std.specs.List.{flat_map};
 ghost use Rattle.point_views.specs.Counts.{counts_of};
 ghost use Rattle.point_views.specs.Points.{points_of};
+ghost use Rattle.point_views.specs.PassedOver.{after_empty};
 ghost use Rattle.point_views.specs.Split.{split_by};
 
 use crate::counts::Counts;
@@ -112,6 +113,22 @@ impl<'a> Polys<'a> {
                 let (first, rest) = parted.split_first();
                 Some((first, Polys::Parted(rest)))
             }
+        }
+    }
+
+    /// The lists from the first one with points on. Empty lists are passed over several at a time, where `split_first` gives one after
+    /// another.
+    pub fn after_empty(self) -> Polys<'a>
+        ensures { lists_of result ≡ after_empty (lists_of self.entry) }
+    {
+        match self {
+            Polys::One(points) => {
+                if points.is_empty() {
+                    return Polys::empty();
+                }
+                self
+            }
+            Polys::Parted(parted) => Polys::Parted(parted.after_empty()),
         }
     }
 
