@@ -14,6 +14,8 @@ mod comparing;
 mod counted_writers;
 mod dot;
 #[cfg(test)]
+mod empty_lists;
+#[cfg(test)]
 mod faults;
 #[cfg(test)]
 mod headers;
