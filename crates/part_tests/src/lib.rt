@@ -20,6 +20,8 @@ mod headers;
 #[cfg(test)]
 mod images;
 #[cfg(test)]
+mod line_list;
+#[cfg(test)]
 mod lists_of_points;
 #[cfg(test)]
 mod many_edges;
@@ -31,6 +33,8 @@ mod places;
 mod records_of_emf;
 #[cfg(test)]
 mod records_of_wmf;
+#[cfg(test)]
+mod row_crossings;
 #[cfg(test)]
 mod rows;
 #[cfg(test)]
