@@ -3,6 +3,8 @@
 #![tactic(auto)]
 
 #[cfg(test)]
+mod band_sizes;
+#[cfg(test)]
 mod bands;
 #[cfg(test)]
 mod canvases;
@@ -17,6 +19,8 @@ mod dot;
 mod faults;
 #[cfg(test)]
 mod headers;
+#[cfg(test)]
+mod image_sizes;
 #[cfg(test)]
 mod images;
 #[cfg(test)]
@@ -38,9 +42,13 @@ mod row_crossings;
 #[cfg(test)]
 mod rows;
 #[cfg(test)]
+mod sent_lengths;
+#[cfg(test)]
 mod sizes;
 #[cfg(test)]
 mod sources;
+#[cfg(test)]
+mod table_indexes;
 #[cfg(test)]
 mod tables;
 #[cfg(test)]
