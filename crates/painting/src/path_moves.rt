@@ -145,6 +145,7 @@ impl<'a> PieceMoves<'a> {
             if let Some(step) = self.list.next_move() {
                 return Some(step);
             }
+            // A piece may have millions of lists without points, and each band goes through them.
             let Some((points, rest)) = self.lists.after_empty().split_first() else {
                 let end = self.end?;
                 self.end = None;

@@ -124,6 +124,7 @@ impl<'a> Outline for PlacedLines<'a> {
             if let Some(line) = PlacedLines::next_of(&mut self.current) {
                 return Some(line);
             }
+            // A record may have millions of lists without points, and each band goes through them.
             let Some((points, rest)) = self.lists.after_empty().split_first() else {
                 return None;
             };
