@@ -21,6 +21,7 @@ pub mod EventLemmas
 pub mod MoveLemmas
 pub mod FillLemmas
 pub mod RowLemmas
+pub mod CrossedLemmas
 mod WorkedFills
 mod WorkedNibs
 pub mod InsertionLemmas

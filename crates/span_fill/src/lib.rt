@@ -28,6 +28,7 @@ mod bounds;
 mod clip;
 mod counted_row;
 mod course;
+mod crossed_rows;
 mod crossing;
 mod crossing_moves;
 mod crossings;
