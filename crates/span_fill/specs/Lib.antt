@@ -4,6 +4,8 @@ pub mod Strokes
 pub mod RowLaws
 pub mod Spans
 pub mod CrossedRows
+pub mod Windings
+pub mod ColumnTables
 pub mod Crossings
 pub mod Axis
 pub mod Walks

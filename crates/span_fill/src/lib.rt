@@ -26,6 +26,7 @@ mod bit_rows;
 mod bit_words;
 mod bounds;
 mod clip;
+mod column_table;
 mod counted_row;
 mod course;
 mod crossed_rows;
@@ -64,6 +65,7 @@ mod strokes;
 mod sweep;
 mod walk;
 mod wide_line;
+mod winding;
 
 pub use crossing::Crossing;
 pub use fill_rule::FillRule;
