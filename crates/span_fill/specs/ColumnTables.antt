@@ -1,5 +1,5 @@
 -- Tables of the pixels of a few columns that are inside, column by column.
-use Rattle.std.specs.Prelude.{◌≡◌, ℕ, suc, ◌+◌, ◌-◌, ◌*◌, ◌<◌, ◌≤◌, ℤ, pos, ◌-ℤ◌, Bool, false, List, length, slice_index_or, take, vec_capacity, min, nat_le, if◌then◌else◌}
+use Rattle.std.specs.Prelude.{◌≡◌, ℕ, suc, ◌+◌, ◌-◌, ◌*◌, ◌^◌, ◌<◌, ◌≤◌, ℤ, pos, ◌-ℤ◌, Bool, false, List, length, slice_index_or, take, nat_le, if◌then◌else◌}
 use Rattle.mapping.specs.Limits.{IsWithin}
 use Rattle.span_fill.specs.Fill.{in_fill, is_inside}
 use Rattle.span_fill.specs.Windings.{total}
