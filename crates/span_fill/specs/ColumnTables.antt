@@ -1,8 +1,9 @@
 -- Tables of the pixels of a few columns that are inside, column by column.
-use Rattle.std.specs.Prelude.{◌≡◌, ℕ, suc, ◌+◌, ◌-◌, ◌*◌, ◌^◌, ◌<◌, ◌≤◌, ℤ, pos, ◌-ℤ◌, Bool, false, List, length, slice_index_or, take, nat_le, if◌then◌else◌}
+use Rattle.std.specs.Prelude.{◌≡◌, ℕ, suc, ◌+◌, ◌-◌, ◌*◌, ◌^◌, ◌<◌, ◌≤◌, ℤ, pos, ◌-ℤ◌, Bool, false, List, length, slice_index_or, take, vec_capacity}
 use Rattle.mapping.specs.Limits.{IsWithin}
 use Rattle.span_fill.specs.Fill.{in_fill, is_inside}
 use Rattle.span_fill.specs.Windings.{total}
+use Rattle.span_fill.specs.declared.column_table.ColumnTable.{ColumnTable}
 use Rattle.span_fill.specs.declared.fill_rule.FillRule.{FillRule}
 use Rattle.span_fill.specs.declared.line.Line.{Line}
 use Rattle.span_fill.specs.declared.span.Span.{Span}
@@ -30,6 +31,31 @@ pub record AddsColumn (rule : FillRule) (changes : List ℤ) (old new : List Boo
   pub added : (y : ℕ) → y < 8192 → AnswersWinding rule (total (take (suc y) changes)) (slice_index_or new (length old + y) false)
   pub length : length new ≡ length old + 8192
 
--- where there are so many lines, how many flags there is room for
-abbrev pub most_flags : ℕ → ℕ
-most_flags lines = if nat_le 4096 lines then 4194304 else 0
+-- the table has what these lines have inside
+pub record AreTabled (rule : FillRule) (lines : List Line) (table : ColumnTable) : Type 0 where
+  pub many : 4096 ≤ length lines
+  pub order : table.columns.from ≤ table.columns.to
+  pub few : table.columns.to ≤ table.columns.from + 256
+  pub end : table.columns.to ≤ 8192
+  pub length : length table.flags.items ≡ (table.columns.to - table.columns.from) * 8192
+  pub flags : AreFlags rule lines table.columns table.flags.items
+
+-- there is memory for a table, if there may be so many lines
+pub record HasTableRoom (lines : ℕ) (table : ColumnTable) : Type 0 where
+  pub changes : 4096 ≤ lines → 8193 ≤ vec_capacity table.changes
+  pub flags : 4096 ≤ lines → 2 ^ 21 ≤ vec_capacity table.flags
+
+-- there is memory for as many lines
+abbrev pub HasSameTableRoom : ColumnTable → ColumnTable → Type 0
+HasSameTableRoom old new = (lines : ℕ) → HasTableRoom lines old → HasTableRoom lines new
+
+-- the columns of the interval are among the table's
+pub record HasColumns (table : ColumnTable) (interval : Span) : Type 0 where
+  pub first : table.columns.from ≤ interval.from
+  pub last : interval.to ≤ table.columns.to
+
+-- a table can be made of the interval's columns
+pub record CanBeTabled (lines : ℕ) (interval : Span) : Type 0 where
+  pub many : 4096 ≤ lines
+  pub order : interval.from ≤ interval.to
+  pub few : interval.to ≤ interval.from + 256
