@@ -86,9 +86,9 @@ impl RowBuf {
         sort_edges(&mut self.edges);
         self.active.clear();
         self.begun = admit(&mut self.active, self.edges.as_slice(), 0, self.next);
+        self.event = next_event(self.active.as_slice(), self.edges.as_slice(), self.begun);
         sort_active(&mut self.active, false);
         self.is_sorted = true;
-        self.event = next_event(self.active.as_slice(), self.edges.as_slice(), self.begun);
         sweep(self.rule, self.active.as_slice(), interval, &mut self.spans);
     }
 

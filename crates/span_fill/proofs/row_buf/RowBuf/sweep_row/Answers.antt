@@ -9,6 +9,30 @@ use Rattle.span_fill.proofs.RowLemmas.{filled_row, filled_swept, filling_sorts}
 use Rattle.span_fill.proofs.StrokingLemmas.{not_both}
 use Rattle.span_fill.proofs.row_buf.RowBuf.sweep_row.Goals as goal
 
+pub put_row-requires-clause-flags : goal.put_row-requires-clause-flags
+put_row-requires-clause-flags c =
+    let work = subst (λ (s : RowState). IsFillingWork s.work) (sym c.self.view_is) c.requires.filling in
+    (c.self.invariant.tabled work c.if-self.true).length
+
+pub put_row-requires-clause-end : goal.put_row-requires-clause-end
+put_row-requires-clause-end c =
+    let work = subst (λ (s : RowState). IsFillingWork s.work) (sym c.self.view_is) c.requires.filling in
+    (c.self.invariant.tabled work c.if-self.true).end
+
+pub put_row-requires-clause-room : goal.put_row-requires-clause-room
+put_row-requires-clause-room c =
+    let work = subst (λ (s : RowState). IsFillingWork s.work) (sym c.self.view_is) c.requires.filling in
+    let table = c.self.invariant.tabled work c.if-self.true in
+    let few = table.few in
+    let many = table.many in
+    let count = c.self.invariant.count in
+    let room = c.self.invariant.room.spans in
+    let clear = c.clear.ensures.capacity in
+    let has = c.has_columns.ensures c.if-has_columns.true in
+    let first = has.first in
+    let last = has.last in
+    omega (arith, few, many, count, room, clear, first, last)
+
 pub returns-then-is_counted-clause-spans : goal.returns-then-is_counted-clause-spans
 returns-then-is_counted-clause-spans c =
     let work = subst (λ (s : RowState). IsFillingWork s.work) (sym c.self.view_is) c.requires.filling in
