@@ -8,7 +8,7 @@ use Rattle.std.proofs.lemmas.Int.{ints}
 use Rattle.mapping.specs.TestLaws.{by_test, int_le-false, int_le-from, int_le-not, int_le-true, int_lt-false, int_lt-from, int_lt-true, same_test}
 use Rattle.mapping.specs.declared.geometry.Point.{Point}
 use Rattle.span_fill.specs.CrossedRows.{HasCrossedRows, HasRowsBehind, HasRowsTo, IsLastMultiple, IsRowOf, reach_of}
-use Rattle.span_fill.specs.Fill.{across, crossing_dividend, down, has_row, is_crossed}
+use Rattle.span_fill.specs.Fill.{across, crossing_dividend, down, has_row}
 use Rattle.span_fill.specs.declared.span.Span.{Span}
 use Rattle.span_fill.proofs.FloorLemmas.{floor_least, floor_low}
 use Rattle.span_fill.proofs.Products.{add_mul, mul_comm_ℤ, mul_neg, mul_twice, order_mul, sub_mul, twice_mul}

@@ -1,5 +1,5 @@
 -- Changes from row to row, and what they add up to.
-use Rattle.std.proofs.Common.{◌≡◌, inl, inr, ℕ, zero, suc, ◌+◌, ◌*◌, ◌<◌, ◌≤◌, ℤ, pos, negsuc, ◌+ℤ◌, ◌-ℤ◌, ◌*ℤ◌, ◌≤ℤ◌, ◌<ℤ◌, Bool, true, false, ◌&&◌, cond, if◌then◌else◌, int_le, int_lt, nat_le, nat_lt, List, [], ◌∷◌, length, get_or, drop, take, refl, sym, ap, ◌∙◌, arith}
+use Rattle.std.proofs.Common.{◌≡◌, inl, inr, ℕ, zero, suc, ◌+◌, ◌*◌, ◌<◌, ◌≤◌, ℤ, pos, negsuc, ◌+ℤ◌, ◌-ℤ◌, ◌*ℤ◌, ◌≤ℤ◌, ◌<ℤ◌, Bool, true, false, ◌&&◌, if◌then◌else◌, int_le, int_lt, nat_le, nat_lt, List, [], ◌∷◌, length, get_or, drop, take, refl, sym, ap, ◌∙◌, arith}
 use Rattle.std.proofs.Math.ListN.{set}
 use Rattle.std.specs.List.{All}
 use Rattle.std.proofs.lemmas.Bool.{and_parts, cases_lt, false_from_ne_true, le-leb, le-ltb, lt-leb, lt-ltb}
@@ -50,9 +50,9 @@ one_span from to y by order =
     elim (cases_lt y from) [
       | inl above ↦ rw (le-ltb from (suc y) (omega (arith, above)), le-ltb to (suc y) (omega (arith, above, order)), lt-leb from y above) (omega (arith, ints))
       | inr below ↦ elim (cases_lt y to) [
-          | inl inside ↦ rw (lt-ltb from (suc y) (omega (arith, below)), le-ltb to (suc y) (omega (arith, inside)), le-leb from y below, lt-ltb y to inside) (omega (arith, ints))
-          | inr behind ↦ rw (lt-ltb from (suc y) (omega (arith, below)), lt-ltb to (suc y) (omega (arith, behind)), le-leb from y below, le-ltb y to behind) (omega (arith, ints))
-        ]
+        | inl inside ↦ rw (lt-ltb from (suc y) (omega (arith, below)), le-ltb to (suc y) (omega (arith, inside)), le-leb from y below, lt-ltb y to inside) (omega (arith, ints))
+        | inr behind ↦ rw (lt-ltb from (suc y) (omega (arith, below)), lt-ltb to (suc y) (omega (arith, behind)), le-leb from y below, le-ltb y to behind) (omega (arith, ints))
+      ]
     ]
 
 pub winds_rows : (rows : Span) (by : ℤ) (old between new : List ℤ) → rows.from ≤ rows.to → ChangesFrom rows.from by old between → ChangesFrom rows.to (pos 0 -ℤ by) between new → WindsRows rows by old new

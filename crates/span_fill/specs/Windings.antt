@@ -1,10 +1,9 @@
 -- Which pixels of a column are inside, by changes from row to row.
-use Rattle.std.specs.Prelude.{◌≡◌, ℕ, suc, ◌+◌, ◌<◌, ℤ, pos, ◌+ℤ◌, ◌-ℤ◌, Bool, if◌then◌else◌, nat_lt, List, [], ◌∷◌, length, slice_index_or, take}
+use Rattle.std.specs.Prelude.{◌≡◌, ℕ, suc, ◌+◌, ◌<◌, ℤ, pos, ◌+ℤ◌, ◌-ℤ◌, if◌then◌else◌, nat_lt, List, [], ◌∷◌, take}
 use Rattle.std.specs.List.{All}
 use Rattle.mapping.specs.Limits.{IsWithin}
-use Rattle.span_fill.specs.Fill.{crossed_downwards, crossed_upwards, is_crossed, is_inside}
+use Rattle.span_fill.specs.Fill.{crossed_downwards, crossed_upwards}
 use Rattle.span_fill.specs.Spans.{in_span}
-use Rattle.span_fill.specs.declared.fill_rule.FillRule.{FillRule}
 use Rattle.span_fill.specs.declared.line.Line.{Line}
 use Rattle.span_fill.specs.declared.span.Span.{Span}
 

@@ -30,8 +30,7 @@ impl RowBuf {
         let moves = self.table.moves.saturating_add(edges as u64);
         self.table.moves = moves;
         if is_worth(moves, self.lines.len(), interval) {
-            self.table
-                .put(self.rule, self.lines.as_slice(), interval);
+            self.table.put(self.rule, self.lines.as_slice(), interval);
         }
     }
 

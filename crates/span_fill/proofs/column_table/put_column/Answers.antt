@@ -1,9 +1,8 @@
 -- One row more.
-use Rattle.std.proofs.Common.{◌≡◌, suc, ◌+◌, ◌<◌, ◌^◌, ℤ, ◌+ℤ◌, pos, false, Bool, List, [], ◌∷◌, ◌++◌, FitsSigned, w32, of_z, to_z, length, slice_index_or, take, sym, subst, ◌∙◌, arith, rules}
+use Rattle.std.proofs.Common.{◌≡◌, ◌+◌, ◌<◌, ◌^◌, ◌+ℤ◌, pos, false, [], ◌∷◌, FitsSigned, w32, to_z, length, slice_index_or, ◌∙◌, arith, rules}
 use Rattle.std.proofs.Math.ListN.{get_or-append}
 use Rattle.std.proofs.lemmas.Int.{ints, to_z-of_z}
 use Rattle.mapping.specs.Limits.{IsWithin}
-use Rattle.span_fill.specs.Windings.{total}
 use Rattle.span_fill.proofs.TableLemmas.{row_added, total_after, total_more}
 use Rattle.span_fill.proofs.column_table.put_column.Goals as goal
 

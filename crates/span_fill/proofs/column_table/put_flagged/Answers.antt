@@ -1,5 +1,5 @@
 -- One column more.
-use Rattle.std.proofs.Common.{◌≡◌, ◌+◌, ◌<◌, ◌≤◌, refl, arith}
+use Rattle.std.proofs.Common.{◌+◌, ◌≤◌, refl, arith}
 use Rattle.span_fill.specs.ColumnTables.{flag_at}
 use Rattle.span_fill.proofs.CountLemmas.{apart_more, exact_more, row_ended}
 use Rattle.span_fill.proofs.SweepLemmas.{longer_order}

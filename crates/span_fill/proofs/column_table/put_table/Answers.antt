@@ -1,6 +1,5 @@
 -- One column more.
-use Rattle.std.proofs.Common.{◌≡◌, ◌+◌, ◌-◌, ◌*◌, ◌<◌, ◌≤◌, ℤ, List, length, subst, sym, ap, ◌∙◌, arith}
-use Rattle.span_fill.specs.ColumnTables.{AddsColumn, AreSmallSums}
+use Rattle.std.proofs.Common.{◌≡◌, ◌≤◌, ℤ, List, subst, sym, ◌∙◌, arith}
 use Rattle.span_fill.specs.Windings.{HasWindings}
 use Rattle.span_fill.proofs.MoveLemmas.{written_back}
 use Rattle.span_fill.proofs.TableLemmas.{column_added, small_sums}

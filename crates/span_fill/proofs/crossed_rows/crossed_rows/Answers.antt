@@ -1,11 +1,9 @@
 -- The edge runs to the right, to the left or straight down.
-use Rattle.std.proofs.Common.{FitsSigned, w64, ◌^◌, pos, neg_ℤ, ◌-ℤ◌, ◌≡◌, ◌<ℤ◌, ◌≤ℤ◌, arith, rules, lit<}
+use Rattle.std.proofs.Common.{FitsSigned, w64, pos, ◌-ℤ◌, ◌≡◌, ◌<ℤ◌, ◌≤ℤ◌, arith, rules}
 use Rattle.std.proofs.lemmas.Int.{ints, to_z-of_z}
-use Rattle.mapping.specs.Limits.{IsWithin}
 use Rattle.span_fill.specs.CrossedRows.{reach_of}
 use Rattle.span_fill.specs.Fill.{across}
 use Rattle.span_fill.proofs.CrossedLemmas.{crossed_always, crossed_left, crossed_never, crossed_right}
-use Rattle.span_fill.proofs.EdgeLemmas.{within_fits}
 use Rattle.span_fill.proofs.crossed_rows.crossed_rows.Goals as goal
 
 pub last_multiple-requires-then-across-lt0-clause-dividend :

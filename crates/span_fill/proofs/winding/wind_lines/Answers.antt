@@ -1,7 +1,6 @@
 -- One line more.
-use Rattle.std.proofs.Common.{◌+◌, ◌*◌, ◌^◌, ◌<◌, ◌≤◌, suc, length, pos, ◌+ℤ◌, ap, arith}
+use Rattle.std.proofs.Common.{◌+◌, ◌*◌, ◌^◌, suc, pos, arith}
 use Rattle.std.proofs.lemmas.Int.{ints}
-use Rattle.span_fill.specs.Windings.{winding}
 use Rattle.span_fill.specs.declared.line.Line.{Line}
 use Rattle.span_fill.proofs.WindingLemmas.{all_wider, line_wound, none_total}
 use Rattle.span_fill.proofs.winding.wind_lines.Goals as goal

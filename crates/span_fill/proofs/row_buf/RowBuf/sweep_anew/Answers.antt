@@ -1,5 +1,5 @@
 -- The edges are those of the lines that cross the row, in order.
-use Rattle.std.proofs.Common.{◌≡◌, ◌≤◌, true, false, List, length, ap, subst, sym, ◌∙◌, arith}
+use Rattle.std.proofs.Common.{true, false, List, length, ap, subst, sym, ◌∙◌, arith}
 use Rattle.std.proofs.lemmas.Bool.{false≢true}
 use Rattle.std.specs.List.{All}
 use Rattle.span_fill.specs.Edges.{IsEdge}
