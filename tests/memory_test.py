@@ -28,7 +28,7 @@ BAND = 3 * 1024 * 1088
 LITTLE = MIB
 
 # How many bytes a line of a drawing takes in all lists of a buffer of rows, and a piece of a path in its own.
-LINE, PIECE = 376, 96
+LINE, PIECE = 392, 96
 
 # How many lines make these lists long.
 LONG = 1 << 17
@@ -183,7 +183,7 @@ class CertifiedMemory(unittest.TestCase):
 
     @for_each_program
     def test_what_needs_little_takes_little(self, program):
-        # Room for any drawing would be 376 MiB, and for any path 6 MiB.
+        # Room for any drawing would be 392 MiB, and for any path 6 MiB.
         for form in FORMS:
             for script in DRAWINGS:
                 self.check(program, form, script)

@@ -1,18 +1,24 @@
 //! The one way in which lines are stroked.
 
-ghost use Rattle.std.specs.Prelude.{◌≡◌, ◌<◌, ◌≤◌, length};
+ghost use Rattle.std.specs.Prelude.{◌≡◌, ◌<◌, ◌≤◌, ℕ, [], false, length};
+ghost use Rattle.std.specs.List.{All};
 ghost use Rattle.dc_stack.specs.Values.{placed_value};
 ghost use Rattle.preflight_cert.specs.Rectangles.{rectangle_lines};
 ghost use Rattle.mapping.specs.Nibs.{IsNib};
+ghost use Rattle.span_fill.specs.Lines.{HasNearEnds};
 ghost use Rattle.span_fill.specs.WideStrokes.{in_wide_stroke, one_pixel};
 ghost use Rattle.painting.specs.Counts.{CountsLayer, HasRoomForLayer};
 ghost use Rattle.painting.specs.Painted.{PaintsShape};
+ghost use Rattle.painting.specs.Parts.{HasPart};
 ghost use Rattle.painting.specs.PenStrokes.{stroke_paint};
 ghost use Rattle.painting.specs.RectangleBoxes.{IsNearBox};
 ghost use Rattle.painting.specs.Regions.{HasNarrowNib, HasVisible, HoldShape, IsOfSide};
+ghost use Rattle.painting.specs.Stamps.{is_taken};
+ghost use Rattle.painting.specs.declared.parts.Part.TheVariants.{Lines};
 
 use crate::line_steps::step_line;
 use crate::lone_line::lone_line;
+use crate::mark_costs::{are_copied, copy_lines};
 use crate::parts::{Part, paint_rows};
 use crate::rectangles::{LineList, box_lines, has_inside};
 use crate::regions::{Bounds, visible_in, whole_law};
@@ -20,6 +26,7 @@ use crate::room::DrawingRoom;
 use crate::row_ink::full;
 use crate::row_painter::{Inks, RowPainter};
 use crate::stamping::{begin_stamps, stamp_lines};
+use crate::stamps::Stamps;
 use crate::stroke::Stroke;
 use crate::wide_stroking::stroke_wide_lines;
 use crate::widening::widened;
@@ -61,7 +68,7 @@ pub(crate) fn stroke_lines<O: Outline + Copy>(
 }
 
 /// The same by a nib of one pixel: a lone line by its steps, and several by marks, where these can be taken and cost less than rows of spans,
-/// and else by those.
+/// and else by those. Where many lines are judged they are copied first, so that each is placed once.
 fn stroke_thin_lines<O: Outline + Copy>(
     canvas: &mut Canvas,
     room: &mut DrawingRoom,
@@ -86,13 +93,69 @@ fn stroke_thin_lines<O: Outline + Copy>(
         return;
     }
     let drawn = visible_in(canvas, stroke.clip, lines.bounds.on_surface());
+    if are_copied(lines.points, drawn, stroke.clip) && copy_lines(outline, &mut room.copies) {
+        stroke_copies(canvas, room, drawn, stroke);
+        return;
+    }
     if let Some(stamps) = &mut room.marks {
         if begin_stamps(stamps, outline, stroke.clip, drawn) {
-            stamp_lines(canvas, stamps, outline, stroke.mix);
+            stroke_by_marks(canvas, stamps, outline, stroke);
             return;
         }
     }
     stroke_rows(canvas, room, outline, drawn, stroke);
+}
+
+/// Strokes the lines that were copied, by marks or by rows of spans, in a region that has what is seen of them.
+fn stroke_copies(
+    canvas: &mut Canvas,
+    room: &mut DrawingRoom,
+    drawn: Region,
+    stroke: &Stroke<'_>,
+)
+    requires countable { HasRoomForLayer canvas.old }
+    requires room { length room.old.copies.items ≤ room.old.rows.room }
+    requires near { All HasNearEnds room.old.copies.items }
+    requires nib { stroke.now.nib ≡ one_pixel }
+    requires visible { HasVisible (placed_value stroke.now.clip.now) (in_wide_stroke one_pixel room.old.copies.items) canvas.old drawn }
+    requires columns { IsOfSide drawn.columns }
+    requires rows { IsOfSide drawn.rows }
+    ensures pixels { PaintsShape (stroke_paint stroke.now) (in_wide_stroke one_pixel room.old.copies.items) canvas.old canvas.new }
+    ensures few { CountsLayer canvas.old canvas.new }
+    ensures room { room.new.rows.room ≡ room.old.rows.room }
+{
+    let mut outline = LineList {
+        rest: room.copies.as_slice(),
+    };
+    if let Some(stamps) = &mut room.marks {
+        if begin_stamps(stamps, outline, stroke.clip, drawn) {
+            stroke_by_marks(canvas, stamps, outline, stroke);
+            return;
+        }
+    }
+    room.rows
+        .begin_stroke(&mut outline, stroke.nib, drawn.rows.from);
+    paint_begun(canvas, room, drawn, stroke);
+}
+
+/// Strokes the lines of an outline by marks of a region that has what is seen of them. None of the marks is taken yet.
+fn stroke_by_marks<O: Outline + Copy>(
+    canvas: &mut Canvas,
+    stamps: &mut Stamps,
+    outline: O,
+    stroke: &Stroke<'_>,
+)
+    requires countable { HasRoomForLayer canvas.old }
+    requires uncut { (placed_value stroke.now.clip.now).cuts ≡ [] }
+    requires none { (x y : ℕ) → is_taken stamps.old x y ≡ false }
+    requires visible { HasVisible (placed_value stroke.now.clip.now) (in_wide_stroke one_pixel (O.lines outline)) canvas.old stamps.old.region }
+    ensures pixels { PaintsShape (stroke_paint stroke.now) (in_wide_stroke one_pixel (O.lines outline)) canvas.old canvas.new }
+    ensures few { CountsLayer canvas.old canvas.new }
+{
+    writing_law();
+    wide_stroke_law();
+    whole_law(canvas);
+    stamp_lines(canvas, stamps, outline, stroke.mix);
 }
 
 /// Strokes the lines of an outline by rows of spans, in a region that has what is seen of them.
@@ -120,6 +183,24 @@ pub(crate) fn stroke_rows<O: Outline + Copy>(
     let mut lines = outline;
     room.rows
         .begin_stroke(&mut lines, stroke.nib, drawn.rows.from);
+    paint_begun(canvas, room, drawn, stroke);
+}
+
+/// Paints the rows of a stroke that was begun with at the first row of a region, which has what is seen of it.
+fn paint_begun(
+    canvas: &mut Canvas,
+    room: &mut DrawingRoom,
+    drawn: Region,
+    stroke: &Stroke<'_>,
+)
+    requires countable { HasRoomForLayer canvas.old }
+    requires begun { HasPart (Lines stroke.now.nib) drawn.rows stroke.now.clip.now drawn.columns room.old.rows canvas.old }
+    ensures pixels { PaintsShape (stroke_paint stroke.now) (in_wide_stroke stroke.now.nib room.old.rows.lines) canvas.old canvas.new }
+    ensures few { CountsLayer canvas.old canvas.new }
+    ensures room { room.new.rows.room ≡ room.old.rows.room }
+{
+    writing_law();
+    whole_law(canvas);
     let painter = RowPainter {
         clip: stroke.clip,
         columns: drawn.columns,
