@@ -10,7 +10,7 @@ ghost use Rattle.span_fill.specs.WideStrokes.{in_wide_stroke, one_pixel};
 ghost use Rattle.painting.specs.Counts.{CountsLayer, HasRoomForLayer};
 ghost use Rattle.painting.specs.Painted.{PaintsShape};
 ghost use Rattle.painting.specs.Parts.{HasPart};
-ghost use Rattle.painting.specs.PenStrokes.{stroke_paint};
+ghost use Rattle.painting.specs.PenStrokes.{PaintsLines, stroke_paint};
 ghost use Rattle.painting.specs.RectangleBoxes.{IsNearBox};
 ghost use Rattle.painting.specs.Regions.{HasNarrowNib, HasVisible, HoldShape, IsOfSide};
 ghost use Rattle.painting.specs.Stamps.{is_taken};
@@ -56,7 +56,7 @@ pub(crate) fn stroke_lines<O: Outline + Copy>(
     requires nib { IsNib stroke.now.nib }
     requires bounded { HasNarrowNib lines.bounds }
     requires within { HoldShape lines.bounds (in_wide_stroke stroke.now.nib (O.lines lines.outline)) }
-    ensures pixels { PaintsShape (stroke_paint stroke.now) (in_wide_stroke stroke.now.nib (O.lines lines.outline)) canvas.old canvas.new }
+    ensures pixels { PaintsLines stroke.now (O.lines lines.outline) canvas.old canvas.new }
     ensures few { CountsLayer canvas.old canvas.new }
     ensures room { room.new.rows.room ≡ room.old.rows.room }
 {
@@ -107,12 +107,7 @@ fn stroke_thin_lines<O: Outline + Copy>(
 }
 
 /// Strokes the lines that were copied, by marks or by rows of spans, in a region that has what is seen of them.
-fn stroke_copies(
-    canvas: &mut Canvas,
-    room: &mut DrawingRoom,
-    drawn: Region,
-    stroke: &Stroke<'_>,
-)
+fn stroke_copies(canvas: &mut Canvas, room: &mut DrawingRoom, drawn: Region, stroke: &Stroke<'_>)
     requires countable { HasRoomForLayer canvas.old }
     requires room { length room.old.copies.items ≤ room.old.rows.room }
     requires near { All HasNearEnds room.old.copies.items }
@@ -171,7 +166,7 @@ pub(crate) fn stroke_rows<O: Outline + Copy>(
     requires nib { IsNib stroke.now.nib }
     requires visible { HasVisible (placed_value stroke.now.clip.now) (in_wide_stroke stroke.now.nib (O.lines outline)) canvas.old drawn }
     requires rows { IsOfSide drawn.rows }
-    ensures pixels { PaintsShape (stroke_paint stroke.now) (in_wide_stroke stroke.now.nib (O.lines outline)) canvas.old canvas.new }
+    ensures pixels { PaintsLines stroke.now (O.lines outline) canvas.old canvas.new }
     ensures few { CountsLayer canvas.old canvas.new }
     ensures room { room.new.rows.room ≡ room.old.rows.room }
 {
@@ -187,15 +182,10 @@ pub(crate) fn stroke_rows<O: Outline + Copy>(
 }
 
 /// Paints the rows of a stroke that was begun with at the first row of a region, which has what is seen of it.
-fn paint_begun(
-    canvas: &mut Canvas,
-    room: &mut DrawingRoom,
-    drawn: Region,
-    stroke: &Stroke<'_>,
-)
+fn paint_begun(canvas: &mut Canvas, room: &mut DrawingRoom, drawn: Region, stroke: &Stroke<'_>)
     requires countable { HasRoomForLayer canvas.old }
     requires begun { HasPart (Lines stroke.now.nib) drawn.rows stroke.now.clip.now drawn.columns room.old.rows canvas.old }
-    ensures pixels { PaintsShape (stroke_paint stroke.now) (in_wide_stroke stroke.now.nib room.old.rows.lines) canvas.old canvas.new }
+    ensures pixels { PaintsLines stroke.now room.old.rows.lines canvas.old canvas.new }
     ensures few { CountsLayer canvas.old canvas.new }
     ensures room { room.new.rows.room ≡ room.old.rows.room }
 {
@@ -220,7 +210,7 @@ pub(crate) fn stroke_box(
     requires room { 4 ≤ room.old.rows.room }
     requires near { IsNearBox inside }
     requires nib { IsNib stroke.now.nib }
-    ensures pixels { PaintsShape (stroke_paint stroke.now) (in_wide_stroke stroke.now.nib (rectangle_lines inside)) canvas.old canvas.new }
+    ensures pixels { PaintsLines stroke.now (rectangle_lines inside) canvas.old canvas.new }
     ensures few { CountsLayer canvas.old canvas.new }
     ensures room { room.new.rows.room ≡ room.old.rows.room }
 {

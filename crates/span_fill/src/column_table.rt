@@ -53,7 +53,7 @@ pub(crate) struct ColumnTable {
 
 impl ColumnTable {
     ghost use Rattle.span_fill.specs.ColumnTables.{AreTabled, HasColumns, HasSameTableRoom, HasTableRoom};
-    ghost use Rattle.span_fill.specs.declared.fill_rule.FillRule.{FillRule as TheRule};
+    ghost use Rattle.span_fill.specs.declared.fill_rule.FillRule.{FillRule as Rule};
     ghost use Rattle.span_fill.specs.declared.line.Line.{Line as TheLine};
 
     /// A table that isn't used, and no memory.
@@ -75,7 +75,7 @@ impl ColumnTable {
         ensures ok { OnOk result (HasTableRoom lines self.new) }
         ensures kept { HasSameTableRoom self.old self.new }
         ensures used { self.new.is_used ≡ self.old.is_used }
-        ensures tabled { (rule : TheRule) (of : List TheLine) → AreTabled rule of self.old → AreTabled rule of self.new }
+        ensures tabled { (rule : Rule) (of : List TheLine) → AreTabled rule of self.old → AreTabled rule of self.new }
     {
         if lines < MANY_LINES {
             return Ok(());
@@ -125,7 +125,7 @@ impl ColumnTable {
         requires end { self.now.columns.to ≤ 8192 }
         requires flags { length self.now.flags.items ≡ (self.now.columns.to - self.now.columns.from) * 8192 }
         requires room { interval.to - interval.from + 1 ≤ spans.old.capacity }
-        ensures spans { AreRow (λ x. flag_at self.now.flags.items self.now.columns.from x row) interval spans.new.items }
+        ensures row { AreRow (λ x. flag_at self.now.flags.items self.now.columns.from x row) interval spans.new.items }
         ensures room { spans.new.capacity ≡ spans.old.capacity }
     {
         put_flagged(
