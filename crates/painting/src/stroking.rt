@@ -195,12 +195,7 @@ pub(crate) fn stroke_rows<O: Outline + Copy>(
 }
 
 /// Paints the rows of a stroke that was begun with at the first row of a region, which has what is seen of it.
-fn paint_begun(
-    canvas: &mut Canvas,
-    room: &mut DrawingRoom,
-    drawn: Region,
-    stroke: &Stroke<'_>,
-)
+fn paint_begun(canvas: &mut Canvas, room: &mut DrawingRoom, drawn: Region, stroke: &Stroke<'_>)
     requires countable { HasRoomForLayer canvas.old }
     requires begun { HasPart (Lines stroke.now.nib) drawn.rows stroke.now.clip.now drawn.columns room.old.rows canvas.old }
     ensures pixels { StrokesLines stroke.now.nib stroke.now room.old.rows.lines canvas.old canvas.new }
