@@ -8,17 +8,16 @@ ghost use Rattle.mapping.specs.Nibs.{IsNib};
 ghost use Rattle.span_fill.specs.Lines.{HasNearEnds};
 ghost use Rattle.span_fill.specs.WideStrokes.{in_wide_stroke, one_pixel};
 ghost use Rattle.painting.specs.Counts.{CountsLayer, HasRoomForLayer};
-ghost use Rattle.painting.specs.Painted.{PaintsShape};
 ghost use Rattle.painting.specs.Parts.{HasPart};
-ghost use Rattle.painting.specs.PenStrokes.{PaintsLines, stroke_paint};
 ghost use Rattle.painting.specs.RectangleBoxes.{IsNearBox};
-ghost use Rattle.painting.specs.Regions.{HasNarrowNib, HasVisible, HoldShape, IsOfSide};
+ghost use Rattle.painting.specs.Regions.{HasNarrowNib, HoldShape, IsOfSide};
 ghost use Rattle.painting.specs.Stamps.{is_taken};
+ghost use Rattle.painting.specs.StrokedLines.{HasStroke, StrokesLines};
 ghost use Rattle.painting.specs.declared.parts.Part.TheVariants.{Lines};
 
 use crate::line_steps::step_line;
 use crate::lone_line::lone_line;
-use crate::mark_costs::{are_copied, copy_lines};
+use crate::mark_costs::{are_copied, copy_lines, marks_pay};
 use crate::parts::{Part, paint_rows};
 use crate::rectangles::{LineList, box_lines, has_inside};
 use crate::regions::{Bounds, visible_in, whole_law};
@@ -56,7 +55,7 @@ pub(crate) fn stroke_lines<O: Outline + Copy>(
     requires nib { IsNib stroke.now.nib }
     requires bounded { HasNarrowNib lines.bounds }
     requires within { HoldShape lines.bounds (in_wide_stroke stroke.now.nib (O.lines lines.outline)) }
-    ensures pixels { PaintsLines stroke.now (O.lines lines.outline) canvas.old canvas.new }
+    ensures pixels { StrokesLines stroke.now.nib stroke.now (O.lines lines.outline) canvas.old canvas.new }
     ensures few { CountsLayer canvas.old canvas.new }
     ensures room { room.new.rows.room ≡ room.old.rows.room }
 {
@@ -80,7 +79,7 @@ fn stroke_thin_lines<O: Outline + Copy>(
     requires nib { stroke.now.nib ≡ one_pixel }
     requires bounded { HasNarrowNib lines.bounds }
     requires within { HoldShape lines.bounds (in_wide_stroke one_pixel (O.lines lines.outline)) }
-    ensures pixels { PaintsShape (stroke_paint stroke.now) (in_wide_stroke one_pixel (O.lines lines.outline)) canvas.old canvas.new }
+    ensures pixels { StrokesLines one_pixel stroke.now (O.lines lines.outline) canvas.old canvas.new }
     ensures few { CountsLayer canvas.old canvas.new }
     ensures room { room.new.rows.room ≡ room.old.rows.room }
 {
@@ -93,39 +92,51 @@ fn stroke_thin_lines<O: Outline + Copy>(
         return;
     }
     let drawn = visible_in(canvas, stroke.clip, lines.bounds.on_surface());
-    if are_copied(lines.points, drawn, stroke.clip) && copy_lines(outline, &mut room.copies) {
-        stroke_copies(canvas, room, drawn, stroke);
-        return;
-    }
-    if let Some(stamps) = &mut room.marks {
-        if begin_stamps(stamps, outline, stroke.clip, drawn) {
-            stroke_by_marks(canvas, stamps, outline, stroke);
+    if are_copied(lines.points, drawn, stroke.clip) {
+        if let Some(pays) = copy_lines(outline, &mut room.copies, drawn) {
+            stroke_copies(canvas, room, pays, drawn, stroke);
             return;
+        }
+    }
+    if marks_pay(outline, drawn, stroke.clip) {
+        if let Some(stamps) = &mut room.marks {
+            if begin_stamps(stamps, stroke.clip, drawn) {
+                stroke_by_marks(canvas, stamps, outline, stroke);
+                return;
+            }
         }
     }
     stroke_rows(canvas, room, outline, drawn, stroke);
 }
 
-/// Strokes the lines that were copied, by marks or by rows of spans, in a region that has what is seen of them.
-fn stroke_copies(canvas: &mut Canvas, room: &mut DrawingRoom, drawn: Region, stroke: &Stroke<'_>)
+/// Strokes the lines that were copied, by marks, where these pay, or by rows of spans, in a region that has what is seen of them.
+fn stroke_copies(
+    canvas: &mut Canvas,
+    room: &mut DrawingRoom,
+    pays: bool,
+    drawn: Region,
+    stroke: &Stroke<'_>,
+)
     requires countable { HasRoomForLayer canvas.old }
     requires room { length room.old.copies.items ≤ room.old.rows.room }
     requires near { All HasNearEnds room.old.copies.items }
     requires nib { stroke.now.nib ≡ one_pixel }
-    requires visible { HasVisible (placed_value stroke.now.clip.now) (in_wide_stroke one_pixel room.old.copies.items) canvas.old drawn }
+    requires visible { HasStroke one_pixel stroke.now room.old.copies.items canvas.old drawn }
     requires columns { IsOfSide drawn.columns }
     requires rows { IsOfSide drawn.rows }
-    ensures pixels { PaintsShape (stroke_paint stroke.now) (in_wide_stroke one_pixel room.old.copies.items) canvas.old canvas.new }
+    ensures pixels { StrokesLines one_pixel stroke.now room.old.copies.items canvas.old canvas.new }
     ensures few { CountsLayer canvas.old canvas.new }
     ensures room { room.new.rows.room ≡ room.old.rows.room }
 {
     let mut outline = LineList {
         rest: room.copies.as_slice(),
     };
-    if let Some(stamps) = &mut room.marks {
-        if begin_stamps(stamps, outline, stroke.clip, drawn) {
-            stroke_by_marks(canvas, stamps, outline, stroke);
-            return;
+    if pays {
+        if let Some(stamps) = &mut room.marks {
+            if begin_stamps(stamps, stroke.clip, drawn) {
+                stroke_by_marks(canvas, stamps, outline, stroke);
+                return;
+            }
         }
     }
     room.rows
@@ -143,8 +154,8 @@ fn stroke_by_marks<O: Outline + Copy>(
     requires countable { HasRoomForLayer canvas.old }
     requires uncut { (placed_value stroke.now.clip.now).cuts ≡ [] }
     requires none { (x y : ℕ) → is_taken stamps.old x y ≡ false }
-    requires visible { HasVisible (placed_value stroke.now.clip.now) (in_wide_stroke one_pixel (O.lines outline)) canvas.old stamps.old.region }
-    ensures pixels { PaintsShape (stroke_paint stroke.now) (in_wide_stroke one_pixel (O.lines outline)) canvas.old canvas.new }
+    requires visible { HasStroke one_pixel stroke.now (O.lines outline) canvas.old stamps.old.region }
+    ensures pixels { StrokesLines one_pixel stroke.now (O.lines outline) canvas.old canvas.new }
     ensures few { CountsLayer canvas.old canvas.new }
 {
     writing_law();
@@ -164,9 +175,9 @@ pub(crate) fn stroke_rows<O: Outline + Copy>(
     requires countable { HasRoomForLayer canvas.old }
     requires room { length (O.lines outline) ≤ room.old.rows.room }
     requires nib { IsNib stroke.now.nib }
-    requires visible { HasVisible (placed_value stroke.now.clip.now) (in_wide_stroke stroke.now.nib (O.lines outline)) canvas.old drawn }
+    requires visible { HasStroke stroke.now.nib stroke.now (O.lines outline) canvas.old drawn }
     requires rows { IsOfSide drawn.rows }
-    ensures pixels { PaintsLines stroke.now (O.lines outline) canvas.old canvas.new }
+    ensures pixels { StrokesLines stroke.now.nib stroke.now (O.lines outline) canvas.old canvas.new }
     ensures few { CountsLayer canvas.old canvas.new }
     ensures room { room.new.rows.room ≡ room.old.rows.room }
 {
@@ -185,7 +196,7 @@ pub(crate) fn stroke_rows<O: Outline + Copy>(
 fn paint_begun(canvas: &mut Canvas, room: &mut DrawingRoom, drawn: Region, stroke: &Stroke<'_>)
     requires countable { HasRoomForLayer canvas.old }
     requires begun { HasPart (Lines stroke.now.nib) drawn.rows stroke.now.clip.now drawn.columns room.old.rows canvas.old }
-    ensures pixels { PaintsLines stroke.now room.old.rows.lines canvas.old canvas.new }
+    ensures pixels { StrokesLines stroke.now.nib stroke.now room.old.rows.lines canvas.old canvas.new }
     ensures few { CountsLayer canvas.old canvas.new }
     ensures room { room.new.rows.room ≡ room.old.rows.room }
 {
@@ -210,7 +221,7 @@ pub(crate) fn stroke_box(
     requires room { 4 ≤ room.old.rows.room }
     requires near { IsNearBox inside }
     requires nib { IsNib stroke.now.nib }
-    ensures pixels { PaintsLines stroke.now (rectangle_lines inside) canvas.old canvas.new }
+    ensures pixels { StrokesLines stroke.now.nib stroke.now (rectangle_lines inside) canvas.old canvas.new }
     ensures few { CountsLayer canvas.old canvas.new }
     ensures room { room.new.rows.room ≡ room.old.rows.room }
 {

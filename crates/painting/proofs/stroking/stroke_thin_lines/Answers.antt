@@ -37,7 +37,7 @@ stroke_by_marks-requires-clause-visible g c =
 pub stroke_copies-requires-clause-visible : goal.stroke_copies-requires-clause-visible
 stroke_copies-requires-clause-visible g c =
     let shape = in_wide_stroke one_pixel (g.O.Outline.lines c.args.lines.outline) in
-    rw (c.copy_lines.ensures.lines c.if-copy_lines.true) (seen_within _ _ shape c.args.canvas.now c.visible_in-drawn.result (c.on_surface.ensures shape c.requires.within) c.visible_in-drawn.ensures.visible)
+    rw c.in-Some-copy_lines.ensures.lines (seen_within _ _ shape c.args.canvas.now c.visible_in-drawn.result (c.on_surface.ensures shape c.requires.within) c.visible_in-drawn.ensures.visible)
 
 pub stroke_rows-requires-clause-visible : goal.stroke_rows-requires-clause-visible
 stroke_rows-requires-clause-visible g c =
