@@ -71,6 +71,7 @@ impl RowBuf {
     }
 
     /// The same by edges that begin anew at the row, since the table hasn't all columns of the interval.
+    #[inline(never)]
     fn sweep_anew(&mut self, interval: Span)
         requires filling { IsFillingWork self.old.work }
         requires interval { interval.to ≤ 8192 }
