@@ -164,7 +164,6 @@ impl RowBuf {
         ensures next { self.new.next ≡ self.old.next + 1 }
         ensures same { SameWork self.old self.new }
     {
-        self.turn_to_table(interval);
         self.sweep_row(interval);
         self.step();
     }
