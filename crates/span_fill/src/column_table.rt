@@ -95,6 +95,7 @@ impl ColumnTable {
     }
 
     /// From now on rows are taken from flags of these columns.
+    #[inline(never)]
     pub(crate) fn put(&mut self, rule: FillRule, lines: &[Line], columns: Span)
         requires near { All HasNearEnds lines.now }
         requires count { length lines.now ≤ 2 ^ 20 }
@@ -118,6 +119,7 @@ impl ColumnTable {
     }
 
     /// The columns of the interval that are inside in a row, as spans in place of those that are there.
+    #[inline(never)]
     pub(crate) fn put_row(&self, row: u32, interval: Span, spans: &mut RowSpans)
         requires row { row < 8192 }
         requires has { HasColumns self.now interval }

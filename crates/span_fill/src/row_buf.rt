@@ -37,7 +37,8 @@ enum Work {
 
 /// The lines of an outline, and the spans that they give row by row: of the pixels inside, or of their own.
 ///
-/// Each line is divided once, at the row where it begins; from there on its crossing moves by additions.
+/// Each line is divided once, at the row where it begins; from there on its crossing moves by additions. Where very many lines cross
+/// a few columns, rows are read from a table, for which each line is divided once a column.
 ///
 /// # Guarantees
 ///
@@ -163,7 +164,6 @@ impl RowBuf {
         ensures next { self.new.next ≡ self.old.next + 1 }
         ensures same { SameWork self.old self.new }
     {
-        self.turn_to_table(interval);
         self.sweep_row(interval);
         self.step();
     }

@@ -17,8 +17,8 @@ use crate::sweep::sweep;
 impl RowBuf {
     /// Goes over to a table of the interval's columns, once many edges were moved so often that it would have taken less time.
     /// How many rows are to come isn't known, but so this takes no more than twice the time of the better way.
-    #[inline]
-    pub(super) fn turn_to_table(&mut self, interval: Span)
+    #[inline(never)]
+    fn turn_to_table(&mut self, interval: Span)
         requires filling { IsFillingWork self.old.work }
         requires interval { interval.to ≤ 8192 }
         ensures { self.new ≡ self.old }
@@ -63,6 +63,7 @@ impl RowBuf {
                 &mut self.counts,
                 &mut self.spans,
             );
+            self.turn_to_table(interval);
             return;
         }
         sort_active(&mut self.active, self.is_sorted);
@@ -71,6 +72,7 @@ impl RowBuf {
     }
 
     /// The same by edges that begin anew at the row, since the table hasn't all columns of the interval.
+    #[inline(never)]
     fn sweep_anew(&mut self, interval: Span)
         requires filling { IsFillingWork self.old.work }
         requires interval { interval.to ≤ 8192 }

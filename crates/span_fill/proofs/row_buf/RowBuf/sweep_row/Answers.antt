@@ -37,8 +37,8 @@ pub returns-then-is_counted-clause-spans : goal.returns-then-is_counted-clause-s
 returns-then-is_counted-clause-spans c =
     let work = subst (λ (s : RowState). IsFillingWork s.work) (sym c.self.view_is) c.requires.filling in
     let row = subst (λ (es : List ActiveEdge). AreRow (λ x. is_inside c.self.inside.rule (downwards_at es x) (upwards_at es x)) c.args.interval c.count_row.new.spans.items) c.as_slice.ensures.value c.count_row.ensures.spans in
-    subst (λ (s : RowState). FillsRow s.work s.lines s.next c.args.interval c.count_row.new.spans.items) c.self.view_is
-    (filled_row c.self.inside.work c.self.inside.rule c.self.inside.strokes.nib c.self.inside.next c.self.inside.room c.self.inside.lines.items c.self.inside.edges.items c.self.inside.begun c.self.inside.active.items c.self.inside.is_sorted c.self.inside.event c.args.interval c.count_row.new.spans.items work c.self.invariant.near (c.self.invariant.filling work c.if-self.false) c.requires.interval row)
+    rw c.turn_to_table.ensures (subst (λ (s : RowState). FillsRow s.work s.lines s.next c.args.interval c.count_row.new.spans.items) c.self.view_is
+    (filled_row c.self.inside.work c.self.inside.rule c.self.inside.strokes.nib c.self.inside.next c.self.inside.room c.self.inside.lines.items c.self.inside.edges.items c.self.inside.begun c.self.inside.active.items c.self.inside.is_sorted c.self.inside.event c.args.interval c.count_row.new.spans.items work c.self.invariant.near (c.self.invariant.filling work c.if-self.false) c.requires.interval row))
 
 pub returns-clause-spans : goal.returns-clause-spans
 returns-clause-spans c =
