@@ -62,6 +62,12 @@ pub record IsStroking (lines : List Line) (y room : ℕ) (strokes : Strokes) : T
   pub have : (x : ℤ) (n : ℕ) → y ≤ n → n < 8192 → strokes_have strokes x n ≡ lines_have strokes.nib lines x n
   pub count : stroke_count strokes ≤ room
 
+-- so many edges out of order are counted in each row, and no row is one in which they stay the same
+pub record AreCountedAlways (edges : List ActiveEdge) (is_sorted : Bool) (event : ℕ) : Type 0 where
+  pub many : 8256 ≤ length edges
+  pub unsorted : is_sorted ≡ false
+  pub none : event ≡ 0
+
 -- the buffer has memory for its lines, and its edges, its table or its strips are where its work is
 pub record IsRowBuf (a : Inside) : Type 0 where
   pub room : HasRoom a
@@ -70,4 +76,5 @@ pub record IsRowBuf (a : Inside) : Type 0 where
   pub row : a.next ≤ 8192
   pub filling : IsFillingWork (row_work a.work a.rule a.strokes.nib) → a.table.is_used ≡ false → IsFilling a.lines.items a.next a.room a.edges.items a.begun a.active.items a.is_sorted a.event
   pub tabled : IsFillingWork (row_work a.work a.rule a.strokes.nib) → a.table.is_used ≡ true → AreTabled a.rule a.lines.items a.table
+  pub counted : a.table.is_used ≡ true → AreCountedAlways a.active.items a.is_sorted a.event
   pub stroking : IsStrokingWork (row_work a.work a.rule a.strokes.nib) → IsStroking a.lines.items a.next a.room a.strokes

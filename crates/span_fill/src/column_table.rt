@@ -24,7 +24,10 @@ const ROWS: usize = 8192;
 const BASE: i32 = 1 << 21;
 
 /// How many lines have a table at least.
-pub(crate) const MANY_LINES: usize = 4096;
+const MANY_LINES: usize = 4096;
+
+/// How many edges cross a row at least from which on there may be a table. So many are counted in each row, if they are out of order.
+pub(crate) const MANY_EDGES: usize = 8256;
 
 /// How many columns a table has at most. A wider one would take more memory, and more time than to move edges.
 const MOST_COLUMNS: u32 = 256;

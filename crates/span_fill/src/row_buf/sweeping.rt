@@ -4,7 +4,7 @@ ghost use Rattle.std.specs.Prelude.{◌≡◌, ◌+◌, ◌<◌, ◌≤◌};
 ghost use Rattle.span_fill.specs.RowState.{FillsRow, SameWork, IsFillingWork};
 
 use crate::active_edges::{admit, retire, sort_edges};
-use crate::column_table::{MANY_LINES, is_worth};
+use crate::column_table::{MANY_EDGES, is_worth};
 use crate::counted_row::{count_row, is_counted};
 use crate::crossing_moves::move_edges;
 use crate::edge_list::collect_edges;
@@ -24,13 +24,15 @@ impl RowBuf {
         ensures { self.new ≡ self.old }
     {
         let edges = self.active.len();
-        if edges < MANY_LINES || self.table.is_used {
+        if edges < MANY_EDGES || self.table.is_used {
             return;
         }
         let moves = self.table.moves.saturating_add(edges as u64);
         self.table.moves = moves;
         if is_worth(moves, self.lines.len(), interval) {
             self.table.put(self.rule, self.lines.as_slice(), interval);
+            self.is_sorted = false;
+            self.event = 0;
         }
     }
 
@@ -47,15 +49,15 @@ impl RowBuf {
         if interval.from >= interval.to {
             return;
         }
-        if self.table.is_used {
-            if self.table.has_columns(interval) {
-                self.table.put_row(self.next, interval, &mut self.spans);
+        if is_counted(self.active.len(), self.is_sorted, interval) {
+            if self.table.is_used {
+                if self.table.has_columns(interval) {
+                    self.table.put_row(self.next, interval, &mut self.spans);
+                    return;
+                }
+                self.sweep_anew(interval);
                 return;
             }
-            self.sweep_anew(interval);
-            return;
-        }
-        if is_counted(self.active.len(), self.is_sorted, interval) {
             count_row(
                 self.rule,
                 self.active.as_slice(),
@@ -102,11 +104,11 @@ impl RowBuf {
         ensures same { SameWork self.old self.new }
     {
         self.next += 1;
-        if self.table.is_used {
-            return;
-        }
         if self.next < self.event {
             self.is_sorted = move_edges(&mut self.active);
+            return;
+        }
+        if self.table.is_used {
             return;
         }
         retire(&mut self.active, self.next);

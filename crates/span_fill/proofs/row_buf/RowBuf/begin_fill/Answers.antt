@@ -43,5 +43,6 @@ invariant_of-self g c =
       row = c.requires.row;
       filling = λ h unused. filling_begins c.args.y c.self.inside.room c.copy_lines.new.lines.items c.collect_edges.new.edges.items c.sort_edges.new.edges.items c.admit-self-inside.result c.admit-self-inside.new.active.items c.next_event-self-inside.result c.copy_lines.ensures.near c.requires.row collected c.sort_edges.ensures.permutation c.sort_edges.ensures.sorted admitted left (omega (arith, edges, c.admit-self-inside.ensures.within)) (omega (arith, edges, count, given, c.admit-self-inside.ensures.length, c.collect_edges.ensures.length)) event;
       tabled = λ h used. absurd (false≢true (sym c.begin.ensures.unused ∙ used));
+      counted = λ used. absurd (false≢true (sym c.begin.ensures.unused ∙ used));
       stroking = λ h. absurd h;
     }

@@ -30,6 +30,7 @@ invariant_of-self g c =
       row = c.requires.row;
       filling = λ h unused. absurd h;
       tabled = λ h used. absurd h;
+      counted = c.self.invariant.counted;
       stroking = λ h. record {
         row = c.requires.row;
         are = c.begin.ensures.strokes;

@@ -44,6 +44,7 @@ invariant_of-self c =
       row = omega (arith, next);
       filling = λ h unused. absurd (not_both _ (subst (λ (n : Nib). IsFillingWork (row_work c.self.inside.work c.self.inside.rule n)) c.next_row.ensures.nib h) work);
       tabled = λ h used. absurd (not_both _ (subst (λ (n : Nib). IsFillingWork (row_work c.self.inside.work c.self.inside.rule n)) c.next_row.ensures.nib h) work);
+      counted = c.self.invariant.counted;
       stroking = λ h. record {
         row = omega (arith, next);
         are = c.next_row.ensures.strokes;

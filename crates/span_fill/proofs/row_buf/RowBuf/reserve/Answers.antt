@@ -32,6 +32,7 @@ invariant_of-self-2 c =
       row = c.self.invariant.row;
       filling = λ work unused. rw (c.grow.ensures.items, c.grow-2.ensures.items, c.grow-3.ensures.items) (filling_grows c.self.inside.next c.self.inside.room c.args.lines c.self.inside.lines.items c.self.inside.edges.items c.self.inside.begun c.self.inside.active.items c.self.inside.is_sorted c.self.inside.event (omega arith) (c.self.invariant.filling (subst (λ (n : Nib). IsFillingWork (row_work c.self.inside.work c.self.inside.rule n)) c.reserve-2.ensures.nib work) (sym c.reserve.ensures.used ∙ unused)));
       tabled = λ work used. rw c.grow.ensures.items (c.reserve.ensures.tabled c.self.inside.rule c.self.inside.lines.items (c.self.invariant.tabled (subst (λ (n : Nib). IsFillingWork (row_work c.self.inside.work c.self.inside.rule n)) c.reserve-2.ensures.nib work) (sym c.reserve.ensures.used ∙ used)));
+      counted = λ used. rw c.grow-3.ensures.items (c.self.invariant.counted (sym c.reserve.ensures.used ∙ used));
       stroking = λ work. rw c.grow.ensures.items (stroking_grows c.self.inside.lines.items c.self.inside.next c.self.inside.room c.args.lines c.self.inside.strokes c.reserve-2.new.self (omega arith) c.reserve-2.ensures.strokes c.reserve-2.ensures.have c.reserve-2.ensures.count c.reserve-2.ensures.nib (c.self.invariant.stroking (subst (λ (n : Nib). IsStrokingWork (row_work c.self.inside.work c.self.inside.rule n)) c.reserve-2.ensures.nib work)));
     }
 
@@ -60,6 +61,7 @@ invariant_of-self-in_err-reserve c =
       row = c.self.invariant.row;
       filling = λ work unused. rw (c.grow.ensures.items, c.grow-2.ensures.items, c.grow-3.ensures.items) (c.self.invariant.filling work (sym c.reserve.ensures.used ∙ unused));
       tabled = λ work used. rw c.grow.ensures.items (c.reserve.ensures.tabled c.self.inside.rule c.self.inside.lines.items (c.self.invariant.tabled work (sym c.reserve.ensures.used ∙ used)));
+      counted = λ used. rw c.grow-3.ensures.items (c.self.invariant.counted (sym c.reserve.ensures.used ∙ used));
       stroking = λ work. rw c.grow.ensures.items (c.self.invariant.stroking work);
     }
 
@@ -89,6 +91,7 @@ invariant_of-self-in_err-grow_spans c =
       row = c.self.invariant.row;
       filling = λ work unused. rw (c.grow.ensures.items, c.grow-2.ensures.items, c.grow-3.ensures.items) (c.self.invariant.filling work (sym c.reserve.ensures.used ∙ unused));
       tabled = λ work used. rw c.grow.ensures.items (c.reserve.ensures.tabled c.self.inside.rule c.self.inside.lines.items (c.self.invariant.tabled work (sym c.reserve.ensures.used ∙ used)));
+      counted = λ used. rw c.grow-3.ensures.items (c.self.invariant.counted (sym c.reserve.ensures.used ∙ used));
       stroking = λ work. rw c.grow.ensures.items (c.self.invariant.stroking work);
     }
 
@@ -118,5 +121,6 @@ invariant_of-self-in_err-reserve-2 c =
       row = c.self.invariant.row;
       filling = λ work unused. rw (c.grow.ensures.items, c.grow-2.ensures.items, c.grow-3.ensures.items) (c.self.invariant.filling (subst (λ (n : Nib). IsFillingWork (row_work c.self.inside.work c.self.inside.rule n)) c.reserve-2.ensures.nib work) (sym c.reserve.ensures.used ∙ unused));
       tabled = λ work used. rw c.grow.ensures.items (c.reserve.ensures.tabled c.self.inside.rule c.self.inside.lines.items (c.self.invariant.tabled (subst (λ (n : Nib). IsFillingWork (row_work c.self.inside.work c.self.inside.rule n)) c.reserve-2.ensures.nib work) (sym c.reserve.ensures.used ∙ used)));
+      counted = λ used. rw c.grow-3.ensures.items (c.self.invariant.counted (sym c.reserve.ensures.used ∙ used));
       stroking = λ work. rw c.grow.ensures.items (stroking_grows c.self.inside.lines.items c.self.inside.next c.self.inside.room c.self.inside.room c.self.inside.strokes c.reserve-2.new.self (omega arith) c.reserve-2.ensures.strokes c.reserve-2.ensures.have c.reserve-2.ensures.count c.reserve-2.ensures.nib (c.self.invariant.stroking (subst (λ (n : Nib). IsStrokingWork (row_work c.self.inside.work c.self.inside.rule n)) c.reserve-2.ensures.nib work)));
     }

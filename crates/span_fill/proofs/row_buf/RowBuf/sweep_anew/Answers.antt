@@ -55,5 +55,6 @@ invariant_of-self c =
       row = c.self.invariant.row;
       filling = λ work unused. in_order c;
       tabled = λ work used. absurd (false≢true (sym c.begin.ensures.unused ∙ used));
+      counted = λ used. absurd (false≢true (sym c.begin.ensures.unused ∙ used));
       stroking = λ h. absurd (not_both _ (subst (λ (s : RowState). IsFillingWork s.work) (sym c.self.view_is) c.requires.filling) h);
     }
