@@ -452,6 +452,31 @@ def unseen_ink():
     return Counted(WMF.file(records, (width, height), 0), width, height)
 
 
+def empty_lists():
+    """A list of points among 400,000 without any, in records that draw on all bands of the largest surface and in a path: in each band they are passed
+    over many at a time."""
+    side, empty = 8192, [BETWEEN] * 50_000
+    lists = *empty, 0, 0, side - 1, side - 1, side - 1, side - 2, *empty
+    records = EMF.records("solid_brush 0 0x206040; select 0")
+    drawn = [EMF.step(name, *lists) for name in ("short_polygons", "short_polylines")]
+    records += [*drawn, EMF.step("begin_path"), *drawn, EMF.step("end_path"), EMF.step("stroke_and_fill_path")]
+    return Counted(EMF.file(records, side, 16), side, side)
+
+
+def strokes_in_either_order():
+    """Strokes of flat and of upright lines on a wide surface, sixteen of the ones before many of the others, and the same the other way about: the
+    order of a stroke's lines tells nothing."""
+    chance, width, height = random.Random(22), 8192, 64
+    flat = [(0, row, width - 1, row + 1) for row in range(height - 1)] * 16
+    upright = [(column, 0, column + 1, height - 1) for column in chance.sample(range(width - 1), 1_000)]
+    records = []
+    for few, many in ((flat, upright), (upright, flat)):
+        for lines in (few[:16] + many, many + few[:16]):
+            words = [word for line in lines for word in (BETWEEN, *line)]
+            records.append(EMF.step("short_polylines", *words[1:]))
+    return Counted(EMF.file(records, (width, height), 16), width, height)
+
+
 FILES = {
     "10,000 small triangles, 64 by 8,192": triangles,
     "a zigzag of 20,000 points, 4,096 by 16": zigzag,
@@ -493,6 +518,8 @@ FILES = {
     "a polygon of 100,000 short edges, 64 by 8,192": edges_of_one_row,
     "160 upright and flat polylines, 8,192 by 96": long_polylines,
     "tiles and blits of which little is seen": unseen_ink,
+    "empty lists beside a list of points": empty_lists,
+    "4 strokes of flat and upright lines, 8,192 by 64": strokes_in_either_order,
 }
 
 # How many times the instructions on record a file may take, where that is less than for others: what it is to show is a part of its work.

@@ -28,7 +28,7 @@ BAND = 3 * 1024 * 1088
 LITTLE = MIB
 
 # How many bytes a line of a drawing takes in all lists of a buffer of rows, and a piece of a path in its own.
-LINE, PIECE = 376, 96
+LINE, PIECE = 392, 96
 
 # How many lines make these lists long.
 LONG = 1 << 17
@@ -183,7 +183,7 @@ class CertifiedMemory(unittest.TestCase):
 
     @for_each_program
     def test_what_needs_little_takes_little(self, program):
-        # Room for any drawing would be 376 MiB, and for any path 6 MiB.
+        # Room for any drawing would be 392 MiB, and for any path 6 MiB.
         for form in FORMS:
             for script in DRAWINGS:
                 self.check(program, form, script)
@@ -196,10 +196,6 @@ class CertifiedMemory(unittest.TestCase):
             self.check(program, EMF, script)
 
 
-# How many bytes an entry of a certificate takes while it is prepared.
-ENTRY = 24
-
-
 def grown(count):
     """The room of a list that has grown to so many: a power of two."""
     return 1 << (count - 1).bit_length()
@@ -208,19 +204,25 @@ def grown(count):
 class HeldOnce(unittest.TestCase):
     """What is large is held once, beside what is made of it."""
 
-    @for_each_program
-    def test_a_certificate_of_many_drawings_is_held_beside_its_entries(self, program):
-        drawings = 100_000
-        given = WMF.file(WMF.records("pixel 1 1") * drawings, SIDE, 0)
+    def check(self, program, script, text, room):
+        """A file of these records, whose certificate has so many bytes, is prepared and shown within file, certificate and so much room."""
+        given = WMF.file(WMF.records(script), SIDE, 0)
         with tempfile.TemporaryDirectory() as folder:
             file, certificate = pathlib.Path(folder, "file"), pathlib.Path(folder, "certificate")
             file.write_bytes(given)
-            text = 40 + 20 * drawings
-            limit = bare(program) + grown(len(given)) + ENTRY * grown(drawings) + text + LITTLE
+            limit = bare(program) + len(given) + text + room
             words = ["prepare", file, str(SIDE), str(SIDE), certificate]
-            self.assertEqual(answer_within(limit, program, words), Answer(0, b"", b""))
-            self.assertEqual(certificate.stat().st_size, text)
-            self.assertEqual(answer_within(limit, program, ["show", file, str(SIDE), str(SIDE)]).status, 0)
+            self.assertEqual(answer_within(limit, program, words), Answer(0, b"", b""), script)
+            self.assertEqual(certificate.stat().st_size, text, script)
+            self.assertEqual(answer_within(limit, program, ["show", file, str(SIDE), str(SIDE)]).status, 0, script)
+
+    @for_each_program
+    def test_entries_are_held_as_their_certificate_alone(self, program):
+        drawings = 1_048_000
+        self.check(program, f"{drawings}x pixel 1 1", 40 + 20 * drawings, 16 * MIB)
+        wide = "styled_pen 0 0 5 0; select 0; rectangle 0 0 9 9"
+        for script in [f"{drawings - 9}x pixel 1 1; {wide}", f"{wide}; {drawings - 9}x pixel 1 1"]:
+            self.check(program, script, 40 + 24 * (drawings - 8), 16 * MIB)
 
     @for_each_program
     def test_an_image_is_held_beside_the_surface_that_it_is_played_on(self, program):

@@ -16,7 +16,6 @@ OTHERS = {
     "From": "a trait of the toolchain's",
     "assert_eq!": "a macro of the toolchain's",
     "Global": "a type of the toolchain's",
-    "MPC2": "bytes of one that has nibs",
     "cannot read": "what standard error tells",
     "cannot write": "what standard error tells",
     "cc": "a program",
@@ -27,12 +26,10 @@ OTHERS = {
     "rattle-kit-13f logic dac8208d650f15bf": "a version of the toolchain",
     "rt": "a program",
     "rt version": "a program",
-    "search rules": "an answer of a proof",
     "serde_json": "a library",
     "specs/": "a folder of each crate",
     "try": "a word of the launcher",
     "valgrind": "a program",
-    "write_all": "a function of the toolchain's",
 }
 
 # What a line that tells something, or a command line, begins with.
@@ -93,8 +90,8 @@ class Layers(unittest.TestCase):
         layers = {name for name in CRATES if not name.startswith("example_")} - tests
         self.assertEqual(in_rows & CRATES.keys(), layers)
         self.assertEqual(tests - set(quoted(text)), set())
-        numbers = {3: "three", 4: "four", 5: "five", 6: "six", 16: "Sixteen", 17: "Seventeen", 18: "Eighteen", 19: "Nineteen"}
-        self.assertRegex(text.split("\n")[2], f"{numbers[len(layers)]} crates, .* and {numbers[len(tests)]} of tests")
+        numbers = {3: "three", 4: "four", 5: "five", 6: "six", 16: "sixteen", 17: "seventeen", 18: "eighteen", 19: "nineteen"}
+        self.assertIn(f"{numbers[len(layers)]} crates, and {numbers[len(tests)]} of tests", text.split("\n")[2])
 
 
 if __name__ == "__main__":

@@ -5,7 +5,7 @@ ghost use Rattle.mapping.specs.Limits.{IsSurfaceSide};
 ghost use Rattle.preflight_cert.specs.Reached.{OpensBoth};
 ghost use Rattle.commands.specs.Ends.{Tells, Writes, WritesDone};
 ghost use Rattle.commands.specs.Failures.{FailsWith};
-ghost use Rattle.commands.specs.Tasks.{play};
+ghost use Rattle.commands.specs.Tasks.{asked_play, play};
 
 use crate::command_end::{CommandEnd, Completion};
 use crate::failure::{Failure, ending, failure_of};
@@ -57,8 +57,8 @@ fn play_checked<O: FaultCount>(
     out: &mut O,
 ) -> Result<(), Failure>
     requires room { O.fault_count out.old < 2 ^ 64 - 1 }
-    ensures done { OnOk result (WritesDone (play file.now certificate.now asked.width asked.height) O.contents out.old out.new) }
-    ensures failed { IfErr result (FailsWith (play file.now certificate.now asked.width asked.height) O.contents out.old out.new) }
+    ensures done { OnOk result (WritesDone (asked_play file.now certificate.now asked) O.contents out.old out.new) }
+    ensures failed { IfErr result (FailsWith (asked_play file.now certificate.now asked) O.contents out.old out.new) }
     ensures memory { IfErr result (λ failure. failure ≡ Failure.OutOfMemory → OpensBoth file.now certificate.now) }
     ensures fault { IfErr result (λ failure. failure ≡ Failure.CannotWrite → O.fault_count out.old < O.fault_count out.new) }
     ensures flushed { OnOk result (O.is_flushed out.new ≡ true) }

@@ -1,6 +1,6 @@
 //! What `clap` shows, on its way to a writer that counts its faults.
 
-ghost use Rattle.std.specs.Prelude.{◌<◌, OnErr};
+ghost use Rattle.std.specs.Prelude.{◌<◌, ◌≤◌, OnErr, OnOk};
 
 use canvas::{FaultCount, WriteFault, send_counted};
 use std::fmt;
@@ -21,13 +21,14 @@ impl<W: FaultCount> fmt::Write for Shown<'_, W> {
     }
 }
 
-/// Shows an error of `clap` on a writer, whose faults are the only reason for a `WriteFault`.
+/// Shows an error of `clap` on a writer: `WriteFault` exactly where the writer had a fault meanwhile.
 pub(crate) fn show_error<W: FaultCount>(error: &clap::Error, out: &mut W) -> Result<(), WriteFault>
-    ensures { OnErr result (W.fault_count out.old < W.fault_count out.new) }
+    ensures failed { OnErr result (W.fault_count out.old < W.fault_count out.new) }
+    ensures shown { OnOk result (W.fault_count out.new ≤ W.fault_count out.old) }
 {
     let before = out.faults();
-    let shown = write!(Shown { out }, "{error}");
-    if shown.is_err() && before < out.faults() {
+    let _ = write!(Shown { out }, "{error}");
+    if before < out.faults() {
         return Err(WriteFault);
     }
     Ok(())

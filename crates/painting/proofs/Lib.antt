@@ -15,6 +15,7 @@ pub mod LandingLemmas
 pub mod LandedBoxLemmas
 pub mod MissedLemmas
 pub mod CountLemmas
+pub mod EmptyListLemmas
 pub mod OutlineLemmas
 pub mod DrawingLemmas
 pub mod DotLemmas

@@ -20,6 +20,7 @@ pub mod PaintsOfLayers
 pub mod SourceRows
 pub mod Blits
 pub mod Strips
+pub mod StrokedLines
 pub mod LinePixels
 pub mod Stamps
 pub mod StampsInside

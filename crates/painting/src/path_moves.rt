@@ -145,7 +145,8 @@ impl<'a> PieceMoves<'a> {
             if let Some(step) = self.list.next_move() {
                 return Some(step);
             }
-            let Some((points, rest)) = self.lists.split_first() else {
+            // A piece may have millions of lists without points, and each band goes through them.
+            let Some((points, rest)) = self.lists.after_empty().split_first() else {
                 let end = self.end?;
                 self.end = None;
                 return Some(Move::End(end));

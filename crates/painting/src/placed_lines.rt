@@ -99,7 +99,7 @@ fn count_open(lists: Polys<'_>) -> usize
 {
     let mut count = count_points(lists.points());
     let mut rest = lists;
-    while let Some((points, others)) = rest.split_first() {
+    while let Some((points, others)) = rest.after_empty().split_first() {
         count -= points.len().min(1);
         rest = others;
     }
@@ -124,7 +124,8 @@ impl<'a> Outline for PlacedLines<'a> {
             if let Some(line) = PlacedLines::next_of(&mut self.current) {
                 return Some(line);
             }
-            let Some((points, rest)) = self.lists.split_first() else {
+            // A record may have millions of lists without points, and each band goes through them.
+            let Some((points, rest)) = self.lists.after_empty().split_first() else {
                 return None;
             };
             self.current = Some(ListLines::new(self.by, self.ends, points));

@@ -4,8 +4,9 @@ ghost use Rattle.std.specs.Prelude.{◌≤◌, ◌⊎◌, IfOk};
 ghost use Rattle.dc_stack.specs.Drawing.{edge_limit};
 
 use crate::ink_room::InkRoom;
+use crate::mark_costs::FEW_POINTS;
 use crate::stamps::Stamps;
-use span_fill::{OutOfMemory, RowBuf, StrokeMask};
+use span_fill::{Line, OutOfMemory, RowBuf, StrokeMask};
 use std::alloc::Global;
 
 /// The most lines of one drawing.
@@ -24,12 +25,14 @@ pub struct DrawingRoom {
     pub(crate) marks: Option<Stamps>,
     /// A mask for those by wide pens, where a drawing has several lines and a pen is wide.
     pub(crate) mask: Option<StrokeMask>,
+    /// The lines of a stroke, where a drawing has many.
+    pub(crate) copies: Vec<Line>,
     /// Room for the pixels of a row.
     pub(crate) inks: InkRoom,
 }
 
 impl DrawingRoom {
-    /// Room for drawings of so many lines, or for any, which takes 376 MiB; or `OutOfMemory` where that was refused. Strokes by wide pens are
+    /// Room for drawings of so many lines, or for any, which takes 392 MiB; or `OutOfMemory` where that was refused. Strokes by wide pens are
     /// painted without room for them, too, but many lines take longer then.
     pub fn for_lines(
         alloc: Global,
@@ -42,10 +45,12 @@ impl DrawingRoom {
         let rows = rows_for(alloc, lines)?;
         let marks = marks_for(alloc, lines)?;
         let mask = mask_for(alloc, lines, has_wide_pens)?;
+        let copies = copies_for(alloc, lines)?;
         Ok(DrawingRoom {
             rows,
             marks,
             mask,
+            copies,
             inks,
         })
     }
@@ -67,6 +72,18 @@ fn marks_for(alloc: Global, lines: u32) -> Result<Option<Stamps>, OutOfMemory> {
     }
     let marks = Stamps::new(alloc)?;
     Ok(Some(marks))
+}
+
+/// Room for the lines of a stroke, where a drawing has many.
+fn copies_for(alloc: Global, lines: u32) -> Result<Vec<Line>, OutOfMemory> {
+    let mut copies = Vec::new(alloc);
+    if lines <= FEW_POINTS {
+        return Ok(copies);
+    }
+    match copies.reserve(MAX_LINES.min(lines) as usize) {
+        Ok(()) => Ok(copies),
+        Err(_) => Err(OutOfMemory),
+    }
 }
 
 /// A mask, where a drawing has several lines and a pen is wide.

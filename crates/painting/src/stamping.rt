@@ -10,7 +10,6 @@ ghost use Rattle.painting.specs.Stamping.{StampsLine};
 ghost use Rattle.painting.specs.Stamps.{is_taken};
 
 use crate::line_pixels::LinePixels;
-use crate::mark_costs::marks_pay;
 use crate::regions::whole_law;
 use crate::stamps::Stamps;
 use crate::untaken_pixels::UntakenPixels;
@@ -19,13 +18,8 @@ use dc_stack::Clip;
 use mapping::Mix;
 use span_fill::{Line, Outline, Region, line_law};
 
-/// Begins with the marks of a box, if it has few enough pixels, a clip cuts nothing out, and marks pay for these lines.
-pub(crate) fn begin_stamps<O: Outline + Copy>(
-    stamps: &mut Stamps,
-    outline: O,
-    clip: &Clip,
-    drawn: Region,
-) -> bool
+/// Begins with the marks of a box, if it has few enough pixels and a clip cuts nothing out.
+pub(crate) fn begin_stamps(stamps: &mut Stamps, clip: &Clip, drawn: Region) -> bool
     requires columns { IsOfSide drawn.columns }
     requires rows { IsOfSide drawn.rows }
     ensures uncut { IsTrue result → (placed_value clip.now).cuts ≡ [] }
@@ -33,9 +27,6 @@ pub(crate) fn begin_stamps<O: Outline + Copy>(
     ensures none { IsTrue result → (x y : ℕ) → is_taken stamps.new x y ≡ false }
 {
     if !clip.cut_boxes().is_empty() {
-        return false;
-    }
-    if !marks_pay(outline, drawn) {
         return false;
     }
     stamps.begin(drawn)

@@ -1,18 +1,23 @@
 //! The one way in which lines are stroked.
 
-ghost use Rattle.std.specs.Prelude.{◌≡◌, ◌<◌, ◌≤◌, length};
+ghost use Rattle.std.specs.Prelude.{◌≡◌, ◌<◌, ◌≤◌, ℕ, [], false, length};
+ghost use Rattle.std.specs.List.{All};
 ghost use Rattle.dc_stack.specs.Values.{placed_value};
 ghost use Rattle.preflight_cert.specs.Rectangles.{rectangle_lines};
 ghost use Rattle.mapping.specs.Nibs.{IsNib};
+ghost use Rattle.span_fill.specs.Lines.{HasNearEnds};
 ghost use Rattle.span_fill.specs.WideStrokes.{in_wide_stroke, one_pixel};
 ghost use Rattle.painting.specs.Counts.{CountsLayer, HasRoomForLayer};
-ghost use Rattle.painting.specs.Painted.{PaintsShape};
-ghost use Rattle.painting.specs.PenStrokes.{stroke_paint};
+ghost use Rattle.painting.specs.Parts.{HasPart};
 ghost use Rattle.painting.specs.RectangleBoxes.{IsNearBox};
-ghost use Rattle.painting.specs.Regions.{HasNarrowNib, HasVisible, HoldShape, IsOfSide};
+ghost use Rattle.painting.specs.Regions.{HasNarrowNib, HoldShape, IsOfSide};
+ghost use Rattle.painting.specs.Stamps.{is_taken};
+ghost use Rattle.painting.specs.StrokedLines.{HasStroke, StrokesLines};
+ghost use Rattle.painting.specs.declared.parts.Part.TheVariants.{Lines};
 
 use crate::line_steps::step_line;
 use crate::lone_line::lone_line;
+use crate::mark_costs::{are_copied, copy_lines, marks_pay};
 use crate::parts::{Part, paint_rows};
 use crate::rectangles::{LineList, box_lines, has_inside};
 use crate::regions::{Bounds, visible_in, whole_law};
@@ -20,6 +25,7 @@ use crate::room::DrawingRoom;
 use crate::row_ink::full;
 use crate::row_painter::{Inks, RowPainter};
 use crate::stamping::{begin_stamps, stamp_lines};
+use crate::stamps::Stamps;
 use crate::stroke::Stroke;
 use crate::wide_stroking::stroke_wide_lines;
 use crate::widening::widened;
@@ -49,7 +55,7 @@ pub(crate) fn stroke_lines<O: Outline + Copy>(
     requires nib { IsNib stroke.now.nib }
     requires bounded { HasNarrowNib lines.bounds }
     requires within { HoldShape lines.bounds (in_wide_stroke stroke.now.nib (O.lines lines.outline)) }
-    ensures pixels { PaintsShape (stroke_paint stroke.now) (in_wide_stroke stroke.now.nib (O.lines lines.outline)) canvas.old canvas.new }
+    ensures pixels { StrokesLines stroke.now.nib stroke.now (O.lines lines.outline) canvas.old canvas.new }
     ensures few { CountsLayer canvas.old canvas.new }
     ensures room { room.new.rows.room ≡ room.old.rows.room }
 {
@@ -61,7 +67,7 @@ pub(crate) fn stroke_lines<O: Outline + Copy>(
 }
 
 /// The same by a nib of one pixel: a lone line by its steps, and several by marks, where these can be taken and cost less than rows of spans,
-/// and else by those.
+/// and else by those. Where many lines are judged they are copied first, so that each is placed once.
 fn stroke_thin_lines<O: Outline + Copy>(
     canvas: &mut Canvas,
     room: &mut DrawingRoom,
@@ -73,7 +79,7 @@ fn stroke_thin_lines<O: Outline + Copy>(
     requires nib { stroke.now.nib ≡ one_pixel }
     requires bounded { HasNarrowNib lines.bounds }
     requires within { HoldShape lines.bounds (in_wide_stroke one_pixel (O.lines lines.outline)) }
-    ensures pixels { PaintsShape (stroke_paint stroke.now) (in_wide_stroke one_pixel (O.lines lines.outline)) canvas.old canvas.new }
+    ensures pixels { StrokesLines one_pixel stroke.now (O.lines lines.outline) canvas.old canvas.new }
     ensures few { CountsLayer canvas.old canvas.new }
     ensures room { room.new.rows.room ≡ room.old.rows.room }
 {
@@ -86,13 +92,76 @@ fn stroke_thin_lines<O: Outline + Copy>(
         return;
     }
     let drawn = visible_in(canvas, stroke.clip, lines.bounds.on_surface());
-    if let Some(stamps) = &mut room.marks {
-        if begin_stamps(stamps, outline, stroke.clip, drawn) {
-            stamp_lines(canvas, stamps, outline, stroke.mix);
+    if are_copied(lines.points, drawn, stroke.clip) {
+        if let Some(pays) = copy_lines(outline, &mut room.copies, drawn) {
+            stroke_copies(canvas, room, pays, drawn, stroke);
             return;
         }
     }
+    if marks_pay(outline, drawn, stroke.clip) {
+        if let Some(stamps) = &mut room.marks {
+            if begin_stamps(stamps, stroke.clip, drawn) {
+                stroke_by_marks(canvas, stamps, outline, stroke);
+                return;
+            }
+        }
+    }
     stroke_rows(canvas, room, outline, drawn, stroke);
+}
+
+/// Strokes the lines that were copied, by marks, where these pay, or by rows of spans, in a region that has what is seen of them.
+fn stroke_copies(
+    canvas: &mut Canvas,
+    room: &mut DrawingRoom,
+    pays: bool,
+    drawn: Region,
+    stroke: &Stroke<'_>,
+)
+    requires countable { HasRoomForLayer canvas.old }
+    requires room { length room.old.copies.items ≤ room.old.rows.room }
+    requires near { All HasNearEnds room.old.copies.items }
+    requires nib { stroke.now.nib ≡ one_pixel }
+    requires visible { HasStroke one_pixel stroke.now room.old.copies.items canvas.old drawn }
+    requires columns { IsOfSide drawn.columns }
+    requires rows { IsOfSide drawn.rows }
+    ensures pixels { StrokesLines one_pixel stroke.now room.old.copies.items canvas.old canvas.new }
+    ensures few { CountsLayer canvas.old canvas.new }
+    ensures room { room.new.rows.room ≡ room.old.rows.room }
+{
+    let mut outline = LineList {
+        rest: room.copies.as_slice(),
+    };
+    if pays {
+        if let Some(stamps) = &mut room.marks {
+            if begin_stamps(stamps, stroke.clip, drawn) {
+                stroke_by_marks(canvas, stamps, outline, stroke);
+                return;
+            }
+        }
+    }
+    room.rows
+        .begin_stroke(&mut outline, stroke.nib, drawn.rows.from);
+    paint_begun(canvas, room, drawn, stroke);
+}
+
+/// Strokes the lines of an outline by marks of a region that has what is seen of them. None of the marks is taken yet.
+fn stroke_by_marks<O: Outline + Copy>(
+    canvas: &mut Canvas,
+    stamps: &mut Stamps,
+    outline: O,
+    stroke: &Stroke<'_>,
+)
+    requires countable { HasRoomForLayer canvas.old }
+    requires uncut { (placed_value stroke.now.clip.now).cuts ≡ [] }
+    requires none { (x y : ℕ) → is_taken stamps.old x y ≡ false }
+    requires visible { HasStroke one_pixel stroke.now (O.lines outline) canvas.old stamps.old.region }
+    ensures pixels { StrokesLines one_pixel stroke.now (O.lines outline) canvas.old canvas.new }
+    ensures few { CountsLayer canvas.old canvas.new }
+{
+    writing_law();
+    wide_stroke_law();
+    whole_law(canvas);
+    stamp_lines(canvas, stamps, outline, stroke.mix);
 }
 
 /// Strokes the lines of an outline by rows of spans, in a region that has what is seen of them.
@@ -106,9 +175,9 @@ pub(crate) fn stroke_rows<O: Outline + Copy>(
     requires countable { HasRoomForLayer canvas.old }
     requires room { length (O.lines outline) ≤ room.old.rows.room }
     requires nib { IsNib stroke.now.nib }
-    requires visible { HasVisible (placed_value stroke.now.clip.now) (in_wide_stroke stroke.now.nib (O.lines outline)) canvas.old drawn }
+    requires visible { HasStroke stroke.now.nib stroke.now (O.lines outline) canvas.old drawn }
     requires rows { IsOfSide drawn.rows }
-    ensures pixels { PaintsShape (stroke_paint stroke.now) (in_wide_stroke stroke.now.nib (O.lines outline)) canvas.old canvas.new }
+    ensures pixels { StrokesLines stroke.now.nib stroke.now (O.lines outline) canvas.old canvas.new }
     ensures few { CountsLayer canvas.old canvas.new }
     ensures room { room.new.rows.room ≡ room.old.rows.room }
 {
@@ -120,6 +189,19 @@ pub(crate) fn stroke_rows<O: Outline + Copy>(
     let mut lines = outline;
     room.rows
         .begin_stroke(&mut lines, stroke.nib, drawn.rows.from);
+    paint_begun(canvas, room, drawn, stroke);
+}
+
+/// Paints the rows of a stroke that was begun with at the first row of a region, which has what is seen of it.
+fn paint_begun(canvas: &mut Canvas, room: &mut DrawingRoom, drawn: Region, stroke: &Stroke<'_>)
+    requires countable { HasRoomForLayer canvas.old }
+    requires begun { HasPart (Lines stroke.now.nib) drawn.rows stroke.now.clip.now drawn.columns room.old.rows canvas.old }
+    ensures pixels { StrokesLines stroke.now.nib stroke.now room.old.rows.lines canvas.old canvas.new }
+    ensures few { CountsLayer canvas.old canvas.new }
+    ensures room { room.new.rows.room ≡ room.old.rows.room }
+{
+    writing_law();
+    whole_law(canvas);
     let painter = RowPainter {
         clip: stroke.clip,
         columns: drawn.columns,
@@ -139,7 +221,7 @@ pub(crate) fn stroke_box(
     requires room { 4 ≤ room.old.rows.room }
     requires near { IsNearBox inside }
     requires nib { IsNib stroke.now.nib }
-    ensures pixels { PaintsShape (stroke_paint stroke.now) (in_wide_stroke stroke.now.nib (rectangle_lines inside)) canvas.old canvas.new }
+    ensures pixels { StrokesLines stroke.now.nib stroke.now (rectangle_lines inside) canvas.old canvas.new }
     ensures few { CountsLayer canvas.old canvas.new }
     ensures room { room.new.rows.room ≡ room.old.rows.room }
 {

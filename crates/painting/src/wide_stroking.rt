@@ -1,15 +1,13 @@
 //! Strokes by nibs of several pixels.
 
 ghost use Rattle.std.specs.Prelude.{◌≡◌, ◌≤◌, [], ◌∷◌, length};
-ghost use Rattle.dc_stack.specs.Values.{placed_value};
 ghost use Rattle.mapping.specs.Nibs.{IsNib};
 ghost use Rattle.span_fill.specs.Lines.{HasNearEnds};
 ghost use Rattle.span_fill.specs.StrokeMasks.{HasMaskRoom};
 ghost use Rattle.span_fill.specs.WideStrokes.{in_wide_stroke};
 ghost use Rattle.painting.specs.Counts.{CountsLayer, HasRoomForLayer};
-ghost use Rattle.painting.specs.Painted.{PaintsShape};
-ghost use Rattle.painting.specs.PenStrokes.{stroke_paint};
 ghost use Rattle.painting.specs.Regions.{HasNarrowNib, HasRegion, HoldShape, IsOfSide};
+ghost use Rattle.painting.specs.StrokedLines.{StrokesLines};
 ghost use Rattle.painting.specs.WideSpans.{MixesWide};
 
 use crate::lone_line::lone_line;
@@ -35,7 +33,7 @@ pub(crate) fn stroke_wide_lines<O: Outline + Copy>(
     requires nib { IsNib stroke.now.nib }
     requires bounded { HasNarrowNib lines.bounds }
     requires within { HoldShape lines.bounds (in_wide_stroke stroke.now.nib (O.lines lines.outline)) }
-    ensures pixels { PaintsShape (stroke_paint stroke.now) (in_wide_stroke stroke.now.nib (O.lines lines.outline)) canvas.old canvas.new }
+    ensures pixels { StrokesLines stroke.now.nib stroke.now (O.lines lines.outline) canvas.old canvas.new }
     ensures few { CountsLayer canvas.old canvas.new }
     ensures room { room.new.rows.room ≡ room.old.rows.room }
 {

@@ -152,6 +152,18 @@ fn a_plain_flush_answers_as_the_writer_does(rt: HostRuntime) -> Result<(), Fail>
 }
 
 #[test]
+fn a_plain_flush_fails_after_each_count_of_faults(rt: HostRuntime) -> Result<(), Fail> {
+    let mut out = Counting::new(Stuck::new(rt.alloc(), usize::MAX));
+    for count in 0..1000 {
+        assert!(rt; out.faults() == count);
+        same(&rt, out.flush().is_ok(), false);
+        assert!(rt; out.faults() == count);
+        same(&rt, out.flush_counted().is_ok(), false);
+    }
+    Ok(())
+}
+
+#[test]
 fn a_flush_that_fails_is_counted(rt: HostRuntime) -> Result<(), Fail> {
     let mut out = Counting::new(Stuck::new(rt.alloc(), 2));
     assert!(rt; out.faults() == 0);

@@ -3,6 +3,8 @@
 #![tactic(auto)]
 
 #[cfg(test)]
+mod band_sizes;
+#[cfg(test)]
 mod bands;
 #[cfg(test)]
 mod canvases;
@@ -14,11 +16,17 @@ mod comparing;
 mod counted_writers;
 mod dot;
 #[cfg(test)]
+mod empty_lists;
+#[cfg(test)]
 mod faults;
 #[cfg(test)]
 mod headers;
 #[cfg(test)]
+mod image_sizes;
+#[cfg(test)]
 mod images;
+#[cfg(test)]
+mod line_list;
 #[cfg(test)]
 mod lists_of_points;
 #[cfg(test)]
@@ -32,11 +40,17 @@ mod records_of_emf;
 #[cfg(test)]
 mod records_of_wmf;
 #[cfg(test)]
+mod row_crossings;
+#[cfg(test)]
 mod rows;
+#[cfg(test)]
+mod sent_lengths;
 #[cfg(test)]
 mod sizes;
 #[cfg(test)]
 mod sources;
+#[cfg(test)]
+mod table_indexes;
 #[cfg(test)]
 mod tables;
 #[cfg(test)]

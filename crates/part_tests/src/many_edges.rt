@@ -6,31 +6,11 @@ ghost use Rattle.span_fill.specs.Lines.{HasNearEnds};
 ghost use Rattle.span_fill.specs.RowState.{IsFillingWork, SameWork, filling};
 
 use crate::comparing::same;
+use crate::line_list::{LineList, put_lines};
 use mapping::Point;
-use span_fill::{FillRule, Line, Outline, RowBuf, Span};
+use span_fill::{FillRule, Line, RowBuf, Span};
 use std::process::Abort;
 use std::test::Fail;
-
-/// Lines of a slice that are to come.
-#[derive(Clone, Copy, Debug, Drop)]
-struct LineList<'l> {
-    rest: &'l [Line],
-    ghost near: { All HasNearEnds rest.now },
-}
-
-impl<'l> Outline for LineList<'l> {
-    ghost lines = { λ list. list.rest.now };
-
-    fn count(&self) -> usize {
-        self.rest.len()
-    }
-
-    fn next_line(&mut self) -> Option<Line> {
-        let (first, rest) = self.rest.split_first()?;
-        self.rest = rest;
-        Some(*first)
-    }
-}
 
 /// A line on the left side of a column, through the rows from one on up to before another.
 fn upright(column: u8, top: u8, bottom: u8, is_down: bool) -> Line
@@ -56,18 +36,6 @@ fn upright(column: u8, top: u8, bottom: u8, is_down: bool) -> Line
             to: upper,
         }
     }
-}
-
-/// The same line so many times, after those that are there.
-fn put_lines(lines: &mut Vec<Line>, count: usize, line: Line) -> Result<(), Fail>
-    requires line { HasNearEnds line }
-    requires lines { All HasNearEnds lines.old.items }
-    ensures { All HasNearEnds lines.new.items }
-{
-    for _ in 0..count {
-        lines.push(line)?;
-    }
-    Ok(())
 }
 
 /// Columns 5, 2, 7, 0, 4, 1, 6 and 3 have a line through rows 0 to 11 each: downwards on the even columns, upwards on the

@@ -3,18 +3,13 @@
 use canvas::Canvas;
 use mapping::Colour;
 use object_tables::{Given, LowestFree, Table};
-use span_fill::RowBuf;
+use span_fill::{OutOfMemory, RowBuf};
 use std::alloc::Global;
 
-/// Powers of two above the counts that are tried one by one, and the counts beside them.
-const BESIDE_POWERS: [usize; 16] = [
-    4095, 4096, 4097, 8191, 8192, 8193, 16383, 16384, 16385, 32767, 32768, 32769, 65534, 65535,
-    65536, 65537,
-];
-
-/// The same up to 2^20, which no count of lines exceeds.
-const GREAT_BESIDE_POWERS: [usize; 11] = [
-    131071, 131072, 131073, 262143, 262144, 262145, 524287, 524288, 524289, 1048575, 1048576,
+/// Powers of two above the counts that are tried one by one, and the counts beside them: no count of lines exceeds 2^20.
+const BESIDE_POWERS: [usize; 14] = [
+    65535, 65536, 65537, 131071, 131072, 131073, 262143, 262144, 262145, 524287, 524288, 524289,
+    1048575, 1048576,
 ];
 
 /// Whether a surface of these sides is made.
@@ -31,6 +26,18 @@ fn has_rows(alloc: Global, lines: usize) -> bool {
         return false;
     }
     RowBuf::new(alloc).reserve(lines).is_ok()
+}
+
+/// Whether rows with room for so many lines get room for one more, for twice as many and for many more.
+fn gets_more(alloc: Global, lines: usize) -> bool {
+    if 100_000 < lines {
+        return false;
+    }
+    let mut rows = RowBuf::new(alloc);
+    rows.reserve(lines).is_ok()
+        && rows.reserve(lines + 1).is_ok()
+        && rows.reserve(2 * lines).is_ok()
+        && rows.reserve(2 * lines + 1_000).is_ok()
 }
 
 /// Whether tables of either kind get room for so many objects.
@@ -61,23 +68,33 @@ fn a_canvas_has_each_two_small_sides(rt: HostRuntime) {
 
 #[test]
 fn rows_have_room_for_each_count_of_lines(rt: HostRuntime) {
-    for lines in 0..10_001 {
+    for lines in 0..40_001 {
         assert!(rt; has_rows(rt.alloc(), lines), "{lines}");
+    }
+    for part in 0..1025 {
+        assert!(rt; has_rows(rt.alloc(), 1023 * part), "{part}");
+        assert!(rt; has_rows(rt.alloc(), 1000 * part), "{part}");
     }
     for lines in BESIDE_POWERS {
-        assert!(rt; has_rows(rt.alloc(), lines), "{lines}");
-    }
-    for lines in GREAT_BESIDE_POWERS {
         assert!(rt; has_rows(rt.alloc(), lines), "{lines}");
     }
 }
 
 #[test]
 fn tables_have_room_for_each_count_of_objects(rt: HostRuntime) {
-    for slots in 0..2050 {
+    for slots in 0..65_537 {
         assert!(rt; has_tables(rt.alloc(), slots), "{slots}");
     }
-    for slots in BESIDE_POWERS {
-        assert!(rt; has_tables(rt.alloc(), slots), "{slots}");
+}
+
+#[test]
+fn rows_that_have_room_get_more(rt: HostRuntime) -> Result<(), OutOfMemory> {
+    let mut rows = RowBuf::new(rt.alloc());
+    for lines in 0..10_001 {
+        rows.reserve(lines)?;
     }
+    for lines in 0..1_001 {
+        assert!(rt; gets_more(rt.alloc(), lines), "{lines}");
+    }
+    Ok(())
 }

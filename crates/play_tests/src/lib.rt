@@ -26,4 +26,6 @@ mod rows_apart;
 #[cfg(test)]
 mod sizes;
 #[cfg(test)]
+mod state_depths;
+#[cfg(test)]
 mod stepping;

@@ -7,12 +7,6 @@ use object_tables::LowestFree;
 use part_tests::DOT;
 use std::alloc::Global;
 
-/// Powers of two above the counts that are tried one by one, and the counts beside them.
-const BESIDE_POWERS: [usize; 16] = [
-    4095, 4096, 4097, 8191, 8192, 8193, 16383, 16384, 16385, 32767, 32768, 32769, 65534, 65535,
-    65536, 65537,
-];
-
 /// Whether a machine gets room for so many saved states, objects and pieces.
 fn has_machine(alloc: Global, depth: usize, slots: usize, pieces: usize) -> bool {
     let Ok(opened) = open_file(&DOT) else {
@@ -33,20 +27,20 @@ fn a_machine_has_room_for_each_depth(rt: HostRuntime) {
 
 #[test]
 fn a_machine_has_room_for_each_count_of_objects(rt: HostRuntime) {
-    for slots in 0..2050 {
-        assert!(rt; has_machine(rt.alloc(), 256, slots, MAX_PIECES), "{slots}");
+    for slots in 0..65_537 {
+        assert!(rt; has_machine(rt.alloc(), 0, slots, 0), "{slots}");
     }
-    for slots in BESIDE_POWERS {
+    for slots in 0..2050 {
         assert!(rt; has_machine(rt.alloc(), 256, slots, MAX_PIECES), "{slots}");
     }
 }
 
 #[test]
 fn a_machine_has_room_for_each_count_of_pieces(rt: HostRuntime) {
-    for pieces in 0..2050 {
-        assert!(rt; has_machine(rt.alloc(), 256, 1024, pieces), "{pieces}");
+    for pieces in 0..65_537 {
+        assert!(rt; has_machine(rt.alloc(), 0, 0, pieces), "{pieces}");
     }
-    for pieces in BESIDE_POWERS {
+    for pieces in 0..2050 {
         assert!(rt; has_machine(rt.alloc(), 256, 1024, pieces), "{pieces}");
     }
 }

@@ -1,9 +1,9 @@
 -- What is gathered record by record is what is gathered of all.
-use Rattle.std.proofs.Common.{◌≡◌, ℕ, ◌+◌, List, [], ◌∷◌, ◌++◌, Option, Some, None, refl, ap, sym, ◌∙◌, arith, append_assoc}
+use Rattle.std.proofs.Common.{◌≡◌, ℕ, ◌+◌, List, ◌++◌, Option, Some, None, refl, ap, sym, subst, ◌∙◌, arith}
 use Rattle.std.specs.List.{All}
 use Rattle.std.proofs.lemmas.List.Elements.{All-append}
 use Rattle.mapping.specs.Surface.{Surface}
-use Rattle.draw_ops.specs.Content.{Content, with_step}
+use Rattle.draw_ops.specs.Content.{Content, nothing_left, with_step}
 use Rattle.draw_ops.specs.OperationOf.{operation_of}
 use Rattle.draw_ops.specs.StepOf.{step_value_of}
 use Rattle.draw_ops.specs.declared.step.Step.{Step}
@@ -16,11 +16,14 @@ use Rattle.dc_stack.specs.MachineState.{HasNib, MachineState, drawing_with}
 use Rattle.dc_stack.specs.declared.draw.Draw.{Draw}
 use Rattle.dc_stack.specs.Next.{next}
 use Rattle.dc_stack.specs.State.{State}
+use Rattle.preflight_cert.specs.DraftOf.{Adds}
 use Rattle.preflight_cert.specs.Drawings.{NumberedDrawing, drawing_then, drawings_of}
 use Rattle.preflight_cert.specs.Gathered.{entry_if_drawn, least_box, least_budget, least_drawing_budget, least_entries, least_entry}
 use Rattle.preflight_cert.specs.TextLaws.{IsEntry}
+use Rattle.preflight_cert.specs.declared.draft.Draft.{Draft}
 use Rattle.preflight_cert.specs.declared.entry.Entry.{Entry}
 use Rattle.preflight_cert.specs.declared.version.Version.TheVariants.{Mpc2}
+use Rattle.preflight_cert.proofs.DraftLemmas.{adds_none, adds_then}
 use Rattle.preflight_cert.proofs.LeastBoxLemmas.{least_is}
 
 abbrev an_entry : ℕ → Rect → Nib → Entry
@@ -58,7 +61,13 @@ module _ (s : Surface) (old new : Content) (step : Step) (state after : State) (
   step_fit here later =
       rw split (All-append (IsEntry Mpc2) (entry_if_drawn step.number drawing s) (least_entries (drawings_of new.steps after) s) here later)
 
-  -- what is gathered up to the step, and the entries of all later ones
-  pub step_entries : (before now : List Entry) → now ≡ before ++ entry_if_drawn step.number drawing s → before ++ least_entries (drawings_of old.steps state) s ≡ now ++ least_entries (drawings_of new.steps after) s
-  step_entries before now gathered =
-      rw (split, gathered) (sym (append_assoc before (entry_if_drawn step.number drawing s) (least_entries (drawings_of new.steps after) s)))
+  -- what is added at the step, and then the entries of all later ones
+  pub step_adds : (old_draft now later : Draft) → Adds old_draft now (entry_if_drawn step.number drawing s)
+      → Adds now later (least_entries (drawings_of new.steps after) s) → Adds old_draft later (least_entries (drawings_of old.steps state) s)
+  step_adds old_draft now later here rest =
+      rw split (adds_then old_draft now later (entry_if_drawn step.number drawing s) (least_entries (drawings_of new.steps after) s) here rest)
+
+-- where nothing is left, nothing is added
+pub adds_ended : (draft : Draft) (left : Content) (state : State) (s : Surface) → left ≡ nothing_left → Adds draft draft (least_entries (drawings_of left.steps state) s)
+adds_ended draft left state s e =
+    subst (λ (content : Content). Adds draft draft (least_entries (drawings_of content.steps state) s)) (sym e) (adds_none draft)

@@ -24,6 +24,7 @@ pub mod ClearedLemmas
 pub mod ClearedSound
 pub mod LeastBoxLemmas
 pub mod PreparationLemmas
+pub mod DraftLemmas
 pub mod GatheredLemmas
 pub mod PreparedLawLemmas
 pub mod PreparedLemmas

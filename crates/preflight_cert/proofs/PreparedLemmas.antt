@@ -1,16 +1,17 @@
 -- What is gathered of an opened file's records is the text of the certificate for it, and that is accepted.
-use Rattle.std.proofs.Common.{◌≡◌, ℕ, ◌<◌, ◌≤◌, ◌^◌, Bool, true, false, ◌&&◌, ◌==◌, if◌then◌else◌, List, [], ◌∷◌, length, Option, Some, None, Ok, refl, ap, sym, subst, ◌∙◌, arith}
+use Rattle.std.proofs.Common.{◌≡◌, ℕ, ◌<◌, ◌≤◌, ◌^◌, suc, Bool, true, false, ◌&&◌, ◌==◌, if◌then◌else◌, List, [], ◌∷◌, length, Option, Some, None, Ok, refl, ap, sym, subst, ◌∙◌, arith}
 use Rattle.std.specs.Prelude.{IfSome}
 use Rattle.std.specs.List.{All, flat_map}
-use Rattle.std.proofs.lemmas.Bool.{and_parts, eqb-true}
+use Rattle.std.proofs.lemmas.Bool.{and_parts}
+use Rattle.std.proofs.lemmas.List.{length-map}
 use Rattle.std.proofs.lemmas.List.Elements.{All-cons, All-head, All-nil, All-tail}
-use Rattle.mapping.specs.declared.nib.Nib.{Nib}
 use Rattle.mapping.specs.BoxLaws.{BoxLaws}
 use Rattle.mapping.specs.Limits.{IsSurfaceSide}
 use Rattle.mapping.specs.Surface.{Surface}
-use Rattle.draw_ops.specs.Content.{Content}
-use Rattle.dc_stack.specs.Drawing.{drawing_points}
+use Rattle.draw_ops.specs.Content.{Content, StepValue}
+use Rattle.dc_stack.specs.Drawing.{Drawing, drawing_of, drawing_points}
 use Rattle.dc_stack.specs.MachineState.{MachineState}
+use Rattle.dc_stack.specs.Next.{next}
 use Rattle.dc_stack.specs.State.{State, start_of}
 use Rattle.dc_stack.specs.declared.needs.Needs.{Needs}
 use Rattle.meta_headers.specs.Headers.{OpenedValue}
@@ -20,19 +21,22 @@ use Rattle.preflight_cert.specs.After.{file_needs, needs_after}
 use Rattle.preflight_cert.specs.Answer.{AnswerLaws, AnswersRead, RecordsAnswer, accepted}
 use Rattle.preflight_cert.specs.CertificateReading.{CertificateValue, entry_limit, read_certificate, slot_limit}
 use Rattle.preflight_cert.specs.CertificateText.{certificate_text, entry_text, text_with}
-use Rattle.preflight_cert.specs.Drawings.{NumberedDrawing, drawings_of}
-use Rattle.preflight_cert.specs.Gathered.{Gathers, least_budget, least_entries}
+use Rattle.preflight_cert.specs.DraftOf.{Holds}
+use Rattle.preflight_cert.specs.Drawings.{NumberedDrawing, drawing_then, drawings_of}
+use Rattle.preflight_cert.specs.Gathered.{Gathers, least_budget, least_entries, least_entry}
 use Rattle.preflight_cert.specs.NeedLaws.{NeedLaws}
 use Rattle.preflight_cert.specs.Preparation.{AreLeast, IsPrepared, PreparesRecords, have_single_pixels, version_for}
 use Rattle.preflight_cert.specs.PreparationLaws.{PreparationLaws}
 use Rattle.preflight_cert.specs.Stop.{stop_of}
 use Rattle.preflight_cert.specs.TextLaws.{IsCertificate, IsEntry, TextLaws}
 use Rattle.preflight_cert.specs.TextParts.{head_value}
+use Rattle.preflight_cert.specs.declared.draft.Draft.{Draft}
 use Rattle.preflight_cert.specs.declared.entry.Entry.{Entry}
+use Rattle.preflight_cert.specs.declared.version.Version.{Version}
 use Rattle.preflight_cert.specs.declared.version.Version.TheVariants.{Mpc1, Mpc2}
-use Rattle.span_fill.specs.WideStrokes.{one_pixel}
 use Rattle.preflight_cert.specs.declared.walk.Totals.{Totals}
 use Rattle.preflight_cert.specs.declared.writing.Head.{Head}
+use Rattle.preflight_cert.proofs.DraftLemmas.{one_is, short_text}
 use Rattle.preflight_cert.proofs.LeastBoxLemmas.{is_least}
 use Rattle.preflight_cert.proofs.StartLemmas.{IsAtStart}
 
@@ -70,14 +74,6 @@ unfolding entry_limit
 few_entries n h = omega (arith, h)
 
 -- entries fit the version that is chosen for them
-abbrev a_nib : ℕ → ℕ → Nib
-a_nib x y = record { x = x; y = y }
-
-one_is : (nib : Nib) → (nib.x == 1 && nib.y == 1) ≡ true → nib ≡ one_pixel
-one_is nib t =
-    let parts = and_parts (nib.x == 1) (nib.y == 1) t in
-    ap (λ (x : ℕ). a_nib x nib.y) (eqb-true _ _ parts.0) ∙ ap (λ (y : ℕ). a_nib 1 y) (eqb-true _ _ parts.1)
-
 thinned : (entries : List Entry) → have_single_pixels entries ≡ true → All (IsEntry Mpc2) entries → All (IsEntry Mpc1) entries
 thinned [] t all = All-nil (IsEntry Mpc1)
 thinned (entry ∷ entries) t all =
@@ -97,9 +93,20 @@ few_slots None h = omega arith
 few_slots (Some n) h = omega (arith, h)
 
 -- the text of what is gathered
-abbrev pub gathered_text : ℕ → ℕ → ℕ → Needs → List Entry → List ℕ
-gathered_text width height writes needs entries =
-    text_with (version_for entries) (head_value (a_head width height writes needs)) (length entries) (flat_map (entry_text (version_for entries)) entries)
+abbrev pub gathered_text : ℕ → ℕ → ℕ → Needs → Version → List Entry → List ℕ
+gathered_text width height writes needs version entries =
+    text_with version (head_value (a_head width height writes needs)) (length entries) (flat_map (entry_text version) entries)
+
+-- a record draws once at most
+few_then : (number : ℕ) (drawing : Option Drawing) (later : List NumberedDrawing) (n : ℕ) → length later ≤ n → length (drawing_then number drawing later) ≤ suc n
+few_then number None later n h = omega (arith, h)
+few_then number (Some drawing) later n h = omega (arith, h)
+
+few_drawn : (steps : List StepValue) (state : State) → length (drawings_of steps state) ≤ length steps
+few_drawn [] state = omega arith
+few_drawn (step ∷ steps) state =
+    few_then step.number (drawing_of step.operation state) (drawings_of steps (next step.operation state)) (length steps)
+    (few_drawn steps (next step.operation state))
 
 module _ (content : Content) (o : OpenedValue) (records : List ℕ) (width height : ℕ) (m : MachineState) (of_records : HasContentOf o.format records content) (at : IsAtStart o (surface_for o width height) m) where
   abbrev drawings : List NumberedDrawing
@@ -111,12 +118,28 @@ module _ (content : Content) (o : OpenedValue) (records : List ℕ) (width heigh
   same_stop : stop_of content m.state m.surface ≡ stop_of content (start_of o) (surface_for o width height)
   same_stop = ap (λ (state : State). stop_of content state m.surface) at.state ∙ ap (λ (s : Surface). stop_of content (start_of o) s) at.surface
 
-  module _ (noted : List ℕ) (totals : Totals) (new : MachineState) (after : List Entry) (h : Gathers content m [] noted totals new after) where
+  module _ (noted : List ℕ) (totals : Totals) (new : MachineState) (before after : Draft) (none : Holds before []) (h : Gathers content m before noted totals new after) where
     unstopped : stop_of content (start_of o) (surface_for o width height) ≡ None
     unstopped = sym same_stop ∙ h.unstopped
 
-    entries_are : after ≡ made.entries
-    entries_are = h.entries ∙ ap (λ (state : State). least_entries (drawings_of content.steps state) m.surface) at.state ∙ ap (least_entries drawings) at.surface
+    entries_are : least_entries (drawings_of content.steps m.state) m.surface ≡ made.entries
+    entries_are = ap (λ (state : State). least_entries (drawings_of content.steps state) m.surface) at.state ∙ ap (least_entries drawings) at.surface
+
+    pub held : Holds after made.entries
+    held = subst (Holds after) entries_are (h.entries [] none)
+
+    count_is : length made.entries ≤ totals.records
+    count_is =
+        let few = few_drawn content.steps (start_of o) in
+        let records = h.records in
+        let size = length-map drawings (λ (one : NumberedDrawing). least_entry one (surface_for o width height)) in omega (arith, few, records, size)
+
+    -- its bytes are not too many
+    pub room : 40 ≤ length after.text.items
+    room = held.standing.room
+
+    pub short : totals.records ≤ 2 ^ 20 → length after.text.items < 2 ^ 32
+    short few = let count = count_is in short_text after.version after.text.items made.entries held.standing (omega (arith, count, few))
 
     budget_is : totals.writes ≡ made.writes
     budget_is = h.is_budget ∙ ap (λ (state : State). least_budget (drawings_of content.steps state) m.surface) at.state ∙ ap (λ (s : Surface). least_budget drawings s) at.surface
@@ -124,10 +147,10 @@ module _ (content : Content) (o : OpenedValue) (records : List ℕ) (width heigh
     needs_are : new.needs ≡ made.needs
     needs_are = h.needs ∙ ap (λ (state : State). needs_after content.steps state m.needs) at.state ∙ ap (λ (needs : Needs). needs_after content.steps (start_of o) needs) at.needs
 
-    text_is : (text : List ℕ) → text ≡ gathered_text width height totals.writes new.needs after → text ≡ certificate_text made
-    text_is text written = written ∙ rw (entries_are, budget_is, needs_are) refl
+    text_is : (text : List ℕ) → text ≡ gathered_text width height totals.writes new.needs after.version made.entries → text ≡ certificate_text made
+    text_is text written = written ∙ rw (held.version, budget_is, needs_are) refl
 
-    pub records_prepared : (text : List ℕ) → text ≡ gathered_text width height totals.writes new.needs after → BoxLaws → PreparesRecords o records width height text
+    pub records_prepared : (text : List ℕ) → text ≡ gathered_text width height totals.writes new.needs after.version made.entries → BoxLaws → PreparesRecords o records width height text
     records_prepared text written laws = record {
       content = content;
       of_records = of_records;
@@ -137,13 +160,13 @@ module _ (content : Content) (o : OpenedValue) (records : List ℕ) (width heigh
       is_text = text_is text written;
     }
 
-    is_certificate : NeedLaws → IsSurfaceSide width → IsSurfaceSide height → IfSome o.handles (λ n. n < 2 ^ 16) → totals.writes < 2 ^ 64 → length after ≤ 2 ^ 20 → IsCertificate made
+    is_certificate : NeedLaws → IsSurfaceSide width → IsSurfaceSide height → IfSome o.handles (λ n. n < 2 ^ 16) → totals.writes < 2 ^ 64 → totals.records ≤ 2 ^ 20 → IsCertificate made
     is_certificate laws wide high handles fits few =
         let within = laws.limited content o (surface_for o width height) unstopped in
         let slots = few_slots o.handles handles in
         let same = budget_is in
         let depth = within.depth in let most_slots = within.slots in let edges = within.edges in let pieces = within.pieces in
-        let size : length after ≡ length made.entries = ap (λ (entries : List Entry). length entries) entries_are in
+        let size = count_is in
         let fit : All (IsEntry Mpc2) made.entries = subst (λ (s : Surface). All (IsEntry Mpc2) (least_entries drawings s)) at.surface
         (subst (λ (state : State). All (IsEntry Mpc2) (least_entries (drawings_of content.steps state) m.surface)) at.state h.fit) in
         record {
@@ -159,8 +182,8 @@ module _ (content : Content) (o : OpenedValue) (records : List ℕ) (width heigh
         }
 
     -- so it is read as it was, and accepted
-    pub records_read : (text : List ℕ) → text ≡ gathered_text width height totals.writes new.needs after → BoxLaws → NeedLaws → PreparationLaws → TextLaws → AnswerLaws → IsSurfaceSide width → IsSurfaceSide height → IfSome o.handles (λ n. n < 2 ^ 16) → totals.writes < 2 ^ 64
-        → length after ≤ 2 ^ 20 → AnswersRead (read_certificate text) o records accepted
+    pub records_read : (text : List ℕ) → text ≡ gathered_text width height totals.writes new.needs after.version made.entries → BoxLaws → NeedLaws → PreparationLaws → TextLaws → AnswerLaws → IsSurfaceSide width → IsSurfaceSide height → IfSome o.handles (λ n. n < 2 ^ 16) → totals.writes < 2 ^ 64
+        → totals.records ≤ 2 ^ 20 → AnswersRead (read_certificate text) o records accepted
     records_read text written boxes needs preparation texts answers wide high handles fits few =
         let back : read_certificate text ≡ Ok made = ap read_certificate (text_is text written) ∙ texts.reads_back made (is_certificate needs wide high handles fits few) in
         let fitting = preparation.fits made o content width height (is_prepared boxes content o width height) unstopped in

@@ -1,5 +1,5 @@
 -- What is gathered of records for a certificate, record by record.
-use Rattle.std.specs.Prelude.{◌≡◌, ℕ, List, [], ◌∷◌, ◌++◌, length, map, Option, Some, None}
+use Rattle.std.specs.Prelude.{◌≡◌, ℕ, List, [], ◌∷◌, length, map, Option, Some, None}
 use Rattle.std.specs.Int.{int_max, int_min}
 use Rattle.std.specs.List.{All}
 use Rattle.mapping.specs.Boxes.{point_box, no_box}
@@ -11,11 +11,13 @@ use Rattle.dc_stack.specs.Drawing.{Drawing, drawing_nib, drawing_points}
 use Rattle.dc_stack.specs.MachineState.{MachineState}
 use Rattle.preflight_cert.specs.After.{needs_after, notes_after}
 use Rattle.preflight_cert.specs.Budget.{drawing_cells}
+use Rattle.preflight_cert.specs.DraftOf.{Adds}
 use Rattle.preflight_cert.specs.Drawings.{NumberedDrawing, drawings_of}
 use Rattle.preflight_cert.specs.Entries.{budget_of}
 use Rattle.preflight_cert.specs.Refusal.{TellsStop}
 use Rattle.preflight_cert.specs.Stop.{stop_of}
 use Rattle.preflight_cert.specs.TextLaws.{IsEntry}
+use Rattle.preflight_cert.specs.declared.draft.Draft.{Draft}
 use Rattle.preflight_cert.specs.declared.entry.Entry.{Entry}
 use Rattle.preflight_cert.specs.declared.refusal.Refusal.{Refusal}
 use Rattle.preflight_cert.specs.declared.version.Version.TheVariants.{Mpc2}
@@ -67,9 +69,9 @@ least_drawing_budget None s = 0
 least_drawing_budget (Some drawing) s = drawing_cells drawing (drawing_nib drawing s) (least_box (drawing_points drawing)) s
 
 -- the entries of all steps were appended, none of which stops, and the needs and the totals are theirs, beside notes from before
-pub record Gathers (content : Content) (old : MachineState) (before : List Entry) (noted : List ℕ) (totals : Totals) (new : MachineState) (after : List Entry) : Type 0 where
+pub record Gathers (content : Content) (old : MachineState) (before : Draft) (noted : List ℕ) (totals : Totals) (new : MachineState) (after : Draft) : Type 0 where
   pub unstopped : stop_of content old.state old.surface ≡ None
-  pub entries : after ≡ before ++ least_entries (drawings_of content.steps old.state) old.surface
+  pub entries : Adds before after (least_entries (drawings_of content.steps old.state) old.surface)
   pub fit : All (IsEntry Mpc2) (least_entries (drawings_of content.steps old.state) old.surface)
   pub is_budget : totals.writes ≡ least_budget (drawings_of content.steps old.state) old.surface
   pub records : totals.records ≡ length content.steps

@@ -31,6 +31,7 @@ pub mod TextLaws
 pub mod TextParts
 pub mod Answer
 pub mod Preparation
+pub mod DraftOf
 pub mod Reached
 pub mod PreparationLaws
 pub mod PreparedLaws

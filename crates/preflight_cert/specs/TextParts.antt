@@ -18,3 +18,7 @@ totals_text writes needs count = to_le_bytes w64 writes ++ (needs_text needs [] 
 -- the numbers of a head of the code
 abbrev pub head_value : Head → HeadValue
 head_value head = record { max_width = head.max_width; max_height = head.max_height; writes = head.writes; needs = head.needs }
+
+-- all that stands in front of the entries
+abbrev pub head_text : Version → HeadValue → ℕ → List ℕ
+head_text version head count = bound_text version head.max_width head.max_height ++ totals_text head.writes head.needs count

@@ -1,11 +1,12 @@
 //! Gathering the entries of a file's drawings.
 
-ghost use Rattle.std.specs.Prelude.{◌≡◌, ◌≤◌, ◌⊎◌, ◌+◌, ◌*◌, ◌^◌, ◌++◌, IfErr, IfOk, IfSome, OnOk, length};
+ghost use Rattle.std.specs.Prelude.{◌≡◌, ◌≤◌, ◌⊎◌, ◌^◌, IfErr, IfOk, IfSome, OnOk, length};
 ghost use Rattle.draw_ops.specs.Records.{record_limit};
 ghost use Rattle.std.specs.List.{All};
 ghost use Rattle.mapping.specs.Nibs.{IsNib};
 ghost use Rattle.dc_stack.specs.Draws.{IsPlacedDraw};
 ghost use Rattle.dc_stack.specs.MachineState.{HasNib};
+ghost use Rattle.preflight_cert.specs.DraftOf.{Adds};
 ghost use Rattle.preflight_cert.specs.Drawings.{drawn_by};
 ghost use Rattle.preflight_cert.specs.Gathered.{Gathers, StopsGathering, entry_if_drawn, least_drawing_budget};
 ghost use Rattle.preflight_cert.specs.Refusal.{IsWantOfMemory, TellsNumber};
@@ -13,6 +14,7 @@ ghost use Rattle.preflight_cert.specs.TextLaws.{IsEntry};
 ghost use Rattle.preflight_cert.specs.declared.version.Version.TheVariants.{Mpc2};
 
 use crate::budget::drawing_budget;
+use crate::draft::Draft;
 use crate::entry::Entry;
 use crate::refusal::Refusal;
 use crate::stepping::play_next;
@@ -23,18 +25,18 @@ use mapping::{Nib, Rect, box_law};
 use object_tables::Table;
 use span_fill::OutOfMemory;
 
-/// Appends the entries of the steps that are left of a source, and tells what the steps come to, beside notes from before.
+/// Appends the entries of the steps that are left of a source to a draft, and tells what the steps come to, beside notes from before.
 #[tactic(auto, using(crate::proofs::GatheredLemmas::gathered))]
 pub(crate) fn gather<'a, S: OpSource<'a>, T: Table<'a>>(
     source: &mut S,
     machine: &mut Machine<'a, T>,
     noted: Notes,
-    entries: &mut Vec<Entry>,
+    draft: &mut Draft,
 ) -> Result<Totals, Refusal>
     requires short { length (S.content source.old).steps ≤ record_limit }
     ensures gathers { IfOk result
-        (λ totals. Gathers (S.content source.old) machine.old entries.old.items noted.counts totals machine.new entries.new.items) }
-    ensures few { OnOk result (length entries.new.items ≤ length entries.old.items + 2 ^ 20) }
+        (λ totals. Gathers (S.content source.old) machine.old draft.old noted.counts totals machine.new draft.new) }
+    ensures few { IfOk result (λ totals. totals.records ≤ 2 ^ 20) }
     ensures refusal { IfErr result (λ r. StopsGathering (S.content source.old) machine.old r ⊎ IsWantOfMemory r) }
     ensures number_told { IfErr result TellsNumber }
 {
@@ -53,7 +55,7 @@ pub(crate) fn gather<'a, S: OpSource<'a>, T: Table<'a>>(
         if !is_played {
             return Ok(totals);
         }
-        match add_entry(step.number, &drawn, machine, entries) {
+        match add_entry(step.number, &drawn, machine, draft) {
             Ok(more) => totals.writes += more,
             Err(OutOfMemory) => return Err(Refusal::of_file(Fault::OutOfMemory)),
         }
@@ -68,26 +70,24 @@ fn add_entry<'a, T: Table<'a>>(
     number: u32,
     drawn: &Option<Draw<'a>>,
     machine: &Machine<'a, T>,
-    entries: &mut Vec<Entry>,
+    draft: &mut Draft,
 ) -> Result<u64, OutOfMemory>
     requires placed { IfSome drawn.now (IsPlacedDraw machine.now.surface machine.now.painted) }
     requires nib { IfSome drawn.now (HasNib machine.now.surface machine.now) }
-    ensures entries { OnOk result
-        (entries.new.items ≡ entries.old.items ++ entry_if_drawn number (drawn_by machine.now drawn.now) machine.now.surface) }
+    ensures entries { OnOk result (Adds draft.old draft.new (entry_if_drawn number (drawn_by machine.now drawn.now) machine.now.surface)) }
     ensures fits { OnOk result (All (IsEntry Mpc2) (entry_if_drawn number (drawn_by machine.now drawn.now) machine.now.surface)) }
     ensures budget { IfOk result
         (λ n. n ≡ least_drawing_budget (drawn_by machine.now drawn.now) machine.now.surface) }
     ensures few { IfOk result (λ n. n ≤ 134217728) }
-    ensures most { OnOk result (length entries.new.items ≤ length entries.old.items + 1) }
 {
     let Some(drawn) = drawn else {
         return Ok(0);
     };
     box_law();
     let entry = entry_of(number, drawn.bounds, drawn.nib);
-    match entries.push(entry) {
+    match draft.push(entry) {
         Ok(()) => Ok(drawing_budget(drawn, machine, &entry)),
-        Err(_) => Err(OutOfMemory),
+        Err(OutOfMemory) => Err(OutOfMemory),
     }
 }
 

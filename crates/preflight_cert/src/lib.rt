@@ -31,6 +31,7 @@ mod certificate_reading;
 mod checking;
 mod cleared;
 mod covering;
+mod draft;
 mod entry;
 mod gathering;
 mod laws;
@@ -40,6 +41,7 @@ mod refusal;
 mod stepping;
 mod version;
 mod walk;
+mod widening;
 mod writing;
 
 pub use certificate::Certificate;

@@ -5,18 +5,17 @@ ghost use Rattle.draw_ops.specs.declared.fault.Fault.TheVariants.{BadBound};
 ghost use Rattle.mapping.specs.Limits.{IsSurfaceSide};
 ghost use Rattle.preflight_cert.specs.Answer.{IsAnswer, accepted};
 ghost use Rattle.preflight_cert.specs.OpenedRecords.{AnswersBytesOf, CountsRecordsOf, PreparesRecordsOf, StopsRecordsOf};
-ghost use Rattle.preflight_cert.specs.Preparation.{Prepares, StopsPreparing, have_single_pixels, is_bound, version_for};
+ghost use Rattle.preflight_cert.specs.Preparation.{Prepares, StopsPreparing, is_bound};
 ghost use Rattle.preflight_cert.specs.Reached.{OpensAt};
 ghost use Rattle.preflight_cert.specs.Refusal.{IsWantOfMemory, TellsNumber};
 
-use crate::entry::Entry;
+use crate::draft::Draft;
 use crate::gathering::gather;
 use crate::laws::{answer_law, need_law, preparation_law, text_law};
 use crate::prepared::Prepared;
 use crate::refusal::Refusal;
-use crate::version::Version;
 use crate::walk::Totals;
-use crate::writing::{Head, put_text};
+use crate::writing::Head;
 use dc_stack::Machine;
 use draw_ops::{Fault, Notes, content_law};
 use mapping::{Place, box_law};
@@ -74,9 +73,11 @@ pub(crate) fn prepare_opened(
     let place = Place::new(&opened.frame, max_width, max_height);
     let table = FileTable::new(alloc, opened.handles);
     let mut machine = Machine::new(alloc, &opened, place, table);
-    let mut entries = Vec::new(alloc);
+    let Ok(mut draft) = Draft::new(alloc) else {
+        return Err(Refusal::of_file(Fault::OutOfMemory));
+    };
     let noted = Notes::of(opened.notes);
-    let totals = match gather(&mut opened.source(), &mut machine, noted, &mut entries) {
+    let totals = match gather(&mut opened.source(), &mut machine, noted, &mut draft) {
         Ok(totals) => totals,
         Err(refusal) => return Err(refusal),
     };
@@ -86,28 +87,8 @@ pub(crate) fn prepare_opened(
         writes: totals.writes,
         needs: machine.needs(),
     };
-    match put_text(alloc, version_for(&entries[..]), head, &entries[..]) {
+    match draft.finish(alloc, head) {
         Ok(text) => Ok((text, totals)),
         Err(OutOfMemory) => Err(Refusal::of_file(Fault::OutOfMemory)),
     }
-}
-
-/// The version of a certificate with some entries: `MPC1` exactly where each nib is one pixel.
-fn version_for(entries: &[Entry]) -> Version
-    ensures { result ≡ version_for entries.now }
-{
-    if have_single_pixels(entries) {
-        Version::Mpc1
-    } else {
-        Version::Mpc2
-    }
-}
-
-/// Whether each entry's nib is one pixel.
-fn have_single_pixels(entries: &[Entry]) -> bool
-    ensures { result ≡ have_single_pixels entries.now }
-{
-    entries
-        .iter()
-        .all(|entry| entry.nib.x == 1 && entry.nib.y == 1)
 }

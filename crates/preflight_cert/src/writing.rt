@@ -1,11 +1,11 @@
 //! Writing the text of a certificate.
 
-ghost use Rattle.std.specs.Prelude.{◌≡◌, ◌<◌, ◌^◌, ◌++◌, [], ◌∷◌, IfOk, OnOk, length};
+ghost use Rattle.std.specs.Prelude.{◌≡◌, ◌++◌, [], ◌∷◌, IfOk, OnOk};
 ghost use Rattle.std.specs.Int.{cast_unsigned, to_le_bytes, w16, w32, w64};
-ghost use Rattle.std.specs.List.{flat_map};
-ghost use Rattle.preflight_cert.specs.CertificateText.{entry_text, needs_text, nib_text, number_text, text_with};
-ghost use Rattle.preflight_cert.specs.TextParts.{bound_text, head_value, totals_text};
+ghost use Rattle.preflight_cert.specs.CertificateText.{entry_text, needs_text, nib_text, number_text};
+ghost use Rattle.preflight_cert.specs.TextParts.{bound_text, head_text, head_value, totals_text};
 
+use crate::certificate_reading::HEAD_SIZE;
 use crate::entry::Entry;
 use crate::version::Version;
 use byteorder::{ByteOrder, LittleEndian};
@@ -13,6 +13,9 @@ use dc_stack::Needs;
 use mapping::{Nib, Rect};
 use span_fill::OutOfMemory;
 use std::alloc::Global;
+
+/// The most bytes for which room is made at once.
+const MOST_ROOM: usize = 1 << 20;
 
 /// Appends a number in four bytes.
 pub(crate) fn put_number(text: &mut Vec<u8>, number: u32) -> Result<(), OutOfMemory>
@@ -70,26 +73,34 @@ fn numbers(number: u32, bounds: Rect) -> [u32; 5]
     ]
 }
 
+/// Makes room for an entry where there is none: for as many bytes again as there are, but for at most 1 MiB, so that little of it stays empty.
+fn make_room(text: &mut Vec<u8>) -> Result<(), OutOfMemory>
+    ensures { OnOk result (text.new.items ≡ text.old.items) }
+{
+    if 24 <= text.capacity() - text.len() {
+        return Ok(());
+    }
+    match text.reserve_exact(text.len().min(MOST_ROOM)) {
+        Ok(()) => Ok(()),
+        Err(_) => Err(OutOfMemory),
+    }
+}
+
 /// Appends an entry: its five numbers at once, and then its nib.
-fn put_entry(text: &mut Vec<u8>, version: Version, entry: Entry) -> Result<(), OutOfMemory>
+pub(crate) fn put_entry(
+    text: &mut Vec<u8>,
+    version: Version,
+    entry: Entry,
+) -> Result<(), OutOfMemory>
     ensures { OnOk result (text.new.items ≡ text.old.items ++ entry_text version entry) }
 {
+    make_room(text)?;
     let mut bytes = [0; 20];
     LittleEndian::write_u32_into(&numbers(entry.number, entry.bounds), &mut bytes);
     match text.extend_from_slice(&bytes) {
         Ok(()) => put_nib(text, version, entry.nib),
         Err(_) => Err(OutOfMemory),
     }
-}
-
-/// Appends entries, one after another.
-fn put_entries(text: &mut Vec<u8>, version: Version, entries: &[Entry]) -> Result<(), OutOfMemory>
-    ensures { OnOk result (text.new.items ≡ text.old.items ++ flat_map (entry_text version) entries.now) }
-{
-    for entry in entries {
-        put_entry(text, version, *entry)?;
-    }
-    Ok(())
 }
 
 /// Appends needs.
@@ -141,20 +152,19 @@ fn put_totals(text: &mut Vec<u8>, writes: u64, needs: Needs, count: u32) -> Resu
     put_counts(text, needs, count)
 }
 
-/// The text of a certificate of this version with these entries.
-pub(crate) fn put_text(
+/// What a certificate of this version with so many entries says in front of them.
+pub(crate) fn head_text(
     alloc: Global,
     version: Version,
     head: Head,
-    entries: &[Entry],
+    count: u32,
 ) -> Result<Vec<u8>, OutOfMemory>
-    requires { length entries.now < 2 ^ 32 }
-    ensures { IfOk result
-        (λ v. v.items ≡ text_with version (head_value head) (length entries.now) (flat_map (entry_text version) entries.now)) }
+    ensures { IfOk result (λ text. text.items ≡ head_text version (head_value head) count) }
 {
-    let mut text = Vec::new(alloc);
+    let Ok(mut text) = Vec::with_capacity(alloc, HEAD_SIZE) else {
+        return Err(OutOfMemory);
+    };
     put_bound(&mut text, version, head.max_width, head.max_height)?;
-    put_totals(&mut text, head.writes, head.needs, entries.len() as u32)?;
-    put_entries(&mut text, version, entries)?;
+    put_totals(&mut text, head.writes, head.needs, count)?;
     Ok(text)
 }

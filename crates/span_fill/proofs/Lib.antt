@@ -21,6 +21,9 @@ pub mod EventLemmas
 pub mod MoveLemmas
 pub mod FillLemmas
 pub mod RowLemmas
+pub mod CrossedLemmas
+pub mod WindingLemmas
+pub mod TableLemmas
 mod WorkedFills
 mod WorkedNibs
 pub mod InsertionLemmas

@@ -2,18 +2,22 @@
 use Rattle.std.proofs.Common.{◌≡◌, ℕ, ◌+◌, ◌-◌, ◌<◌, ◌≤◌, Bool, true, false, IsTrue, List, ◌++◌, append-nil, length, drop, map, refl, sym, ap, subst, ◌∙◌, arith}
 use Rattle.std.specs.List.{All, filter}
 use Rattle.std.specs.List.Sorted.{IsNonDecreasingBy, IsPermutation}
+use Rattle.std.proofs.lemmas.Bool.{leb-false}
 use Rattle.std.proofs.lemmas.List.{length-map}
 use Rattle.std.proofs.lemmas.List.Elements.{All-filter}
 use Rattle.std.proofs.lemmas.List.Sorted.{All-permutation, IsPermutation-trans}
+use Rattle.span_fill.specs.CountedRows.{is_counted}
+use Rattle.span_fill.specs.ColumnTables.{AreTabled, HasColumns, flag_at}
 use Rattle.span_fill.specs.Edges.{IsEdge, active_at, begins_behind, begins_by, column_of, edges_from, ends_behind, edge_first_row, goes_to, moved}
 use Rattle.span_fill.specs.Events.{IsQuietAbove, first_begin, first_end}
 use Rattle.span_fill.specs.Fill.{is_inside}
 use Rattle.span_fill.specs.Lines.{HasNearEnds}
 use Rattle.mapping.specs.declared.nib.Nib.{Nib}
-use Rattle.span_fill.specs.RowFields.{IsFilling, row_work}
+use Rattle.span_fill.specs.RowFields.{AreCountedAlways, IsFilling, row_work}
 use Rattle.span_fill.specs.RowState.{FillsRow, IsFillingWork}
 use Rattle.span_fill.specs.Spans.{AreRow}
 use Rattle.span_fill.specs.Sweep.{downwards_at, swept, upwards_at}
+use Rattle.span_fill.specs.declared.column_table.ColumnTable.{ColumnTable}
 use Rattle.span_fill.specs.declared.edge.ActiveEdge.{ActiveEdge}
 use Rattle.span_fill.specs.declared.edge.Edge.{Edge}
 use Rattle.span_fill.specs.declared.fill_rule.FillRule.{FillRule}
@@ -118,3 +122,24 @@ pub filled_swept : (work : Work) (rule : FillRule) (nib : Nib) (y room : ℕ) (l
 filled_swept work rule nib y room lines edges begun active event interval spans h near filling end order is =
     let row = swept_is_row rule interval active (sorted_places active (filling.sorted refl)) (omega (arith, order)) in
     filled_row work rule nib y room lines edges begun active true event interval spans h near filling end (rw is row)
+
+-- a row whose spans have what a table says
+pub filled_tabled : (work : Work) (rule : FillRule) (nib : Nib) (y : ℕ) (lines : List Line) (table : ColumnTable) (interval : Span) (spans : List Span) → IsFillingWork (row_work work rule nib) → y < 8192 → AreTabled rule lines table → HasColumns table interval → AreRow (λ x. flag_at table.flags.items table.columns.from x y) interval spans → FillsRow (row_work work rule nib) lines y interval spans
+filled_tabled Idle rule nib y lines table interval spans h below are has row = absurd h
+filled_tabled Stroking rule nib y lines table interval spans h below are has row = absurd h
+filled_tabled Filling rule nib y lines table interval spans h below are has row =
+    let first = has.first in
+    let last = has.last in
+    record { apart = row.apart; exact = λ x low high. row.exact x low high ∙ are.flags x y (omega (arith, first, low)) (omega (arith, last, high)) below }
+
+-- above an event no table is used, and none where edges aren't counted
+pub unused_above : (used : Bool) (edges : List ActiveEdge) (is_sorted : Bool) (event n : ℕ) → (used ≡ true → AreCountedAlways edges is_sorted event) → n < event → used ≡ false
+unused_above false edges is_sorted event n always below = refl
+unused_above true edges is_sorted event n always below = let none = (always refl).none in absurd (omega (arith, none, below))
+
+pub unused_uncounted : (used : Bool) (edges : List ActiveEdge) (is_sorted : Bool) (event count : ℕ) (interval : Span) → (used ≡ true → AreCountedAlways edges is_sorted event) → interval.to ≤ 8192 → count ≡ length edges → is_counted count is_sorted interval ≡ false → used ≡ false
+unused_uncounted false edges is_sorted event count interval always end long not_counted = refl
+unused_uncounted true edges is_sorted event count interval always end long not_counted =
+    let many = (always refl).many in
+    let few = leb-false _ _ (rw (always refl).unsorted at not_counted) in
+    absurd (omega (arith, many, few, end, long))

@@ -3,6 +3,9 @@ pub mod Fill
 pub mod Strokes
 pub mod RowLaws
 pub mod Spans
+pub mod CrossedRows
+pub mod Windings
+pub mod ColumnTables
 pub mod Crossings
 pub mod Axis
 pub mod Walks

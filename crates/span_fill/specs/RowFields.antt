@@ -1,8 +1,9 @@
 -- What is true of the fields of every row buffer.
-use Rattle.std.specs.Prelude.{◌≡◌, ℕ, ◌+◌, ◌-◌, ◌^◌, ◌<◌, ◌≤◌, ℤ, Bool, IsTrue, List, drop, length, filter, vec_capacity}
+use Rattle.std.specs.Prelude.{◌≡◌, ℕ, ◌+◌, ◌-◌, ◌^◌, ◌<◌, ◌≤◌, ℤ, Bool, true, false, IsTrue, List, drop, length, filter, vec_capacity}
 use Rattle.std.specs.List.{All}
 use Rattle.std.specs.List.Sorted.{IsNonDecreasingBy, IsPermutation}
 use Rattle.mapping.specs.declared.nib.Nib.{Nib}
+use Rattle.span_fill.specs.ColumnTables.{AreTabled, HasTableRoom}
 use Rattle.span_fill.specs.CountedRows.{most_counts}
 use Rattle.span_fill.specs.Edges.{IsEdge, active_edges, begins_behind, column_of, edges_from, edge_first_row}
 use Rattle.span_fill.specs.Events.{IsQuietAbove}
@@ -37,6 +38,7 @@ pub record HasRoom (a : Inside) : Type 0 where
   pub active : a.room ≤ vec_capacity a.active
   pub crossings : a.room ≤ vec_capacity a.crossings
   pub counts : most_counts a.room ≤ vec_capacity a.counts
+  pub table : HasTableRoom a.room a.table
   pub spans : a.room + 2 ≤ a.spans.capacity
   pub strokes : HasStrokeRoom a.room a.strokes
 
@@ -60,10 +62,19 @@ pub record IsStroking (lines : List Line) (y room : ℕ) (strokes : Strokes) : T
   pub have : (x : ℤ) (n : ℕ) → y ≤ n → n < 8192 → strokes_have strokes x n ≡ lines_have strokes.nib lines x n
   pub count : stroke_count strokes ≤ room
 
--- the buffer has memory for its lines, and its edges or strips are where its work is
+-- so many edges out of order are counted in each row, and no row is one in which they stay the same
+pub record AreCountedAlways (edges : List ActiveEdge) (is_sorted : Bool) (event : ℕ) : Type 0 where
+  pub many : 8256 ≤ length edges
+  pub unsorted : is_sorted ≡ false
+  pub none : event ≡ 0
+
+-- the buffer has memory for its lines, and its edges, its table or its strips are where its work is
 pub record IsRowBuf (a : Inside) : Type 0 where
   pub room : HasRoom a
   pub count : length a.lines.items ≤ a.room
   pub near : All HasNearEnds a.lines.items
-  pub filling : IsFillingWork (row_work a.work a.rule a.strokes.nib) → IsFilling a.lines.items a.next a.room a.edges.items a.begun a.active.items a.is_sorted a.event
+  pub row : a.next ≤ 8192
+  pub filling : IsFillingWork (row_work a.work a.rule a.strokes.nib) → a.table.is_used ≡ false → IsFilling a.lines.items a.next a.room a.edges.items a.begun a.active.items a.is_sorted a.event
+  pub tabled : IsFillingWork (row_work a.work a.rule a.strokes.nib) → a.table.is_used ≡ true → AreTabled a.rule a.lines.items a.table
+  pub counted : a.table.is_used ≡ true → AreCountedAlways a.active.items a.is_sorted a.event
   pub stroking : IsStrokingWork (row_work a.work a.rule a.strokes.nib) → IsStroking a.lines.items a.next a.room a.strokes

@@ -67,7 +67,7 @@ impl Edge {
     }
 
     /// How far the lower end is below the upper one.
-    fn down(self) -> i64
+    pub(crate) fn down(self) -> i64
         requires { IsEdge self }
         ensures value { result ≡ down self.upper self.lower }
         ensures low { pos 1 ≤ℤ result }
@@ -77,7 +77,7 @@ impl Edge {
     }
 
     /// How far the lower end is to the right of the upper one.
-    fn across(self) -> i64
+    pub(crate) fn across(self) -> i64
         requires { IsEdge self }
         ensures value { result ≡ across self.upper self.lower }
         ensures near { IsWithin (2 ^ 30) result }
@@ -127,7 +127,7 @@ fn row_of(y: i32) -> u32
 }
 
 /// Twice the number.
-fn doubled(number: i64) -> i64
+pub(crate) fn doubled(number: i64) -> i64
     requires { IsWithin (2 ^ 30) number }
     ensures value { result ≡ pos 2 *ℤ number }
     ensures near { IsWithin (2 ^ 31) result }
@@ -136,7 +136,7 @@ fn doubled(number: i64) -> i64
 }
 
 /// The product.
-fn product(a: i64, b: i64) -> i64
+pub(crate) fn product(a: i64, b: i64) -> i64
     requires a { IsWithin (2 ^ 31) a }
     requires b { IsWithin (2 ^ 30) b }
     ensures value { result ≡ a *ℤ b }

@@ -26,8 +26,10 @@ mod bit_rows;
 mod bit_words;
 mod bounds;
 mod clip;
+mod column_table;
 mod counted_row;
 mod course;
+mod crossed_rows;
 mod crossing;
 mod crossing_moves;
 mod crossings;
@@ -63,6 +65,7 @@ mod strokes;
 mod sweep;
 mod walk;
 mod wide_line;
+mod winding;
 
 pub use crossing::Crossing;
 pub use fill_rule::FillRule;

@@ -4,16 +4,17 @@ ghost use Rattle.std.specs.Prelude.{◌≡◌, ◌+◌, ◌<◌, ◌≤◌, ◌^
 ghost use Rattle.mapping.specs.Nibs.{IsNib};
 ghost use Rattle.span_fill.specs.RowState.{BeginsFill, BeginsStroke, DiffersInRoom, FillsRow, HasFoundCrossings, SameWork, IsFillingWork, IsStrokingWork, filling, idle, stroking};
 
-use crate::active_edges::{admit, retire, sort_edges};
-use crate::counted_row::{ColumnCount, count_row, is_counted, most_counts};
+mod sweeping;
+
+use crate::active_edges::{admit, sort_edges};
+use crate::column_table::ColumnTable;
+use crate::counted_row::{ColumnCount, most_counts};
 use crate::crossing::Crossing;
-use crate::crossing_moves::move_edges;
 use crate::crossings::tell;
 use crate::edge::{ActiveEdge, Edge};
 use crate::edge_list::collect_edges;
 use crate::events::next_event;
 use crate::fill_rule::FillRule;
-use crate::insertion::sort_active;
 use crate::line::Line;
 use crate::memory::grow;
 use crate::outline::{Outline, copy_lines};
@@ -21,7 +22,6 @@ use crate::row_error::OutOfMemory;
 use crate::row_spans::{RowSpans, grow_spans};
 use crate::span::Span;
 use crate::strokes::Strokes;
-use crate::sweep::sweep;
 use mapping::Nib;
 use smallvec::SmallVec;
 use std::alloc::Global;
@@ -37,7 +37,8 @@ enum Work {
 
 /// The lines of an outline, and the spans that they give row by row: of the pixels inside, or of their own.
 ///
-/// Each line is divided once, at the row where it begins; from there on its crossing moves by additions.
+/// Each line is divided once, at the row where it begins; from there on its crossing moves by additions. Where very many lines cross
+/// a few columns, rows are read from a table, for which each line is divided once a column.
 ///
 /// # Guarantees
 ///
@@ -59,6 +60,8 @@ pub struct RowBuf {
     crossings: Vec<Crossing>,
     /// Room for the counts of a row's columns.
     counts: Vec<ColumnCount>,
+    /// What is inside of a few columns, where so many edges cross them that this takes less time than to move those.
+    table: ColumnTable,
     spans: RowSpans,
     /// The lines themselves.
     strokes: Strokes,
@@ -97,6 +100,7 @@ impl RowBuf {
             event: 0,
             crossings: Vec::new(alloc),
             counts: Vec::new(alloc),
+            table: ColumnTable::new(alloc),
             spans: SmallVec::new(alloc),
             strokes: Strokes::new(alloc),
             work: Work::Idle,
@@ -124,6 +128,7 @@ impl RowBuf {
         grow(&mut self.active, lines)?;
         grow(&mut self.crossings, lines)?;
         grow(&mut self.counts, most_counts(lines))?;
+        self.table.reserve(lines)?;
         grow_spans(&mut self.spans, lines + 2)?;
         self.strokes.reserve(lines)?;
         self.room = lines;
@@ -138,6 +143,7 @@ impl RowBuf {
     {
         copy_lines(outline, &mut self.lines);
         self.spans.clear();
+        self.table.begin();
         self.work = Work::Filling;
         self.rule = rule;
         self.next = y;
@@ -241,57 +247,5 @@ impl RowBuf {
         ensures { result.now ≡ self.now.crossings }
     {
         self.crossings.as_slice()
-    }
-
-    /// The spans of the next row within the interval, which stays the next.
-    fn sweep_row(&mut self, interval: Span)
-        requires filling { IsFillingWork self.old.work }
-        requires interval { interval.to ≤ 8192 }
-        ensures spans { FillsRow self.old.work self.old.lines self.old.next interval self.new.spans }
-        ensures next { self.new.next ≡ self.old.next }
-        ensures same { SameWork self.old self.new }
-    {
-        self.spans.clear();
-        if interval.from >= interval.to {
-            return;
-        }
-        if is_counted(self.active.len(), self.is_sorted, interval) {
-            count_row(
-                self.rule,
-                self.active.as_slice(),
-                interval,
-                &mut self.counts,
-                &mut self.spans,
-            );
-            return;
-        }
-        sort_active(&mut self.active, self.is_sorted);
-        self.is_sorted = true;
-        sweep(self.rule, self.active.as_slice(), interval, &mut self.spans);
-    }
-
-    /// On to the next row.
-    fn step(&mut self)
-        requires filling { IsFillingWork self.old.work }
-        requires next { self.old.next < 8192 }
-        ensures spans { self.new.spans ≡ self.old.spans }
-        ensures next { self.new.next ≡ self.old.next + 1 }
-        ensures same { SameWork self.old self.new }
-    {
-        self.next += 1;
-        if self.next < self.event {
-            self.is_sorted = move_edges(&mut self.active);
-            return;
-        }
-        retire(&mut self.active, self.next);
-        move_edges(&mut self.active);
-        self.begun = admit(
-            &mut self.active,
-            self.edges.as_slice(),
-            self.begun,
-            self.next,
-        );
-        self.is_sorted = false;
-        self.event = next_event(self.active.as_slice(), self.edges.as_slice(), self.begun);
     }
 }

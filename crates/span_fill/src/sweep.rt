@@ -13,6 +13,7 @@ use crate::span::Span;
 
 /// The spans of a row within the interval, behind those that are there. Most rows have two edges, and one
 /// span between them.
+#[inline]
 pub(crate) fn sweep(rule: FillRule, edges: &[ActiveEdge], interval: Span, spans: &mut RowSpans)
     requires count { length edges.now ≤ 2 ^ 20 }
     requires interval { interval.to ≤ 8192 }

@@ -28,22 +28,16 @@ returns-in-Some-clause-pixels g c =
 pub returns-in-Some-clause-few : goal.returns-in-Some-clause-few
 returns-in-Some-clause-few g c = few_written c.writing_law.ensures _ _ c.args.canvas.now c.step_line.new.canvas c.step_line.ensures c.whole_law.ensures.pixels
 
-pub returns-then-begin_stamps-clause-pixels : goal.returns-then-begin_stamps-clause-pixels
-returns-then-begin_stamps-clause-pixels g c =
-    let stroke = c.args.stroke.now in
-    let lines = g.O.Outline.lines c.args.lines.outline in
-    let shape = in_wide_stroke one_pixel lines in
-    let drawn = c.visible_in-drawn in
-    let region = c.begin_stamps.new.stamps.region in
-    let same = c.begin_stamps.ensures.region c.if-begin_stamps.true in
-    let visible = seen_within _ _ shape c.args.canvas.now drawn.result (c.on_surface.ensures shape c.requires.within) drawn.ensures.visible in
-    c.writing_law.ensures.same (λ x y. in_region region x y && in_stroke lines x y) (paints (stroke_paint stroke) shape) (λ x y old. mixed_by stroke.mix old) (stroke_paint stroke).makes c.args.canvas.now c.stamp_lines.new.canvas c.whole_law.ensures.whole
-    (λ x y held. ap (λ (r : Region). in_region r x y && in_stroke lines x y) same ∙ ap (λ (b : Bool). in_region drawn.result x y && b) (sym (c.wide_stroke_law.ensures.one lines x y)) ∙ seen_uncut (placed_value stroke.clip.now) stroke.mix shape c.args.canvas.now drawn.result visible (c.begin_stamps.ensures.uncut c.if-begin_stamps.true) x y held)
-    (λ x y old held t. refl)
-    c.stamp_lines.ensures
+-- what is seen of the lines lies in the region
+pub stroke_by_marks-requires-clause-visible : goal.stroke_by_marks-requires-clause-visible
+stroke_by_marks-requires-clause-visible g c =
+    let shape = in_wide_stroke one_pixel (g.O.Outline.lines c.args.lines.outline) in
+    rw (c.begin_stamps.ensures.region c.if-begin_stamps.true) (seen_within _ _ shape c.args.canvas.now c.visible_in-drawn.result (c.on_surface.ensures shape c.requires.within) c.visible_in-drawn.ensures.visible)
 
-pub returns-then-begin_stamps-clause-few : goal.returns-then-begin_stamps-clause-few
-returns-then-begin_stamps-clause-few g c = few_written c.writing_law.ensures _ _ c.args.canvas.now c.stamp_lines.new.canvas c.stamp_lines.ensures c.whole_law.ensures.pixels
+pub stroke_copies-requires-clause-visible : goal.stroke_copies-requires-clause-visible
+stroke_copies-requires-clause-visible g c =
+    let shape = in_wide_stroke one_pixel (g.O.Outline.lines c.args.lines.outline) in
+    rw c.in-Some-copy_lines.ensures.lines (seen_within _ _ shape c.args.canvas.now c.visible_in-drawn.result (c.on_surface.ensures shape c.requires.within) c.visible_in-drawn.ensures.visible)
 
 pub stroke_rows-requires-clause-visible : goal.stroke_rows-requires-clause-visible
 stroke_rows-requires-clause-visible g c =

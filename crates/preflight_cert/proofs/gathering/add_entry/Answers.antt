@@ -1,10 +1,10 @@
 -- The entry that is appended has the least box and the drawing's nib.
-use Rattle.std.proofs.Common.{◌≡◌, [], ◌∷◌, ◌++◌, ap, subst, rules, ◌∙◌}
-use Rattle.std.specs.List.{All}
+use Rattle.std.proofs.Common.{◌≡◌, [], ◌∷◌, subst, ◌∙◌}
 use Rattle.std.proofs.lemmas.List.Elements.{All-cons, All-nil}
 use Rattle.dc_stack.specs.Draws.{IsPlacedDraw}
 use Rattle.dc_stack.specs.MachineState.{HasNib, drawing_with}
 use Rattle.preflight_cert.specs.Budget.{drawing_cells}
+use Rattle.preflight_cert.specs.DraftOf.{Adds}
 use Rattle.preflight_cert.specs.TextLaws.{IsEntry}
 use Rattle.preflight_cert.specs.declared.entry.Entry.{Entry}
 use Rattle.preflight_cert.specs.declared.version.Version.TheVariants.{Mpc2}
@@ -17,8 +17,9 @@ returns-in-Ok-clause-entries g c =
     let m = c.args.machine.now in
     let placed : IsPlacedDraw m.surface m.painted d = rw c.in-Some.is at c.requires.placed in
     let nib : HasNib m.surface m d = rw c.in-Some.is at c.requires.nib in
-    let pushed : c.push.new.self.items ≡ c.args.entries.now.items ++ (told_entry c.args.number d ∷ []) = rw c.entry_of-entry.ensures.parts at c.in-Ok.ensures.items in
-    rw c.in-Some.is (pushed ∙ ap (λ (entry : Entry). c.args.entries.now.items ++ (entry ∷ [])) (told_is_least c.box_law.ensures c.args.number m d placed nib))
+    rw c.in-Some.is
+    (subst (λ (entry : Entry). Adds c.args.draft.now c.push.new.self (entry ∷ []))
+    (c.entry_of-entry.ensures.parts ∙ told_is_least c.box_law.ensures c.args.number m d placed nib) c.in-Ok.ensures)
 
 pub returns-in-Ok-clause-fits : goal.returns-in-Ok-clause-fits
 returns-in-Ok-clause-fits g c =

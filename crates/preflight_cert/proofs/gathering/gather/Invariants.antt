@@ -1,11 +1,13 @@
-use Rattle.std.proofs.Common.{◌≡◌, ◌+◌, ◌*◌, ◌≤◌, ◌++◌, length}
+use Rattle.std.proofs.Common.{◌≡◌, ◌+◌, ◌*◌, ◌≤◌, length}
 use Rattle.std.specs.List.{All}
 use Rattle.draw_ops.specs.Records.{record_limit}
 use Rattle.preflight_cert.specs.After.{needs_after, notes_after}
+use Rattle.preflight_cert.specs.DraftOf.{Adds}
 use Rattle.preflight_cert.specs.Drawings.{drawings_of}
 use Rattle.preflight_cert.specs.Gathered.{least_budget, least_entries}
 use Rattle.preflight_cert.specs.Stop.{broken_behind, stop_of, stopped}
 use Rattle.preflight_cert.specs.TextLaws.{IsEntry}
+use Rattle.preflight_cert.specs.declared.draft.Draft.{Draft}
 use Rattle.preflight_cert.specs.declared.version.Version.TheVariants.{Mpc2}
 use Rattle.preflight_cert.proofs.gathering.gather.Given as goal
 
@@ -19,12 +21,12 @@ invariant-loop-is_played g l =
     record {
       short : l.totals.records + length left.steps ≤ record_limit;
       few : l.totals.writes ≤ 134217728 * l.totals.records;
-      lengths : length l.entries.items ≤ length l.fn.entries.items + l.totals.records;
       same_surface : l.machine.surface ≡ start;
       counted : l.totals.records + length left.steps ≡ length whole.steps;
       fault : left.fault ≡ whole.fault;
       stops : stop_of whole l.fn.machine.state start ≡ stopped left.steps (broken_behind (length whole.steps) whole.fault) l.machine.state start;
-      entries : l.fn.entries.items ++ least_entries (drawings_of whole.steps l.fn.machine.state) start ≡ l.entries.items ++ least_entries (drawings_of left.steps l.machine.state) start;
+      entries : (later : Draft) → Adds l.draft later (least_entries (drawings_of left.steps l.machine.state) start)
+          → Adds l.fn.draft later (least_entries (drawings_of whole.steps l.fn.machine.state) start);
       fit : All (IsEntry Mpc2) (least_entries (drawings_of left.steps l.machine.state) start) → All (IsEntry Mpc2) (least_entries (drawings_of whole.steps l.fn.machine.state) start);
       budget : least_budget (drawings_of whole.steps l.fn.machine.state) start ≡ l.totals.writes + least_budget (drawings_of left.steps l.machine.state) start;
       notes : notes_after whole.steps l.fn.noted.counts ≡ notes_after left.steps l.totals.notes.counts;

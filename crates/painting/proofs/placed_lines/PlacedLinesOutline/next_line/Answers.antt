@@ -1,5 +1,10 @@
+use Rattle.std.proofs.Common.{◌≡◌, List, [], ◌++◌, sym, ap, ◌∙◌, arith, rules}
+use Rattle.std.proofs.lemmas.Grind.{common_steps}
 use Rattle.point_views.specs.Points.{points_of}
 use Rattle.point_views.specs.Polys.{lists_of}
+use Rattle.span_fill.specs.declared.line.Line.{Line}
+use Rattle.painting.specs.PlacedLines.{lines_of_lists}
+use Rattle.painting.proofs.EmptyListLemmas.{behind_lands, fewer_behind, first_lines_behind, no_lines_behind}
 use Rattle.painting.proofs.LandingLemmas.{first_list_lands, other_lists_land}
 use Rattle.painting.proofs.placed_lines.PlacedLinesOutline.next_line.Goals as goal
 
@@ -7,10 +12,39 @@ pub new-requires : goal.new-requires
 new-requires c =
     let lines = c.loop-line.self in
     let taken = c.in-Some-split_first in
-    first_list_lands lines.by (points_of taken.points) (lists_of taken.rest) (lists_of lines.lists) taken.ensures.lists lines.land
+    let behind = lists_of c.after_empty.result in
+    let land = behind_lands lines.by behind (lists_of lines.lists) c.after_empty.ensures lines.land in
+    first_list_lands lines.by (points_of taken.points) (lists_of taken.rest) behind taken.ensures.lists land
 
 pub invariant_of-self-in-loop-line : goal.invariant_of-self-in-loop-line
 invariant_of-self-in-loop-line c =
     let lines = c.loop-line.self in
     let taken = c.in-Some-split_first in
-    record { land = other_lists_land lines.by (points_of taken.points) (lists_of taken.rest) (lists_of lines.lists) taken.ensures.lists lines.land }
+    let behind = lists_of c.after_empty.result in
+    let land = behind_lands lines.by behind (lists_of lines.lists) c.after_empty.ensures lines.land in
+    record { land = other_lists_land lines.by (points_of taken.points) (lists_of taken.rest) behind taken.ensures.lists land }
+
+pub loop-line-smaller : goal.loop-line-smaller
+loop-line-smaller c =
+    let taken = c.in-Some-split_first in
+    fewer_behind (points_of taken.points) (lists_of taken.rest) (lists_of c.after_empty.result) (lists_of c.loop-line.self.lists) taken.ensures.lists c.after_empty.ensures
+
+pub loop-line-preserved : goal.loop-line-preserved
+loop-line-preserved c =
+    let lines = c.loop-line.self in
+    let taken = c.in-Some-split_first in
+    let first = first_lines_behind lines.by lines.ends (points_of taken.points) (lists_of taken.rest) (lists_of c.after_empty.result) (lists_of lines.lists) taken.ensures.lists c.after_empty.ensures in
+    ap (λ (current : List Line). current ++ lines_of_lists lines.by lines.ends (lists_of taken.rest)) c.new.ensures
+    ∙ sym first
+    ∙ ap (λ (current : List Line). current ++ lines_of_lists lines.by lines.ends (lists_of lines.lists)) (sym c.in_default.ensures.line.0)
+    ∙ c.loop-line.invariant
+
+pub returns-in_default-split_first-clause-line : goal.returns-in_default-split_first-clause-line
+returns-in_default-split_first-clause-line c =
+    let lines = c.loop-line.self in
+    let behind = lists_of c.after_empty.result in
+    let empty : behind ≡ [] = first_of (search rules, grind (arith, common_steps)) in
+    let none = no_lines_behind lines.by lines.ends behind (lists_of lines.lists) empty c.after_empty.ensures in
+    let given = c.in_default.ensures.line in
+    let others = λ (current : List Line). current ++ lines_of_lists lines.by lines.ends (lists_of lines.lists) in
+    (sym c.loop-line.invariant ∙ ap others given.0 ∙ none, ap others given.1 ∙ none)

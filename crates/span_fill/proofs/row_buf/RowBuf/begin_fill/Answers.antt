@@ -1,5 +1,6 @@
 -- The edges are those of the outline's lines.
-use Rattle.std.proofs.Common.{◌≡◌, ◌≤◌, List, length, ap, subst, sym, arith}
+use Rattle.std.proofs.Common.{◌≡◌, ◌≤◌, List, length, ap, subst, sym, ◌∙◌, arith}
+use Rattle.std.proofs.lemmas.Bool.{false≢true}
 use Rattle.std.specs.List.{All}
 use Rattle.span_fill.specs.Edges.{IsEdge}
 use Rattle.span_fill.specs.RowState.{RowState}
@@ -33,11 +34,15 @@ invariant_of-self g c =
         active = omega arith;
         crossings = omega arith;
         counts = c.self.invariant.room.counts;
+        table = c.begin.ensures.room c.self.inside.room c.self.invariant.room.table;
         spans = omega (arith, c.self.invariant.room.spans);
         strokes = c.self.invariant.room.strokes;
       };
       count = count;
       near = c.copy_lines.ensures.near;
-      filling = λ h. filling_begins c.args.y c.self.inside.room c.copy_lines.new.lines.items c.collect_edges.new.edges.items c.sort_edges.new.edges.items c.admit-self-inside.result c.admit-self-inside.new.active.items c.next_event-self-inside.result c.copy_lines.ensures.near c.requires.row collected c.sort_edges.ensures.permutation c.sort_edges.ensures.sorted admitted left (omega (arith, edges, c.admit-self-inside.ensures.within)) (omega (arith, edges, count, given, c.admit-self-inside.ensures.length, c.collect_edges.ensures.length)) event;
+      row = c.requires.row;
+      filling = λ h unused. filling_begins c.args.y c.self.inside.room c.copy_lines.new.lines.items c.collect_edges.new.edges.items c.sort_edges.new.edges.items c.admit-self-inside.result c.admit-self-inside.new.active.items c.next_event-self-inside.result c.copy_lines.ensures.near c.requires.row collected c.sort_edges.ensures.permutation c.sort_edges.ensures.sorted admitted left (omega (arith, edges, c.admit-self-inside.ensures.within)) (omega (arith, edges, count, given, c.admit-self-inside.ensures.length, c.collect_edges.ensures.length)) event;
+      tabled = λ h used. absurd (false≢true (sym c.begin.ensures.unused ∙ used));
+      counted = λ used. absurd (false≢true (sym c.begin.ensures.unused ∙ used));
       stroking = λ h. absurd h;
     }

@@ -21,12 +21,16 @@ invariant_of-self g c =
         active = there.active;
         crossings = there.crossings;
         counts = there.counts;
+        table = there.table;
         spans = omega (arith, there.spans, c.clear.ensures.capacity);
         strokes = c.begin.ensures.room c.self.inside.room there.strokes;
       };
       count = count;
       near = c.copy_lines.ensures.near;
-      filling = λ h. absurd h;
+      row = c.requires.row;
+      filling = λ h unused. absurd h;
+      tabled = λ h used. absurd h;
+      counted = c.self.invariant.counted;
       stroking = λ h. record {
         row = c.requires.row;
         are = c.begin.ensures.strokes;

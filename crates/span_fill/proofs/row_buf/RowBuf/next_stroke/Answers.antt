@@ -35,12 +35,16 @@ invariant_of-self c =
         active = there.active;
         crossings = there.crossings;
         counts = there.counts;
+        table = there.table;
         spans = omega (arith, there.spans, c.next_row.ensures.spans_room);
         strokes = c.next_row.ensures.room c.self.inside.room there.strokes;
       };
       count = c.self.invariant.count;
       near = c.self.invariant.near;
-      filling = λ h. absurd (not_both _ (subst (λ (n : Nib). IsFillingWork (row_work c.self.inside.work c.self.inside.rule n)) c.next_row.ensures.nib h) work);
+      row = omega (arith, next);
+      filling = λ h unused. absurd (not_both _ (subst (λ (n : Nib). IsFillingWork (row_work c.self.inside.work c.self.inside.rule n)) c.next_row.ensures.nib h) work);
+      tabled = λ h used. absurd (not_both _ (subst (λ (n : Nib). IsFillingWork (row_work c.self.inside.work c.self.inside.rule n)) c.next_row.ensures.nib h) work);
+      counted = c.self.invariant.counted;
       stroking = λ h. record {
         row = omega (arith, next);
         are = c.next_row.ensures.strokes;

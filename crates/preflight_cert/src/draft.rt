@@ -1,0 +1,102 @@
+//! A certificate that is being written, entry by entry.
+
+ghost use Rattle.std.specs.Prelude.{◌≡◌, ◌≤◌, ◌<◌, ◌^◌, ◌&&◌, ◌==◌, [], ◌∷◌, ◌++◌, List, IfOk, OnOk, drop, length};
+ghost use Rattle.preflight_cert.specs.CertificateReading.{head_size};
+ghost use Rattle.preflight_cert.specs.DraftOf.{Adds, Awaits, Holds, IsFinished, Widens};
+ghost use Rattle.preflight_cert.specs.TextParts.{head_value};
+ghost use Rattle.preflight_cert.specs.declared.entry.Entry.{Entry};
+ghost use Rattle.preflight_cert.specs.declared.version.Version.TheVariants.{Mpc2};
+
+use crate::certificate_reading::HEAD_SIZE;
+use crate::entry::Entry;
+use crate::version::Version;
+use crate::widening::put_nibs;
+use crate::writing::{Head, head_text, put_entry};
+use mapping::Nib;
+use span_fill::OutOfMemory;
+use std::alloc::Global;
+
+/// A certificate that is being written. Each entry becomes its bytes as it comes, so entries are held once; in front of them is room for the head.
+/// It is an `MPC1` until a nib comes that isn't one pixel.
+#[derive(Drop)]
+pub struct Draft {
+    pub version: Version,
+    pub text: Vec<u8>,
+}
+
+impl Draft {
+    /// A draft without entries.
+    pub(crate) fn new(alloc: Global) -> Result<Draft, OutOfMemory>
+        ensures { IfOk result (λ draft. Holds draft []) }
+    {
+        let mut text = Vec::new(alloc);
+        match text.extend_from_slice(&[0; HEAD_SIZE]) {
+            Ok(()) => Ok(Draft {
+                version: Version::Mpc1,
+                text,
+            }),
+            Err(_) => Err(OutOfMemory),
+        }
+    }
+
+    /// Appends an entry.
+    pub(crate) fn push(&mut self, entry: Entry) -> Result<(), OutOfMemory>
+        ensures { OnOk result (Adds self.old self.new (entry ∷ [])) }
+    {
+        self.await_entry(entry)?;
+        put_entry(&mut self.text, self.version, entry)
+    }
+
+    /// Makes the draft an `MPC2` if the entry that comes has a nib that isn't one pixel.
+    fn await_entry(&mut self, entry: Entry) -> Result<(), OutOfMemory>
+        ensures { OnOk result ((entries : List Entry) → Holds self.old entries → Awaits self.new entries entry) }
+    {
+        if is_one_pixel(entry.nib) {
+            return Ok(());
+        }
+        self.widen()
+    }
+
+    /// Makes the draft an `MPC2`.
+    fn widen(&mut self) -> Result<(), OutOfMemory>
+        ensures version { OnOk result (self.new.version ≡ Mpc2) }
+        ensures entries { OnOk result (Widens self.old self.new) }
+    {
+        match self.version {
+            Version::Mpc1 => {
+                self.version = Version::Mpc2;
+                put_nibs(&mut self.text)
+            }
+            Version::Mpc2 => Ok(()),
+        }
+    }
+
+    /// The text of the certificate, with this head.
+    pub(crate) fn finish(self, alloc: Global, head: Head) -> Result<Vec<u8>, OutOfMemory>
+        requires room { head_size ≤ length self.text.items }
+        requires short { length self.text.items < 2 ^ 32 }
+        ensures { IfOk result (λ text. IsFinished self (head_value head) text.items) }
+    {
+        let Draft { version, mut text } = self;
+        let count = (text.len() - HEAD_SIZE) / version.entry_size();
+        let front = head_text(alloc, version, head, count as u32)?;
+        put_front(&mut text[..], &front[..]);
+        Ok(text)
+    }
+}
+
+/// Puts a head where there is room for it.
+fn put_front(text: &mut [u8], front: &[u8])
+    requires front { length front.now ≡ 40 }
+    requires room { 40 ≤ length text.old }
+    ensures { text.new ≡ front.now ++ drop 40 text.old }
+{
+    text[..HEAD_SIZE].copy_from_slice(front);
+}
+
+/// Whether a nib is one pixel.
+fn is_one_pixel(nib: Nib) -> bool
+    ensures { result ≡ (nib.x == 1 && nib.y == 1) }
+{
+    nib.x == 1 && nib.y == 1
+}
