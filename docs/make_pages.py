@@ -8,27 +8,45 @@
 import pathlib
 import re
 import sys
+import textwrap
 
 ROOT = pathlib.Path(__file__).resolve().parent.parent
 sys.path.insert(0, str(ROOT / "tests"))
 
 from page_names import HEAD, crates, libraries  # noqa: E402
 
+WIDTH = 110
+
 MADE = "<!-- Made by docs/make_pages.py: change the sources, not this page. -->"
 
 PROMISES = f"""{MADE}
 # What is proved, crate by crate
 
-Each list is the one in the documentation of the crate's root, `src/lib.rt`. In parentheses stand the calls whose contracts say it. Every function
-is also proved safe and total: no arithmetic wraps, no index is out of bounds, no divisor is 0, and each call returns.
+Each list is the one in the documentation of the crate's root, `src/lib.rt`. In parentheses stand the calls
+whose contracts say it. Every function is also proved safe and total: no arithmetic wraps, no index is out of
+bounds, no divisor is 0, and each call returns.
 """
 
 DEFINITIONS = f"""{MADE}
 # Definitions
 
-The definitions that contracts of public functions cite, by crate and file, each with the comment above it. Numbers in them are whole numbers
-without bounds.
+The definitions that contracts of public functions cite, by crate and file, each with the comment above it.
+Numbers in them are whole numbers without bounds.
 """
+
+
+def wrapped(text):
+    """Paragraphs and items of a list, each wrapped."""
+    for block in re.split(r"\n\s*\n|\n(?=- )", text):
+        item = block.startswith("- ")
+        yield textwrap.fill(" ".join(block.split()), WIDTH, subsequent_indent="  " if item else "", break_long_words=False, break_on_hyphens=False)
+
+
+def joined(text):
+    """A text whose paragraphs are wrapped, with an empty line between paragraphs and none between the items of a list."""
+    blocks = list(wrapped(text))
+    gaps = ["\n" if one.startswith("- ") and other.startswith("- ") else "\n\n" for one, other in zip(blocks, blocks[1:])]
+    return "".join(part for pair in zip(blocks, [*gaps, ""]) for part in pair)
 
 
 def documentation(name):
@@ -45,7 +63,7 @@ def promises_page():
         if (ROOT / "crates" / name / "src" / "lib.rt").exists():
             head, promises = documentation(name)
             if promises:
-                sections.append(f"## `{name}`\n\n{head}\n\n{promises}\n")
+                sections.append(f"## `{name}`\n\n{joined(head)}\n\n{joined(promises)}\n")
     return "\n".join(sections)
 
 

@@ -1,9 +1,10 @@
-"""Prose is easy to read: short lines, paragraphs and sentences, and words that everybody knows. It is read in the README, on the pages of docs/, in the text
-of --help and in the documentation of public items; tables and code are left out.
+"""Measures prose: short lines, paragraphs and sentences, and words that everybody knows. It reads the README, the pages of docs/ and the documentation of
+public items; tables and code are left out.
+
+    tests/prose.py   prints what is too long or in a dialect of our own, page by page and file by file
 """
 
 import re
-import unittest
 
 from built import CRATES, ROOT
 
@@ -81,22 +82,17 @@ def faults(lines, is_page=True):
             yield f"'{word}': {DIALECT[word]}"
 
 
-class Prose(unittest.TestCase):
-    """The prose of pages and documentation."""
-
-    maxDiff = None
-
-    def test_the_pages(self):
-        wrong = [f"{name}: {lines[0][:60]}: {it}" for name, page in pages().items() for lines in paragraphs(page) for it in faults(lines)]
-        self.assertEqual(wrong, [])
-
-    def test_the_documentation_of_public_items(self):
-        wrong = []
-        for path in sorted(CRATES.glob("*/src/**/*.rt")):
-            for lines in documentation(path):
-                wrong += [f"{path.relative_to(CRATES)}: {lines[0][:60]}: {it}" for it in faults(lines, is_page=False)]
-        self.assertEqual(wrong, [])
+def main():
+    """Prints what is wrong."""
+    for name, page in pages().items():
+        for lines in paragraphs(page):
+            for it in faults(lines):
+                print(f"{name}: {lines[0][:60]}: {it}")
+    for path in sorted(CRATES.glob("*/src/**/*.rt")):
+        for lines in documentation(path):
+            for it in faults(lines, is_page=False):
+                print(f"{path.relative_to(CRATES)}: {lines[0][:60]}: {it}")
 
 
 if __name__ == "__main__":
-    unittest.main()
+    main()
