@@ -440,6 +440,17 @@ def long_polylines():
     return Counted(WMF.file(records, (width, height), 0), width, height)
 
 
+def tall_drawings_in_bands():
+    """Polygons of many edges and flat strokes, as high as a surface of sixteen bands: in each band only its own rows are gone through."""
+    chance, width, height = random.Random(23), 8192, 2048
+    records = WMF.records("solid_brush 0 0x206040; select 0")
+    for _ in range(5):
+        across = [part for number in range(100) for part in (chance.randrange(width), number % 2 * (height - 1))]
+        flat = [part for row in range(0, height, 8) for part in (chance.randrange(width), row)]
+        records += [WMF.step("polyline", *flat), WMF.step("polygon", *across)]
+    return Counted(WMF.file(records, (width, height), 1), width, height)
+
+
 def unseen_ink():
     """Tiled polygons of two small triangles in opposite corners of a large surface, and blits of a bitmap under a box that is cut out and as large
     as the surface: nothing is gathered where nothing is painted."""
@@ -517,6 +528,7 @@ FILES = {
     "10,000 small drawings in bands, 8,192 by 2,048": small_drawings_in_bands,
     "a polygon of 100,000 short edges, 64 by 8,192": edges_of_one_row,
     "160 upright and flat polylines, 8,192 by 96": long_polylines,
+    "10 tall drawings in bands, 8,192 by 2,048": tall_drawings_in_bands,
     "tiles and blits of which little is seen": unseen_ink,
     "empty lists beside a list of points": empty_lists,
     "4 strokes of flat and upright lines, 8,192 by 64": strokes_in_either_order,

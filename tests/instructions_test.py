@@ -1,4 +1,4 @@
-"""The instructions that the built program takes on forty-two files, beside those on record in bench/."""
+"""The instructions that the built program takes on forty-three files, beside those on record in bench/."""
 
 import sys
 import unittest

@@ -56,6 +56,7 @@ fn play_checked<O: FaultCount>(
     asked: AskedSurface,
     out: &mut O,
 ) -> Result<(), Failure>
+    requires bands { IfSome asked.bands (λ rows. 1 ≤ rows) }
     requires room { O.fault_count out.old < 2 ^ 64 - 1 }
     ensures done { OnOk result (WritesDone (asked_play file.now certificate.now asked) O.contents out.old out.new) }
     ensures failed { IfErr result (FailsWith (asked_play file.now certificate.now asked) O.contents out.old out.new) }

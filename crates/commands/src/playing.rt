@@ -30,7 +30,7 @@ const BYTES_A_RECORD: usize = 16;
 ///
 /// # Guarantees
 ///
-/// - Each side is at least 1, and so are the rows of a band.
+/// - Each side is at least 1.
 #[derive(Clone, Copy, Debug)]
 pub(crate) struct AskedSurface {
     /// How many pixels a row has.
@@ -41,11 +41,11 @@ pub(crate) struct AskedSurface {
     pub(crate) bands: Option<u32>,
     pub(crate) ghost wide: { 1 ≤ width },
     pub(crate) ghost high: { 1 ≤ height },
-    pub(crate) ghost some: { IfSome bands (λ rows. 1 ≤ rows) },
 }
 
 /// How many rows a band has.
 fn band_rows(asked: AskedSurface, cleared: &Cleared<'_>) -> u32
+    requires { IfSome asked.bands (λ rows. 1 ≤ rows) }
     ensures { 1 ≤ result }
 {
     match asked.bands {
@@ -56,8 +56,8 @@ fn band_rows(asked: AskedSurface, cleared: &Cleared<'_>) -> u32
 
 /// How many pixels a band has: the more, the more work it is to read the records again for each band. A small band stays in the cache.
 fn band_pixels(asked: AskedSurface, cleared: &Cleared<'_>) -> u32 {
-    let surface = u64::from(asked.width) * u64::from(asked.height);
-    let lines = u64::from(cleared.certificate.needs.edges) + 1;
+    let surface = u64::from(asked.width).saturating_mul(u64::from(asked.height));
+    let lines = u64::from(cleared.certificate.needs.edges).saturating_add(1);
     let work = u64::from(cleared.records).saturating_mul(lines);
     let work = work.max((cleared.opened.records.len() / BYTES_A_RECORD) as u64);
     let share = surface.saturating_mul(work) / LITTLE_WORK;
@@ -72,6 +72,7 @@ pub(crate) fn write_played<O: FaultCount>(
     asked: AskedSurface,
     out: &mut O,
 ) -> Result<(), Failure>
+    requires bands { IfSome asked.bands (λ rows. 1 ≤ rows) }
     requires room { O.fault_count out.old < 2 ^ 64 - 1 }
     ensures done { OnOk result (PlaysTo cleared.now asked.width asked.height O.contents out.old out.new) }
     ensures failed { IfErr result (FailsToPlay cleared.now asked.width asked.height O.contents out.old out.new) }
