@@ -15,20 +15,23 @@ from metafile.scripts import EMF, FORMS, SIDE, WMF
 
 MIB = 1 << 20
 
-# What a run may take beside the program itself and the file, whatever the surface: a band takes 3 MiB of it.
+# What a run may take beside the program itself and the file, whatever the surface: a band takes at most 3 MiB of it, or 5 where rows lie far apart.
 ROOM = 8 * MIB
 
 # The least room beside the bare program in which it is tried: its own pages for reading a file.
 LEAST = MIB // 16
 
-# A band of 1,024 rows of 1,024 pixels, which lie 1,088 apart.
-BAND = 3 * 1024 * 1088
+# A small file's band of 64 rows of 1,024 pixels, which lie 1,088 apart.
+BAND = 3 * 64 * 1088
 
 # What a play by a certificate may take beside that, where it needs neither lines nor pieces of a path.
 LITTLE = MIB
 
 # How many bytes a line of a drawing takes in all lists of a buffer of rows, and a piece of a path in its own.
 LINE, PIECE = 392, 96
+
+# From so many lines on there is room for a table beside these lists: 256 columns of 8,192 flags, and a column of changes.
+TABLED, TABLE = 4096, 2 * MIB + MIB // 16
 
 # How many lines make these lists long.
 LONG = 1 << 17
@@ -179,6 +182,7 @@ class CertifiedMemory(unittest.TestCase):
             edges, pieces = struct.unpack_from("<II", kept, 28)
             # (a list of bytes that is full moves into one at most twice as long, and both are there while it is read alone)
             limit = bare(program) + 2 * (len(given) + len(kept)) + 3 * SIDE * SIDE + LINE * edges + PIECE * pieces + LITTLE
+            limit += TABLE if edges >= TABLED else 0
             self.assertEqual(answer_within(limit, program, words), ample, (form.name, script[:80]))
 
     @for_each_program
@@ -244,7 +248,7 @@ class LittleMemory(unittest.TestCase):
     def test_a_limit_far_too_low_is_told(self, program):
         for width, height in [(8192, 8192), (8192, 4096), (4096, 8192), (4096, 4096), (2048, 8192)]:
             words = ["show", "stdin", str(width), str(height)]
-            told = answer_within(bare(program) + 3 * MIB // 2, program, words, DOT)
+            told = answer_within(bare(program) + MIB // 8, program, words, DOT)
             self.assertEqual(told, OUT_OF_MEMORY, (width, height))
 
     @for_each_program
