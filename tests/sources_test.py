@@ -1,11 +1,12 @@
-"""The sources give up only where the list of such functions says so, each line with its reason, and these are the list's, line by line.
+"""Each function that can give up is in refusals_made.txt, with a checksum of its body and a reason for each line that gives up.
 
-No clause refuses a program that wants memory, or can't read or write, at one size alone, nor one that reads a file's records once more than
-it should, or divides where it needn't: what leads to such an answer, and what is dear, is read here.
-`python3 -B tests/sources_test.py --missing` prints what the list and the sources don't have in common; with `--update` the list is
-written anew: reasons stay where the lines are as they were, and each other reason is to be written.
+No contract rejects a function that runs out of memory, or can't read or write, at one size only, nor one that reads a file's records once
+more than it must, or divides where it needn't. So a change to any of them is reported here, until someone has reviewed it.
+`python3 -B tests/sources_test.py --missing` prints how the list and the sources differ. `--update` writes the list anew: reasons stay where
+their lines are unchanged, and the others must be written by hand.
 """
 
+import hashlib
 import pathlib
 import re
 import sys
@@ -19,8 +20,9 @@ LIST = pathlib.Path(__file__).with_name("refusals_made.txt")
 
 REASON = "because: "
 
-HEAD = """# Where the sources give up, and why it is right: each function in which they do, with its whole body, and what stands between the
-# system and the proved calls; and the attributes, constants and names of their files. A reason is of the line above it. tests/sources_test.py compares.
+HEAD = """# Where the sources give up, and why it is right: each function that does, each function between the system and the proved calls, and the
+# attributes, constants and imports of their files, with a checksum of all its lines. A reason is that of the line above it. tests/sources_test.py
+# compares.
 """
 
 # Functions between the system and the proved calls: no clause can know which words, names and bytes the system gives, so each
@@ -46,11 +48,23 @@ BETWEEN = [
 ]
 
 
-class Told(NamedTuple):
-    """A line as it is listed, with its reasons."""
+class Known(NamedTuple):
+    """A function as it is listed: a checksum of its body, and the lines that have reasons, in order, each with these."""
 
-    text: str
+    checksum: str
     reasons: tuple
+
+    def by_line(self):
+        """The reasons of each line by its text; where a text stands twice, in order."""
+        found = {}
+        for text, reasons in self.reasons:
+            found.setdefault(text, []).append(reasons)
+        return found
+
+
+def checksum(body):
+    """A checksum of all lines of a body."""
+    return hashlib.sha256("\n".join(line.text for line in body.lines).encode()).hexdigest()[:16]
 
 
 def sources_of(crate):
@@ -102,67 +116,66 @@ def aliases(text):
 
 
 def listed(text):
-    """The functions of a list, in blocks apart by empty lines: the lines of each by its name."""
+    """The functions of a list by their names, in blocks separated by empty lines."""
     found = {}
     for block in text.split("\n\n"):
         lines = [line for line in block.splitlines() if line and not line.startswith("#")]
         if lines:
-            found[lines[0]] = told_lines(line.removeprefix("    ") for line in lines[1:])
+            name, _, known = lines[0].partition(" ")
+            found[name] = Known(known, reasons_of(line.strip() for line in lines[1:]))
     return found
 
 
-def told_lines(lines):
-    """The lines of a body, each with the reasons that follow it."""
-    told = []
+def reasons_of(lines):
+    """The lines of a block that aren't reasons, each with the reasons that follow it."""
+    found = []
     for line in lines:
-        _, sign, reason = line.partition(REASON)
-        if sign:
-            told[-1] = Told(told[-1].text, (*told[-1].reasons, reason))
+        if line.startswith(REASON.rstrip()):
+            found[-1][1].append(line.removeprefix(REASON.rstrip()).strip())
         else:
-            told.append(Told(line, ()))
-    return tuple(told)
+            found.append((line, []))
+    return tuple((text, tuple(filter(None, reasons))) for text, reasons in found)
 
 
-def unreasoned(body, told):
+def with_reasons(body, known):
+    """The lines of a body, each with its reasons."""
+    by_line = known.by_line() if known else {}
+    return [(line, by_line[text].pop(0) if by_line.get(text := line.text.strip()) else ()) for line in body.lines]
+
+
+def unreasoned(body, known):
     """The lines of a body that want a reason and have none, and a line for a body that has none at all."""
-    bare = [line.text.strip() for line, known in zip(body.lines, told) if line.wants_reason() and not known.reasons]
-    return bare if bare or any(it.reasons for it in told) or not body.gives_up() else ["no line has a reason"]
+    lines = with_reasons(body, known)
+    bare = [line.text.strip() for line, reasons in lines if line.wants_reason() and not reasons]
+    return bare if bare or any(reasons for _, reasons in lines) or not body.gives_up() else ["no line has a reason"]
 
 
-def complaint(made, told):
-    """What is to be said where the list isn't that of the sources."""
-    said = [f"{name} is listed, and nothing in it gives up, or it isn't there" for name in told.keys() - {it.function for it in made}]
+def complaint(made, known):
+    """How the list differs from the sources."""
+    said = [f"{name} is listed, but nothing in it gives up, or it isn't there" for name in known.keys() - {it.function for it in made}]
     for body in made:
-        known = told.get(body.function)
-        if known is None:
+        here = known.get(body.function)
+        if here is None:
             said.append(f"{body.function} isn't listed")
-        elif [line.text for line in body.lines] != [line.text for line in known]:
-            said.append(f"{body.function} isn't what is listed")
+        elif here.checksum != checksum(body):
+            said.append(f"{body.function} has changed")
         else:
-            said += [f"{body.function} has no reason for: {line}" for line in unreasoned(body, known)]
+            said += [f"{body.function} has no reason for: {line}" for line in unreasoned(body, here)]
     return "\n".join(said)
 
 
-def block(body, reasons):
-    """A function as the list has it, with the reasons of its lines by their texts, in order."""
-    lines = [body.function]
-    for line in body.lines:
-        indent = " " * (4 + len(line.text) - len(line.text.lstrip()))
-        known = reasons.get(line.text, [])
-        why = known.pop(0) if known else ("",) * line.wants_reason()
-        lines += [f"    {line.text}", *[f"{indent}{REASON}{reason}".rstrip() for reason in why]]
+def block(body, known):
+    """A function as the list has it: its checksum, and its lines that have a reason or want one."""
+    lines = [f"{body.function} {checksum(body)}"]
+    for line, reasons in with_reasons(body, known):
+        if reasons or line.wants_reason():
+            lines += [f"    {line.text.strip()}", *[f"    {REASON}{reason}".rstrip() for reason in reasons or ("",)]]
     return "\n".join(lines) + "\n"
 
 
-def renewed(made, told):
+def renewed(made, known):
     """The list of these functions, with the reasons of the lines that were listed with the same text."""
-    blocks = []
-    for body in made:
-        reasons = {}
-        for line in told.get(body.function, ()):
-            reasons.setdefault(line.text, []).append(line.reasons)
-        blocks.append(block(body, reasons))
-    return HEAD + "\n" + "\n".join(blocks)
+    return HEAD + "\n" + "\n".join(block(body, known.get(body.function)) for body in made)
 
 
 class Sources(unittest.TestCase):
@@ -263,35 +276,48 @@ impl Answer {
 }
 '''
 
-# Its functions, as they are listed.
-LISTED = """crate::file::room
-    if count <= self.room {
-        return Ok(());
-    }
+# The lines of its functions that are listed.
+ROOM = """if count <= self.room {
+    return Ok(());
+}
+grow(&mut self.lines, count)?;
+match self.lines.reserve(count) {
+    Ok(()) => Ok(()),
+    Err(_) => Err(OutOfMemory),
+}"""
+STATUS = """let Ok(text) = self.text() else {
+    report(err, "cannot read");
+    return 3;
+};
+if text.is_empty() {
+    REFUSED
+} else {
+    DONE
+}"""
+USE = "use crate::status::{DONE, REFUSED};"
+
+
+def short_sum(lines):
+    """The first 16 digits of the SHA-256 of these lines."""
+    return hashlib.sha256(lines.encode()).hexdigest()[:16]
+
+
+# How they are listed.
+LISTED = f"""crate::file::room {short_sum(ROOM)}
     grow(&mut self.lines, count)?;
-    because: the lines want room.
-    match self.lines.reserve(count) {
-        Ok(()) => Ok(()),
-        Err(_) => Err(OutOfMemory),
-        because: the allocator refused.
-    }
+    because: the lines need memory.
+    Err(_) => Err(OutOfMemory),
+    because: the allocator is out of memory.
 
-crate::file::Answer::status
-    let Ok(text) = self.text() else {
-        report(err, "cannot read");
-        because: it is told.
-        return 3;
-        because: no text.
-    };
-    if text.is_empty() {
-        REFUSED
-        because: the text is empty.
-    } else {
-        DONE
-    }
+crate::file::Answer::status {short_sum(STATUS)}
+    report(err, "cannot read");
+    because: it is reported.
+    return 3;
+    because: no text.
+    REFUSED
+    because: the text is empty.
 
-crate::file::use
-    use crate::status::{DONE, REFUSED};
+crate::file::use {short_sum(USE)}
 """
 
 # Changes that give up at one size, some of them under a turned name, and some that drop a report.
@@ -360,7 +386,7 @@ class Reading(unittest.TestCase):
         for reason in [line for line in LISTED.splitlines() if REASON in line]:
             with self.subTest(reason=reason):
                 self.assertIn("has no reason", complaint(read(SOURCE), listed(LISTED.replace(reason + "\n", ""))))
-        self.assertIn("isn't there", complaint(read(SOURCE), listed(LISTED + "\ncrate::file::other\n    DONE\n")))
+        self.assertIn("isn't there", complaint(read(SOURCE), listed(LISTED + "\ncrate::file::other 0\n    DONE\n")))
         self.assertIn("isn't listed", complaint(read(SOURCE), listed(LISTED.partition("\n\n")[2])))
 
     def test_the_constants_of_their_files_are_read(self):
@@ -383,7 +409,7 @@ class Reading(unittest.TestCase):
 
     def test_a_list_is_read_as_it_is_written(self):
         self.assertEqual(renewed(read(SOURCE), listed(LISTED)), HEAD + "\n" + LISTED)
-        bare = renewed(read(SOURCE), listed(LISTED.replace("because: it is told.", "because:")))
+        bare = renewed(read(SOURCE), listed(LISTED.replace("because: it is reported.", "because:")))
         self.assertIn('report(err, "cannot read")', complaint(read(SOURCE), listed(bare)))
 
 
