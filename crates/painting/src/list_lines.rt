@@ -42,26 +42,21 @@ pub(crate) struct ListLines<'a> {
 impl<'a> ListLines<'a> {
     ghost use Rattle.painting.specs.LinesToCome.{lines_left};
 
-    /// The lines of a list.
-    pub(crate) fn new(by: Projection, ends: Ends, points: Points<'a>) -> ListLines<'a>
-        requires { AllLand by (points_of points) }
-        ensures { lines_left result ≡ lines_of_list by ends (points_of points.entry) }
+    /// Begins with another list. Only what differs between lists is written, since a drawing may have many that are short.
+    pub(crate) fn begin(&mut self, points: Points<'a>)
+        requires { AllLand self.old.by (points_of points) }
+        ensures lines { lines_left self.new ≡ lines_of_list self.old.by self.old.ends (points_of points.entry) }
+        ensures by { self.new.by ≡ self.old.by }
+        ensures ends { self.new.ends ≡ self.old.ends }
     {
         let Some((first, rest)) = points.split_first() else {
-            return ListLines {
-                by,
-                ends,
-                course: None,
-                points,
-            };
+            self.course = None;
+            self.points = points;
+            return;
         };
-        let first = by.at(first);
-        ListLines {
-            by,
-            ends,
-            course: Some(Traced { first, last: first }),
-            points: rest,
-        }
+        let first = self.by.at(first);
+        self.course = Some(Traced { first, last: first });
+        self.points = rest;
     }
 
     /// How many lines are to come.
@@ -77,10 +72,12 @@ impl<'a> ListLines<'a> {
         }
     }
 
-    /// The next line, or none behind the last.
+    /// The next line, or none after the last.
     pub(crate) fn next_line(&mut self) -> Option<Line>
         ensures line { GivesFirst (lines_left self.old) result (lines_left self.new) }
         ensures near { IfSome result HasNearEnds }
+        ensures by { self.new.by ≡ self.old.by }
+        ensures ends { self.new.ends ≡ self.old.ends }
     {
         let Some(course) = self.course else {
             return None;

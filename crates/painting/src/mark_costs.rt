@@ -119,8 +119,12 @@ fn is_narrow(drawn: Region) -> bool {
 
 /// Whether a line has few columns and few rows.
 fn is_short(line: Line) -> bool {
-    line.to.x.wrapping_sub(line.from.x).unsigned_abs() < SHORT
-        && line.to.y.wrapping_sub(line.from.y).unsigned_abs() < SHORT
+    is_small(line.to.x.wrapping_sub(line.from.x)) && is_small(line.to.y.wrapping_sub(line.from.y))
+}
+
+/// Whether a number is above -16 and below 16, by one comparison: each line of a stroke asks twice.
+fn is_small(number: i32) -> bool {
+    (number.wrapping_add(SHORT as i32 - 1) as u32) < 2 * SHORT - 1
 }
 
 /// How many numbers of a span lie between these, or are one of them: none, where it isn't above 0.

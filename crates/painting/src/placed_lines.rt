@@ -1,10 +1,10 @@
 //! The lines of lists of points of the page, where they land, one list's after another's.
 
-ghost use Rattle.std.specs.Prelude.{◌≡◌, ◌∷◌, ◌<◌, ◌^◌, length, IfSome};
+ghost use Rattle.std.specs.Prelude.{◌≡◌, ◌∷◌, ◌<◌, ◌^◌, length};
 ghost use Rattle.mapping.specs.declared.geometry.Point.{Point};
 ghost use Rattle.point_views.specs.Points.{points_of};
 ghost use Rattle.point_views.specs.Polys.{lists_of};
-ghost use Rattle.span_fill.specs.Lines.{GivesFirst, HasNearEnds, IsNearPoint};
+ghost use Rattle.span_fill.specs.Lines.{IsNearPoint};
 ghost use Rattle.preflight_cert.specs.Outlines.{open_lines_of};
 ghost use Rattle.painting.specs.PlacedLines.{AllLand, AllListsLand, lines_between, lines_of_lists, projected_list};
 
@@ -18,16 +18,14 @@ use span_fill::{Line, Outline};
 #[derive(Clone, Copy, Debug, Drop)]
 pub(crate) struct PlacedLines<'a> {
     /// The list whose lines are being given.
-    pub(crate) current: Option<ListLines<'a>>,
-    pub(crate) by: Projection,
-    pub(crate) ends: Ends,
+    pub(crate) current: ListLines<'a>,
     /// The lists after it.
     pub(crate) lists: Polys<'a>,
-    pub(crate) ghost land: { AllListsLand by (lists_of lists) },
+    pub(crate) ghost land: { AllListsLand current.by (lists_of lists) },
 }
 
 impl<'a> PlacedLines<'a> {
-    ghost use Rattle.painting.specs.LinesToCome.{lines_of_current, lines_to_come};
+    ghost use Rattle.painting.specs.LinesToCome.{lines_to_come};
 
     /// The lines of some lists.
     pub(crate) fn of_lists(by: Projection, ends: Ends, lists: Polys<'a>) -> PlacedLines<'a>
@@ -35,9 +33,12 @@ impl<'a> PlacedLines<'a> {
         ensures { lines_to_come result ≡ lines_of_lists by ends (lists_of lists.entry) }
     {
         PlacedLines {
-            current: None,
-            by,
-            ends,
+            current: ListLines {
+                by,
+                ends,
+                course: None,
+                points: lists.points().part(0, 0),
+            },
             lists,
         }
     }
@@ -54,7 +55,7 @@ impl<'a> PlacedLines<'a> {
         ensures { lines_to_come result ≡ lines_between ends (start ∷ projected_list by (points_of points.entry)) }
     {
         PlacedLines {
-            current: Some(ListLines {
+            current: ListLines {
                 by,
                 ends,
                 course: Some(Traced {
@@ -62,32 +63,19 @@ impl<'a> PlacedLines<'a> {
                     last: start,
                 }),
                 points,
-            }),
-            by,
-            ends,
+            },
             lists: Polys::empty(),
         }
     }
 
     /// How many lines the lists have after the one whose lines are being given.
     fn count_lists(&self) -> usize
-        ensures count { result ≡ length (lines_of_lists self.now.by self.now.ends (lists_of self.now.lists)) }
+        ensures count { result ≡ length (lines_of_lists self.now.current.by self.now.current.ends (lists_of self.now.lists)) }
         ensures few { result < 2 ^ 62 }
     {
-        match self.ends {
+        match self.current.ends {
             Ends::Open => count_open(self.lists),
             Ends::Closed => count_points(self.lists.points()),
-        }
-    }
-
-    /// The next line of a list, or none behind its last, or where there is no list.
-    fn next_of(current: &mut Option<ListLines<'a>>) -> Option<Line>
-        ensures line { GivesFirst (lines_of_current current.old) result (lines_of_current current.new) }
-        ensures near { IfSome result HasNearEnds }
-    {
-        match current {
-            None => None,
-            Some(lines) => lines.next_line(),
         }
     }
 }
@@ -112,23 +100,19 @@ impl<'a> Outline for PlacedLines<'a> {
     ghost lines = { lines_to_come };
 
     fn count(&self) -> usize {
-        let current = match self.current {
-            None => 0,
-            Some(lines) => lines.count(),
-        };
-        current + self.count_lists()
+        self.current.count() + self.count_lists()
     }
 
     fn next_line(&mut self) -> Option<Line> {
         loop {
-            if let Some(line) = PlacedLines::next_of(&mut self.current) {
+            if let Some(line) = self.current.next_line() {
                 return Some(line);
             }
             // A record may have millions of lists without points, and each band goes through them.
             let Some((points, rest)) = self.lists.after_empty().split_first() else {
                 return None;
             };
-            self.current = Some(ListLines::new(self.by, self.ends, points));
+            self.current.begin(points);
             self.lists = rest;
         }
     }
