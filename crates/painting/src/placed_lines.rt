@@ -1,4 +1,4 @@
-//! The lines of lists of points of the page, where they land, one list's after another's.
+//! The lines through lists of page points, on the surface, one list after another.
 
 ghost use Rattle.std.specs.Prelude.{◌≡◌, ◌∷◌, ◌<◌, ◌^◌, length, IfSome};
 ghost use Rattle.mapping.specs.declared.geometry.Point.{Point};
@@ -14,10 +14,10 @@ use mapping::Point;
 use point_views::{Points, Polys};
 use span_fill::{Line, Outline};
 
-/// The lines of lists of points that are to come.
+/// The remaining lines of some lists of points.
 #[derive(Clone, Copy, Debug, Drop)]
 pub(crate) struct PlacedLines<'a> {
-    /// The list whose lines are being given.
+    /// The current list.
     pub(crate) current: Option<ListLines<'a>>,
     pub(crate) by: Projection,
     pub(crate) ends: Ends,
@@ -42,7 +42,7 @@ impl<'a> PlacedLines<'a> {
         }
     }
 
-    /// The lines from a placed point through points of the page.
+    /// The lines from a point of the surface through some page points.
     pub(crate) fn from(
         start: Point,
         ends: Ends,
@@ -69,7 +69,7 @@ impl<'a> PlacedLines<'a> {
         }
     }
 
-    /// How many lines the lists have after the one whose lines are being given.
+    /// The number of lines in the lists after the current one.
     fn count_lists(&self) -> usize
         ensures count { result ≡ length (lines_of_lists self.now.by self.now.ends (lists_of self.now.lists)) }
         ensures few { result < 2 ^ 62 }
@@ -80,7 +80,7 @@ impl<'a> PlacedLines<'a> {
         }
     }
 
-    /// The next line of a list, or none behind its last, or where there is no list.
+    /// The next line of the current list. `None` after its last line, or if there is no list.
     fn next_of(current: &mut Option<ListLines<'a>>) -> Option<Line>
         ensures line { GivesFirst (lines_of_current current.old) result (lines_of_current current.new) }
         ensures near { IfSome result HasNearEnds }
@@ -92,7 +92,8 @@ impl<'a> PlacedLines<'a> {
     }
 }
 
-/// How many lines there are from point to point of each list: in a list that has points, one less than it has.
+/// The number of lines between consecutive points of each list. A list with points has one line less than it has
+/// points.
 fn count_open(lists: Polys<'_>) -> usize
     ensures count { result ≡ length (open_lines_of (lists_of lists.entry)) }
     ensures few { result < 2 ^ 62 }
@@ -124,7 +125,7 @@ impl<'a> Outline for PlacedLines<'a> {
             if let Some(line) = PlacedLines::next_of(&mut self.current) {
                 return Some(line);
             }
-            // A record may have millions of lists without points, and each band goes through them.
+            // A record may have millions of lists without points, and every band goes through them.
             let Some((points, rest)) = self.lists.after_empty().split_first() else {
                 return None;
             };
