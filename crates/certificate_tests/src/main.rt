@@ -1,6 +1,9 @@
-//! Answers requests of tests (tests/certificates_test.py), one after another on standard input: to prepare the certificate of a file, to
-//! check one, to play a file by one over an image, and to count what playing it on white writes. A request is five numbers of four bytes, the lowest first, and the bytes that these
-//! count: its kind, two sides, and how many bytes the file and the certificate have; an image has three bytes a pixel.
+//! A program for tests (tests/certificates_test.py). It answers requests from standard input, one after another:
+//! prepare a file's certificate, check a certificate, play a file by its certificate over an image, or count the writes
+//! of playing it on white.
+//!
+//! A request is five little-endian numbers of four bytes, followed by the bytes that they count. The numbers are its
+//! kind, a width, a height, and the lengths of the file and the certificate. An image has three bytes per pixel.
 #![tactic(auto)]
 
 use canvas::Canvas;
@@ -22,7 +25,7 @@ struct Request<'a> {
     image: &'a [u8],
 }
 
-/// The first bytes, so many, and those behind them, if there are so many.
+/// Splits off this many bytes, if there are that many.
 fn split(bytes: &[u8], count: usize) -> Option<(&[u8], &[u8])> {
     if count <= bytes.len() {
         return Some(bytes.split_at(count));
@@ -30,7 +33,7 @@ fn split(bytes: &[u8], count: usize) -> Option<(&[u8], &[u8])> {
     None
 }
 
-/// The first number, and what stands behind it.
+/// The first number, and the bytes after it.
 fn number(bytes: &[u8]) -> Option<(u32, &[u8])> {
     if bytes.len() < 4 {
         return None;
@@ -38,7 +41,7 @@ fn number(bytes: &[u8]) -> Option<(u32, &[u8])> {
     Some((u32_at(bytes, 0), &bytes[4..]))
 }
 
-/// The first colour, and what stands behind it.
+/// The first colour, and the bytes after it.
 fn first_colour(bytes: &[u8]) -> Option<(Colour, &[u8])> {
     if bytes.len() < 3 {
         return None;
@@ -51,7 +54,7 @@ fn first_colour(bytes: &[u8]) -> Option<(Colour, &[u8])> {
     Some((colour, &bytes[3..]))
 }
 
-/// The first request, and what stands behind it.
+/// The first request, and the bytes after it.
 fn next_request(bytes: &[u8]) -> Option<(Request<'_>, &[u8])> {
     let (kind, rest) = number(bytes)?;
     let (width, rest) = number(rest)?;
@@ -77,7 +80,7 @@ fn next_request(bytes: &[u8]) -> Option<(Request<'_>, &[u8])> {
     Some((request, rest))
 }
 
-/// A canvas that shows an image, if it may have these sides.
+/// A canvas that shows an image, if the size is valid.
 fn shown(alloc: Global, width: u32, height: u32, image: &[u8]) -> Option<Canvas> {
     if width < 1 || MAX_SURFACE_SIDE < width || height < 1 || MAX_SURFACE_SIDE < height {
         return None;
@@ -96,7 +99,7 @@ fn shown(alloc: Global, width: u32, height: u32, image: &[u8]) -> Option<Canvas>
     Some(canvas)
 }
 
-/// Plays a file over an image, and writes how many pixels were written, and the image.
+/// Plays a file over an image, and writes the number of pixels written and the image.
 fn answer_play<W: Write>(
     alloc: Global,
     cleared: &Cleared<'_>,
@@ -121,7 +124,7 @@ fn answer_play<W: Write>(
     }
 }
 
-/// Plays a file on a white surface, and writes how many pixels were written.
+/// Plays a file on a white surface, and writes the number of pixels written.
 fn answer_count<W: Write>(
     alloc: Global,
     cleared: &Cleared<'_>,
@@ -141,7 +144,7 @@ fn answer_count<W: Write>(
     }
 }
 
-/// Answers a request: by a line, and by the bytes that are made.
+/// Answers a request with a line and the bytes that were made.
 fn answer<W: Write>(alloc: Global, request: &Request<'_>, out: &mut W) -> io::Result<()> {
     if request.kind == 0 {
         return match prepare(alloc, request.file, request.width, request.height) {

@@ -1,4 +1,4 @@
-//! Certificates that are checked, and the reports of that.
+//! Checking certificates, and the reports.
 
 use crate::comparing::{same, same_want_of_memory};
 use crate::files::{DOT, NIL, NIL_CERT, NOTED, NOTED_CERT, TRI, TRI_CERT, changed};
@@ -9,7 +9,7 @@ use std::alloc::Global;
 use std::process::Abort;
 use std::test::Fail;
 
-/// Ends the test unless checking a certificate ends with this status and this report.
+/// Ends the test unless checking a certificate ends with this status and report.
 fn reports(
     rt: &impl Abort,
     alloc: Global,
@@ -126,7 +126,7 @@ fn a_refusal_is_reported(rt: HostRuntime) -> Result<(), Fail> {
 
 #[test]
 fn a_certificate_that_says_too_little_is_reported(rt: HostRuntime) -> Result<(), Fail> {
-    // Each with the place of a number in the certificate, and its lowest byte.
+    // Each case has the offset of a number in the certificate, and the number's new lowest byte.
     let cases: [(usize, &[u8], &str); 6] = [
         (
             12,
@@ -171,7 +171,7 @@ fn a_certificate_that_says_too_little_is_reported(rt: HostRuntime) -> Result<(),
         1,
         "{\"accepted\":false,\"code\":7,\"fault\":\"ShortCertificate\",\"number\":null,\"record\":null}\n",
     );
-    // An entry that is left over lies in the end record.
+    // A surplus entry is in the end record.
     reports(
         &rt,
         rt.alloc(),

@@ -1,4 +1,4 @@
-//! Command lines, and what each wrong one is answered.
+//! Command lines, and the response to each wrong one.
 
 use crate::comparing::same;
 use canvas::Counting;
@@ -136,7 +136,7 @@ fn each_side_from_1_to_8192_is_taken_in_both_places(rt: HostRuntime) -> Result<(
     Ok(())
 }
 
-/// The line that shows a file at these sides.
+/// The command line that shows a file at this size.
 fn shown(width: u32, height: u32) -> CommandLine<'static> {
     CommandLine::Show {
         file: "a.wmf",
@@ -273,7 +273,7 @@ fn help_that_was_asked_for_goes_to_standard_output(rt: HostRuntime) -> Result<()
 
 #[test]
 fn a_command_line_under_refused_growth(rt: HostRuntime) -> Result<(), Fail> {
-    // Where the test's own words meet the refusal, no line is read.
+    // If the allocation for the test's own words fails, no command line is parsed.
     let Ok(asked) = words(rt.alloc(), &["metaplay", "show", "a.wmf", "4", "5"]) else {
         return Ok(());
     };

@@ -7,7 +7,7 @@ pub(crate) const DOT: &[u8] = b"\xd7\xcd\xc6\x9a\0\0\0\0\0\0\x04\0\x04\0\x60\0\0
     \x01\0\x09\0\0\x03\x13\0\0\0\0\0\x07\0\0\0\0\0\
     \x07\0\0\0\x1f\x04\xff\0\0\0\x01\0\x02\0\x03\0\0\0\0\0";
 
-/// Its certificate for surfaces up to 4 by 4: a write, and the point (2,1).
+/// Its certificate for surfaces of at most 4 by 4: one write, and the point (2,1).
 pub(crate) const DOT_CERT: &[u8] = b"MPC1\x04\0\0\0\x04\0\0\0\x01\0\0\0\0\0\0\0\
     \0\0\0\0\0\0\0\0\0\0\0\0\0\0\0\0\x01\0\0\0\
     \0\0\0\0\x02\0\0\0\x01\0\0\0\x02\0\0\0\x01\0\0\0";
@@ -17,8 +17,8 @@ pub(crate) const TRI: &[u8] = b"\xd7\xcd\xc6\x9a\0\0\0\0\0\0\x04\0\x04\0\x60\0\0
     \x01\0\x09\0\0\x03\x16\0\0\0\0\0\x0a\0\0\0\0\0\
     \x0a\0\0\0\x24\x03\x03\0\0\0\0\0\x04\0\0\0\0\0\x04\0\x03\0\0\0\0\0";
 
-/// Its certificate for surfaces up to 4 by 4: a fill and a stroke of 16 pixels each, three points, and the
-/// box (0,0,4,4).
+/// Its certificate for surfaces of at most 4 by 4: a fill and a stroke of 16 pixels each, three points, and the box
+/// (0,0,4,4).
 pub(crate) const TRI_CERT: &[u8] = b"MPC1\x04\0\0\0\x04\0\0\0\x20\0\0\0\0\0\0\0\
     \0\0\0\0\0\0\0\0\x03\0\0\0\0\0\0\0\x01\0\0\0\
     \0\0\0\0\0\0\0\0\0\0\0\0\x04\0\0\0\x04\0\0\0";
@@ -31,12 +31,12 @@ pub(crate) const NIL: &[u8] =
     \0\0\0\0\0\0\0\0\0\0\0\0\0\0\0\0\
     \x0e\0\0\0\x14\0\0\0\0\0\0\0\x10\0\0\0\x14\0\0\0";
 
-/// A certificate for surfaces up to 2 by 3 that allows nothing.
+/// A certificate for surfaces of at most 2 by 3 that allows nothing.
 pub(crate) const NIL_CERT: &[u8] = b"MPC1\x02\0\0\0\x03\0\0\0\0\0\0\0\0\0\0\0\
     \0\0\0\0\0\0\0\0\0\0\0\0\0\0\0\0\0\0\0\0";
 
-/// A plain file of 5 by 6 units whose size is wrong: its extent, two escapes, a dashed pen of width 3, an
-/// end, and a byte behind it.
+/// A plain file of 5 by 6 units with a wrong size field: its extent, two escapes, a dashed pen of width 3, an end, and
+/// one byte after it.
 pub(crate) const NOTED: &[u8] = b"\x01\0\x09\0\0\x03\0\0\0\0\0\0\0\0\0\0\0\0\
     \x05\0\0\0\x0c\x02\x06\0\x05\0\
     \x05\0\0\0\x26\x06\x01\0\0\0\
@@ -44,12 +44,13 @@ pub(crate) const NOTED: &[u8] = b"\x01\0\x09\0\0\x03\0\0\0\0\0\0\0\0\0\0\0\0\
     \x08\0\0\0\xfa\x02\x01\0\x03\0\0\0\0\0\0\0\
     \x03\0\0\0\0\0\0";
 
-/// A certificate for surfaces up to 10 by 20, which allows 9 writes, 2 saved states and 7 slots.
+/// A certificate for surfaces of at most 10 by 20 that allows 9 writes, 2 saved states and 7 slots.
 pub(crate) const NOTED_CERT: &[u8] = b"MPC1\x0a\0\0\0\x14\0\0\0\x09\0\0\0\0\0\0\0\
     \x02\0\0\0\x07\0\0\0\0\0\0\0\0\0\0\0\0\0\0\0";
 
-/// A placeable file with the box (0,0,1,1), whose page is doubled from record 3 on: there a red pixel at (16385,0), which lands too
-/// far on the largest surface and not on one of half its side, then a restore where no state is saved, and an end.
+/// A placeable file with the box (0,0,1,1), whose page is doubled from record 3 on. That record is a red pixel at
+/// (16385,0), which lands beyond the limit on the largest surface but not on one of half the size. A restore without a
+/// saved state and an end follow.
 pub(crate) const FAR: &[u8] = b"\xd7\xcd\xc6\x9a\0\0\0\0\0\0\x01\0\x01\0\x60\0\0\0\0\0\x71\x57\
     \x01\0\x09\0\0\x03\x25\0\0\0\0\0\x07\0\0\0\0\0\
     \x04\0\0\0\x03\x01\x08\0\
@@ -58,7 +59,7 @@ pub(crate) const FAR: &[u8] = b"\xd7\xcd\xc6\x9a\0\0\0\0\0\0\x01\0\x01\0\x60\0\0
     \x07\0\0\0\x1f\x04\xff\0\0\0\0\0\x01\x40\
     \x04\0\0\0\x27\x01\xff\xff\x03\0\0\0\0\0";
 
-/// Bytes with other ones from a place on.
+/// Bytes with other bytes from an offset on.
 pub(crate) fn changed(
     alloc: Global,
     bytes: &[u8],

@@ -1,4 +1,4 @@
-//! Inputs that are read to their end, and each that isn't.
+//! Inputs that are read to their end, and inputs that can't be read.
 
 use crate::comparing::same;
 use commands::{InputFault, read_file, read_input};
@@ -7,7 +7,7 @@ use std::io;
 use std::io::Read;
 use std::test::Fail;
 
-/// A reader of some bytes that gives one at a call, and fails at one call, counted from 0.
+/// A reader that returns one byte per call, and fails at one call, counted from 0.
 #[derive(Drop)]
 struct Failing<'a> {
     bytes: &'a [u8],
@@ -39,7 +39,7 @@ fn a_file_is_read_and_not_standard_input(rt: HostRuntime) -> Result<(), Fail> {
     let mut input = "from standard input".as_bytes();
     let bytes = read_file(&rt, "stdin", &mut input)?;
     same(&rt, bytes.as_slice(), b"from standard input".as_slice());
-    // A directory can be opened, and not read; this one is there on every machine.
+    // A directory can be opened but not read, and this one exists on every machine.
     let mut input = "from standard input".as_bytes();
     same(
         &rt,
@@ -76,7 +76,7 @@ fn an_input_is_read_to_its_end(rt: HostRuntime) -> Result<(), Fail> {
 
 #[test]
 fn a_reader_that_has_ended_is_not_asked_again(rt: HostRuntime) -> Result<(), Fail> {
-    // A call for each byte and one for the end: the next would fail.
+    // One call for each byte and one for the end: the next call would fail.
     let mut input = Failing {
         bytes: b"abc",
         calls_left: 4,
@@ -90,7 +90,7 @@ fn a_reader_that_has_ended_is_not_asked_again(rt: HostRuntime) -> Result<(), Fai
 
 #[test]
 fn a_reader_that_fails_cannot_be_read(rt: HostRuntime) -> Result<(), Fail> {
-    // Whatever the kind of its error is, it was no refused growth.
+    // Whatever the kind of the error, no allocation failed.
     for kind in [
         io::ErrorKind::BrokenPipe,
         io::ErrorKind::Interrupted,
@@ -123,7 +123,7 @@ fn an_input_has_at_most_268435456_bytes(rt: HostRuntime) -> Result<(), Fail> {
     Ok(())
 }
 
-/// As many bytes, which repeat at no power of two.
+/// This many bytes, in a pattern whose period isn't a power of two.
 fn pattern(alloc: Global, length: usize) -> Result<Vec<u8>, AllocError> {
     let mut bytes = Vec::new(alloc);
     for k in 0..length {
@@ -149,7 +149,8 @@ fn an_input_may_end_at_a_piece_or_beside_it(rt: HostRuntime) -> Result<(), Fail>
 
 #[test]
 fn an_input_of_any_length_is_read(rt: HostRuntime) -> Result<(), Fail> {
-    // Beside each piece up to 4 MiB, at each length up to 3,000, and at lengths far from a piece.
+    // Around each multiple of the piece's size up to 4 MiB, at each length up to 3,000, and at lengths far from any
+    // multiple.
     let whole = pattern(rt.alloc(), 64 * 65536 + 1)?;
     for piece in 1..=64 {
         for length in [piece * 65536 - 1, piece * 65536, piece * 65536 + 1] {
@@ -173,7 +174,7 @@ fn an_input_of_any_length_is_read(rt: HostRuntime) -> Result<(), Fail> {
     Ok(())
 }
 
-/// Whether an input of the first of these bytes, so many, is read as it is.
+/// Whether an input of this length, a prefix of these bytes, is read unchanged.
 fn is_read_whole(alloc: Global, bytes: &[u8], length: usize) -> Result<bool, InputFault> {
     let Some(wanted) = bytes.get(..length) else {
         return Ok(false);

@@ -1,7 +1,7 @@
-//! Command lines, inputs and outputs that work, and each that doesn't.
+//! Command lines, inputs and outputs that work, and each kind that doesn't.
 //!
-//! Tests named `.._under_refused_growth` are run once more for each growth refused in turn, by
-//! tests/refused_growth_test.py.
+//! tests/refused_growth_test.py runs the tests named `.._under_refused_growth` once more for each allocation that can
+//! fail.
 #![tactic(auto)]
 
 #[cfg(test)]
@@ -33,7 +33,7 @@ use std::alloc::Global;
 use std::io;
 use std::io::Write;
 
-/// A writer that keeps what it takes, and fails once it has taken so many bytes, or at a flush.
+/// A writer that keeps the bytes it accepts, and fails after some number of bytes, or at a flush.
 #[derive(Drop)]
 struct Full {
     taken: Vec<u8>,

@@ -1,4 +1,4 @@
-//! Listings, and what is told where they can't be written.
+//! Listings, and the reports when they can't be written.
 
 use crate::comparing::{same, same_want_of_memory};
 use crate::files::{DOT, FAR, NIL};
@@ -13,11 +13,12 @@ use std::test::Fail;
 const DOT_LINES: &str = "0\t40\t14\t0x041f\tMETA_SETPIXEL\tplayed\tpixel 2,1 #ff0000\n\
     1\t54\t6\t0x0000\tMETA_EOF\tplayed\tnothing\n";
 
-/// And where its last byte is missing.
+/// The listing of `DOT` without its last byte.
 const BROKEN_LINES: &str = "0\t40\t14\t0x041f\tMETA_SETPIXEL\tplayed\tpixel 2,1 #ff0000\n\
     1\t54\t-\t-\t-\trefused\tNoEnd\n";
 
-/// The listing of `FAR`: of record 3 the fault that its run has on the largest surface, of record 4 that on the smallest.
+/// The listing of `FAR`: for record 3 the fault of its run on the largest surface, for record 4 the fault on the
+/// smallest.
 const FAR_LINES: &str = "0\t40\t8\t0x0103\tMETA_SETMAPMODE\tplayed\tmap mode 8\n\
     1\t48\t10\t0x020c\tMETA_SETWINDOWEXT\tplayed\twindow extent 1,1\n\
     2\t58\t10\t0x020e\tMETA_SETVIEWPORTEXT\tplayed\tviewport extent 2,2\n\

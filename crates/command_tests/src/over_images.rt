@@ -1,4 +1,4 @@
-//! Files that are played over images by certificates.
+//! Playing files over images by their certificates.
 
 use crate::comparing::{same, same_want_of_memory};
 use crate::files::{DOT, DOT_CERT, NIL, NIL_CERT, TRI, TRI_CERT, changed};
@@ -7,7 +7,7 @@ use canvas::Counting;
 use commands::over_command;
 use std::test::Fail;
 
-/// An image of 4 by 4 pixels, with a comment in its header and a word behind its raster.
+/// An image of 4 by 4 pixels, with a comment in its header and a word after its raster.
 const PAGE: &[u8] = b"P6 # page\n4 4\t255\nabcdefghijklmnopqrstuvwxyzABCDEFGHIJKLMNOPQRSTUVmore";
 
 /// The same with a red pixel at (2,1).

@@ -1,4 +1,4 @@
-//! Files that are played by certificates.
+//! Playing files by their certificates.
 
 use crate::comparing::{same, same_want_of_memory};
 use crate::files::{NIL, NIL_CERT, TRI, TRI_CERT, changed};

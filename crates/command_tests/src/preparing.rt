@@ -1,4 +1,4 @@
-//! Certificates that are prepared.
+//! Preparing certificates.
 
 use crate::comparing::{same, same_want_of_memory};
 use crate::files::{DOT, NIL, NIL_CERT, TRI, TRI_CERT};
@@ -8,7 +8,7 @@ use commands::prepare_command;
 use std::alloc::Global;
 use std::test::Fail;
 
-/// The certificate of `DOT` for surfaces up to 4 by 4: one write, in record 0, at (2,1).
+/// The certificate of `DOT` for surfaces of at most 4 by 4: one write, in record 0, at (2,1).
 const DOT_CERT: &[u8; 60] = b"MPC1\x04\0\0\0\x04\0\0\0\x01\0\0\0\0\0\0\0\
     \0\0\0\0\0\0\0\0\0\0\0\0\0\0\0\0\x01\0\0\0\
     \0\0\0\0\x02\0\0\0\x01\0\0\0\x02\0\0\0\x01\0\0\0";

@@ -61,7 +61,7 @@ fn the_longest_refusal_has_room(rt: HostRuntime) -> Result<(), Fail> {
     Ok(())
 }
 
-/// Record numbers: each of the first 3,000, and those beside a power of two.
+/// Record numbers: each of the first 3,000, and the neighbours of powers of two.
 fn some_numbers(alloc: Global) -> Result<Vec<u32>, AllocError> {
     let mut numbers = Vec::new(alloc);
     for number in 0..3000 {
@@ -100,7 +100,7 @@ fn a_refusal_in_each_record_is_told_whole(rt: HostRuntime) -> Result<(), Fail> {
 
 #[test]
 fn a_line_of_each_length_is_told_whole(rt: HostRuntime) -> Result<(), Fail> {
-    // 117 bytes, the program's name and the line feed fill a line.
+    // 117 bytes, the program's name and the line feed fill a line exactly.
     let text = "0123456789".repeat(rt.alloc(), 12)?;
     for length in 0..118 {
         let told = text.as_str().get(..length).ok_or("a front")?;
@@ -115,7 +115,7 @@ fn a_line_of_each_length_is_told_whole(rt: HostRuntime) -> Result<(), Fail> {
 
 #[test]
 fn a_line_is_told_whole_or_not_at_all(rt: HostRuntime) -> Result<(), Fail> {
-    // 117 bytes, the program's name and the line feed fill a line.
+    // 117 bytes, the program's name and the line feed fill a line exactly.
     let text = "0123456789".repeat(rt.alloc(), 12)?;
     let mut err = Counting::new(Vec::new(rt.alloc()));
     same(&rt, report(&mut err, &text.as_str()[..117]), Ok(()));

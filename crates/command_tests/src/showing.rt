@@ -1,4 +1,4 @@
-//! Files that are shown, and files that are refused.
+//! Showing files, and rejected files.
 
 use crate::comparing::{same, same_want_of_memory};
 use crate::files::DOT;
@@ -8,13 +8,13 @@ use commands::show_command;
 use std::alloc::{AllocError, Global};
 use std::test::Fail;
 
-/// An image of one row or one column, white but for one red pixel.
+/// An image of one row or one column: white except for one red pixel.
 #[derive(Clone, Copy)]
 struct Strip {
     width: u32,
     height: u32,
     header: &'static [u8],
-    /// How many pixels stand before the red one.
+    /// The number of pixels before the red one.
     red: usize,
 }
 
@@ -66,7 +66,7 @@ fn a_file_that_draws_nothing_is_white(rt: HostRuntime) -> Result<(), Fail> {
 
 #[test]
 fn sides_of_1_8191_and_8192_are_shown(rt: HostRuntime) -> Result<(), Fail> {
-    // Column 2 of 4 begins at half of a width, and row 1 of 4 at a quarter of a height.
+    // Column 2 of 4 begins at half the width, and row 1 of 4 at a quarter of the height.
     let strips = [
         Strip {
             width: 1,
@@ -153,7 +153,7 @@ fn a_refused_file_is_reported_in_one_line(rt: HostRuntime) -> Result<(), Fail> {
         same(&rt, status, 1);
         same(&rt, err.as_slice(), text);
         assert!(rt; out.taken.is_empty());
-        // A fault of standard error changes no status, and is told.
+        // A fault of standard error doesn't change the status, but is returned.
         let mut out = Counting::new(limited(rt.alloc(), 1000, true));
         let mut closed = Counting::new(limited(rt.alloc(), 0, false));
         let answer = show_command(rt.alloc(), file, 4, 4, &mut out, &mut closed);

@@ -1,4 +1,4 @@
-//! Writers that fail, refuse, stop short or are interrupted.
+//! Writers that fail, accept nothing, stop short or are interrupted.
 
 use crate::command_lines::words;
 use crate::comparing::same;
@@ -14,8 +14,7 @@ use std::test::Fail;
 /// The image of `DOT` at 4 by 1: the red pixel is in column 2.
 const ROW: &[u8] = b"P6\n4 1\n255\n\xff\xff\xff\xff\xff\xff\xff\x00\x00\xff\xff\xff";
 
-/// A writer that takes one byte at a call, counts its calls and flushes, and fails at one call,
-/// counted from 0.
+/// A writer that accepts one byte per call, counts its calls and flushes, and fails at one call, counted from 0.
 #[derive(Drop)]
 struct Slow {
     taken: Vec<u8>,
@@ -60,7 +59,7 @@ impl Write for Slow {
     }
 }
 
-/// A writer that takes nothing, and is content.
+/// A writer that accepts no bytes and reports no error.
 #[derive(Drop)]
 struct Deaf;
 

@@ -1,4 +1,4 @@
--- A command that has no argument for other ones gets none by one of its own.
+-- A command without an argument for other commands still has none after one is added for itself.
 use Rattle.std.proofs.Common.{◌≡◌, ◌∙◌, ◌||◌, Bool, false, refl}
 
 pub both_local : (a b x : Bool) → x ≡ (a || b) → a ≡ false → b ≡ false → x ≡ false

@@ -1,4 +1,4 @@
--- The rows of a command that was met are what it was given.
+-- The rows of the parsed command are the arguments that it was given.
 use Rattle.std.proofs.Common.{◌≡◌, ◌∙◌, ap, sym, subst, refl, Bool, List, [], ◌∷◌, false, true, Option, Some, None, IfSome, find, option_map, Box}
 use Rattle.std.proofs.lemmas.Slice.Eq.{bytes_eq-Decides}
 use Rattle.std.specs.Box.{box_value}
@@ -13,7 +13,7 @@ use Rattle.commands.specs.declared.asked.CommandLine.{CommandLine}
 same_inside : {A : Type 0} {x y : A} → Some x ≡ Some y → x ≡ y
 same_inside e = cc
 
--- no command of the list was met
+-- no command of the list was found
 abbrev pub AreNotMet : Option Text → List Shape → Type 0
 AreNotMet met [] = Unit {0}
 AreNotMet met (s ∷ others) = (met ≡ Some s.name → false ≡ true) × AreNotMet met others
@@ -29,11 +29,11 @@ not_found (s ∷ shapes) name shape others found = go (bytes_eq s.name name) ref
     go false is behind = behind (rw is at found)
 
 module _ {Z : Type 0} where
-  -- the name of the command that was met
+  -- the name of the parsed command
   abbrev name_met : Option (Box SubCommand Z) → Option Text
   name_met met = option_map (λ b. (out-SubCommand (box_value b)).name.now) met
 
-  -- and what it was given
+  -- the arguments of the parsed command
   abbrev rows_met : Option (Box SubCommand Z) → Option (List Row)
   rows_met met = option_map (λ p. p.1) (subcommand_rows met)
 
@@ -41,7 +41,7 @@ module _ {Z : Type 0} where
   both_met None name given named rows = cc
   both_met (Some b) name given named rows = cc
 
-  -- a line of that name and of these rows is asked for
+  -- the command line has this name and these rows
   pub asked_by : (met : Option (Box SubCommand Z)) (name : Text) (given : List Row) (r : Option CommandLine) → name_met met ≡ Some name → rows_met met ≡ Some given
       → IfSome r (λ line. command_name line ≡ name) → IfSome r (HoldsWords given) → IfSome r (IsAskedBy (subcommand_rows met))
   asked_by met name given None named rows same gives = tt
@@ -51,7 +51,7 @@ module _ {Z : Type 0} where
     gives = gives;
   }
 
-  -- the command of this name was given what its arguments take
+  -- the command of this name was given proper arguments
   pub right_rows : (met : Option (Box SubCommand Z)) (name : Text) (shape : Shape) (rows : List Row) → IsRightCommand (subcommand_rows met) → name_met met ≡ Some name
       → rows_met met ≡ Some rows → find (λ s. bytes_eq s.name name) metaplay_app.subs ≡ Some shape → GivesAll shape.rules rows
   right_rows met name shape rows right named has declared =
@@ -61,12 +61,12 @@ module _ {Z : Type 0} where
       let one : right.shape ≡ shape = same_inside (sym right.declared ∙ found) in
       subst (λ (given : List Row). GivesAll shape.rules given) (sym (ap (λ (p : Text × List Row). p.1) both)) (subst (λ (s : Shape). GivesAll s.rules right.given) one right.allowed)
 
-  -- what was met has the name that is right
+  -- the parsed command has the right name
   name_right : (met : Option (Box SubCommand Z)) (right : IsRightCommand (subcommand_rows met)) → name_met met ≡ Some right.name
   name_right None right = ap (option_map (λ (command : Text × List Row). command.0)) right.command
   name_right (Some b) right = ap (option_map (λ (command : Text × List Row). command.0)) right.command
 
-  -- where none of the commands was met, nothing right was
+  -- if no command was found, no command line was right
   pub none_right : (met : Option (Box SubCommand Z)) → IsRightCommand (subcommand_rows met) → AreNotMet (name_met met) metaplay_app.subs → ⊥
   none_right met right others =
       not_found metaplay_app.subs right.name right.shape (subst (λ (m : Option Text). AreNotMet m metaplay_app.subs) (name_right met right) others) right.declared

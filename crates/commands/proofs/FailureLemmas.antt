@@ -1,4 +1,4 @@
--- How a task ends, and what it leaves, from whether it is done and why not.
+-- How a task ends and what it writes, from whether it is done and why it fails.
 use Rattle.std.proofs.Common.{◌≡◌, ◌⊎◌, inl, inr, ℕ, List, Option, Some, None, Result, Ok, Err, refl}
 use Rattle.std.specs.Prelude.{IfErr, OnOk, ⊤}
 use Rattle.std.specs.Io.KnownBytes.{Keeps}
@@ -17,7 +17,7 @@ pub kept : (held : Option (List ℕ)) → Keeps held held
 kept None = tt
 kept (Some xs) = refl
 
--- what is written is what the reason says
+-- what is written is what the reason for the failure says
 pub written_by :
     (task : Task) (done : Result ⊤ Failure) (a : Completion) (old new : Option (List ℕ)) → a.end ≡ ending_of done → OnOk done (WritesText (IsDoneBy task) old new)
     → IfErr done (λ failure. Fails task failure old new) → WritesBy a.end task old new
@@ -26,7 +26,7 @@ written_by task (Err (Refused r)) a old new e done failed = rw e failed.1
 written_by task (Err CannotWrite) a old new e done failed = rw e failed
 written_by task (Err OutOfMemory) a old new e done failed = rw e failed
 
--- and so is what is told
+-- what is reported is what the reason for the failure says
 pub told_by :
     (task : Task) (done : Result ⊤ Failure) (a : Completion) (old new held now : Option (List ℕ)) → a.end ≡ ending_of done
     → IfErr done (λ failure. Fails task failure old new) → TellsEnding done a.told held now
@@ -36,7 +36,7 @@ told_by task (Err (Refused r)) a old new held now e failed tells refused = rw e 
 told_by task (Err CannotWrite) a old new held now e failed tells refused = rw e tells
 told_by task (Err OutOfMemory) a old new held now e failed tells refused = rw e tells
 
--- what holds where memory was refused
+-- what holds if an allocation failed
 pub holds_by :
     (done : Result ⊤ Failure) (a : Completion) (P : Type 0) → a.end ≡ ending_of done → IfErr done (λ failure. failure ≡ OutOfMemory → P)
     → a.end ≡ end.OutOfMemory → P
@@ -45,7 +45,7 @@ holds_by (Err (Refused r)) a P e h memory = cc
 holds_by (Err CannotWrite) a P e h memory = cc
 holds_by (Err OutOfMemory) a P e h memory = h refl
 
--- what holds where the output failed
+-- what holds if the output failed
 pub fails_by :
     (done : Result ⊤ Failure) (a : Completion) (P : Type 0) → a.end ≡ ending_of done → IfErr done (λ failure. failure ≡ CannotWrite → P)
     → a.end ≡ end.CannotWrite → P
@@ -54,20 +54,20 @@ fails_by (Err (Refused r)) a P e h failed = cc
 fails_by (Err CannotWrite) a P e h failed = h refl
 fails_by (Err OutOfMemory) a P e h failed = cc
 
--- what holds where the task is done
+-- what holds if the task is done
 pub done_by : (done : Result ⊤ Failure) (a : Completion) (P : Type 0) → a.end ≡ ending_of done → OnOk done P → a.end ≡ end.Done → P
 done_by (Ok u) a P e h is = h
 done_by (Err (Refused r)) a P e h is = cc
 done_by (Err CannotWrite) a P e h is = cc
 done_by (Err OutOfMemory) a P e h is = cc
 
--- a refusal is no output that failed
+-- a rejection isn't a failed output
 pub no_output : (r : Refusal) (failure : Failure) (P : Type 0) → IsFailureOf r failure → failure ≡ CannotWrite → P
 no_output r (Refused other) P by e = cc
 no_output r CannotWrite P by e = absurd by
 no_output r OutOfMemory P by e = cc
 
--- a refusal by which nothing was written
+-- a rejection with nothing written
 pub refusal_fails :
     (task : Task) (r : Refusal) (failure : Failure) (held : Option (List ℕ)) → (IsRefusedBy task r.number r.fault ⊎ IsWantOfMemory r)
     → WritesRefused task held held → IsFailureOf r failure → Fails task failure held held
@@ -76,7 +76,7 @@ refusal_fails task r (Refused other) held (inr want) writes by = absurd (by.1 wa
 refusal_fails task r CannotWrite held h writes by = absurd by
 refusal_fails task r OutOfMemory held h writes by = kept held
 
--- memory was refused where that is the reason
+-- an allocation failed if that is the reason
 pub is_want : (r : Refusal) (failure : Failure) → IsFailureOf r failure → failure ≡ OutOfMemory → r.fault ≡ fault.OutOfMemory
 is_want r (Refused other) by e = cc
 is_want r CannotWrite by e = absurd by

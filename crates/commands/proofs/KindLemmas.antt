@@ -1,4 +1,4 @@
--- What clap's walk makes of words of known kinds.
+-- What clap's parsing does with words of known kinds.
 use Rattle.std.proofs.Common.{◌≡◌, ◌∙◌, ◌&&◌, ◌||◌, ◌++◌, ap, ap₂, refl, ℕ, Bool, List, [], ◌∷◌, false, true, Option, Some, None, codes, fold, is_some}
 use Rattle.std.proofs.lemmas.Bool.{ne_eqb}
 use Rattle.std.specs.List.{list_all}
@@ -13,7 +13,7 @@ use Rattle.commands.proofs.SideLemmas.{plain_side}
 pub no_flags : (byte : ℕ) (rest : Text) → (byte ≡ 45 → ⊥) → short_of (byte ∷ rest) ≡ None
 no_flags byte rest plain = rw (ne_eqb byte 45 plain) refl
 
--- what a plain word is, before it goes to a positional
+-- a plain word, before it is assigned to a positional argument
 abbrev plain_met : List Rule → Bool → Waiting → Text → Held → Held × Step
 plain_met c true waiting word h = (h, value)
 plain_met c false waiting word h = plain_word c waiting word h
@@ -36,7 +36,7 @@ word_plain s false waiting [] h plain = rw (no_command waiting []) refl
 word_plain s false waiting (byte ∷ rest) h plain =
     rw (no_command waiting (byte ∷ rest)) (rw (ne_eqb byte 45 plain) (rw (no_flags byte rest plain) refl))
 
--- the walk after one more plain word
+-- the parser's state after one more plain word
 abbrev plain_from : List Rule → Option (Text × List Text) → Walk → Text → Walk
 plain_from c (Some p) w word = record w { stopped = Some (p.0, p.1 ++ word ∷ []) }
 plain_from c None w word =
@@ -51,7 +51,7 @@ walked_plain c w word plain = go w.stopped
     go (Some p) = refl
     go None = ap (λ (m : Held × Step). after_step c word w m.0 m.1) (met_plain c w.is_trailing w.waiting w.position word w.held plain)
 
--- whether it passes
+-- whether the parser accepts it
 abbrev plain_passes : Shape → Walk → Text → Bool
 plain_passes s w word =
     let met = plain_met s.rules w.is_trailing w.waiting word w.held in
@@ -62,7 +62,7 @@ turn_plain s w word plain =
     ap₂ (λ (passes : Bool) (m : Held × Step). is_some w.stopped || (passes && step_passes s w.position m.0 m.1)) (word_plain s w.is_trailing w.waiting word w.held plain)
     (met_plain s.rules w.is_trailing w.waiting w.position word w.held plain)
 
--- one more word of a kind
+-- one more word of some kind
 abbrev kind_walked : List Rule → ArgumentKind → Walk → Text → Walk
 kind_walked c name w word = plain_from c w.stopped w word
 kind_walked c side w word = plain_from c w.stopped w word
@@ -83,7 +83,7 @@ turn_kind s name w word is = turn_plain s w word is
 turn_kind s side w word is = turn_plain s w word (plain_side word is)
 turn_kind s bands w word is = ap (turn_passes s [] w) is
 
--- words of kinds, one by one
+-- words of some kinds, one by one
 abbrev pub kinds_walked : List Rule → List ArgumentKind → Walk → List Text → Walk
 kinds_walked c [] w words = w
 kinds_walked c (kind ∷ kinds) w [] = w
@@ -110,14 +110,14 @@ passes_kinds s (kind ∷ kinds) w (word ∷ words) are =
     ap₂ (λ (passes : Bool) (v : Walk). passes && walk_passes s [] v words) (turn_kind s kind w word are.0) (walked_kind s.rules kind w word are.0)
     ∙ ap (λ (passes : Bool). kind_passes s kind w word && passes) (passes_kinds s kinds (kind_walked s.rules kind w word) words are.1)
 
--- where the walk over them ends
+-- where parsing these words ends
 abbrev pub kinds_end : List Rule → List ArgumentKind → List Text → Held
 kinds_end c kinds words = (kinds_walked c kinds (walk_from nothing_held) words).held
 
 pub rows_kinds : (c : List Rule) (kinds : List ArgumentKind) (words : List Text) → AreOfKinds kinds words → rows_after c [] words ≡ finished c (kinds_end c kinds words)
 rows_kinds c kinds words are = ap (λ (w : Walk). finished c w.held) (walked_kinds c kinds (walk_from nothing_held) words are)
 
--- whether a command takes them
+-- whether a command accepts them
 abbrev end_passes : Shape → Bool → Held → Bool
 end_passes s walk_passed end =
     walk_passed && (settle_passes s.rules s.args_override_self end && (list_all default_passes s.rules && is_valid s (finished s.rules end) false))

@@ -1,4 +1,4 @@
--- What a task leaves is what its line leaves, and that is what the words leave.
+-- What a task writes is what its command line writes, and that is what the words write.
 use Rattle.std.proofs.Common.{◌≡◌, ◌⊎◌, inl, inr, ℕ, List, Option}
 use Rattle.std.specs.Io.KnownBytes.{Keeps}
 use Rattle.clap.specs.Words.{Text}
@@ -15,7 +15,7 @@ use Rattle.commands.specs.declared.input.InputFault.{InputFault}
 use Rattle.commands.specs.declared.input.InputFault.TheVariants as fault
 use Rattle.commands.specs.declared.asked.CommandLine.TheVariants.{Check, List as ListLine, Over, Play, Prepare, Show}
 
--- where memory was refused, a task has written nothing
+-- if an allocation failed, a task has written nothing
 kept : (line : CommandLine) (file certificate image : List ℕ) (old new : Option (List ℕ)) → LineWrites line (task_of line file certificate image) end.OutOfMemory old new → Keeps old new
 kept (Show name width height) file certificate image old new keeps = keeps
 kept (Prepare name width height output) file certificate image old new keeps = keeps
@@ -41,7 +41,7 @@ module _ (line : CommandLine) (input : Option (List ℕ)) (file certificate imag
   err_of_task end.CannotRead tells = absurd tells
   err_of_task end.WrongUsage tells = absurd tells
 
--- where an input was not read, a line leaves what is told of that
+-- if an input wasn't read, a command line writes the report of that
 pub out_unread : (line : CommandLine) (input : Option (List ℕ)) (f : InputFault) (e : CommandEnd) (old new : Option (List ℕ)) → e ≡ input_end f → Keeps old new → OutBy e line input old new
 out_unread line input fault.CannotRead e old new is keeps = rw is keeps
 out_unread line input fault.OutOfMemory e old new is keeps = rw is keeps
@@ -50,7 +50,7 @@ pub err_unread : (line : CommandLine) (input : Option (List ℕ)) (f : InputFaul
 err_unread line input fault.CannotRead e told old new is reports = rw is reports
 err_unread line input fault.OutOfMemory e told old new is reports = rw is reports
 
--- and that is no output that failed, and no work that is done
+-- this isn't a failed output, and the work isn't done
 pub unread_failed : (f : InputFault) (e : CommandEnd) (P : Type 0) → e ≡ input_end f → e ≡ end.CannotWrite → P
 unread_failed fault.CannotRead e P is failed = cc
 unread_failed fault.OutOfMemory e P is failed = cc
@@ -79,15 +79,15 @@ module _ (words : List Text) (line : CommandLine) (input : Option (List ℕ)) (s
   pub no_usage : (old new : Option (List ℕ)) → OutBy end.WrongUsage line input old new → ⊥
   no_usage old new fact = fact
 
--- what holds of a line that was read holds of one that the words ask for
+-- what holds for a parsed command line holds for one that the words give
 pub holds_of_line : (words : List Text) (line : CommandLine) (holds : CommandLine → Type 0) → HasSides line → IsAskedByWords words line → holds line → HoldsOfAsked words holds
 holds_of_line words line holds sides asked fact = record { line = line; sides = sides; asked = asked; fact = fact }
 
--- and of some line
+-- what holds for a parsed command line holds for some command line
 pub holds_of_some : (words : List Text) (holds : CommandLine → Type 0) → HoldsOfAsked words holds → HoldsOfSome holds
 holds_of_some words holds asked = record { line = asked.line; sides = asked.sides; fact = asked.fact }
 
--- wrong usage, or want of memory, is no output that failed, and no work that is done
+-- wrong usage and out of memory aren't failed outputs, and the work isn't done
 pub usage_failed : (e : CommandEnd) (P : Type 0) → (e ≡ end.WrongUsage ⊎ e ≡ end.OutOfMemory) → e ≡ end.CannotWrite → P
 usage_failed e P (inl wrong) failed = cc
 usage_failed e P (inr memory) failed = cc
@@ -96,7 +96,7 @@ pub usage_done : (e : CommandEnd) (P : Type 0) → (e ≡ end.WrongUsage ⊎ e �
 usage_done e P (inl wrong) done = cc
 usage_done e P (inr memory) done = cc
 
--- and what words leave is what some line leaves
+-- what the words write is what some command line writes
 pub out_of_asked : (words : List Text) (input : Option (List ℕ)) (e : CommandEnd) (old new : Option (List ℕ)) → OutOfWords e words input old new → OutOfSome e input old new
 out_of_asked words input end.Done old new asked = record { line = asked.line; sides = asked.sides; fact = asked.fact }
 out_of_asked words input end.Refused old new asked = record { line = asked.line; sides = asked.sides; fact = asked.fact }

@@ -1,4 +1,4 @@
--- What a listing that was made is.
+-- What a finished listing is.
 use Rattle.std.proofs.Common.{◌≡◌, inl, inr, ℕ, List, refl}
 use Rattle.listing.specs.Listing.{listed_of, listing_of}
 use Rattle.listing.specs.declared.listing_end.ListingEnd.{ListingEnd}
@@ -11,6 +11,6 @@ module _ (file : List ℕ) where
   by_end Ended end = inl (record { end = end; told = refl })
   by_end Broken end = inr (record { end = end; told = refl })
 
-  -- the records end in some way
+  -- the records end in one of the ways
   pub is_listing : IsListing file (listing_of file)
   is_listing = by_end (listed_of file) refl

@@ -1,4 +1,4 @@
--- What is played of a file that was checked, and why it isn't.
+-- What is played of a checked file, and why it isn't.
 use Rattle.std.proofs.Common.{◌≡◌, ◌<◌, ◌≤◌, ◌⊎◌, ◌↔◌, ◌∙◌, inl, inr, ℕ, suc, List, Option, Some, None, Result, Ok, Err, ap, arith}
 use Rattle.std.proofs.Math.Nat.{lt_of_not-le}
 use Rattle.std.specs.Io.KnownBytes.{Keeps}
@@ -35,7 +35,7 @@ played file bytes cleared width height start image accepts from read within leav
   run = leaves file from;
 }
 
--- what the check refuses isn't played
+-- what the check rejects isn't played
 pub check_fails :
     (file bytes : List ℕ) (width height : ℕ) (r : Refusal) (failure : Failure) (held : Option (List ℕ))
     → (IsAnswer file bytes (refuses r.number r.fault) ⊎ IsWantOfMemory r) → IsFailureOf r failure → Fails (play file bytes width height) failure held held
@@ -45,7 +45,7 @@ check_fails file bytes width height r failure held (inr want) by = refusal_fails
 
 module _ (file bytes : List ℕ) (cleared : Cleared) (width height : ℕ) (accepts : IsAnswer file bytes accepted) (from : IsOpenedFrom file cleared.opened)
     (read : read_certificate bytes ≡ Ok (certificate_of cleared.certificate)) where
-  -- the text of what a cleared file leaves of white is that of the play
+  -- the text of what a cleared file draws on white is the text of the play
   of_play : IsWithinBound cleared.certificate width height → (text : List ℕ) → IsRunText file width height (white width height) text
       → IsPlayedText file bytes width height (white width height) text
   of_play within text run = record {
@@ -77,13 +77,13 @@ module _ (file bytes : List ℕ) (cleared : Cleared) (width height : ℕ) (accep
       record { text = p.written.text; fact = of_play p.within p.written.text (p.written.of_run file from); written = p.written.appended }
   play_fails contents old new why.OutOfMemory p = p
 
--- the same of a file that was prepared at the surface's size
+-- the same for a file that was prepared at the surface's size
 pub show_done :
     {W : Type 0} → (file : List ℕ) (cleared : Cleared) (width height : ℕ) (contents : W → Option (List ℕ)) (old new : W) → IsOpenedFrom file cleared.opened
     → WritesPlayed cleared width height (contents old) (contents new) → WritesDone (show file width height) contents old new
 show_done file cleared width height contents old new from p = record { text = p.written.text; fact = p.written.of_run file from; written = p.written.appended }
 
--- a surface isn't within a bound and above it
+-- a surface can't both be within a bound and exceed it
 never_both : (c : Certificate) (width height : ℕ) → IsWithinBound c width height → IsAboveBound width height c → ⊥
 never_both c width height within (inl less) = let h = within.wide in absurd (omega (arith, less, h))
 never_both c width height within (inr less) = let h = within.high in absurd (omega (arith, less, h))
@@ -101,7 +101,7 @@ at_most : (a b : ℕ) → (a < b → ⊥) → b ≤ a
 at_most a b never = let h : b < suc a = lt_of_not-le never in omega (arith, h)
 
 module _ (c : Certificate) (width height : ℕ) (result : Result ℕ Fault) (bound : (result ≡ Err SurfaceTooLarge) ↔ IsAboveBound width height c) where
-  -- what isn't refused for its sides is within the bound
+  -- a surface that isn't rejected for its size is within the bound
   pub within_bound : (result ≡ Err SurfaceTooLarge → ⊥) → IsWithinBound c width height
   within_bound never = record {
     wide = at_most c.max_width width (λ less. never (bound.1 (inl less)));
@@ -114,13 +114,13 @@ module _ (c : Certificate) (width height : ℕ) (result : Result ℕ Fault) (bou
   pub within_where_written : result ≡ Err WriteFault → IsWithinBound c width height
   within_where_written is = within_bound (λ large. cc)
 
--- a surface is refused for its sides, or for want of memory
+-- a surface is rejected for its size, or because an allocation failed
 pub surface_refused : (c : Certificate) (width height : ℕ) (result : Result ℕ Fault) (fault : Fault) → result ≡ Err fault
     → ((result ≡ Err SurfaceTooLarge) ↔ IsAboveBound width height c) → (fault ≡ SurfaceTooLarge ⊎ fault ≡ OutOfMemory) → RefusesSurface c width height fault
 surface_refused c width height result fault is bound (inl large) = inl (record { larger = bound.0 (is ∙ ap (λ (f : Fault). Err f) large); is = large })
 surface_refused c width height result fault is bound (inr want) = inr want
 
--- what isn't refused by the writer is refused for its sides, or for want of memory
+-- unless the writer fails, a surface is rejected for its size, or because an allocation failed
 pub fails_unwritten :
     {W : Type 0} → (cleared : Cleared) (width height : ℕ) (contents : W → Option (List ℕ)) (old new : W) (result : Result ℕ Fault) (fault : Fault)
     (r : Refusal) (failure : Failure) → result ≡ Err fault → ((result ≡ Err SurfaceTooLarge) ↔ IsAboveBound width height cleared.certificate)

@@ -1,4 +1,4 @@
--- A certificate that was prepared is read with the bound that it was prepared for.
+-- A prepared certificate can be read, with the bound that it was prepared for.
 use Rattle.std.proofs.Common.{◌≡◌, ◌∙◌, ◌≤◌, ◌⊎◌, inl, inr, Bool, true, false, cond, ℕ, List, length, Option, Some, None, Result, Ok, Err, IsOk, ap, arith, refl, subst, sym}
 use Rattle.std.specs.Prelude.{nat_lt, not}
 use Rattle.std.proofs.lemmas.Bool.{and_from, true≢false}
@@ -23,7 +23,7 @@ use Rattle.std.specs.List.{flat_map}
 use Rattle.player.specs.Bounds.{IsWithinBound}
 use Rattle.preflight_cert.specs.Reached.{OpensBoth}
 
--- a fault is no certificate
+-- a fault isn't a certificate
 is_value : Result CertificateValue Fault → Bool
 is_value (Ok c) = true
 is_value (Err fault) = false
@@ -68,7 +68,7 @@ passed false (Some version) bytes c e =
 is_read : (bytes : List ℕ) (c : CertificateValue) → read_certificate bytes ≡ Ok c → IsReadAs bytes c
 is_read bytes c e = passed (nat_lt (length bytes) 4) (version_of (number_at bytes 0 4)) bytes c e
 
--- the sides stand where they are written, in each version
+-- the width and height are at their positions, in each version
 wide_with : (version : Version) (head : HeadValue) (count : ℕ) (entries : List ℕ) → head.max_width ≤ 8192 → number_at (text_with version head count entries) 4 4 ≡ head.max_width
 wide_with Mpc1 head count entries h = omega (arith, h)
 wide_with Mpc2 head count entries h = omega (arith, h)
@@ -83,7 +83,7 @@ wide_back c h = wide_with c.version (head_of c) (length c.entries) (flat_map (en
 high_back : (c : CertificateValue) → c.max_height ≤ 8192 → number_at (certificate_text c) 8 4 ≡ c.max_height
 high_back c h = high_with c.version (head_of c) (length c.entries) (flat_map (entry_text c.version) c.entries) h
 
--- a certificate of these sides, whose text the bytes are
+-- a certificate for this size, whose text the bytes are
 record IsOfSides (width height : ℕ) (bytes : List ℕ) : Type 0 where
   certificate : CertificateValue
   wide : certificate.max_width ≡ width
@@ -119,12 +119,12 @@ module _ (file : List ℕ) (width height : ℕ) (bytes : List ℕ) (prepared : P
       let small : text.certificate.max_height ≤ 8192 = rw text.high h in
       ap (λ (v : CertificateValue). v.max_height) (sym read_text.value) ∙ high_back text.certificate small ∙ text.high
 
--- an answer that accepts
+-- an accepting answer
 is_accepted : Answer → Bool
 is_accepted accepted = true
 is_accepted (refuses number fault) = false
 
--- a surface of the sides that a certificate was prepared for isn't above its bound
+-- a surface of the size that a certificate was prepared for doesn't exceed its bound
 pub prepared_within : (file : List ℕ) (width height : ℕ) (bytes : List ℕ) → Prepares file width height bytes → IsSurfaceSide width → IsSurfaceSide height
     → (c : Certificate) → read_certificate bytes ≡ Ok (certificate_of c) → IsWithinBound c width height
 prepared_within file width height bytes prepared wide high c read =
@@ -132,7 +132,7 @@ prepared_within file width height bytes prepared wide high c read =
     let is_high : c.max_height ≡ height = prepared_high file width height bytes prepared (certificate_of c) read high.within in
     record { wide = omega (arith, is_wide); high = omega (arith, is_high) }
 
--- of sides that a surface may have, the refusal is the run's
+-- for a valid size, the rejection is that of the run
 pub run_refused : (file : List ℕ) (width height : ℕ) → IsSurfaceSide width → IsSurfaceSide height → (r : Refusal)
     → (StopsPreparing file width height r ⊎ IsWantOfMemory r) → (Refused file width height r.number r.fault ⊎ IsWantOfMemory r)
 run_refused file width height wide high r (inr want) = inr want
@@ -140,7 +140,7 @@ run_refused file width height wide high r (inl stops) =
     let bound : is_bound width height ≡ true = and_from (is_surface_side width) (is_surface_side height) (surface_side_from width wide) (surface_side_from height high) in
     inl (subst (λ (allowed : Bool). RefusesWithin allowed file width height r.number r.fault) bound stops)
 
--- an accepted file opens, and its certificate reads
+-- an accepted file opens, and its certificate can be read
 read_of_answer : (read : Result CertificateValue Fault) (o : OpenedValue) (records : List ℕ) → AnswersRead read o records accepted → IsOk read
 unfolding is_accepted
 read_of_answer (Ok c) o records accepts = refl

@@ -1,4 +1,4 @@
--- A report has no numbers but whole ones, and as many drawings as there are entries.
+-- All numbers of a report are integers, and it has as many drawings as there are entries.
 use Rattle.std.proofs.Common.{◌≡◌, ◌∙◌, ◌⊎◌, inl, inr, ap, subst, sym, Result, Ok, Bool, true, false, cond, ℕ, List, [], ◌∷◌, length, Option, Some, None, Ordering, Less, Equal, Greater, nat_cmp, codes, refl}
 use Rattle.std.specs.Prelude.{◌==◌}
 use Rattle.std.specs.Cmp.Lexicographic.{slice_cmp}
@@ -107,7 +107,7 @@ as_many s [] (entry ∷ entries) covered = absurd covered
 as_many s (one ∷ later) [] covered = absurd covered
 as_many s (one ∷ later) (entry ∷ entries) covered = let e = as_many s later entries covered.1 in rw e refl
 
--- the answer to what was checked is one of its records
+-- the answer of a check is one of the possible answers
 answered : (file bytes : List ℕ) (cleared : Cleared) → IsAnswer file bytes accepted → IsOpenedFrom file cleared.opened
     → read_certificate bytes ≡ Ok (certificate_of cleared.certificate)
     → RecordsAnswer (opened_of cleared.opened) (record_bytes cleared.opened.format file) (certificate_of cleared.certificate) accepted
@@ -128,7 +128,7 @@ same_report cleared content has counts fits =
     let notes = counts.notes content has in
     rw (records, drawings, notes) refl
 
--- what was checked, and the report of it, in the words of the file and the certificate
+-- what was checked, and its report, in terms of the file and the certificate
 pub reports : (file bytes : List ℕ) (cleared : Cleared) (text : List ℕ) → AnswerLaws → IsAnswer file bytes accepted → IsOpenedFrom file cleared.opened
     → read_certificate bytes ≡ Ok (certificate_of cleared.certificate)
     → CountsRecords (opened_of cleared.opened) cleared.opened.records.now cleared.records cleared.notes.counts
@@ -149,7 +149,7 @@ reports file bytes cleared text laws accepts from read counts is =
       is_text = is ∙ ap report_text (same_report cleared answer.content has counts fits);
     }
 
--- a refusal that isn't for memory
+-- a rejection that isn't a failed allocation
 pub refusal_reports : (file bytes : List ℕ) (r : Refusal) (text : List ℕ) → (IsAnswer file bytes (refuses r.number r.fault) ⊎ IsWantOfMemory r)
     → (r.fault ≡ OutOfMemory → ⊥) → text ≡ report_text (refused_report r.number r.fault) → ReportsRefused file bytes text
 refusal_reports file bytes r text (inl refused) other is = record { in_record = r.number; fault = r.fault; refused = refused; is_text = is }

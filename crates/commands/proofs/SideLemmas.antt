@@ -1,4 +1,4 @@
--- A text of a side is a plain word, and clap takes it.
+-- The text of a width or height is a plain word, and clap accepts it.
 use Rattle.std.proofs.Common.{◌≡◌, ◌∙◌, ◌<◌, ◌==◌, ◌^◌, ap, refl, ℕ, [], ◌∷◌, false, true, length, pos, arith, nat_le, nat_lt}
 use Rattle.std.proofs.lemmas.Bool.{ne_eqb, and_from}
 use Rattle.std.proofs.lemmas.Bool.Decides.{nat_tests}
@@ -11,7 +11,7 @@ use Rattle.clap.specs.ValueTests.{is_numeral, is_signed_in}
 use Rattle.clap.specs.Walk.{Text}
 use Rattle.commands.specs.CommandLine.{IsPlainWord, IsSideText}
 
--- a digit is no sign
+-- a digit isn't a sign
 no_sign : (c sign : ℕ) → digit_value c < 10 → digit_value sign ≡ 36 → c ≡ sign → ⊥
 no_sign c sign digit is same =
     let big : digit_value c ≡ 36 = ap digit_value same ∙ is in
@@ -32,12 +32,12 @@ numeral c cs digits =
     let some : nat_lt 0 (length (c ∷ cs)) ≡ true = grind (arith, nat_tests) in
     and_from _ _ some (all_digits (c ∷ cs) digits)
 
--- such a text has no plus to leave out
+-- such a text has no plus sign to remove
 pub no_plus : (text : Text) → IsSideText text → without_leading_plus text ≡ text
 no_plus [] side = absurd (omega arith)
 no_plus (c ∷ cs) side = rw (ne_eqb c 43 (no_sign c 43 side.numeral.1.0 refl)) refl
 
--- what it reads as fits a side's type
+-- its number fits the type of widths and heights
 pub fits_unsigned : (text : Text) → IsSideText text → IsNumeral 10 (without_leading_plus text) × (digits_value 10 (without_leading_plus text) < 2 ^ 32)
 fits_unsigned text side =
     let small : digits_value 10 text < 2 ^ 32 = omega arith in
@@ -54,7 +54,7 @@ side_passes (c ∷ cs) side =
     let high : nat_le (digits_value 10 (c ∷ cs)) 8192 ≡ true = grind (arith, nat_tests) in
     rw (no_minus_there, no_plus_there) (rw digits (rw small (rw low (rw high refl))))
 
--- and a plain word has no hyphen to leave out
+-- a plain word has no hyphen to remove
 pub no_minus : (word : Text) → IsPlainWord word → without_minus word ≡ word
 no_minus [] plain = refl
 no_minus (byte ∷ rest) plain = rw (ne_eqb byte 45 plain) refl

@@ -1,4 +1,4 @@
--- Right words are what clap takes, and they give a command what it takes.
+-- clap accepts right words, and they give a command the arguments that it takes.
 use Rattle.std.proofs.Common.{◌≡◌, ◌∙◌, ◌&&◌, ap, ap₂, sym, subst, refl, Bool, List, [], ◌∷◌, false, true, Some, codes, find, pos, unwrap_or}
 use Rattle.std.specs.List.{All}
 use Rattle.std.specs.Str.{bytes_eq}
@@ -16,11 +16,11 @@ use Rattle.commands.specs.RightWords.{AreOfKinds, AreRightWords, ArgumentKind, I
 use Rattle.commands.proofs.KindLemmas.{kinds_end, level_is, level_kinds, rows_kinds}
 use Rattle.commands.proofs.SideLemmas.{no_minus, plain_side, side_passes}
 
--- a side was given
+-- a width or height was given
 side_given : (given : List Row) (id word : Text) → one_of id given ≡ Some (without_minus word) → IsSideText word → GivesSide given id
 side_given given id word is of_side = record { text = word; is_given = is ∙ ap Some (no_minus word (plain_side word of_side)); is_side = of_side }
 
--- clap takes these arguments of a command, and they are what it takes
+-- clap accepts these arguments of a command, and they are the ones that it takes
 record IsTaken (command : Text) (arguments : List Text) : Type 0 where
   taken : (program : Text) → takes metaplay_app (program ∷ command ∷ arguments) ≡ true
   right : (program : Text) → IsRightCommand (subcommand_of metaplay_app (program ∷ command ∷ arguments))
@@ -29,7 +29,7 @@ record IsTaken (command : Text) (arguments : List Text) : Type 0 where
 abbrev built_shape : Text → Shape
 built_shape command = unwrap_or (find (λ s. bytes_eq s.name command) (built metaplay_app).subs) metaplay_app.top
 
--- what clap makes of words of these kinds computes
+-- what clap returns for words of these kinds computes
 of_usage : (command : Text) (declared : Shape) (kinds : List ArgumentKind) (arguments : List Text) → AreOfKinds kinds arguments
     → find (λ s. bytes_eq s.name command) metaplay_app.subs ≡ Some declared
     → ((program : Text) → level_passes (built_shape command) [] nothing_held arguments false ≡ true → takes metaplay_app (program ∷ command ∷ arguments) ≡ true)
@@ -48,7 +48,7 @@ of_usage command declared kinds arguments are found enters meets passes gives = 
   };
 }
 
--- it holds of all words of these kinds
+-- a statement holds for all words of these kinds
 abbrev OfKinds : List ArgumentKind → (List Text → Type 0) → Type 0
 OfKinds [] holds = holds []
 OfKinds (kind ∷ kinds) holds = (word : Text) → IsOfKind kind word → OfKinds kinds (λ words. holds (word ∷ words))
@@ -59,7 +59,8 @@ of_kinds [] (word ∷ words) holds all are = absurd are
 of_kinds (kind ∷ kinds) [] holds all are = absurd are
 of_kinds (kind ∷ kinds) (word ∷ words) holds all are = of_kinds kinds words (λ rest. holds (word ∷ rest)) (all word are.0) are.1
 
--- Each usage is taken. What clap makes of its words computes, but for the tests of the sides, of which each stands where clap makes it.
+-- Each usage is accepted. What clap returns for its words computes, except for the tests of numbers, each of which
+-- stays where clap does it.
 show_taken : OfKinds (name ∷ side ∷ side ∷ []) (IsTaken (codes "show"))
 unfolding clap_on_literals
 show_taken file f wide w high h =
@@ -122,7 +123,7 @@ all_of : (list : List (Text × List ArgumentKind)) → EachIsTaken list → All 
 all_of [] each = All-nil UsageIsTaken
 all_of (usage ∷ others) each = All-cons UsageIsTaken usage others each.0 (all_of others each.1)
 
--- so all of them are
+-- every usage is accepted
 all_taken : All UsageIsTaken usages
 all_taken = all_of usages (show_taken, (prepare_taken, (check_taken, (play_taken, (bands_taken, (over_taken, (list_taken, tt)))))))
 
@@ -133,12 +134,12 @@ is_taken words right =
     let named : IsTaken usage.1.0 right.arguments = of_kinds usage.1.1 right.arguments (IsTaken usage.1.0) all usage.4.1 in
     subst (λ (command : Text). IsTaken command right.arguments) usage.4.0 named
 
--- clap takes right words
+-- clap accepts right words
 pub right_taken : (words : List Text) → AreRightWords words → takes metaplay_app words ≡ true
 right_taken words right =
     subst (λ (l : List Text). takes metaplay_app l ≡ true) (sym right.are) ((is_taken words right).taken right.program)
 
--- and the command that they name is given what it takes
+-- the command that right words name is given the arguments that it takes
 pub right_command : (words : List Text) → AreRightWords words → IsRightCommand (subcommand_of metaplay_app words)
 right_command words right =
     subst (λ (l : List Text). IsRightCommand (subcommand_of metaplay_app l)) (sym right.are) ((is_taken words right).right right.program)

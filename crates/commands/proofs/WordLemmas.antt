@@ -1,4 +1,4 @@
--- What clap makes of `show` and three words that are no flags.
+-- What clap returns for `show` and three words that aren't flags.
 use Rattle.std.proofs.Common.{◌≡◌, ◌∙◌, ap, sym, subst, refl, ℕ, List, [], ◌∷◌, Option, Some, arith, codes}
 use Rattle.clap.specs.Lexer.{without_minus}
 use Rattle.clap.specs.Simple.{Shape, built}
@@ -24,7 +24,7 @@ pub first_word : (program file wide high : Text) → subcommand_of metaplay_app 
 unfolding clap_on_literals
 first_word program file wide high = refl
 
--- three words that are no flags, one by one
+-- three words that aren't flags, one by one
 abbrev three_names : List kind.ArgumentKind
 three_names = kind.name ∷ kind.name ∷ kind.name ∷ []
 
@@ -41,7 +41,7 @@ number_given word given id number plain is gives =
     let same : without_minus word ≡ gives.text = cc in
     gives.reads ∙ ap number_of (sym same ∙ no_minus word plain)
 
--- the rows behind one name
+-- the rows for one name
 same_inside : {A : Type 0} {x y : A} → Some x ≡ Some y → x ≡ y
 same_inside e = cc
 
@@ -53,14 +53,14 @@ abbrev first_byte : Text → ℕ
 first_byte [] = 0
 first_byte (byte ∷ rest) = byte
 
--- two bytes are the same
+-- two bytes are equal
 abbrev is_byte : ℕ → ℕ → Type 0
 is_byte a b = a ≡ b
 
 one_name : (met : Option (Text × List Row)) (name other : Text) (given all : List Row) → met ≡ Some (name, given) → met ≡ Some (other, all) → first_byte name ≡ first_byte other
 one_name met name other given all e f = ap (λ (command : Text × List Row). first_byte command.0) (same_inside (sym e ∙ f))
 
--- what a command says whose rows are known
+-- what a command asks for if its rows are known
 by_rows : (met : Option (Text × List Row)) (all given : List Row) (file wide high name : Text) (width height : ℕ) → IsPlainWord wide → IsPlainWord high → met ≡ Some (codes "show", all) → first_of (codes "FILE") all ≡ Some file → one_of (codes "W") all ≡ Some (without_minus wide) → one_of (codes "H") all ≡ Some (without_minus high) → met ≡ Some (codes "show", given) → GivesName given (codes "FILE") name → GivesSides given width height → AreOfWords file wide high name width height
 by_rows met all given file wide high name width height plain_wide plain_high is has_file has_wide has_high command named sides =
     let same = same_rows met _ _ _ _ command is in
@@ -96,7 +96,7 @@ given_words (ListLine name) program file wide high plain_file plain_wide plain_h
     let rows = shown_rows program file wide high plain_file plain_wide plain_high in
     let bad : is_byte 115 108 = one_name _ _ _ _ _ rows asked.command in absurd (omega (arith, bad))
 
--- what five such words ask for
+-- what these five words ask for
 pub plain_words : (words : List Text) (line : CommandLine) → IsAskedByWords words line → HasPlainWords words line
 plain_words words line asked program file wide high plain_file plain_wide plain_high is =
     given_words line program file wide high plain_file plain_wide plain_high (subst (λ (l : List Text). IsAskedByWords l line) is asked)

@@ -24,7 +24,7 @@ use Rattle.preflight_cert.specs.Drawings.{drawings_of}
 abbrev pub whole : ℕ → Data
 whole n = number (unsigned n)
 
--- a number, or null where there is none
+-- a number, or null if there is none
 abbrev pub whole_if : Option ℕ → Data
 whole_if None = null
 whole_if (Some n) = whole n
@@ -33,18 +33,18 @@ whole_if (Some n) = whole n
 abbrev pub sides : ℕ → ℕ → Data
 sides width height = array (item (whole width) (item (whole height) no_items))
 
--- what is needed, by name
+-- the needs, by name
 abbrev pub needs_data : Needs → Data
 needs_data needs =
     object (member (codes "depth") (whole needs.depth) (member (codes "edges") (whole needs.edges)
     (member (codes "pieces") (whole needs.pieces) (member (codes "slots") (whole needs.slots) no_members))))
 
--- the count of a kind put with its name among others, where it was noted
+-- the members, with the count of a kind under its name if that kind occurred
 abbrev pub with_kind : Note → List ℕ → Members → Members
 with_kind kind counts others =
     if note_count counts kind == 0 then others else put (note_row_of kind).name (whole (note_count counts kind)) others
 
--- the counts of some kinds that were noted, by their names
+-- the counts of the kinds that occurred, under their names
 abbrev pub noted_kinds : List Note → List ℕ → Members
 noted_kinds [] counts = no_members
 noted_kinds (kind ∷ kinds) counts = with_kind kind counts (noted_kinds kinds counts)
@@ -54,11 +54,11 @@ abbrev pub all_kinds : List Note
 all_kinds =
     PlaceableChecksum ∷ PlaceableFields ∷ SizeField ∷ AfterEnd ∷ DashedPen ∷ WidePen ∷ Isotropic ∷ EmfPlus ∷ Skipped ∷ []
 
--- the kinds that were noted, each with its count
+-- the kinds of notes that occurred, each with its count
 abbrev pub notes_data : List ℕ → Data
 notes_data counts = object (noted_kinds all_kinds counts)
 
--- The report of a certificate that is accepted for a file, of whose records and drawings there are so many: its members by their names.
+-- the report for a certificate that is accepted for a file, with the file's number of records and drawings, by name
 abbrev pub accepted_report : OpenedValue → CertificateValue → ℕ → ℕ → List ℕ → Data
 accepted_report o c records drawings notes =
     object (put (codes "accepted") (boolean true)
@@ -71,7 +71,8 @@ accepted_report o c records drawings notes =
     (put (codes "records") (whole records)
     (put (codes "writes") (whole c.writes) no_members)))))))))
 
--- The report of a refusal: the fault's code and name, the kind of record that it speaks of, and the number of the record that it lies in.
+-- the report for a rejection: the code and name of the fault, the kind of record that it refers to, and the number of
+-- the record that it is in
 abbrev pub refused_report : Option ℕ → Fault → Data
 refused_report record_number fault =
     object (put (codes "accepted") (boolean false)
@@ -80,7 +81,7 @@ refused_report record_number fault =
     (put (codes "number") (whole_if (record_kind_of fault))
     (put (codes "record") (whole_if record_number) no_members)))))
 
--- the text of a report: compact JSON, and a line feed
+-- the text of a report: compact JSON and a line feed
 abbrev pub report_text : Data → List ℕ
 report_text report = compact_text report ++ codes "\n"
 
@@ -96,7 +97,7 @@ pub record ReportsAccepted (file certificate text : List ℕ) : Type 0 where
       text
       ≡ report_text (accepted_report headers value (length content.steps) (length (drawings_of content.steps (start_of headers))) (file_notes content headers))
 
--- the file and the certificate are refused, and the text is the report of that
+-- the pair of file and certificate is rejected, and the text is the report of that
 pub record ReportsRefused (file certificate text : List ℕ) : Type 0 where
   pub in_record : Option ℕ
   pub fault : Fault

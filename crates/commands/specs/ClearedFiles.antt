@@ -1,4 +1,4 @@
--- What a file and a certificate that were checked tell, and what is played of them.
+-- Reports of accepted files, and what is played of them.
 use Rattle.std.specs.Prelude.{◌≡◌, ◌⊎◌, ℕ, List, length, Option, None}
 use Rattle.std.specs.Io.KnownBytes.{Keeps}
 use Rattle.serde_json.specs.Data.{Data}
@@ -20,39 +20,39 @@ use Rattle.commands.specs.CheckReport.{accepted_report}
 use Rattle.commands.specs.declared.failure.Failure.{Failure}
 use Rattle.commands.specs.declared.failure.Failure.TheVariants as why
 
--- the report of what was checked
+-- the report for a file and certificate that were accepted
 abbrev pub report_of : Cleared → Data
 report_of cleared =
     accepted_report (opened_of cleared.opened) (certificate_of cleared.certificate) cleared.records
     (length (entries_of cleared.certificate.entries)) cleared.notes.counts
 
--- at these sides, the run of the file that was opened leaves one image of another
+-- the run of the opened file, at this size, makes the image from the start image
 abbrev pub Leaves : Cleared → ℕ → ℕ → Image → Image → Type 0
 Leaves cleared width height start image = (file : List ℕ) → IsOpenedFrom file cleared.opened → Run file width height start (shown image)
 
--- a side is above the certificate's bound, and that is the fault
+-- the surface exceeds the certificate's bound, and the fault says so
 pub record IsFaultAboveBound (c : Certificate) (width height : ℕ) (fault : Fault) : Type 0 where
   pub larger : IsAboveBound width height c
   pub is : fault ≡ SurfaceTooLarge
 
--- the surface is within the bound, and the text of the image that the run leaves of white was written
+-- the surface is within the bound, and the text of the image that the run makes on white was written
 pub record WritesPlayed (cleared : Cleared) (width height : ℕ) (old new : Option (List ℕ)) : Type 0 where
   pub within : IsWithinBound cleared.certificate width height
   pub written : WritesRun cleared width height white_colour old new
 
--- or a front of it
+-- the surface is within the bound, and a prefix of the text of that image was written
 pub record WritesPlayedFront (cleared : Cleared) (width height : ℕ) (old new : Option (List ℕ)) : Type 0 where
   pub within : IsWithinBound cleared.certificate width height
   pub written : WritesRunFront cleared width height white_colour old new
 
--- the surface is above the bound, and nothing was written
+-- the surface exceeds the bound, and nothing was written
 pub record RefusesToPlay (cleared : Cleared) (width height : ℕ) (r : Refusal) (old new : Option (List ℕ)) : Type 0 where
   pub number : r.number ≡ None
   pub above : IsFaultAboveBound cleared.certificate width height r.fault
   pub kept : Keeps old new
 
 module _ {W : Type 0} where
-  -- a cleared file was played so, and the text went to a writer that holds these bytes
+  -- a cleared file was played on white, and its text was written to a writer with these contents
   abbrev pub PlaysTo : Cleared → ℕ → ℕ → (W → Option (List ℕ)) → W → W → Type 0
   PlaysTo cleared width height contents old new = WritesPlayed cleared width height (contents old) (contents new)
 
@@ -62,6 +62,6 @@ module _ {W : Type 0} where
   FailsToPlay cleared width height contents old new why.CannotWrite = WritesPlayedFront cleared width height (contents old) (contents new)
   FailsToPlay cleared width height contents old new why.OutOfMemory = Keeps (contents old) (contents new)
 
--- the fault for which a surface isn't played on
+-- the fault by which a surface is rejected
 abbrev pub RefusesSurface : Certificate → ℕ → ℕ → Fault → Type 0
 RefusesSurface c width height fault = IsFaultAboveBound c width height fault ⊎ fault ≡ OutOfMemory

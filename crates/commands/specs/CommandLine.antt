@@ -12,11 +12,11 @@ use Rattle.commands.specs.Sides.{HasSides}
 use Rattle.commands.specs.declared.asked.CommandLine.{CommandLine}
 use Rattle.commands.specs.declared.asked.CommandLine.TheVariants.{Check, List as ListLine, Over, Play, Prepare, Show}
 
--- a file's name, which has to be given
+-- a file's name, which is required
 abbrev pub name_rule : Text → Rule
 name_rule id = record (new_rule id) { required = true; action = Some Set }
 
--- W or H, which has to be given, from 1 to 8,192
+-- W or H, which is required, from 1 to 8,192
 abbrev pub side_rule : Text → Rule
 side_rule id = record (new_rule id) { required = true; action = Some Set; parser = Some (Signed (pos 1) (pos surface_side_limit)) }
 
@@ -24,11 +24,11 @@ side_rule id = record (new_rule id) { required = true; action = Some Set; parser
 abbrev pub side_rules : List Rule
 side_rules = side_rule (codes "W") ∷ side_rule (codes "H") ∷ []
 
--- a command, with FILE in front
+-- a command with FILE
 abbrev pub file_app : Text → App
 file_app name = with_rule (new_app name) (name_rule (codes "FILE"))
 
--- and with W and H behind
+-- a command followed by W and H
 abbrev pub with_sides : App → App
 with_sides app = with_rule (with_rule app (side_rule (codes "W"))) (side_rule (codes "H"))
 
@@ -44,7 +44,7 @@ prepare_app = with_rule (with_sides (file_app (codes "prepare"))) (name_rule (co
 abbrev pub check_app : App
 check_app = with_rule (file_app (codes "check")) (name_rule (codes "CERT"))
 
--- --bands ROWS, which may be given, from 1 to 8,192
+-- --bands ROWS, which is optional, from 1 to 8,192
 abbrev pub bands_rule : Rule
 bands_rule = record (new_rule (codes "ROWS")) { long = Some (codes "bands"); action = Some Set; parser = Some (Signed (pos 1) (pos surface_side_limit)) }
 
@@ -60,7 +60,7 @@ over_app = with_rule (with_rule (file_app (codes "over")) (name_rule (codes "CER
 abbrev pub list_app : App
 list_app = file_app (codes "list")
 
--- metaplay alone, which has to have a command
+-- metaplay without its commands; a command is required
 abbrev pub bare_app : App
 bare_app = record (new_app (codes "metaplay")) { top = record (new_app (codes "metaplay")).top { subcommand_required = true } }
 
@@ -72,31 +72,31 @@ metaplay_app =
     over_app.top)
     list_app.top
 
--- what a text reads as: its decimal digits, behind a plus, if it has one
+-- the number of a text: its decimal digits, after an optional plus sign
 abbrev pub number_of : Text → ℕ
 number_of text = digits_value 10 (without_leading_plus text)
 
--- the text that was given for an id reads as this number
+-- the argument with this id was given, and it reads as this number
 pub record GivesNumber (given : List Row) (id : Text) (number : ℕ) : Type 0 where
   pub text : Text
   pub is_given : one_of id given ≡ Some text
   pub reads : number ≡ number_of text
 
--- the texts that were given for W and H read as these numbers
+-- the arguments W and H were given, and they read as these numbers
 pub record GivesSides (given : List Row) (width height : ℕ) : Type 0 where
   pub wide : GivesNumber given (codes "W") width
   pub high : GivesNumber given (codes "H") height
 
--- the text that was given for ROWS reads as this number, or none was given
+-- the argument ROWS was given and reads as this number, or it wasn't given
 abbrev pub GivesBands : List Row → Option ℕ → Type 0
 GivesBands given None = IsSome (first_of (codes "ROWS") given) → ⊥
 GivesBands given (Some rows) = GivesNumber given (codes "ROWS") rows
 
--- this text was given for an id
+-- the argument with this id was given, as this text
 abbrev pub GivesName : List Row → Text → Text → Type 0
 GivesName given id name = first_of id given ≡ Some name
 
--- a line's command
+-- the name of a command line's command
 abbrev pub command_name : CommandLine → Text
 command_name (Show file width height) = codes "show"
 command_name (Prepare file width height output) = codes "prepare"
@@ -105,7 +105,7 @@ command_name (Play file certificate width height bands) = codes "play"
 command_name (Over file certificate image) = codes "over"
 command_name (ListLine file) = codes "list"
 
--- a line has the names and the numbers that were given
+-- a command line has the names and numbers of the given arguments
 abbrev pub HoldsWords : List Row → CommandLine → Type 0
 HoldsWords given (Show file width height) = GivesName given (codes "FILE") file.now × GivesSides given width height
 HoldsWords given (Prepare file width height output) =
@@ -117,37 +117,38 @@ HoldsWords given (Over file certificate image) =
     GivesName given (codes "FILE") file.now × GivesName given (codes "CERT") certificate.now × GivesName given (codes "IMAGE") image.now
 HoldsWords given (ListLine file) = GivesName given (codes "FILE") file.now
 
--- the command that was met is the line's, and was given what the line has
+-- the parsed command is that of the command line, and has its arguments
 pub record IsAskedBy (met : Option (Text × List Row)) (line : CommandLine) : Type 0 where
   pub given : List Row
   pub command : met ≡ Some (command_name line, given)
   pub gives : HoldsWords given line
 
--- the words of a command line, by their bytes
+-- the words of a command line, as bytes
 abbrev pub texts_of : List (String Global) → List Text
 texts_of words = map string_bytes words
 
--- the line has what the words, the program's name first, give its command
+-- the command line has what the words, the program's name first, give its command
 abbrev pub IsAskedByWords : List Text → CommandLine → Type 0
 IsAskedByWords words line = IsAskedBy (subcommand_of metaplay_app words) line
 
--- the word does not begin with a hyphen
+-- the word doesn't begin with a hyphen
 abbrev pub IsPlainWord : Text → Type 0
 IsPlainWord [] = Unit {0}
 IsPlainWord (byte ∷ rest) = byte ≡ 45 → ⊥
 
--- the file has this name, and the sides are these texts' numbers
+-- the file has this name, and the width and height are the numbers of these texts
 pub record AreOfWords (file wide high : Text) (name : Text) (width height : ℕ) : Type 0 where
   pub named : name ≡ file
   pub wide_reads : width ≡ number_of wide
   pub high_reads : height ≡ number_of high
 
--- the line shows the file of this name at these texts' numbers
+-- the command line is `show` with this file name and the numbers of these texts
 abbrev pub HasWords : Text → Text → Text → CommandLine → Type 0
 HasWords file wide high (Show name width height) = AreOfWords file wide high name.now width height
 HasWords file wide high line = ⊥
 
--- where the words are five, the program's name, `show` and three that do not begin with a hyphen, the line has those three
+-- if the words are the program's name, `show` and three words that don't begin with a hyphen, the command line has
+-- these three
 abbrev pub HasPlainWords : List Text → CommandLine → Type 0
 HasPlainWords words line =
     (program file wide high : Text) → IsPlainWord file → IsPlainWord wide → IsPlainWord high
@@ -159,13 +160,14 @@ pub record IsSideText (text : Text) : Type 0 where
   pub least : 1 ≤ digits_value 10 text
   pub most : digits_value 10 text ≤ surface_side_limit
 
--- such a text was given for an id
+-- the argument with this id was given, as such a numeral
 pub record GivesSide (given : List Row) (id : Text) : Type 0 where
   pub text : Text
   pub is_given : one_of id given ≡ Some text
   pub is_side : IsSideText text
 
--- an argument was given what it takes: a text, and where a number is read of it a side's; one that need not be given may be missing
+-- an argument was given as it should be: a text, or a numeral in range if a number is read from it; an optional
+-- argument may be missing
 abbrev pub GivesRight : Bool → Option ValueParser → List Row → Text → Type 0
 GivesRight true None given id = IsSome (first_of id given)
 GivesRight true (Some parser) given id = GivesSide given id
@@ -174,12 +176,12 @@ GivesRight false parser given id = IsSome (first_of id given) → GivesSide give
 abbrev pub GivesArgument : Rule → List Row → Type 0
 GivesArgument rule given = GivesRight rule.required rule.parser given rule.id
 
--- each of the arguments was given what it takes
+-- all arguments were given as they should be
 abbrev pub GivesAll : List Rule → List Row → Type 0
 GivesAll [] given = Unit {0}
 GivesAll (rule ∷ rules) given = GivesArgument rule given × GivesAll rules given
 
--- the command that was met is one of metaplay's, and was given what its arguments take
+-- the parsed command is one of metaplay's, and its arguments were given as they should be
 pub record IsRightCommand (met : Option (Text × List Row)) : Type 0 where
   pub name : Text
   pub given : List Row
@@ -188,7 +190,7 @@ pub record IsRightCommand (met : Option (Text × List Row)) : Type 0 where
   pub declared : find (λ s. bytes_eq s.name name) metaplay_app.subs ≡ Some shape
   pub allowed : GivesAll shape.rules given
 
--- it holds of a line that the words ask for, whose sides are sides of a surface
+-- a statement holds for a command line that the words give, with valid sizes
 pub record HoldsOfAsked (words : List Text) (holds : CommandLine → Type 0) : Type 0 where
   pub line : CommandLine
   pub sides : HasSides line

@@ -1,4 +1,4 @@
--- What a task leaves on its output and on standard error, by how it ends.
+-- What a task writes to its output and to standard error, by how it ends.
 use Rattle.std.specs.Prelude.{◌⊎◌, ℕ, List, Option, codes}
 use Rattle.std.specs.Io.KnownBytes.{Appends, Keeps}
 use Rattle.draw_ops.specs.declared.fault.Fault.{Fault}
@@ -19,8 +19,8 @@ use Rattle.commands.specs.declared.command_end.Completion.{Completion}
 use Rattle.commands.specs.declared.command_end.CommandEnd.{CommandEnd}
 use Rattle.commands.specs.declared.command_end.CommandEnd.TheVariants as end
 
--- The text that a task writes where it is done: of the image that the file's run leaves of white, of the certificate that is prepared,
--- of the report of an accepted one, or of the listing of records that end with an end record.
+-- The text that a task writes when it is done: the image that the file's run makes on white, the prepared certificate,
+-- the report of an accepted one, or the listing of records that end with an end record.
 abbrev pub IsDoneBy : Task → List ℕ → Type 0
 IsDoneBy (show file width height) text = IsRunText file width height (white width height) text
 IsDoneBy (prepare file width height) text = Prepares file width height text
@@ -29,7 +29,8 @@ IsDoneBy (play file certificate width height) text = IsPlayedText file certifica
 IsDoneBy (over file certificate image) text = IsPlayedOverText file certificate image text
 IsDoneBy (list file) text = Lists file Ended text
 
--- The fault by which a task is refused, in a record or in none. A listing tells faults itself, and is refused by none.
+-- The fault by which a task is rejected, in a record or in none. A listing reports faults itself, and is never
+-- rejected.
 abbrev pub IsRefusedBy : Task → Option ℕ → Fault → Type 0
 IsRefusedBy (show file width height) number fault = Refused file width height number fault
 IsRefusedBy (prepare file width height) number fault = Refused file width height number fault
@@ -38,32 +39,33 @@ IsRefusedBy (play file certificate width height) number fault = RefusesPlay file
 IsRefusedBy (over file certificate image) number fault = RefusesOver file certificate image number fault
 IsRefusedBy (list file) number fault = ⊥
 
--- a text that a task writes where its output takes it: where it is done, and of a check or a listing where it is refused, too
+-- a text that a task writes if its output accepts it: that of a task that is done, or of a rejected check or listing
 abbrev pub IsTextOf : Task → List ℕ → Type 0
 IsTextOf (check file certificate) text = ReportsAccepted file certificate text ⊎ ReportsRefused file certificate text
 IsTextOf (list file) text = IsListing file text
 IsTextOf task text = IsDoneBy task text
 
--- a text of which something holds was written
+-- a text with some property was written
 pub record WritesText (holds : List ℕ → Type 0) (old new : Option (List ℕ)) : Type 0 where
   pub text : List ℕ
   pub fact : holds text
   pub written : Appends old new text
 
--- a front of such a text was written
+-- a prefix of a text with some property was written
 pub record WritesFront (holds : List ℕ → Type 0) (old new : Option (List ℕ)) : Type 0 where
   pub text : List ℕ
   pub fact : holds text
   pub written : AppendsFront old new text
 
--- where a task is refused, a check has written its report, a listing the lines of records that break, and each other task nothing
+-- what a rejected task has written: a check its report, a listing the lines of records that break, any other task
+-- nothing
 abbrev pub WritesRefused : Task → Option (List ℕ) → Option (List ℕ) → Type 0
 WritesRefused (check file certificate) old new = WritesText (ReportsRefused file certificate) old new
 WritesRefused (list file) old new = WritesText (Lists file Broken) old new
 WritesRefused task old new = Keeps old new
 
--- What a task has written to its output: its text, and nothing else; a front of it, where the output failed; and where memory was refused,
--- nothing. It ends in no other way.
+-- What a task has written to its output: its text and nothing else; a prefix of it if the output failed; nothing if an
+-- allocation failed. It doesn't end in any other way.
 abbrev pub WritesBy : CommandEnd → Task → Option (List ℕ) → Option (List ℕ) → Type 0
 WritesBy end.Done task old new = WritesText (IsDoneBy task) old new
 WritesBy end.Refused task old new = WritesRefused task old new
@@ -72,19 +74,19 @@ WritesBy end.OutOfMemory task old new = Keeps old new
 WritesBy end.WrongUsage task old new = ⊥
 WritesBy end.CannotRead task old new = ⊥
 
--- the line that tells the refusal of a task was reported
+-- the line for the task's rejection was reported
 pub record TellsRefusal (task : Task) (told : Told) (old new : Option (List ℕ)) : Type 0 where
   pub refusal : Refusal
   pub refused : IsRefusedBy task refusal.number refusal.fault
   pub reported : Reports told old new (refusal_text refusal)
 
--- where a task is refused, a check and a listing tell nothing, and each other task the refusal
+-- what a rejected task reports on standard error: a check and a listing nothing, any other task its rejection
 abbrev pub TellsRefused : Task → Told → Option (List ℕ) → Option (List ℕ) → Type 0
 TellsRefused (check file certificate) told old new = TellsNothing told old new
 TellsRefused (list file) told old new = TellsNothing told old new
 TellsRefused task told old new = TellsRefusal task told old new
 
--- What a task has told on standard error: nothing where it is done, and else one line.
+-- What a task reports on standard error: nothing if it is done, otherwise one line.
 abbrev pub TellsBy : CommandEnd → Task → Told → Option (List ℕ) → Option (List ℕ) → Type 0
 TellsBy end.Done task told old new = TellsNothing told old new
 TellsBy end.Refused task told old new = TellsRefused task told old new
@@ -94,11 +96,11 @@ TellsBy end.WrongUsage task told old new = ⊥
 TellsBy end.CannotRead task told old new = ⊥
 
 module _ {W : Type 0} where
-  -- a task is done, and its text was written to a writer that holds these bytes
+  -- a task is done, and its text was written to a writer with these contents
   abbrev pub WritesDone : Task → (W → Option (List ℕ)) → W → W → Type 0
   WritesDone task contents old new = WritesText (IsDoneBy task) (contents old) (contents new)
 
-  -- what it has written, and told, by how it ends
+  -- what a task has written to a writer with these contents, and what it has reported on it, by how it ends
   abbrev pub Writes : Task → Completion → (W → Option (List ℕ)) → W → W → Type 0
   Writes task answer contents old new = WritesBy answer.end task (contents old) (contents new)
 

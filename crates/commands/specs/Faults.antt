@@ -1,16 +1,16 @@
--- What is told of an input that was not read, and how a command ends then.
+-- What is reported when an input wasn't read, and how a command ends then.
 use Rattle.std.specs.Prelude.{ℕ, List, codes}
 use Rattle.commands.specs.declared.command_end.CommandEnd.{CommandEnd}
 use Rattle.commands.specs.declared.command_end.CommandEnd.TheVariants as end
 use Rattle.commands.specs.declared.input.InputFault.{InputFault}
 use Rattle.commands.specs.declared.input.InputFault.TheVariants.{CannotRead, OutOfMemory}
 
--- what is told of an input that was not read
+-- the message for an input that wasn't read
 abbrev pub fault_text : InputFault → List ℕ
 fault_text CannotRead = codes "cannot read"
 fault_text OutOfMemory = codes "OutOfMemory"
 
--- how a command ends that lacks an input
+-- how a command ends if an input wasn't read
 abbrev pub input_end : InputFault → CommandEnd
 input_end CannotRead = end.CannotRead
 input_end OutOfMemory = end.OutOfMemory

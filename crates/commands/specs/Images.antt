@@ -1,4 +1,4 @@
--- The images that commands write, and the surfaces that they refuse.
+-- The images that commands write, and the surfaces that they reject.
 use Rattle.std.specs.Prelude.{◌≡◌, ◌≤◌, ◌<◌, ◌⊎◌, ℕ, List, Option, Some, None, Ok}
 use Rattle.draw_ops.specs.declared.fault.Fault.{Fault}
 use Rattle.draw_ops.specs.declared.fault.Fault.TheVariants.{BadImage, SurfaceTooLarge}
@@ -9,69 +9,70 @@ use Rattle.preflight_cert.specs.Answer.{IsAnswer, accepted, refuses}
 use Rattle.preflight_cert.specs.CertificateReading.{CertificateValue, read_certificate}
 use Rattle.preflight_cert.specs.Run.{Run, shown}
 
--- the bytes are a certificate for surfaces of these sides
+-- the bytes are a certificate for surfaces of this size
 pub record Allows (certificate : List ℕ) (width height : ℕ) : Type 0 where
   pub value : CertificateValue
   pub read : read_certificate certificate ≡ Ok value
   pub wide : width ≤ value.max_width
   pub high : height ≤ value.max_height
 
--- the bytes are a certificate for smaller surfaces
+-- the bytes are a certificate for smaller surfaces only
 pub record Excludes (certificate : List ℕ) (width height : ℕ) : Type 0 where
   pub value : CertificateValue
   pub read : read_certificate certificate ≡ Ok value
   pub larger : value.max_width < width ⊎ value.max_height < height
 
--- The certificate is accepted for the file and allows the surface, and the file's run leaves this image of another.
+-- The certificate is accepted for the file and allows the surface, and the file's run makes the image from the start
+-- image.
 pub record IsPlayed (file certificate : List ℕ) (width height : ℕ) (start image : Image) : Type 0 where
   pub accepted : IsAnswer file certificate accepted
   pub allowed : Allows certificate width height
   pub run : Run file width height start (shown image)
 
--- the text is the P6 text of that image
+-- the text is the P6 text of the image that the file's run makes from the start image
 pub record IsPlayedText (file certificate : List ℕ) (width height : ℕ) (start : Image) (text : List ℕ) : Type 0 where
   pub image : Image
   pub played : IsPlayed file certificate width height start image
   pub is_text : text ≡ ppm_text image
 
--- the certificate is accepted for the file, and the surface is above its bound
+-- the certificate is accepted for the file, but the surface exceeds its bound
 pub record IsRefusedAsTooLarge (file certificate : List ℕ) (width height : ℕ) (number : Option ℕ) (fault : Fault) : Type 0 where
   pub accepted : IsAnswer file certificate accepted
   pub excluded : Excludes certificate width height
   pub in_none : number ≡ None
   pub is_fault : fault ≡ SurfaceTooLarge
 
--- The check refuses, or else the surface is above the certificate's bound.
+-- the check rejects the pair, or else the surface exceeds the certificate's bound
 abbrev pub RefusesPlay : List ℕ → List ℕ → ℕ → ℕ → Option ℕ → Fault → Type 0
 RefusesPlay file certificate width height number fault =
     IsAnswer file certificate (refuses number fault) ⊎ IsRefusedAsTooLarge file certificate width height number fault
 
--- The bytes of an image are one, and the file is played over it, at its size.
+-- The bytes are a valid P6 image, and the file is played over it, at its size.
 pub record IsPlayedOver (file certificate bytes : List ℕ) (image : Image) : Type 0 where
   pub start : Image
   pub read : read_ppm bytes ≡ Some start
   pub played : IsPlayed file certificate start.width start.height start image
 
--- the text is the P6 text of what that leaves
+-- the text is the P6 text of the file played over an image
 pub record IsPlayedOverText (file certificate bytes text : List ℕ) : Type 0 where
   pub image : Image
   pub played : IsPlayedOver file certificate bytes image
   pub is_text : text ≡ ppm_text image
 
--- the certificate is accepted for the file, and the bytes are no image
+-- the certificate is accepted for the file, but the bytes aren't a valid image
 pub record IsNoImage (file certificate bytes : List ℕ) (number : Option ℕ) (fault : Fault) : Type 0 where
   pub accepted : IsAnswer file certificate accepted
   pub unread : read_ppm bytes ≡ None
   pub in_none : number ≡ None
   pub is_fault : fault ≡ BadImage
 
--- the bytes are an image that is above the certificate's bound
+-- the bytes are an image that exceeds the certificate's bound
 pub record IsTooLargeImage (file certificate bytes : List ℕ) (number : Option ℕ) (fault : Fault) : Type 0 where
   pub start : Image
   pub read : read_ppm bytes ≡ Some start
   pub larger : IsRefusedAsTooLarge file certificate start.width start.height number fault
 
--- The check refuses, or else the bytes are no image, or else that is above the certificate's bound.
+-- the check rejects the pair, or else the bytes aren't a valid image, or else the image exceeds the certificate's bound
 abbrev pub RefusesOver : List ℕ → List ℕ → List ℕ → Option ℕ → Fault → Type 0
 RefusesOver file certificate bytes number fault =
     (IsAnswer file certificate (refuses number fault) ⊎ IsNoImage file certificate bytes number fault)

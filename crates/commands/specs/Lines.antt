@@ -1,4 +1,4 @@
--- What a command line's command leaves on its streams.
+-- What the command of a command line writes to its streams.
 use Rattle.std.specs.Prelude.{◌≡◌, ℕ, List, Option, IfSome, codes, String, ⊤}
 use Rattle.std.specs.Io.KnownBytes.{Keeps}
 use Rattle.clap.specs.Words.{Text}
@@ -15,15 +15,16 @@ use Rattle.commands.specs.declared.asked.CommandLine.{CommandLine}
 use Rattle.commands.specs.declared.asked.CommandLine.TheVariants.{Check, List as ListLine, Over, Play, Prepare, Show}
 use Rattle.commands.specs.declared.inputs.Inputs.{Inputs}
 
--- the word that names standard input in a file's place
+-- the word that stands for standard input
 abbrev pub standard_input : List ℕ
 standard_input = codes "stdin"
 
--- the bytes are all of standard input, where its word is the name and they are known; those of a named file may be any
+-- if the name is `stdin` and the bytes of standard input are known, these are the bytes; a named file can have any
+-- bytes
 abbrev pub IsInput : List ℕ → Option (List ℕ) → List ℕ → Type 0
 IsInput name input bytes = name ≡ standard_input → IfSome input (λ all. bytes ≡ all)
 
--- the task that a line asks for, where its file, and its certificate and its image, if it names them, have these bytes
+-- the task of a command line, if its file, certificate and image have these bytes
 abbrev pub task_of : CommandLine → List ℕ → List ℕ → List ℕ → Task
 task_of (Show name width height) file certificate image = show file width height
 task_of (Prepare name width height output) file certificate image = prepare file width height
@@ -32,12 +33,13 @@ task_of (Play name other width height bands) file certificate image = play file 
 task_of (Over name other third) file certificate image = over file certificate image
 task_of (ListLine name) file certificate image = list file
 
--- what a line's task leaves on standard output: what it has written, but of a certificate that is prepared nothing, since a file gets it
+-- what a command line's task writes to standard output: a prepared certificate writes nothing there, because it goes to
+-- a file
 abbrev pub LineWrites : CommandLine → Task → CommandEnd → Option (List ℕ) → Option (List ℕ) → Type 0
 LineWrites (Prepare name width height output) task end old new = Keeps old new
 LineWrites line task end old new = WritesBy end task old new
 
--- the task of a line has written this to standard output, of whatever bytes it read
+-- the task of a command line wrote this to standard output, for some bytes of its inputs
 pub record LeavesOut (line : CommandLine) (input : Option (List ℕ)) (end : CommandEnd) (old new : Option (List ℕ)) : Type 0 where
   pub file : List ℕ
   pub certificate : List ℕ
@@ -45,7 +47,7 @@ pub record LeavesOut (line : CommandLine) (input : Option (List ℕ)) (end : Com
   pub read : IsInput (file_of line) input file
   pub written : LineWrites line (task_of line file certificate image) end old new
 
--- and told this on standard error
+-- the task of a command line reported this on standard error, for some bytes of its inputs
 pub record LeavesErr (line : CommandLine) (input : Option (List ℕ)) (end : CommandEnd) (told : Told) (old new : Option (List ℕ)) : Type 0 where
   pub file : List ℕ
   pub certificate : List ℕ
@@ -53,7 +55,8 @@ pub record LeavesErr (line : CommandLine) (input : Option (List ℕ)) (end : Com
   pub read : IsInput (file_of line) input file
   pub tells : TellsBy end (task_of line file certificate image) told old new
 
--- What a line has written to standard output, by how it ends: nothing where an input could not be read, or memory was refused.
+-- What a command line writes to standard output, by how it ends: nothing if an input can't be read or an allocation
+-- failed.
 abbrev pub OutBy : CommandEnd → CommandLine → Option (List ℕ) → Option (List ℕ) → Option (List ℕ) → Type 0
 OutBy end.Done line input old new = LeavesOut line input end.Done old new
 OutBy end.Refused line input old new = LeavesOut line input end.Refused old new
@@ -62,7 +65,7 @@ OutBy end.CannotRead line input old new = Keeps old new
 OutBy end.OutOfMemory line input old new = Keeps old new
 OutBy end.WrongUsage line input old new = ⊥
 
--- What it has told on standard error.
+-- What a command line reports on standard error, by how it ends.
 abbrev pub ErrBy : CommandEnd → CommandLine → Option (List ℕ) → Told → Option (List ℕ) → Option (List ℕ) → Type 0
 ErrBy end.Done line input told old new = TellsNothing told old new
 ErrBy end.Refused line input told old new = LeavesErr line input end.Refused told old new
@@ -71,19 +74,20 @@ ErrBy end.CannotRead line input told old new = Reports told old new (codes "cann
 ErrBy end.OutOfMemory line input told old new = Reports told old new (codes "OutOfMemory")
 ErrBy end.WrongUsage line input told old new = ⊥
 
--- What the program has written to standard output for its words: where they are wrong usage anything, and else by a line that they ask for.
+-- What the program writes to standard output for its words: anything if they are wrong usage, otherwise what a command
+-- line that they give writes.
 abbrev pub OutOfWords : CommandEnd → List Text → Option (List ℕ) → Option (List ℕ) → Option (List ℕ) → Type 0
 OutOfWords end.WrongUsage words input old new = ⊤
 OutOfWords end.OutOfMemory words input old new = Keeps old new
 OutOfWords end words input old new = HoldsOfAsked words (λ line. OutBy end line input old new)
 
--- What it has told on standard error for its words.
+-- What the program reports on standard error for its words.
 abbrev pub ErrOfWords : CommandEnd → List Text → Option (List ℕ) → Told → Option (List ℕ) → Option (List ℕ) → Type 0
 ErrOfWords end.WrongUsage words input told old new = ⊤
 ErrOfWords end.OutOfMemory words input told old new = Reports told old new (codes "OutOfMemory")
 ErrOfWords end words input told old new = HoldsOfAsked words (λ line. ErrBy end line input told old new)
 
--- the same, by some line
+-- what the program writes to standard output, or reports on standard error, for some command line
 abbrev pub OutOfSome : CommandEnd → Option (List ℕ) → Option (List ℕ) → Option (List ℕ) → Type 0
 OutOfSome end.WrongUsage input old new = ⊤
 OutOfSome end.OutOfMemory input old new = Keeps old new
@@ -95,7 +99,7 @@ ErrOfSome end.OutOfMemory input told old new = Reports told old new (codes "OutO
 ErrOfSome end input told old new = HoldsOfSome (λ line. ErrBy end line input told old new)
 
 module _ {W : Type 0} where
-  -- what a task, a line, words or some words have written to a writer that holds these bytes
+  -- what a task, a command line, given words, or some words write to a writer with these contents
   abbrev pub TaskWrites : CommandLine → Inputs → Completion → (W → Option (List ℕ)) → W → W → Type 0
   TaskWrites line inputs answer contents old new =
       LineWrites line (task_of line inputs.file.items inputs.certificate.items inputs.image.items) answer.end (contents old) (contents new)
@@ -109,7 +113,7 @@ module _ {W : Type 0} where
   abbrev pub WritesSome : Option (List ℕ) → Completion → (W → Option (List ℕ)) → W → W → Type 0
   WritesSome input answer contents old new = OutOfSome answer.end input (contents old) (contents new)
 
-  -- and what they have told on one
+  -- what a task, a command line, given words, or some words report on a writer with these contents
   abbrev pub TaskTells : CommandLine → Inputs → Completion → (W → Option (List ℕ)) → W → W → Type 0
   TaskTells line inputs answer contents old new =
       TellsBy answer.end (task_of line inputs.file.items inputs.certificate.items inputs.image.items) answer.told (contents old) (contents new)
@@ -124,6 +128,6 @@ module _ {W : Type 0} where
   abbrev pub TellsSome : Option (List ℕ) → Completion → (W → Option (List ℕ)) → W → W → Type 0
   TellsSome input answer contents old new = ErrOfSome answer.end input answer.told (contents old) (contents new)
 
-  -- that memory was refused
+  -- it is reported that an allocation failed
   abbrev pub TellsMemory : Completion → (W → Option (List ℕ)) → W → W → Type 0
   TellsMemory answer contents old new = Reports answer.told (contents old) (contents new) (codes "OutOfMemory")

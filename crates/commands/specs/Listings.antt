@@ -4,7 +4,7 @@ use Rattle.listing.specs.Listing.{listed_of, listing_of}
 use Rattle.listing.specs.declared.listing_end.ListingEnd.{ListingEnd}
 use Rattle.listing.specs.declared.listing_end.ListingEnd.TheVariants.{Broken, Ended}
 
--- a text is the listing of a file whose records end so
+-- a text is the listing of a file, and its records end in this way
 pub record Lists (file : List ℕ) (listed : ListingEnd) (text : List ℕ) : Type 0 where
   pub end : listed ≡ listed_of file
   pub told : text ≡ listing_of file

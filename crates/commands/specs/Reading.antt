@@ -1,4 +1,4 @@
--- What is read of an input.
+-- What reading an input returns.
 use Rattle.std.specs.Prelude.{ℕ, List, Option}
 use Rattle.std.specs.Io.KnownBytes.{Consumes}
 
@@ -6,7 +6,7 @@ use Rattle.std.specs.Io.KnownBytes.{Consumes}
 unfoldable pub input_limit : ℕ
 input_limit = 268435456
 
--- known bytes begin with some bytes, and lose them
+-- a prefix of the known bytes was consumed
 pub record ConsumesFront (old new : Option (List ℕ)) : Type 0 where
   pub front : List ℕ
   pub consumed : Consumes old new front

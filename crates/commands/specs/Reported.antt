@@ -4,7 +4,7 @@ use Rattle.commands.specs.CheckReport.{ReportsAccepted, ReportsRefused}
 use Rattle.commands.specs.declared.check.Report.{Report}
 use Rattle.commands.specs.declared.check.Report.TheVariants.{Accepted, Refused}
 
--- a report is of a file and a certificate, and says what it is of
+-- the report is that of a file and a certificate, and of whether they are accepted
 abbrev pub IsReportOf : List ℕ → List ℕ → Report → Type 0
 IsReportOf file certificate (Accepted text) = ReportsAccepted file certificate text.items
 IsReportOf file certificate (Refused text) = ReportsRefused file certificate text.items

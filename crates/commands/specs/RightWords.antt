@@ -1,29 +1,30 @@
--- The words of a command line that are right.
+-- Command lines with the right words.
 use Rattle.std.specs.Prelude.{◌≡◌, List, [], ◌∷◌, codes}
 use Rattle.std.specs.List.{Any}
 use Rattle.clap.specs.Words.{Text}
 use Rattle.commands.specs.CommandLine.{IsPlainWord, IsSideText}
 
--- what an argument is: a file's name, the text of a side, or the word that asks for bands
+-- the kinds of arguments: a file's name, a width or height, or the word for bands
 pub data ArgumentKind : Type 0 where
   name : ArgumentKind
   side : ArgumentKind
   bands : ArgumentKind
 
--- The word is of this kind: a name does not begin with a hyphen, and a side's text is a decimal numeral from 1 to 8,192, without a sign.
+-- The word is of this kind: a name doesn't begin with a hyphen, and a width or height is a decimal numeral from 1 to
+-- 8,192, without a sign.
 abbrev pub IsOfKind : ArgumentKind → Text → Type 0
 IsOfKind name word = IsPlainWord word
 IsOfKind side word = IsSideText word
 IsOfKind bands word = word ≡ codes "--bands"
 
--- the words are of these kinds, one by one
+-- each word is of the corresponding kind
 abbrev pub AreOfKinds : List ArgumentKind → List Text → Type 0
 AreOfKinds [] [] = Unit {0}
 AreOfKinds [] (word ∷ words) = ⊥
 AreOfKinds (kind ∷ kinds) [] = ⊥
 AreOfKinds (kind ∷ kinds) (word ∷ words) = IsOfKind kind word × AreOfKinds kinds words
 
--- the arguments that each command takes, in order; `play` may be asked for bands
+-- the arguments that each command takes, in order; `play` may have bands
 abbrev pub usages : List (Text × List ArgumentKind)
 usages =
     (codes "show", name ∷ side ∷ side ∷ [])
@@ -35,11 +36,11 @@ usages =
     ∷ (codes "list", name ∷ [])
     ∷ []
 
--- the usage is the command's, and takes the arguments
+-- the usage is that of the command, and takes the arguments
 abbrev pub TakesArguments : Text → List Text → Text × List ArgumentKind → Type 0
 TakesArguments command arguments usage = (usage.0 ≡ command) × AreOfKinds usage.1 arguments
 
--- the program's name, a command's, and arguments that it takes
+-- the program's name, a command's name, and arguments that it takes
 pub record AreRightWords (words : List Text) : Type 0 where
   pub program : Text
   pub command : Text

@@ -1,8 +1,8 @@
--- What a command has to do.
+-- The work of a command.
 use Rattle.std.specs.Prelude.{ℕ, List}
 use Rattle.commands.specs.declared.playing.AskedSurface.{AskedSurface}
 
--- a command with the bytes of its inputs, and the sides of its surface: of a file, of a certificate for it, and of an image
+-- a command with the bytes of its inputs (a file, its certificate, an image) and the size of its surface
 pub data Task : Type 0 where
   show : List ℕ → ℕ → ℕ → Task
   prepare : List ℕ → ℕ → ℕ → Task
@@ -11,7 +11,7 @@ pub data Task : Type 0 where
   over : List ℕ → List ℕ → List ℕ → Task
   list : List ℕ → Task
 
--- the file that it is about
+-- the metafile of a task
 abbrev pub file_in : Task → List ℕ
 file_in (show file width height) = file
 file_in (prepare file width height) = file
@@ -20,6 +20,6 @@ file_in (play file certificate width height) = file
 file_in (over file certificate image) = file
 file_in (list file) = file
 
--- the task of playing on a surface that is asked for
+-- the task of playing on the given surface
 abbrev pub asked_play : List ℕ → List ℕ → AskedSurface → Task
 asked_play file certificate asked = play file certificate asked.width asked.height

@@ -1,15 +1,15 @@
-//! What a command line asks for.
+//! The commands that a command line can ask for.
 
-/// A command with its words and numbers. Each file but FILE, which may be the word `stdin`, is one of that name.
+/// A command with its arguments. A file name is the name of a file; FILE may also be the word `stdin`.
 #[derive(Clone, Copy, Debug, PartialEq, Eq)]
 pub enum CommandLine<'a> {
-    /// Show a file on a surface of these sides, in pixels.
+    /// Play a file on a surface of this size in pixels.
     Show {
         file: &'a str,
         width: u32,
         height: u32,
     },
-    /// Prepare a file's certificate for surfaces up to these sides, and write it to a file.
+    /// Prepare a file's certificate for surfaces of at most this size, and write it to a file.
     Prepare {
         file: &'a str,
         width: u32,
@@ -21,7 +21,8 @@ pub enum CommandLine<'a> {
         file: &'a str,
         certificate: &'a str,
     },
-    /// Play a file by its certificate on a surface of these sides, in pixels, so many rows at a time if that is asked for.
+    /// Play a file by its certificate on a surface of this size in pixels, in bands of some number of rows if that is
+    /// given.
     Play {
         file: &'a str,
         certificate: &'a str,
@@ -29,7 +30,7 @@ pub enum CommandLine<'a> {
         height: u32,
         bands: Option<u32>,
     },
-    /// Play a file by its certificate over an image, at its size.
+    /// Play a file by its certificate over an image, at the image's size.
     Over {
         file: &'a str,
         certificate: &'a str,

@@ -13,8 +13,8 @@ use draw_ops::Fault;
 use preflight_cert::{answer_law, check};
 use std::alloc::{AllocError, Global};
 
-/// Checks a certificate against a file, and writes the report to `out` as one line of JSON, whether it is accepted or refused. Of a
-/// refusal nothing goes to `err`; a fault of `err` changes no status.
+/// Checks a certificate against a file, and writes a report to `out` as one line of JSON, whether the pair is accepted
+/// or rejected. A rejection writes nothing to `err`, and a fault of `err` doesn't change the status.
 pub fn check_command<O: FaultCount, E: FaultCount>(
     alloc: Global,
     file: &[u8],
@@ -61,13 +61,13 @@ pub fn check_command<O: FaultCount, E: FaultCount>(
 /// The text of a report.
 #[derive(Drop)]
 enum Report {
-    /// Of a certificate that was accepted.
+    /// For an accepted certificate.
     Accepted(Vec<u8>),
-    /// Of a refusal.
+    /// For a rejection.
     Refused(Vec<u8>),
 }
 
-/// Checks a certificate against a file, and makes the report of that.
+/// Checks a certificate against a file, and makes the report.
 fn report_check(alloc: Global, file: &[u8], certificate: &[u8]) -> Result<Report, AllocError>
     ensures { IfOk result (IsReportOf file.now certificate.now) }
 {

@@ -13,7 +13,7 @@ use preflight_cert::{Cleared, Refusal};
 use serde_json::{Map, Value, json, put};
 use std::alloc::{AllocError, Global};
 
-/// The text of the report of a certificate that was accepted.
+/// The text of the report for an accepted certificate.
 pub(crate) fn accepted_report(alloc: Global, cleared: &Cleared<'_>) -> Result<Vec<u8>, AllocError>
     ensures { IfOk result (λ text. text.items ≡ report_text (report_of cleared.now)) }
 {
@@ -21,7 +21,7 @@ pub(crate) fn accepted_report(alloc: Global, cleared: &Cleared<'_>) -> Result<Ve
     text_of(alloc, &report)
 }
 
-/// The report of a certificate that was accepted.
+/// The report for an accepted certificate.
 fn accepted_value(alloc: Global, cleared: &Cleared<'_>) -> Result<Value, AllocError>
     ensures { IfOk result (λ value. view value ≡ report_of cleared.now) }
 {
@@ -48,7 +48,7 @@ fn accepted_value(alloc: Global, cleared: &Cleared<'_>) -> Result<Value, AllocEr
     Ok(Value::from(members))
 }
 
-/// Puts a number with its name among members, which stand by their names.
+/// Adds a number under its name to a map of members.
 fn put_number(
     members: &mut Map<String, Value>,
     alloc: Global,
@@ -60,7 +60,7 @@ fn put_number(
     put(members, alloc, name, Value::from(number))
 }
 
-/// Puts a text with its name among members.
+/// Adds a text under its name to a map of members.
 fn put_text(
     members: &mut Map<String, Value>,
     alloc: Global,
@@ -73,7 +73,7 @@ fn put_text(
     put(members, alloc, name, value)
 }
 
-/// Puts a number, or null where there is none, with its name among members.
+/// Adds a number, or null if there is none, under its name to a map of members.
 fn put_option(
     members: &mut Map<String, Value>,
     alloc: Global,
@@ -95,7 +95,7 @@ fn sides_value(alloc: Global, width: u32, height: u32) -> Result<Value, AllocErr
     json!(in alloc; [width, height])
 }
 
-/// What is needed, by name.
+/// The needs, by name.
 fn needs_value(alloc: Global, needs: Needs) -> Result<Value, AllocError>
     ensures { IfOk result (λ value. view value ≡ needs_data needs) }
 {
@@ -107,7 +107,7 @@ fn needs_value(alloc: Global, needs: Needs) -> Result<Value, AllocError>
     })
 }
 
-/// The kinds that were noted, each with its count.
+/// The kinds of notes that occurred, each with its count.
 fn notes_value(alloc: Global, notes: Notes) -> Result<Value, AllocError>
     ensures { IfOk result (λ value. view value ≡ notes_data notes.counts) }
 {
@@ -124,7 +124,7 @@ fn notes_value(alloc: Global, notes: Notes) -> Result<Value, AllocError>
     Ok(Value::from(kinds))
 }
 
-/// Puts the count of a kind with its name among others, if it was noted.
+/// Adds the count of a kind under its name, if the kind occurred.
 fn put_kind(
     kinds: &mut Map<String, Value>,
     alloc: Global,
@@ -140,7 +140,7 @@ fn put_kind(
     put(kinds, alloc, kind.name(), Value::from(count))
 }
 
-/// The text of the report of a refusal.
+/// The text of the report for a rejection.
 pub(crate) fn refused_report(alloc: Global, refusal: Refusal) -> Result<Vec<u8>, AllocError>
     ensures { IfOk result (λ text. text.items ≡ report_text (refused_report refusal.number refusal.fault)) }
 {
@@ -148,7 +148,7 @@ pub(crate) fn refused_report(alloc: Global, refusal: Refusal) -> Result<Vec<u8>,
     text_of(alloc, &report)
 }
 
-/// The report of a refusal.
+/// The report for a rejection.
 fn refused_value(alloc: Global, refusal: Refusal) -> Result<Value, AllocError>
     ensures { IfOk result (λ value. view value ≡ refused_report refusal.number refusal.fault) }
 {
@@ -162,7 +162,7 @@ fn refused_value(alloc: Global, refusal: Refusal) -> Result<Value, AllocError>
     Ok(Value::from(members))
 }
 
-/// The text of a report, which has no numbers but whole ones: compact JSON, and a line feed.
+/// The text of a report: compact JSON and a line feed. All numbers in the report are integers.
 fn text_of(alloc: Global, report: &Value) -> Result<Vec<u8>, AllocError>
     requires { has_float (view report.now) ≡ false }
     ensures { IfOk result (λ text. text.items ≡ report_text (view report.now)) }

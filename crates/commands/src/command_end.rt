@@ -2,20 +2,20 @@
 
 use canvas::WriteFault;
 
-/// How a command ends, which its status tells.
+/// How a command ends. This determines the status.
 #[derive(Clone, Copy, Debug, PartialEq, Eq)]
 pub enum CommandEnd {
-    /// The work was done.
+    /// The work is done.
     Done,
-    /// The file was refused, or the certificate, the image or the surface.
+    /// The file, the certificate, the image or the surface was rejected.
     Refused,
-    /// The command line asks for nothing that can be done, or for help.
+    /// The command line is wrong, or asks for help.
     WrongUsage,
-    /// An input could not be read.
+    /// An input can't be read.
     CannotRead,
-    /// An output could not be written.
+    /// An output can't be written.
     CannotWrite,
-    /// Memory was refused.
+    /// Out of memory.
     OutOfMemory,
 }
 
@@ -37,11 +37,11 @@ impl CommandEnd {
     }
 }
 
-/// How a command ended, and whether what was told on standard error went out whole.
+/// How a command ended, and whether its message on standard error was written in full.
 #[derive(Clone, Copy, Debug, PartialEq, Eq)]
 pub struct Completion {
     pub end: CommandEnd,
-    /// An error where the writer failed before the last byte of what it was to be told, and never where it was to be told nothing.
+    /// An error if the writer failed before the last byte of the message. Never an error if there was no message.
     pub told: Result<(), WriteFault>,
 }
 

@@ -1,4 +1,4 @@
-//! Reading the command line.
+//! Parses the command line.
 
 ghost use Rattle.std.specs.Prelude.{◌≡◌, IfErr, IfOk, IfSome, IsSome, codes};
 ghost use Rattle.clap.specs.Words.{first_of, found_of, kind_of, rows_of, subcommand_rows_of};
@@ -16,9 +16,9 @@ use clap::{ArgMatches, Error};
 use mapping::MAX_SURFACE_SIDE;
 use std::alloc::Global;
 
-/// What the words of a command line ask for, the program's name first, by `clap`'s walk over them.
-/// An error has the text that the user is shown, for asked-for help too. Right words of a command are refused for want of
-/// memory alone.
+/// Parses the words of a command line, the program's name first, with `clap`. The error contains the text to show to
+/// the user; help is an error too. If the words are right for a command, parsing can fail only because an allocation
+/// failed.
 pub fn line<'a>(alloc: Global, words: &'a [String]) -> Result<CommandLine<'a>, Error>
     ensures sides { IfOk result HasSides }
     ensures asked { IfOk result (IsAskedByWords (texts_of words.entry.now)) }
@@ -33,7 +33,7 @@ pub fn line<'a>(alloc: Global, words: &'a [String]) -> Result<CommandLine<'a>, E
     }
 }
 
-/// The command that was met, if its numbers are within their range.
+/// The command that was found, if its numbers are in range.
 fn asked<'a>(matches: &ArgMatches<'a>) -> Option<CommandLine<'a>>
     ensures sides { IfSome result HasSides }
     ensures asked { IfSome result (IsAskedBy (subcommand_rows_of matches.now)) }
@@ -60,7 +60,7 @@ fn asked<'a>(matches: &ArgMatches<'a>) -> Option<CommandLine<'a>>
     None
 }
 
-/// What `show` was given.
+/// The arguments of `show`.
 fn asked_show<'a>(given: &ArgMatches<'a>) -> Option<CommandLine<'a>>
     ensures sides { IfSome result HasSides }
     ensures name { IfSome result (λ line. command_name line ≡ codes "show") }
@@ -80,7 +80,7 @@ fn asked_show<'a>(given: &ArgMatches<'a>) -> Option<CommandLine<'a>>
     })
 }
 
-/// What `prepare` was given.
+/// The arguments of `prepare`.
 fn asked_prepare<'a>(given: &ArgMatches<'a>) -> Option<CommandLine<'a>>
     ensures sides { IfSome result HasSides }
     ensures name { IfSome result (λ line. command_name line ≡ codes "prepare") }
@@ -104,7 +104,7 @@ fn asked_prepare<'a>(given: &ArgMatches<'a>) -> Option<CommandLine<'a>>
     })
 }
 
-/// What `check` was given.
+/// The arguments of `check`.
 fn asked_check<'a>(given: &ArgMatches<'a>) -> Option<CommandLine<'a>>
     ensures sides { IfSome result HasSides }
     ensures name { IfSome result (λ line. command_name line ≡ codes "check") }
@@ -120,7 +120,7 @@ fn asked_check<'a>(given: &ArgMatches<'a>) -> Option<CommandLine<'a>>
     Some(CommandLine::Check { file, certificate })
 }
 
-/// What `play` was given.
+/// The arguments of `play`.
 fn asked_play<'a>(given: &ArgMatches<'a>) -> Option<CommandLine<'a>>
     ensures sides { IfSome result HasSides }
     ensures name { IfSome result (λ line. command_name line ≡ codes "play") }
@@ -148,7 +148,7 @@ fn asked_play<'a>(given: &ArgMatches<'a>) -> Option<CommandLine<'a>>
     })
 }
 
-/// What `over` was given.
+/// The arguments of `over`.
 fn asked_over<'a>(given: &ArgMatches<'a>) -> Option<CommandLine<'a>>
     ensures sides { IfSome result HasSides }
     ensures name { IfSome result (λ line. command_name line ≡ codes "over") }
@@ -171,7 +171,7 @@ fn asked_over<'a>(given: &ArgMatches<'a>) -> Option<CommandLine<'a>>
     })
 }
 
-/// What `list` was given.
+/// The arguments of `list`.
 fn asked_list<'a>(given: &ArgMatches<'a>) -> Option<CommandLine<'a>>
     ensures sides { IfSome result HasSides }
     ensures name { IfSome result (λ line. command_name line ≡ codes "list") }
@@ -184,7 +184,7 @@ fn asked_list<'a>(given: &ArgMatches<'a>) -> Option<CommandLine<'a>>
     Some(CommandLine::List { file })
 }
 
-/// The text that was given for an argument, as a file's name.
+/// The text of an argument, as a file's name.
 fn name_of<'a>(given: &ArgMatches<'a>, id: &str) -> Option<&'a str>
     ensures given { IfSome result (λ name. GivesName (rows_of (found_of given.now)) id.now name.now) }
     ensures taken { IsSome (first_of id.now (rows_of (found_of given.now))) → IsSome result }
@@ -192,7 +192,7 @@ fn name_of<'a>(given: &ArgMatches<'a>, id: &str) -> Option<&'a str>
     given.get_str(id)
 }
 
-/// The sides of a surface, if they are within their range.
+/// The width and height of a surface, if they are in range.
 fn sides_of(given: &ArgMatches<'_>) -> Option<(u32, u32)>
     ensures sides { IfSome result (λ sides. AreSides sides.0 sides.1) }
     ensures given { IfSome result (λ sides. GivesSides (rows_of (found_of given.now)) sides.0 sides.1) }
@@ -207,7 +207,7 @@ fn sides_of(given: &ArgMatches<'_>) -> Option<(u32, u32)>
     Some((width, height))
 }
 
-/// How many rows a band has, if that is asked for and within its range, as the parser sees to.
+/// The number of rows in a band, if it is given. It must be in range, which the parser ensures.
 fn bands_of(given: &ArgMatches<'_>) -> Option<Option<u32>>
     ensures range { IfSome result (λ bands. IfSome bands IsSurfaceSide) }
     ensures given { IfSome result (GivesBands (rows_of (found_of given.now))) }
@@ -222,7 +222,7 @@ fn bands_of(given: &ArgMatches<'_>) -> Option<Option<u32>>
     Some(Some(rows))
 }
 
-/// A side, if it is within its range, as the parser sees to.
+/// A width or a height, if it is in range, which the parser ensures.
 fn side_of(matches: &ArgMatches<'_>, id: &str) -> Option<u32>
     ensures side { IfSome result IsSurfaceSide }
     ensures given { IfSome result (GivesNumber (rows_of (found_of matches.now)) id.now) }

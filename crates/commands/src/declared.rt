@@ -1,4 +1,4 @@
-//! The command line that is declared to `clap`.
+//! The command line, as declared to `clap`.
 
 ghost use Rattle.std.specs.Prelude.{◌≡◌, IfOk, false};
 ghost use Rattle.clap.specs.Words.{app_of, rule_of};
@@ -10,16 +10,18 @@ use clap::{Arg, ArgAction, Command, value_parser};
 use mapping::MAX_SURFACE_SIDE;
 use std::alloc::{AllocError, Global};
 
-/// How many rows a band may be asked to have: those of the largest surface.
+/// The most rows that a band may have: as many as the largest surface.
 const MOST_ROWS: u32 = MAX_SURFACE_SIDE;
 
-/// What stands above the commands in the help.
+/// The text above the list of commands in the help.
 const ABOUT: &str = "Checks Windows metafiles (WMF, EMF) and plays them on a pixel surface.
 
-Whoever hands a metafile on prepares a certificate for it, once. Whoever gets both checks them: where they are accepted, playing the file \
-on any surface up to the certificate's bound misuses no object, overflows nowhere and writes at most the certified number of pixels.";
+The sender of a metafile prepares a certificate for it once; the receiver checks
+both. If they are accepted, playing the file on any surface within the
+certificate's bound misuses no object, overflows nowhere, and writes at most the
+certified number of pixels.";
 
-/// What stands behind the options in the help.
+/// The text below the options in the help.
 const GUIDE: &str = "Examples:
   metaplay show drawing.wmf 400 300 > drawing.ppm
   metaplay prepare drawing.wmf 4096 4096 drawing.cert
@@ -28,16 +30,19 @@ const GUIDE: &str = "Examples:
   metaplay over drawing.wmf drawing.cert page.ppm > printed.ppm
   metaplay list drawing.wmf
 
-FILE may be the word stdin, for standard input. Images are P6 (ppm(5)); reports are a line of JSON.
+FILE may be the word stdin, for standard input. Images are P6 (ppm(5)), and the
+report of check is one line of JSON.
 
 Exit status:
   0  done
-  1  refused, for the reason that standard error names, or for check the report, or for list the last line
-  2  wrong usage, or help was asked for
-  3  an input or an output failed
-  4  memory was refused
+  1  the file, the certificate or the image was rejected, or the surface is
+     larger than the bound; or the records that list printed don't end properly
+  2  wrong usage, or help
+  3  an input or an output failed, or an input is longer than 268,435,456 bytes
+  4  out of memory
 
-docs/FAULTS.md explains each name of a refusal, and what to do about it.";
+The fault is on standard error; check and list print it on standard output.
+docs/FAULTS.md explains each fault and what to do about it.";
 
 /// The program's command line.
 pub(crate) fn metaplay<'a>(alloc: Global) -> Result<Command<'a>, AllocError>
@@ -66,7 +71,7 @@ pub(crate) fn metaplay<'a>(alloc: Global) -> Result<Command<'a>, AllocError>
 fn show<'a>(alloc: Global) -> Result<Command<'a>, AllocError>
     ensures { IfOk result (IsLocalApp show_app) }
 {
-    let about = "Plays a metafile on white, and writes the image to standard output";
+    let about = "Plays a metafile on white and writes the image to standard output";
     let command = of_file(alloc, "show", about)?;
     with_sides(alloc, command)
 }
@@ -75,17 +80,17 @@ fn show<'a>(alloc: Global) -> Result<Command<'a>, AllocError>
 fn prepare<'a>(alloc: Global) -> Result<Command<'a>, AllocError>
     ensures { IfOk result (IsLocalApp prepare_app) }
 {
-    let about = "Prepares the certificate of a metafile, for surfaces up to W by H";
+    let about = "Makes a certificate for a metafile, for surfaces of at most W by H";
     let command = of_file(alloc, "prepare", about)?;
     let command = with_sides(alloc, command)?;
-    command.arg(name(alloc, "OUT", "The file that gets the certificate"))
+    command.arg(name(alloc, "OUT", "The file to write the certificate to"))
 }
 
 /// The command `check`.
 fn check<'a>(alloc: Global) -> Result<Command<'a>, AllocError>
     ensures { IfOk result (IsLocalApp check_app) }
 {
-    let about = "Checks a certificate against a metafile, and writes a report to standard output";
+    let about = "Checks a metafile and its certificate and writes a report in JSON";
     let command = of_file(alloc, "check", about)?;
     command.arg(name(alloc, "CERT", "The certificate"))
 }
@@ -94,8 +99,7 @@ fn check<'a>(alloc: Global) -> Result<Command<'a>, AllocError>
 fn play<'a>(alloc: Global) -> Result<Command<'a>, AllocError>
     ensures { IfOk result (IsLocalApp play_app) }
 {
-    let about =
-        "Plays a metafile by its certificate on white, and writes the image to standard output";
+    let about = "Plays a metafile by its certificate on white and writes the image";
     let command = of_file(alloc, "play", about)?;
     let command = command.arg(name(alloc, "CERT", "The certificate"))?;
     let command = with_sides(alloc, command)?;
@@ -106,14 +110,13 @@ fn play<'a>(alloc: Global) -> Result<Command<'a>, AllocError>
 fn over<'a>(alloc: Global) -> Result<Command<'a>, AllocError>
     ensures { IfOk result (IsLocalApp over_app) }
 {
-    let about =
-        "Plays a metafile by its certificate over an image, and writes that to standard output";
+    let about = "Plays a metafile by its certificate over an image; writes the result";
     let command = of_file(alloc, "over", about)?;
     let command = command.arg(name(alloc, "CERT", "The certificate"))?;
     command.arg(name(
         alloc,
         "IMAGE",
-        "The image, P6 (ppm(5)), whose size is the surface's",
+        "A P6 image (ppm(5)); the surface has its size",
     ))
 }
 
@@ -121,7 +124,7 @@ fn over<'a>(alloc: Global) -> Result<Command<'a>, AllocError>
 fn list<'a>(alloc: Global) -> Result<Command<'a>, AllocError>
     ensures { IfOk result (IsLocalApp list_app) }
 {
-    let about = "Lists the records of a metafile, a line each, to standard output";
+    let about = "Writes one line for each record of a metafile";
     of_file(alloc, "list", about)
 }
 
@@ -135,13 +138,13 @@ fn of_file<'a>(alloc: Global, command: &'a str, about: &'a str) -> Result<Comman
         .arg(name(alloc, "FILE", help))
 }
 
-/// A command with a surface's sides behind.
+/// Adds the width and height of a surface to a command.
 fn with_sides<'a>(alloc: Global, command: Command<'a>) -> Result<Command<'a>, AllocError>
     ensures { IfOk result (AddsSides command.entry) }
 {
     command
-        .arg(side(alloc, "W", "The surface's width in pixels"))?
-        .arg(side(alloc, "H", "The surface's height in pixels"))
+        .arg(side(alloc, "W", "The width of the surface in pixels"))?
+        .arg(side(alloc, "H", "The height of the surface in pixels"))
 }
 
 /// A file's name.
@@ -155,7 +158,7 @@ fn name<'a>(alloc: Global, id: &'a str, help: &'a str) -> Arg<'a>
         .help(help)
 }
 
-/// How many rows a band has.
+/// The option for the number of rows in a band.
 fn bands<'a>(alloc: Global) -> Arg<'a>
     ensures rule { rule_of result ≡ bands_rule }
     ensures local { result.global ≡ false }
@@ -164,10 +167,10 @@ fn bands<'a>(alloc: Global) -> Arg<'a>
         .long("bands")
         .action(ArgAction::Set)
         .value_parser(value_parser!(u32).range(1..=i64::from(MOST_ROWS)))
-        .help("How many rows are played at a time: the image is the same")
+        .help("How many rows to play at a time; the image is the same")
 }
 
-/// A side of the surface.
+/// The width or the height of the surface.
 fn side<'a>(alloc: Global, id: &'a str, help: &'a str) -> Arg<'a>
     ensures rule { rule_of result ≡ side_rule id.entry.now }
     ensures local { result.global ≡ false }

@@ -1,4 +1,4 @@
-//! Why a command isn't done, and how it ends then.
+//! Why a command fails, and how it ends then.
 
 ghost use Rattle.std.specs.Prelude.{◌≡◌, ◌-◌, ◌^◌, ◌<◌, OnErr};
 ghost use Rattle.commands.specs.Failures.{IsFailureOf, TellsEnding, ending_of};
@@ -9,18 +9,18 @@ use canvas::FaultCount;
 use draw_ops::Fault;
 use preflight_cert::Refusal;
 
-/// Why a command isn't done.
+/// Why a command fails.
 #[derive(Clone, Copy, Debug)]
 pub(crate) enum Failure {
-    /// The file was refused, or the certificate, the image or the surface.
+    /// The file, the certificate, the image or the surface was rejected.
     Refused(Refusal),
     /// The output failed.
     CannotWrite,
-    /// Memory was refused.
+    /// An allocation failed.
     OutOfMemory,
 }
 
-/// Why a command isn't done that is refused: want of memory is a reason of its own.
+/// The failure for a rejection. `OutOfMemory` is a failure of its own.
 pub(crate) fn failure_of(refusal: Refusal) -> Failure
     ensures { IsFailureOf refusal result }
 {
@@ -30,7 +30,7 @@ pub(crate) fn failure_of(refusal: Refusal) -> Failure
     Failure::Refused(refusal)
 }
 
-/// How a command ends, which goes to `err` as one line where it isn't done. A fault of `err` changes no status.
+/// Ends a command. If it failed, one line about the failure goes to `err`. A fault of `err` doesn't change the status.
 pub(crate) fn ending<E: FaultCount>(done: Result<(), Failure>, err: &mut E) -> Completion
     requires room { E.fault_count err.old < 2 ^ 64 - 1 }
     ensures end { result.end ≡ ending_of done }

@@ -1,4 +1,4 @@
-//! Reading an input to its end.
+//! Reads an input to its end.
 
 ghost use Rattle.std.specs.Prelude.{◌≡◌, ◌≤◌, ◌<◌, ◌↔◌, IfOk, IfSome, IsErr, OnOk, OnErr, length, vec_len};
 ghost use Rattle.std.specs.IoError.{error_kind};
@@ -14,22 +14,22 @@ use thiserror::Error;
 /// The longest input, in bytes.
 const INPUT_LIMIT: usize = 268435456;
 
-/// How many bytes a read asks for.
+/// The number of bytes to ask for in one read.
 const PIECE: usize = 65536;
 
-/// Why an input was not read.
+/// Why an input wasn't read.
 #[derive(Clone, Copy, Debug, PartialEq, Eq, Error)]
 pub enum InputFault {
-    /// The reader failed, or has more than 268,435,456 bytes.
+    /// The reader failed, or it has more than 268,435,456 bytes.
     #[error("{}", InputFault::CannotRead.text())]
     CannotRead,
-    /// Memory for the bytes was refused.
+    /// The memory for the bytes couldn't be allocated.
     #[error("{}", InputFault::OutOfMemory.text())]
     OutOfMemory,
 }
 
 impl InputFault {
-    /// What went wrong, as a line on standard error tells it.
+    /// The text for standard error.
     pub fn text(self) -> &'static str
         ensures text { result.now ≡ fault_text self }
         ensures short { length result.now ≤ 117 }
@@ -40,7 +40,7 @@ impl InputFault {
         }
     }
 
-    /// The fault that an error of the system is, where a file is opened or the command line is read.
+    /// The input fault for a system error, on opening a file or on reading the command line.
     pub(crate) fn of(error: io::Error) -> InputFault
         ensures { result ≡ InputFault.OutOfMemory ↔ error_kind error ≡ ErrorKind.OutOfMemory }
     {
@@ -52,8 +52,8 @@ impl InputFault {
     }
 }
 
-/// All bytes of a reader, to its end. Any error of a read is `CannotRead`, whatever its kind, and so is
-/// an input of more than 268,435,456 bytes. After an error the reader has lost a front of its bytes.
+/// Reads all bytes of a reader. Any error of a read is `CannotRead`, whatever its kind, and so is an input of more than
+/// 268,435,456 bytes. After an error, a prefix of the reader's bytes has been consumed.
 #[tactic(auto, unfolding(crate::specs::Reading::input_limit))]
 pub fn read_input<R: Read>(alloc: Global, input: &mut R) -> Result<Vec<u8>, InputFault>
     ensures bytes { IfOk result (λ bytes. IfSome (R.remaining input.old) (λ all. bytes.items ≡ all)) }

@@ -1,4 +1,4 @@
-//! The inputs of a command, read in the order of the command line.
+//! Reads the inputs of a command, in the order of the command line.
 
 ghost use Rattle.std.specs.Prelude.{◌≡◌, ◌≢◌, ◌≤◌, IfOk, vec_len};
 ghost use Rattle.std.specs.Io.KnownBytes.{Keeps};
@@ -13,20 +13,20 @@ use std::fs;
 use std::io::Read;
 use std::rt::Files;
 
-/// The word that names standard input in a file's place.
+/// The word that stands for standard input.
 const STANDARD_INPUT: &str = "stdin";
 
 /// The bytes of a command's inputs.
 #[derive(Drop)]
 pub(crate) struct Inputs {
     pub(crate) file: Vec<u8>,
-    /// Empty where the command takes no certificate.
+    /// Empty if the command takes no certificate.
     pub(crate) certificate: Vec<u8>,
-    /// Empty where it takes no image.
+    /// Empty if the command takes no image.
     pub(crate) image: Vec<u8>,
 }
 
-/// Reads the inputs that a line names, in their order.
+/// Reads the inputs that a command line names, in their order.
 pub(crate) fn read_inputs<R: Files + AllocGlobal, I: Read>(
     rt: &R,
     line: CommandLine<'_>,
@@ -60,7 +60,7 @@ pub(crate) fn read_inputs<R: Files + AllocGlobal, I: Read>(
     })
 }
 
-/// The name of the file that a line asks for.
+/// The name of the metafile on the command line.
 fn file_of<'a>(line: CommandLine<'a>) -> &'a str
     ensures { result.now ≡ file_of line.entry }
 {
@@ -74,7 +74,7 @@ fn file_of<'a>(line: CommandLine<'a>) -> &'a str
     }
 }
 
-/// The name of the certificate that a line asks for, if it does.
+/// The name of the certificate on the command line, if there is one.
 fn certificate_of<'a>(line: CommandLine<'a>) -> Option<&'a str> {
     match line {
         CommandLine::Check { certificate, .. } => Some(certificate),
@@ -84,7 +84,7 @@ fn certificate_of<'a>(line: CommandLine<'a>) -> Option<&'a str> {
     }
 }
 
-/// The name of the image that a line asks for, if it does.
+/// The name of the image on the command line, if there is one.
 fn image_of<'a>(line: CommandLine<'a>) -> Option<&'a str> {
     match line {
         CommandLine::Over { image, .. } => Some(image),
@@ -93,7 +93,7 @@ fn image_of<'a>(line: CommandLine<'a>) -> Option<&'a str> {
     }
 }
 
-/// The bytes of a file, or of standard input.
+/// Reads a file, or standard input.
 pub fn read_file<R: Files + AllocGlobal, I: Read>(
     rt: &R,
     file: &str,
@@ -109,7 +109,7 @@ pub fn read_file<R: Files + AllocGlobal, I: Read>(
     read_named(rt, file)
 }
 
-/// The bytes of a file of this name.
+/// Reads a file by its name.
 fn read_named<R: Files + AllocGlobal>(rt: &R, name: &str) -> Result<Vec<u8>, InputFault>
     ensures { IfOk result (λ bytes. vec_len bytes ≤ input_limit) }
 {

@@ -1,36 +1,37 @@
-//! The commands of `metaplay`: what a command line asks for, the inputs that it names, and what is
-//! made of them.
+//! The commands of `metaplay`: parsing the command line, reading its inputs, and running the command.
 //!
 //! # What is promised
 //!
-//! - A command line asks only for surfaces from 1 to 8,192 pixels a side, and for the files and the
-//!   sides that its words give, as `clap` walks over them. The right words of each command are never
-//!   wrong usage: its name, and the names of files and the sides that it takes, in order, for `play`
-//!   with bands or without (`line`, `run_words`).
-//! - What is read of an input is all of it, or it is refused (`read_input`).
-//! - How a command ends says what its output got and what standard error was told, by one definition
-//!   for all of them (`show_command`, `prepare_command`, `check_command`, `play_command`, `over_command`,
-//!   `list_command`, by `Writes` and `Tells`). Where it is done, its output got one text and nothing else:
-//!   the P6 text of the image that the file's records define, over white (`show`, `play`) or over the
-//!   image that a P6 text says (`over`), the certificate that is prepared (`prepare`), the report of an
-//!   accepted one (`check`), or the listing of records that end with an end record (`list`).
-//! - In a listing each record in which a run of the file stops, on a surface of any sides, or by whose fault a certificate is refused,
-//!   has that fault on its line, unless the fault is that of the certificate's own entry (`list_command`).
-//! - It is refused only where that refusal is right: the file's first fault (`show`, `prepare`), or the
-//!   check's answer, and for `play` behind it that the surface is above the certificate's bound; for
-//!   `over` between them that the text is no image. Then nothing was written, and of `check` the refusal's
-//!   report; of `list` the listing of records that break. Where memory was refused nothing was written,
-//!   and of `show`, `prepare` and `list` the file opens, and of `play` and `over` the certificate reads, too.
-//! - Where an output failed, it got a front of such a text. A command ends by `CannotWrite` only where its output failed: that counts
-//!   its faults, and the count rose. Where a command is done, its output was flushed after the last byte, and so was a report of a
-//!   refusal, and a listing of records that break. A certificate that is prepared goes to a file of its own, and standard output then
-//!   stays as it was (`run_words`, `run`).
-//! - The whole program's ends mean the same of some bytes, at the sides and for the files that the words
-//!   ask for (`run_words`, `run`); no status is above 4 (`CommandEnd::status`).
-//! - Standard error gets nothing where the work is done, and else the one line that tells why: all of it,
-//!   or a front where the writer failed, which the answer tells (`report`, `run`). Where nothing is told
-//!   the answer has no error of that writer, and else it has one only where that writer failed: each line of
-//!   the program has room (`report_refusal`).
+//! - A parsed command line has surfaces from 1 to 8,192 pixels in width and height, and the files and sizes that its
+//!   words give, as `clap` reads them. The right words for a command are never wrong usage. These are its name, then
+//!   its file names and sizes in order, for `play` with or without bands (`line`, `run_words`).
+//! - An input is read in full, or reading it fails (`read_input`).
+//! - One definition for all commands says what a command writes to its output and to standard error, by how it ends
+//!   (`show_command`, `prepare_command`, `check_command`, `play_command`, `over_command`, `list_command`, by `Writes`
+//!   and `Tells`).
+//! - A command that is done has written one text and nothing else. That is the P6 text of the image that the file's
+//!   records define, over white (`show`, `play`) or over the given image (`over`); the prepared certificate
+//!   (`prepare`); the report of an accepted one (`check`); or the listing of records that end with an end record
+//!   (`list`).
+//! - Wherever a run of the file stops, on a surface of any size, the listing names that fault on the line of its
+//!   record. The same holds for the fault by which a certificate is rejected, unless that fault is in the certificate's
+//!   own entry (`list_command`).
+//! - A command rejects its input only with the right fault: the file's first fault (`show`, `prepare`), or the fault
+//!   that the check reports. After a successful check, `play` can reject only a surface above the certificate's bound,
+//!   and `over` such a surface or an invalid image. Then nothing was written, except the report of `check`, and the lines of `list`
+//!   for records that break.
+//! - If an allocation fails, nothing was written. For `show`, `prepare` and `list` the file opens in that case, and for
+//!   `play` and `over` the certificate can be read too.
+//! - If an output fails, a prefix of such a text was written. A command ends by `CannotWrite` only if its output
+//!   failed: the output counts its faults, and that count rose.
+//! - A command that is done has flushed its output after the last byte. So have `check` after the report of a
+//!   rejection, and `list` after records that break. A prepared certificate goes to its own file, and standard output
+//!   is unchanged (`run_words`, `run`).
+//! - The whole program ends in the same ways, for some bytes of its inputs and for the sizes and files that the words
+//!   give (`run_words`, `run`). No status is above 4 (`CommandEnd::status`).
+//! - Standard error gets nothing if the work is done. Otherwise it gets one line with the reason, or a prefix of it if
+//!   the writer failed, and the result says which (`report`, `run`). The result has an error of that writer only if
+//!   there was a line to write and the writer failed: no line of the program is too long (`report_refusal`).
 #![tactic(auto)]
 
 mod asked;

@@ -14,8 +14,9 @@ use canvas::{FaultCount, WriteFault, flush_sent};
 use listing::{Judge, ListingEnd, listing_law, write_listing_to};
 use std::alloc::Global;
 
-/// Lists the records of a file to `out`, a line each, with the faults that the file's runs have in them, on surfaces of any sides, and
-/// tells by its end whether the records end with an end record. Of the listing nothing goes to `err`, whose fault changes no status.
+/// Lists the records of a file to `out`, one line per record, with the faults that runs of the file have there on
+/// surfaces of any size. How the command ends says whether the records end with an end record. A listing writes nothing
+/// to `err`, and a fault of `err` doesn't change the status.
 pub fn list_command<O: FaultCount, E: FaultCount>(
     alloc: Global,
     file: &[u8],
@@ -56,7 +57,7 @@ pub fn list_command<O: FaultCount, E: FaultCount>(
     }
 }
 
-/// Writes a listing, and has the writer pass on what it holds back.
+/// Writes a listing and flushes the writer.
 fn send_listing<'a, O: FaultCount>(
     file: &'a [u8],
     judge: Judge<'a>,

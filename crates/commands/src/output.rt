@@ -1,10 +1,10 @@
-//! A file that is written.
+//! Output to a named file.
 
 use std::io::Write;
 use std::rt::Files;
 use std::{fs, io};
 
-/// A file that is made, or emptied, when the first bytes are written to it: until then one of that name is as it was.
+/// A file that is created, or emptied, by the first write. Until then, a file of this name is unchanged.
 #[derive(Drop)]
 pub(crate) struct NamedOutput<'a, R: Files> {
     rt: &'a R,
@@ -13,7 +13,7 @@ pub(crate) struct NamedOutput<'a, R: Files> {
 }
 
 impl<'a, R: Files> NamedOutput<'a, R> {
-    /// A file of this name, which isn't touched yet.
+    /// An output to a file of this name. The file isn't touched yet.
     pub(crate) fn new(rt: &'a R, name: &'a str) -> NamedOutput<'a, R> {
         NamedOutput {
             rt,
@@ -24,7 +24,7 @@ impl<'a, R: Files> NamedOutput<'a, R> {
 }
 
 impl<R: Files> Write for NamedOutput<'_, R> {
-    /// Writes to the file. Where it can't be made, that is an error of the write.
+    /// Writes to the file. If the file can't be created, the write fails.
     fn write(&mut self, buf: &[u8]) -> io::Result<usize> {
         if self.file.is_none() {
             self.file = Some(fs::create(self.rt, self.name)?);

@@ -20,9 +20,10 @@ use player::play;
 use preflight_cert::{Cleared, Refusal, check};
 use std::alloc::Global;
 
-/// Checks a certificate against a file, plays the file over an image at its size, and writes what that leaves to `out` as P6 text once the
-/// whole file has been played. A refusal, the check's, or else `BadImage`, or else `SurfaceTooLarge`, goes to `err` as one line; a fault
-/// of `err` changes no status.
+/// Checks a certificate against a file, plays the file over an image at the image's size, and writes the result to
+/// `out` as P6 text after the whole file has been played. If the check rejects the pair, or else the image is invalid
+/// (`BadImage`), or else the surface is too large (`SurfaceTooLarge`), one line goes to `err`. A fault of `err` doesn't
+/// change the status.
 pub fn over_command<O: FaultCount, E: FaultCount>(
     alloc: Global,
     file: &[u8],
@@ -44,7 +45,7 @@ pub fn over_command<O: FaultCount, E: FaultCount>(
     ending(done, err)
 }
 
-/// Checks a certificate against a file, plays the file over an image, and writes what that leaves.
+/// Checks a certificate against a file, plays the file over an image, and writes the result.
 fn write_over<O: FaultCount>(
     alloc: Global,
     file: &[u8],
@@ -96,8 +97,8 @@ fn over_file(
     }
 }
 
-/// Plays a cleared file over what a canvas shows, which holds a whole surface, and gives it back. It is refused by `SurfaceTooLarge`
-/// exactly where a side is above the certificate's bound, or by `OutOfMemory`.
+/// Plays a cleared file over the image on a canvas of a whole surface, and returns the canvas. Fails with
+/// `SurfaceTooLarge` exactly if the surface exceeds the certificate's bound, or with `OutOfMemory`.
 fn play_over(alloc: Global, cleared: &Cleared<'_>, mut canvas: Canvas) -> Result<Canvas, Fault>
     requires whole { canvas.first ≡ 0 }
     requires countable { canvas.writes ≤ 2 ^ 63 }

@@ -14,9 +14,10 @@ use canvas::FaultCount;
 use preflight_cert::check;
 use std::alloc::Global;
 
-/// Checks a certificate against a file, plays the file on a white surface, in bands of so many rows or of the program's own choosing,
-/// and writes the image to `out` as P6 text. A refusal, the check's or else `SurfaceTooLarge`, comes before any byte and goes to `err`
-/// as one line; a fault of `err` changes no status.
+/// Checks a certificate against a file, plays the file on a white surface, in bands of the given number of rows or of a
+/// number that the program chooses, and writes the image to `out` as P6 text. If the check rejects the pair, or else
+/// the surface is too large (`SurfaceTooLarge`), one line goes to `err` and no byte to `out`. A fault of `err` doesn't
+/// change the status.
 pub fn play_command<O: FaultCount, E: FaultCount>(
     alloc: Global,
     file: &[u8],

@@ -1,4 +1,4 @@
-//! Playing a file whose certificate was accepted, on white, band by band, and writing the image's text.
+//! Plays a file whose certificate was accepted, on white in bands, and writes the image.
 
 ghost use Rattle.std.specs.Prelude.{◌≡◌, ◌-◌, ◌^◌, ◌<◌, ◌≤◌, IfErr, IfSome, OnOk, true};
 ghost use Rattle.commands.specs.ClearedFiles.{FailsToPlay, PlaysTo};
@@ -11,39 +11,40 @@ use player::play_bands_to;
 use preflight_cert::{Cleared, Refusal};
 use std::alloc::Global;
 
-/// The most pixels that a band has, unless the fewest rows have more: 3 MiB of them.
+/// The most pixels of a band, unless the fewest rows have more. They take 3 MiB.
 const MOST_PIXELS: u64 = 1 << 20;
 
-/// The fewest pixels that a band has, if the surface has so many.
+/// The fewest pixels of a band, if the surface has that many.
 const FEWEST_PIXELS: u64 = 1 << 16;
 
-/// The fewest rows that a band has.
+/// The fewest rows of a band.
 const FEWEST_ROWS: u32 = 8;
 
-/// So many records and lines take less time to read again, in all bands together, than 3 MiB of memory do to be touched for the first time.
+/// Reading this many records and lines again, in all bands together, takes less time than the first access to 3 MiB of
+/// memory.
 const LITTLE_WORK: u64 = 1 << 12;
 
-/// So many bytes of a file take no longer to go through than a record.
+/// Going through this many bytes of a file takes no longer than one record.
 const BYTES_A_RECORD: usize = 16;
 
-/// The surface that is asked for.
+/// The surface to play on.
 ///
 /// # Guarantees
 ///
-/// - Each side is at least 1.
+/// - The width and the height are at least 1.
 #[derive(Clone, Copy, Debug)]
 pub(crate) struct AskedSurface {
-    /// How many pixels a row has.
+    /// The width in pixels.
     pub(crate) width: u32,
-    /// How many rows there are.
+    /// The height in pixels.
     pub(crate) height: u32,
-    /// How many rows a band has, or `None` to choose.
+    /// The number of rows in a band, or `None` to let the program choose.
     pub(crate) bands: Option<u32>,
     pub(crate) ghost wide: { 1 ≤ width },
     pub(crate) ghost high: { 1 ≤ height },
 }
 
-/// How many rows a band has.
+/// The number of rows in a band.
 fn band_rows(asked: AskedSurface, cleared: &Cleared<'_>) -> u32
     requires { IfSome asked.bands (λ rows. 1 ≤ rows) }
     ensures { 1 ≤ result }
@@ -54,7 +55,8 @@ fn band_rows(asked: AskedSurface, cleared: &Cleared<'_>) -> u32
     }
 }
 
-/// How many pixels a band has: the more, the more work it is to read the records again for each band. A small band stays in the cache.
+/// The number of pixels in a band. It is larger if reading the records again for each band is more work. A small band
+/// stays in the processor's cache.
 fn band_pixels(asked: AskedSurface, cleared: &Cleared<'_>) -> u32 {
     let surface = u64::from(asked.width).saturating_mul(u64::from(asked.height));
     let lines = u64::from(cleared.certificate.needs.edges).saturating_add(1);
@@ -64,8 +66,8 @@ fn band_pixels(asked: AskedSurface, cleared: &Cleared<'_>) -> u32 {
     share.max(FEWEST_PIXELS).min(MOST_PIXELS) as u32
 }
 
-/// Plays a cleared file on a white surface in bands, and writes the image's P6 text to `out`. It is refused by `SurfaceTooLarge` exactly
-/// where a side is above the certificate's bound, before memory is asked for.
+/// Plays a cleared file on a white surface in bands, and writes the image's P6 text to `out`. Fails with
+/// `SurfaceTooLarge` exactly if the surface exceeds the certificate's bound, before any memory is allocated.
 pub(crate) fn write_played<O: FaultCount>(
     alloc: Global,
     cleared: &Cleared<'_>,

@@ -13,8 +13,8 @@ use crate::preparing::prepare_file;
 use canvas::{FaultCount, send_finished};
 use std::alloc::Global;
 
-/// Prepares a file's certificate for surfaces up to these sides and writes it to `out`, once the whole file has been gone through. A
-/// refusal goes to `err` as one line; a fault of `err` changes no status.
+/// Prepares a file's certificate for surfaces of at most this size, and writes it to `out` after the whole file has
+/// been examined. If the file is rejected, one line goes to `err`. A fault of `err` doesn't change the status.
 pub fn prepare_command<O: FaultCount, E: FaultCount>(
     alloc: Global,
     file: &[u8],
@@ -38,7 +38,7 @@ pub fn prepare_command<O: FaultCount, E: FaultCount>(
     ending(done, err)
 }
 
-/// Prepares a file's certificate for surfaces up to these sides, and writes it.
+/// Prepares a file's certificate for surfaces of at most this size, and writes it.
 fn write_prepared<O: FaultCount>(
     alloc: Global,
     file: &[u8],

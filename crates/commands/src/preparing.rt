@@ -13,7 +13,8 @@ use draw_ops::Fault;
 use preflight_cert::{Prepared, Refusal};
 use std::alloc::Global;
 
-/// Prepares a file's certificate for surfaces up to these sides. These are a surface's, so the refusal is that of the file's run.
+/// Prepares a file's certificate for surfaces of at most this size. The size is valid, so any rejection is a fault of
+/// the file's run.
 pub(crate) fn prepare_file<'a>(
     alloc: Global,
     file: &'a [u8],

@@ -1,4 +1,4 @@
-//! The program: the command line, its inputs, and the command that they ask for.
+//! The program: the command line, its inputs, and the command.
 
 ghost use Rattle.std.specs.Prelude.{◌≡◌, ◌≢◌, ◌⊎◌, ◌↔◌, ◌-◌, ◌^◌, ◌<◌, OnErr, codes, map, string_bytes};
 ghost use Rattle.std.specs.Io.KnownBytes.{Keeps};
@@ -92,7 +92,7 @@ where
     }
 }
 
-/// Does what a line asks for.
+/// Reads the inputs of a command line, and runs its command.
 fn perform<R, I, O, E>(
     rt: &R,
     line: CommandLine<'_>,
@@ -121,7 +121,7 @@ where
     }
 }
 
-/// Runs the command that a line asks for, over the bytes of its inputs.
+/// Runs the command of a command line with the bytes of its inputs.
 fn run_task<R: Files + AllocGlobal, O: FaultCount, E: FaultCount>(
     rt: &R,
     line: CommandLine<'_>,
@@ -170,7 +170,7 @@ fn run_task<R: Files + AllocGlobal, O: FaultCount, E: FaultCount>(
     }
 }
 
-/// The words of the command line, the program's name first: `CannotRead` where one isn't UTF-8.
+/// The words of the command line, the program's name first. `CannotRead` if one of them isn't UTF-8.
 fn words<R: Env + AllocGlobal>(rt: &R) -> Result<Vec<String>, InputFault> {
     let words = env::args(rt).map_err(InputFault::of)?;
     words
@@ -178,7 +178,7 @@ fn words<R: Env + AllocGlobal>(rt: &R) -> Result<Vec<String>, InputFault> {
         .map_err(|_| InputFault::OutOfMemory)
 }
 
-/// Reports that an input was not read.
+/// Reports that an input wasn't read.
 pub fn no_input<E: FaultCount>(fault: InputFault, err: &mut E) -> Completion
     requires room { E.fault_count err.old < 2 ^ 64 - 1 }
     ensures end { result.end ≡ input_end fault }
@@ -193,7 +193,8 @@ pub fn no_input<E: FaultCount>(fault: InputFault, err: &mut E) -> Completion
     Completion { end, told }
 }
 
-/// Shows the usage, or the help that was asked for, where `clap` says, and answers whether its writer failed.
+/// Shows the usage, or help if it was asked for, on the stream that `clap` chooses, and returns whether that writer
+/// failed.
 pub fn usage<O: FaultCount, E: FaultCount>(
     error: &clap::Error,
     out: &mut O,

@@ -12,14 +12,14 @@ use itoa::Buffer;
 use preflight_cert::Refusal;
 use std::fmt::InlineText;
 
-/// Room for a line. The program's own have at most 56 bytes.
+/// The capacity of a line. The program's own lines have at most 56 bytes.
 const LINE_ROOM: usize = 128;
 
-/// Room for what a line reports, beside the program's name and the line feed.
+/// The capacity for the message of a line, without the program's name and the line feed.
 const TEXT_ROOM: usize = 117;
 
-/// Writes one line about what went wrong, and answers whether it went out whole. A text of more than 117 bytes is a
-/// `WriteFault` too, and nothing is written of it.
+/// Writes one line about what went wrong, and returns an error if it wasn't written in full. A text of more than 117
+/// bytes is a `WriteFault` too, and then nothing is written.
 pub fn report<E: FaultCount>(err: &mut E, text: &str) -> Result<(), WriteFault>
     requires room { E.fault_count err.old < 2 ^ 64 - 1 }
     ensures line { Reports result (E.contents err.old) (E.contents err.new) text.now }
@@ -31,7 +31,7 @@ pub fn report<E: FaultCount>(err: &mut E, text: &str) -> Result<(), WriteFault>
     }
 }
 
-/// Writes the line that reports a refusal, and answers whether it went out whole.
+/// Writes the line for a rejection, and returns an error if it wasn't written in full.
 pub fn report_refusal<E: FaultCount>(err: &mut E, refusal: Refusal) -> Result<(), WriteFault>
     requires room { E.fault_count err.old < 2 ^ 64 - 1 }
     ensures line { Reports result (E.contents err.old) (E.contents err.new) (refusal_text refusal) }
@@ -40,8 +40,7 @@ pub fn report_refusal<E: FaultCount>(err: &mut E, refusal: Refusal) -> Result<()
     report(err, text_of_refusal(refusal).as_str())
 }
 
-/// The line that reports a text, if there is room for it. No memory is taken, so that want of memory
-/// can be reported.
+/// The line for a message, if it fits. It allocates no memory, so that a failed allocation can be reported.
 fn line(text: &str) -> Option<InlineText<LINE_ROOM>>
     ensures line { IfSome result (λ line. inline_text line ≡ program_line text.now) }
     ensures fits { length text.now ≤ 117 → IsSome result }
@@ -53,7 +52,7 @@ fn line(text: &str) -> Option<InlineText<LINE_ROOM>>
     Some(joined(told, "\n"))
 }
 
-/// What a line reports of a refusal.
+/// The message for a rejection.
 fn text_of_refusal(refusal: Refusal) -> InlineText<TEXT_ROOM>
     ensures text { inline_text result ≡ refusal_text refusal }
     ensures short { length (inline_text result) ≤ 117 }
@@ -65,7 +64,7 @@ fn text_of_refusal(refusal: Refusal) -> InlineText<TEXT_ROOM>
     }
 }
 
-/// What a line reports of a fault.
+/// The message for a fault.
 fn text_of_fault(fault: Fault) -> InlineText<TEXT_ROOM>
     ensures text { inline_text result ≡ text_of fault }
     ensures short { length (inline_text result) ≤ 27 }
@@ -77,7 +76,7 @@ fn text_of_fault(fault: Fault) -> InlineText<TEXT_ROOM>
     }
 }
 
-/// A text with another after it, and a number after that.
+/// A text followed by another text and a number.
 fn with_number(text: InlineText<TEXT_ROOM>, more: &str, number: u32) -> InlineText<TEXT_ROOM>
     requires { length (inline_text text) + length more.now + 10 ≤ 117 }
     ensures text { inline_text result ≡ inline_text text ++ (more.now ++ decimal number) }
@@ -87,7 +86,7 @@ fn with_number(text: InlineText<TEXT_ROOM>, more: &str, number: u32) -> InlineTe
     joined(joined(text, more), digits.format(number))
 }
 
-/// A text with another after it, where there is room.
+/// A text followed by another text, if it fits.
 fn joined<const N: usize>(text: InlineText<N>, more: &str) -> InlineText<N>
     requires { length (inline_text text) + length more.now ≤ N }
     ensures { inline_text result ≡ inline_text text.entry ++ more.now }

@@ -14,8 +14,8 @@ use crate::preparing::prepare_file;
 use canvas::FaultCount;
 use std::alloc::Global;
 
-/// Prepares a file at the size of a surface, plays it on white, and writes the image to `out` as P6 text. A refusal comes before any
-/// byte and goes to `err` as one line; a fault of `err` changes no status.
+/// Prepares a file at the size of a surface, plays it on white, and writes the image to `out` as P6 text. If the file
+/// is rejected, one line goes to `err` and no byte to `out`. A fault of `err` doesn't change the status.
 pub fn show_command<O: FaultCount, E: FaultCount>(
     alloc: Global,
     file: &[u8],
@@ -39,8 +39,8 @@ pub fn show_command<O: FaultCount, E: FaultCount>(
     ending(done, err)
 }
 
-/// Prepares a file at the size of a surface, and plays it on white, by what was prepared: its own certificate isn't checked. A file that
-/// doesn't open is refused before any memory is asked for.
+/// Prepares a file at the size of a surface, and plays it on white by what was prepared. The file's own certificate
+/// isn't checked. A file that doesn't open is rejected before any memory is allocated.
 fn show_file<O: FaultCount>(
     alloc: Global,
     file: &[u8],

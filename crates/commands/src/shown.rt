@@ -1,4 +1,4 @@
-//! What `clap` shows, on its way to a writer that counts its faults.
+//! Sends the text that `clap` shows to a writer that counts its faults.
 
 ghost use Rattle.std.specs.Prelude.{◌<◌, ◌≤◌, OnErr, OnOk};
 
@@ -6,7 +6,7 @@ use canvas::{FaultCount, WriteFault, send_counted};
 use std::fmt;
 use std::fmt::Write;
 
-/// Text that goes to a writer as it is formatted, so that no memory is taken for it.
+/// A formatter that sends its text to a writer directly, without allocating memory.
 #[derive(Drop)]
 struct Shown<'a, W: FaultCount> {
     out: &'a mut W,
@@ -21,7 +21,7 @@ impl<W: FaultCount> fmt::Write for Shown<'_, W> {
     }
 }
 
-/// Shows an error of `clap` on a writer: `WriteFault` exactly where the writer had a fault meanwhile.
+/// Shows an error of `clap` on a writer. Returns `WriteFault` exactly if the writer had a fault meanwhile.
 pub(crate) fn show_error<W: FaultCount>(error: &clap::Error, out: &mut W) -> Result<(), WriteFault>
     ensures failed { OnErr result (W.fault_count out.old < W.fault_count out.new) }
     ensures shown { OnOk result (W.fault_count out.new ≤ W.fault_count out.old) }

@@ -1,4 +1,4 @@
-//! An image that is written to an output, and passed on by it.
+//! Writes an image to an output and flushes it.
 
 ghost use Rattle.std.specs.Prelude.{◌≡◌, ◌-◌, ◌^◌, ◌<◌, OnErr, OnOk, true};
 ghost use Rattle.std.specs.Io.KnownBytes.{Appends};
@@ -7,7 +7,7 @@ ghost use Rattle.canvas.specs.Ppm.{AppendsFront, ppm_text};
 
 use canvas::{Canvas, FaultCount, WriteFault, flush_sent};
 
-/// Writes an image, and has the writer pass on what it holds back.
+/// Writes an image and flushes the writer.
 pub(crate) fn write_image<O: FaultCount>(canvas: &Canvas, out: &mut O) -> Result<(), WriteFault>
     requires room { O.fault_count out.old < 2 ^ 64 - 1 }
     ensures ok { OnOk result (Appends (O.contents out.old) (O.contents out.new) (ppm_text (image_of canvas.now))) }

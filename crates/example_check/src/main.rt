@@ -1,4 +1,5 @@
-//! Prepares the certificate of a file for surfaces of at most 256 by 256, and checks file and certificate as another party would.
+//! Prepares the certificate of a file for surfaces of at most 256 by 256, and checks file and certificate as the
+//! receiver would.
 #![tactic(auto)]
 
 use preflight_cert::{check, prepare};

@@ -1,4 +1,4 @@
-//! Opens a file, and lists its records: a line for each, to be read by people and cut by other programs.
+//! Opens a file and lists its records, one line per record, for people to read and for other programs to split.
 #![tactic(auto)]
 
 use listing::{Judge, write_listing};

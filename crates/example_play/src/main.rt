@@ -1,4 +1,5 @@
-//! Checks a file with its certificate, and plays it over a grey ground: what an accepted file draws is the image that its records define.
+//! Checks a file with its certificate, and plays it on a grey background: an accepted file draws the image that its
+//! records define.
 #![tactic(auto)]
 
 use canvas::Canvas;

@@ -1,5 +1,4 @@
-//! `metaplay`: checks Windows metafiles, and shows what they draw. What it promises stands with its
-//! commands (`commands::run`).
+//! `metaplay`: checks Windows metafiles, and shows what they draw. Its promises are those of `commands::run`.
 #![tactic(auto)]
 
 use canvas::Counting;

@@ -39,17 +39,17 @@ use Rattle.preflight_cert.specs.Writes.{writes_pixel}
 use Rattle.painting.specs.declared.brushing.Brushing.{Brushing}
 use Rattle.painting.proofs.DrawingLemmas.{layer_drawn}
 
--- the brush's colour, where the operation depends on the pattern, and else one that stands for it
+-- the brush's colour if the operation depends on the pattern, otherwise a substitute
 chosen_colour : (b : Bool) (brush : Brush) (mode : BackgroundMode) (background : Colour) (x y : ℕ) → brush_paint (brush_value_of (cond b brush (Solid black_colour))) mode background x y ≡ cond b (brush_paint (brush_value_of brush) mode background x y) (Some black_colour)
 chosen_colour true brush mode background x y = refl
 chosen_colour false brush mode background x y = refl
 
--- paint joined with what is read is the same, where what is read gives the same
+-- the result of a paint and a source is the same for sources with the same colours
 joined_alike : (op : TernaryOp) (seen source : Colour) (paint : Option Colour) (old : Colour) → ((p : Colour) → ternary_colour op.table p seen old ≡ ternary_colour op.table p source old) → joined_if op.table seen paint old ≡ joined_if op.table source paint old
 joined_alike op seen source None old same = refl
 joined_alike op seen source (Some p) old same = same p
 
--- What a paint of a blit makes of its box is what the blit makes of it.
+-- What the paint of a blit does to its box is what the blit does to it.
 pub blit_painted :
     WritingLaws → (s : Surface) (paint : Brushing) (dc : Dc) (blit : PlaneBlit) (box : Rect) (old new : CanvasState) → IsWhole old
     → paint.brush ≡ cond (uses_pattern blit.operation.table) dc.selected.brush (Solid black_colour) → paint.modes ≡ dc.modes → paint.operation.op ≡ blit.operation → paint.clip.now ≡ dc.clip
@@ -77,7 +77,7 @@ blit_painted laws s paint dc blit box old new whole brush modes operation clip i
     ∙ joined_alike op (colour_seen paint.source x y) (source_colour source first second x y) (blit_colour op dc x y) c (λ p. same x y p c))
     r
 
--- the paint of a blit's layer is the brush's colour, or the one that stands for it
+-- the paint of a blit's layer is the brush's colour, or its substitute
 layer_colour : (b : Bool) (brush : Brush) (tools : Tools) (s : Surface) (x y : ℕ) → brush_value_of brush ≡ tools.brush → cond b (brush_paint (brush_value_of brush) tools.modes.background_mode tools.modes.background_colour x y) (Some black_colour) ≡ paint_at (cond b (brushed_now tools.brush tools) (solid black_colour)) s x y
 layer_colour true brush tools s x y same = ap (λ b. brush_paint b tools.modes.background_mode tools.modes.background_colour x y) same
 layer_colour false brush tools s x y same = refl
@@ -87,7 +87,7 @@ joined_same op s p q source x y None old = refl
 joined_same op s p q source x y (Some paint) old = refl
 
 module _ (laws : WritingLaws) (s : Surface) (old new : CanvasState) (there : IsWhole old) (held : HoldsRows old s) where
-  -- And that is the layer of the blit.
+  -- a painted blit is the layer of the blit
   pub blit_drawn :
       (dc : Dc) (tools : Tools) (blit : PlaneBlit)
       → brush_value_of dc.selected.brush ≡ tools.brush → dc.modes ≡ tools.modes → placed_value dc.clip ≡ placed_clip s tools.clip

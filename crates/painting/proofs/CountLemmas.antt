@@ -1,4 +1,4 @@
--- How many lines there are through lists of points.
+-- The number of lines through lists of points.
 use Rattle.std.proofs.Common.{◌≡◌, ℕ, zero, suc, ◌+◌, ◌-◌, ◌/◌, ◌<◌, ◌≤◌, ◌^◌, List, [], ◌∷◌, length, drop, Option, Some, refl, ap, sym, ◌∙◌, arith, length-append}
 use Rattle.std.proofs.lemmas.List.{length-map}
 use Rattle.std.specs.Prelude.{min}
@@ -17,7 +17,7 @@ use Rattle.painting.specs.declared.list_lines.Traced.{Traced}
 use Rattle.painting.specs.declared.list_lines.Ends.{Ends}
 use Rattle.painting.specs.declared.list_lines.Ends.TheVariants.{Open, Closed}
 
--- a view has as many points as it counts, each of four bytes at least
+-- a view has as many points as it counts, each of at least four bytes
 length-points_in : (width : NumberWidth) (n : ℕ) (bytes : List ℕ) → length (points_in width n bytes) ≡ n
 length-points_in width zero bytes = refl
 length-points_in width (suc n) bytes = ap (λ (k : ℕ). suc k) (length-points_in width n (drop (point_size width) bytes))
@@ -29,7 +29,7 @@ sized_few Long n h = omega arith
 pub few_points : (width : NumberWidth) (bytes : List ℕ) → length bytes < 2 ^ 64 → length (points_in width (length bytes / point_size width) bytes) < 2 ^ 62
 few_points width bytes h = rw (length-points_in width (length bytes / point_size width) bytes) (sized_few width (length bytes) h)
 
--- lines after a point are as many as the points that follow, and lines round are one more
+-- after a point there are as many lines as further points, and one more if the list is closed
 pub length-lines_after : (p : Point) (qs : List Point) → length (lines_after p qs) ≡ length qs
 length-lines_after p [] = refl
 length-lines_after p (q ∷ qs) = ap (λ (k : ℕ). suc k) (length-lines_after q qs)
@@ -38,7 +38,7 @@ pub length-lines_round : (first p : Point) (qs : List Point) → length (lines_r
 length-lines_round first p [] = refl
 length-lines_round first p (q ∷ qs) = ap (λ (k : ℕ). suc k) (length-lines_round first q qs)
 
--- a closed list has as many lines as points, and an open one has one less, or none
+-- a closed list has as many lines as points; an open one has one less, or none
 pub length-closed_lines : (ps : List Point) → length (closed_lines ps) ≡ length ps
 length-closed_lines [] = refl
 length-closed_lines (p ∷ ps) = length-lines_round p p ps
@@ -58,7 +58,7 @@ open_lines_of_few (ps ∷ ls) =
     let a = length-append (open_lines ps) (open_lines_of ls) in
     let b = length-append ps (points_of_lists ls) in omega arith
 
--- One list more is looked at: where it has a point, there is one line less than points.
+-- One more list: if it has a point, it has one line less than points.
 pub one_list_counted :
     (count all : ℕ) (ps : List Point) (ls whole : List (List Point)) → whole ≡ ps ∷ ls
     → count + length (open_lines_of whole) ≡ all + length (points_of_lists whole)
@@ -84,7 +84,7 @@ pub none_left : (count all : ℕ) (whole : List (List Point)) → whole ≡ [] �
 none_left count all whole e h =
     let k : count + length (open_lines_of []) ≡ all + length (points_of_lists []) = rw e at h in omega arith
 
--- the lines that are to come of a list
+-- the remaining lines of a list
 pub length-open_course : (ends : Ends) (on : Option Traced) (course : Traced) (ps : List Point) → on ≡ Some course → ends ≡ Open → length (lines_if_on ends on ps) ≡ length ps
 length-open_course ends on course ps e f = rw (e, f) (length-lines_after course.last ps)
 
@@ -95,7 +95,7 @@ module _ (by : Projection) where
   pub length-projected_list : (ps : List Point) → length (projected_list by ps) ≡ length ps
   length-projected_list ps = length-map ps (projected by)
 
-  -- where points land doesn't change how many lines there are
+  -- placing points doesn't change the number of lines
   open_projected : (ps : List Point) → length (open_lines (projected_list by ps)) ≡ length (open_lines ps)
   open_projected [] = refl
   open_projected (p ∷ ps) =
@@ -118,7 +118,7 @@ module _ (by : Projection) where
       let a = length-append (closed_lines (projected_list by ps)) (lines_of_lists by Closed ls) in
       let b = length-append ps (points_of_lists ls) in omega arith
 
-  -- there are no more lines than points
+  -- there are at most as many lines as points
   pub lines_few : (ends : Ends) (ls : List (List Point)) → length (lines_of_lists by ends ls) ≤ length (points_of_lists ls)
   lines_few Open ls = let e = length-open_lists ls in let few = open_lines_of_few ls in omega arith
   lines_few Closed ls = let e = length-closed_lists ls in omega arith

@@ -1,4 +1,4 @@
--- The pixel that a placed point is.
+-- The pixel of a point on the surface.
 use Rattle.std.proofs.Common.{◌≡◌, ℕ, ℤ, pos, negsuc, Bool, true, false, ◌&&◌, ◌==◌, Option, Some, None, arith, refl, ◌∙◌, ap}
 use Rattle.std.proofs.lemmas.Bool.{and_from, and_parts, false_from_ne_true}
 use Rattle.mapping.specs.Surface.{is_index, is_pixel}
@@ -14,7 +14,7 @@ use Rattle.painting.specs.Dots.{indexes_of, naturals}
 is_same_number : (a b : ℕ) → (a == b) ≡ true → b ≡ a
 is_same_number a b h = grind (arith)
 
--- the parts of a pair, if there is one
+-- the components of a pair, if there is one
 abbrev first_of : Option (ℕ × ℕ) → ℕ
 first_of None = 0
 first_of (Some pair) = pair.0
@@ -23,7 +23,7 @@ abbrev second_of : Option (ℕ × ℕ) → ℕ
 second_of None = 0
 second_of (Some pair) = pair.1
 
--- the numbers that a column and a row are
+-- the numbers of a column and a row
 numbers_are : (u v : ℤ) (x y a b : ℕ) → naturals u v ≡ Some (x, y) → (is_index u a && is_index v b) ≡ true → (a ≡ x) × (b ≡ y)
 numbers_are (pos u) (pos v) x y a b e h =
     let parts = and_parts (u == a) (v == b) h in
@@ -42,7 +42,7 @@ numbers_from (pos u) (pos v) x y e =
 numbers_from (pos u) (negsuc v) x y e = cc
 numbers_from (negsuc u) v x y e = cc
 
--- none are there where one is negative
+-- there are none if a coordinate is negative
 no_numbers : (u v : ℤ) (a b : ℕ) → naturals u v ≡ None → (is_index u a && is_index v b) ≡ true → ⊥
 no_numbers (pos u) (pos v) a b e h = cc
 no_numbers (pos u) (negsuc v) a b e h = let parts = and_parts (u == a) false h in cc
@@ -59,23 +59,23 @@ module _ (laws : WritingLaws) (clip : ClipValue) (point : Point) (canvas : Canva
   abbrev test : ℕ → ℕ → Bool
   test a b = in_boxes clip a b && is_pixel point a b
 
-  -- nothing is written, where the point is no pixel that is held and that the clip has
+  -- nothing is written if the canvas or the clip doesn't contain the pixel
   pub no_dot : ((a b : ℕ) → HasPixel canvas a b → in_boxes clip a b ≡ true → is_pixel point a b ≡ true → ⊥) → Repaints test f canvas canvas
   no_dot none =
       laws.none test f canvas whole (λ a b held. false_from_ne_true (test a b) (λ h. let p = and_parts (in_boxes clip a b) (is_pixel point a b) h in none a b held p.0 p.1))
 
-  -- so it is where a coordinate is negative
+  -- nothing is written if a coordinate is negative
   pub no_indexes : indexes_of point ≡ None → Repaints test f canvas canvas
   no_indexes e = no_dot (λ a b held has here. no_numbers point.x point.y a b e here)
 
   module _ (x y : ℕ) (e : indexes_of point ≡ Some (x, y)) where
-    -- and where this pixel isn't there, or the clip doesn't have it
+    -- nothing is written if this pixel isn't on the canvas or not in the clip
     pub no_dot_there : (HasPixel canvas x y → in_boxes clip x y ≡ true → ⊥) → Repaints test f canvas canvas
     no_dot_there none = no_dot (λ a b held has here.
         let at = numbers_are point.x point.y x y a b e here in
         none (rw (at.0, at.1) at held) (rw (at.0, at.1) at has))
 
-    -- else it is written
+    -- otherwise the pixel is written
     pub dot_there : (new : CanvasState) → in_boxes clip x y ≡ true → Repaints (is_at x y) f canvas new → Repaints test f canvas new
     dot_there new has written =
         laws.same (is_at x y) test f f canvas new whole

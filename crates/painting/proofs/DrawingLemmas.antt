@@ -1,4 +1,4 @@
--- What is painted under a shape is a layer, and layers follow one another.
+-- What is painted in a shape is a layer, and layers follow one another.
 use Rattle.std.proofs.Common.{◌≡◌, ℕ, ◌+◌, Bool, true, ◌&&◌, List, [], ◌∷◌, ◌++◌, Option, Some, None, refl, sym, ◌∙◌, ap, arith}
 use Rattle.std.proofs.Math.Bool.{and-true}
 use Rattle.mapping.specs.Surface.{Surface, is_pixel, placed_point}
@@ -37,7 +37,7 @@ use Rattle.preflight_cert.specs.StrokedOutline.{Outline}
 use Rattle.preflight_cert.specs.Writes.{writes_of_layers, writes_pixel}
 use Rattle.painting.specs.Joined.{joined_if}
 
--- no layer draws nothing
+-- no layers draw nothing
 pub no_layer_drawn : (s : Surface) (canvas : CanvasState) → DrawsLayer [] s canvas canvas
 no_layer_drawn s canvas = record {
   drawn = record { image = refl; writes = omega arith };
@@ -45,7 +45,7 @@ no_layer_drawn s canvas = record {
   few = omega arith;
 }
 
--- layers behind others
+-- layers after other layers
 applied_in_turn : (first second : List Layer) (s : Surface) (top : ℕ) (image : Image) → apply_all (first ++ second) s top image ≡ apply_all second s top (apply_all first s top image)
 applied_in_turn [] second s top image = refl
 applied_in_turn (layer ∷ first) second s top image = applied_in_turn first second s top _
@@ -65,24 +65,24 @@ drawn_in_turn first second s old between new same a b =
       writes = omega (arith, a_writes, b_writes, counted);
     }
 
--- a canvas holds the rows that it held
+-- a canvas keeps its rows
 pub same_rows : (test : ℕ → ℕ → Bool) (f : ℕ → ℕ → Colour → Colour) (old new : CanvasState) → Repaints test f old new → SameRows old new
 same_rows test f old new r = record { width = r.width; first = r.first; rows = r.rows; most = r.most }
 
--- a paint joins the old colour by the raster operation
+-- a paint combines with the old colour by the raster operation
 pub joined_same : BinaryIsTernary → (op : RasterOp) (s : Surface) (x y : ℕ) (source : Colour) (paint : Option Colour) (old : Colour) → joined_if (binary_table op) source paint old ≡ mixed_with (binary op) s x y paint old
 joined_same law op s x y source None old = refl
 joined_same law op s x y source (Some paint) old = sym (law op paint source old)
 
 module _ (laws : WritingLaws) (s : Surface) (old new : CanvasState) (there : IsWhole old) (held : HoldsRows old s) where
-  -- what writes the pixels of a layer draws it
+  -- writing the pixels of a layer draws it
   pub layer_drawn : (layer : Layer) → Repaints (writes_pixel layer s) (ink_of layer s) old new → DrawsLayers (layer ∷ []) s old new
   layer_drawn layer r =
       let writes = r.writes in
       let counted : count_pixels (writes_pixel layer s) old.width old.first old.rows ≡ count_pixels (writes_pixel layer s) s.width old.first old.rows = ap (λ (w : ℕ). count_pixels (writes_pixel layer s) w old.first old.rows) held.width in
       record { image = rw (r.width, r.rows, r.colours) refl; writes = omega (arith, writes, counted) }
 
-  -- so does a paint that does what the layer asks for
+  -- painting with a paint that does what the layer asks for draws it
   pub painted_drawn : (colours : Paint) (tools : Tools) (paint : PaintValue) → IsPaintOf colours tools s paint → (shape : ℕ → ℕ → Bool) (drawn : Shape) → ((x y : ℕ) → shape x y ≡ in_shape drawn s x y) → PaintsShape paint shape old new → DrawsLayers (layer_now drawn colours tools ∷ []) s old new
   painted_drawn colours tools paint asked shape drawn same r =
       layer_drawn (layer_now drawn colours tools)
@@ -93,7 +93,7 @@ module _ (laws : WritingLaws) (s : Surface) (old new : CanvasState) (there : IsW
       ∙ ap (λ (b : Bool). in_boxes (placed_clip s tools.clip) x y && in_shape drawn s x y && b) (asked.has x y))
       (λ x y c held t. asked.makes x y c) r)
 
-  -- and then it is a layer that writes each pixel once at most
+  -- it is a layer that writes each pixel at most once
   pub painted_layer : (colours : Paint) (tools : Tools) (paint : PaintValue) → IsPaintOf colours tools s paint → (shape : ℕ → ℕ → Bool) (drawn : Shape) → ((x y : ℕ) → shape x y ≡ in_shape drawn s x y) → PaintsShape paint shape old new → CountsLayer old new → DrawsLayer (layer_now drawn colours tools ∷ []) s old new
   painted_layer colours tools paint asked shape drawn same r few = record {
     drawn = painted_drawn colours tools paint asked shape drawn same r;
@@ -101,7 +101,7 @@ module _ (laws : WritingLaws) (s : Surface) (old new : CanvasState) (there : IsW
     few = few;
   }
 
-  -- and so does a dot
+  -- a dot is such a layer too
   pub dot_drawn : (point placed : Point) (colour : Colour) (clip : Clip) (tools : Tools) → placed ≡ placed_point point s → placed_value clip ≡ placed_clip s tools.clip → Repaints (λ x y. in_boxes (placed_value clip) x y && is_pixel placed x y) (λ x y c. colour) old new → DrawsLayers (record { shape = pixel_under point; paint = solid colour; mixing = copied; clip = tools.clip } ∷ []) s old new
   dot_drawn point placed colour clip tools lands boxes r =
       let layer : Layer = record { shape = pixel_under point; paint = solid colour; mixing = copied; clip = tools.clip } in
@@ -113,21 +113,21 @@ module _ (laws : WritingLaws) (s : Surface) (old new : CanvasState) (there : IsW
       ∙ sym (and-true (in_boxes (placed_clip s tools.clip) x y && is_pixel (placed_point point s) x y)))
       (λ x y c held t. refl) r)
 
--- a brush that isn't the null brush fills a layer
+-- a brush other than the null brush fills a layer
 pub brush_fills : (brush : Brush) (shape : Shape) (tools : Tools) → (brush ≡ Null → ⊥) → brush_value_of brush ≡ tools.brush → filled shape tools ≡ layer_now shape (brushed_now tools.brush tools) tools ∷ []
 brush_fills (Solid colour) shape tools some same = rw (← same) refl
 brush_fills Null shape tools some same = absurd (some refl)
 brush_fills (Hatched hatch colour) shape tools some same = rw (← same) refl
 brush_fills (Tiled tile) shape tools some same = rw (← same) refl
 
--- a pen of a colour strokes a layer
+-- a pen with a colour strokes a layer
 pub pen_strokes : (outline : Outline) (tools : Tools) (width : ℕ) (colour : Colour) → tools.pen ≡ SolidPen width colour → stroked outline tools ≡ layer_now (stroke_of width tools.map outline) (solid colour) tools ∷ []
 pen_strokes outline tools width colour same = rw same refl
 
--- its nib is that of the pen's width, where the mark is stroked
+-- its nib is that of the pen's width, if the mark is stroked
 pub pen_nib : (mark : MarkValue) (tools : Tools) (s : Surface) (width : ℕ) (colour : Colour) (nib drawn : Nib) → nib ≡ drawn → drawn ≡ drawing_nib (record { mark = mark; tools = tools }) s → is_stroked mark ≡ true → tools.pen ≡ SolidPen width colour → nib ≡ nib_of width tools.map s
 pen_nib mark tools s width colour nib drawn same is stroked pen = same ∙ is ∙ rw (stroked, pen) refl
 
--- the clip of the moment, where it is placed on the surface
+-- the current clip, on the surface
 pub clip_placed : (s : Surface) (clip : Clip) (dc : Dc) (state : DcValue) → clip ≡ dc.clip → dc_value dc ≡ state → IsPlacedOn s dc.clip → placed_value clip ≡ placed_clip s state.clip
 clip_placed s clip dc state same value placed = ap placed_value same ∙ placed ∙ ap (λ (d : DcValue). placed_clip s d.clip) value

@@ -1,4 +1,4 @@
--- Empty lists have no lines, no moves and no points, so that they may be passed over.
+-- Empty lists have no lines, no moves and no points, so they can be skipped.
 use Rattle.std.proofs.Common.{◌≡◌, ℕ, ◌+◌, ◌<◌, ◌≤◌, List, [], ◌∷◌, ◌++◌, length, map, refl, sym, ap, ◌∙◌, arith}
 use Rattle.std.proofs.lemmas.List.Elements.{All-rest}
 use Rattle.mapping.specs.declared.geometry.Point.{Point}
@@ -12,20 +12,20 @@ use Rattle.painting.specs.PlacedLines.{AllLand, AllListsLand, lines_of_list, lin
 use Rattle.painting.specs.declared.list_lines.Ends.{Ends}
 use Rattle.painting.specs.declared.list_lines.Ends.TheVariants.{Open, Closed}
 
--- the lists from the first one with points on are no more
+-- there are at most as many lists from the first one with points on
 length-after_empty : (ls : List (List Point)) → length (after_empty ls) ≤ length ls
 length-after_empty [] = omega arith
 length-after_empty ([] ∷ ls) = let others = length-after_empty ls in omega arith
 length-after_empty ((p ∷ ps) ∷ ls) = omega arith
 
--- so those after it are fewer
+-- there are fewer lists after it
 pub fewer_behind : (ps : List Point) (ls behind whole : List (List Point)) → behind ≡ ps ∷ ls → behind ≡ after_empty whole → length ls < length whole
 fewer_behind ps ls behind whole e f =
     let first : length behind ≡ length (ps ∷ ls) = ap length e in
     let most = length-after_empty whole in
     let same : length behind ≡ length (after_empty whole) = ap length f in omega arith
 
--- lines from point to point, and points
+-- lines between consecutive points, and points
 open_lines_behind : (ls : List (List Point)) → open_lines_of (after_empty ls) ≡ open_lines_of ls
 open_lines_behind [] = refl
 open_lines_behind ([] ∷ ls) = open_lines_behind ls
@@ -43,7 +43,7 @@ pub counted_behind :
 counted_behind count all behind whole e h = rw (e, open_lines_behind whole, points_behind whole) h
 
 module _ (by : Projection) where
-  -- lines where they land
+  -- lines on the surface
   lines_behind : (ends : Ends) (ls : List (List Point)) → lines_of_lists by ends (after_empty ls) ≡ lines_of_lists by ends ls
   lines_behind ends [] = refl
   lines_behind Open ([] ∷ ls) = lines_behind Open ls
@@ -70,7 +70,7 @@ module _ (by : Projection) where
   no_moves_behind joining behind whole e f =
       sym (moves_behind joining whole) ∙ ap (λ (lists : List (List Point)). moves_of_lists joining (map (projected_list by) lists)) (sym f ∙ e)
 
-  -- lists that land
+  -- lists whose points land within the limits
   lists_behind_land : (ls : List (List Point)) → AllListsLand by ls → AllListsLand by (after_empty ls)
   lists_behind_land [] h = h
   lists_behind_land ([] ∷ ls) h = lists_behind_land ls (All-rest (AllLand by) [] ls ([] ∷ ls) refl h)

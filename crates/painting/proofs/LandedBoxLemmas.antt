@@ -1,4 +1,4 @@
--- The pixels of a drawing lie in the box between where two corners of its least box land.
+-- The pixels of a drawing lie in the box between the positions of its bounding box's corners on the surface.
 use Rattle.std.proofs.Common.{◌≡◌, ℕ, ℤ, pos, negsuc, ◌+ℤ◌, ◌-ℤ◌, ◌≤ℤ◌, ◌<ℤ◌, true, ◌&&◌, List, [], ◌∷◌, map, arith, refl, ap, subst, sym, ◌∙◌}
 use Rattle.std.proofs.lemmas.Bool.{and_from, and_parts}
 use Rattle.std.proofs.lemmas.Int.{ints}
@@ -33,7 +33,7 @@ same_points : (points : List Point) → map (mapped_by (λ v. v) (λ v. v)) poin
 same_points [] = refl
 same_points (p ∷ ps) = ap (λ (rest : List Point). p ∷ rest) (same_points ps)
 
--- what the least box reaches lies between where its corners land
+-- what a nib reaches from the bounding box lies between the positions of its corners
 pub reached_between : (nib : Nib) (s : Surface) (bounds : Rect) (x y : ℕ) → Reaches nib bounds s x y → in_box (widened nib (raised Inclusive (box_between (placed_point (left_top_of bounds) s) (placed_point (right_bottom_of bounds) s)))) x y ≡ true
 reached_between nib s bounds x y reached =
     let near = placed_point (left_top_of bounds) s in
@@ -53,7 +53,7 @@ between_low a b n v h k = grind (arith, ints)
 between_high : (a b n v : ℤ) → a ≤ℤ b → v <ℤ (int_max a b +ℤ pos 1 +ℤ n) → v ≤ℤ (b +ℤ n)
 between_high a b n v h k = grind (arith, ints)
 
--- no box has a pixel that is around no point
+-- a box around no point reaches no pixel
 pub none_in : (x y : ℕ) → in_box no_box x y ≡ true → ⊥
 none_in x y h =
     let parts = and_parts (is_from_to (pos 0) (negsuc 0) x) (is_from_to (pos 0) (negsuc 0) y) h in
@@ -69,14 +69,14 @@ module _ (laws : BoxLaws) (place : Place) (bounds : Rect) where
   abbrev s : Surface
   s = surface_of place
 
-  -- where all points land, so do the corners
+  -- if all points land within the limits, so do the corners
   corners_land : (points : List Point) → IsTight bounds points → list_all (λ point. lands_within_limits point s) points ≡ true → (lands_within_limits (left_top_of bounds) s && lands_within_limits (right_bottom_of bounds) s) ≡ true
   corners_land points tight within =
       let same = same_points points in
       let laid = laws.lands (λ v. v) (λ v. v) s bounds points (shows place) (λ from v to between. between) (λ from v to between. between) tight in
       sym laid ∙ ap (λ (ps : List Point). list_all (λ point. lands_within_limits point s) ps) same ∙ within
 
-  -- so where one doesn't, nothing is reached
+  -- if a corner doesn't land within the limits, nothing is reached
   pub none_reached :
       (nib : Nib) → (FitsPlace (placed_point (left_top_of bounds) s) → FitsPlace (placed_point (right_bottom_of bounds) s) → ⊥)
       → (points : List Point) → IsLeastBox bounds points → list_all (λ point. lands_within_limits point s) points ≡ true → (x y : ℕ) → Reaches nib bounds s x y → ⊥
@@ -88,7 +88,7 @@ module _ (laws : BoxLaws) (place : Place) (bounds : Rect) where
       let both = and_parts (lands_within_limits (left_top_of bounds) s) (lands_within_limits (right_bottom_of bounds) s) (corners_land (p ∷ ps) least within) in
       off (lands_true (left_top_of bounds) s both.0).place (lands_true (right_bottom_of bounds) s both.1).place
 
--- and where a box has a point, what lies between where its corners land is reached
+-- if a box has a point, everything between the positions of its corners is reached
 pub between_reached :
     (laws : PlacingLaws) (nib : Nib) (s : Surface) → ShowsFrame s → (bounds : Rect) → bounds.l ≤ℤ bounds.r → bounds.t ≤ℤ bounds.b
     → (x y : ℕ) → in_box (widened nib (raised Inclusive (box_between (placed_point (left_top_of bounds) s) (placed_point (right_bottom_of bounds) s)))) x y ≡ true
@@ -116,12 +116,12 @@ between_reached laws nib s shown bounds wide high x y h =
       };
     }
 
--- the least box of points has them
+-- the bounding box of points contains them
 pub has_all : (bounds : Rect) (points : List Point) → IsLeastBox bounds points → All (HasPoint bounds) points
 has_all bounds [] least = All-nil (HasPoint bounds)
 has_all bounds (p ∷ ps) least = least.all
 
--- so a shape told by them lies in the box in which what it reaches lies
+-- a shape with this bounding box lies in the box that contains what it reaches
 pub shape_landed :
     DrawingBoxLaws → (nib : Nib) (place : Place) (s : Surface) → surface_of place ≡ s → (bounds box : Rect) → HasLanded nib (surface_of place) bounds box
     → (points : List Point) → IsLeastBox bounds points → list_all (λ point. lands_within_limits point s) points ≡ true

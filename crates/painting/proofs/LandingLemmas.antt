@@ -25,18 +25,18 @@ use Rattle.painting.specs.PlacedLines.{AllLand, AllListsLand}
 one_more : (v : ℤ) → v ≤ℤ pos place_limit → v ≤ℤ pos (suc place_limit)
 one_more v h = grind (arith, ints)
 
--- a number within the limit of placed coordinates is near
+-- a number within the limit of placed coordinates is within the limits of lines
 near_within : (v : ℤ) → IsPlaceCoordinate v → IsNear v
 near_within v h = record { low = h.low; high = one_more v h.high }
 
--- a point of the plane that lands within the limits is one of placed points, and near there
+-- a point of the plane that lands within the limits is placed within the limits of lines
 pub landed_fits : (s : Surface) (p : Point) → lands_within_limits p s ≡ true → FitsPlace (placed_point p s)
 landed_fits s p t = (lands_true p s t).place
 
 pub landed_near : (s : Surface) (p : Point) → lands_within_limits p s ≡ true → IsNearPoint (placed_point p s)
 landed_near s p t = let fits = landed_fits s p t in record { x = near_within _ fits.x; y = near_within _ fits.y }
 
--- the corners of a box whose sides are within the limits are near
+-- the corners of a box whose edges are within the limits are within the limits of lines
 pub corners_near : (box : Rect) → IsPlaceCoordinate box.l → IsPlaceCoordinate box.t → IsPlaceCoordinate box.r → IsPlaceCoordinate box.b → (k : ℕ) (d : Point) → k < 4 → IsNearPoint (slice_index_or (box_corners box) k d)
 corners_near box l t r b zero d h = record { x = near_within box.l l; y = near_within box.t t }
 corners_near box l t r b (suc zero) d h = record { x = near_within box.r r; y = near_within box.t t }
@@ -44,7 +44,7 @@ corners_near box l t r b (suc (suc zero)) d h = record { x = near_within box.r r
 corners_near box l t r b (suc (suc (suc zero))) d h = record { x = near_within box.l l; y = near_within box.b b }
 corners_near box l t r b (suc (suc (suc (suc k)))) d h = absurd (omega (arith, h))
 
--- where a place's surface is this one, such a point fits there, and lands where the place tells
+-- if this is the surface of a place, such a point fits there and lands where the place puts it
 pub fits_there : (place : Place) (s : Surface) (p : Point) → surface_of place ≡ s → lands_within_limits p s ≡ true → FitsPlace (placed_point p (surface_of place))
 fits_there place s p same t = subst (λ (r : Surface). FitsPlace (placed_point p r)) (sym same) (landed_fits s p t)
 
@@ -54,18 +54,18 @@ lands_place place s p same t = subst (λ (r : Surface). lands_within_limits p r 
 pub lands_there : (place : Place) (s : Surface) (p there : Point) → surface_of place ≡ s → there ≡ placed_point p (surface_of place) → there ≡ placed_point p s
 lands_there place s p there same at = at ∙ ap (placed_point p) same
 
--- of two points that land both do
+-- if two points land, each of them does
 pub two_land : (s : Surface) (p q : Point) → list_all (λ r. lands_within_limits r s) (p ∷ q ∷ []) ≡ true → (lands_within_limits p s ≡ true) × (lands_within_limits q s ≡ true)
 two_land s p q t =
     let a = and_parts (lands_within_limits p s) (list_all (λ r. lands_within_limits r s) (q ∷ [])) t in
     (a.0, (and_parts (lands_within_limits q s) true a.1).0)
 
 module _ (by : Projection) where
-  -- so is a point of the page
+  -- the same for a point of the page
   pub projected_near : (p : Point) → IsTrue (is_projected by p) → IsNearPoint (projected by p)
   projected_near p t = landed_near (surface_of by.place) (mapped_point (map_numbers by.map) p) t
 
-  -- the first of points that all land, and the others
+  -- if all points land, so do the first and the others
   pub first_lands : (p : Point) (ps whole : List Point) → whole ≡ p ∷ ps → AllLand by whole → IsTrue (is_projected by p)
   first_lands p ps whole e h = All-head (λ q. IsTrue (is_projected by q)) p ps (All-same (λ q. IsTrue (is_projected by q)) (p ∷ ps) whole (sym e) h)
 
@@ -75,7 +75,7 @@ module _ (by : Projection) where
   pub first_near : (p : Point) (ps whole : List Point) → whole ≡ p ∷ ps → AllLand by whole → IsNearPoint (projected by p)
   first_near p ps whole e h = projected_near p (first_lands p ps whole e h)
 
-  -- the same of lists
+  -- the same for lists
   pub first_list_lands : (ps : List Point) (ls whole : List (List Point)) → whole ≡ ps ∷ ls → AllListsLand by whole → AllLand by ps
   first_list_lands ps ls whole e h = All-head (AllLand by) ps ls (All-same (AllLand by) (ps ∷ ls) whole (sym e) h)
 
@@ -100,7 +100,7 @@ module _ (by : Projection) where
         let parts = and_parts (list_all test first) (list_all test others) (sym (list_all-append test first others) ∙ t) in
         All-cons (AllLand by) ps ls (list_lands ps parts.0) (lists_land ls parts.1)
 
-    -- so do points behind a first one, which is near where it lands
+    -- the same for points after a first one that is within the limits of lines
     pub start_and_list_land : (p : Point) (ps : List Point) → list_all (λ q. lands_within_limits q s) (points_of_lists ((p ∷ mapped_list (map_numbers by.map) ps) ∷ [])) ≡ true → IsNearPoint (placed_point p s) × AllLand by ps
     start_and_list_land p ps t =
         let others = mapped_list (map_numbers by.map) ps in

@@ -1,4 +1,4 @@
--- A line's steps give its pixels one after another.
+-- A line's steps yield its pixels one after another.
 use Rattle.std.proofs.Common.{◌≡◌, ℕ, suc, ◌-◌, ◌<◌, ◌≤◌, ℤ, pos, Bool, true, false, not, ◌&&◌, nat_le, IsTrue, ◌⊎◌, inl, inr, arith, refl, ap, sym, ◌∙◌}
 use Rattle.std.proofs.lemmas.Bool.{and_from, and_parts, le-leb, leb-true, lt-ltb, ltb-true, false_from_ne_true, not-true, not_from_false}
 use Rattle.mapping.specs.TestLaws.{same_test}
@@ -12,7 +12,7 @@ use Rattle.span_fill.specs.Strokes.{OnePixelForEachStep, on_line, step_at}
 use Rattle.span_fill.specs.declared.line.Line.{Line}
 use Rattle.painting.specs.LinePixels.{is_to_step, is_visible}
 
--- the number of a column or a row, of a coordinate
+-- the number of a column or row, from a coordinate
 abbrev natural : ℤ → ℕ
 natural (pos n) = n
 natural v = 0
@@ -32,7 +32,7 @@ is_at_true x y column row h = grind (arith)
 pub is_at_from : (x y column row : ℕ) → column ≡ x → row ≡ y → is_at x y column row ≡ true
 is_at_from x y column row h k = grind (arith)
 
--- a pixel of a step to come
+-- a pixel of a remaining step
 record IsToStep (steps : StepsState) (x y : ℕ) : Type 0 where
   pub on : on_line steps.line (pos x) (pos y) ≡ true
   pub inside : in_region steps.region x y ≡ true
@@ -55,7 +55,7 @@ parts_from steps x y p =
 cases_le : (n m : ℕ) → n ≤ m → (suc n ≤ m) ⊎ (m ≡ n)
 cases_le n m h = grind (arith)
 
--- behind the last step no pixel is to come
+-- after the last step no pixel remains
 pub none_to_step : (steps : StepsState) → steps.end ≤ steps.next → (x y : ℕ) → is_to_step steps x y ≡ false
 none_to_step steps ended x y = false_from_ne_true (is_to_step steps x y) (λ h. let p = parts_of steps x y h in over _ _ _ p.from p.to ended)
   where
@@ -117,7 +117,7 @@ module _ (law : OnePixelForEachStep) (old new : StepsState) (pixel : PixelAt) (o
     less = omega (arith, next, end, more);
   }
 
--- steps that are all that a line has in a region have each of its pixels there
+-- if the steps are all that a line has in a region, they have each of its pixels there
 pub all_to_step : (steps : StepsState) → HasAllSteps steps → (x y : ℕ) → is_to_step steps x y ≡ is_visible steps.region steps.line x y
 all_to_step steps all x y = same_test _ _
     (λ h. let p = parts_of steps x y h in and_from (in_region steps.region x y) (on_line steps.line (pos x) (pos y)) p.inside p.on)
@@ -125,6 +125,6 @@ all_to_step steps all x y = same_test _ _
     let a = and_parts (in_region steps.region x y) (on_line steps.line (pos x) (pos y)) h in
     parts_from steps x y (record { on = a.1; inside = a.0; from = all.from x y a.1 a.0; to = all.to x y a.1 a.0 }))
 
--- the steps' region has each pixel that is to come
+-- the region of the steps contains each remaining pixel
 pub to_step_inside : (steps : StepsState) (x y : ℕ) → is_to_step steps x y ≡ true → in_region steps.region x y ≡ true
 to_step_inside steps x y h = (parts_of steps x y h).inside

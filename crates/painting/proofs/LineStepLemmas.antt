@@ -1,4 +1,4 @@
--- A lone line is stroked by its steps.
+-- A lone line is stroked step by step.
 use Rattle.std.proofs.Common.{◌≡◌, ℕ, pos, ◌&&◌, Bool, [], refl, ap, ◌∙◌}
 use Rattle.mapping.specs.Mixes.{mixed_by}
 use Rattle.mapping.specs.declared.mix.Mix.{Mix}
@@ -17,7 +17,7 @@ use Rattle.painting.specs.Regions.{HasRegion}
 use Rattle.painting.proofs.LinePixelLemmas.{all_to_step}
 use Rattle.painting.proofs.VisibleLemmas.{all_seen, seen_clipped, seen_uncut}
 
--- all steps of a line that a region has are to come
+-- all steps of a line in a region remain
 pub steps_visible : (steps : StepsState) (line : Line) (region : Region) → steps.line ≡ line → steps.region ≡ region → HasAllSteps steps → (x y : ℕ) → is_to_step steps x y ≡ is_visible region line x y
 steps_visible steps line region same there all x y =
     all_to_step steps all x y
@@ -28,7 +28,7 @@ module _
     (laws : WritingLaws) (clip : ClipValue) (mix : Mix) (line : Line) (steps : StepsState) (region : Region) (old new : CanvasState) (whole : IsWhole old) (held : HasRegion old region)
     (kept : (x y : ℕ) → HasPixel old x y → in_region region x y ≡ in_kept clip.kept x y)
     (same : steps.line ≡ line) (there : steps.region ≡ region) (all : HasAllSteps steps) where
-  -- where nothing is cut out, they are what is stroked
+  -- if nothing is cut out, they are what is stroked
   pub stepped : clip.cuts ≡ [] → Repaints (is_to_step steps) (λ x y c. mixed_by mix c) old new → PaintsShape (mixing_paint clip mix) (λ x y. on_line line (pos x) (pos y)) old new
   stepped none r =
       let shape = λ (x y : ℕ). on_line line (pos x) (pos y) in
@@ -37,7 +37,7 @@ module _
       (λ x y c pixel t. refl)
       r
 
-  -- else those that the clip has
+  -- otherwise those that the clip contains are
   pub stepped_clipped : Repaints (λ x y. is_to_step steps x y && in_boxes clip x y) (λ x y c. mixed_by mix c) old new → PaintsShape (mixing_paint clip mix) (λ x y. on_line line (pos x) (pos y)) old new
   stepped_clipped r =
       let shape = λ (x y : ℕ). on_line line (pos x) (pos y) in

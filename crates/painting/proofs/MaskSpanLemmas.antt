@@ -1,4 +1,4 @@
--- A mask's spans are those of a source of spans.
+-- The spans of a mask are those of a source of spans.
 use Rattle.std.proofs.Common.{◌≡◌, ℕ, Bool, true, false, not, ◌&&◌, ◌==◌, nat_le, nat_lt, refl, sym, ◌∙◌}
 use Rattle.canvas.specs.SpanSources.{GivesSpan}
 use Rattle.canvas.specs.Writing.{in_row_span}
@@ -10,7 +10,7 @@ regrouped : (a b c : Bool) → (a && b && c) ≡ (a && (b && c))
 regrouped true b c = refl
 regrouped false b c = refl
 
--- what is taken away is no more, and all else stays
+-- what is removed isn't there any more, and everything else stays
 taken_away : (old gone new : Bool) → (gone ≡ true → new ≡ false) → (gone ≡ false → new ≡ old) → new ≡ (old && not gone)
 taken_away true true new f g = f refl
 taken_away true false new f g = g refl

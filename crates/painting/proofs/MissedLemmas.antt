@@ -1,4 +1,4 @@
--- A drawing whose box lands beside the rows held is drawn by leaving them as they are.
+-- If the box of a drawing lies outside the rows of the canvas, leaving them unchanged draws it.
 use Rattle.std.proofs.Common.{◌≡◌, ◌≢◌, ◌↔◌, ◌⊎◌, inl, inr, ℕ, ◌+◌, Bool, true, false, not, IsTrue, ap, ◌∙◌, ◌≤◌, ℤ, pos, ◌*ℤ◌, ◌≤ℤ◌, ◌<ℤ◌, int_lt, arith, subst, sym}
 use Rattle.std.proofs.lemmas.Bool.{true≢false}
 use Rattle.std.proofs.lemmas.Int.{by_lt_z, ints}
@@ -19,7 +19,7 @@ use Rattle.preflight_cert.specs.MissedRowsLaws.{LiesBeside, MissedRowsLaws}
 use Rattle.painting.specs.Drawn.{DrawsLayers, HoldsRows}
 use Rattle.painting.proofs.LandedBoxLemmas.{has_all}
 
--- a quotient lies before a number exactly where the dividend lies before that many divisors
+-- a quotient is less than a number exactly if the dividend is less than that number of divisors
 module _ (law : FloorDivisionIsGreatest) (a count : ℤ) (side : ℕ) (some : 1 ≤ side) where
   not_zero : pos side ≢ pos 0
   not_zero e = omega (arith, ints, some, e)
@@ -45,7 +45,7 @@ module _ (law : FloorDivisionIsGreatest) (a count : ℤ) (side : ℕ) (some : 1 
       (λ t. int_lt-from quotient (count) (before (int_lt-true a (count *ℤ pos side) t)))
       (λ t. int_lt-from a (count *ℤ pos side) (before_back (int_lt-true quotient (count) t)))
 
--- what doesn't end above some rows lies beside them where it doesn't begin above their end
+-- what doesn't end above some rows lies outside them unless it begins above their end
 pub beside_else : (bottom top : ℤ) (first rows : ℕ) → int_lt bottom (pos first) ≡ false → IsTrue (not (int_lt top (pos (first + rows)))) ↔ ((bottom <ℤ pos first) ⊎ (pos (first + rows) ≤ℤ top))
 beside_else bottom top first rows not_above = (
   λ h. by_lt_z top (pos (first + rows)) (λ g. absurd (not_both (int_lt top (pos (first + rows))) (int_lt-from top (pos (first + rows)) g) h)) (λ g. inr g),
@@ -59,7 +59,7 @@ beside_else bottom top first rows not_above = (
     not_both true e h = true≢false (sym h)
     not_both false e h = true≢false (sym e)
 
--- nothing of a drawing is on rows that it misses
+-- a drawing has nothing on rows that it misses
 pub missed_drawn :
     MissedRowsLaws → (s : Surface) (drawing : Drawing) (bounds : Rect) (canvas : CanvasState) → ShowsFrame s → IsWhole canvas → HoldsRows canvas s
     → IsLeastBox bounds (drawing_points drawing) → LiesBeside (widened (drawing_nib drawing s) (placed_box s bounds)) canvas.first canvas.rows

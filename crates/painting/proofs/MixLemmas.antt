@@ -14,13 +14,13 @@ use Rattle.canvas.specs.MixRows.{mix_at}
 use Rattle.canvas.specs.Writing.{Repaints, in_cells, in_row_span}
 use Rattle.canvas.specs.WritingLaws.{IsWhole, WritingLaws}
 
--- a part of a row has as many items as it has columns
+-- a part of a row has as many items as columns
 part_long : {A : Type 0} (items : List A) (from to : ℕ) → to ≤ length items → from ≤ to → length (take (to - from) (drop from items)) ≡ to - from
 part_long items from to end order =
     let left = length-drop from items in
     length-take-le (to - from) (drop from items) (omega (arith, left, end))
 
--- and has at each place the one of its column
+-- each item is that of its column
 item_within : {A : Type 0} (items : List A) (d : A) (from k x : ℕ) → from ≤ x → x < from + k → get_or (take k (drop from items)) (x - from) d ≡ get_or items x d
 item_within items d from k x low high =
     let at : from + (x - from) ≡ x = omega arith in
@@ -29,14 +29,14 @@ item_within items d from k x low high =
 mix_within : (keeps flips : List Colour) (from k x : ℕ) → from ≤ x → x < from + k → mix_at (take k (drop from keeps)) (take k (drop from flips)) (x - from) ≡ mix_at keeps flips x
 mix_within keeps flips from k x low high = rw (item_within keeps white_colour from k x low high, item_within flips black_colour from k x low high) refl
 
--- what is to be a pixel in a span
+-- the result for a pixel in a span
 pub span_parts : (y from to x row : ℕ) → in_row_span y from to x row ≡ true → (row ≡ y) × (from ≤ x) × (x < to)
 span_parts y from to x row t =
     let a = and_parts (eqb row y && leb from x) (ltb x to) t in
     let b = and_parts (eqb row y) (leb from x) a.0 in
     (eqb-true row y b.0, leb-true from x b.1, ltb-true x to a.1)
 
--- A part of a row of colours is written into the columns that it stands for.
+-- A part of a row of colours is written into its columns.
 pub part_put :
     WritingLaws → (colours : List Colour) (y from to : ℕ) (old new : CanvasState) → IsWhole old → to ≤ length colours → from ≤ to
     → Repaints (in_row_span y from (from + length (take (to - from) (drop from colours)))) (λ column row c. get_or (take (to - from) (drop from colours)) (column - from) c) old new
@@ -53,7 +53,7 @@ part_put laws colours y from to old new whole end order r =
     item_within colours c from (to - from) x low (omega (arith, high, last, order)))
     r
 
--- A part of a row of mixes is mixed into the columns that it stands for.
+-- A part of a row of mixes is mixed into its columns.
 pub part_mixed :
     WritingLaws → (keeps flips : List Colour) (y from to : ℕ) (old new : CanvasState) → IsWhole old → to ≤ length keeps → from ≤ to
     → Repaints (in_row_span y from (from + length (take (to - from) (drop from keeps)))) (λ column row c. mixed_by (mix_at (take (to - from) (drop from keeps)) (take (to - from) (drop from flips)) (column - from)) c) old new
@@ -70,7 +70,7 @@ part_mixed laws keeps flips y from to old new whole end order r =
     ap (λ m. mixed_by m c) (mix_within keeps flips from (to - from) x low (omega (arith, high, last, order))))
     r
 
--- Cells of a row are mixed up to a column, each by the mix at its column.
+-- The cells of a row are mixed up to a column, each by the mix at its column.
 pub record HasMixedCells (keeps flips : List Colour) (cells y from x : ℕ) (start now : CanvasState) : Type 0 where
   pub whole : IsWhole now
   pub width : now.width ≡ start.width
@@ -79,7 +79,7 @@ pub record HasMixedCells (keeps flips : List Colour) (cells y from x : ℕ) (sta
   pub count : now.writes ≤ start.writes + (x - from)
   pub painted : Repaints (in_cells y from x cells) (λ column row c. mixed_by (mix_at keeps flips column) c) start now
 
--- none is before the first
+-- there is none before the first
 pub no_cells_yet : WritingLaws → (keeps flips : List Colour) (cells y from : ℕ) (start : CanvasState) → IsWhole start → HasRow start y → HasMixedCells keeps flips cells y from from start start
 no_cells_yet laws keeps flips cells y from start whole row = record {
   whole = whole;
@@ -91,7 +91,7 @@ no_cells_yet laws keeps flips cells y from start whole row = record {
       (λ x r held. false_from_ne_true _ (λ t. let at = span_parts y from from x r (and_parts (in_row_span y from from x r) (is_cell cells x) t).0 in let low = at.1 in let high = at.2 in omega (arith, low, high)));
 }
 
--- one column more
+-- one more column
 pub one_cell_more :
     WritingLaws → (keeps flips : List Colour) (cells y from x : ℕ) (mix : Mix) (start now new : CanvasState) → IsWhole start → mix_at keeps flips x ≡ mix
     → HasMixedCells keeps flips cells y from x start now
@@ -146,7 +146,7 @@ one_cell_more laws keeps flips cells y from x mix start now new whole same h r c
     joined : (r i : Bool) (column : ℕ) → (((r && leb from column && ltb column x) && i) || ((r && leb x column && ltb column (x + 1)) && i)) ≡ ((r && leb from column && ltb column (x + 1)) && i)
     joined r i column = spread r (leb from column) (ltb column x) (leb x column) (ltb column (x + 1)) (ltb column (x + 1)) i (columns column)
 
--- a mix that is there, whatever stands for one that isn't
+-- a mix that exists, whatever is used if one doesn't
 item_there : {A : Type 0} (items : List A) (x : ℕ) (c d : A) → x < length items → get_or items x c ≡ get_or items x d
 item_there items x c d h = same_Some _ _ (sym (slice_get-get_or items x c h) ∙ slice_get-get_or items x d h)
 

@@ -1,4 +1,4 @@
--- Moves through the points of pieces draw the lines of the figures that the pieces make.
+-- The moves through the points of pieces draw the lines of the figures that the pieces define.
 use Rattle.std.proofs.Common.{◌≡◌, Bool, true, false, List, [], ◌∷◌, ◌++◌, map, refl, ap, sym, ◌∙◌, append_assoc}
 use Rattle.std.proofs.lemmas.Grind.{flat_map-append}
 use Rattle.std.proofs.lemmas.List.{append-nil, map-append}
@@ -28,7 +28,7 @@ use Rattle.painting.specs.declared.moves.Move.TheVariants.{To, End}
 abbrev figures_with : List Figure → List Point → Figures
 figures_with done current = record { done = done; current = current }
 
--- what moves make of figures
+-- the figures that moves define
 abbrev with_move : Move → Figures → Figures
 with_move (To point) f = gone_on (point ∷ []) f
 with_move (End end) f = with_end end f
@@ -41,7 +41,7 @@ one_after_another : (a b : List Move) (f : Figures) → with_moves (a ++ b) f �
 one_after_another [] b f = refl
 one_after_another (m ∷ a) b f = one_after_another a b (with_move m f)
 
--- going on through points
+-- continuing through points
 through : (ps : List Point) (f : Figures) → with_moves (map To ps) f ≡ gone_on ps f
 through [] f = ap (figures_with f.done) (sym (append-nil f.current))
 through (p ∷ ps) f = through ps (gone_on (p ∷ []) f) ∙ ap (figures_with f.done) (append_assoc f.current (p ∷ []) ps)
@@ -62,7 +62,7 @@ polygon : (ps : List Point) (f : Figures) → with_moves (moves_of_list Polygons
 polygon [] f = refl
 polygon (p ∷ ps) f = then_end (p ∷ ps) Joined (with_current_done false f)
 
--- those of several lists do what the lists do
+-- the moves of several lists do what the lists do
 with_lists_moves : (joining : Joining) (ls : List (List Point)) (f : Figures) → with_moves (moves_of_lists joining ls) f ≡ with_lists joining ls f
 with_lists_moves GoesOn [] f = ap (figures_with f.done) (sym (append-nil f.current))
 with_lists_moves GoesOn (l ∷ ls) f =
@@ -82,7 +82,7 @@ with_lists_moves Polygons (l ∷ ls) f =
     ∙ with_lists_moves Polygons ls (with_polygon l f)
 
 module _ (s : Surface) where
-  -- moves and figures, where their points land
+  -- moves and figures, on the surface
   abbrev placed_move : Move → Move
   placed_move (To point) = To (placed_point point s)
   placed_move (End end) = End end
@@ -119,7 +119,7 @@ module _ (s : Surface) where
       map-append (placed_figure s) f.done (figure_of is_closed f.current)
       ∙ ap (λ (rest : List Figure). placed_figures s f.done ++ rest) (placed_figure_of is_closed f.current)
 
-  -- placing before the moves, or behind them
+  -- placing the points before or after making the moves
   move_placed : (move : Move) (f : Figures) → with_move (placed_move move) (placed f) ≡ placed (with_move move f)
   move_placed (To p) f = ap (figures_with (placed_figures s f.done)) (sym (map-append (λ q. placed_point q s) f.current (p ∷ [])))
   move_placed (End LeftOpen) f = refl
@@ -148,7 +148,7 @@ module _ (s : Surface) where
       ∙ ap (with_moves (moves_of_pieces s ps)) (piece_placed p f)
       ∙ pieces_placed ps (with_piece p f)
 
--- the last of points, of which the first is given
+-- the last of some points, with a given first one
 abbrev last_of : Point → List Point → Point
 last_of p [] = p
 last_of p (q ∷ qs) = last_of q qs
@@ -157,12 +157,12 @@ last_behind : (p : Point) (ps : List Point) (q : Point) → last_of p (ps ++ q �
 last_behind p [] q = refl
 last_behind p (r ∷ rs) q = last_behind r rs q
 
--- the open figure of its points
+-- the open figure of the points
 abbrev drawn_through : List Point → Drawn
 drawn_through [] = nothing
 drawn_through (p ∷ ps) = drawn p (last_of p ps)
 
--- one line more
+-- one more line
 after_more : (p : Point) (ps : List Point) (q : Point) → lines_after p (ps ++ q ∷ []) ≡ lines_after p ps ++ line_from (last_of p ps) q ∷ []
 after_more p [] q = refl
 after_more p (r ∷ rs) q = ap (λ (rest : List Line). line_from p r ∷ rest) (after_more r rs q)
@@ -171,7 +171,7 @@ round_is : (first p : Point) (ps : List Point) → lines_round first p ps ≡ li
 round_is first p [] = refl
 round_is first p (r ∷ rs) = ap (λ (rest : List Line). line_from p r ∷ rest) (round_is first r rs)
 
--- the lines of a figure are those so far, and the line at its end
+-- the lines of a figure are those so far and the line at its end
 ended : (ends : Ends) (ps : List Point) → lines_of_figures ends (figure_of false ps) ≡ open_lines ps ++ lines_at_end ends Ended (drawn_through ps)
 ended ends [] = refl
 ended Open (p ∷ ps) = refl
@@ -188,7 +188,7 @@ none_drawn Open (drawn first last) = refl
 none_drawn Closed (drawn first last) = refl
 
 module _ (ends : Ends) where
-  -- a figure more, with the lines of its end
+  -- one more figure, with the lines of its end
   figure_more : (done : List Figure) (is_closed : Bool) (current : List Point) (last others : List Line) → lines_of_figures ends (figure_of is_closed current) ≡ open_lines current ++ last → lines_of_figures ends (done ++ figure_of is_closed current) ++ others ≡ lines_of_figures ends done ++ (open_lines current ++ (last ++ others))
   figure_more done is_closed current last others e =
       ap (λ (first : List Line). first ++ others) (flat_map-append (lines_of_figure ends) done (figure_of is_closed current))
@@ -196,7 +196,7 @@ module _ (ends : Ends) where
       ∙ ap (λ (figure : List Line). lines_of_figures ends done ++ (figure ++ others)) e
       ∙ ap (λ (rest : List Line). lines_of_figures ends done ++ rest) (append_assoc (open_lines current) last others)
 
-  -- a point more
+  -- one more point
   point_more : (current : List Point) (p : Point) (moves : List Move) → open_lines (current ++ p ∷ []) ++ lines_of_moves ends (drawn_through (current ++ p ∷ [])) moves ≡ open_lines current ++ lines_of_moves ends (drawn_through current) (To p ∷ moves)
   point_more [] p moves = refl
   point_more (q ∷ qs) p moves =
@@ -204,7 +204,7 @@ module _ (ends : Ends) where
       ∙ ap (λ (last : Point). (lines_after q qs ++ line_from (last_of q qs) p ∷ []) ++ lines_of_moves ends (drawn q last) moves) (last_behind q qs p)
       ∙ append_assoc (lines_after q qs) (line_from (last_of q qs) p ∷ []) (lines_of_moves ends (drawn q p) moves)
 
-  -- moves draw the lines of figures beyond those that are there
+  -- moves draw the lines of the figures that they add
   lines_drawn : (moves : List Move) (f : Figures) → lines_of_figures ends (all_figures (with_moves moves f)) ≡ lines_of_figures ends f.done ++ (open_lines f.current ++ lines_of_moves ends (drawn_through f.current) moves)
   lines_drawn [] f =
       flat_map-append (lines_of_figure ends) f.done (figure_of false f.current)

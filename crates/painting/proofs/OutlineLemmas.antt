@@ -1,4 +1,4 @@
--- Lines of lists of points, where they land on a surface.
+-- Lines of lists of points, on a surface.
 use Rattle.std.proofs.Common.{◌≡◌, List, [], ◌∷◌, ◌++◌, refl, ap, subst, ◌∙◌}
 use Rattle.std.specs.List.{flat_map}
 use Rattle.mapping.specs.PageMap.{map_numbers}
@@ -31,7 +31,7 @@ module _ (by : Projection) where
     placed_lines ends ls =
         subst (λ (r : Surface). lines_of_lists by ends ls ≡ flat_map (lines_between ends) (placed_lists r (mapped_lists (map_numbers by.map) ls))) e (placed_lines_of ends ls)
 
-    -- so do points of the page behind a placed one
+    -- the same for points of the page after a placed one
     pub placed_through : (start p : Point) (ps : List Point) → start ≡ placed_point p s → start ∷ projected_list by ps ≡ placed_list s (p ∷ mapped_list (map_numbers by.map) ps)
     placed_through start p ps at =
         let others = subst (λ (r : Surface). projected_list by ps ≡ placed_list r (mapped_list (map_numbers by.map) ps)) e (placed_list_of ps) in

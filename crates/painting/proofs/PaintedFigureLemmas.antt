@@ -1,4 +1,4 @@
--- Figures that are painted: their lines, and the layers that they make.
+-- Painted figures: their lines, and their layers.
 use Rattle.std.proofs.Common.{◌≡◌, ℕ, ◌<◌, ◌≤◌, ◌^◌, true, false, List, [], ◌∷◌, ◌++◌, length, Some, None, arith, refl, ap, sym, ◌∙◌}
 use Rattle.std.specs.List.{All, flat_map, list_all}
 use Rattle.std.proofs.lemmas.List.{append-nil}
@@ -35,12 +35,12 @@ pub few_to_count : (n : ℕ) → n ≤ edge_limit → n < 2 ^ 64
 unfolding edge_limit
 few_to_count n few = omega (arith, few)
 
--- the lines of figures, where they land
+-- the lines of figures, on the surface
 module _ (s : Surface) (figures : List Figure) (ends : Ends) (lines : List Line) (drawn : lines ≡ lines_of_figures ends (placed_figures s figures)) where
   pub lines_few : length lines ≤ length (points_of_figures figures)
   lines_few = rw drawn (figure_lines_few s ends figures)
 
--- figures that are all closed have the points that they had
+-- closing all figures doesn't change their points
 pub points_closed : (figures : List Figure) → points_of_figures (all_closed figures) ≡ points_of_figures figures
 points_closed [] = refl
 points_closed (f ∷ fs) = ap (λ (rest : List Point). f.points ++ rest) (points_closed fs)
@@ -49,7 +49,7 @@ pub figures_closed : (figures : List Figure) → All IsClosedFigure (all_closed 
 figures_closed [] = All-nil IsClosedFigure
 figures_closed (f ∷ fs) = All-cons IsClosedFigure _ (all_closed fs) refl (figures_closed fs)
 
--- along what a painting strokes
+-- the lines along which a painting strokes
 abbrev pub stroked_outline : Ends → List Figure → Outline
 stroked_outline Open figures = along figures
 stroked_outline Closed figures = along (all_closed figures)
@@ -65,7 +65,7 @@ strokes_figures Stroke Closed figures tools h = cc
 strokes_figures StrokeAndFill Open figures tools h = cc
 strokes_figures StrokeAndFill Closed figures tools h = refl
 
--- more than their inside is painted of figures that are stroked
+-- figures that are stroked have a layer for that besides their inside
 pub lines_painted : (painting : Painting) (ends : Ends) → stroked_ends painting ≡ Some ends → paints_lines painting ≡ true
 lines_painted Fill ends h = cc
 lines_painted Stroke ends h = refl
@@ -80,13 +80,13 @@ pub stroked_lines : (s : Surface) (ends : Ends) (figures : List Figure) → line
 stroked_lines s Open figures = said_lines s figures
 stroked_lines s Closed figures = closed_lines_along s figures
 
--- and what one fills
+-- the inside that a painting fills
 pub fills_figures : (painting : Painting) (figures : List Figure) (tools : Tools) → (painting ≡ Stroke → ⊥) → figures_filled painting figures tools ≡ filled (inside_figures tools.modes.fill_mode (all_closed figures)) tools
 fills_figures Fill figures tools h = refl
 fills_figures Stroke figures tools h = absurd (h refl)
 fills_figures StrokeAndFill figures tools h = refl
 
--- figures of lists of the page
+-- the figures of lists of page points
 points_listed : (lists : List (List Point)) → points_of_figures (figures_of_lists lists) ≡ points_of_lists lists
 points_listed lists = flat_map-map (λ (figure : Figure). figure.points) (λ (points : List Point). record { points = points; is_closed = false }) lists
 
@@ -100,15 +100,15 @@ one_listed Open points = sym (append-nil (open_lines points))
 one_listed Closed points = sym (append-nil (closed_lines points))
 
 module _ (by : Projection) (s : Surface) (e : surface_of by.place ≡ s) where
-  -- the lines of lists of the page are those of the lists' figures, where they land
+  -- the lines of lists of page points are those of the figures of the lists, on the surface
   pub listed_lines : (ends : Ends) (lists : List (List Point)) → lines_of_lists by ends lists ≡ lines_of_figures ends (placed_figures s (figures_of_lists (mapped_lists (map_numbers by.map) lists)))
   listed_lines ends lists = placed_lines by s e ends lists ∙ listed_figures s ends (mapped_lists (map_numbers by.map) lists)
 
-  -- the lists land where those do
+  -- the lists land if the figures do
   pub listed_land : (lists : List (List Point)) → list_all (λ p. lands_within_limits p s) (points_of_figures (figures_of_lists (mapped_lists (map_numbers by.map) lists))) ≡ true → AllListsLand by lists
   listed_land lists t = lists_land by s e lists (ap (list_all (λ p. lands_within_limits p s)) (sym (points_listed (mapped_lists (map_numbers by.map) lists))) ∙ t)
 
-  -- so it is with lines from a placed point through points of the page
+  -- the same for lines from a placed point through points of the page
   pub through_lines : (ends : Ends) (start p : Point) (ps : List Point) → start ≡ placed_point p s → lines_between ends (start ∷ projected_list by ps) ≡ lines_of_figures ends (placed_figures s (figures_of_lists ((p ∷ mapped_list (map_numbers by.map) ps) ∷ [])))
   through_lines ends start p ps at =
       ap (lines_between ends) (placed_through by s e start p ps at) ∙ one_listed ends (placed_list s (p ∷ mapped_list (map_numbers by.map) ps))

@@ -38,7 +38,7 @@ use Rattle.painting.specs.declared.moves.Move.{Move}
 use Rattle.painting.proofs.LandingLemmas.{landed_fits, list_lands}
 use Rattle.painting.proofs.OutlineLemmas.{placed_list_of}
 
--- what keeps the order keeps the lesser and the greater
+-- what preserves order preserves the minimum and the maximum
 min_kept : (f : ℤ → ℤ) → ((v w : ℤ) → v ≤ℤ w → f v ≤ℤ f w) → (v w : ℤ) → int_min (f v) (f w) ≡ f (int_min v w)
 min_kept f keeps v w = by_lt_z w v
     (λ b. let there : f w ≤ℤ f v = keeps w v (grind (arith, ints)) in let least : int_min v w ≡ w = grind (arith, ints) in rw least (grind (arith, ints)))
@@ -61,7 +61,7 @@ module _ (laws : PlacingLaws) (s : Surface) (shows : ShowsFrame s) where
   placed_between p q =
       rw (min_kept (λ v. placed v s.width s.frame_width) columns p.x q.x, min_kept (λ v. placed v s.height s.frame_height) rows p.y q.y, max_kept (λ v. placed v s.width s.frame_width) columns p.x q.x, max_kept (λ v. placed v s.height s.frame_height) rows p.y q.y) refl
 
-  -- its corners are those of the box, where they land
+  -- its corners are those of the box, on the surface
   pub placed_corners : (p q : Point) → placed_list s (box_corners (box_between p q)) ≡ box_corners (box_between (placed_point p s) (placed_point q s))
   placed_corners p q = ap box_corners (sym (placed_between p q))
 
@@ -77,7 +77,7 @@ module _ (by : Projection) where
       ap (λ (first : List Point). first ∷ placed_lists (surface_of by.place) (mapped_lists (map_numbers by.map) ls)) (sym (placed_list_of by l))
       ∙ ap (λ (rest : List (List Point)). projected_list by l ∷ rest) (lists_placed ls)
 
-  -- lists land where all their points do
+  -- lists land if all their points do
   lists_land : (ls : List (List Point)) → list_all (λ p. lands_within_limits p (surface_of by.place)) (mapped_list (map_numbers by.map) (flat_map (λ list. list) ls)) ≡ true → AllListsLand by ls
   lists_land [] t = All-nil (AllLand by)
   lists_land (l ∷ ls) t =
@@ -89,7 +89,7 @@ module _ (by : Projection) where
       let parts = and_parts (list_all test first) (list_all test others) (sym (list_all-append test first others) ∙ all) in
       All-cons (AllLand by) l ls (list_lands by (surface_of by.place) refl l parts.0) (lists_land ls parts.1)
 
-  -- those of a piece, of which the page's are the ones that are placed one after another
+  -- the lists of a piece, with those of the page that are placed one by one
   pub page_part_lands : (points : PiecePoints) → AllListsLand by (page_lists points) → AllListsLand by (page_part points)
   page_part_lands (OnePoint point) h = All-nil (AllLand by)
   page_part_lands (OneList points) h = h
@@ -110,7 +110,7 @@ module _ (by : Projection) where
       let P : Point → Type 0 = λ q. IsTrue (is_projected by q) in
       (All-head P first (second ∷ []) both, All-head P second [] (All-tail P first (second ∷ []) both))
 
-  -- the moves through a piece are those through the part that is placed at once and the lists
+  -- the moves through a piece are those through the part that is placed at once and through the lists
   pub in_parts : PlacingLaws → (joining : Joining) (points : PiecePoints) (behind : List Move) → moves_of_list joining (placed_part by points) ++ (moves_of_lists joining (map (projected_list by) (page_part points)) ++ behind) ≡ moves_of_lists joining (placed_lists (surface_of by.place) (plane_lists (map_numbers by.map) points)) ++ behind
   in_parts laws joining (OnePoint point) behind = ap (λ (moves : List Move). moves ++ behind) (sym (append-nil (moves_of_list joining (projected by point ∷ []))))
   in_parts laws joining (OneList points) behind =
@@ -128,7 +128,7 @@ pub piece_lands : (by : Projection) (piece : Piece) → by.map ≡ piece.map →
 piece_lands by piece e h =
     lists_land by (page_lists piece.points) (subst (λ (map : PageMap). list_all (λ p. lands_within_limits p (surface_of by.place)) (mapped_list (map_numbers map) (page_points piece.points)) ≡ true) (sym e) h)
 
--- pieces behind the first of pieces that land
+-- pieces that land, after the first one
 pub other_pieces_land : (s : Surface) (piece : Piece) (pieces whole : List Piece) → whole ≡ piece ∷ pieces → AllLandOn s whole → AllLandOn s pieces
 other_pieces_land s piece pieces whole e h = All-rest (LandsOn s) piece pieces whole e h
 

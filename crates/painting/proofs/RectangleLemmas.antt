@@ -17,14 +17,14 @@ use Rattle.preflight_cert.specs.Outlines.{line_from}
 use Rattle.preflight_cert.specs.Rectangles.{has_inside, rectangle_lines}
 use Rattle.painting.specs.RectangleBoxes.{IsNearBox}
 
--- what four lines have, all of them have
+-- what holds for each of four lines holds for all of them
 all_four : (P : Line → Type 0) (a b c d : Line) → P a → P b → P c → P d → All P (a ∷ b ∷ c ∷ d ∷ [])
 all_four P a b c d p q r s = All-cons P a (b ∷ c ∷ d ∷ []) p (All-cons P b (c ∷ d ∷ []) q (All-cons P c (d ∷ []) r (All-cons P d [] s (All-nil P))))
 
 line_is : (line : Line) (p q : Point) → line.from ≡ p → line.to ≡ q → line ≡ line_from p q
 line_is line p q h k = ap (λ (r : Point). line_from r line.to) h ∙ ap (λ (r : Point). line_from p r) k
 
--- a coordinate one before an edge is near, if there is a near one before the edge
+-- the coordinate before an edge is within the limits of lines, if there is one within the limits before the edge
 near_before : (first edge : ℤ) → first <ℤ edge → IsNear first → IsNear edge → IsNear (edge -ℤ pos 1)
 near_before first edge h f e =
     let low = f.low in
@@ -39,7 +39,7 @@ pub no_stroke : (nib : Nib) (box : Rect) (x y : ℕ) → has_inside box ≡ fals
 no_stroke nib box x y none = rw none refl
 
 module _ (box : Rect) where
-  -- the pixels in its corners
+  -- the pixels at its corners
   abbrev left_top : Point
   left_top = record { x = box.l; y = box.t }
 
@@ -66,12 +66,12 @@ module _ (box : Rect) where
     lines_there : lines ≡ rectangle_lines box
     lines_there = rw some refl
 
-    -- so are those that join the corners one after another
+    -- the lines that join the corners one after another
     pub lines_are : (a b c d : Line) → a.from ≡ left_top → a.to ≡ right_top → b.from ≡ right_top → b.to ≡ right_bottom → c.from ≡ right_bottom → c.to ≡ left_bottom → d.from ≡ left_bottom → d.to ≡ left_top → (a ∷ b ∷ c ∷ d ∷ []) ≡ rectangle_lines box
     lines_are a b c d a_from a_to b_from b_to c_from c_to d_from d_to =
         rw (line_is a left_top right_top a_from a_to, line_is b right_top right_bottom b_from b_to, line_is c right_bottom left_bottom c_from c_to, line_is d left_bottom left_top d_from d_to) lines_there
 
-    -- they are near
+    -- they are within the limits of lines
     pub lines_near : IsNearBox box → All HasNearEnds (rectangle_lines box)
     lines_near near =
         let right = near_before box.l box.r wide near.left near.right in
@@ -84,7 +84,7 @@ module _ (box : Rect) where
         (all_four HasNearEnds (line_from left_top right_top) (line_from right_top right_bottom) (line_from right_bottom left_bottom) (line_from left_bottom left_top)
         (record { from = a; to = b }) (record { from = b; to = c }) (record { from = c; to = d }) (record { from = d; to = a }))
 
-    -- the box of the outer pixels has them, and so the rectangle has their pixels
+    -- the box of the outermost pixels contains them, and so the rectangle contains their pixels
     abbrev outer : Rect
     outer = record { l = box.l; t = box.t; r = box.r -ℤ pos 1; b = box.b -ℤ pos 1 }
 

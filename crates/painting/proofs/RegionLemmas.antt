@@ -1,4 +1,4 @@
--- A shape is painted row by row, in a region that has what is seen of it.
+-- A shape is painted row by row, in a region that contains everything visible of it.
 use Rattle.std.proofs.Common.{◌≡◌, ℕ, ◌+◌, ◌<◌, ◌≤◌, Bool, true, ◌&&◌, arith, ◌∙◌}
 use Rattle.std.proofs.lemmas.Bool.{and_parts, and_from}
 use Rattle.mapping.specs.TestLaws.{same_test}
@@ -38,7 +38,7 @@ module _
   rows_begun = before_first paint shape laws canvas whole region.rows.from
       (λ x y held h. (seen_in_rows paint shape canvas region visible x y held h).0)
 
-  -- what the columns and the shape have of a row is what the kept box and the shape have of it
+  -- the pixels of a row in the columns and the shape are those in the kept box and the shape
   row_kept : (x y : ℕ) → region.rows.from ≤ y → y < region.rows.to → HasRow canvas y → x < canvas.width → (in_span region.columns x && shape x y) ≡ (in_kept paint.clip.kept x y && shape x y)
   row_kept x y low high held column =
       let row = column_from region.rows.from region.rows.to y low high in
@@ -52,7 +52,7 @@ module _
       let there = visible.all x y pixel parts.0 parts.1 in
       and_from (in_span region.columns x) (shape x y) (and_parts (in_span region.columns x) (in_span region.rows y) there).0 parts.1)
 
-  -- one row more is
+  -- one more row
   pub row_added :
       (now new : CanvasState) (y : ℕ) (ink : RowInk) (written : ℕ → Bool) (columns : Span)
       → ((x : ℕ) → written x ≡ (in_span region.columns x && shape x y))
@@ -70,13 +70,13 @@ module _
       (λ x column. same x ∙ row_kept x y low high held column)
       so_far row
 
-  -- behind the last all are
+  -- after the last row everything is painted
   pub rows_done : (now : CanvasState) (y : ℕ) → region.rows.to ≤ y → HasRowsPainted paint shape y canvas now → PaintsShape paint shape canvas now
   rows_done now y end so_far = behind_last paint shape laws canvas whole now y
       (λ x r held h. let last = (seen_in_rows paint shape canvas region visible x r held h).1 in omega (arith, last, end))
       so_far
 
--- the columns of a row of a box that are seen are those of the box
+-- the visible columns of a row of a box are those of the box
 pub box_row : (region : Region) (box : Rect) → ((x y : ℕ) → in_region region x y ≡ true → in_box box x y ≡ true) → (x y : ℕ) → region.rows.from ≤ y → y < region.rows.to → in_span region.columns x ≡ (in_span region.columns x && in_box box x y)
 box_row region box boxed x y low high = same_test _ _
     (λ h.

@@ -19,7 +19,7 @@ use Rattle.painting.specs.Strips.{is_painted, is_uncut}
 use Rattle.painting.specs.declared.row_ink.RowInk.{RowInk}
 use Rattle.painting.proofs.TestLemmas.{column_from, column_true}
 
--- spans that lie apart between two numbers have no other
+-- separate spans between two numbers have no other numbers
 within_ends : (first last : ℕ) (spans : List Span) (x : ℕ) → AreApart first last spans → in_spans spans x ≡ true → (first ≤ x) × (x < last)
 within_ends first last [] x apart h = absurd (true≢false (sym h))
 within_ends first last (span ∷ spans) x apart h =
@@ -33,7 +33,7 @@ within_ends first last (span ∷ spans) x apart h =
           let order = apart.1 in (omega (arith, low, order, from), later.1)
     ]
 
--- the spans of a row have what the test has of the interval
+-- the spans of a row have what the test accepts of the interval
 pub spans_are : (interval : Span) (spans : List Span) (test : ℕ → Bool) (x : ℕ) → AreRow test interval spans → in_spans spans x ≡ (in_span interval x && test x)
 spans_are interval spans test x row = same_test _ _
     (λ h.
@@ -43,7 +43,7 @@ spans_are interval spans test x row = same_test _ _
     let parts = and_parts (in_span interval x) (test x) h in
     let at = column_true interval.from interval.to x parts.0 in row.exact x at.0 at.1 ∙ parts.1)
 
--- spans that are apart within an interval are so within a greater one
+-- spans that are separate within an interval are separate within a larger one
 pub apart_within : (first last lower upper : ℕ) (spans : List Span) → lower ≤ first → last ≤ upper → AreApart first last spans → AreApart lower upper spans
 apart_within first last lower upper [] h k apart = apart
 apart_within first last lower upper (span ∷ spans) h k apart =
@@ -51,7 +51,7 @@ apart_within first last lower upper (span ∷ spans) h k apart =
     let high = apart.2 in
     (omega (arith, low, h), apart.1, omega (arith, high, k), apart_within (suc span.to) last (suc span.to) upper spans (omega arith) k apart.3)
 
--- what a test of a painted pixel tells
+-- what holds for a painted pixel
 painted_parts : (ink : RowInk) (cuts : List Rect) (y : ℕ) (columns : ℕ → Bool) (column row : ℕ) → is_painted ink cuts y columns column row ≡ true → ((row == y) ≡ true) × (columns column ≡ true) × (is_uncut cuts column row ≡ true) × (is_inked ink column ≡ true)
 painted_parts ink cuts y columns column row h =
     let a = and_parts ((row == y && columns column) && is_uncut cuts column row) (is_inked ink column) h in
@@ -66,7 +66,7 @@ paints_parts paint shape x y h =
     (b.0, b.1, a.1)
 
 module _ (paint : PaintValue) (shape : ℕ → ℕ → Bool) where
-  -- the rows up to one are those above it and itself
+  -- the rows up to one are those above it and that row itself
   pub above_and_row : (y column row : ℕ) → (paints_above paint shape y column row || paints_row paint shape y column row) ≡ paints_above paint shape (suc y) column row
   above_and_row y column row = same_test _ _
       (λ h. elim (or_cases (paints_above paint shape y column row) (paints_row paint shape y column row) h) [
@@ -84,7 +84,7 @@ module _ (paint : PaintValue) (shape : ℕ → ℕ → Bool) where
       before_or_at : (n m : ℕ) → n < suc m → (n < m) ⊎ (n ≡ m)
       before_or_at n m h = grind (arith)
 
-  -- and they share no pixel
+  -- they share no pixel
   pub above_not_row : (y column row : ℕ) → (paints_above paint shape y column row && paints_row paint shape y column row) ≡ false
   above_not_row y column row = same_test _ _
       (λ h.
@@ -94,7 +94,7 @@ module _ (paint : PaintValue) (shape : ℕ → ℕ → Bool) where
       (λ e. cc)
 
   module _ (ink : RowInk) (columns : ℕ → Bool) (y column : ℕ) (test : is_inked ink column ≡ paint.has column y) (same : columns column ≡ (in_kept paint.clip.kept column y && shape column y)) where
-    -- what the ink writes of the row is what the paint writes there
+    -- what the row operation writes of the row is what the paint writes there
     ink_paints : (row : ℕ) → is_painted ink paint.clip.cuts y columns column row ≡ true → paints_row paint shape y column row ≡ true
     ink_paints row h =
         let clip = paint.clip in
@@ -127,7 +127,7 @@ module _ (paint : PaintValue) (shape : ℕ → ℕ → Bool) where
     pub painted : Repaints (paints_above paint shape y) paint.makes start now
 
   module _ (laws : WritingLaws) (start : CanvasState) (whole : IsWhole start) where
-    -- no row is, where there is nothing above the first
+    -- no row is painted, if there is nothing above the first
     pub before_first : (first : ℕ) → ((x y : ℕ) → HasPixel start x y → paints paint shape x y ≡ true → first ≤ y) → HasRowsPainted first start start
     before_first first within = record {
       whole = whole;
@@ -139,7 +139,7 @@ module _ (paint : PaintValue) (shape : ℕ → ℕ → Bool) where
           absurd (omega (arith, less, from))));
     }
 
-    -- one row more is
+    -- one more row
     pub one_row_more : (now new : CanvasState) (y : ℕ) (ink : RowInk) (columns : ℕ → Bool) → ((x : ℕ) → is_inked ink x ≡ paint.has x y) → ((x : ℕ) (old : Colour) → columns x ≡ true → is_uncut paint.clip.cuts x y ≡ true → is_inked ink x ≡ true → inked ink x old ≡ paint.makes x y old) → ((x : ℕ) → x < start.width → columns x ≡ (in_kept paint.clip.kept x y && shape x y)) → HasRowsPainted y start now → Repaints (is_painted ink paint.clip.cuts y columns) (λ column row old. inked ink column old) now new → HasRowsPainted (y + 1) start new
     one_row_more now new y ink columns test colour same so_far row =
         let clip = paint.clip in
@@ -158,34 +158,34 @@ module _ (paint : PaintValue) (shape : ℕ → ℕ → Bool) where
           painted = subst (λ (n : ℕ). Repaints (paints_above paint shape n) paint.makes start new) next (laws.same (λ x r. paints_above paint shape y x r || paints_row paint shape y x r) (paints_above paint shape (suc y)) paint.makes paint.makes start new whole (λ x r held. above_and_row y x r) (λ x r old held t. refl) both);
         }
 
-    -- all are, where there is nothing from the last one on
+    -- all rows are painted, if there is nothing from the last one on
     pub behind_last : (now : CanvasState) (end : ℕ) → ((x y : ℕ) → HasPixel start x y → paints paint shape x y ≡ true → y < end) → HasRowsPainted end start now → Repaints (paints paint shape) paint.makes start now
     behind_last now end within so_far =
         laws.same (paints_above paint shape end) (paints paint shape) paint.makes paint.makes start now whole
         (λ x y held. same_test _ _ (λ h. (and_parts (paints paint shape x y) (nat_lt y end) h).0) (λ h. and_from (paints paint shape x y) (nat_lt y end) h (lt-ltb y end (within x y held h))))
         (λ x y old held t. refl) so_far.painted
 
-    -- nothing is painted, where there is nothing
+    -- nothing is painted, if there is nothing
     pub nothing_painted : ((x y : ℕ) → HasPixel start x y → paints paint shape x y ≡ true → ⊥) → Repaints (paints paint shape) paint.makes start start
     nothing_painted none = laws.none (paints paint shape) paint.makes start whole (λ x y held. false_from_ne_true (paints paint shape x y) (none x y held))
 
--- a pixel of a row that is held is held
+-- the canvas has each pixel of its rows
 pub pixel_held : (canvas : CanvasState) (x y : ℕ) → x < canvas.width → HasRow canvas y → HasPixel canvas x y
 pixel_held canvas x y column row = record { column = column; from_first = row.from_first; to_last = row.to_last }
 
--- a region that has what is seen of a shape
+-- a region that contains everything visible of a shape
 module _ (paint : PaintValue) (shape : ℕ → ℕ → Bool) (canvas : CanvasState) (region : Region) (visible : HasVisible paint.clip shape canvas region) where
-  -- has each pixel that is painted
+  -- it contains each pixel that is painted
   pub seen : (x y : ℕ) → HasPixel canvas x y → paints paint shape x y ≡ true → in_region region x y ≡ true
   seen x y held h =
       let a = paints_parts paint shape x y h in
       let b = and_parts (in_kept paint.clip.kept x y) (is_uncut paint.clip.cuts x y) a.0 in visible.all x y held b.0 a.1
 
-  -- in one of its rows
+  -- each pixel is in one of its rows
   pub seen_in_rows : (x y : ℕ) → HasPixel canvas x y → paints paint shape x y ≡ true → (region.rows.from ≤ y) × (y < region.rows.to)
   seen_in_rows x y held h =
       column_true region.rows.from region.rows.to y (and_parts (in_span region.columns x) (in_span region.rows y) (seen x y held h)).1
 
--- what is written of a surface counts at most as many as it has
+-- the writes of a surface are at most as many as its pixels
 pub few_written : WritingLaws → (test : ℕ → ℕ → Bool) (f : ℕ → ℕ → Colour → Colour) (start now : CanvasState) → Repaints test f start now → start.rows * start.width ≤ 2 ^ 26 → now.writes ≤ start.writes + 2 ^ 26
 few_written laws test f start now r pixels = let bound = laws.bounded test f start now r in omega (arith, bound, pixels)

@@ -10,7 +10,7 @@ use Rattle.span_fill.specs.declared.span.Span.{Span}
 use Rattle.painting.specs.Strips.{is_uncut, placed_boxes}
 use Rattle.painting.proofs.TestLemmas.{column_true}
 
--- what spans have lies from the first one's start up to before the last one's end
+-- the columns of spans lie between the start of the first one and the end of the last one
 pub record IsHull (first last : Span) (high : ℕ) (spans : List Span) : Type 0 where
   pub all : (x : ℕ) → in_spans spans x ≡ true → (first.from ≤ x) × (x < last.to)
   pub order : first.from < last.to
@@ -53,7 +53,7 @@ hull_of (span ∷ spans) first last apart e f =
     let at : slice_get (span ∷ spans) (length spans) ≡ Some last = sym (rw last_place at f) in
     rw same (is_hull 0 8192 span last spans apart at)
 
--- what no box cuts out isn't in one of them
+-- a column that no box cuts out is in none of them
 pub not_cut : (cuts : List ClipBox) (x y place : ℕ) (none : ClipBox) → place < length cuts → is_uncut (placed_boxes cuts) x y ≡ true → in_box (get_or cuts place none).placed x y ≡ true → ⊥
 not_cut [] x y place none h uncut i = absurd (omega (arith, h))
 not_cut (cut ∷ cuts) x y zero none h uncut i = let there : is_uncut (placed_boxes (cut ∷ cuts)) x y ≡ false = rw i refl in absurd (cc)

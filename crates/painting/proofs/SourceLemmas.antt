@@ -1,4 +1,4 @@
--- What a blit reads, between where its corners land and in the part of its box that is seen.
+-- The source colours of a blit, between the positions of its corners and in the visible part of its box.
 use Rattle.std.proofs.Common.{◌≡◌, ℕ, ◌+◌, ◌-◌, ◌<◌, ◌≤◌, ℤ, pos, ◌+ℤ◌, ◌≤ℤ◌, ◌<ℤ◌, true, List, slice_index_or, Option, Some, None, is_some, arith, refl, sym, ap, ◌∙◌}
 use Rattle.std.proofs.lemmas.Bool.{and_from, and_parts}
 use Rattle.std.proofs.lemmas.Int.{ints}
@@ -25,7 +25,7 @@ use Rattle.painting.specs.declared.row_painter.Inks.{Inks}
 use Rattle.painting.specs.declared.row_painter.Inks.TheVariants.{EachRow, Same}
 use Rattle.painting.proofs.TestLemmas.{column_from}
 
--- the greater of two ends is as far behind the lesser as they are apart
+-- the maximum of two ends is as far after the minimum as they are apart
 ends_apart : (v w : ℤ) → int_max v w ≡ int_min v w +ℤ pos (distance v w)
 ends_apart v w = grind (arith, ints)
 
@@ -46,14 +46,14 @@ box_read (Some r) p q left width top height = record {
   bottom = greatest_end p.y q.y r.rows.near r.rows.side top height;
 }
 
--- and shows what is read, if there is one
+-- it has the colours of the source, if there is one
 pub read_seen :
     (reader : Option SourceReader) (source : Option SourceValue) (p q : Point) → IfSome reader (λ r. ReadsSource r source p q) → is_some reader ≡ true
     → (table x y : ℕ) (paint old : Colour) → ternary_colour table paint (colour_seen reader x y) old ≡ ternary_colour table paint (source_colour source p q x y) old
 read_seen None source p q reads some table x y paint old = cc
 read_seen (Some r) source p q reads some table x y paint old = ap (λ (c : Colour). ternary_colour table paint c old) (sym (reads x y))
 
--- columns and a row that are seen of a box lie in it
+-- the visible columns and rows of a box lie in it
 module _ (box : Rect) (drawn : Region) (boxed : (x y : ℕ) → in_region drawn x y ≡ true → in_box box x y ≡ true) where
   lies : (x y : ℕ) → drawn.columns.from ≤ x → x < drawn.columns.to → drawn.rows.from ≤ y → y < drawn.rows.to → (is_from_to box.l box.r x ≡ true) × (is_from_to box.t box.b y ≡ true)
   lies x y from to low high =
@@ -84,15 +84,14 @@ columns_read (Some r) box drawn boxed reads some y low high =
       bottom = rw (← reads.bottom) row.1;
     }
 
--- a row of what is read that is held shows at each of its columns what is seen there
+-- a gathered row of the source has at each of its columns the source colour there
 pub held_seen :
     (source : Option SourceReader) (columns : Span) (y : ℕ) (sources : List Colour) → IfSome source (λ r. HoldsRow r columns (row_read r y) sources) → is_some source ≡ true
     → (x : ℕ) → columns.from ≤ x → x < columns.to → slice_index_or sources x black_colour ≡ colour_seen source x y
 held_seen None columns y sources held some x low high = cc
 held_seen (Some r) columns y sources held some x low high = held.read x black_colour low high
 
--- inks with which nothing is read need nothing gathered
--- what some columns read, a part of them reads
+-- row operations without a source need nothing gathered; what some columns need, a part of them needs
 pub narrowed : (source : Option SourceReader) (columns part : Span) (y : ℕ) → columns.from ≤ part.from → part.to ≤ columns.to → IfSome source (λ r. ReadsRow r columns y) → IfSome source (λ r. ReadsRow r part y)
 narrowed None columns part y first last h = tt
 narrowed (Some r) columns part y first last h =

@@ -1,4 +1,4 @@
--- Marks of pixels, by the bits of words.
+-- Visited masks, by the bits of words.
 use Rattle.std.proofs.Common.{◌≡◌, ℕ, ◌-◌, ◌*◌, ◌/◌, ◌%◌, ◌^◌, ◌<◌, ◌≤◌, Bool, true, false, ◌||◌, ◌==◌, ◌≢◌, inl, inr, nat_le, nat_lt, IsTrue, List, length, bit_or, slice_index_or, slice_set, arith, refl, ap, sym, ◌∙◌}
 use Rattle.std.specs.Int.{w64, bit_at}
 use Rattle.std.proofs.lemmas.Bool.{and_from, and_parts, eq-eqb, eqb-true, false≢true, leb-true, ltb-true, ne_eqb}
@@ -31,7 +31,7 @@ set_other word bit other h ne = bit_at_set_other w64 word bit h other ne
 abbrev pub with_bit : List ℕ → ℕ → List ℕ
 with_bit words n = slice_set words (n / 64) (with_bit_set (slice_index_or words (n / 64) 0) (n % 64))
 
--- numbers that agree in word and bit are the same
+-- numbers with the same word and the same bit are equal
 same_number : (a b : ℕ) → a / 64 ≡ b / 64 → a % 64 ≡ b % 64 → a ≡ b
 same_number a b h k = sym (div-add-mod' a 64) ∙ rw (h, k) (div-add-mod' b 64)
 
@@ -76,7 +76,7 @@ module _ (words : List ℕ) (n : ℕ) (long : length words ≡ 16384) (within : 
     | inr apart ↦ other_word m apart.1
   ]
 
--- what a region has
+-- the pixels of a region
 pub record IsInside (region : Region) (x y : ℕ) : Type 0 where
   pub left : region.columns.from ≤ x
   pub right : x < region.columns.to
@@ -107,7 +107,7 @@ module _ (region : Region) (x y : ℕ) (i : IsInside region x y) where
   row_of : pixel_number region x y / span_width region.columns ≡ y - region.rows.from
   row_of = div-mul-add (y - region.rows.from) (span_width region.columns) (x - region.columns.from) column_within
 
--- differ from pixel to pixel
+-- they differ from pixel to pixel
 module _ (region : Region) (x y a b : ℕ) (i : IsInside region x y) (j : IsInside region a b) (same : pixel_number region a b ≡ pixel_number region x y) where
   same_column : a ≡ x
   same_column =
@@ -119,7 +119,7 @@ module _ (region : Region) (x y a b : ℕ) (i : IsInside region x y) (j : IsInsi
       let e : (b - region.rows.from) ≡ (y - region.rows.from) = sym (row_of region a b j) ∙ ap (λ n. n / span_width region.columns) same ∙ row_of region x y i in
       let p = i.top in let q = j.top in omega (arith, e, p, q)
 
--- a pixel's mark is set, and no other changes
+-- a pixel is marked as visited, and no other changes
 module _ (region : Region) (words new : List ℕ) (x y : ℕ) (inside : IsTrue (in_region region x y)) (bits : (m : ℕ) → has_bit new m ≡ (has_bit words m || m == pixel_number region x y)) where
   abbrev before : StampState
   before = record { region = region; words = words }
@@ -156,7 +156,7 @@ module _ (region : Region) (words new : List ℕ) (x y : ℕ) (inside : IsTrue (
   pub is_taken_by : (a b : ℕ) → is_taken after a b ≡ (is_taken before a b || is_at x y a b)
   is_taken_by a b = taken_by a b (in_region region a b) refl
 
--- where no bit is set, no pixel is taken
+-- if no bit is set, no pixel is marked as visited
 module _ (region : Region) (words : List ℕ) (clear : (n : ℕ) → n < pixel_count region → has_bit words n ≡ false) where
   abbrev all_clear : StampState
   all_clear = record { region = region; words = words }

@@ -1,4 +1,4 @@
--- Lines are stroked by marks of their pixels, which are written where they are taken.
+-- Lines are stroked through a visited mask: a pixel is written when it is marked.
 use Rattle.std.proofs.Common.{◌≡◌, ℕ, ◌+◌, ◌*◌, ◌^◌, ◌<◌, ◌≤◌, ℤ, pos, Bool, true, false, not, ◌&&◌, ◌||◌, if◌then◌else◌, List, [], ◌∷◌, arith, refl, ap, sym, ◌∙◌}
 use Rattle.std.proofs.lemmas.Int.{ints}
 use Rattle.canvas.specs.CanvasState.{CanvasState}
@@ -47,7 +47,7 @@ same_taken : (taken visible : Bool) → visible ≡ false → taken ≡ (taken |
 same_taken true visible e = refl
 same_taken false visible e = sym e
 
--- where nothing of a line is visible, nothing is taken of it, and nothing written
+-- if nothing of a line is visible, nothing of it is marked or written
 pub nothing_stamped : WritingLaws → (line : Line) (mix : Mix) (stamps : StampState) (canvas : CanvasState) → IsWhole canvas → ((x y : ℕ) → is_visible stamps.region line x y ≡ false) → StampsLine line mix stamps stamps canvas canvas
 nothing_stamped laws line mix stamps canvas whole none = record {
   region = refl;
@@ -62,7 +62,7 @@ point_stamped laws law line mix stamps canvas whole e d =
     nothing_stamped laws line mix stamps canvas whole (λ x y.
     nowhere_visible (on_line line (pos x) (pos y)) (in_region stamps.region x y) (no_pixel law line e d (pos x) (pos y)))
 
--- the pixels of the lines before those that are left are taken, and those are written
+-- the pixels of the lines before the remaining ones are marked and written
 pub record HasStamped (mix : Mix) (all left : List Line) (region : Region) (stamps : StampState) (before after : CanvasState) : Type 0 where
   pub region_is : stamps.region ≡ region
   pub whole : IsWhole after
@@ -95,7 +95,7 @@ together false true u e = sym e
 together false false u e = sym e
 
 module _ (laws : WritingLaws) (mix : Mix) (all : List Line) (region : Region) (before : CanvasState) (whole : IsWhole before) where
-  -- none is taken yet
+  -- none is marked yet
   pub none_stamped : (stamps : StampState) → stamps.region ≡ region → ((x y : ℕ) → is_taken stamps x y ≡ false) → HasStamped mix all all region stamps before before
   none_stamped stamps same none = record {
     region_is = same;
@@ -105,7 +105,7 @@ module _ (laws : WritingLaws) (mix : Mix) (all : List Line) (region : Region) (b
   }
 
   module _ (left : List Line) (stamps : StampState) (after : CanvasState) (so_far : HasStamped mix all left region stamps before after) where
-    -- the canvas still holds the box, and has room for a line
+    -- the canvas still contains the box, and its count can take a line
     pub still_held : HasRegion before region → HasRegion after stamps.region
     still_held held =
         let w = so_far.written in
@@ -121,7 +121,7 @@ module _ (laws : WritingLaws) (mix : Mix) (all : List Line) (region : Region) (b
         let size : after.rows * after.width ≡ before.rows * before.width = rw (so_far.written.rows, so_far.written.width) refl in
         omega (arith, bound, size, pixels, room)
 
-    -- one line more is taken
+    -- one more line
     pub one_stamped : (rest : List Line) (line : Line) (new : StampState) (last : CanvasState) → left ≡ line ∷ rest → StampsLine line mix stamps new after last → HasStamped mix all rest region new before last
     one_stamped rest line new last is one =
         let visible = is_visible stamps.region line in
@@ -141,7 +141,7 @@ module _ (laws : WritingLaws) (mix : Mix) (all : List Line) (region : Region) (b
               (λ x y held. apart (is_taken stamps x y) (visible x y)) so_far.written one.written);
         }
 
-    -- all are, where no line is left
+    -- all are marked, if no line remains
     pub all_stamped : left ≡ [] → Repaints (λ x y. in_region region x y && in_stroke all x y) (λ x y old. mixed_by mix old) before after
     all_stamped none =
         laws.same (is_taken stamps) (λ x y. in_region region x y && in_stroke all x y) (λ x y old. mixed_by mix old) (λ x y old. mixed_by mix old) before after whole

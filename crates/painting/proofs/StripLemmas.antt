@@ -24,7 +24,7 @@ use Rattle.painting.specs.declared.row_ink.RowInk.TheVariants.{Full, Nothing}
 use Rattle.painting.specs.Strips.{MayPaint, is_painted, is_uncut}
 use Rattle.painting.proofs.TestLemmas.{is_column, column_true}
 
--- a test, and those of it that another has or hasn't
+-- a test, and the parts of it that another test accepts or rejects
 halves_apart : (s c : Bool) → ((s && c) && (s && not c)) ≡ false
 halves_apart true true = refl
 halves_apart true false = refl
@@ -35,18 +35,18 @@ halves_whole true true = refl
 halves_whole true false = refl
 halves_whole false c = refl
 
--- a bit of a number's complement is 1 where the number's is 0
+-- a bit of a number's complement is 1 where the number's bit is 0
 turned_bit : (b : ℕ) → b < 2 → eqb (1 - b) 1 ≡ not (eqb b 1)
 turned_bit zero h = refl
 turned_bit (suc zero) h = refl
 turned_bit (suc (suc b)) h = absurd (omega arith)
 
--- the cells of a byte's complement are those that the byte's aren't
+-- the cells of a byte's complement are those that aren't cells of the byte
 pub other_cells : (cells x : ℕ) → cells < 2 ^ 8 → is_cell (bit_not w8 cells) x ≡ not (is_cell cells x)
 other_cells cells x fits =
     ap (λ (b : ℕ). eqb b 1) (bit_at_not w8 cells (x % 8) fits (omega arith)) ∙ turned_bit (bit_at cells (x % 8)) (bit_at-lt cells (x % 8))
 
--- what becomes of a pixel by its column: the cells are mixed by one mix, and the others by another
+-- the result for a pixel by its column: cells are mixed by one mix, gaps by another
 abbrev pub by_cells : ℕ → Mix → Mix → ℕ → ℕ → Colour → Colour
 by_cells cells mix gaps column row old = cond (is_cell cells column) (mixed_by mix old) (mixed_by gaps old)
 
@@ -67,11 +67,11 @@ both_mixed laws cells y from to mix gaps old between new fits whole r s =
     let joined = laws.both _ _ f old between new whole (λ x row at. halves_apart (in_row_span y from to x row) (is_cell cells x)) first second in
     laws.same _ _ f f old new whole (λ x row at. halves_whole (in_row_span y from to x row) (is_cell cells x)) (λ x row c at t. refl) joined
 
--- what an ink makes of a pixel
+-- the result of a row operation for a pixel
 abbrev pub by_ink : RowInk → ℕ → ℕ → Colour → Colour
 by_ink ink column row old = inked ink column old
 
--- no ink writes no pixel
+-- no row operation writes no pixel
 pub nothing_painted : WritingLaws → (ink : RowInk) (cuts : List Rect) (y : ℕ) (columns : ℕ → Bool) (canvas : CanvasState) → IsWhole canvas → ink ≡ Nothing → Repaints (is_painted ink cuts y columns) (by_ink ink) canvas canvas
 nothing_painted laws ink cuts y columns canvas whole e =
     laws.none _ _ canvas whole (λ x row at. and_right _ (is_inked ink x) (ap (λ (k : RowInk). is_inked k x) e))
@@ -179,7 +179,7 @@ spans_painted laws ink cuts y last span spans old between new whole apart r s =
     λ x. false_from_ne_true _ (λ t. let both = and_parts (is_column span.from span.to x) (in_spans spans x) t in let here = column_true span.from span.to x both.0 in let high = here.1 in true≢false (sym both.1 ∙ spans_begin (suc span.to) last x spans apart (omega (arith, high)))) in
     both_painted laws ink cuts y (is_column span.from span.to) (in_spans spans) old between new whole shared r s
 
--- What of a row's spans is painted: columns before `behind` only, and who paints the spans that are left has painted all.
+-- What is painted of a row's spans: only columns before `behind`. Painting the remaining spans completes the row.
 pub record HasPainted (ink : RowInk) (cuts : List Rect) (y : ℕ) (all left : List Span) (start now : CanvasState) : Type 0 where
   pub behind : ℕ
   pub apart : AreApart behind start.width left
@@ -192,14 +192,14 @@ pub record HasPainted (ink : RowInk) (cuts : List Rect) (y : ℕ) (all left : Li
       (new : CanvasState) → Repaints (is_painted ink cuts y (in_spans left)) (by_ink ink) now new
       → Repaints (is_painted ink cuts y (in_spans all)) (by_ink ink) start new
 
--- some columns up to before one of them may be painted
+-- some columns up to one of them may be painted
 pub may_paint_before : (canvas : CanvasState) (y a : ℕ) (columns : Span) → MayPaint canvas y columns → columns.from ≤ a → a ≤ columns.to → MayPaint canvas y (record { from = columns.from; to = a })
 may_paint_before canvas y a columns may low high =
     let width = may.width in
     let countable = may.countable in
     record { whole = may.whole; order = low; width = omega (arith, high, width); row = may.row; countable = omega (arith, low, high, countable) }
 
--- and then those from another on
+-- the columns from another one on may be painted
 pub may_paint_behind :
     WritingLaws → (test : ℕ → ℕ → Bool) (f : ℕ → ℕ → Colour → Colour) (old new : CanvasState) (y a b : ℕ) (columns : Span) → MayPaint old y columns → columns.from ≤ a → a ≤ b
     → b ≤ columns.to → Repaints test f old new → new.writes ≤ old.writes + (a - columns.from) → MayPaint new y (record { from = b; to = columns.to })
@@ -231,7 +231,7 @@ may_paint_next ink cuts y all spans span start now h room =
     let width = h.width in
     record { whole = h.whole; order = omega (arith, order); width = omega (arith, high, width); row = h.row; countable = omega (arith, low, order, high, counted, room) }
 
--- spans that are apart from a column on are so from one before it
+-- spans that are separate from a column on are separate from an earlier one on
 apart_from : (first last lower : ℕ) (spans : List Span) → lower ≤ first → AreApart first last spans → AreApart lower last spans
 apart_from first last lower [] h apart = apart
 apart_from first last lower (span ∷ spans) h apart = let low = apart.0 in (omega (arith, low), apart.1, apart.2, apart.3)
@@ -264,19 +264,19 @@ one_painted_more laws ink cuts y all spans span start now new h r counted =
       goes_on = λ made rest. h.goes_on made (spans_painted laws ink cuts y start.width span spans now new made h.whole h.apart.3 r rest);
     }
 
--- no span is left
+-- no span remains
 pub all_painted :
     WritingLaws → (ink : RowInk) (cuts : List Rect) (y : ℕ) (all : List Span) (start now : CanvasState)
     → HasPainted ink cuts y all [] start now → Repaints (is_painted ink cuts y (in_spans all)) (by_ink ink) start now
 all_painted laws ink cuts y all start now h = h.goes_on now (no_columns laws ink cuts y (in_spans []) now h.whole (λ x. refl))
 
--- the spans from a place on are that of the place, and those behind it
+-- the spans from an index on are the one at the index and those after it
 pub next_span : (spans : List Span) (place : ℕ) → place < length spans → drop place spans ≡ get_or spans place record { from = 0; to = 0 } ∷ drop (place + 1) spans
 next_span spans place there =
     let next : suc place ≡ place + 1 = omega arith in
     drop-cons spans place record { from = 0; to = 0 } there ∙ ap (λ n. get_or spans place record { from = 0; to = 0 } ∷ drop n spans) next
 
--- a span of one colour, where nothing is cut out
+-- a span of one colour, if nothing is cut out
 pub full_span :
     WritingLaws → (swatch : Swatch) (y from to : ℕ) (now new : CanvasState) → IsWhole now
     → Repaints (in_row_span y from to) (λ column row old. swatch.colour) now new

@@ -1,4 +1,4 @@
--- Marks that are taken one after another, and the pixels that are to come.
+-- Pixels that are marked one after another, and the remaining pixels.
 use Rattle.std.proofs.Common.{◌≡◌, ℕ, Bool, true, false, not, ◌&&◌, ◌||◌, refl, sym, ◌∙◌}
 use Rattle.std.proofs.lemmas.Bool.{and_parts}
 use Rattle.canvas.specs.PixelSources.{GivesOne}
@@ -6,13 +6,13 @@ use Rattle.canvas.specs.Writing.{is_at}
 use Rattle.canvas.specs.declared.pixel_source.PixelAt.{PixelAt}
 use Rattle.painting.proofs.LinePixelLemmas.{is_at_true}
 
--- what isn't taken beside one more is what wasn't
+-- what isn't marked, besides one more, is what wasn't marked
 beside : (t a : Bool) → (not (t || a) && not a) ≡ (not t && not a)
 beside true a = refl
 beside false true = refl
 beside false false = refl
 
--- one that was to come is so still, or is taken
+-- a pixel that remained still does, or it is marked
 kept_all : (t s a : Bool) → (a ≡ true → s ≡ true) → ((t || a) || (s && not a)) ≡ (t || s)
 kept_all true s a h = refl
 kept_all false true true h = refl
@@ -28,16 +28,16 @@ module _ (old now taken later : ℕ → ℕ → Bool) (before after : ℕ) (pixe
   pub taken_beside : (x y : ℕ) → (not (later x y) && not (is_at pixel.x pixel.y x y)) ≡ (not (taken x y) && not (is_at pixel.x pixel.y x y))
   taken_beside x y = rw (takes x y) (beside (taken x y) (is_at pixel.x pixel.y x y))
 
-  -- what is taken or to come stays so
+  -- a pixel that is marked or remains stays so
   pub still_all : (x y : ℕ) → (later x y || now x y) ≡ (taken x y || old x y)
   still_all x y = rw (takes x y, given.others x y)
       (kept_all (taken x y) (old x y) (is_at pixel.x pixel.y x y)
       (λ here. let at = is_at_true pixel.x pixel.y x y here in rw (at.0, at.1) given.given))
 
-  -- and what holds of each pixel that was to come holds of each that is
+  -- what holds for each pixel that remained holds for each that remains now
   pub still_boxed : (test : ℕ → ℕ → Bool) → ((x y : ℕ) → old x y ≡ true → test x y ≡ true) → (x y : ℕ) → now x y ≡ true → test x y ≡ true
   still_boxed test all x y h = all x y (and_parts (old x y) (not (is_at pixel.x pixel.y x y)) (sym (given.others x y) ∙ h)).0
 
--- all are taken, where none is to come
+-- all are marked, if none remains
 pub none_more : (now taken start : ℕ → ℕ → Bool) → ((x y : ℕ) → now x y ≡ false) → ((x y : ℕ) → (taken x y || now x y) ≡ start x y) → (x y : ℕ) → taken x y ≡ start x y
 none_more now taken start none all x y = or_none (taken x y) (now x y) (none x y) ∙ all x y

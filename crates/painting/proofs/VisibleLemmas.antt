@@ -1,4 +1,4 @@
--- What is seen of a shape on a canvas, and what a paint makes of it.
+-- What is visible of a shape on a canvas, and what a paint does to it.
 use Rattle.std.proofs.Common.{◌≡◌, ℕ, suc, Bool, true, not, ◌&&◌, List, [], ◌∷◌, length, map, arith, refl, ap, sym, ◌∙◌, ◌==◌}
 use Rattle.std.proofs.lemmas.Bool.{and_from, and_parts}
 use Rattle.std.specs.List.{list_any}
@@ -18,7 +18,7 @@ use Rattle.painting.specs.Painted.{PaintValue, PaintsShape, SamePaint, mixing_pa
 use Rattle.painting.specs.Regions.{HasRegion, HasVisible}
 use Rattle.painting.proofs.StampLemmas.{inside_of}
 
--- a canvas that has a region has its pixels
+-- a canvas that contains a region has its pixels
 pub region_pixel : (canvas : CanvasState) (region : Region) → HasRegion canvas region → (x y : ℕ) → in_region region x y ≡ true → HasPixel canvas x y
 region_pixel canvas region held x y h =
     let inside = inside_of region x y h in
@@ -34,7 +34,7 @@ region_pixel canvas region held x y h =
       to_last = omega (arith, high, bottom);
     }
 
--- what is seen of a shape is seen of each shape within it
+-- what is visible of a shape is visible of each larger shape
 pub seen_within : (clip : ClipValue) (shape part : ℕ → ℕ → Bool) (canvas : CanvasState) (region : Region) → ((x y : ℕ) → part x y ≡ true → shape x y ≡ true) → HasVisible clip shape canvas region → HasVisible clip part canvas region
 seen_within clip shape part canvas region within visible = record {
   held = visible.held;
@@ -42,7 +42,7 @@ seen_within clip shape part canvas region within visible = record {
   all = λ x y held kept there. visible.all x y held kept (within x y there);
 }
 
--- a region that has what a clip keeps has what is seen of every shape
+-- a region that contains what a clip keeps contains everything visible of every shape
 pub all_seen : (clip : ClipValue) (shape : ℕ → ℕ → Bool) (canvas : CanvasState) (region : Region) → HasRegion canvas region → ((x y : ℕ) → HasPixel canvas x y → in_region region x y ≡ in_kept clip.kept x y) → HasVisible clip shape canvas region
 all_seen clip shape canvas region held kept = record {
   held = held;
@@ -50,7 +50,7 @@ all_seen clip shape canvas region held kept = record {
   all = λ x y pixel h there. kept x y pixel ∙ h;
 }
 
--- nothing is cut out, where the list of the boxes that are is empty
+-- nothing is cut out, if the list of boxes to cut out is empty
 pub no_cuts : (clip : Clip) (boxes : List ClipBox) → boxes ≡ cuts_of clip → (length boxes == 0) ≡ true → (placed_value clip).cuts ≡ []
 no_cuts clip [] same empty = ap (λ (b : List ClipBox). map (λ (box : ClipBox). box.placed) b) (sym same)
 no_cuts clip (box ∷ boxes) same empty = absurd (none (length boxes) empty)
@@ -62,7 +62,7 @@ uncut : (x y : ℕ) (cuts : List Rect) → cuts ≡ [] → not (list_any (λ box
 uncut x y cuts none = rw none refl
 
 module _ (clip : ClipValue) (mix : Mix) (shape : ℕ → ℕ → Bool) (canvas : CanvasState) (region : Region) (visible : HasVisible clip shape canvas region) where
-  -- where nothing is cut out, a mix writes what the region has of a shape
+  -- if nothing is cut out, a mix writes the pixels of the shape in the region
   pub seen_uncut : clip.cuts ≡ [] → (x y : ℕ) → HasPixel canvas x y → (in_region region x y && shape x y) ≡ paints (mixing_paint clip mix) shape x y
   seen_uncut none x y held =
       same_test _ _
@@ -75,7 +75,7 @@ module _ (clip : ClipValue) (mix : Mix) (shape : ℕ → ℕ → Bool) (canvas :
       let kept = and_parts (in_kept clip.kept x y) (not (list_any (λ box. in_box box x y) clip.cuts)) parts.0 in
       and_from (in_region region x y) (shape x y) (visible.all x y held kept.0 parts.1) parts.1)
 
-  -- else of that what the clip has
+  -- otherwise it writes those of them that the clip contains
   pub seen_clipped : (x y : ℕ) → HasPixel canvas x y → ((in_region region x y && shape x y) && in_boxes clip x y) ≡ paints (mixing_paint clip mix) shape x y
   seen_clipped x y held =
       same_test _ _
@@ -88,7 +88,7 @@ module _ (clip : ClipValue) (mix : Mix) (shape : ℕ → ℕ → Bool) (canvas :
       let kept = and_parts (in_kept clip.kept x y) (not (list_any (λ box. in_box box x y) clip.cuts)) parts.0 in
       and_from (in_region region x y && shape x y) (in_boxes clip x y) (and_from (in_region region x y) (shape x y) (visible.all x y held kept.0 parts.1) parts.1) parts.0)
 
--- a shape that one paint has painted was painted by each that does the same
+-- a shape that was painted by one paint was painted by each paint that does the same
 pub painted_same : WritingLaws → (one other : PaintValue) (shape : ℕ → ℕ → Bool) (old new : CanvasState) → IsWhole old → SamePaint one other → PaintsShape one shape old new → PaintsShape other shape old new
 painted_same laws one other shape old new whole same r =
     laws.same (paints one shape) (paints other shape) one.makes other.makes old new whole
@@ -96,7 +96,7 @@ painted_same laws one other shape old new whole same r =
     (λ x y c held t. same.makes x y c)
     r
 
--- and so was each shape that has the same pixels
+-- the same for each shape with the same pixels
 pub painted_shape : WritingLaws → (paint : PaintValue) (shape other : ℕ → ℕ → Bool) (old new : CanvasState) → IsWhole old → ((x y : ℕ) → shape x y ≡ other x y) → PaintsShape paint shape old new → PaintsShape paint other old new
 painted_shape laws paint shape other old new whole same r =
     laws.same (paints paint shape) (paints paint other) paint.makes paint.makes old new whole

@@ -1,4 +1,4 @@
--- What is to come of a wide line is what a region has of it, and what is mixed of a region is what is stroked.
+-- The remaining rows of a wide line are what a region has of it, and what is mixed of a region is what is stroked.
 use Rattle.std.proofs.Common.{◌≡◌, ℕ, pos, ◌≤ℤ◌, ◌<ℤ◌, Bool, true, false, ◌&&◌, ◌||◌, int_le, int_lt, [], ◌∷◌, List, arith, refl, ap, sym, ◌∙◌}
 use Rattle.std.proofs.lemmas.Bool.{and_from, and_parts}
 use Rattle.std.proofs.lemmas.Int.{ints}
@@ -28,7 +28,7 @@ module _ (wide : WideLineState) (region : Region) (all : HasAllRows (pos region.
   abbrev covered : Bool
   covered = on_wide_line wide.nib wide.line (pos x) (pos y)
 
-  -- what is to come lies in the region
+  -- what remains lies in the region
   pub wide_inside : is_wide_to_come wide region.columns x y ≡ true → in_region region x y ≡ true
   wide_inside h =
       let a = and_parts (in_span region.columns x && covered) (int_le wide.next (pos y) && int_lt (pos y) wide.end) h in
@@ -41,7 +41,7 @@ module _ (wide : WideLineState) (region : Region) (all : HasAllRows (pos region.
       and_from (in_span region.columns x) (in_span region.rows y) column
       (column_from region.rows.from region.rows.to y (omega (arith, ints, low, first)) (omega (arith, ints, high, last)))
 
-  -- and all that the region has of the line is to come
+  -- all that the region has of the line remains
   to_come : is_wide_to_come wide region.columns x y ≡ (in_region region x y && covered)
   to_come = same_test _ _
       (λ h.
@@ -61,7 +61,7 @@ module _ (wide : WideLineState) (region : Region) (all : HasAllRows (pos region.
   pub wide_to_come : is_wide_to_come wide region.columns x y ≡ (in_region region x y && in_wide_stroke wide.nib (wide.line ∷ []) x y)
   wide_to_come = to_come ∙ ap (λ (b : Bool). in_region region x y && b) (or_nothing covered)
 
--- where a clip cuts nothing out, the pixels that are mixed of a region with all that is seen are those of the stroke
+-- if a clip cuts nothing out, the pixels mixed in a region that contains everything visible are those of the stroke
 pub painted_wide : WritingLaws → (clip : ClipValue) (mix : Mix) (nib : Nib) (lines : List Line) (region : Region) (old new : CanvasState) → IsWhole old → HasVisible clip (in_wide_stroke nib lines) old region → clip.cuts ≡ [] → MixesWide region nib lines mix old new → PaintsShape (mixing_paint clip mix) (in_wide_stroke nib lines) old new
 painted_wide laws clip mix nib lines region old new whole visible none r =
     laws.same (λ x y. in_region region x y && in_wide_stroke nib lines x y) (paints (mixing_paint clip mix) (in_wide_stroke nib lines)) (λ x y c. mixed_by mix c) (mixing_paint clip mix).makes old new whole

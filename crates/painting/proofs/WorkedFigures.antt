@@ -1,4 +1,4 @@
--- Small paths worked by hand: the lines that their figures have.
+-- Small paths worked by hand: the lines of their figures.
 use Rattle.std.proofs.Common.{◌≡◌, ◌≢◌, ℤ, pos, Bool, true, false, List, [], ◌∷◌, refl}
 use Rattle.mapping.specs.Surface.{Surface}
 use Rattle.mapping.specs.declared.geometry.Point.{Point}
@@ -53,7 +53,7 @@ filled_figure = refl
 closed_figure : lines_of_figures Open (figure true (a ∷ b ∷ c ∷ []) ∷ []) ≡ line_from a b ∷ line_from b c ∷ line_from c a ∷ []
 closed_figure = refl
 
--- a figure of one point has a line where it is closed, from the point to itself
+-- a figure of one point has a line if it is closed, from the point to itself
 closed_point : lines_of_figures Open (figure true (a ∷ []) ∷ figure false (b ∷ []) ∷ []) ≡ line_from a a ∷ []
 closed_point = refl
 
@@ -63,7 +63,7 @@ figure_on_half = refl
 has_extent : pos 1 ≢ pos 0
 has_extent e = cc
 
--- a map that moves the origin of the page to a column, and scales nothing
+-- a map that moves the origin of the page to a column, without scaling
 abbrev axis : ℤ → PageAxis
 axis origin = record {
   window_origin = pos 0;
@@ -83,11 +83,11 @@ piece points column joining end = record { points = points; map = map_at column;
 abbrev lines_of : Ends → List Piece → List Line
 lines_of ends pieces = lines_of_figures ends (placed_figures whole (all_figures (figures_of pieces)))
 
--- a figure goes on through pieces, each of which has its own map
+-- a figure continues through pieces, each of which has its own map
 goes_on : lines_of Open (piece (OnePoint a) (pos 0) GoesOn LeftOpen ∷ piece (OnePoint a) (pos 3) GoesOn LeftOpen ∷ piece (OnePoint c) (pos 0) GoesOn Joined ∷ []) ≡ line_from a b ∷ line_from b c ∷ line_from c a ∷ []
 goes_on = refl
 
--- none goes on with a figure that has ended, which only a fill closes
+-- a figure that has ended isn't continued, and only a fill closes it
 abbrev two_figures : List Piece
 two_figures = piece (OnePoint a) (pos 0) GoesOn LeftOpen ∷ piece (OnePoint b) (pos 0) GoesOn Ended ∷ piece (OnePoint c) (pos 0) GoesOn LeftOpen ∷ piece (OnePoint a) (pos 0) GoesOn LeftOpen ∷ []
 
@@ -97,6 +97,6 @@ stroked_figures = refl
 filled_figures : lines_of Closed two_figures ≡ line_from a b ∷ line_from b a ∷ line_from c a ∷ line_from a c ∷ []
 filled_figures = refl
 
--- a box has its corners from the left top one round by the right, whichever two the page has
+-- a box has its corners clockwise from the top left, whichever two the page has
 box : lines_of Open (piece (OnePoint b) (pos 0) GoesOn LeftOpen ∷ piece (Corners (record { l = pos 3; t = pos 3; r = pos 0; b = pos 0 })) (pos 0) Polygons LeftOpen ∷ []) ≡ line_from a b ∷ line_from b c ∷ line_from c (at (pos 0) (pos 3)) ∷ line_from (at (pos 0) (pos 3)) a ∷ []
 box = refl

@@ -21,7 +21,7 @@ use Rattle.preflight_cert.specs.Writes.{writes_after}
 abbrev red : Colour
 red = record { r = 255; g = 0; b = 0 }
 
--- the colour that a sign stands for: `#` is black, `r` red, and `.` white; a `/` between rows is none
+-- the colour of a character: `#` is black, `r` red, and `.` white; a `/` between rows has none
 abbrev colours_of_sign : ℕ → List Colour
 colours_of_sign sign =
     if sign == 35 then black_colour ∷ [] else (if sign == 114 then red ∷ [] else (if sign == 46 then white_colour ∷ [] else []))
@@ -39,7 +39,7 @@ start = start_state (unscaled_map (record { x = pos 0; y = pos 0 })) by_lowest_f
 abbrev step_of : Operation → StepValue
 step_of operation = record { number = 0; operation = operation; notes = no_notes }
 
--- what operations behind the selection of a red brush leave of a white surface, and how many pixels they write
+-- what operations leave on a white surface after selecting a red brush, and how many pixels they write
 abbrev drawn : List Operation → List Colour × ℕ
 drawn operations =
     let steps = map step_of (create None (brush_object (solid_brush red)) ∷ select 0 ∷ operations) in
@@ -51,26 +51,26 @@ at x y = record { x = pos x; y = pos y }
 abbrev corner : List Operation
 corner = begin_path ∷ move_to (at 0 0) ∷ line_to (at 4 0) ∷ line_to (at 0 4) ∷ []
 
--- a closed triangle, filled and stroked, as a polygon is: 6 pixels and 10
+-- a closed triangle, filled and stroked as a polygon: 6 pixels and 10
 closed_triangle : drawn (corner ++ close_figure ∷ end_path ∷ stroke_and_fill_path ∷ []) ≡ (picture (codes "####/#r.#/#.#./##.."), 16)
 closed_triangle = refl
 
--- both close it where CLOSEFIGURE didn't
+-- both close it if CLOSEFIGURE didn't
 left_open : drawn (corner ++ end_path ∷ stroke_and_fill_path ∷ []) ≡ (picture (codes "####/#r.#/#.#./##.."), 16)
 left_open = refl
 
 filled : drawn (corner ++ end_path ∷ fill_path ∷ []) ≡ (picture (codes "rrr./rr../r.../...."), 6)
 filled = refl
 
--- and a stroke leaves it open: two lines of 4 pixels have 7 on the surface
+-- a stroke leaves it open: two lines of 4 pixels have 7 on the surface
 stroked_open : drawn (corner ++ end_path ∷ stroke_path ∷ []) ≡ (picture (codes "####/...#/..#./.#.."), 7)
 stroked_open = refl
 
--- a rectangle's stroke goes through its plane corners, which aren't raised
+-- a rectangle's stroke goes through its plane corners, without raising them
 with_rectangle : drawn (begin_path ∷ rectangle (record { l = pos 3; t = pos 2; r = pos 0; b = pos 0 }) Inclusive ∷ end_path ∷ stroke_path ∷ []) ≡ (picture (codes "####/#..#/####/...."), 10)
 with_rectangle = refl
 
--- a pixel is drawn at once, and the figures behind it
+-- a pixel is drawn at once, and the figures after it
 pixel_first : drawn (begin_path ∷ polyline ((at 0 1 ∷ at 4 1 ∷ []) ∷ []) ∷ pixel (at 2 1) red ∷ pixel (at 2 2) red ∷ end_path ∷ stroke_path ∷ []) ≡ (picture (codes "..../####/..r./...."), 6)
 pixel_first = refl
 

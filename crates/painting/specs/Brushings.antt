@@ -1,4 +1,4 @@
--- What a brush makes of pixels, as a paint.
+-- Fill styles as paints.
 use Rattle.std.specs.Prelude.{ℕ, Bool, List, Option, Some, None, is_some}
 use Rattle.mapping.specs.Colours.{black_colour}
 use Rattle.mapping.specs.declared.geometry.Colour.{Colour}
@@ -16,16 +16,17 @@ use Rattle.painting.specs.Joined.{joined_if}
 use Rattle.painting.specs.Painted.{PaintValue}
 use Rattle.painting.specs.declared.brushing.Brushing.{Brushing}
 
--- the brush's colour at a pixel, or nothing
+-- the brush's colour at a pixel, if any
 abbrev pub colour_of : Brushing → ℕ → ℕ → Option Colour
 colour_of paint x y = brush_paint (brush_value_of paint.brush) paint.modes.background_mode paint.modes.background_colour x y
 
--- the colour that is read at a pixel, and black where nothing is read
+-- the source colour at a pixel; black if there is no source
 abbrev pub colour_seen : Option SourceReader → ℕ → ℕ → Colour
 colour_seen None x y = black_colour
 colour_seen (Some reader) x y = picture_colour (picture_of reader.picture) (column_read reader x) (row_read reader y)
 
--- it isn't nothing where the brush has a colour, which it joins with what is read and the old one
+-- a fill style as a paint: it writes where the brush has a colour, and combines that with the source colour and the old
+-- colour
 abbrev pub brushing_paint : Brushing → PaintValue
 brushing_paint paint = record {
   clip = placed_value paint.clip.now;
@@ -33,6 +34,6 @@ brushing_paint paint = record {
   makes = λ x y old. joined_if paint.operation.op.table (colour_seen paint.source x y) (colour_of paint x y) old;
 }
 
--- the pixel is inside of the lines, by the fill mode of the brush's moment
+-- the pixel is inside the lines, by the fill mode of the style
 abbrev pub in_inside : Brushing → List Line → ℕ → ℕ → Bool
 in_inside paint lines = in_fill (fill_rule_of paint.modes.fill_mode) lines

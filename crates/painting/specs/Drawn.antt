@@ -1,4 +1,4 @@
--- What a drawing does to a canvas.
+-- How a drawing changes a canvas.
 use Rattle.std.specs.Prelude.{◌≡◌, ◌≤◌, ◌+◌, List, Option}
 use Rattle.mapping.specs.Surface.{Surface}
 use Rattle.canvas.specs.CanvasState.{CanvasState, image_of}
@@ -7,19 +7,19 @@ use Rattle.preflight_cert.specs.Apply.{apply_all}
 use Rattle.preflight_cert.specs.Layer.{Layer, layers_if_drawn}
 use Rattle.preflight_cert.specs.Writes.{writes_of_layers}
 
--- the canvas holds rows of a surface
+-- the canvas has rows of a surface
 pub record HoldsRows (canvas : CanvasState) (s : Surface) : Type 0 where
   pub width : canvas.width ≡ s.width
   pub within : canvas.first + canvas.rows ≤ s.height
 
--- the canvas holds the same rows of the same surface
+-- two canvases have the same rows of the same surface
 pub record SameRows (old new : CanvasState) : Type 0 where
   pub width : new.width ≡ old.width
   pub first : new.first ≡ old.first
   pub rows : new.rows ≡ old.rows
   pub most : new.most ≡ old.most
 
--- layers were drawn: on the image of the rows held, and their pixels there on the count
+-- layers were drawn: the image of the canvas's rows is what they define, and their pixels there were counted
 pub record DrawsLayers (layers : List Layer) (s : Surface) (old new : CanvasState) : Type 0 where
   pub image : image_of new ≡ apply_all layers s old.first (image_of old)
   pub writes : new.writes ≡ old.writes + writes_of_layers layers s old.first old.rows

@@ -1,4 +1,4 @@
--- When what a step draws may be painted, and what one layer of it does to a canvas.
+-- When a drawing may be painted, and how one layer of it changes a canvas.
 use Rattle.std.specs.Prelude.{◌≤◌, List}
 use Rattle.mapping.specs.Surface.{Surface}
 use Rattle.canvas.specs.CanvasState.{CanvasState}
@@ -11,27 +11,28 @@ use Rattle.painting.specs.Counts.{CountsLayer}
 use Rattle.painting.specs.Drawn.{DrawsLayers, HoldsRows, SameRows}
 use Rattle.painting.specs.declared.room.DrawingRoom.{DrawingRoom}
 
--- the canvas holds rows of the machine's surface, what is drawn is placed there, and there is room for its lines
+-- a drawing may be painted: the canvas has rows of the machine's surface, the drawing lands within the limits, and the
+-- row buffer can take its lines
 pub record MayDraw (drawn : Draw) (machine : MachineState) (room : DrawingRoom) (canvas : CanvasState) : Type 0 where
   pub held : HoldsRows canvas machine.surface
   pub placed : IsPlacedDraw machine.surface machine.painted drawn
   pub nib : HasNib machine.surface machine drawn
   pub lines : mark_edges (mark_of machine.painted drawn) ≤ room.rows.room
 
--- layers were drawn that write each pixel once at most, and the canvas holds the rows that it held
+-- layers that write each pixel at most once were drawn, and the canvas has the same rows as before
 pub record DrawsLayer (layers : List Layer) (s : Surface) (old new : CanvasState) : Type 0 where
   pub drawn : DrawsLayers layers s old new
   pub rows : SameRows old new
   pub few : CountsLayer old new
 
--- what a step draws was filled, with the tools of the machine's moment
+-- a drawing was filled with the machine's current objects and modes
 abbrev pub Fills : Draw → MachineState → CanvasState → CanvasState → Type 0
 Fills drawn machine old new = DrawsLayer (fills_of (mark_of machine.painted drawn) (tools_of machine.state.dc)) machine.surface old new
 
--- its outline was stroked
+-- the outline of a drawing was stroked with the machine's current objects and modes
 abbrev pub Strokes : Draw → MachineState → CanvasState → CanvasState → Type 0
 Strokes drawn machine old new = DrawsLayer (strokes_of (mark_of machine.painted drawn) (tools_of machine.state.dc)) machine.surface old new
 
--- all of it was drawn
+-- a drawing was painted whole
 abbrev pub Draws : Draw → MachineState → CanvasState → CanvasState → Type 0
 Draws drawn machine old new = DrawsLayers (layers_of (drawing_with machine drawn)) machine.surface old new

@@ -4,7 +4,7 @@ use Rattle.mapping.specs.declared.geometry.Point.{Point}
 use Rattle.painting.specs.declared.moves.FewPoints.{FewPoints}
 use Rattle.painting.specs.declared.moves.FewPoints.TheVariants.{Zero, One, Two, Three, Four}
 
--- they are in order
+-- the points, in order
 abbrev pub few_points : FewPoints → List Point
 few_points Zero = []
 few_points (One a) = a ∷ []

@@ -1,4 +1,4 @@
--- The lines of lists of points that are to come.
+-- The remaining lines of lists of points.
 use Rattle.std.specs.Prelude.{List, [], ◌++◌, Option, Some, None}
 use Rattle.mapping.specs.declared.geometry.Point.{Point}
 use Rattle.point_views.specs.Points.{points_of}
@@ -12,20 +12,29 @@ use Rattle.painting.specs.declared.list_lines.Ends.TheVariants.{Open, Closed}
 use Rattle.painting.specs.declared.list_lines.ListLines.{ListLines}
 use Rattle.painting.specs.declared.placed_lines.PlacedLines.{PlacedLines}
 
--- the lines from a place in a list on, through the placed points that are left
+-- the lines from a cursor through the remaining points on the surface
 abbrev pub lines_from_course : Ends → Traced → List Point → List Line
 lines_from_course Open course points = lines_after course.last points
 lines_from_course Closed course points = lines_round course.first course.last points
 
--- none behind the last line
+-- the lines from a cursor, if there is one; there are none after the last line
 abbrev pub lines_if_on : Ends → Option Traced → List Point → List Line
 lines_if_on ends None points = []
 lines_if_on ends (Some course) points = lines_from_course ends course points
 
--- the lines of a list that are to come
+-- the remaining lines of a list
 abbrev pub lines_left : ListLines → List Line
 lines_left lines = lines_if_on lines.ends lines.course (projected_list lines.by (points_of lines.points))
 
+<<<<<<< HEAD
 -- and of the lists after it
+=======
+-- the remaining lines of the current list, if there is one
+abbrev pub lines_of_current : Option ListLines → List Line
+lines_of_current None = []
+lines_of_current (Some lines) = lines_left lines
+
+-- the remaining lines of the current list and of the lists after it
+>>>>>>> 0f7160ad
 abbrev pub lines_to_come : PlacedLines → List Line
 lines_to_come lines = lines_left lines.current ++ lines_of_lists lines.current.by lines.current.ends (lists_of lines.lists)

@@ -1,4 +1,4 @@
--- What goes through the points of pieces where they land, one after another.
+-- Moves through the points of pieces, on the surface, one after another.
 use Rattle.std.specs.Prelude.{List, [], ◌∷◌, ◌++◌, map}
 use Rattle.std.specs.List.{flat_map}
 use Rattle.mapping.specs.PageMap.{map_numbers}
@@ -19,12 +19,12 @@ use Rattle.painting.specs.declared.list_lines.Ends.TheVariants.{Open, Closed}
 use Rattle.painting.specs.declared.moves.Move.{Move}
 use Rattle.painting.specs.declared.moves.Move.TheVariants.{To, End}
 
--- the point of a move is near
+-- the coordinates of a move's point are within the limits of lines
 abbrev pub IsNearMove : Move → Type 0
 IsNearMove (To point) = IsNearPoint point
 IsNearMove (End end) = Unit {0}
 
--- what becomes of the open figure before a list of points, and behind it
+-- how the open figure ends before a list of points, and after it
 abbrev pub end_before : Joining → FigureEnd
 end_before GoesOn = LeftOpen
 end_before Polylines = Ended
@@ -35,29 +35,29 @@ end_behind GoesOn = LeftOpen
 end_behind Polylines = LeftOpen
 end_behind Polygons = Joined
 
--- through the points of a list: without a point there is no move
+-- the moves through the points of a list; there are none if it has no point
 abbrev pub moves_of_list : Joining → List Point → List Move
 moves_of_list joining [] = []
 moves_of_list joining (p ∷ ps) = End (end_before joining) ∷ (map To (p ∷ ps) ++ End (end_behind joining) ∷ [])
 
--- one list's moves after another's
+-- the moves through several lists, one list after another
 abbrev pub moves_of_lists : Joining → List (List Point) → List Move
 moves_of_lists joining lists = flat_map (moves_of_list joining) lists
 
--- through the points of a piece
+-- the moves through the points of a piece
 abbrev pub moves_of_piece : Surface → Piece → List Move
 moves_of_piece s piece = moves_of_lists piece.joining (placed_lists s (plane_lists (map_numbers piece.map) piece.points)) ++ End piece.end ∷ []
 
--- through those of several
+-- the moves through the points of several pieces
 abbrev pub moves_of_pieces : Surface → List Piece → List Move
 moves_of_pieces s pieces = flat_map (moves_of_piece s) pieces
 
--- the open figure: none, or from its first point to the last so far
+-- the open figure: none, or its first and its latest point
 pub data Drawn : Type 0 where
   nothing : Drawn
   drawn : Point → Point → Drawn
 
--- a line back to the first point is drawn where the figure is joined, or where it ends and all figures are closed
+-- the line back to the first point, drawn if the figure is joined, or if it ends and all figures are closed
 abbrev pub lines_at_end : Ends → FigureEnd → Drawn → List Line
 lines_at_end ends end nothing = []
 lines_at_end ends LeftOpen (drawn first last) = []
@@ -65,13 +65,13 @@ lines_at_end Open Ended (drawn first last) = []
 lines_at_end Closed Ended (drawn first last) = line_from last first ∷ []
 lines_at_end ends Joined (drawn first last) = line_from last first ∷ []
 
--- the line that a move draws, if it does
+-- the line that a move draws, if it draws one
 abbrev pub lines_of_move : Ends → Move → Drawn → List Line
 lines_of_move ends (To point) nothing = []
 lines_of_move ends (To point) (drawn first last) = line_from last point ∷ []
 lines_of_move ends (End end) figure = lines_at_end ends end figure
 
--- the open figure behind the move
+-- the open figure after a move
 abbrev pub after_move : Move → Drawn → Drawn
 after_move (To point) nothing = drawn point point
 after_move (To point) (drawn first last) = drawn first point
@@ -79,7 +79,7 @@ after_move (End LeftOpen) figure = figure
 after_move (End Ended) figure = nothing
 after_move (End Joined) figure = nothing
 
--- the lines of moves: behind the last, the open figure ends
+-- the lines of a sequence of moves; after the last move the open figure ends
 abbrev pub lines_of_moves : Ends → Drawn → List Move → List Line
 lines_of_moves ends figure [] = lines_at_end ends Ended figure
 lines_of_moves ends figure (move ∷ moves) = lines_of_move ends move figure ++ lines_of_moves ends (after_move move figure) moves

@@ -1,4 +1,4 @@
--- The moves through pieces that are to come, and the lines that they draw.
+-- The remaining moves through pieces, and the lines that they draw.
 use Rattle.std.specs.Prelude.{List, [], ◌∷◌, ◌++◌, map, Option, Some, None}
 use Rattle.mapping.specs.PlaceOf.{surface_of}
 use Rattle.mapping.specs.declared.geometry.Point.{Point}
@@ -21,39 +21,39 @@ use Rattle.painting.specs.declared.path_moves.PathMoves.{PathMoves}
 use Rattle.painting.specs.declared.path_moves.PieceMoves.{PieceMoves}
 use Rattle.painting.specs.declared.piece_lines.FigureLines.{FigureLines}
 
--- where points of the page land that are to come
+-- the remaining page points, on the surface
 abbrev pub page_points_left : PagePoints → List Point
 page_points_left list = projected_list list.by (points_of list.points)
 
--- placed points that are to come
+-- the remaining points of a surface
 abbrev pub placed_points_left : PlacedPoints → List Point
 placed_points_left list = few_points list.points
 
--- the points of a list that are to come
+-- the remaining points of a list
 abbrev pub points_left : ListPoints → List Point
 points_left (Page list) = page_points_left list
 points_left (Placed list) = placed_points_left list
 
--- what becomes of the open figure, where that is still to come
+-- the end of the open figure, if it hasn't been returned yet
 abbrev pub end_left : Option FigureEnd → List Move
 end_left None = []
 end_left (Some end) = End end ∷ []
 
--- the moves through a list that are to come
+-- the remaining moves through a list
 abbrev pub list_moves_left : ListMoves → List Move
 list_moves_left list = end_left list.before ++ (map To (points_left list.points) ++ end_left list.behind)
 
--- those through a piece
+-- the remaining moves through a piece
 abbrev pub piece_moves_left : PieceMoves → List Move
 piece_moves_left piece =
     list_moves_left piece.list ++ (moves_of_lists piece.joining (map (projected_list piece.by) (lists_of piece.lists)) ++ end_left piece.end)
 
--- through the piece where they are, if there is one
+-- the remaining moves through the current piece, if there is one
 abbrev pub moves_of_current : Option PieceMoves → List Move
 moves_of_current None = []
 moves_of_current (Some moves) = piece_moves_left moves
 
--- and through the pieces after it
+-- the remaining moves through the current piece and the pieces after it
 abbrev pub path_moves_left : PathMoves → List Move
 path_moves_left path = moves_of_current path.current ++ moves_of_pieces (surface_of path.place) path.pieces.now
 
@@ -62,6 +62,6 @@ abbrev pub drawn_of : Option Traced → Drawn
 drawn_of None = nothing
 drawn_of (Some course) = drawn course.first course.last
 
--- the lines of figures that are to come
+-- the remaining lines of figures
 abbrev pub figure_lines_left : FigureLines → List Line
 figure_lines_left lines = lines_of_moves lines.ends (drawn_of lines.course) (path_moves_left lines.moves)

@@ -1,4 +1,4 @@
--- Paints that do what layers ask for.
+-- Paints that implement the paints of layers.
 use Rattle.std.specs.Prelude.{◌≡◌, ℕ, is_some}
 use Rattle.mapping.specs.Surface.{Surface}
 use Rattle.mapping.specs.declared.geometry.Colour.{Colour}
@@ -16,7 +16,7 @@ use Rattle.painting.specs.PenStrokes.{stroke_paint}
 use Rattle.painting.specs.declared.brushing.Brushing.{Brushing}
 use Rattle.painting.specs.declared.stroke.Stroke.{Stroke}
 
--- a paint writes in these colours on a surface, by the raster operation and under the clip of the tools
+-- a paint writes these colours on a surface, by the raster operation and the clip of the tools
 pub record IsPaintOf (colours : Paint) (tools : Tools) (s : Surface) (paint : PaintValue) : Type 0 where
   pub clip : paint.clip ≡ placed_clip s tools.clip
   pub has : (x y : ℕ) → paint.has x y ≡ is_some (paint_at colours s x y)
@@ -31,6 +31,6 @@ pub record IsPenOf (tools : Tools) (s : Surface) (stroke : Stroke) : Type 0 wher
   pub pen : tools.pen ≡ Solid width colour
   pub paint : IsPaintOf (solid colour) tools s (stroke_paint stroke)
 
--- a brushing is that of a brush with the tools on a surface
+-- a fill style is that of a brush with the tools on a surface
 abbrev pub IsBrushingOf : BrushValue → Tools → Surface → Brushing → Type 0
 IsBrushingOf brush tools s paint = IsPaintOf (brushed_now brush tools) tools s (brushing_paint paint)

@@ -1,4 +1,4 @@
--- What of an outline is painted.
+-- The parts of an outline that can be painted.
 use Rattle.std.specs.Prelude.{◌≡◌, ℕ, ◌≤◌, Bool, List}
 use Rattle.canvas.specs.CanvasState.{CanvasState}
 use Rattle.dc_stack.specs.Values.{placed_value}
@@ -12,17 +12,18 @@ use Rattle.painting.specs.Regions.{HasVisible}
 use Rattle.painting.specs.declared.parts.Part.{Part}
 use Rattle.painting.specs.declared.parts.Part.TheVariants.{Inside, Lines}
 
--- the part of an outline of these lines has the pixel
+-- the part of an outline with these lines contains the pixel
 abbrev pub part_has : Part → List Line → ℕ → ℕ → Bool
 part_has (Inside rule) lines = in_fill rule lines
 part_has (Lines nib) lines = in_wide_stroke nib lines
 
--- what a row buffer is at with it
+-- what a row buffer computes for a part
 abbrev pub work_of : Part → RowWork
 work_of (Inside rule) = filling rule
 work_of (Lines nib) = stroking nib
 
--- a row buffer begins with a part at the first of these rows, which have, in these columns, what is seen of it under a clip
+-- a row buffer has begun with a part at the first of these rows, and the rows and columns contain everything of it that
+-- is visible under a clip
 pub record HasPart (part : Part) (rows : Span) (clip : Clip) (columns : Span) (buffer : RowState) (canvas : CanvasState) : Type 0 where
   pub work : buffer.work ≡ work_of part
   pub next : buffer.next ≡ rows.from

@@ -1,4 +1,5 @@
--- The points of a piece in two parts: a few that are placed at once, and lists of the page whose points are placed one after another.
+-- The points of a piece in two parts: a few that are placed at once, and lists of page points that are placed one by
+-- one.
 use Rattle.std.specs.Prelude.{List, [], ◌∷◌}
 use Rattle.mapping.specs.declared.geometry.Point.{Point}
 use Rattle.point_views.specs.Points.{points_of}
@@ -10,14 +11,14 @@ use Rattle.dc_stack.specs.declared.piece.PiecePoints.{PiecePoints}
 use Rattle.dc_stack.specs.declared.piece.PiecePoints.TheVariants.{Point as OnePoint, List as OneList, Lists, Corners}
 use Rattle.dc_stack.specs.declared.projection.Projection.{Projection}
 
--- a point, or the corners of a box, where they land
+-- the points that are placed at once, on the surface: one point, or the corners of a box
 abbrev pub placed_part : Projection → PiecePoints → List Point
 placed_part by (OnePoint point) = projected by point ∷ []
 placed_part by (OneList points) = []
 placed_part by (Lists parted) = []
 placed_part by (Corners corners) = box_corners (box_between (projected by (left_top_of corners)) (projected by (right_bottom_of corners)))
 
--- the lists of the page
+-- the lists of page points
 abbrev pub page_part : PiecePoints → List (List Point)
 page_part (OnePoint point) = []
 page_part (OneList points) = points_of points ∷ []

@@ -1,4 +1,4 @@
--- The lines of lists of points of the page, where they land.
+-- The lines of lists of page points, on the surface.
 use Rattle.std.specs.Prelude.{List, map, IsTrue}
 use Rattle.std.specs.List.{All, flat_map}
 use Rattle.mapping.specs.declared.geometry.Point.{Point}
@@ -13,11 +13,11 @@ use Rattle.painting.specs.declared.list_lines.Ends.TheVariants.{Open, Closed}
 abbrev pub AllLand : Projection → List Point → Type 0
 AllLand by points = All (λ point. IsTrue (is_projected by point)) points
 
--- all points of the lists do
+-- all points of all lists land within the limits
 abbrev pub AllListsLand : Projection → List (List Point) → Type 0
 AllListsLand by lists = All (AllLand by) lists
 
--- where points of the page land
+-- page points, on the surface
 abbrev pub projected_list : Projection → List Point → List Point
 projected_list by points = map (projected by) points
 
@@ -26,10 +26,10 @@ abbrev pub lines_between : Ends → List Point → List Line
 lines_between Open points = open_lines points
 lines_between Closed points = closed_lines points
 
--- the lines of a list of points of the page
+-- the lines of a list of page points
 abbrev pub lines_of_list : Projection → Ends → List Point → List Line
 lines_of_list by ends points = lines_between ends (projected_list by points)
 
--- those of several lists
+-- the lines of several lists of page points
 abbrev pub lines_of_lists : Projection → Ends → List (List Point) → List Line
 lines_of_lists by ends lists = flat_map (lines_of_list by ends) lists

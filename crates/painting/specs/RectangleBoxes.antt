@@ -1,8 +1,8 @@
--- Boxes of rectangles whose edges are near.
+-- Boxes of rectangles within the limits of lines.
 use Rattle.mapping.specs.declared.geometry.Rect.{Rect}
 use Rattle.span_fill.specs.Lines.{IsNear}
 
--- all edges of a box are near
+-- all edges of a box are within the limits of lines
 pub record IsNearBox (box : Rect) : Type 0 where
   pub left : IsNear box.l
   pub top : IsNear box.t

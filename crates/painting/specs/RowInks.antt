@@ -1,4 +1,4 @@
--- What an ink makes of the pixels of its row.
+-- How a row operation changes the pixels of its row.
 use Rattle.std.specs.Prelude.{ℕ, ◌%◌, List, Bool, true, false, if◌then◌else◌, slice_index_or, Some, None}
 use Rattle.mapping.specs.declared.geometry.Colour.{Colour}
 use Rattle.mapping.specs.Mixes.{mixed_by}
@@ -7,11 +7,11 @@ use Rattle.canvas.specs.MixRows.{mix_at}
 use Rattle.painting.specs.declared.row_ink.RowInk.{RowInk}
 use Rattle.painting.specs.declared.row_ink.RowInk.TheVariants.{Nothing, Full, Pattern, Mixed, Cells, Row, MixRow, MixCells}
 
--- what the mix of its column makes of a colour, by rows of what they keep and what they flip
+-- the result of a column's mix on a colour, from a row of bits to keep and a row of bits to flip
 abbrev pub mixed_at : List Colour → List Colour → ℕ → Colour → Colour
 mixed_at keeps flips x old = mixed_by (mix_at keeps flips x) old
 
--- the ink writes the pixel in column x
+-- a row operation writes the pixel in column x
 abbrev pub is_inked : RowInk → ℕ → Bool
 is_inked Nothing x = false
 is_inked (Full swatch) x = true
@@ -23,7 +23,7 @@ is_inked (Row colours) x = true
 is_inked (MixRow keeps flips) x = true
 is_inked (MixCells cells keeps flips) x = is_cell cells x
 
--- and makes this of its old colour
+-- the new colour of a pixel that a row operation writes
 abbrev pub inked : RowInk → ℕ → Colour → Colour
 inked Nothing x old = old
 inked (Full swatch) x old = swatch.colour

@@ -1,4 +1,4 @@
--- What becomes of some columns of a row, where a paint is joined with what is read.
+-- Some columns of a row, with a paint and a source.
 use Rattle.std.specs.Prelude.{◌≡◌, ℕ, ◌≤◌, ◌<◌, Bool, true, is_some, List, slice_index_or}
 use Rattle.mapping.specs.Colours.{black_colour}
 use Rattle.mapping.specs.declared.geometry.Colour.{Colour}
@@ -11,11 +11,11 @@ use Rattle.painting.specs.Joined.{joined_if}
 use Rattle.painting.specs.RowInks.{mixed_at}
 use Rattle.painting.specs.declared.ink_room.MixRoom.{MixRoom}
 
--- in these columns, what is made of the old colours is what is wanted, where a column passes the test
+-- in these columns, if a column passes the test, the new colour is the wanted one
 abbrev pub AreMade : Span → (ℕ → Bool) → (made wanted : ℕ → Colour → Colour) → Type 0
 AreMade columns test made wanted = (x : ℕ) (old : Colour) → columns.from ≤ x → x < columns.to → test x ≡ true → made x old ≡ wanted x old
 
--- the colour at a column, and black where there is none
+-- the colour at a column; black if there is none
 abbrev pub colours_at : List Colour → ℕ → Colour
 colours_at colours x = slice_index_or colours x black_colour
 
@@ -23,14 +23,14 @@ colours_at colours x = slice_index_or colours x black_colour
 abbrev pub row_has : BrushRow → ℕ → Bool
 row_has row x = is_some (row_paint row x)
 
--- an operation joins the row's colour with what is read at the column and the old one
+-- the result of an operation on the row's colour, the source colour at the column and the old colour
 abbrev pub joined_row : TernaryOp → (ℕ → Colour) → BrushRow → ℕ → Colour → Colour
 joined_row op read row x old = joined_if op.table (read x) (row_paint row x) old
 
--- and so it does with patterns, each at its column, where nothing is read
+-- the result of an operation on a pattern's colour at the column and the old colour, without a source
 abbrev pub joined_patterns : TernaryOp → List Colour → ℕ → Colour → Colour
 joined_patterns op patterns x old = ternary_colour op.table (colours_at patterns x) black_colour old
 
--- what the mixes of a room make of a column
+-- the result of the mix at a column of the scratch buffers
 abbrev pub mixed_in : MixRoom → ℕ → Colour → Colour
 mixed_in room x old = mixed_at room.keeps.value room.flips.value x old

@@ -1,4 +1,4 @@
--- What of a shape is painted, row by row.
+-- What is painted of a shape, row by row.
 use Rattle.std.specs.Prelude.{◌≡◌, ℕ, ◌≤◌, ◌<◌, Bool, true, ◌&&◌, ◌==◌, nat_lt, List}
 use Rattle.mapping.specs.declared.geometry.Colour.{Colour}
 use Rattle.canvas.specs.CanvasState.{CanvasState}
@@ -10,25 +10,25 @@ use Rattle.painting.specs.RowInks.{inked, is_inked}
 use Rattle.painting.specs.Strips.{is_painted}
 use Rattle.painting.specs.declared.row_ink.RowInk.{RowInk}
 
--- in the rows before this one
+-- a paint writes the pixel of a shape, in a row above this one
 abbrev pub paints_above : PaintValue → (ℕ → ℕ → Bool) → ℕ → ℕ → ℕ → Bool
 paints_above paint shape y column row = paints paint shape column row && nat_lt row y
 
--- in this row
+-- a paint writes the pixel of a shape, in this row
 abbrev pub paints_row : PaintValue → (ℕ → ℕ → Bool) → ℕ → ℕ → ℕ → Bool
 paints_row paint shape y column row = paints paint shape column row && row == y
 
--- an ink writes what a paint does in a row, and makes the same of it in these columns
+-- a row operation writes the same pixels of a row as a paint does, in the same colours within these columns
 pub record IsInk (paint : PaintValue) (columns : Span) (y : ℕ) (ink : RowInk) : Type 0 where
   pub test : (x : ℕ) → is_inked ink x ≡ paint.has x y
   pub colour : (x : ℕ) (old : Colour) → columns.from ≤ x → x < columns.to → is_inked ink x ≡ true → inked ink x old ≡ paint.makes x y old
 
--- an ink writes what a paint does in every row
+-- a row operation writes the same as a paint does, in every row
 pub record IsSameInk (paint : PaintValue) (ink : RowInk) : Type 0 where
   pub test : (x y : ℕ) → is_inked ink x ≡ paint.has x y
   pub colour : (x y : ℕ) (old : Colour) → inked ink x old ≡ paint.makes x y old
 
--- the pixels in these spans of a row are painted, by an ink that writes what a paint does there
+-- the pixels in these spans of a row were painted, by a row operation that does what the paint does there
 pub record PaintsSpans (paint : PaintValue) (columns : Span) (y : ℕ) (spans : List Span) (old new : CanvasState) : Type 0 where
   pub ink : RowInk
   pub is_ink : IsInk paint columns y ink

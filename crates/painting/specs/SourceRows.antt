@@ -1,4 +1,4 @@
--- Rows of what a blit reads.
+-- Rows of a blit's source colours.
 use Rattle.std.specs.Prelude.{◌≡◌, ◌≤◌, ◌<◌, ℕ, pos, ◌≤ℤ◌, ◌<ℤ◌, ◌+ℤ◌, List, slice_index_or}
 use Rattle.mapping.specs.declared.geometry.Colour.{Colour}
 use Rattle.mapping.specs.declared.geometry.Rect.{Rect}
@@ -16,14 +16,14 @@ pub record ReadsBox (reader : SourceReader) (box : Rect) : Type 0 where
   pub top : reader.rows.near ≡ box.t
   pub bottom : box.b ≡ reader.rows.near +ℤ pos reader.rows.side
 
--- these columns of a row lie in its box
+-- these columns of a row lie in the reader's box
 pub record ReadsRow (reader : SourceReader) (columns : Span) (y : ℕ) : Type 0 where
   pub left : reader.columns.near ≤ℤ pos columns.from
   pub right : pos columns.to ≤ℤ (reader.columns.near +ℤ pos reader.columns.side)
   pub top : reader.rows.near ≤ℤ pos y
   pub bottom : pos y <ℤ (reader.rows.near +ℤ pos reader.rows.side)
 
--- the colours that these columns read in a row of the picture stand each at its column, and their parts are bytes
+-- these are the source colours of a row of the bitmap, each at its column, and their components are bytes
 pub record HoldsRow (reader : SourceReader) (columns : Span) (row : ℕ) (colours : List Colour) : Type 0 where
   pub read :
       (x : ℕ) (d : Colour) → columns.from ≤ x → x < columns.to

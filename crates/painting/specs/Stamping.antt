@@ -1,4 +1,4 @@
--- What is written where marks of pixels are taken.
+-- What is written through a visited mask.
 use Rattle.std.specs.Prelude.{◌≡◌, ℕ, ◌&&◌, ◌||◌, not}
 use Rattle.mapping.specs.Mixes.{mixed_by}
 use Rattle.mapping.specs.declared.mix.Mix.{Mix}
@@ -8,7 +8,7 @@ use Rattle.span_fill.specs.declared.line.Line.{Line}
 use Rattle.painting.specs.LinePixels.{is_visible}
 use Rattle.painting.specs.Stamps.{StampState, is_taken}
 
--- the pixels that the box of the marks has of a line are taken, and those that weren't yet are mixed
+-- the pixels of a line within the mask's box are marked as visited, and those that weren't before were mixed
 pub record StampsLine (line : Line) (mix : Mix) (old new : StampState) (before after : CanvasState) : Type 0 where
   pub region : new.region ≡ old.region
   pub taken : (x y : ℕ) → is_taken new x y ≡ (is_taken old x y || is_visible old.region line x y)

@@ -1,11 +1,11 @@
--- Marks for the pixels of a box.
+-- Visited masks: one bit for each pixel of a box.
 use Rattle.std.specs.Prelude.{◌==◌, ℕ, ◌+◌, ◌-◌, ◌*◌, ◌/◌, ◌%◌, Bool, ◌&&◌, List, slice_index_or}
 use Rattle.std.specs.Int.{bit_at}
 use Rattle.span_fill.specs.Spans.{in_region}
 use Rattle.span_fill.specs.declared.span.Region.{Region}
 use Rattle.span_fill.specs.declared.span.Span.{Span}
 
--- a box, and the words of its marks
+-- a box, and the words of its mask
 pub record StampState : Type 0 where
   pub region : Region
   pub words : List ℕ
@@ -22,14 +22,14 @@ span_width span = span.to - span.from
 abbrev pub pixel_count : Region → ℕ
 pixel_count region = span_width region.columns * span_width region.rows
 
--- the pixels of a box are numbered row by row
+-- the number of a pixel of a box, counted row by row
 abbrev pub pixel_number : Region → ℕ → ℕ → ℕ
 pixel_number region x y = (y - region.rows.from) * span_width region.columns + (x - region.columns.from)
 
--- a bit of words that have 64 each
+-- a bit in words of 64 bits
 abbrev pub has_bit : List ℕ → ℕ → Bool
 has_bit words number = bit_at (slice_index_or words (number / 64) 0) (number % 64) == 1
 
--- the pixel of the box was taken
+-- the pixel of the box is marked as visited
 abbrev pub is_taken : StampState → ℕ → ℕ → Bool
 is_taken stamps x y = in_region stamps.region x y && has_bit stamps.words (pixel_number stamps.region x y)

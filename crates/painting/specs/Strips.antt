@@ -1,4 +1,4 @@
--- Which pixels of a row are painted, and what may be.
+-- Which pixels of a row are painted, and which may be.
 use Rattle.std.specs.Prelude.{ℕ, ◌+◌, ◌-◌, ◌*◌, ◌<◌, ◌≤◌, ◌^◌, Bool, ◌&&◌, ◌==◌, not, List, map, if◌then◌else◌}
 use Rattle.std.specs.List.{list_any}
 use Rattle.canvas.specs.CanvasState.{CanvasState, HasRow}
@@ -15,7 +15,7 @@ use Rattle.span_fill.specs.declared.span.Span.{Span}
 use Rattle.painting.specs.RowInks.{inked, is_inked}
 use Rattle.painting.specs.declared.row_ink.RowInk.{RowInk}
 
--- columns of a row may be painted on a canvas: it holds them, and its count has room for two writes of each
+-- columns of a row may be painted: the canvas has them, and its count can take two writes of each
 pub record MayPaint (canvas : CanvasState) (y : ℕ) (columns : Span) : Type 0 where
   pub whole : IsWhole canvas
   pub order : columns.from ≤ columns.to
@@ -27,34 +27,34 @@ pub record MayPaint (canvas : CanvasState) (y : ℕ) (columns : Span) : Type 0 w
 abbrev pub CountsOnce : Span → CanvasState → CanvasState → Type 0
 CountsOnce columns old new = new.writes ≤ old.writes + (columns.to - columns.from)
 
--- the pixels of row y in these columns
+-- the pixel lies in row y, in these columns
 abbrev pub in_columns : ℕ → Span → ℕ → ℕ → Bool
 in_columns y columns column row = in_row_span y columns.from columns.to column row
 
--- no box that is cut out has the pixel
+-- no box that the clip cuts out contains the pixel
 abbrev pub is_uncut : List Rect → ℕ → ℕ → Bool
 is_uncut cuts x y = not (list_any (λ box. in_box box x y) cuts)
 
--- the pixel lies in row y, in one of the columns, and isn't cut out, and the ink writes it
+-- the pixel lies in row y and in one of the columns, no box cuts it out, and the row operation writes it
 abbrev pub is_painted : RowInk → List Rect → ℕ → (ℕ → Bool) → ℕ → ℕ → Bool
 is_painted ink cuts y columns column row = row == y && columns column && is_uncut cuts column row && is_inked ink column
 
--- where boxes that are cut out lie on the surface
+-- the boxes that a clip cuts out, on the surface
 abbrev pub placed_boxes : List ClipBox → List Rect
 placed_boxes cuts = map (λ (b : ClipBox). b.placed) cuts
 
--- an ink wrote what it makes of those pixels
+-- a row operation was applied to these columns of row y, except where a box cuts them out
 abbrev pub PutsInk : RowInk → List Rect → ℕ → (ℕ → Bool) → CanvasState → CanvasState → Type 0
 PutsInk ink cuts y columns old new = Repaints (is_painted ink cuts y columns) (λ column row c. inked ink column c) old new
 
--- these columns of a row became what f makes of them
+-- these columns of row y were changed by f
 abbrev pub MakesColumns : ℕ → Span → (ℕ → Colour → Colour) → CanvasState → CanvasState → Type 0
 MakesColumns y columns f old new = Repaints (in_columns y columns) (λ column row c. f column c) old new
 
--- so did those of them that are cells
+-- the cells among these columns of row y were changed by f
 abbrev pub MakesCells : ℕ → Span → ℕ → (ℕ → Colour → Colour) → CanvasState → CanvasState → Type 0
 MakesCells y columns cells f old new = Repaints (in_cells y columns.from columns.to cells) (λ column row c. f column c) old new
 
--- what one mix makes of the cells, and another of the gaps between them
+-- the result of one mix for a cell, and of another for a gap between cells
 abbrev pub mixed_cells : ℕ → Mix → Mix → ℕ → Colour → Colour
 mixed_cells cells mix gaps column old = if is_cell cells column then mixed_by mix old else mixed_by gaps old

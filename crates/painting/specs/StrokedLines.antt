@@ -1,4 +1,4 @@
--- Strokes of lines by a nib, and the regions that have what is seen of them.
+-- Strokes of lines by a nib, and the regions that contain everything visible of them.
 use Rattle.std.specs.Prelude.{List}
 use Rattle.mapping.specs.declared.nib.Nib.{Nib}
 use Rattle.canvas.specs.CanvasState.{CanvasState}
@@ -11,10 +11,10 @@ use Rattle.painting.specs.PenStrokes.{stroke_paint}
 use Rattle.painting.specs.Regions.{HasVisible}
 use Rattle.painting.specs.declared.stroke.Stroke.{Stroke}
 
--- what a nib covers that is led along the lines is painted as a stroke
+-- the pixels that a nib covers along the lines were painted by a stroke
 abbrev pub StrokesLines : Nib → Stroke → List Line → CanvasState → CanvasState → Type 0
 StrokesLines nib stroke lines old new = PaintsShape (stroke_paint stroke) (in_wide_stroke nib lines) old new
 
--- a region of a canvas has what the stroke's clip shows of it
+-- a region of a canvas contains everything that is visible of a stroke under its clip
 abbrev pub HasStroke : Nib → Stroke → List Line → CanvasState → Region → Type 0
 HasStroke nib stroke lines canvas region = HasVisible (placed_value stroke.clip.now) (in_wide_stroke nib lines) canvas region

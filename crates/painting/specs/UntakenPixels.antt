@@ -1,10 +1,10 @@
--- What becomes of marks whose pixels are given.
+-- How a visited mask changes while pixels are returned.
 use Rattle.std.specs.Prelude.{◌≡◌, ℕ, ◌||◌}
 use Rattle.painting.specs.LinePixels.{is_to_step}
 use Rattle.painting.specs.Stamps.{is_taken}
 use Rattle.painting.specs.declared.untaken_pixels.UntakenPixels.{UntakenPixels}
 
--- the marks are the same ones, of the same box, and those of all steps that were left are taken
+-- the mask and its box are the same, and the pixels of all remaining steps are marked as visited
 pub record TakesAll (start end : UntakenPixels) : Type 0 where
   pub same : end.stamps.ghost_name ≡ start.stamps.ghost_name
   pub region : end.stamps.now.region ≡ start.stamps.now.region

@@ -1,4 +1,4 @@
--- What is to come of a wide line, and what a nib covers of several.
+-- The remaining rows of a wide line, and the pixels that a nib covers along several lines.
 use Rattle.std.specs.Prelude.{ℕ, ◌-◌, pos, unsigned_abs, Bool, ◌&&◌, int_le, int_lt, List}
 use Rattle.mapping.specs.Mixes.{mixed_by}
 use Rattle.mapping.specs.declared.mix.Mix.{Mix}
@@ -12,15 +12,15 @@ use Rattle.span_fill.specs.declared.line.Line.{Line}
 use Rattle.span_fill.specs.declared.span.Region.{Region}
 use Rattle.span_fill.specs.declared.span.Span.{Span}
 
--- the nib covers the pixel in a row of the line that is to come, in one of these columns
+-- the nib covers the pixel in a remaining row of the line, in one of these columns
 abbrev pub is_wide_to_come : WideLineState → Span → ℕ → ℕ → Bool
 is_wide_to_come wide columns x y =
     (in_span columns x && on_wide_line wide.nib wide.line (pos x) (pos y)) && (int_le wide.next (pos y) && int_lt (pos y) wide.end)
 
--- how many rows of the highest surface are to come
+-- how many rows remain, of the highest surface
 abbrev pub rows_left : WideLineState → ℕ
 rows_left wide = 8192 - unsigned_abs wide.next
 
--- the pixels that a nib covers in a region along some lines are mixed, each once
+-- the pixels of a region that a nib covers along some lines were mixed, each once
 abbrev pub MixesWide : Region → Nib → List Line → Mix → CanvasState → CanvasState → Type 0
 MixesWide region nib lines mix old new = Repaints (λ x y. in_region region x y && in_wide_stroke nib lines x y) (λ x y c. mixed_by mix c) old new

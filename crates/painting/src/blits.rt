@@ -1,5 +1,5 @@
-//! Blits: boxes of which each pixel becomes what a ternary raster operation makes of the brush, of what is
-//! read, and of the colour that is there.
+//! Blits: each pixel of a box becomes the result of a ternary raster operation on the brush, the source and the pixel's
+//! old colour.
 
 ghost use Rattle.std.specs.Prelude.{◌≡◌, true, IfSome};
 ghost use Rattle.mapping.specs.Boxes.{box_between};
@@ -22,8 +22,8 @@ use dc_stack::{Dc, PlaneBlit};
 use mapping::{Place, Point};
 use raster_ops::{SourceReader, dependence_law, uses_source};
 
-/// Paints the box of a blit, with the brush and under the clip of the moment. Where the operation depends on the
-/// source, there is something to read.
+/// Paints the box of a blit with the current brush, under the current clip. A source is needed if the operation depends
+/// on it.
 pub(crate) fn blit(
     asked: &PlaneBlit<'_>,
     place: Place,
@@ -46,7 +46,8 @@ pub(crate) fn blit(
     fill_box(canvas, between(first, second), &paint, room);
 }
 
-/// How the box of a blit reads, between where its corners land, if its operation depends on that: by it, what is read shows as it is.
+/// A reader for the blit's source, which is stretched between the two corners on the surface, if the operation depends
+/// on a source.
 fn reader_of<'a>(asked: &PlaneBlit<'a>, first: Point, second: Point) -> Option<SourceReader<'a>>
     requires first { FitsPlace first }
     requires second { FitsPlace second }

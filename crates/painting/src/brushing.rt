@@ -1,4 +1,4 @@
-//! Brushing: what a brush makes of pixels by a raster operation, in the modes of the moment and under a clip.
+//! Fill styles: how a brush changes pixels, by a raster operation, in the current modes and under a clip.
 
 ghost use Rattle.std.specs.Prelude.{◌≡◌, ◌≤◌, ℕ, None, IfSome, if◌then◌else◌};
 ghost use Rattle.mapping.specs.Colours.{black_colour};
@@ -24,13 +24,13 @@ use raster_ops::{
 };
 use span_fill::Span;
 
-/// What a brush makes of pixels, in the modes of the moment and under a clip.
+/// A fill style: how a brush changes pixels, in the current modes and under a clip.
 #[derive(Clone, Copy, Debug)]
 pub(crate) struct Brushing<'d, 'a> {
     pub(crate) brush: Brush<'a>,
     pub(crate) modes: Modes,
     pub(crate) operation: TernaryMixer,
-    /// What a blit reads, where its operation depends on that.
+    /// The source of a blit, if its operation depends on one.
     pub(crate) source: Option<SourceReader<'a>>,
     pub(crate) clip: &'d Clip,
 }
@@ -40,7 +40,7 @@ impl<'d, 'a> Brushing<'d, 'a> {
     ghost use Rattle.painting.specs.RowPainters.{ReadsAs, ReadsNothing, painter_paint};
     ghost use Rattle.painting.specs.RowsPainted.{IsInk, IsSameInk};
 
-    /// What a brush makes of pixels at the moment.
+    /// The fill style of a brush in the machine's current state.
     pub(crate) fn with<T: Table<'a>>(
         brush: Brush<'a>,
         machine: &'d Machine<'a, T>,
@@ -60,8 +60,8 @@ impl<'d, 'a> Brushing<'d, 'a> {
         }
     }
 
-    /// What a blit makes of pixels at the moment, with what it reads, if its operation depends on that. Where the
-    /// operation doesn't depend on the pattern, any colour stands for the brush.
+    /// The fill style of a blit, with its source if the operation depends on one. If the operation doesn't depend on
+    /// the pattern, the brush is black: its colour doesn't matter.
     pub(crate) fn of_blit(
         operation: TernaryOp,
         source: Option<SourceReader<'a>>,
@@ -87,7 +87,8 @@ impl<'d, 'a> Brushing<'d, 'a> {
         }
     }
 
-    /// What paints rows so, in some columns: with one ink for all, if it makes the same of each.
+    /// A painter of rows in this style, within some columns. If the style treats all rows alike, it uses one row
+    /// operation for all of them.
     pub(crate) fn painter<'p>(&'p self, columns: Span) -> RowPainter<'p, 'd, 'a>
         ensures paint { SamePaint (painter_paint result) (brushing_paint self.now) }
         ensures columns { result.columns ≡ columns }
@@ -106,7 +107,7 @@ impl<'d, 'a> Brushing<'d, 'a> {
         }
     }
 
-    /// What it makes of the pixels of each row, if that is the same in each: its brush has one colour, and nothing is read.
+    /// The row operation for every row, if there is one: the brush has a single colour and there is no source.
     fn same_ink(&self) -> Option<RowInk<'static>>
         ensures { IfSome result (IsSameInk (brushing_paint self.now)) }
     {
@@ -116,7 +117,7 @@ impl<'d, 'a> Brushing<'d, 'a> {
         }
     }
 
-    /// What it makes of the pixels of a row in some columns, what it reads there being gathered.
+    /// The row operation for some columns of a row. The source colours of these columns must have been gathered.
     pub(crate) fn new_row<'r>(
         &self,
         y: u32,
@@ -136,7 +137,7 @@ impl<'d, 'a> Brushing<'d, 'a> {
         }
     }
 
-    /// What the brush gives a row.
+    /// What the brush has in a row.
     fn brush_row(&self, y: u32) -> BrushRow<'a>
         ensures { (x : ℕ) → row_paint result x ≡ colour_of self.now x y }
     {

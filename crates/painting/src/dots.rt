@@ -9,7 +9,7 @@ use canvas::{Canvas, writing_law};
 use dc_stack::Clip;
 use mapping::{Colour, Point};
 
-/// Writes the pixel that a placed point is, if the canvas and the clip have it.
+/// Writes one pixel, if both the canvas and the clip contain it.
 pub(crate) fn put(point: Point, colour: Colour, clip: &Clip, canvas: &mut Canvas)
     requires countable { canvas.old.writes + 1 < 2 ^ 64 }
     ensures pixels { PutsDot (placed_value clip.now) point colour canvas.old canvas.new }
@@ -28,7 +28,7 @@ pub(crate) fn put(point: Point, colour: Colour, clip: &Clip, canvas: &mut Canvas
     }
 }
 
-/// The column and the row of a placed point, if neither is negative.
+/// The column and row of a point on the surface, if neither is negative.
 fn indexes(point: Point) -> Option<(u32, u32)>
     ensures { result ≡ indexes_of point }
 {

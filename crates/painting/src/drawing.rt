@@ -1,4 +1,4 @@
-//! Drawing what a step draws, on a canvas: what is filled, and then what is stroked.
+//! Draws the result of a step on a canvas: first its fill, then its stroke.
 
 ghost use Rattle.std.specs.Prelude.{◌≡◌, ◌≤◌, IfSome};
 ghost use Rattle.std.specs.Option.{option_map};
@@ -29,9 +29,12 @@ use mapping::Nib;
 use object_tables::Table;
 use preflight_cert::{drawing_box_law, missed_rows_law};
 
-/// Draws what a step of the machine draws, if it draws, with the tools of its moment. A drawing whose box, widened by its nib, misses the rows
-/// held is not painted: it has no pixel there. The count of writes has room for two layers of a surface of 2^26 pixels, and the
-/// rows have room for the drawing's lines: no memory is wanted.
+/// Draws the result of one step of the machine, if there is one, with the machine's current objects and modes. If the
+/// drawing's box, widened by its nib, lies outside the rows of the canvas, nothing is painted, because the drawing has
+/// no pixel there.
+///
+/// Before the call, the count of writes must be low enough for two layers of 2^26 pixels, and the row buffer must have
+/// the capacity for the drawing's lines. No memory is allocated.
 pub fn draw<'a, T: Table<'a>>(
     step: Option<Draw<'a>>,
     machine: &Machine<'a, T>,
@@ -59,7 +62,8 @@ pub fn draw<'a, T: Table<'a>>(
     paint(drawn, machine, room, canvas);
 }
 
-/// Paints what a step draws: a dot is a pixel in its own colour, a blit a box, and what else there is is filled and then stroked.
+/// Paints one drawing. A dot writes one pixel in its own colour and a blit paints a box. Everything else is filled,
+/// then stroked.
 fn paint<'a, T: Table<'a>>(
     drawn: Draw<'a>,
     machine: &Machine<'a, T>,
@@ -87,7 +91,7 @@ fn paint<'a, T: Table<'a>>(
     }
 }
 
-/// Fills the inside of what a step draws, if it has one and the brush paints.
+/// Fills the inside of a drawing, if it has one and the brush isn't null.
 fn fill<'a, T: Table<'a>>(
     drawn: Draw<'a>,
     machine: &Machine<'a, T>,
@@ -134,7 +138,7 @@ fn fill<'a, T: Table<'a>>(
     }
 }
 
-/// Strokes the outline of what a step draws, if it has one and the pen draws.
+/// Strokes the outline of a drawing, if it has one and the pen isn't null.
 fn stroke<'a, T: Table<'a>>(
     drawn: Draw<'a>,
     machine: &Machine<'a, T>,
@@ -154,7 +158,7 @@ fn stroke<'a, T: Table<'a>>(
     stroke_outline(drawn, &stroke, machine, room, canvas);
 }
 
-/// Strokes the outline of what a step draws, if it has one. The stroke is that of the pen.
+/// Strokes the outline of a drawing, if it has one, with the pen's stroke.
 fn stroke_outline<'a, T: Table<'a>>(
     drawn: Draw<'a>,
     stroke: &Stroke<'_>,

@@ -1,4 +1,4 @@
-//! The lines of figures that are painted, where they land.
+//! The lines of painted figures, on the surface.
 
 ghost use Rattle.std.specs.Prelude.{◌≡◌, ◌<◌, ◌^◌, length};
 ghost use Rattle.dc_stack.specs.Draws.{LendsLanded, figures_drawn};
@@ -12,19 +12,20 @@ use dc_stack::{FigurePoints, Machine, Painting, Projection};
 use object_tables::Table;
 use span_fill::{Line, Outline};
 
-/// The lines of figures that are to come.
+/// The remaining lines of some figures.
 #[derive(Clone, Copy, Debug, Drop)]
 pub(crate) enum FigureOutline<'p, 'a> {
-    /// Of lists of points.
+    /// From lists of points.
     Lists(PlacedLines<'a>),
-    /// Of the pieces of a path.
+    /// From the pieces of a path.
     Pieces(PieceLines<'p, 'a>),
 }
 
 impl<'p, 'a> FigureOutline<'p, 'a> {
     ghost use Rattle.painting.specs.FigureOutlines.{outline_left};
 
-    /// The lines of figures that a machine draws: all are closed, or those that say so.
+    /// The lines of the figures that a machine draws. Either all figures are closed, or only those that are marked
+    /// closed.
     pub(crate) fn new<T: Table<'a>>(
         points: FigurePoints<'a>,
         ends: Ends,
@@ -72,7 +73,7 @@ impl<'p, 'a> Outline for FigureOutline<'p, 'a> {
     }
 }
 
-/// Whether the figures that a painting strokes are all closed, if it strokes them.
+/// How the figures of a painting end when they are stroked, if the painting strokes them.
 pub(crate) fn stroked_ends(painting: Painting) -> Option<Ends>
     ensures { result ≡ stroked_ends painting }
 {

@@ -1,4 +1,4 @@
-//! The inside of outlines and of boxes, painted row by row.
+//! Fills the inside of outlines and boxes, row by row.
 
 ghost use Rattle.std.specs.Prelude.{◌≡◌, ◌≤◌, ℕ, None, true, length, IfSome};
 ghost use Rattle.mapping.specs.PixelBoxes.{in_box};
@@ -18,7 +18,7 @@ use canvas::{Canvas, writing_law};
 use mapping::Rect;
 use span_fill::Outline;
 
-/// Paints the inside of an outline, which lies in a box, by the fill mode of the moment. Nothing is read.
+/// Fills the inside of an outline, which lies within a box, by the current fill mode. The style has no source.
 pub(crate) fn fill_inside<O: Outline + Copy>(
     canvas: &mut Canvas,
     room: &mut DrawingRoom,
@@ -47,8 +47,8 @@ pub(crate) fn fill_inside<O: Outline + Copy>(
     paint_rows(canvas, room, Part::Inside(rule), drawn.rows, &painter);
 }
 
-/// Paints a box, which is that of what is read, if a paint reads. A row of a picture is gathered once, and kept while the rows of the
-/// box read it.
+/// Fills a box. If the style has a source, the box is the one that the source is stretched to. A row of source colours
+/// is gathered once and kept for as long as the rows of the box use it.
 pub(crate) fn fill_box(
     canvas: &mut Canvas,
     inside: Rect,

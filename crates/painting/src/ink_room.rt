@@ -1,25 +1,25 @@
-//! Room for what becomes of the pixels of a row. It lies in the heap: by so much the stack may not grow any more once a surface
-//! has its memory.
+//! Scratch buffers for one row of pixels. They are on the heap because the stack must not grow after a surface has its
+//! memory.
 
 use mapping::Colour;
 use span_fill::OutOfMemory;
 use std::alloc::Global;
 
-/// The colour that stands for what isn't looked at.
+/// A colour for values that are never read.
 pub(crate) const BLACK: Colour = Colour { r: 0, g: 0, b: 0 };
 
-/// The longest side of a surface.
+/// The greatest width or height of a surface.
 pub(crate) const MAX_SIDE: usize = 8192;
 
-/// Room for the pixels of a row, each at its column: what is read of a picture, and what becomes of them.
+/// Scratch buffers for one row of pixels, indexed by column: the source colours, and the buffers for mixing.
 #[derive(Drop)]
 pub(crate) struct InkRoom {
     pub(crate) sources: Box<[Colour; MAX_SIDE]>,
     pub(crate) mixes: MixRoom,
 }
 
-/// Room for what becomes of the pixels of a row, each at its column: the colours of a brush's picture, and what
-/// mixes keep and flip.
+/// Scratch buffers for mixing one row of pixels, indexed by column: the colours of a brush's pattern, and the bits that
+/// each mix keeps and flips.
 #[derive(Drop)]
 pub(crate) struct MixRoom {
     pub(crate) patterns: Box<[Colour; MAX_SIDE]>,
@@ -28,7 +28,7 @@ pub(crate) struct MixRoom {
 }
 
 impl InkRoom {
-    /// Room that holds nothing in particular.
+    /// New buffers. Their contents don't matter.
     pub(crate) fn new(alloc: Global) -> Result<InkRoom, OutOfMemory> {
         let sources = colours(alloc)?;
         let patterns = colours(alloc)?;
@@ -45,7 +45,7 @@ impl InkRoom {
     }
 }
 
-/// A colour for each column. It isn't inlined: the four would else lie on the stack at once.
+/// One colour per column. This isn't inlined, because otherwise all four arrays would be on the stack at once.
 #[inline(never)]
 fn colours(alloc: Global) -> Result<Box<[Colour; MAX_SIDE]>, OutOfMemory> {
     match Box::new(alloc, [BLACK; MAX_SIDE]) {

@@ -2,9 +2,9 @@
 //!
 //! # What is promised
 //!
-//! - Drawing leaves, on the rows that a canvas holds, the image that the drawing's layers make of what it showed, and counts the pixels
-//!   written there (`draw`, by `DrawsDrawing`).
-//! - With room for the drawing's lines it wants no memory (`draw`, with a `DrawingRoom`).
+//! - After a drawing, the rows of the canvas show the image that the drawing's layers define, and the count of writes
+//!   includes every pixel that was written there (`draw`, by `DrawsDrawing`).
+//! - With enough capacity for the drawing's lines, drawing allocates no memory (`draw`, with a `DrawingRoom`).
 #![tactic(auto)]
 
 mod blits;

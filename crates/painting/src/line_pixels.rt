@@ -1,4 +1,4 @@
-//! The pixels of a line's steps, as a canvas takes them.
+//! The pixels of a line as a source of pixels for a canvas.
 
 ghost use Rattle.std.specs.Prelude.{◌≡◌, ◌-◌, ℕ, false};
 ghost use Rattle.painting.specs.LinePixels.{is_to_step};
@@ -6,7 +6,7 @@ ghost use Rattle.painting.specs.LinePixels.{is_to_step};
 use canvas::{PixelAt, PixelSource};
 use span_fill::{LineSteps, line_law};
 
-/// The pixels of the steps that are left of a line.
+/// The pixels of a line's remaining steps.
 #[derive(Drop)]
 pub(crate) struct LinePixels {
     pub(crate) steps: LineSteps,

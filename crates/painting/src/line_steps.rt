@@ -1,4 +1,4 @@
-//! A lone line, pixel by pixel.
+//! A lone line, painted pixel by pixel.
 
 ghost use Rattle.std.specs.Prelude.{◌≡◌, ◌+◌, ◌*◌, ◌<◌, ◌^◌, ℕ, pos, true};
 ghost use Rattle.canvas.specs.CanvasState.{HasPixel};
@@ -15,7 +15,7 @@ use crate::uncut_pixels::UncutPixels;
 use canvas::{Canvas, writing_law};
 use span_fill::{Line, LineSteps};
 
-/// Strokes a line by its steps. It isn't inlined, which leaves its loops enough registers.
+/// Strokes a line step by step. This isn't inlined, so that its loops get enough registers.
 #[inline(never)]
 pub(crate) fn step_line(canvas: &mut Canvas, line: Line, stroke: &Stroke<'_>)
     requires near { HasNearEnds line }
@@ -33,8 +33,8 @@ pub(crate) fn step_line(canvas: &mut Canvas, line: Line, stroke: &Stroke<'_>)
     mix_uncut(canvas, pixels, stroke);
 }
 
-/// Mixes those pixels of a line's steps that the clip has. It isn't inlined: the fewer loops stand in one function, the better the compiler
-/// knows to make two of one, for steep lines and for flat ones.
+/// Mixes the pixels of a line that the clip contains. This isn't inlined: with fewer loops in a function, the compiler
+/// is more likely to split a loop in two, for y-major and x-major lines.
 #[inline(never)]
 fn mix_uncut(canvas: &mut Canvas, pixels: LinePixels, stroke: &Stroke<'_>)
     requires held { (x y : ℕ) → is_uncut_step pixels.steps stroke.now x y ≡ true → HasPixel canvas.old x y }

@@ -1,4 +1,4 @@
-//! The lines of one list of points of the page, where they land.
+//! The lines through one list of page points, on the surface.
 
 ghost use Rattle.std.specs.Prelude.{◌≡◌, ◌<◌, ◌≤◌, ◌^◌, length, IfSome};
 ghost use Rattle.mapping.specs.declared.geometry.Point.{Point};
@@ -11,14 +11,14 @@ use mapping::Point;
 use point_views::Points;
 use span_fill::Line;
 
-/// Whether a list's last point is joined to its first.
+/// Whether a line joins the last point of a list to its first.
 #[derive(Clone, Copy, Debug, PartialEq, Eq)]
 pub(crate) enum Ends {
     Open,
     Closed,
 }
 
-/// Where in a list the lines are: its first point where it lands, and the last so far.
+/// A cursor in a list of points: the first point and the latest one, on the surface.
 #[derive(Clone, Copy, Debug)]
 pub(crate) struct Traced {
     pub(crate) first: Point,
@@ -27,14 +27,14 @@ pub(crate) struct Traced {
     pub(crate) ghost last_near: { IsNearPoint last },
 }
 
-/// The lines of a list that are to come.
+/// The remaining lines of a list.
 #[derive(Clone, Copy, Debug)]
 pub(crate) struct ListLines<'a> {
     pub(crate) by: Projection,
     pub(crate) ends: Ends,
-    /// None once the list's last line was given, or where it has none.
+    /// The position in the list. `None` after the last line, or if there is no line.
     pub(crate) course: Option<Traced>,
-    /// The points of the page to come.
+    /// The remaining page points.
     pub(crate) points: Points<'a>,
     pub(crate) ghost land: { AllLand by (points_of points) },
 }
@@ -59,7 +59,7 @@ impl<'a> ListLines<'a> {
         self.points = rest;
     }
 
-    /// How many lines are to come.
+    /// The number of remaining lines.
     pub(crate) fn count(&self) -> usize
         ensures count { result ≡ length (lines_left self.now) }
         ensures few { result ≤ 2 ^ 62 }
@@ -72,7 +72,11 @@ impl<'a> ListLines<'a> {
         }
     }
 
+<<<<<<< HEAD
     /// The next line, or none after the last.
+=======
+    /// The next line, or `None` after the last one.
+>>>>>>> 0f7160ad
     pub(crate) fn next_line(&mut self) -> Option<Line>
         ensures line { GivesFirst (lines_left self.old) result (lines_left self.new) }
         ensures near { IfSome result HasNearEnds }
@@ -105,7 +109,7 @@ impl<'a> ListLines<'a> {
     }
 }
 
-/// How many points there are: fewer than 2^62, since each takes four bytes at least.
+/// The number of points: below 2^62, because each takes at least four bytes.
 pub(crate) fn count_points(points: Points<'_>) -> usize
     ensures count { result ≡ length (points_of points.entry) }
     ensures few { result < 2 ^ 62 }

@@ -1,4 +1,4 @@
-//! Outlines of one line.
+//! Outlines that consist of one line.
 
 ghost use Rattle.std.specs.Prelude.{◌≡◌, true, [], ◌∷◌, IfSome};
 ghost use Rattle.std.specs.List.{All};
@@ -10,7 +10,7 @@ ghost use Rattle.painting.specs.LoneLines.{landed_line, lone_lines};
 use mapping::{Place, Point};
 use span_fill::{Line, Outline};
 
-/// A line that is an outline by itself, until it is given.
+/// An outline of one line, until that line is taken.
 #[derive(Clone, Copy, Debug, Drop)]
 pub(crate) struct LoneLine {
     pub(crate) line: Option<Line>,
@@ -18,7 +18,7 @@ pub(crate) struct LoneLine {
 }
 
 impl LoneLine {
-    /// The line from where one point lands to where another does.
+    /// The line between the positions of two plane points on the surface.
     pub(crate) fn new(place: Place, from: Point, to: Point) -> LoneLine
         requires from { lands_within_limits from (surface_of place) ≡ true }
         requires to { lands_within_limits to (surface_of place) ≡ true }
@@ -49,8 +49,8 @@ impl Outline for LoneLine {
     }
 }
 
-/// The line of an outline that has no other. The outline of so many points isn't looked at where they are more than two, since to
-/// look places three of them.
+/// The only line of an outline, if the outline has exactly one. An outline of more than two points isn't examined,
+/// because that would place three of its points.
 pub(crate) fn lone_line<O: Outline + Copy>(outline: O, points: u32) -> Option<Line>
     ensures alone { IfSome result (λ line. O.lines outline ≡ line ∷ []) }
     ensures near { IfSome result HasNearEnds }

@@ -1,4 +1,5 @@
-//! What strokes cost by marks and by rows of spans, near enough: it decides which way they go, and not what is painted.
+//! Estimates whether a stroke costs less by a visited mask or by rows of spans. This chooses the method and doesn't
+//! affect what is painted.
 
 ghost use Rattle.std.specs.Prelude.{◌≡◌, ◌≤◌, IfSome, vec_capacity};
 ghost use Rattle.std.specs.List.{All};
@@ -9,16 +10,17 @@ use crate::stamps::pixels;
 use dc_stack::Clip;
 use span_fill::{Line, Outline, Region, Span};
 
-/// So many pixels of a line take about as long by their marks as its spans in one row do.
+/// The number of a line's pixels that take about as long through the visited mask as the line's spans take in one row.
 const STEPS_A_ROW: usize = 4;
 
-/// A line of so few columns and rows costs about as much either way.
+/// For a line with fewer columns and rows than this, both methods cost about the same.
 const SHORT: u32 = 16;
 
-/// The most points of an outline whose lines are placed twice: to be judged, and to be painted.
+/// The most points of an outline whose lines are placed twice: once for the estimate and once for painting.
 pub(crate) const FEW_POINTS: u32 = 16;
 
-/// What the long lines of an outline have in a box, near enough: how many pixels all have, and how many rows, each line its own.
+/// An estimate of what an outline's long lines have in a box: the number of pixels of all of them, and the sum of their
+/// numbers of rows.
 #[derive(Clone, Copy)]
 struct Shares {
     steps: usize,
@@ -26,10 +28,10 @@ struct Shares {
 }
 
 impl Shares {
-    /// Of no line.
+    /// The shares of no line.
     const NONE: Shares = Shares { steps: 0, rows: 0 };
 
-    /// With what a line has in the box, if it is long.
+    /// These shares with those of one more line, if it is long.
     fn with(self, line: Line, drawn: Region) -> Shares
         requires columns { IsOfSide drawn.columns }
         requires rows { IsOfSide drawn.rows }
@@ -42,21 +44,23 @@ impl Shares {
         if columns <= 0 || rows <= 0 {
             return self;
         }
-        // (a drawing's lines are too few for more than a word has)
+        // (a drawing has too few lines for an overflow)
         Shares {
             steps: self.steps.wrapping_add(columns.max(rows) as usize),
             rows: self.rows.wrapping_add(rows as usize),
         }
     }
 
-    /// Whether marks cost less than rows of spans do: a pixel at a time is dear where lines are flat, since their spans are long.
+    /// Whether the visited mask costs less than rows of spans. Painting pixel by pixel is expensive for x-major lines,
+    /// whose spans are long.
     fn are_for_marks(self) -> bool {
         self.steps / STEPS_A_ROW <= self.rows
     }
 }
 
-/// Whether marks of a box's pixels cost less than rows of spans do. All lines are looked at, so that their order tells nothing. (To clear
-/// the marks of a row takes less than to go on to the next, so the size of the box doesn't matter.)
+/// Whether the visited mask of a box costs less than rows of spans. All lines are examined, so the result doesn't
+/// depend on their order. (Clearing one row of the mask takes less time than advancing to the next row, so the size of
+/// the box doesn't matter.)
 pub(crate) fn marks_pay<O: Outline + Copy>(outline: O, drawn: Region, clip: &Clip) -> bool
     requires columns { IsOfSide drawn.columns }
     requires rows { IsOfSide drawn.rows }
@@ -67,7 +71,7 @@ pub(crate) fn marks_pay<O: Outline + Copy>(outline: O, drawn: Region, clip: &Cli
     is_narrow(drawn) || shares_of(outline, drawn).are_for_marks()
 }
 
-/// What the long lines of an outline have in a box.
+/// The shares of an outline's long lines in a box.
 fn shares_of<O: Outline + Copy>(outline: O, drawn: Region) -> Shares
     requires columns { IsOfSide drawn.columns }
     requires rows { IsOfSide drawn.rows }
@@ -80,14 +84,14 @@ fn shares_of<O: Outline + Copy>(outline: O, drawn: Region) -> Shares
     shares
 }
 
-/// Whether the lines of an outline of so many points are copied when they are judged: many are, so that each is placed once, unless a
-/// narrow box or a cut leaves nothing to judge.
+/// Whether the lines of an outline with this number of points are copied during the estimate. If there are many,
+/// copying places each point only once. There is nothing to estimate if the box is narrow or the clip cuts boxes out.
 pub(crate) fn are_copied(points: u32, drawn: Region, clip: &Clip) -> bool {
     points > FEW_POINTS && !is_narrow(drawn) && clip.cut_boxes().is_empty()
 }
 
-/// Copies the lines of an outline, in place of those that are there, and tells whether marks cost less for them; nothing, where they have
-/// no room.
+/// Copies the lines of an outline over the earlier ones, and returns whether the visited mask costs less for them.
+/// Returns `None` if the lines exceed the capacity.
 pub(crate) fn copy_lines<O: Outline + Copy>(
     outline: O,
     copies: &mut Vec<Line>,
@@ -112,7 +116,7 @@ pub(crate) fn copy_lines<O: Outline + Copy>(
     Some(shares.are_for_marks())
 }
 
-/// Whether a box has so few columns that each of its lines is short or steep.
+/// Whether a box has so few columns that each of its lines is short or y-major.
 fn is_narrow(drawn: Region) -> bool {
     drawn.columns.to <= drawn.columns.from.saturating_add(SHORT)
 }
@@ -127,7 +131,7 @@ fn is_small(number: i32) -> bool {
     (number.wrapping_add(SHORT as i32 - 1) as u32) < 2 * SHORT - 1
 }
 
-/// How many numbers of a span lie between these, or are one of them: none, where it isn't above 0.
+/// How many numbers of a span lie between two numbers, inclusive. A result of 0 or less means none.
 fn numbers_between(one: i32, other: i32, span: Span) -> i32
     requires { IsOfSide span }
 {

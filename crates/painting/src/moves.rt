@@ -1,4 +1,4 @@
-//! The moves through the points of a list, where they land.
+//! The moves through a list of points, on the surface.
 
 ghost use Rattle.std.specs.Prelude.{◌≡◌, ◌↔◌, [], IfSome, IsTrue};
 ghost use Rattle.std.specs.List.{All};
@@ -12,12 +12,12 @@ use dc_stack::{FigureEnd, Joining, Projection};
 use mapping::Point;
 use point_views::Points;
 
-/// What is done with the open figure.
+/// A change to the open figure.
 #[derive(Clone, Copy, Debug, PartialEq, Eq)]
 pub(crate) enum Move {
-    /// It goes on to a point, or one begins there.
+    /// A line to this point, or the start of a figure there.
     To(Point),
-    /// What becomes of it.
+    /// The end of the figure.
     End(FigureEnd),
 }
 
@@ -46,25 +46,25 @@ pub(crate) struct PlacedPoints {
     pub(crate) ghost near: { All IsNearPoint (few_points points) },
 }
 
-/// The points of a list that are to come.
+/// The remaining points of a list.
 #[derive(Clone, Copy, Debug)]
 pub(crate) enum ListPoints<'a> {
     Page(PagePoints<'a>),
     Placed(PlacedPoints),
 }
 
-/// The moves through a list that are to come.
+/// The remaining moves through a list.
 #[derive(Clone, Copy, Debug)]
 pub(crate) struct ListMoves<'a> {
-    /// What becomes of the open figure before the list: none once given.
+    /// The end of the open figure before the list. `None` once it has been returned.
     pub(crate) before: Option<FigureEnd>,
     pub(crate) points: ListPoints<'a>,
-    /// And behind it.
+    /// The end of the open figure after the list. `None` once it has been returned.
     pub(crate) behind: Option<FigureEnd>,
 }
 
 impl FewPoints {
-    /// The first point, or none where there is none.
+    /// Takes the first point, or returns `None` if there is none.
     fn next_point(&mut self) -> Option<Point>
         ensures { GivesFirst (few_points self.old) result (few_points self.new) }
     {
@@ -83,7 +83,7 @@ impl FewPoints {
 impl<'a> PagePoints<'a> {
     ghost use Rattle.painting.specs.MovesToCome.{page_points_left};
 
-    /// Where the first point lands, or none where there is none.
+    /// Takes the first point and returns it on the surface, or `None` if there is none.
     fn next_point(&mut self) -> Option<Point>
         ensures point { GivesFirst (page_points_left self.old) result (page_points_left self.new) }
         ensures near { IfSome result IsNearPoint }
@@ -98,7 +98,7 @@ impl<'a> PagePoints<'a> {
 impl PlacedPoints {
     ghost use Rattle.painting.specs.MovesToCome.{placed_points_left};
 
-    /// The first point, or none where there is none.
+    /// Takes the first point, or returns `None` if there is none.
     fn next_point(&mut self) -> Option<Point>
         ensures point { GivesFirst (placed_points_left self.old) result (placed_points_left self.new) }
         ensures near { IfSome result IsNearPoint }
@@ -113,7 +113,7 @@ impl PlacedPoints {
 impl<'a> ListPoints<'a> {
     ghost use Rattle.painting.specs.MovesToCome.{points_left};
 
-    /// Where the first point is, or none where there is none.
+    /// Takes the first point and returns it on the surface, or `None` if there is none.
     fn next_point(&mut self) -> Option<Point>
         ensures point { GivesFirst (points_left self.old) result (points_left self.new) }
         ensures near { IfSome result IsNearPoint }
@@ -124,7 +124,7 @@ impl<'a> ListPoints<'a> {
         }
     }
 
-    /// Whether there is no point.
+    /// Whether no point remains.
     fn is_empty(&self) -> bool
         ensures { IsTrue result ↔ (points_left self.now ≡ []) }
     {
@@ -135,7 +135,7 @@ impl<'a> ListPoints<'a> {
     }
 }
 
-/// What becomes of the open figure before a list.
+/// How the open figure ends before a list.
 fn end_before_list(joining: Joining) -> FigureEnd
     ensures { result ≡ end_before joining }
 {
@@ -145,7 +145,7 @@ fn end_before_list(joining: Joining) -> FigureEnd
     }
 }
 
-/// What becomes of the open figure behind a list.
+/// How the open figure ends after a list.
 fn end_behind_list(joining: Joining) -> FigureEnd
     ensures { result ≡ end_behind joining }
 {
@@ -176,7 +176,7 @@ impl<'a> ListMoves<'a> {
         }
     }
 
-    /// The next move, or none behind the last.
+    /// The next move, or `None` after the last one.
     pub(crate) fn next_move(&mut self) -> Option<Move>
         ensures next { GivesFirst (list_moves_left self.old) result (list_moves_left self.new) }
         ensures near { IfSome result IsNearMove }

@@ -1,4 +1,4 @@
-//! Parts of outlines, painted row by row: what is inside, or the lines.
+//! Paints one part of an outline row by row: its inside or its lines.
 
 ghost use Rattle.std.specs.Prelude.{◌≡◌, ℕ, ◌+◌, ◌<◌, ◌≤◌};
 ghost use Rattle.preflight_cert.specs.Shape.{fill_rule_of};
@@ -18,17 +18,17 @@ use draw_ops::FillMode;
 use mapping::Nib;
 use span_fill::{FillRule, RowBuf, Span};
 
-/// What of an outline is painted.
+/// A part of an outline.
 #[derive(Clone, Copy, Debug, PartialEq, Eq)]
 pub(crate) enum Part {
-    /// What a rule says is inside.
+    /// The inside, by a fill rule.
     Inside(FillRule),
-    /// What a nib covers that is led along the lines.
+    /// The pixels that a nib covers as it moves along the lines.
     Lines(Nib),
 }
 
-/// Paints these rows of the part of an outline that was begun with at the first of them. They and the painter's columns have what is
-/// seen of it. Nothing is read.
+/// Paints some rows of a part. The row buffer has begun with this part at the first of these rows. The rows and the
+/// painter's columns contain everything that is visible of the part. The painter has no source.
 pub(crate) fn paint_rows(
     canvas: &mut Canvas,
     room: &mut DrawingRoom,
@@ -55,7 +55,7 @@ pub(crate) fn paint_rows(
     }
 }
 
-/// The spans of the next row of the part that was begun with.
+/// Computes the spans of the next row of the part.
 fn next_row(rows: &mut RowBuf, part: Part, columns: Span)
     requires work { rows.old.work ≡ work_of part }
     requires next { rows.old.next < 8192 }
@@ -70,7 +70,7 @@ fn next_row(rows: &mut RowBuf, part: Part, columns: Span)
     }
 }
 
-/// The rule of a fill mode.
+/// The fill rule of a fill mode.
 pub(crate) fn rule_of(mode: FillMode) -> FillRule
     ensures { result ≡ fill_rule_of mode }
 {

@@ -1,4 +1,4 @@
-//! The moves through the points of pieces, where they land.
+//! The moves through the points of pieces, on the surface.
 
 ghost use Rattle.std.specs.Prelude.{◌≡◌, [], ◌∷◌, IfSome, IsTrue};
 ghost use Rattle.mapping.specs.PlaceOf.{surface_of};
@@ -19,32 +19,32 @@ use dc_stack::{FigureEnd, Joining, Piece, PiecePoints, Projection};
 use mapping::{Place, Point, Rect, placing_law};
 use point_views::Polys;
 
-/// The moves through a piece that are to come.
+/// The remaining moves through a piece.
 #[derive(Clone, Copy, Debug)]
 pub(crate) struct PieceMoves<'a> {
     pub(crate) by: Projection,
     pub(crate) joining: Joining,
-    /// Those through the list where they are.
+    /// The moves through the current list.
     pub(crate) list: ListMoves<'a>,
     /// The lists after it.
     pub(crate) lists: Polys<'a>,
-    /// What becomes of the open figure behind the piece: none once given.
+    /// The end of the open figure after the piece. `None` once it has been returned.
     pub(crate) end: Option<FigureEnd>,
     pub(crate) ghost land: { AllListsLand by (lists_of lists) },
 }
 
-/// The moves through pieces that are to come.
+/// The remaining moves through some pieces.
 #[derive(Clone, Copy, Debug, Drop)]
 pub(crate) struct PathMoves<'p, 'a> {
     pub(crate) place: Place,
-    /// Those through the piece where they are.
+    /// The moves through the current piece.
     pub(crate) current: Option<PieceMoves<'a>>,
     /// The pieces after it.
     pub(crate) pieces: &'p [Piece<'a>],
     pub(crate) ghost land: { AllLandOn (surface_of place) pieces.now },
 }
 
-/// The points of a piece that are placed at once: a point, or the corners of a box.
+/// The points of a piece that are placed at once: one point, or the corners of a box.
 fn place_part(by: Projection, points: PiecePoints<'_>) -> PlacedPoints
     requires { AllListsLand by (page_lists points) }
     ensures { few_points result.points ≡ placed_part by points.entry }
@@ -58,7 +58,7 @@ fn place_part(by: Projection, points: PiecePoints<'_>) -> PlacedPoints
     }
 }
 
-/// Where a point of the page lands.
+/// A page point on the surface.
 fn place_one(by: Projection, point: Point) -> PlacedPoints
     requires { IsTrue (is_projected by point) }
     ensures { few_points result.points ≡ projected by point ∷ [] }
@@ -68,7 +68,7 @@ fn place_one(by: Projection, point: Point) -> PlacedPoints
     }
 }
 
-/// The corners of a box, where two of them land.
+/// The corners of a box on the surface, computed from two of them.
 fn place_corners(by: Projection, corners: Rect) -> PlacedPoints
     requires first { IsTrue (is_projected by (left_top_of corners)) }
     requires second { IsTrue (is_projected by (right_bottom_of corners)) }
@@ -82,7 +82,7 @@ fn place_corners(by: Projection, corners: Rect) -> PlacedPoints
     }
 }
 
-/// The corners of a box, from the left top one round by the right.
+/// The corners of a box, clockwise from the top left.
 fn corners_of(inside: Rect) -> FewPoints
     ensures { few_points result ≡ box_corners inside }
 {
@@ -94,7 +94,7 @@ fn corners_of(inside: Rect) -> FewPoints
     )
 }
 
-/// The point of two coordinates.
+/// The point with these two coordinates.
 fn point(x: i32, y: i32) -> Point
     ensures x { result.x ≡ x }
     ensures y { result.y ≡ y }
@@ -102,7 +102,7 @@ fn point(x: i32, y: i32) -> Point
     Point { x, y }
 }
 
-/// The lists of a piece whose points are placed one after another.
+/// The lists of a piece whose points are placed one by one.
 fn lists_to_place(points: PiecePoints<'_>) -> Polys<'_>
     ensures { lists_of result ≡ page_part points.entry }
 {
@@ -136,7 +136,7 @@ impl<'a> PieceMoves<'a> {
         }
     }
 
-    /// The next move, or none behind the last.
+    /// The next move, or `None` after the last one.
     fn next_move(&mut self) -> Option<Move>
         ensures next { GivesFirst (piece_moves_left self.old) result (piece_moves_left self.new) }
         ensures near { IfSome result IsNearMove }
@@ -145,7 +145,7 @@ impl<'a> PieceMoves<'a> {
             if let Some(step) = self.list.next_move() {
                 return Some(step);
             }
-            // A piece may have millions of lists without points, and each band goes through them.
+            // A piece may have millions of lists without points, and every band goes through them.
             let Some((points, rest)) = self.lists.after_empty().split_first() else {
                 let end = self.end?;
                 self.end = None;
@@ -164,7 +164,7 @@ impl<'a> PieceMoves<'a> {
 impl<'p, 'a> PathMoves<'p, 'a> {
     ghost use Rattle.painting.specs.MovesToCome.{moves_of_current, path_moves_left};
 
-    /// The moves through pieces.
+    /// The moves through some pieces.
     pub(crate) fn new(place: Place, pieces: &'p [Piece<'a>]) -> PathMoves<'p, 'a>
         requires { AllLandOn (surface_of place) pieces.now }
         ensures { path_moves_left result ≡ moves_of_pieces (surface_of place) pieces.now }
@@ -176,7 +176,7 @@ impl<'p, 'a> PathMoves<'p, 'a> {
         }
     }
 
-    /// The next move of a piece, or none behind its last, or where there is no piece.
+    /// The next move of the current piece. `None` after its last move, or if there is no piece.
     fn next_of(current: &mut Option<PieceMoves<'a>>) -> Option<Move>
         ensures next { GivesFirst (moves_of_current current.old) result (moves_of_current current.new) }
         ensures near { IfSome result IsNearMove }
@@ -187,7 +187,7 @@ impl<'p, 'a> PathMoves<'p, 'a> {
         }
     }
 
-    /// The next move, or none behind the last.
+    /// The next move, or `None` after the last one.
     pub(crate) fn next_move(&mut self) -> Option<Move>
         ensures next { GivesFirst (path_moves_left self.old) result (path_moves_left self.new) }
         ensures near { IfSome result IsNearMove }

@@ -1,4 +1,4 @@
-//! The lines of the figures that pieces of a path make, where they land.
+//! The lines of the figures that the pieces of a path define, on the surface.
 
 ghost use Rattle.std.specs.Prelude.{◌≡◌, ◌<◌, ◌^◌, [], length, IfSome};
 ghost use Rattle.mapping.specs.PlaceOf.{surface_of};
@@ -17,7 +17,7 @@ use dc_stack::{FigureEnd, Piece};
 use mapping::{Place, Point};
 use span_fill::{Line, Outline};
 
-/// The lines that moves draw, which are to come.
+/// The remaining lines of a sequence of moves.
 #[derive(Clone, Copy, Debug, Drop)]
 pub(crate) struct FigureLines<'p, 'a> {
     pub(crate) ends: Ends,
@@ -26,14 +26,14 @@ pub(crate) struct FigureLines<'p, 'a> {
     pub(crate) moves: PathMoves<'p, 'a>,
 }
 
-/// The lines of the figures that pieces make, which are to come.
+/// The remaining lines of the figures that some pieces define.
 #[derive(Clone, Copy, Debug, Drop)]
 pub(crate) struct PieceLines<'p, 'a> {
     pub(crate) lines: FigureLines<'p, 'a>,
     pub(crate) ghost few: { length (figure_lines_left lines) < 2 ^ 64 },
 }
 
-/// The open figure goes on to a point, by a line, or one begins there.
+/// Extends the open figure by a line to a point, or starts a figure there.
 fn go_to(course: &mut Option<Traced>, ends: Ends, point: Point) -> Option<Line>
     requires { IsNearPoint point }
     ensures line { GivesFirst (lines_of_move ends (To point) (drawn_of course.old)) result [] }
@@ -57,7 +57,7 @@ fn go_to(course: &mut Option<Traced>, ends: Ends, point: Point) -> Option<Line>
     })
 }
 
-/// What becomes of the open figure: a line back to its first point, where it has that.
+/// Ends the open figure. Returns the line back to its first point, if the figure has one.
 fn end_figure(course: &mut Option<Traced>, ends: Ends, end: FigureEnd) -> Option<Line>
     ensures line { GivesFirst (lines_at_end ends end (drawn_of course.old)) result [] }
     ensures near { IfSome result HasNearEnds }
@@ -81,7 +81,7 @@ fn end_figure(course: &mut Option<Traced>, ends: Ends, end: FigureEnd) -> Option
 }
 
 impl<'p, 'a> FigureLines<'p, 'a> {
-    /// The line that a move draws, if it does.
+    /// The line that a move draws, if it draws one.
     fn follow(&mut self, step: Move) -> Option<Line>
         requires { IsNearMove step }
         ensures line { GivesFirst (lines_of_move self.old.ends step (drawn_of self.old.course)) result [] }
@@ -96,7 +96,7 @@ impl<'p, 'a> FigureLines<'p, 'a> {
         }
     }
 
-    /// The next line, or none behind the last.
+    /// The next line, or `None` after the last one.
     fn next_line(&mut self) -> Option<Line>
         ensures line { GivesFirst (figure_lines_left self.old) result (figure_lines_left self.new) }
         ensures near { IfSome result HasNearEnds }
@@ -113,7 +113,8 @@ impl<'p, 'a> FigureLines<'p, 'a> {
 impl<'p, 'a> PieceLines<'p, 'a> {
     ghost use Rattle.painting.specs.FiguresToCome.{piece_lines_left};
 
-    /// The lines of the figures that pieces make: all are closed, or those that say so.
+    /// The lines of the figures that some pieces define. Either all figures are closed, or only those that are marked
+    /// closed.
     pub(crate) fn new(place: Place, ends: Ends, pieces: &'p [Piece<'a>]) -> PieceLines<'p, 'a>
         requires land { AllLandOn (surface_of place) pieces.now }
         requires few { length (points_of_figures (all_figures (figures_of pieces.now))) < 2 ^ 64 }

@@ -1,4 +1,4 @@
-//! The lines of lists of points of the page, where they land, one list's after another's.
+//! The lines through lists of page points, on the surface, one list after another.
 
 ghost use Rattle.std.specs.Prelude.{◌≡◌, ◌∷◌, ◌<◌, ◌^◌, length};
 ghost use Rattle.mapping.specs.declared.geometry.Point.{Point};
@@ -14,10 +14,10 @@ use mapping::Point;
 use point_views::{Points, Polys};
 use span_fill::{Line, Outline};
 
-/// The lines of lists of points that are to come.
+/// The remaining lines of some lists of points.
 #[derive(Clone, Copy, Debug, Drop)]
 pub(crate) struct PlacedLines<'a> {
-    /// The list whose lines are being given.
+    /// The current list.
     pub(crate) current: ListLines<'a>,
     /// The lists after it.
     pub(crate) lists: Polys<'a>,
@@ -43,7 +43,7 @@ impl<'a> PlacedLines<'a> {
         }
     }
 
-    /// The lines from a placed point through points of the page.
+    /// The lines from a point of the surface through some page points.
     pub(crate) fn from(
         start: Point,
         ends: Ends,
@@ -68,7 +68,7 @@ impl<'a> PlacedLines<'a> {
         }
     }
 
-    /// How many lines the lists have after the one whose lines are being given.
+    /// The number of lines in the lists after the current one.
     fn count_lists(&self) -> usize
         ensures count { result ≡ length (lines_of_lists self.now.current.by self.now.current.ends (lists_of self.now.lists)) }
         ensures few { result < 2 ^ 62 }
@@ -80,7 +80,8 @@ impl<'a> PlacedLines<'a> {
     }
 }
 
-/// How many lines there are from point to point of each list: in a list that has points, one less than it has.
+/// The number of lines between consecutive points of each list. A list with points has one line less than it has
+/// points.
 fn count_open(lists: Polys<'_>) -> usize
     ensures count { result ≡ length (open_lines_of (lists_of lists.entry)) }
     ensures few { result < 2 ^ 62 }
@@ -108,7 +109,7 @@ impl<'a> Outline for PlacedLines<'a> {
             if let Some(line) = self.current.next_line() {
                 return Some(line);
             }
-            // A record may have millions of lists without points, and each band goes through them.
+            // A record may have millions of lists without points, and every band goes through them.
             let Some((points, rest)) = self.lists.after_empty().split_first() else {
                 return None;
             };

@@ -13,7 +13,7 @@ use draw_ops::RectangleEdges;
 use mapping::{Place, Point, Rect};
 use span_fill::{Line, Outline};
 
-/// Lines of a slice that are to come.
+/// The remaining lines of a slice.
 #[derive(Clone, Copy, Debug, Drop)]
 pub(crate) struct LineList<'l> {
     pub(crate) rest: &'l [Line],
@@ -34,7 +34,7 @@ impl<'l> Outline for LineList<'l> {
     }
 }
 
-/// The box of a rectangle between two corners of the plane, where they land.
+/// The box of a rectangle on the surface, from two corners on the plane.
 pub(crate) fn placed_box(place: Place, first: Point, second: Point, edges: RectangleEdges) -> Rect
     requires first { lands_within_limits first (surface_of place) ≡ true }
     requires second { lands_within_limits second (surface_of place) ≡ true }
@@ -44,8 +44,8 @@ pub(crate) fn placed_box(place: Place, first: Point, second: Point, edges: Recta
     rectangle_box(place.at(first), place.at(second), edges)
 }
 
-/// The box of a rectangle between two placed corners, whichever of them comes first: from its left and top
-/// on, up to before its right and bottom, which are raised by one where they belong to the rectangle.
+/// The box of a rectangle between two corners on the surface, in any order. It includes its left and top edges and
+/// excludes its right and bottom ones. These are greater by one if they belong to the rectangle.
 pub(crate) fn rectangle_box(first: Point, second: Point, edges: RectangleEdges) -> Rect
     requires first { FitsPlace first }
     requires second { FitsPlace second }
@@ -64,7 +64,7 @@ pub(crate) fn rectangle_box(first: Point, second: Point, edges: RectangleEdges) 
     }
 }
 
-/// The box between two placed corners, whichever of them comes first.
+/// The box between two corners on the surface, in any order.
 pub(crate) fn between(first: Point, second: Point) -> Rect
     requires first { FitsPlace first }
     requires second { FitsPlace second }
@@ -84,7 +84,7 @@ pub(crate) fn has_inside(inside: Rect) -> bool
     inside.l < inside.r && inside.t < inside.b
 }
 
-/// The lines around the outer pixels of a box that has one.
+/// The lines along the outermost pixels of a box, which must have a pixel.
 pub(crate) fn box_lines(inside: Rect) -> [Line; 4]
     requires near { IsNearBox inside }
     requires some { IsTrue (has_inside inside) }

@@ -1,4 +1,4 @@
-//! The part of a surface that a drawing may write.
+//! The part of a surface to which a drawing may write.
 
 ghost use Rattle.std.specs.Prelude.{◌≡◌, ◌≤◌, ◌<◌, ◌+◌, ◌*◌, ◌^◌, ◌&&◌, ◌↔◌, ◌+ℤ◌, ◌-ℤ◌, ◌*ℤ◌, ◌<ℤ◌, Bool, IsTrue, int_lt, pos, true, ℕ};
 ghost use Rattle.canvas.specs.CanvasState.{HasPixel};
@@ -24,7 +24,7 @@ use mapping::{
 };
 use span_fill::{Region, Span};
 
-/// The law of canvases: each is whole, and has at most 8,192 columns and 2^26 pixels.
+/// A law: every canvas is consistent, and has at most 8,192 columns and 2^26 pixels.
 pub(crate) fn whole_law(canvas: &Canvas)
     ensures whole { IsWhole canvas.now }
     ensures side { canvas.now.width ≤ 8192 }
@@ -34,7 +34,7 @@ pub(crate) fn whole_law(canvas: &Canvas)
     canvas.rows();
 }
 
-/// The part of the rows held that the kept box of a clip has.
+/// The part of the canvas within the clip's kept box.
 pub(crate) fn visible(canvas: &Canvas, clip: &Clip) -> Region
     ensures held { HasRegion canvas.now result }
     ensures columns { IsOfSide result.columns }
@@ -54,7 +54,7 @@ pub(crate) fn visible(canvas: &Canvas, clip: &Clip) -> Region
     }
 }
 
-/// The part of the rows held that the kept box of a clip and a box have.
+/// The part of the canvas within both the clip's kept box and another box.
 pub(crate) fn visible_in(canvas: &Canvas, clip: &Clip, inside: Rect) -> Region
     ensures visible { HasVisible (placed_value clip.now) (in_box inside) canvas.now result }
     ensures columns { IsOfSide result.columns }
@@ -64,7 +64,7 @@ pub(crate) fn visible_in(canvas: &Canvas, clip: &Clip, inside: Rect) -> Region
     common(visible(canvas, clip), inside)
 }
 
-/// The rows that a canvas holds.
+/// The rows of a canvas.
 fn rows_held(canvas: &Canvas) -> Span
     ensures from { result.from ≡ canvas.now.first }
     ensures to { result.to ≡ canvas.now.first + canvas.now.rows }
@@ -78,8 +78,7 @@ fn rows_held(canvas: &Canvas) -> Span
     }
 }
 
-/// What a region has of a box: of its columns those from the left up to before the right, and of its rows
-/// those from the top up to before the bottom.
+/// The part of a region within a box. The box includes its left and top edges and excludes its right and bottom ones.
 pub(crate) fn common(region: Region, inside: Rect) -> Region
     requires columns { IsOfSide region.columns }
     requires rows { IsOfSide region.rows }
@@ -101,8 +100,9 @@ pub(crate) fn common(region: Region, inside: Rect) -> Region
     }
 }
 
-/// The box in which the pixels of a drawing lie that has this least box on the plane and this nib: from its left and top on, up to before its
-/// right and bottom. Its two corners land where its points do, since a place keeps what lies between.
+/// The box on the surface that contains the pixels of a drawing with this bounding box on the plane and this nib. It
+/// includes its left and top edges and excludes its right and bottom ones. The two corners are placed as points are,
+/// because placing preserves order.
 pub(crate) fn landed_box(place: Place, bounds: Rect, nib: Nib) -> Rect
     requires { IsNib nib }
     ensures { HasLanded nib (surface_of place) bounds result }
@@ -120,17 +120,17 @@ pub(crate) fn landed_box(place: Place, bounds: Rect, nib: Nib) -> Rect
     }
 }
 
-/// A box that holds what is painted.
+/// A box that contains all that is painted.
 #[derive(Clone, Copy, Debug)]
 pub(crate) enum Bounds {
-    /// This box of the surface.
+    /// A box of the surface.
     Placed(Rect),
-    /// The box in which a drawing lies that has this least box on the plane and this nib. It costs up to four divisions to place it.
+    /// The box of a drawing, from its bounding box on the plane and its nib. Placing it costs up to four divisions.
     Plane(Place, Rect, Nib),
 }
 
 impl Bounds {
-    /// The box of the surface.
+    /// The box on the surface.
     pub(crate) fn on_surface(self) -> Rect
         requires { HasNarrowNib self }
         ensures { (shape : ℕ → ℕ → Bool) → HoldShape self shape → HasShape result shape }
@@ -142,8 +142,8 @@ impl Bounds {
     }
 }
 
-/// Whether a drawing that has this least box on the plane and this nib lies beside the rows that a canvas holds: it ends above them, or begins
-/// below them. So it need not be painted there.
+/// Whether a drawing with this bounding box on the plane and this nib lies outside the rows of a canvas: it ends above
+/// them or begins below them. Such a drawing needn't be painted there.
 pub(crate) fn misses_rows(canvas: &Canvas, place: Place, bounds: Rect, nib: Nib) -> bool
     requires { IsNib nib }
     ensures { IsTrue result ↔ LiesBeside (widened nib (placed_box (surface_of place) bounds)) canvas.now.first canvas.now.rows }
@@ -152,7 +152,7 @@ pub(crate) fn misses_rows(canvas: &Canvas, place: Place, bounds: Rect, nib: Nib)
     ends_above(place, bounds.b, nib.y, held.from) || !begins_above(place, bounds.t, nib.y, held.to)
 }
 
-/// Whether all rows that a nib of so many covers from a row of the plane lie above a row of the surface.
+/// Whether a nib of this height, on a row of the plane, lies entirely above a row of the surface.
 fn ends_above(place: Place, plane_row: i32, nib_rows: u16, row: u32) -> bool
     requires rows { IsNibSide nib_rows }
     requires row { row ≤ 8192 }
@@ -161,7 +161,7 @@ fn ends_above(place: Place, plane_row: i32, nib_rows: u16, row: u32) -> bool
     lands_above(place, plane_row, row as i32 - reach_after(nib_rows))
 }
 
-/// Whether the first of them does.
+/// Whether the first row of the nib lies above it.
 fn begins_above(place: Place, plane_row: i32, nib_rows: u16, row: u32) -> bool
     requires rows { IsNibSide nib_rows }
     requires row { row ≤ 8192 }
@@ -170,8 +170,8 @@ fn begins_above(place: Place, plane_row: i32, nib_rows: u16, row: u32) -> bool
     lands_above(place, plane_row, row as i32 + reach_before(nib_rows))
 }
 
-/// Whether a row of the plane lands above a row of the surface. Nothing is divided: it does where it lies above that row of the
-/// surface, both times the two heights.
+/// Whether a row of the plane lies above a row of the surface. The comparison multiplies each row by the other's
+/// height, so that nothing is divided.
 fn lands_above(place: Place, plane_row: i32, row: i32) -> bool
     ensures { result ≡ int_lt (placed plane_row place.height place.frame.height) row }
 {

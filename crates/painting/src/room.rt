@@ -1,4 +1,4 @@
-//! The memory that drawings are painted in, all of it taken before the first is.
+//! The memory for drawings. All of it is allocated before the first drawing.
 
 ghost use Rattle.std.specs.Prelude.{◌≤◌, ◌⊎◌, IfOk};
 ghost use Rattle.dc_stack.specs.Drawing.{edge_limit};
@@ -12,28 +12,29 @@ use std::alloc::Global;
 /// The most lines of one drawing.
 const MAX_LINES: u32 = 1_048_576;
 
-/// The memory that drawings are painted in.
+/// The memory for drawings.
 ///
 /// # Guarantees
 ///
-/// - No call wants memory but those that make it.
+/// - Only the calls that create it allocate memory.
 #[derive(Drop)]
 pub struct DrawingRoom {
-    /// The rows of a drawing's spans, which have room for so many lines.
+    /// The row buffer, which limits how many lines a drawing may have.
     pub rows: RowBuf,
-    /// Marks for strokes of several lines, where a drawing has several.
+    /// A visited mask for thin strokes, if drawings can have more than one line.
     pub(crate) marks: Option<Stamps>,
-    /// A mask for those by wide pens, where a drawing has several lines and a pen is wide.
+    /// A mask for strokes by wide pens, if drawings can have more than one line and a pen is wide.
     pub(crate) mask: Option<StrokeMask>,
-    /// The lines of a stroke, where a drawing has many.
+    /// Space for the lines of a stroke, if drawings can have many lines.
     pub(crate) copies: Vec<Line>,
-    /// Room for the pixels of a row.
+    /// Scratch buffers for one row of pixels.
     pub(crate) inks: InkRoom,
 }
 
 impl DrawingRoom {
-    /// Room for drawings of so many lines, or for any, which takes 392 MiB; or `OutOfMemory` where that was refused. Strokes by wide pens are
-    /// painted without room for them, too, but many lines take longer then.
+    /// Allocates memory for drawings of up to this number of lines. For the largest drawings that is 392 MiB. Returns
+    /// `OutOfMemory` if an allocation fails. Strokes by wide pens can be painted without the mask, but then many lines
+    /// take longer.
     pub fn for_lines(
         alloc: Global,
         lines: u32,
@@ -56,7 +57,7 @@ impl DrawingRoom {
     }
 }
 
-/// Rows with room for so many lines, or for any drawing.
+/// A row buffer for this number of lines.
 fn rows_for(alloc: Global, lines: u32) -> Result<RowBuf, OutOfMemory>
     ensures room { IfOk result (λ rows. (edge_limit ≤ rows.room) ⊎ (lines ≤ rows.room)) }
 {
@@ -65,7 +66,7 @@ fn rows_for(alloc: Global, lines: u32) -> Result<RowBuf, OutOfMemory>
     Ok(rows)
 }
 
-/// Marks, where a drawing has several lines: a lone one needs none.
+/// A visited mask, if drawings can have more than one line: a lone line needs none.
 fn marks_for(alloc: Global, lines: u32) -> Result<Option<Stamps>, OutOfMemory> {
     if lines < 2 {
         return Ok(None);
@@ -74,7 +75,7 @@ fn marks_for(alloc: Global, lines: u32) -> Result<Option<Stamps>, OutOfMemory> {
     Ok(Some(marks))
 }
 
-/// Room for the lines of a stroke, where a drawing has many.
+/// Space for the lines of a stroke, if drawings can have many lines.
 fn copies_for(alloc: Global, lines: u32) -> Result<Vec<Line>, OutOfMemory> {
     let mut copies = Vec::new(alloc);
     if lines <= FEW_POINTS {
@@ -86,7 +87,7 @@ fn copies_for(alloc: Global, lines: u32) -> Result<Vec<Line>, OutOfMemory> {
     }
 }
 
-/// A mask, where a drawing has several lines and a pen is wide.
+/// A mask, if drawings can have more than one line and a pen is wide.
 fn mask_for(
     alloc: Global,
     lines: u32,

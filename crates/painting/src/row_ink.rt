@@ -1,4 +1,4 @@
-//! What a brush makes of the pixels of a row, by a raster operation.
+//! Row operations: how a brush changes the pixels of one row by a raster operation.
 
 ghost use Rattle.std.specs.Prelude.{◌≡◌, ◌≤◌, ◌<◌, ℕ, true, is_some, length, slice_index_or};
 ghost use Rattle.mapping.specs.Colours.{black_colour};
@@ -18,39 +18,39 @@ use mapping::{Colour, Mix};
 use raster_ops::{BrushRow, TernaryMixer, copy_law, gather_pattern, pattern};
 use span_fill::Span;
 
-/// The table of the operation that copies the pattern, whatever the colour that is there is.
+/// The table of the operation that copies the pattern, whatever the old colour.
 const PATCOPY: u8 = 0xf0;
 
-/// The table of the operation that copies the source, whatever the pattern and the colour that is there are.
+/// The table of the operation that copies the source, whatever the pattern and the old colour.
 const SRCCOPY: u8 = 0xcc;
 
-/// What the pixels of a row become, by their columns.
+/// What happens to the pixels of a row, by column.
 #[derive(Clone, Copy, Debug)]
 pub(crate) enum RowInk<'r> {
-    /// None is written.
+    /// No pixel is written.
     Nothing,
-    /// Each becomes this colour.
+    /// Every pixel becomes this colour.
     Full(Swatch),
-    /// Each becomes the colour at its column modulo 8.
+    /// Every pixel becomes the colour at its column modulo 8.
     Pattern([Colour; 8]),
-    /// Each is mixed.
+    /// Every pixel is mixed.
     Mixed(Mix),
-    /// Each whose column modulo 8 has its bit set in `cells` is mixed, and each other by `gaps`, or isn't
-    /// written.
+    /// A pixel whose bit, at its column modulo 8, is set in `cells` is mixed by `mix`. Any other is mixed by `gaps`, or
+    /// isn't written if there is none.
     Cells {
         cells: u8,
         mix: Mix,
         gaps: Option<Mix>,
     },
-    /// Each becomes the colour at its column.
+    /// Every pixel becomes the colour at its column.
     Row(&'r [Colour; MAX_SIDE]),
-    /// Each is mixed by the mix at its column, of what is kept and what is flipped.
+    /// Every pixel is mixed by the mix at its column, made of the bits to keep and the bits to flip.
     MixRow {
         keeps: &'r [Colour; MAX_SIDE],
         flips: &'r [Colour; MAX_SIDE],
     },
-    /// Each whose column modulo 8 has its bit set in `cells` is mixed by the mix at its column, and no other is
-    /// written.
+    /// A pixel whose bit, at its column modulo 8, is set in `cells` is mixed by the mix at its column. No other pixel
+    /// is written.
     MixCells {
         cells: u8,
         keeps: &'r [Colour; MAX_SIDE],
@@ -58,7 +58,7 @@ pub(crate) enum RowInk<'r> {
     },
 }
 
-/// What a row of a brush makes of its pixels in some columns. Nothing is read.
+/// The row operation of a brush for some columns of a row, without a source.
 pub(crate) fn row_ink<'r>(
     row: &BrushRow<'_>,
     operation: TernaryMixer,
@@ -95,7 +95,8 @@ pub(crate) fn row_ink<'r>(
     }
 }
 
-/// What a row of a picture that is repeated makes of those pixels: its colours, where the operation copies them.
+/// The row operation of a repeated bitmap for these columns. If the raster operation copies the pattern, it just writes
+/// the bitmap's colours.
 fn tile_ink<'r>(
     row: &BrushRow<'_>,
     operation: TernaryMixer,
@@ -118,8 +119,8 @@ fn tile_ink<'r>(
     RowInk::MixRow { keeps, flips }
 }
 
-/// What a row of a brush makes of its pixels in some columns, and of what is read there, each at its column: that, where the operation
-/// copies it and the brush leaves no pixel out.
+/// The row operation of a brush and a source for some columns of a row. If the raster operation copies the source and
+/// the brush leaves no pixel out, it just writes the source's colours.
 pub(crate) fn source_ink<'r>(
     row: &BrushRow<'_>,
     operation: TernaryMixer,
@@ -141,7 +142,7 @@ pub(crate) fn source_ink<'r>(
     mix_given(row, room)
 }
 
-/// The mixes of the columns to which a row of a brush gives a colour.
+/// A row operation that mixes the columns for which the brush has a colour.
 fn mix_given<'r>(row: &BrushRow<'_>, room: &'r MixRoom) -> RowInk<'r>
     ensures test { (x : ℕ) → is_inked result x ≡ is_some (row_paint row.now x) }
     ensures ink { (x : ℕ) (old : Colour) → is_inked result x ≡ true → inked result x old ≡ mixed_in room.entry.now x old }
@@ -164,7 +165,7 @@ fn mix_given<'r>(row: &BrushRow<'_>, room: &'r MixRoom) -> RowInk<'r>
     }
 }
 
-/// Mixes that join what a row of a brush gives these columns and what is read there, each at its column.
+/// Computes, for each of these columns, the mix of the brush's colour and the source's colour.
 fn gather_mixes(
     row: &BrushRow<'_>,
     operation: TernaryMixer,
@@ -183,7 +184,7 @@ fn gather_mixes(
     operation.gather(patterns, sources, from, to, keeps, flips);
 }
 
-/// Whether an operation is known to give every pixel the pattern.
+/// Whether an operation always gives every pixel the pattern's colour.
 fn copies_pattern(operation: TernaryOp) -> bool
     ensures { result ≡ true → (p s old : Colour) → HasBytes p → ternary_colour operation.table p s old ≡ p }
 {
@@ -191,7 +192,7 @@ fn copies_pattern(operation: TernaryOp) -> bool
     operation.table == PATCOPY
 }
 
-/// Mixes that join the patterns of some columns, each at its column.
+/// Computes, for each of these columns, the mix of the pattern's colour.
 fn mix_patterns(
     operation: TernaryMixer,
     columns: Span,
@@ -210,7 +211,7 @@ fn mix_patterns(
     }
 }
 
-/// Each pixel is mixed: one colour where the mix makes one of all.
+/// A row operation that mixes every pixel. If the mix gives one colour for all old colours, it writes that colour.
 pub(crate) fn full(mix: Mix) -> RowInk<'static>
     ensures test { (x : ℕ) → is_inked result x ≡ true }
     ensures ink { (x : ℕ) (old : Colour) → inked result x old ≡ mixed_by mix old }
@@ -221,7 +222,8 @@ pub(crate) fn full(mix: Mix) -> RowInk<'static>
     }
 }
 
-/// The cells are mixed by one mix, and the gaps by the other: a pattern where each makes one colour of all.
+/// A row operation that mixes the cells by one mix and the gaps by another. If each mix gives one colour for all old
+/// colours, it writes a pattern.
 fn two(cells: u8, mix: Mix, gaps: Mix) -> RowInk<'static>
     ensures test { (x : ℕ) → is_inked result x ≡ true }
     ensures ink { (x : ℕ) (old : Colour) → inked result x old ≡ mixed_cells cells mix gaps x old }

@@ -1,4 +1,4 @@
-//! What paints the rows of a shape, one after another.
+//! Painters of a shape's rows.
 
 ghost use Rattle.std.specs.Prelude.{◌≡◌, ◌+◌, ◌*◌, ◌^◌, ◌<◌, ◌≤◌};
 ghost use Rattle.canvas.specs.CanvasState.{HasRow};
@@ -14,16 +14,16 @@ use canvas::Canvas;
 use dc_stack::Clip;
 use span_fill::Span;
 
-/// The inks of the rows of a shape.
+/// The row operations for the rows of a shape.
 #[derive(Clone, Copy, Debug)]
 pub(crate) enum Inks<'p, 'd, 'a> {
-    /// One for all rows, which isn't copied for a row.
+    /// The same for all rows. It isn't copied for each row.
     Same(RowInk<'static>),
-    /// One for each row, of what a brush makes of it.
+    /// One for each row, computed from a fill style.
     EachRow(&'p Brushing<'d, 'a>),
 }
 
-/// What paints some columns of the rows of a shape, under a clip.
+/// Paints some columns of a shape's rows, under a clip.
 #[derive(Clone, Copy, Debug)]
 pub(crate) struct RowPainter<'p, 'd, 'a> {
     pub(crate) clip: &'d Clip,
@@ -34,7 +34,7 @@ pub(crate) struct RowPainter<'p, 'd, 'a> {
 impl<'p, 'd, 'a> RowPainter<'p, 'd, 'a> {
     ghost use Rattle.painting.specs.RowPainters.{HoldsRead, painter_paint};
 
-    /// Paints the pixels in the spans of a row, what is read there being gathered.
+    /// Paints the pixels in the spans of a row. Source colours for this row must have been gathered.
     pub(crate) fn put_row(&self, canvas: &mut Canvas, spans: &[Span], y: u32, room: &mut InkRoom)
         requires whole { IsWhole canvas.old }
         requires spans { AreApart 0 canvas.old.width spans.now }

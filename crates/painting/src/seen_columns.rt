@@ -1,4 +1,4 @@
-//! Which columns of a row something may be painted in, so that nothing is gathered for others.
+//! The columns of a row that can be painted, so that colours are gathered for no others.
 
 ghost use Rattle.std.specs.Prelude.{◌≡◌, ◌≤◌, ℕ, true};
 ghost use Rattle.mapping.specs.PixelBoxes.{in_box};
@@ -26,7 +26,7 @@ pub(crate) fn hull(spans: &[Span]) -> Span
     }
 }
 
-/// Some columns of a row, less what each box cuts off at their start or their end, one box after another.
+/// The columns that remain after each box, in turn, has cut off their start or their end.
 pub(crate) fn uncut_part(columns: Span, y: u32, cuts: &[ClipBox]) -> Span
     requires order { columns.from ≤ columns.to }
     ensures all { (x : ℕ) → in_span columns x ≡ true → is_uncut (placed_boxes cuts.now) x y ≡ true → in_span result x ≡ true }
@@ -41,7 +41,7 @@ pub(crate) fn uncut_part(columns: Span, y: u32, cuts: &[ClipBox]) -> Span
     part
 }
 
-/// Some columns of a row, less what a box has of them, if that is their start or their end.
+/// The columns outside a box, if the box covers their start or their end.
 fn less(columns: Span, cut: Rect, y: u32) -> Span
     requires order { columns.from ≤ columns.to }
     ensures all { (x : ℕ) → in_span columns x ≡ true → (in_box cut x y ≡ true → ⊥) → in_span result x ≡ true }

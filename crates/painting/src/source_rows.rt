@@ -1,4 +1,4 @@
-//! What a blit reads, a row of its box at a time.
+//! The source colours of a blit, one row of its box at a time.
 
 ghost use Rattle.std.specs.Prelude.{◌≡◌, ◌<◌, ◌≤◌, ◌≤ℤ◌, ◌+ℤ◌, pos, IfSome, Some, true};
 ghost use Rattle.dib_views.specs.PictureOf.{picture_of};
@@ -13,14 +13,14 @@ use span_fill::Span;
 /// What was gathered last.
 #[derive(Clone, Copy, Debug)]
 pub(crate) struct Gathered {
-    /// The row of the picture.
+    /// The row of the bitmap.
     row: u32,
-    /// For which columns of the surface.
+    /// The columns of the surface.
     columns: Span,
 }
 
-/// Gathers what these columns of a row read, each at its column, if something is read, and answers with what was gathered. Nothing is
-/// gathered where the same was gathered last.
+/// Gathers the source colours of these columns, each at its column, if there is a source, and returns what was
+/// gathered. Does nothing if the same colours were gathered last.
 pub(crate) fn read_row(
     source: &Option<SourceReader<'_>>,
     columns: Span,
@@ -45,7 +45,7 @@ pub(crate) fn read_row(
     Some(Gathered { row, columns })
 }
 
-/// Whether this was gathered last.
+/// Whether these colours were gathered last.
 fn is_gathered(last: Option<Gathered>, row: u32, columns: Span) -> bool
     ensures { result ≡ true → last ≡ Some (record { row = row; columns = columns }) }
 {

@@ -1,4 +1,4 @@
-//! Strokes of several lines, each by its steps: a pixel is written where no line had it before.
+//! Strokes of several lines, step by step: a pixel is written unless an earlier line has visited it.
 
 ghost use Rattle.std.specs.Prelude.{◌≡◌, ◌+◌, ◌*◌, ◌<◌, ◌≤◌, ◌^◌, ℕ, [], false, IsTrue};
 ghost use Rattle.dc_stack.specs.Values.{placed_value};
@@ -18,7 +18,7 @@ use dc_stack::Clip;
 use mapping::Mix;
 use span_fill::{Line, Outline, Region, line_law};
 
-/// Begins with the marks of a box, if it has few enough pixels and a clip cuts nothing out.
+/// Starts a visited mask for a box, if the box is small enough and the clip cuts no boxes out. Returns whether it did.
 pub(crate) fn begin_stamps(stamps: &mut Stamps, clip: &Clip, drawn: Region) -> bool
     requires columns { IsOfSide drawn.columns }
     requires rows { IsOfSide drawn.rows }
@@ -32,7 +32,7 @@ pub(crate) fn begin_stamps(stamps: &mut Stamps, clip: &Clip, drawn: Region) -> b
     stamps.begin(drawn)
 }
 
-/// Mixes the pixels that a box has of an outline's lines, each once. None of the box's marks is taken yet.
+/// Mixes the pixels of an outline's lines within the box of the mask, each once. No pixel may be marked as visited yet.
 pub(crate) fn stamp_lines<O: Outline + Copy>(
     canvas: &mut Canvas,
     stamps: &mut Stamps,
@@ -52,8 +52,8 @@ pub(crate) fn stamp_lines<O: Outline + Copy>(
     }
 }
 
-/// Mixes the pixels that a box has of a line, of those whose marks aren't taken yet, and takes them. It isn't inlined, which leaves its
-/// loops enough registers.
+/// Mixes the pixels of a line within the box that aren't marked as visited, and marks them. This isn't inlined, so that
+/// its loops get enough registers.
 #[inline(never)]
 fn stamp_line(canvas: &mut Canvas, stamps: &mut Stamps, line: Line, mix: Mix)
     requires near { HasNearEnds line }

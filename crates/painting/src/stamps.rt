@@ -1,4 +1,4 @@
-//! Marks for the pixels of a box: which of them were taken.
+//! Visited masks: which pixels of a box have been visited.
 
 ghost use Rattle.std.specs.Prelude.{◌≡◌, ◌<◌, ◌≤◌, ◌||◌, ◌==◌, ℕ, IfOk, IsTrue, IsFalse, false, length, not, nat_le};
 ghost use Rattle.canvas.specs.Writing.{is_at};
@@ -11,20 +11,20 @@ use span_fill::{Line, LineSteps, OutOfMemory, Region, Span};
 use std::alloc::Global;
 use std::marker::Model;
 
-/// How many words the marks have, each of 64 bits.
+/// The number of words of a mask, each of 64 bits.
 const WORDS: usize = 16_384;
 
 /// The most pixels of a box.
 const MAX_PIXELS: usize = 1_048_576;
 
-/// Marks for the pixels of a box, one bit each, which is set when the pixel is taken.
+/// A visited mask: one bit for each pixel of a box, set when the pixel is visited.
 ///
 /// # Guarantees
 ///
-/// - No call but `new` wants memory, whatever the box.
+/// - Only `new` allocates memory, whatever the box.
 #[derive(Drop)]
 pub(crate) struct Stamps {
-    /// The marks, row by row, and behind them what earlier boxes left.
+    /// The mask, row by row, followed by remains of earlier boxes.
     words: Vec<u64>,
     region: Region,
 }
@@ -42,7 +42,8 @@ impl Model for Stamps {
 }
 
 impl Stamps {
-    /// The marks of a box without pixels, with room for those of any box: 128 KiB, or `OutOfMemory` where they were refused.
+    /// Allocates a mask that can serve any box: 128 KiB. Its first box has no pixels. Returns `OutOfMemory` if the
+    /// allocation fails.
     pub(crate) fn new(alloc: Global) -> Result<Stamps, OutOfMemory>
         ensures { IfOk result (λ stamps. pixel_count stamps.region ≡ 0) }
     {
@@ -53,8 +54,8 @@ impl Stamps {
         Ok(Stamps { words, region })
     }
 
-    /// Begins with a box of which no pixel is taken, if it has at most 1,048,576 pixels: tells whether it has. Else the marks stay what
-    /// they are.
+    /// Starts a box with no pixel visited, if it has at most 1,048,576 pixels, and returns whether it has. Otherwise
+    /// the mask doesn't change.
     pub(crate) fn begin(&mut self, region: Region) -> bool
         requires columns { region.columns.to ≤ 8192 }
         requires rows { region.rows.to ≤ 8192 }
@@ -72,7 +73,7 @@ impl Stamps {
         true
     }
 
-    /// The pixels that the box has of a line, a step at a time.
+    /// The pixels of a line within the box, step by step.
     pub(crate) fn steps(&self, line: Line) -> LineSteps
         requires { HasNearEnds line }
         ensures line { result.line ≡ line }
@@ -82,7 +83,7 @@ impl Stamps {
         LineSteps::new(line, self.region)
     }
 
-    /// Takes a pixel of the box, and tells whether it wasn't taken before.
+    /// Marks a pixel of the box as visited, and returns whether it wasn't visited before.
     pub(crate) fn take(&mut self, x: u32, y: u32) -> bool
         requires { IsTrue (in_region self.old.region x y) }
         ensures first { result ≡ not (is_taken self.old x y) }
@@ -129,7 +130,7 @@ pub(crate) fn pixels(region: Region) -> usize
     width(region.columns) * width(region.rows)
 }
 
-/// The number of a pixel of a box, row by row.
+/// The number of a pixel of a box, counted row by row.
 fn number_in(region: Region, x: u32, y: u32) -> usize
     requires columns { region.columns.to ≤ 8192 }
     requires rows { region.rows.to ≤ 8192 }
@@ -142,7 +143,7 @@ fn number_in(region: Region, x: u32, y: u32) -> usize
     row as usize * columns as usize + column as usize
 }
 
-/// Clears so many bits, and what stands behind them in the last word.
+/// Clears this number of bits, and the rest of the last word.
 fn clear(words: &mut [u64], count: usize)
     requires words { length words.old ≡ 16384 }
     requires count { count ≤ stamp_limit }
@@ -153,7 +154,7 @@ fn clear(words: &mut [u64], count: usize)
     }
 }
 
-/// Sets a bit, and tells whether it wasn't set.
+/// Sets a bit, and returns whether it wasn't set before.
 fn take_bit(words: &mut [u64], number: usize) -> bool
     requires words { length words.old ≡ 16384 }
     requires number { number < stamp_limit }

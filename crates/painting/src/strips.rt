@@ -1,5 +1,5 @@
-//! Parts of a row, painted: what an ink writes of some columns, of them what no box cuts out, and of a
-//! whole row's spans.
+//! Painting parts of a row: some columns, the columns outside the boxes that a clip cuts out, and all the spans of a
+//! row.
 
 ghost use Rattle.std.specs.Prelude.{◌≡◌, ◌+◌, ◌*◌, ◌<◌, ◌≤◌, ◌^◌, ◌&&◌, ℕ, [], slice_index_or};
 ghost use Rattle.mapping.specs.PixelBoxes.{in_box};
@@ -25,7 +25,7 @@ struct RowPart {
     columns: Span,
 }
 
-/// Writes what an ink makes of some columns of a row.
+/// Applies a row operation to some columns of a row.
 fn put_ink(canvas: &mut Canvas, ink: &RowInk<'_>, y: u32, columns: Span)
     requires { MayPaint canvas.old y columns }
     ensures pixels { PutsInk ink.now [] y (in_span columns) canvas.old canvas.new }
@@ -57,7 +57,7 @@ fn put_ink(canvas: &mut Canvas, ink: &RowInk<'_>, y: u32, columns: Span)
     }
 }
 
-/// Gives some columns of a row the colours at them.
+/// Sets some columns of a row to the colours at these columns.
 fn put_colours(canvas: &mut Canvas, colours: &[Colour; MAX_SIDE], y: u32, columns: Span)
     requires { MayPaint canvas.old y columns }
     ensures pixels { MakesColumns y columns (slice_index_or colours.now) canvas.old canvas.new }
@@ -69,7 +69,7 @@ fn put_colours(canvas: &mut Canvas, colours: &[Colour; MAX_SIDE], y: u32, column
     canvas.put_row(columns.from, y, &colours[first..last]);
 }
 
-/// Mixes some columns of a row by the mixes at them.
+/// Mixes some columns of a row by the mixes at these columns.
 fn put_mixes(
     canvas: &mut Canvas,
     keeps: &[Colour; MAX_SIDE],
@@ -87,7 +87,7 @@ fn put_mixes(
     canvas.mix_row(columns.from, y, &keeps[first..last], &flips[first..last]);
 }
 
-/// Mixes those of some columns of a row that are cells by the mixes at them.
+/// Mixes the cells among some columns of a row by the mixes at their columns.
 fn put_cells(
     canvas: &mut Canvas,
     cells: u8,
@@ -119,7 +119,7 @@ fn put_both(canvas: &mut Canvas, cells: u8, mix: Mix, gaps: Mix, part: RowPart)
     canvas.mix_cells(from, to, part.y, !cells, gaps);
 }
 
-/// Those of some columns that a box has in a row.
+/// The columns, among some, that a box covers in a row.
 pub(crate) fn hidden(cut: Rect, y: u32, columns: Span) -> Span
     requires order { columns.from ≤ columns.to }
     ensures hidden { (x : ℕ) → in_span columns x && in_box cut x y ≡ in_span result x }
@@ -136,7 +136,7 @@ pub(crate) fn hidden(cut: Rect, y: u32, columns: Span) -> Span
     columns.between(i64::from(cut.l), i64::from(cut.r))
 }
 
-/// Writes what an ink makes of those columns of a row that no box cuts out.
+/// Applies a row operation to those columns of a row that no box cuts out.
 fn put_uncut(canvas: &mut Canvas, ink: &RowInk<'_>, y: u32, columns: Span, cuts: &[ClipBox])
     requires { MayPaint canvas.old y columns }
     ensures pixels { PutsInk ink.now (placed_boxes cuts.now) y (in_span columns) canvas.old canvas.new }
@@ -157,7 +157,7 @@ fn put_uncut(canvas: &mut Canvas, ink: &RowInk<'_>, y: u32, columns: Span, cuts:
     put_uncut(canvas, ink, y, Span { from: behind, to }, rest);
 }
 
-/// Writes what an ink makes of those pixels in the spans of a row that no box cuts out.
+/// Applies a row operation to the pixels in the spans of a row, except those that a box cuts out.
 pub(crate) fn put_spans(
     canvas: &mut Canvas,
     ink: &RowInk<'_>,
@@ -173,7 +173,7 @@ pub(crate) fn put_spans(
     ensures count { canvas.new.writes ≤ canvas.old.writes + canvas.old.width }
 {
     writing_law();
-    // (the ink is looked at where it lies: a copy of it would be waited for in each row)
+    // (borrowed rather than copied: every row would wait for the copy)
     if cuts.is_empty() {
         if let RowInk::Full(swatch) = ink {
             put_full(canvas, swatch, y, spans);
@@ -185,7 +185,7 @@ pub(crate) fn put_spans(
     }
 }
 
-/// Gives the pixels in the spans of a row one colour.
+/// Sets the pixels in the spans of a row to one colour.
 fn put_full(canvas: &mut Canvas, swatch: &Swatch, y: u32, spans: &[Span])
     requires whole { IsWhole canvas.old }
     requires spans { AreApart 0 canvas.old.width spans.now }

@@ -1,4 +1,4 @@
-//! What a pen's stroke does to the pixels of its shape.
+//! How a pen's stroke changes pixels.
 
 ghost use Rattle.std.specs.Prelude.{◌≡◌};
 ghost use Rattle.dc_stack.specs.Drawing.{tools_of};
@@ -11,7 +11,7 @@ use mapping::{Colour, Mix, Nib};
 use object_tables::Table;
 use raster_ops::{TernaryMixer, binary_law, ternary_of};
 
-/// A pen's stroke: each pixel that its nib covers along some lines, and that the clip has, is mixed.
+/// A pen's stroke: each pixel that its nib covers along the lines is mixed, if the clip contains it.
 #[derive(Clone, Copy, Debug)]
 pub(crate) struct Stroke<'d> {
     pub(crate) mix: Mix,
@@ -22,7 +22,7 @@ pub(crate) struct Stroke<'d> {
 impl<'d> Stroke<'d> {
     ghost use Rattle.painting.specs.PenStrokes.{stroke_paint};
 
-    /// A stroke in this colour and by this nib, by the raster operation and under the clip of the moment.
+    /// A stroke in this colour and by this nib, with the current raster operation and clip.
     pub(crate) fn with<'a, T: Table<'a>>(
         colour: Colour,
         nib: Nib,

@@ -1,4 +1,4 @@
-//! The one way in which lines are stroked.
+//! The only way to stroke lines.
 
 ghost use Rattle.std.specs.Prelude.{◌≡◌, ◌<◌, ◌≤◌, ℕ, [], false, length};
 ghost use Rattle.std.specs.List.{All};
@@ -33,17 +33,17 @@ use canvas::{Canvas, writing_law};
 use mapping::{Nib, Rect};
 use span_fill::{Outline, Region, wide_stroke_law};
 
-/// An outline to be stroked, and what is known of it before its lines are looked at.
+/// An outline to be stroked, with what is known of it before its lines are read.
 #[derive(Clone, Copy, Debug)]
 pub(crate) struct StrokedLines<O> {
     pub(crate) outline: O,
-    /// What holds the pixels of the lines.
+    /// A box that contains the pixels of the lines.
     pub(crate) bounds: Bounds,
-    /// How many points the lines join.
+    /// The number of points that the lines join.
     pub(crate) points: u32,
 }
 
-/// Strokes the lines of an outline, which lie in a box. No other function knows how a stroke is painted.
+/// Strokes the lines of an outline, which lie within the bounds. No other function knows how strokes are painted.
 pub(crate) fn stroke_lines<O: Outline + Copy>(
     canvas: &mut Canvas,
     room: &mut DrawingRoom,
@@ -66,8 +66,9 @@ pub(crate) fn stroke_lines<O: Outline + Copy>(
     stroke_wide_lines(canvas, room, lines, stroke);
 }
 
-/// The same by a nib of one pixel: a lone line by its steps, and several by marks, where these can be taken and cost less than rows of spans,
-/// and else by those. Where many lines are judged they are copied first, so that each is placed once.
+/// Strokes lines by a nib of one pixel. A lone line is painted step by step. Several lines go through the visited mask
+/// if it can be used and costs less than rows of spans; otherwise they are painted as rows of spans. If many lines need
+/// an estimate, they are copied first, so that each is placed once.
 fn stroke_thin_lines<O: Outline + Copy>(
     canvas: &mut Canvas,
     room: &mut DrawingRoom,
@@ -109,7 +110,8 @@ fn stroke_thin_lines<O: Outline + Copy>(
     stroke_rows(canvas, room, outline, drawn, stroke);
 }
 
-/// Strokes the lines that were copied, by marks, where these pay, or by rows of spans, in a region that has what is seen of them.
+/// Strokes the copied lines in a region that contains everything visible of them: through the visited mask if that
+/// costs less, or else by rows of spans.
 fn stroke_copies(
     canvas: &mut Canvas,
     room: &mut DrawingRoom,
@@ -144,7 +146,8 @@ fn stroke_copies(
     paint_begun(canvas, room, drawn, stroke);
 }
 
-/// Strokes the lines of an outline by marks of a region that has what is seen of them. None of the marks is taken yet.
+/// Strokes the lines of an outline through the visited mask of a region that contains everything visible of them. No
+/// pixel may be marked as visited yet.
 fn stroke_by_marks<O: Outline + Copy>(
     canvas: &mut Canvas,
     stamps: &mut Stamps,
@@ -164,7 +167,7 @@ fn stroke_by_marks<O: Outline + Copy>(
     stamp_lines(canvas, stamps, outline, stroke.mix);
 }
 
-/// Strokes the lines of an outline by rows of spans, in a region that has what is seen of them.
+/// Strokes the lines of an outline by rows of spans, in a region that contains everything visible of them.
 pub(crate) fn stroke_rows<O: Outline + Copy>(
     canvas: &mut Canvas,
     room: &mut DrawingRoom,
@@ -192,7 +195,8 @@ pub(crate) fn stroke_rows<O: Outline + Copy>(
     paint_begun(canvas, room, drawn, stroke);
 }
 
-/// Paints the rows of a stroke that was begun with at the first row of a region, which has what is seen of it.
+/// Paints the rows of a stroke. The row buffer has begun with it at the first row of the region, which contains
+/// everything visible of it.
 fn paint_begun(canvas: &mut Canvas, room: &mut DrawingRoom, drawn: Region, stroke: &Stroke<'_>)
     requires countable { HasRoomForLayer canvas.old }
     requires begun { HasPart (Lines stroke.now.nib) drawn.rows stroke.now.clip.now drawn.columns room.old.rows canvas.old }
@@ -210,7 +214,7 @@ fn paint_begun(canvas: &mut Canvas, room: &mut DrawingRoom, drawn: Region, strok
     paint_rows(canvas, room, Part::Lines(stroke.nib), drawn.rows, &painter);
 }
 
-/// Strokes the outer pixels of a box, if it has any.
+/// Strokes the outermost pixels of a box, if it has any.
 pub(crate) fn stroke_box(
     canvas: &mut Canvas,
     room: &mut DrawingRoom,

@@ -1,4 +1,4 @@
-//! The pixels of a line that a clip has.
+//! The pixels of a line that a clip contains.
 
 ghost use Rattle.std.specs.Prelude.{◌-◌, ◌&&◌};
 ghost use Rattle.dc_stack.specs.Clip.{in_boxes};
@@ -9,7 +9,7 @@ use crate::line_pixels::LinePixels;
 use canvas::{PixelAt, PixelSource};
 use dc_stack::Clip;
 
-/// Those pixels of the steps that are left of a line which a clip has.
+/// The pixels of a line's remaining steps that a clip contains.
 #[derive(Drop)]
 pub(crate) struct UncutPixels<'c> {
     pub(crate) pixels: LinePixels,

@@ -1,4 +1,4 @@
-//! The pixels of a line that no line had before.
+//! The pixels of a line that no earlier line has visited.
 
 ghost use Rattle.std.specs.Prelude.{◌≡◌, ◌-◌, ◌&&◌, ℕ, not, true};
 ghost use Rattle.span_fill.specs.Spans.{in_region};
@@ -9,11 +9,11 @@ use crate::line_pixels::LinePixels;
 use crate::stamps::Stamps;
 use canvas::{PixelAt, PixelSource};
 
-/// Those pixels of the steps that are left of a line whose marks aren't taken yet. The mark of a pixel is taken when it is given.
+/// The pixels of a line's remaining steps that aren't marked as visited. A pixel is marked when it is returned.
 ///
 /// # Guarantees
 ///
-/// - The marks are of a box that has these pixels.
+/// - The mask belongs to a box that contains these pixels.
 #[derive(Drop)]
 pub(crate) struct UntakenPixels<'s> {
     pub(crate) pixels: LinePixels,

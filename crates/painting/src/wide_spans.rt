@@ -1,4 +1,4 @@
-//! What a nib covers of lines, as spans that a canvas takes.
+//! The pixels that a nib covers along lines, as spans for a canvas.
 
 ghost use Rattle.std.specs.Prelude.{◌≡◌, ◌≤◌, ◌≤ℤ◌, ◌&&◌, nat_le, nat_lt, pos, ℕ};
 ghost use Rattle.span_fill.specs.Spans.{in_span};
@@ -8,7 +8,7 @@ ghost use Rattle.painting.specs.WideSpans.{is_wide_to_come, rows_left};
 use canvas::{RowSpan, SpanSource};
 use span_fill::{Span, StrokeMask, WideLine, WideRow};
 
-/// What some columns of a surface have of the rows to come of a wide line.
+/// The remaining rows of a wide line, within some columns of a surface.
 ///
 /// # Guarantees
 ///
@@ -38,7 +38,7 @@ impl SpanSource for WideLineSpans {
     }
 }
 
-/// What some columns have of a row.
+/// The part of a row within some columns.
 fn span_of(row: WideRow, columns: Span) -> RowSpan
     requires { pos 0 ≤ℤ row.y }
     ensures y { pos result.y ≡ row.y }
@@ -51,7 +51,7 @@ fn span_of(row: WideRow, columns: Span) -> RowSpan
     }
 }
 
-/// What is to come of a mask.
+/// The remaining spans of a mask.
 #[derive(Drop)]
 pub(crate) struct MaskSpans<'m> {
     pub(crate) mask: &'m mut StrokeMask,

@@ -20,8 +20,9 @@ use canvas::{Canvas, writing_law};
 use mapping::{Mix, Nib};
 use span_fill::{Line, Outline, Region, StrokeMask, WideLine};
 
-/// Strokes the lines of an outline by a nib of several pixels: a lone line row by row, and several by a mask, where that has room for what is
-/// seen of them. By rows of spans it goes else, and where a clip cuts boxes out, since a cut is asked about a span of a row then.
+/// Strokes the lines of an outline by a nib of several pixels. A lone line is painted row by row. Several lines go
+/// through a mask, if it is large enough for what is visible of them. Otherwise, or if the clip cuts boxes out, they
+/// are painted as rows of spans, because then each span of a row is tested against these boxes.
 pub(crate) fn stroke_wide_lines<O: Outline + Copy>(
     canvas: &mut Canvas,
     room: &mut DrawingRoom,
@@ -57,7 +58,7 @@ pub(crate) fn stroke_wide_lines<O: Outline + Copy>(
     stroke_rows(canvas, room, lines.outline, drawn, stroke);
 }
 
-/// Mixes what a region has of a line under a nib.
+/// Mixes the pixels of a region that a nib covers along a line.
 fn mix_wide_line(canvas: &mut Canvas, line: Line, nib: Nib, drawn: Region, mix: Mix)
     requires near { HasNearEnds line }
     requires nib { IsNib nib }
@@ -77,7 +78,8 @@ fn mix_wide_line(canvas: &mut Canvas, line: Line, nib: Nib, drawn: Region, mix: 
     canvas.mix_each_span(&mut spans, mix);
 }
 
-/// Mixes what a region has of the lines of an outline under a stroke's nib, by a mask that has room for it.
+/// Mixes the pixels of a region that the stroke's nib covers along an outline's lines, through a mask that is large
+/// enough.
 fn mix_by_mask<O: Outline + Copy>(
     canvas: &mut Canvas,
     mask: &mut StrokeMask,

@@ -8,7 +8,7 @@ ghost use Rattle.span_fill.specs.WideStrokes.{widened};
 
 use mapping::{Nib, Rect, reach_after, reach_before};
 
-/// The box with all that a nib covers that is led over the pixels of a box.
+/// The box of all that a nib covers as it moves over the pixels of a box.
 pub(crate) fn widened(inside: Rect, nib: Nib) -> Rect
     requires near { IsNearBox inside }
     requires nib { IsNib nib }
@@ -22,7 +22,7 @@ pub(crate) fn widened(inside: Rect, nib: Nib) -> Rect
     }
 }
 
-/// An edge, and so many columns or rows before it.
+/// An edge, minus this number of columns or rows.
 fn less(edge: i32, count: i32) -> i32
     requires near { IsNear edge }
     requires some { pos 0 ≤ℤ count }
@@ -32,7 +32,7 @@ fn less(edge: i32, count: i32) -> i32
     edge - count
 }
 
-/// An edge, and so many after it.
+/// An edge, plus this number of columns or rows.
 fn more(edge: i32, count: i32) -> i32
     requires near { IsNear edge }
     requires some { pos 0 ≤ℤ count }

@@ -1,15 +1,16 @@
-//! Bands of each first row and of each count of rows, and surfaces of each colour: where there is memory, none is refused.
+//! Bands of every first row and every number of rows, and surfaces of every colour: if there is memory, each can be
+//! made.
 
 use canvas::Canvas;
 use mapping::Colour;
 use std::alloc::Global;
 
-/// Whether a pixel is held, and has this colour.
+/// Whether the canvas has this pixel, in this colour.
 fn shows(canvas: &Canvas, x: u32, y: u32, colour: Colour) -> bool {
     canvas.has_pixel(x, y) && canvas.colour(x, y) == colour
 }
 
-/// Whether a band of these rows is made, and shows the colour in its first and in its last pixel.
+/// Whether a band of these rows can be made, and shows the colour in its first and last pixels.
 fn is_band(alloc: Global, width: u32, first: u32, rows: u32, colour: Colour) -> bool {
     if width == 0 || 8192 < width || rows == 0 || 8192 < rows || 8192 - rows < first {
         return false;
@@ -22,7 +23,7 @@ fn is_band(alloc: Global, width: u32, first: u32, rows: u32, colour: Colour) -> 
     }
 }
 
-/// Whether a surface of three by two pixels is made in a colour.
+/// Whether a surface of three by two pixels can be made in a colour.
 fn is_coloured(alloc: Global, r: u8, g: u8, b: u8) -> bool {
     is_band(alloc, 3, 0, 2, Colour { r, g, b })
 }

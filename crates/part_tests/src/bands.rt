@@ -1,4 +1,4 @@
-//! Bands: rows of a surface that are held, shown again lower down, and written one behind the other.
+//! Bands: some rows of a surface, moved further down, and written one after another.
 
 use crate::comparing::same;
 use canvas::{Canvas, OutOfMemory, WriteFault, write_header};
@@ -11,7 +11,7 @@ const RED: Colour = Colour { r: 255, g: 0, b: 0 };
 
 const GREY: Colour = Colour { r: 7, g: 8, b: 9 };
 
-/// A writer that takes a number of bytes, and then none.
+/// A writer that accepts some number of bytes, and then none.
 #[derive(Drop)]
 pub(crate) struct Full {
     pub taken: Vec<u8>,
@@ -124,7 +124,7 @@ fn a_full_writer_has_a_front_of_the_rows(rt: HostRuntime) -> Result<(), Fail> {
     Ok(())
 }
 
-// Run once more for each growth refused in turn, by tests/refused_growth_test.py.
+// tests/refused_growth_test.py runs this once more for each allocation that can fail.
 #[test]
 fn a_band_under_refused_growth(rt: HostRuntime) -> Result<(), Fail> {
     match Canvas::band(rt.alloc(), 2, 3, 2, GREY) {

@@ -1,4 +1,4 @@
-//! Texts byte by byte, and writers that are slow or fail.
+//! P6 texts byte by byte, and writers that are slow or fail.
 
 use crate::comparing::same;
 use canvas::{Canvas, OutOfMemory, WriteFault};
@@ -9,8 +9,8 @@ use std::test::Fail;
 
 const RED: Colour = Colour { r: 255, g: 0, b: 0 };
 
-/// A writer that takes a few bytes a call, is interrupted at every other call, and fails after a
-/// number of bytes.
+/// A writer that accepts a few bytes per call, is interrupted at every other call, and fails after some number of
+/// bytes.
 #[derive(Drop)]
 pub(crate) struct Slow {
     pub taken: Vec<u8>,
@@ -50,7 +50,7 @@ impl Write for Slow {
     }
 }
 
-/// A writer that notes how many bytes each call brings.
+/// A writer that records how many bytes each call brings.
 #[derive(Drop)]
 struct Pieces {
     lengths: Vec<usize>,
@@ -157,7 +157,7 @@ fn a_writer_that_fails_has_a_front_of_the_text(rt: HostRuntime) -> Result<(), Fa
         same(&rt, slow.taken.len(), most);
         assert!(rt; whole.starts_with(slow.taken.as_slice()));
     }
-    // One that takes no byte, and doesn't fail, is a fault too.
+    // A writer that accepts no byte without failing is a fault too.
     let mut idle = Slow::new(Vec::new(rt.alloc()), 0, 1000);
     same(&rt, canvas.write_ppm(&mut idle), Err(WriteFault));
     Ok(())
@@ -170,7 +170,7 @@ fn a_large_text_goes_out_in_large_pieces(rt: HostRuntime) -> Result<(), Fail> {
         lengths: Vec::new(rt.alloc()),
     };
     canvas.write_ppm(&mut pieces)?;
-    // The header "P6\n1 8192\n255\n" goes with the first 4,096 pixels.
+    // The header "P6\n1 8192\n255\n" is written with the first 4,096 pixels.
     same(
         &rt,
         pieces.lengths.as_slice(),
@@ -181,7 +181,7 @@ fn a_large_text_goes_out_in_large_pieces(rt: HostRuntime) -> Result<(), Fail> {
 
 #[test]
 fn a_text_ends_with_its_last_pixel(rt: HostRuntime) -> Result<(), Fail> {
-    // Around the 4,096 pixels of a piece: the header has 14 bytes, and each pixel 3.
+    // Around the 4,096 pixels of a piece. The header has 14 bytes, and each pixel has 3.
     let sizes: [(u32, &[usize]); 3] = [
         (4095, &[14 + 12285]),
         (4096, &[14 + 12288]),
@@ -237,12 +237,12 @@ fn a_large_piece_goes_out_byte_by_byte(rt: HostRuntime) -> Result<(), Fail> {
     let canvas = Canvas::new(rt.alloc(), 100, 41, RED)?;
     let mut out = Slow::new(Vec::new(rt.alloc()), 1, usize::MAX);
     canvas.write_ppm(&mut out)?;
-    // The header has 14 bytes, and each of 4,100 pixels 3.
+    // The header has 14 bytes, and each of the 4,100 pixels has 3.
     same(&rt, out.taken.len(), 12314);
     Ok(())
 }
 
-// Run once more for each growth refused in turn, by tests/refused_growth_test.py.
+// tests/refused_growth_test.py runs this once more for each allocation that can fail.
 #[test]
 fn a_canvas_under_refused_growth(rt: HostRuntime) -> Result<(), Fail> {
     match Canvas::new(rt.alloc(), 2, 3, RED) {

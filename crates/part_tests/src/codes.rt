@@ -1,4 +1,4 @@
-//! Numbers of settings, raster operations and hatches: the first, the last, and the ones beside them.
+//! The codes of settings, raster operations and hatches: the first, the last, and their neighbours.
 
 use crate::comparing::same;
 use draw_ops::{BackgroundMode, FillMode, Hatch, RasterOp};

@@ -1,4 +1,4 @@
-//! Writers that count their faults: what is counted, and when a write fault comes.
+//! Writers that count their faults: what is counted, and when a write fault is returned.
 
 use crate::bands::Full;
 use crate::canvases::Slow;
@@ -15,11 +15,11 @@ use std::test::Fail;
 
 const GREY: Colour = Colour { r: 7, g: 8, b: 9 };
 
-/// A writer that takes every byte, and whose first flushes fail.
+/// A writer that accepts every byte, and whose first flushes fail.
 #[derive(Drop)]
 struct Stuck {
     taken: Vec<u8>,
-    /// How many bytes of them were flushed.
+    /// The number of bytes that were flushed.
     flushed: usize,
     failures: usize,
 }

@@ -1,4 +1,4 @@
-//! A file of one dot, which tests play whole and with other bytes.
+//! A file with one dot, which tests play unchanged and with other bytes.
 
 use mapping::Colour;
 use std::alloc::{AllocError, Global};
@@ -18,7 +18,7 @@ pub const DOT: [u8; 60] = [
 /// The colour of its pixel.
 pub const RED: Colour = Colour { r: 255, g: 0, b: 0 };
 
-/// `DOT` with other bytes from a place on.
+/// `DOT` with other bytes from an offset on.
 pub fn changed(alloc: Global, place: usize, bytes: &[u8]) -> Result<Vec<u8>, AllocError> {
     let mut file = Vec::new(alloc);
     for (k, byte) in DOT.iter().enumerate() {

@@ -1,4 +1,4 @@
-//! Zeros among counts, and empty lists among lists, passed over.
+//! Zeros among counts, and empty lists among lists, are skipped.
 
 use crate::comparing::same;
 use point_views::{Counts, Points, Polys};
@@ -9,10 +9,10 @@ const ROW: [u8; 24] = [
     0, 0, 0, 0, 1, 0, 0, 0, 2, 0, 0, 0, 3, 0, 0, 0, 4, 0, 0, 0, 5, 0, 0, 0,
 ];
 
-/// How many zeros the longest counts begin with: three times what is looked at together, and more.
+/// The most zeros that counts begin with: more than three times as many as are examined at once.
 const MOST: usize = 28;
 
-/// So many lists of the six points, from the x of this point on.
+/// Whether there are this many lists of the six points, from the one with this x on.
 fn has_lists(polys: Polys<'_>, lists: usize, first: i32) -> bool {
     polys.len() == lists && 0 < lists && !polys.get(0).is_empty() && polys.get(0).get(0).x == first
 }

@@ -1,4 +1,4 @@
-//! What faults show to users.
+//! How faults are shown to users.
 
 use crate::comparing::same;
 use draw_ops::{Fault, RecordFault};

@@ -1,4 +1,4 @@
-//! What opening a file tells, and what it notes.
+//! What opening a file returns, and what it notes.
 
 use crate::comparing::same;
 use crate::dot::{DOT, changed};
@@ -51,7 +51,7 @@ fn another_checksum_is_noted(rt: HostRuntime) -> Result<(), Fail> {
 
 #[test]
 fn a_reserved_field_is_noted(rt: HostRuntime) -> Result<(), Fail> {
-    // Both words are 1, so the checksum is as it was.
+    // Both words are 1, so the checksum is unchanged.
     let file = changed(rt.alloc(), 16, &[1, 0, 1, 0])?;
     let noted = NoteSet::none().with(Note::PlaceableFields);
     same(&rt, open_file(file.as_slice())?.notes, noted);

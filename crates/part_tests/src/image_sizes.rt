@@ -1,9 +1,10 @@
-//! Images of each side, with comments of each length before their raster and each count of bytes behind it: each is read.
+//! Images of every width and height, with comments of every length before the raster and any number of bytes after it:
+//! all are read.
 
 use canvas::Canvas;
 use std::alloc::{AllocError, Global};
 
-/// A P6 text (ppm(5)) of black pixels, with so many letters of comment in its header.
+/// A P6 text (ppm(5)) of black pixels, with a comment of this many letters in its header.
 fn text_of(alloc: Global, width: u32, height: u32, letters: usize) -> Result<Vec<u8>, AllocError> {
     let head = format!(in alloc; "P6 {width} {height} #")?;
     let mut text = Vec::from_slice(alloc, head.as_bytes())?;
@@ -16,7 +17,7 @@ fn text_of(alloc: Global, width: u32, height: u32, letters: usize) -> Result<Vec
     Ok(text)
 }
 
-/// Whether a text is read as an image of these sides.
+/// Whether a text is read as an image of this size.
 fn is_image(alloc: Global, text: &[u8], width: u32, height: u32) -> bool {
     match Canvas::from_ppm(alloc, text) {
         Ok(canvas) => canvas.width() == width && canvas.rows() == height,
@@ -24,7 +25,7 @@ fn is_image(alloc: Global, text: &[u8], width: u32, height: u32) -> bool {
     }
 }
 
-/// Whether an image of these sides is read.
+/// Whether an image of this size is read.
 fn is_read(alloc: Global, width: u32, height: u32) -> Result<bool, AllocError> {
     let text = text_of(alloc, width, height, 0)?;
     Ok(is_image(alloc, text.as_slice(), width, height))

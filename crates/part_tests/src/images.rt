@@ -1,4 +1,4 @@
-//! Reading P6 texts: gaps, comments, numbers, sides and rasters.
+//! Reading P6 texts: gaps, comments, numbers, sizes and rasters.
 
 use crate::comparing::same;
 use canvas::{Canvas, ImageError};
@@ -6,13 +6,13 @@ use mapping::Colour;
 use std::alloc::Global;
 use std::test::Fail;
 
-/// What a text is read as: its sides, or the error.
+/// The width and height that a text is read with, or the error.
 fn sides(alloc: Global, text: &[u8]) -> Result<(u32, u32), ImageError> {
     let canvas = Canvas::from_ppm(alloc, text)?;
     Ok((canvas.width(), canvas.rows()))
 }
 
-/// A text and then so many bytes 0.
+/// A text followed by this many zero bytes.
 fn with_zeros(alloc: Global, head: &[u8], count: usize) -> Result<Vec<u8>, Fail> {
     let mut text = Vec::new(alloc);
     text.extend_from_slice(head)?;
@@ -229,7 +229,7 @@ fn errors_display_their_names(rt: HostRuntime) -> Result<(), Fail> {
     Ok(())
 }
 
-// Run once more for each growth refused in turn, by tests/refused_growth_test.py.
+// tests/refused_growth_test.py runs this once more for each allocation that can fail.
 #[test]
 fn an_image_under_refused_growth(rt: HostRuntime) -> Result<(), Fail> {
     match Canvas::from_ppm(rt.alloc(), b"P6 1 2 255 abcdef".as_slice()) {

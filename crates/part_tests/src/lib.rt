@@ -1,5 +1,5 @@
-//! Tests of the crates below the playing state, with values worked by hand, one file a subject; and a file
-//! of one dot, which tests above play too.
+//! Tests of the crates below the playing state, with values worked by hand, one file per subject. It also has a file
+//! with one dot, which the tests above play too.
 #![tactic(auto)]
 
 #[cfg(test)]

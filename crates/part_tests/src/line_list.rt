@@ -1,4 +1,4 @@
-//! Lines of a slice, as an outline.
+//! The lines of a slice, as an outline.
 
 ghost use Rattle.std.specs.Prelude.{◌≡◌};
 ghost use Rattle.std.specs.List.{All};
@@ -7,7 +7,7 @@ ghost use Rattle.span_fill.specs.Lines.{HasNearEnds};
 use span_fill::{Line, Outline};
 use std::test::Fail;
 
-/// Lines of a slice that are to come.
+/// The remaining lines of a slice.
 #[derive(Clone, Copy, Debug, Drop)]
 pub(crate) struct LineList<'l> {
     pub(crate) rest: &'l [Line],
@@ -28,7 +28,7 @@ impl<'l> Outline for LineList<'l> {
     }
 }
 
-/// The same line so many times, after those that are there.
+/// Appends the same line this many times.
 pub(crate) fn put_lines(lines: &mut Vec<Line>, count: usize, line: Line) -> Result<(), Fail>
     requires line { HasNearEnds line }
     requires lines { All HasNearEnds lines.old.items }

@@ -29,7 +29,7 @@ fn has(points: Points<'_>, i: usize, x: i32, y: i32) -> bool {
     i < points.len() && points.get(i) == Point { x, y }
 }
 
-/// Whether the list is the part of `ROW` of so many points from this x on.
+/// Whether the list is the part of `ROW` with this many points, from this x on.
 fn is_row(points: Points<'_>, first: i32, count: usize) -> bool {
     if points.len() != count || 5 < count || first < 0 || 100 < first {
         return false;

@@ -1,4 +1,4 @@
-//! Fills whose rows have many more edges than columns, and then few of them, and many again.
+//! Fills with rows that have many more edges than columns, then few of them, and then many again.
 
 ghost use Rattle.std.specs.Prelude.{◌≡◌, ◌+◌, ◌≤◌, length};
 ghost use Rattle.std.specs.List.{All};
@@ -12,7 +12,7 @@ use span_fill::{FillRule, Line, RowBuf, Span};
 use std::process::Abort;
 use std::test::Fail;
 
-/// A line on the left side of a column, through the rows from one on up to before another.
+/// A line on the left side of a column, from row `top` to the row before `bottom`.
 fn upright(column: u8, top: u8, bottom: u8, is_down: bool) -> Line
     ensures { HasNearEnds result }
 {
@@ -38,8 +38,8 @@ fn upright(column: u8, top: u8, bottom: u8, is_down: bool) -> Line
     }
 }
 
-/// Columns 5, 2, 7, 0, 4, 1, 6 and 3 have a line through rows 0 to 11 each: downwards on the even columns, upwards on the
-/// others. Column 3 has 91 more downwards in rows 0 to 3, and column 5 as many upwards in rows 8 to 11.
+/// Columns 5, 2, 7, 0, 4, 1, 6 and 3 each have a line through rows 0 to 11: downwards on the even columns, upwards on
+/// the others. Column 3 has 91 more downwards in rows 0 to 3, and column 5 has 91 more upwards in rows 8 to 11.
 fn put_all(lines: &mut Vec<Line>) -> Result<(), Fail>
     requires { All HasNearEnds lines.old.items }
     ensures { All HasNearEnds lines.new.items }
@@ -56,14 +56,14 @@ fn put_all(lines: &mut Vec<Line>) -> Result<(), Fail>
     put_lines(lines, 1, upright(3, 0, 12, false))
 }
 
-/// A span's columns.
+/// A span of columns.
 fn span(from: u32, to: u32) -> Span
     ensures { result.to ≡ to }
 {
     Span { from, to }
 }
 
-/// The next four rows have these spans each.
+/// Each of the next four rows has these spans.
 fn check_rows(rt: &impl Abort, rows: &mut RowBuf, interval: Span, wanted: &[Span])
     requires filling { IsFillingWork rows.old.work }
     requires next { rows.old.next + 4 ≤ 8192 }
@@ -81,7 +81,7 @@ fn check_rows(rt: &impl Abort, rows: &mut RowBuf, interval: Span, wanted: &[Span
     same(rt, rows.spans(), wanted);
 }
 
-/// Rows 0 to 3, 4 to 7 and 8 to 11 have these spans each.
+/// Rows 0 to 3, 4 to 7 and 8 to 11 have these spans.
 fn check_fill(
     rt: &impl Abort,
     rows: &mut RowBuf,
@@ -129,7 +129,8 @@ fn even_odd(rt: &impl Abort, rows: &mut RowBuf, list: LineList)
     );
 }
 
-/// A pixel is inside if the lines to its left that run downwards are not as many as those that run upwards.
+/// A pixel is inside if the number of lines to its left that run downwards differs from the number of those that run
+/// upwards.
 fn non_zero(rt: &impl Abort, rows: &mut RowBuf, list: LineList)
     requires { length list.rest.now ≤ rows.old.room }
     ensures { rows.new.room ≡ rows.old.room }

@@ -1,4 +1,4 @@
-//! Names of notes, and counts of them.
+//! The names of notes, and their counts.
 
 use crate::comparing::same;
 use draw_ops::{Note, NoteSet, Notes};

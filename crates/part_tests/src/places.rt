@@ -1,4 +1,4 @@
-//! Worked values, by hand, and each limit from both sides.
+//! Values worked by hand, and each limit from both sides.
 
 use crate::comparing::same;
 use mapping::{Frame, MapMode, PageAxis, PageMap, Place, Point};
@@ -78,7 +78,7 @@ fn the_plane_ends_at_its_limit(rt: HostRuntime) -> Result<(), Fail> {
 
 #[test]
 fn a_placeable_box_lands_on_its_frame(rt: HostRuntime) -> Result<(), Fail> {
-    // The box from (10, -2) to (6, 6): its width is turned.
+    // The box from (10, -2) to (6, 6): it is mirrored horizontally.
     let page = PageMap::placeable(Point { x: 10, y: -2 }, Point { x: -4, y: 8 });
     for (x, y, want_x, want_y) in [(10, -2, 0, 0), (6, 6, 4, 8), (9, -1, 1, 1), (11, 0, -1, 2)] {
         let point = page.plane(x, y).ok_or("a point of the plane")?;

@@ -1,4 +1,4 @@
-//! Crossings of several rows: those of each next row are found, and change neither its spans nor those of the row before.
+//! The crossings of several rows. Finding those of a row changes neither its spans nor those of the row before.
 
 ghost use Rattle.std.specs.Prelude.{◌≡◌, ◌+◌, ◌≤◌, length};
 ghost use Rattle.std.specs.List.{All};
@@ -12,14 +12,14 @@ use span_fill::{Crossing, FillRule, Line, RowBuf, Span};
 use std::process::Abort;
 use std::test::Fail;
 
-/// What a row has: where lines cross it, and spans.
+/// What a row has: the points where lines cross it, and its spans.
 #[derive(Clone, Copy)]
 struct Row<'r> {
     crossings: &'r [(u32, i64, i64)],
     spans: &'r [Span],
 }
 
-/// A point of small numbers.
+/// A point with small coordinates.
 fn point(x: i16, y: i16) -> Point
     ensures { IsNearPoint result }
 {
@@ -62,7 +62,8 @@ fn check_crossings(rt: &impl Abort, found: &[Crossing], wanted: &[(u32, i64, i64
     }
 }
 
-/// The next row has these crossings, found twice, and these spans. Finding them leaves the spans of the row before, and the row leaves them.
+/// The next row has these crossings, found twice, and these spans. Finding the crossings doesn't change the spans of
+/// the row before, and computing the row doesn't change the crossings.
 fn check_row(rt: &impl Abort, rows: &mut RowBuf, before: &[Span], interval: Span, row: Row<'_>)
     requires filling { IsFillingWork rows.old.work }
     requires next { rows.old.next + 1 ≤ 8192 }
@@ -80,7 +81,8 @@ fn check_row(rt: &impl Abort, rows: &mut RowBuf, before: &[Span], interval: Span
     check_crossings(rt, rows.crossings(), row.crossings);
 }
 
-/// Fills the lines of a list from row 0 on, within the interval, and looks at each row up to the first without a crossing.
+/// Fills the lines of a list from row 0 on, within the interval, and checks each row up to the first one without a
+/// crossing.
 fn check_whole(
     rt: &impl Abort,
     rows: &mut RowBuf,
@@ -102,7 +104,7 @@ fn check_whole(
     check_row(rt, rows, wanted[4].spans, interval, wanted[5]);
 }
 
-/// The same from row 8,191 on, and then of the row behind it, which is on no surface.
+/// The same from row 8,191 on, and then for the row after it, which is on no surface.
 fn check_last(rt: &impl Abort, rows: &mut RowBuf, list: LineList, last: Row<'_>, behind: Row<'_>)
     requires { length list.rest.now ≤ rows.old.room }
     ensures { rows.new.room ≡ rows.old.room }
@@ -130,8 +132,9 @@ fn each_row_of_a_polygon_has_its_crossings_and_its_spans(rt: HostRuntime) -> Res
     };
     let mut rows = RowBuf::new(rt.alloc());
     rows.reserve(4)?;
-    // Line 0 is crossed at 2 + 2y, line 1 at (53 - 10y) / 4, line 2 at (6y - 11) / 8, and line 3 at -2y: the quotient, and the rest by twice
-    // the line's height. A pixel is inside from where its middle is at a crossing on.
+    // The crossing of line 0 is at 2 + 2y, of line 1 at (53 - 10y) / 4, of line 2 at (6y - 11) / 8, and of line 3 at
+    // -2y. Each is given as a quotient and the remainder by twice the line's height. A pixel is inside from the
+    // crossing on, if its centre is at the crossing or after it.
     let whole = [
         having(&[(0, 2, 0), (3, 0, 0)], &[Span { from: 0, to: 2 }]),
         having(&[(0, 4, 0), (2, -1, 3)], &[Span { from: 0, to: 4 }]),
@@ -156,7 +159,7 @@ fn each_row_of_a_polygon_has_its_crossings_and_its_spans(rt: HostRuntime) -> Res
 
 #[test]
 fn lines_that_lie_on_each_other_are_each_crossed_once(rt: HostRuntime) -> Result<(), Fail> {
-    // Three lines down from (2, 0) to (4, 2), a level one, and one up from (6, 3) to (6, 1).
+    // Three lines down from (2, 0) to (4, 2), a horizontal one, and one up from (6, 3) to (6, 1).
     let mut lines = Vec::new(rt.alloc());
     put_lines(&mut lines, 3, line(point(2, 0), point(4, 2)))?;
     put_lines(&mut lines, 1, line(point(4, 2), point(6, 2)))?;
@@ -187,7 +190,7 @@ fn lines_that_lie_on_each_other_are_each_crossed_once(rt: HostRuntime) -> Result
 
 #[test]
 fn the_row_behind_the_last_of_a_surface_has_crossings(rt: HostRuntime) -> Result<(), Fail> {
-    // Row y is crossed half a column right of column y - 8,190.
+    // Row y is crossed half a column to the right of column y - 8,190.
     let mut lines = Vec::new(rt.alloc());
     put_lines(&mut lines, 1, line(point(0, 8190), point(4, 8194)))?;
     assert!(rt; lines.len() == 1);

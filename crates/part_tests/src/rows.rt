@@ -1,11 +1,11 @@
-//! Rows of spans: room for lines, and refused growth.
+//! Rows of spans: their capacity for lines, and failed allocations.
 
 use crate::comparing::same;
 use span_fill::{OutOfMemory, RowBuf};
 use std::test::Fail;
 
-// Run once more for each growth refused in turn, by tests/refused_growth_test.py: after a refusal the
-// buffer is what it was, and a second call makes the room.
+// tests/refused_growth_test.py runs this once more for each allocation that can fail. After a failure the buffer is
+// unchanged, and a second call allocates the memory.
 #[test]
 fn room_is_made_under_refused_growth(rt: HostRuntime) -> Result<(), Fail> {
     let mut rows = RowBuf::new(rt.alloc());

@@ -1,4 +1,5 @@
-//! Texts of each length, sent to writers that take all or a few bytes at a time; headers of each side; and rows of each count.
+//! Texts of every length, sent to writers that accept all bytes or a few at a time; headers of every size; and rows of
+//! every number.
 
 use canvas::{Canvas, send, write_header};
 use mapping::Colour;
@@ -6,7 +7,7 @@ use std::alloc::{AllocError, Global};
 use std::io;
 use std::io::Write;
 
-/// A writer that takes at most so many bytes a call, and adds up how many and what they were.
+/// A writer that accepts up to some number of bytes per call, and adds up their number and their values.
 #[derive(Drop)]
 struct Taker {
     most: usize,
@@ -29,7 +30,7 @@ impl Write for Taker {
     }
 }
 
-/// A writer of nothing yet.
+/// A writer that has accepted nothing yet.
 fn taking(most: usize) -> Taker {
     Taker {
         most,
@@ -38,7 +39,7 @@ fn taking(most: usize) -> Taker {
     }
 }
 
-/// Sides up to the largest number of 32 bits: powers of ten and of two, and those beside them.
+/// Widths and heights up to the largest number of 32 bits: powers of ten and of two, and their neighbours.
 const GREAT_SIDES: [u32; 15] = [
     65535,
     65536,
@@ -57,7 +58,8 @@ const GREAT_SIDES: [u32; 15] = [
     4_294_967_295,
 ];
 
-/// Whether so many bytes of a text are sent whole to a writer that takes at most so many a call. Each byte is 1.
+/// Whether this many bytes of a text are sent in full to a writer that accepts at most `most` bytes per call. Each byte
+/// is 1.
 fn is_sent(text: &[u8], length: usize, most: usize) -> bool {
     let Some(front) = text.get(..length) else {
         return false;
@@ -66,14 +68,14 @@ fn is_sent(text: &[u8], length: usize, most: usize) -> bool {
     send(&mut out, front).is_ok() && out.bytes == length && out.sum == length as u64
 }
 
-/// Whether a header of these sides is written as ppm(5) has it.
+/// Whether a header for this size is written as ppm(5) requires.
 fn is_header(alloc: Global, width: u32, height: u32) -> Result<bool, AllocError> {
     let want = format!(in alloc; "P6\n{width} {height}\n255\n")?;
     let mut text = Vec::new(alloc);
     Ok(write_header(&mut text, width, height).is_ok() && text.as_slice() == want.as_bytes())
 }
 
-/// Whether a band of grey, of these sides, is written row by row.
+/// Whether a grey band of this size is written row by row.
 fn are_rows(alloc: Global, width: u32, rows: u32) -> bool {
     if width == 0 || 8192 < width || rows == 0 || 8192 < rows {
         return false;

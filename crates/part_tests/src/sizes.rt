@@ -1,4 +1,4 @@
-//! Sizes for which memory is asked, each of many: where there is memory, none is refused.
+//! Allocations of many sizes: if there is memory, none fails.
 
 use canvas::Canvas;
 use mapping::Colour;
@@ -6,13 +6,13 @@ use object_tables::{Given, LowestFree, Table};
 use span_fill::{OutOfMemory, RowBuf};
 use std::alloc::Global;
 
-/// Powers of two above the counts that are tried one by one, and the counts beside them: no count of lines exceeds 2^20.
+/// Powers of two above the counts that are tried one by one, and their neighbours. No count of lines exceeds 2^20.
 const BESIDE_POWERS: [usize; 14] = [
     65535, 65536, 65537, 131071, 131072, 131073, 262143, 262144, 262145, 524287, 524288, 524289,
     1048575, 1048576,
 ];
 
-/// Whether a surface of these sides is made.
+/// Whether a surface of this size can be made.
 fn is_canvas(alloc: Global, width: u32, height: u32) -> bool {
     if width == 0 || 8192 < width || height == 0 || 8192 < height {
         return false;
@@ -20,7 +20,7 @@ fn is_canvas(alloc: Global, width: u32, height: u32) -> bool {
     Canvas::new(alloc, width, height, Colour::WHITE).is_ok()
 }
 
-/// Whether rows get room for so many lines.
+/// Whether a row buffer for this many lines can be made.
 fn has_rows(alloc: Global, lines: usize) -> bool {
     if 1_048_576 < lines {
         return false;
@@ -28,7 +28,7 @@ fn has_rows(alloc: Global, lines: usize) -> bool {
     RowBuf::new(alloc).reserve(lines).is_ok()
 }
 
-/// Whether rows with room for so many lines get room for one more, for twice as many and for many more.
+/// Whether a row buffer for this many lines can be extended to one more, to twice as many and to many more.
 fn gets_more(alloc: Global, lines: usize) -> bool {
     if 100_000 < lines {
         return false;
@@ -40,7 +40,7 @@ fn gets_more(alloc: Global, lines: usize) -> bool {
         && rows.reserve(2 * lines + 1_000).is_ok()
 }
 
-/// Whether tables of either kind get room for so many objects.
+/// Whether tables of both kinds can be made for this many objects.
 fn has_tables(alloc: Global, slots: usize) -> bool {
     let handles = u16::try_from(slots).unwrap_or(u16::MAX);
     LowestFree::new(alloc).reserve(slots).is_ok()

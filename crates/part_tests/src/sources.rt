@@ -1,4 +1,4 @@
-//! What a listed source gives, and how many steps it has.
+//! What a source of listed steps returns, and how many steps it has.
 
 use crate::comparing::same;
 use draw_ops::{Listed, Note, NoteSet, Op, OpSource, RecordFault, Step, count_steps};

@@ -1,4 +1,5 @@
-//! Tables that grow object by object: each index is given, found, taken out and given again, and none wants memory that is there.
+//! Tables that grow object by object: each index is assigned, found, removed and assigned again, and if there is
+//! memory, none fails.
 
 use draw_ops::{Fault, Handle, Object, RecordFault};
 use object_tables::{Given, LowestFree, Table};
@@ -6,12 +7,12 @@ use std::alloc::Global;
 
 const FONT: Object<'static> = Object::Font;
 
-/// Powers of two above the indexes that are tried one by one, and the indexes beside them.
+/// Powers of two above the indexes that are tried one by one, and their neighbours.
 const BESIDE_POWERS: [u32; 9] = [
     16383, 16384, 16385, 32767, 32768, 32769, 65532, 65533, 65534,
 ];
 
-/// Whether a new object gets this index, the least that is free, is found there, is taken out, and gets it again.
+/// Whether a new object gets this index, the lowest free one, is found there, is removed, and gets it again.
 fn is_made(table: &mut LowestFree<'static>, index: u32) -> bool {
     let at = Handle(index);
     table.create(None, FONT) == Ok(at)
@@ -21,7 +22,7 @@ fn is_made(table: &mut LowestFree<'static>, index: u32) -> bool {
         && table.create(None, FONT) == Ok(at)
 }
 
-/// Whether an object is put at an index, found there, not put there twice, taken out, and put there again.
+/// Whether an object is put at an index, is found there, can't be put there twice, is removed, and is put there again.
 fn is_put(table: &mut Given<'static>, index: u32) -> bool {
     let at = Handle(index);
     table.create(Some(at), FONT) == Ok(at)
@@ -31,7 +32,8 @@ fn is_put(table: &mut Given<'static>, index: u32) -> bool {
         && table.create(Some(at), FONT) == Ok(at)
 }
 
-/// Whether the first object of a table for so many handles is put at the last of these, and at no other behind it.
+/// Whether the first object of a table for this many handles can be put at the last of them, and not at any index after
+/// it.
 fn is_last(alloc: Global, index: u32) -> bool {
     let handles = u16::try_from(index.wrapping_add(1)).unwrap_or(0);
     let mut table = Given::new(alloc, handles);
@@ -40,7 +42,7 @@ fn is_last(alloc: Global, index: u32) -> bool {
         && is_put(&mut table, index)
 }
 
-/// Whether the indexes from this one on are given again in their order, once the objects there were taken out.
+/// Whether the indexes from this one on are assigned again in order, after the objects there were removed.
 fn is_made_again(table: &mut LowestFree<'static>, first: u32) -> bool {
     for index in first..1024 {
         if table.remove(Handle(index)) != Ok(()) {

@@ -1,4 +1,4 @@
-//! Tables of objects: indexes, and refused growth.
+//! Tables of objects: indexes, and failed allocations.
 
 use crate::comparing::same;
 use draw_ops::{Brush, Fault, Handle, Object, Pen, RecordFault};
@@ -69,7 +69,7 @@ fn an_index_is_given_once(rt: HostRuntime) -> Result<(), Fail> {
     Ok(())
 }
 
-// Run once more for each growth refused in turn, by tests/refused_growth_test.py.
+// tests/refused_growth_test.py runs this once more for each allocation that can fail.
 #[test]
 fn a_create_under_refused_growth(rt: HostRuntime) -> Result<(), Fail> {
     let mut table = LowestFree::new(rt.alloc());
@@ -91,7 +91,7 @@ fn a_create_under_refused_growth(rt: HostRuntime) -> Result<(), Fail> {
     Ok(())
 }
 
-// Run once more for each growth refused in turn, by tests/refused_growth_test.py.
+// tests/refused_growth_test.py runs this once more for each allocation that can fail.
 #[test]
 fn a_given_index_under_refused_growth(rt: HostRuntime) -> Result<(), Fail> {
     let mut table = Given::new(rt.alloc(), 1000);
@@ -108,7 +108,7 @@ fn a_given_index_under_refused_growth(rt: HostRuntime) -> Result<(), Fail> {
     Ok(())
 }
 
-// Run once more for each growth refused in turn, by tests/refused_growth_test.py.
+// tests/refused_growth_test.py runs this once more for each allocation that can fail.
 #[test]
 fn a_reserve_under_refused_growth(rt: HostRuntime) -> Result<(), Fail> {
     let mut table = Given::new(rt.alloc(), 500);

@@ -1,4 +1,4 @@
-//! P6 texts of each count of pixels, to a writer that takes everything (ppm(5)).
+//! P6 texts for every number of pixels, to a writer that accepts everything (ppm(5)).
 
 use canvas::Canvas;
 use mapping::Colour;
@@ -6,7 +6,7 @@ use std::alloc::Global;
 use std::io;
 use std::io::Write;
 
-/// A writer that takes everything, and keeps only how much it was.
+/// A writer that accepts everything, and keeps only the number of bytes.
 #[derive(Drop)]
 struct Counter {
     bytes: usize,
@@ -23,7 +23,7 @@ impl Write for Counter {
     }
 }
 
-/// How many digits a side has.
+/// The number of digits of a width or height.
 fn digits(side: u32) -> u8 {
     match side {
         0..=9 => 1,
@@ -33,8 +33,8 @@ fn digits(side: u32) -> u8 {
     }
 }
 
-/// Whether the text of a surface of these sides is written, and is as long as its header of "P6", the
-/// sides and 255 and its pixels of three bytes.
+/// Whether the text of a surface of this size is written, with the length of its header ("P6", the size and 255) and
+/// three bytes per pixel.
 fn is_text(alloc: Global, width: u32, height: u32) -> bool {
     if width == 0 || 8192 < width || height == 0 || 8192 < height {
         return false;
@@ -50,7 +50,7 @@ fn is_text(alloc: Global, width: u32, height: u32) -> bool {
     canvas.write_ppm(&mut out).is_ok() && out.bytes.wrapping_sub(header) == colours
 }
 
-/// The sides of a surface of so many pixels, of which one is small: none for a prime.
+/// The width and height of a surface with this many pixels, one of them small. None for a prime.
 fn sides_of(pixels: u32) -> Option<(u32, u32)> {
     for width in 2..111 {
         if pixels % width == 0 {

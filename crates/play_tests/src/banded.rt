@@ -1,4 +1,4 @@
-//! Files with a certificate, played band by band, with the texts worked by hand.
+//! Playing files by certificate in bands, with the texts worked by hand.
 
 use crate::certificates::{CERTIFICATE, POLYGON};
 use crate::comparing::same;
@@ -22,7 +22,7 @@ const TEXT: &[u8; 59] = b"P6\n4 4\n255\n\
     \0\0\0\0\0\xff\0\0\0\0\0\xff\
     \0\0\0\0\0\0\0\0\xff\0\0\xff";
 
-/// A writer that takes a number of bytes, and then none.
+/// A writer that accepts some number of bytes, and then none.
 #[derive(Drop)]
 struct Full {
     taken: Vec<u8>,
@@ -41,7 +41,7 @@ impl Write for Full {
     }
 }
 
-/// The samples of a point of a picture: black for '#', blue for 'b', and white.
+/// The samples of one point of a picture: black for '#', blue for 'b', otherwise white.
 fn samples(point: u8) -> [u8; 3] {
     match point {
         b'#' => [0, 0, 0],
@@ -59,8 +59,8 @@ fn text_of(alloc: Global, picture: &[u8; 64]) -> Result<Vec<u8>, AllocError> {
     Ok(text)
 }
 
-/// A placeable file of these records, whose box is 8 by 8, shows a picture over white at 8 by 8 in bands of any height, and writes so many
-/// pixels.
+/// A placeable file of these records, whose box is 8 by 8, draws a picture on white at 8 by 8 in bands of any height,
+/// and writes this many pixels.
 fn shows(
     rt: &impl Abort,
     alloc: Global,
@@ -98,7 +98,8 @@ fn lines_go_on_over_edges_of_bands(rt: HostRuntime) -> Result<(), Fail> {
 
 #[test]
 fn a_raster_operation_turns_what_is_there(rt: HostRuntime) -> Result<(), Fail> {
-    // META_SETROP2 (2.3.5.22) with R2_NOT, the same two lines, and one from (2, 0) to (2, 8): what is written twice is white again.
+    // META_SETROP2 (2.3.5.22) with R2_NOT, the same two lines, and one from (2, 0) to (2, 8): a pixel that is written
+    // twice is white again.
     let lines = [
         4, 0, 0x104, 6, 5, 0, 0x214, 1, 0, 5, 0, 0x213, 1, 4, 5, 0, 0x213, 6, 4, 5, 0, 0x214, 0, 2,
         5, 0, 0x213, 8, 2,
@@ -116,8 +117,9 @@ fn a_raster_operation_turns_what_is_there(rt: HostRuntime) -> Result<(), Fail> {
 
 #[test]
 fn a_tile_goes_on_where_the_band_above_ends(rt: HostRuntime) -> Result<(), Fail> {
-    // META_DIBCREATEPATTERNBRUSH (2.3.4.8) of 2 by 3 pixels, bottom row first: blue and white, white and black, black and white. Then
-    // META_PATBLT (2.3.3.12) of 6 by 6 from (1, 1) on: the tile's rows are told from the top of the surface.
+    // META_DIBCREATEPATTERNBRUSH (2.3.4.8) of 2 by 3 pixels, bottom row first: blue and white, white and black, black
+    // and white. Then META_PATBLT (2.3.3.12) of 6 by 6 from (1, 1) on. The rows of the tile are counted from the top of
+    // the surface.
     #[rattlefmt::skip]
     let records = [
         37, 0, 0x142, 5, 0,
@@ -139,8 +141,9 @@ fn a_tile_goes_on_where_the_band_above_ends(rt: HostRuntime) -> Result<(), Fail>
 
 #[test]
 fn a_clip_goes_on_over_edges_of_bands(rt: HostRuntime) -> Result<(), Fail> {
-    // META_INTERSECTCLIPRECT (2.3.5.3) keeps rows and columns 1 to 6, META_EXCLUDECLIPRECT (2.3.5.2) cuts out columns 3 and 4 of rows 2 to 5,
-    // each with bottom, right, top and left; and a blit by BLACKNESS of all.
+    // META_INTERSECTCLIPRECT (2.3.5.3) keeps rows and columns 1 to 6, and META_EXCLUDECLIPRECT (2.3.5.2) cuts out
+    // columns 3 and 4 of rows 2 to 5, each with bottom, right, top and left. Then a blit by BLACKNESS of the whole
+    // surface.
     let records = [
         7, 0, 0x416, 7, 7, 1, 1, 7, 0, 0x415, 6, 5, 2, 3, 9, 0, 0x61d, 0x42, 0, 8, 8, 0, 0,
     ];
@@ -157,8 +160,9 @@ fn a_clip_goes_on_over_edges_of_bands(rt: HostRuntime) -> Result<(), Fail> {
 
 #[test]
 fn drawings_beside_an_edge_stay_on_their_side(rt: HostRuntime) -> Result<(), Fail> {
-    // Lines from (0, y) to (x, y), META_SETPIXEL (2.3.3.19), blue, at (7, y), and META_RECTANGLE (2.3.3.17) from (5, 3) to before (7, 6): of
-    // bands of three rows, row 2 is the last of the first, rows 3 and 5 end the second, and row 6 begins the third.
+    // Lines from (0, y) to (x, y), META_SETPIXEL (2.3.3.19), blue, at (7, y), and META_RECTANGLE (2.3.3.17) from (5, 3)
+    // to before (7, 6). With bands of three rows, row 2 is the last of the first band, rows 3 and 5 are the ends of the
+    // second, and row 6 begins the third.
     #[rattlefmt::skip]
     let records = [
         5, 0, 0x214, 2, 0, 5, 0, 0x213, 2, 2,
@@ -182,7 +186,7 @@ fn drawings_beside_an_edge_stay_on_their_side(rt: HostRuntime) -> Result<(), Fai
 
 #[test]
 fn each_band_begins_at_the_start(rt: HostRuntime) -> Result<(), Fail> {
-    // A line by the pen of the start down column 0, and then META_CREATEPENINDIRECT (2.3.4.5) and a blue line along row 6.
+    // A line by the initial pen down column 0, and then META_CREATEPENINDIRECT (2.3.4.5) and a blue line along row 6.
     #[rattlefmt::skip]
     let records = [
         5, 0, 0x213, 8, 0,
@@ -227,7 +231,7 @@ fn a_surface_above_the_bound_has_no_text(rt: HostRuntime) -> Result<(), Fail> {
 #[test]
 fn an_output_that_is_full_has_a_front_of_the_text(rt: HostRuntime) -> Result<(), Fail> {
     let cleared = check(rt.alloc(), &POLYGON, &CERTIFICATE)?;
-    // the header has 11 bytes, and each row 12: the output is full in the header, and in each band
+    // The header has 11 bytes, and each row has 12: the output is full in the header, and in each band.
     for room in 0..59usize {
         for rows in [1, 3] {
             let mut out = [0xa5u8; 64];
@@ -244,7 +248,7 @@ fn an_output_that_is_full_has_a_front_of_the_text(rt: HostRuntime) -> Result<(),
 #[test]
 fn a_writer_that_counts_has_one_fault_where_it_is_full(rt: HostRuntime) -> Result<(), Fail> {
     let cleared = check(rt.alloc(), &POLYGON, &CERTIFICATE)?;
-    // full in the header, behind it, in each of the four rows and behind each, and never
+    // Full in the header, after it, in each of the four rows and after each, and never.
     for most in [0, 10, 11, 22, 23, 34, 35, 46, 47, 58, 59] {
         let taken = Vec::new(rt.alloc());
         let mut out = Counting::new(Full { taken, most });
@@ -262,7 +266,7 @@ fn a_writer_that_counts_has_one_fault_where_it_is_full(rt: HostRuntime) -> Resul
     Ok(())
 }
 
-// Run once more for each growth refused in turn, by tests/refused_growth_test.py.
+// tests/refused_growth_test.py runs this once more for each allocation that can fail.
 #[test]
 fn bands_under_refused_growth(rt: HostRuntime) -> Result<(), Fail> {
     let Ok(cleared) = check(rt.alloc(), &POLYGON, &CERTIFICATE) else {

@@ -1,4 +1,4 @@
-//! Certificates of small files, worked by hand: what is prepared, what is accepted, and each way to be refused.
+//! Certificates of small files, worked by hand: what is prepared, what is accepted, and every reason for a rejection.
 
 use crate::comparing::same;
 use crate::files::{certificate, enhanced, placeable};
@@ -18,7 +18,7 @@ pub(crate) const POLYGON: [u8; 66] = [
     3, 0, 0, 0, 0, 0,
 ];
 
-/// Its certificate at 4 by 4: 32 writes, 3 points, and one entry, of record 0, with the box (0, 0)-(4, 4).
+/// Its certificate for 4 by 4: 32 writes, 3 points, and one entry, for record 0, with the box (0, 0)-(4, 4).
 #[rattlefmt::skip]
 pub(crate) const CERTIFICATE: [u8; 60] = [
     0x4d, 0x50, 0x43, 0x31, 4, 0, 0, 0, 4, 0, 0, 0, 32, 0, 0, 0, 0, 0, 0, 0,
@@ -26,7 +26,7 @@ pub(crate) const CERTIFICATE: [u8; 60] = [
     0, 0, 0, 0, 0, 0, 0, 0, 0, 0, 0, 0, 4, 0, 0, 0, 4, 0, 0, 0,
 ];
 
-/// The certificate with another byte at a place.
+/// The certificate with one byte changed.
 fn with_byte(alloc: Global, place: usize, byte: u8) -> Result<Vec<u8>, AllocError> {
     let mut text = Vec::from_slice(alloc, &CERTIFICATE)?;
     if let Some(at) = text.get_mut(place) {
@@ -35,7 +35,7 @@ fn with_byte(alloc: Global, place: usize, byte: u8) -> Result<Vec<u8>, AllocErro
     Ok(text)
 }
 
-/// A file's certificate at a bound has these numbers behind its mark, and is accepted.
+/// The certificate of a file for a bound has these numbers after its signature, and is accepted.
 fn prepares(
     rt: &impl Abort,
     alloc: Global,
@@ -56,7 +56,7 @@ fn prepares(
     Ok(())
 }
 
-/// A file has no certificate at a bound, by this fault in this record.
+/// A file has no certificate for a bound, because of this fault in this record.
 fn stops(rt: &impl Abort, alloc: Global, file: &[u8], side: u32, number: u32, fault: RecordFault) {
     let refused = prepare(alloc, file, side, side).err();
     same(rt, refused, Some(Refusal::at(number, fault)));
@@ -128,7 +128,7 @@ fn a_path_has_its_entry_where_it_is_painted(rt: HostRuntime) -> Result<(), Fail>
     let file = enhanced(rt.alloc(), 3, &closed)?;
     let numbers = [4, 4, 32, 0, 0, 0, 3, 3, 1, 7, 0, 0, 4, 4];
     prepares(&rt, rt.alloc(), &file, 4, 4, &numbers)?;
-    // Without CLOSEFIGURE and with STROKEPATH: one layer, of the record before.
+    // Without CLOSEFIGURE and with STROKEPATH: one layer, for the record before.
     let open = [
         59, 8, 27, 16, 0, 0, 54, 16, 4, 0, 54, 16, 0, 4, 60, 8, 64, 24, 0, 0, 0, 0,
     ];
@@ -205,7 +205,7 @@ fn each_number_of_a_certificate_is_looked_at(rt: HostRuntime) -> Result<(), Fail
 
 #[test]
 fn the_first_of_two_faults_is_told(rt: HostRuntime) -> Result<(), Fail> {
-    // The box lacks a point and the writes are too few; then the writes and a need.
+    // The box lacks a point and the writes are too few; then the writes and a need are too small.
     for (longs, refusal) in [
         (
             [4, 4, 31, 0, 0, 0, 2, 0, 1, 0, 0, 0, 3, 4],
@@ -298,7 +298,7 @@ fn an_entry_that_is_left_over_is_refused_at_the_end_record(rt: HostRuntime) -> R
 
 #[test]
 fn what_is_off_at_the_bound_may_be_on_at_less(rt: HostRuntime) -> Result<(), Fail> {
-    // With a frame of one unit, the column 32,769 lands past the limit on a surface of 8,192 columns.
+    // With a frame of one unit, column 32,769 lands beyond the limit on a surface of 8,192 columns.
     let file = enhanced(rt.alloc(), 0, &[54, 16, 32_769, 0])?;
     stops(&rt, rt.alloc(), &file, 8192, 1, RecordFault::OffPlane);
     let numbers = [1, 1, 1, 0, 0, 0, 2, 0, 1, 1, 0, 0, 32_769, 0];

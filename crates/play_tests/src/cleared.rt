@@ -1,4 +1,4 @@
-//! Files with a certificate, played on surfaces within its bound and on one above it.
+//! Playing files by certificate on surfaces within the bound and on one that exceeds it.
 
 use crate::certificates::{CERTIFICATE, POLYGON};
 use crate::comparing::same;

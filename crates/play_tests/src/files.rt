@@ -1,4 +1,4 @@
-//! Files and certificates for tests, put together of numbers.
+//! Files and certificates for tests, made from numbers.
 
 use std::alloc::{AllocError, Global};
 
@@ -21,7 +21,8 @@ fn put_longs(bytes: &mut Vec<u8>, longs: &[u32]) -> Result<(), AllocError> {
 /// A placeable file with the box from (0, 0) to (side, side), these records, and an end.
 pub(crate) fn placeable(alloc: Global, side: u16, records: &[u16]) -> Result<Vec<u8>, AllocError> {
     let mut file = Vec::new(alloc);
-    // META_PLACEABLE ([MS-WMF] 2.3.2.3) and META_HEADER (2.3.2.2); the checksum, the sizes and the count of objects are only noted.
+    // META_PLACEABLE ([MS-WMF] 2.3.2.3) and META_HEADER (2.3.2.2). The checksum, the sizes and the count of objects
+    // only cause notes.
     put_words(
         &mut file,
         &[0xcdd7, 0x9ac6, 0, 0, 0, side, side, 96, 0, 0, 0],
@@ -35,7 +36,7 @@ pub(crate) fn placeable(alloc: Global, side: u16, records: &[u16]) -> Result<Vec
 /// An EMF file with the bounds (0, 0, last, last), these records, and an end.
 pub(crate) fn enhanced(alloc: Global, last: u32, records: &[u32]) -> Result<Vec<u8>, AllocError> {
     let mut file = Vec::new(alloc);
-    // EMR_HEADER ([MS-EMF] 2.3.4.2); the size, the count of records and what stands behind it are only noted.
+    // EMR_HEADER ([MS-EMF] 2.3.4.2). The size, the count of records and the fields after it only cause notes.
     put_longs(
         &mut file,
         &[1, 88, 0, 0, last, last, 0, 0, 0, 0, 0x464d_4520, 0x1_0000],
@@ -46,7 +47,7 @@ pub(crate) fn enhanced(alloc: Global, last: u32, records: &[u32]) -> Result<Vec<
     Ok(file)
 }
 
-/// The bytes of a certificate: its mark, and these numbers.
+/// The bytes of a certificate: its signature and these numbers.
 pub(crate) fn certificate(alloc: Global, longs: &[u32]) -> Result<Vec<u8>, AllocError> {
     let mut bytes = Vec::from_slice(alloc, b"MPC1")?;
     put_longs(&mut bytes, longs)?;

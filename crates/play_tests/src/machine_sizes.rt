@@ -1,4 +1,4 @@
-//! Room of machines, of each of many sizes: where there is memory, none is refused.
+//! The memory of machines, in many sizes: if there is memory, no allocation fails.
 
 use dc_stack::{MAX_PIECES, Machine};
 use mapping::Place;
@@ -7,7 +7,7 @@ use object_tables::LowestFree;
 use part_tests::DOT;
 use std::alloc::Global;
 
-/// Whether a machine gets room for so many saved states, objects and pieces.
+/// Whether a machine can allocate memory for this many saved states, objects and pieces.
 fn has_machine(alloc: Global, depth: usize, slots: usize, pieces: usize) -> bool {
     let Ok(opened) = open_file(&DOT) else {
         return false;

@@ -1,4 +1,4 @@
-//! Machines: what a step draws and needs, a new start, and refused growth.
+//! Machines: what a step draws and needs, a restart, and failed allocations.
 
 use crate::comparing::same;
 use crate::stepping::{machine, step};
@@ -91,8 +91,8 @@ fn needs_are_the_greatest_since_the_start(rt: HostRuntime) -> Result<(), Fail> {
     Ok(())
 }
 
-// Run once more for each growth refused in turn, by tests/refused_growth_test.py: after a refusal
-// the step is as it was before.
+// tests/refused_growth_test.py runs this once more for each allocation that can fail. After a failure, the machine is
+// as it was before the step.
 #[test]
 fn steps_under_refused_growth(rt: HostRuntime) -> Result<(), Fail> {
     let opened = open_file(&DOT)?;
@@ -112,7 +112,7 @@ fn steps_under_refused_growth(rt: HostRuntime) -> Result<(), Fail> {
     Ok(())
 }
 
-// Run once more for each growth refused in turn, by tests/refused_growth_test.py.
+// tests/refused_growth_test.py runs this once more for each allocation that can fail.
 #[test]
 fn reserved_steps_under_refused_growth(rt: HostRuntime) -> Result<(), Fail> {
     let opened = open_file(&DOT)?;

@@ -1,4 +1,4 @@
-//! Paths of a machine: the pieces that it lends, what a refused step leaves, and refused growth.
+//! Paths of a machine: the pieces that it lets others borrow, its state after a failed step, and failed allocations.
 
 use crate::comparing::same;
 use crate::stepping::{machine, step};
@@ -11,7 +11,7 @@ use std::test::Fail;
 
 const LINE: Op<'static> = Op::LineTo(Point { x: 1, y: 2 });
 
-/// A point whose column lands past the limit.
+/// A point whose column lands beyond the limit.
 const FAR: Point = Point {
     x: 1_073_741_825,
     y: 0,
@@ -75,7 +75,7 @@ fn a_refused_line_begins_no_figure(rt: HostRuntime) -> Result<(), Fail> {
     Ok(())
 }
 
-// Run once more for each growth refused in turn, by tests/refused_growth_test.py.
+// tests/refused_growth_test.py runs this once more for each allocation that can fail.
 #[test]
 fn path_steps_under_refused_growth(rt: HostRuntime) -> Result<(), Fail> {
     let opened = open_file(&DOT)?;
@@ -93,7 +93,7 @@ fn path_steps_under_refused_growth(rt: HostRuntime) -> Result<(), Fail> {
     Ok(())
 }
 
-// Run once more for each growth refused in turn, by tests/refused_growth_test.py.
+// tests/refused_growth_test.py runs this once more for each allocation that can fail.
 #[test]
 fn reserved_path_steps_under_refused_growth(rt: HostRuntime) -> Result<(), Fail> {
     let opened = open_file(&DOT)?;

@@ -1,4 +1,4 @@
-//! Worked files, whole and broken, with the answers by hand.
+//! Whole and broken files, with results worked by hand.
 
 ghost use Rattle.mapping.specs.Limits.{IsSurfaceSide};
 
@@ -14,7 +14,7 @@ use std::test::Fail;
 
 pub(crate) const BLUE: Colour = Colour { r: 0, g: 0, b: 255 };
 
-/// The headers of `DOT` and these records.
+/// The headers of `DOT`, followed by these records.
 fn with_records(alloc: Global, records: &[u8]) -> Result<Vec<u8>, AllocError> {
     let mut file = Vec::from_slice(alloc, &DOT[..40])?;
     file.extend_from_slice(records)?;
@@ -167,7 +167,7 @@ fn each_change_of_a_file_has_its_fault(rt: HostRuntime) -> Result<(), Fail> {
 
 #[test]
 fn what_the_standard_allows_is_played(rt: HostRuntime) -> Result<(), Fail> {
-    // A memory or a disk file, either version, the other type of colour, and bytes that aren't read.
+    // A file in memory or on disk, both versions, the other type of colour, and bytes that are ignored.
     let changes: [(usize, &[u8]); 5] = [
         (22, b"\x02"),
         (26, b"\x00\x01"),
@@ -272,7 +272,7 @@ fn a_file_has_at_most_1048576_records(rt: HostRuntime) -> Result<(), Fail> {
     file.extend_from_slice(b"\x03\x00\x00\x00\x00\x00")?;
     let canvas = play_white(rt.alloc(), file.as_slice(), 4, 4)?;
     same(&rt, canvas.writes(), 1048575);
-    // One pixel more, and the end record is at place 1,048,576.
+    // With one pixel more, the end record has number 1,048,576.
     file.truncate(pixels);
     file.extend_from_slice(pixel)?;
     file.extend_from_slice(b"\x03\x00\x00\x00\x00\x00")?;
@@ -323,7 +323,7 @@ fn a_refusal_shows_its_record(rt: HostRuntime) -> Result<(), Fail> {
     Ok(())
 }
 
-// Run once more for each growth refused in turn, by tests/refused_growth_test.py.
+// tests/refused_growth_test.py runs this once more for each allocation that can fail.
 #[test]
 fn a_dot_under_refused_growth(rt: HostRuntime) -> Result<(), Fail> {
     match play_white(rt.alloc(), &DOT, 4, 4) {

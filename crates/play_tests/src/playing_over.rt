@@ -1,4 +1,4 @@
-//! Worked files over what a canvas shows already.
+//! Playing files over an image on a canvas.
 
 use crate::comparing::same;
 use crate::playing::{BLUE, colour};
@@ -10,8 +10,8 @@ use preflight_cert::{Refusal, check, prepare};
 use std::alloc::Global;
 use std::test::Fail;
 
-/// Prepares a file at the size of a canvas, checks its certificate, and plays it over what the canvas shows, which counts few writes so
-/// far and holds a whole surface.
+/// Prepares a file at the size of a canvas, checks its certificate, and plays it over the image on the canvas. The
+/// canvas has a whole surface and has counted few writes so far.
 fn play_over(
     alloc: Global,
     file: &[u8],

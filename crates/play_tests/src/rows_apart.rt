@@ -1,4 +1,4 @@
-//! A picture drawn on rows of a surface, each by themselves, with the answers by hand.
+//! A picture that is drawn on some rows of a surface at a time, with results worked by hand.
 
 use crate::comparing::same;
 use crate::files::placeable;
@@ -13,7 +13,8 @@ use painting::{DrawingRoom, draw};
 use std::alloc::Global;
 use std::test::Fail;
 
-/// Draws what the first record of a WMF file draws, on so many rows of a surface of 4 by 4 pixels, and tells how many pixels were written.
+/// Draws the drawing of a WMF file's first record on some rows of a surface of 4 by 4 pixels, and returns the number of
+/// pixels written.
 fn draw_part(alloc: Global, file: &[u8], canvas: &mut Canvas) -> Result<u64, Fail> {
     let (first, held) = (canvas.first(), canvas.rows());
     if canvas.width() != 4 || first + held > 4 || canvas.writes() > 1000 {
@@ -35,17 +36,17 @@ fn draw_part(alloc: Global, file: &[u8], canvas: &mut Canvas) -> Result<u64, Fai
     Ok(canvas.writes())
 }
 
-/// The colour of the pen at the start.
+/// The colour of the initial pen.
 const BLACK: Colour = Colour { r: 0, g: 0, b: 0 };
 
-/// A black frame round a white pixel, in columns 1 to 3 and rows 1 to 3 of a surface of 4 by 4 pixels: META_RECTANGLE
+/// A black frame around a white pixel, in columns 1 to 3 and rows 1 to 3 of a surface of 4 by 4 pixels: META_RECTANGLE
 /// ([MS-WMF] 2.3.3.17) with its bottom, right, top and left.
 const FRAME: [u16; 7] = [7, 0, 0x41b, 4, 4, 1, 1];
 
 #[test]
 fn a_rectangle_goes_on_over_an_edge_of_rows(rt: HostRuntime) -> Result<(), Fail> {
     let file = placeable(rt.alloc(), 4, &FRAME)?;
-    // nine pixels are filled and eight stroked: of row 1 three and three, of rows 2 and 3 six and five
+    // Nine pixels are filled and eight are stroked: in row 1 three and three, in rows 2 and 3 six and five.
     for (first, rows, writes) in [(0, 2, 6), (2, 2, 11), (0, 1, 0), (1, 3, 17), (3, 1, 6)] {
         let mut canvas = Canvas::band(rt.alloc(), 4, first, rows, BLUE)?;
         same(&rt, draw_part(rt.alloc(), &file, &mut canvas)?, writes);

@@ -1,5 +1,5 @@
-//! Surfaces of each side, files of many counts of pixels, and faults in many records: each has its
-//! answer, and none is refused for memory.
+//! Surfaces of every width and height, files with many different numbers of pixels, and faults in many different
+//! records: each gives its result, and no allocation fails.
 
 use crate::playing::{colour, play_white};
 use draw_ops::{Fault, RecordFault};
@@ -17,13 +17,13 @@ const END: [u8; 6] = [3, 0, 0, 0, 0, 0];
 /// META_ESCAPE, which is skipped: size in words, function.
 const SKIPPED: [u8; 6] = [3, 0, 0, 0, 0x26, 6];
 
-/// Powers of two above the counts that are tried one by one, the counts beside them, and more.
+/// Powers of two above the counts that are tried one by one, their neighbours, and more.
 const GREAT_COUNTS: [usize; 18] = [
     4095, 4096, 4097, 8191, 8192, 8193, 16383, 16384, 16385, 32767, 32768, 32769, 65534, 65535,
     65536, 65537, 70_000, 100_000,
 ];
 
-/// The headers of a file with the box (0,0,4,4), and so many times this record.
+/// The headers of a file with the box (0,0,4,4), and this many copies of a record.
 fn repeated(alloc: Global, record: &[u8], count: usize) -> Result<Vec<u8>, AllocError> {
     let mut file = Vec::from_slice(alloc, &DOT[..40])?;
     for _ in 0..count {
@@ -32,7 +32,7 @@ fn repeated(alloc: Global, record: &[u8], count: usize) -> Result<Vec<u8>, Alloc
     Ok(file)
 }
 
-/// Whether the dot's file is played on a surface of these sides, and its pixel lands here.
+/// Whether the file of the dot is played on a surface of this size, and its pixel lands here.
 fn has_dot(alloc: Global, width: u32, height: u32, x: u32, y: u32) -> bool {
     if width == 0 || 8192 < width || height == 0 || 8192 < height {
         return false;
@@ -45,7 +45,7 @@ fn has_dot(alloc: Global, width: u32, height: u32, x: u32, y: u32) -> bool {
 
 #[test]
 fn a_dot_lands_on_each_width(rt: HostRuntime) {
-    // Column 2 of 4 begins at half of the width.
+    // Column 2 of 4 begins at half the width.
     for width in 1..8193 {
         assert!(rt; has_dot(rt.alloc(), width, 1, width / 2, 0), "{width}");
     }
@@ -59,7 +59,7 @@ fn a_dot_lands_on_each_height(rt: HostRuntime) {
     }
 }
 
-/// Whether a file that is cut behind so many skipped records has no end there.
+/// Whether a file that ends after this many skipped records is rejected there for its missing end.
 fn has_no_end(alloc: Global, skipped: &[u8], number: usize) -> bool {
     let (Some(front), Ok(place)) = (
         skipped.get(..40usize.wrapping_add(number.wrapping_mul(6))),
@@ -86,7 +86,7 @@ fn a_fault_in_each_record_is_told_with_its_number(rt: HostRuntime) -> Result<(),
     Ok(())
 }
 
-/// Whether a file of so many pixels is played whole.
+/// Whether a file of this many pixels is played whole.
 fn has_pixels(alloc: Global, count: usize) -> Result<bool, AllocError> {
     let mut file = repeated(alloc, &PIXEL, count)?;
     file.extend_from_slice(&END)?;

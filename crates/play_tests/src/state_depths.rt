@@ -1,5 +1,5 @@
-//! Saved states, objects and pieces of a path, one after another on machines that have made no room: each is taken up to its limit, and
-//! given back.
+//! Saved states, objects and pieces of a path, one after another, on machines without reserved memory: each is accepted
+//! up to its limit, and released.
 
 use crate::stepping::{machine, step};
 use dc_stack::{MAX_PIECES, MAX_SAVED_STATES, Machine};
@@ -22,7 +22,7 @@ const MOVE: Op<'static> = Op::MoveTo(Point { x: 2, y: 1 });
 
 const NO_STATE: Result<bool, Fault> = Err(Fault::Record(RecordFault::NoSavedState));
 
-/// How often a machine does a step before it has this fault: none where it has another.
+/// How often a machine does a step before it has this fault. None if it has another fault.
 fn taken<'a>(
     machine: &mut Machine<'a, LowestFree<'a>>,
     op: Op<'a>,
@@ -43,8 +43,8 @@ fn taken<'a>(
     None
 }
 
-/// Whether a restore to this place leaves so many saved states: a second one finds none there, and there is room for the rest. The machine
-/// is full before, and again behind it.
+/// Whether a restore to this position leaves this many saved states, so that a second one finds none there and the rest
+/// can be saved again. The machine is full before and after.
 fn leaves<'a>(machine: &mut Machine<'a, LowestFree<'a>>, place: i32, left: usize) -> bool {
     let back = Op::Restore(SavedState(place));
     let again = if place < 0 {
@@ -90,7 +90,7 @@ fn states_are_saved_and_restored_to_each_depth(rt: HostRuntime) -> Result<(), Fa
     Ok(())
 }
 
-/// Whether a new machine saves so many states, restores each, and has none left.
+/// Whether a new machine saves this many states and restores each, with none left.
 fn goes_down(alloc: Global, opened: &Opened<'_>, depth: u32) -> bool {
     let mut machine = machine(alloc, opened);
     for _ in 0..depth {
@@ -115,7 +115,7 @@ fn a_machine_goes_down_from_each_depth(rt: HostRuntime) -> Result<(), Fail> {
     Ok(())
 }
 
-/// Whether a font is made with this index, is selected, is held, and is let go.
+/// Whether a font is made with this index, is selected, is in use, and is released.
 fn is_selected<'a>(machine: &mut Machine<'a, LowestFree<'a>>, index: u32) -> bool {
     let at = Handle(index);
     let held = Err(Fault::Record(RecordFault::HeldObject));
@@ -147,7 +147,8 @@ fn objects_are_made_selected_and_deleted_at_each_index(rt: HostRuntime) -> Resul
     Ok(())
 }
 
-/// Whether a machine whose file names its indexes makes a font at this one, selects it, and deletes it once it is let go.
+/// Whether a machine for a file that names its indexes makes a font at this one, selects it, and deletes it after it is
+/// released.
 fn is_given<'a>(machine: &mut Machine<'a, Given<'a>>, index: u32) -> bool {
     let (at, held) = (Handle(index), Err(Fault::Record(RecordFault::HeldObject)));
     let made = Op::Create {
@@ -196,7 +197,7 @@ fn a_path_has_each_count_of_pieces(rt: HostRuntime) -> Result<(), Fail> {
     assert!(rt; taken(&mut machine, LINE, RecordFault::TooManyPieces) == Some(0));
     assert!(rt; step(&mut machine, Op::AbortPath) == Ok(false));
     assert!(rt; step(&mut machine, Op::BeginPath) == Ok(false));
-    // Each of these lines begins one.
+    // Each of these lines begins a figure.
     for figure in 1..=MAX_PIECES as u32 / 2 {
         assert!(rt; step(&mut machine, MOVE) == Ok(false), "{figure}");
         assert!(rt; step(&mut machine, LINE) == Ok(false), "{figure}");
@@ -206,7 +207,7 @@ fn a_path_has_each_count_of_pieces(rt: HostRuntime) -> Result<(), Fail> {
     Ok(())
 }
 
-/// Whether a new machine cuts so many boxes out of the clip.
+/// Whether a new machine can cut this many boxes out of the clip.
 fn has_cuts(alloc: Global, opened: &Opened<'_>, count: u32) -> bool {
     let mut machine = machine(alloc, opened);
     let cut = Rect {

@@ -1,4 +1,4 @@
-//! A machine at the start of a small file, and what one step of it answers.
+//! A machine at the start of a small file, and the results of its steps.
 
 use dc_stack::Machine;
 use draw_ops::{Fault, Op};
@@ -13,7 +13,8 @@ pub(crate) fn machine<'a>(alloc: Global, opened: &Opened<'a>) -> Machine<'a, Low
     Machine::new(alloc, opened, place, LowestFree::new(alloc))
 }
 
-/// Whether an operation draws, or its fault. A test says nothing of its contract, so that many steps are proved as fast as one.
+/// Whether an operation draws, or its fault. A test says nothing about its contract, so that many steps are proved as
+/// fast as one.
 pub(crate) fn step<'a>(
     machine: &mut Machine<'a, LowestFree<'a>>,
     op: Op<'a>,

@@ -1,4 +1,4 @@
--- Steps in turn: what they need, and the room for what they draw.
+-- What successive steps need, and the memory for their drawings.
 use Rattle.std.proofs.Common.{◌≡◌, ℕ, ◌≤◌, max, List, ◌∷◌, Option, Some, None, IfSome, arith, inl, inr, refl, subst, sym}
 use Rattle.std.specs.Option.{option_map}
 use Rattle.draw_ops.specs.Content.{Content, StepValue, with_step}
@@ -15,7 +15,7 @@ use Rattle.player.specs.After.{HasLines, HasRoomForSteps}
 use Rattle.preflight_cert.specs.After.{needs_after}
 use Rattle.preflight_cert.specs.NeedLaws.{HasRoomFor, NeedLaws}
 
--- room for a step and the rest is room for the rest, on the machine behind it
+-- memory for a step and the rest is memory for the rest, on the machine after the step
 pub room_behind : (content rest : Content) (step : StepValue) (old new : MachineState) → content ≡ with_step step rest → HasStepped step.operation old new → GoesOn old new → HasRoomForSteps content old → HasRoomForSteps rest new
 room_behind content rest step old new is stepped on room =
     let whole : HasRoomFor (needs_after (step ∷ rest.steps) old.state old.needs) old = rw is at room in
@@ -33,7 +33,7 @@ room_behind content rest step old new is stepped on room =
     let same : needs_after rest.steps new.state new.needs ≡ needs_after rest.steps (next step.operation old.state) (greater_needs old.needs (needs_of step.operation old.state)) = rw (stepped.state, stepped.needs) refl in
     subst (λ (needs : Needs). HasRoomFor needs new) (sym same) left
 
--- and so are lines
+-- the same for lines
 pub lines_behind : (room : ℕ) (content rest : Content) (step : StepValue) (old new : MachineState) → content ≡ with_step step rest → HasStepped step.operation old new → HasLines room content old → HasLines room rest new
 lines_behind room content rest step old new is stepped has = elim has [
   | inl any ↦ inl any
@@ -42,7 +42,7 @@ lines_behind room content rest step old new is stepped has = elim has [
       inr (rw (stepped.state, stepped.needs) whole)
 ]
 
--- the greater of two is no less than the second
+-- the maximum of two numbers is at least the second
 right_of_two : (a b : ℕ) → b ≤ max a b
 right_of_two a b = grind arith
 
@@ -60,7 +60,7 @@ few_edges : (s : Surface) (new : MachineState) (draw : Option Draw) → IfSome d
 few_edges s new None placed = omega arith
 few_edges s new (Some draw) placed = placed.few
 
--- and there are lines for the step
+-- the row buffer can take the lines of the step
 pub lines_for_first : NeedLaws → (room : ℕ) (content rest : Content) (step : StepValue) (old new : MachineState) (draw : Option Draw) → content ≡ with_step step rest → IsDrawingOf step.operation old new draw → IfSome draw (IsPlacedDraw old.surface new.painted) → HasLines room content old → drawing_edges (option_map (drawing_with new) draw) ≤ room
 lines_for_first laws room content rest step old new draw is drawn placed has = elim has [
   | inl any ↦ let few = few_edges old.surface new draw placed in omega (arith, few, any)

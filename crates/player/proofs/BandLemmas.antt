@@ -1,4 +1,4 @@
--- Bands laid together are the whole surface.
+-- Consecutive bands make the whole surface.
 use Rattle.std.proofs.Common.{◌≡◌, ℕ, ◌+◌, ◌*◌, ◌≤◌, List, [], ◌++◌, length, replicate, refl, sym, ap, ◌∙◌, arith}
 use Rattle.std.proofs.Math.Nat.{add-mul}
 use Rattle.std.proofs.lemmas.Grind.{flat_map-append}
@@ -22,7 +22,7 @@ blank_laid width rows more start =
     (ap (λ (n : ℕ). replicate n start) (add-mul rows more width) ∙ sym (replicate-append-replicate (rows * width) (more * width) start))
 
 module _ (laws : RowsLaws) (drawings : List NumberedDrawing) (s : Surface) (start : Colour) (wide : 1 ≤ s.width) where
-  -- what the drawings leave of rows from one on
+  -- what the drawings leave of the rows from one on
   abbrev after : ℕ → ℕ → Image
   after first rows = rows_after drawings s first (blank s.width rows start)
 
@@ -33,13 +33,13 @@ module _ (laws : RowsLaws) (drawings : List NumberedDrawing) (s : Surface) (star
       ∙ laws.drawings drawings s 0 (blank s.width rows start) (blank s.width more start) (whole_blank s.width rows start wide) refl
       ∙ ap (λ (n : ℕ). laid (after 0 rows) (after n more)) e
 
-  -- the samples of rows laid together are those of each
+  -- the samples of consecutive rows are those of each part, in order
   pub raster_laid : (rows more : ℕ) → raster (after 0 (rows + more)).colours ≡ raster (after 0 rows).colours ++ raster (after rows more).colours
   raster_laid rows more =
       ap (λ (image : Image). raster image.colours) (after_laid rows more)
       ∙ flat_map-append pixel_bytes (after 0 rows).colours (after rows more).colours
 
-  -- no row has none
+  -- no rows have no samples
   pub no_raster : raster (after 0 0).colours ≡ []
   no_raster =
       let kept = laws.sides drawings s 0 (blank s.width 0 start) in

@@ -24,7 +24,7 @@ use Rattle.player.specs.Plays.{PlaysRecords}
 use Rattle.player.specs.Ready.{IsReadyToPlay}
 use Rattle.player.proofs.BandLemmas.{no_raster, no_writes, raster_laid}
 
--- what was played on rows of one colour is the band of those rows
+-- what was played on rows of one colour is the band of these rows
 pub band_played :
     ContentIsOne → (o : OpenedValue) (records : List ℕ) (s : Surface) (start : Colour) (first rows : ℕ) (from : MachineState) (old empty new : CanvasState)
     → from.state ≡ start_of o → from.surface ≡ s → image_of empty ≡ blank s.width rows start → empty.first ≡ first → empty.writes ≡ old.writes
@@ -56,7 +56,7 @@ module _ (laws : RowsLaws) (o : OpenedValue) (records : List ℕ) (s : Surface) 
       let kept = laws.sides (drawings_of content.steps (start_of o)) s 0 (blank s.width s.height start) in
       ap (λ (w : ℕ). header w image.height ++ raster image.colours) kept.width ∙ ap (λ (n : ℕ). header s.width n ++ raster image.colours) kept.height
 
-  -- behind the header no row is written
+  -- after the header no row has been written
   pub none_written : (old new : Option (List ℕ)) → Appends old new (header s.width s.height) → HasWrittenRows o records s start 0 old new
   none_written old new sent content h =
       let text = header s.width s.height in
@@ -66,7 +66,7 @@ module _ (laws : RowsLaws) (o : OpenedValue) (records : List ℕ) (s : Surface) 
   none_counted writes none content h = none ∙ sym (no_writes laws (drawings_of content.steps (start_of o)) s start wide)
 
   module _ (first rows : ℕ) (before after : CanvasState) (played : PlaysBand o records s start first rows before after) where
-    -- the samples up to a band, and those of the band
+    -- the samples before a band, and those of the band
     band_text : (content : Content) → HasContentOf o.format records content
         → header s.width s.height ++ raster (rows_played o content s start 0 (first + rows)).colours ≡ (header s.width s.height ++ raster (rows_played o content s start 0 first).colours) ++ raster after.colours
     band_text content h =
@@ -76,7 +76,7 @@ module _ (laws : RowsLaws) (o : OpenedValue) (records : List ℕ) (s : Surface) 
         ap (λ (samples : List ℕ). text ++ samples) (raster_laid laws (drawings_of content.steps (start_of o)) s start wide first rows ∙ ap (λ (samples : List ℕ). upper ++ samples) here)
         ∙ sym (append_assoc text upper (raster after.colours))
 
-    -- one band more is written, and counted
+    -- one more band is written and counted
     pub band_written : (old mid new : Option (List ℕ)) → HasWrittenRows o records s start first old mid → Appends mid new (raster after.colours) → HasWrittenRows o records s start (first + rows) old new
     band_written old mid new so_far sent content h =
         subst (Appends old new) (sym (band_text content h)) (Appends-trans old mid new _ _ (so_far content h) sent)
@@ -90,7 +90,7 @@ module _ (laws : RowsLaws) (o : OpenedValue) (records : List ℕ) (s : Surface) 
         let there : row_writes o content s (0 + first) rows ≡ row_writes o content s first rows = ap (λ (n : ℕ). row_writes o content s n rows) e in
         omega (arith, counted, above, here, there)
 
-    -- where it fails, a front of the text is
+    -- if writing a band fails, a prefix of the text was written
     pub front_written : (old mid new : Option (List ℕ)) → first + rows ≤ s.height → HasWrittenRows o records s start first old mid → AppendsFront mid new (raster after.colours) → HasWrittenFront o records s start old new
     front_written old mid new within so_far front content h =
         let text = header s.width s.height in
@@ -112,7 +112,7 @@ module _ (laws : RowsLaws) (o : OpenedValue) (records : List ℕ) (s : Surface) 
         regrouped : (a b c d : List ℕ) → (a ++ (b ++ c)) ++ d ≡ (a ++ b) ++ (c ++ d)
         regrouped a b c d = ap (λ (t : List ℕ). t ++ d) (sym (append_assoc a b c)) ∙ append_assoc (a ++ b) c d
 
-  -- so it is where the header fails
+  -- the same if writing the header fails
   pub front_of_header : (old new : Option (List ℕ)) → AppendsFront old new (header s.width s.height) → HasWrittenFront o records s start old new
   front_of_header old new front content h =
       let samples = raster (rows_played o content s start 0 s.height).colours in
@@ -123,7 +123,7 @@ module _ (laws : RowsLaws) (o : OpenedValue) (records : List ℕ) (s : Surface) 
         appended = front.appended;
       }
 
--- a machine that goes on is ready again
+-- the machine is ready again for the next band
 pub ready_again : (cleared : Cleared) (lines new_lines : ℕ) (m n : MachineState) → GoesOn m n → new_lines ≡ lines → IsReadyToPlay cleared lines m → IsReadyToPlay cleared new_lines n
 ready_again cleared lines new_lines m n on same ready =
     let room = ready.room in

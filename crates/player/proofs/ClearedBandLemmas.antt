@@ -45,7 +45,7 @@ module _ (answers : AnswerLaws) (sizes : SizeLaws) (contents : ContentIsOne) (cl
   frame : ShowsFrame (bound_of o c)
   frame = record { wide = cleared.opened.frame.wide; high = cleared.opened.frame.high }
 
-  -- the records have one content, and it has no fault here
+  -- the records have one content, and it has no fault on this surface
   one : ExactlyOne (HasContentOf o.format records)
   one = contents (framing_of o.format) (meaning_of o.format) records
 

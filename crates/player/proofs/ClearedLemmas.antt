@@ -1,4 +1,4 @@
--- What a certificate that was accepted says of playing on a surface within its bound.
+-- What an accepted certificate says about playing on a surface within its bound.
 use Rattle.std.proofs.Common.{◌≡◌, ℕ, ◌+◌, ◌≤◌, ◌⊎◌, List, None, inl, inr, refl, subst, sym, arith}
 use Rattle.mapping.specs.PlacingLaws.{IsNoLarger, ShowsFrame}
 use Rattle.mapping.specs.Surface.{Surface}
@@ -24,7 +24,7 @@ module _ (answers : AnswerLaws) (o : OpenedValue) (records : List ℕ) (c : Cert
   pub fits : (content : Content) → HasContentOf o.format records content → Fits c o content
   fits content h = (answers.fits content o c).0 (cleared content h)
 
-  -- room for what the certificate needs is room for the file, from its start on
+  -- memory for the certificate's needs is memory for the whole file
   module _ (content : Content) (holds : HasContentOf o.format records content) (m : MachineState) (state : m.state ≡ start_of o) (needs : m.needs ≡ no_needs) where
     pub room_for_file : HasRoomFor c.needs m → HasRoomForSteps content m
     room_for_file room =
@@ -44,7 +44,7 @@ module _ (answers : AnswerLaws) (o : OpenedValue) (records : List ℕ) (c : Cert
           let enough : (file_needs content o).edges ≤ count = omega (arith, edges, few) in inr (rw (state, needs) enough)
     ]
 
-  -- within the bound nothing stops, and no more is written than certified
+  -- within the bound nothing stops, and at most the certified number of pixels is written
   module _ (sizes : SizeLaws) (s : Surface) (frame : ShowsFrame (bound_of o c)) (smaller : IsNoLarger s (bound_of o c)) where
     pub never_stops : (content : Content) → HasContentOf o.format records content → stop_of content (start_of o) s ≡ None
     never_stops content h = sizes.unstopped content (start_of o) s (bound_of o c) frame smaller (fits content h).unstopped

@@ -1,4 +1,4 @@
--- What is ready for bands.
+-- What holds when all is ready for bands.
 use Rattle.std.proofs.Common.{◌≡◌, ◌≤◌, ap, arith}
 use Rattle.mapping.specs.Surface.{Surface}
 use Rattle.preflight_cert.specs.declared.cleared.Cleared.{Cleared}

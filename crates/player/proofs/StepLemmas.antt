@@ -1,4 +1,4 @@
--- Where a step is refused on a machine with room, or the source breaks, the whole stops.
+-- If a step fails on a machine with enough memory, or the source breaks, the whole stops.
 use Rattle.std.proofs.Common.{◌≡◌, length, Option, Some, None, inl, inr, refl, sym, ap, ◌∙◌, arith}
 use Rattle.std.specs.Option.{option_map}
 use Rattle.mapping.specs.Surface.{Surface}
@@ -15,7 +15,7 @@ use Rattle.player.specs.After.{HasRoomForSteps}
 use Rattle.preflight_cert.specs.NeedLaws.{HasRoomFor, NeedLaws}
 use Rattle.preflight_cert.specs.Stop.{Stop, broken_behind, stop_at, stopped}
 
--- room for the needs of all steps is room for those of the first
+-- memory for the needs of all steps is memory for those of the first
 room_for_first : NeedLaws → (step : StepValue) (rest : Content) (m : MachineState) → HasRoomForSteps (with_step step rest) m → HasRoomFor (needs_of step.operation m.state) m
 room_for_first laws step rest m room =
     let within = laws.before rest.steps (next step.operation m.state) (greater_needs m.needs (needs_of step.operation m.state)) in
@@ -23,7 +23,7 @@ room_for_first laws step rest m room =
     let deep = room.depth in let many = room.slots in let long = room.pieces in
     record { depth = omega (arith, depth, deep); slots = omega (arith, slots, many); pieces = omega (arith, pieces, long) }
 
--- a step is refused by the operation's fault, and not for want of memory
+-- a step fails by the operation's fault, not because an allocation failed
 refused_by_fault : NeedLaws → (left rest : Content) (step : StepValue) (m : MachineState) (fault : Fault) → left ≡ with_step step rest → HasRoomForSteps left m → RefusesStep step.operation m fault
     → option_map Record (fault_of step.operation m.state m.surface) ≡ Some fault
 refused_by_fault laws left rest step m fault is room refuses = elim refuses [
@@ -43,10 +43,10 @@ found_of (Some here) fault h = record { here = here; is = refl }
 none_some : (stop : Option Stop) (at : Stop) → stop ≡ None → stop ≡ Some at → ⊥
 none_some stop at n s = cc
 
--- what is left of the whole, behind steps without a fault
+-- after steps without a fault, the whole stops as the rest does
 module _ (whole left : Content) (start state : State) (s : Surface)
     (same : stopped whole.steps (broken_behind (length whole.steps) whole.fault) start s ≡ stopped left.steps (broken_behind (length whole.steps) whole.fault) state s) where
-  -- it stops where it breaks
+  -- the whole stops if the source breaks
   pub broken_stops : (fault : RecordFault) → left ≡ broken_by fault → left.fault ≡ whole.fault → stopped whole.steps (broken_behind (length whole.steps) whole.fault) start s ≡ None → ⊥
   broken_stops fault is kept none =
       let breaks : whole.fault ≡ Some fault = sym kept ∙ ap (λ (k : Content). k.fault) is in
@@ -54,7 +54,7 @@ module _ (whole left : Content) (start state : State) (s : Surface)
       ap (λ (k : Content). stopped k.steps (broken_behind (length whole.steps) whole.fault) state s) is ∙ ap (broken_behind (length whole.steps)) breaks in
       none_some _ (stop_at (length whole.steps) fault) none (same ∙ here)
 
-  -- and where its first step has a fault
+  -- the whole stops if its first step has a fault
   at_first : (rest : Content) (step : StepValue) → left ≡ with_step step rest → IsFound (fault_of step.operation state s) → stopped whole.steps (broken_behind (length whole.steps) whole.fault) start s ≡ None → ⊥
   at_first rest step is found none =
       let here : stopped left.steps (broken_behind (length whole.steps) whole.fault) state s ≡ Some (stop_at step.number found.here) = rw (is, found.is) refl in

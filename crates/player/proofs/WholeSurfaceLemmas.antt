@@ -1,4 +1,4 @@
--- Records that are played on a whole surface from their start on.
+-- Records that are played on a whole surface from their start.
 use Rattle.std.proofs.Common.{◌≡◌, ℕ, ◌+◌, List, refl, subst, sym}
 use Rattle.draw_ops.specs.Content.{Content}
 use Rattle.mapping.specs.Surface.{Surface}
@@ -12,7 +12,7 @@ use Rattle.preflight_cert.specs.Drawings.{drawings_of}
 use Rattle.preflight_cert.specs.Writes.{writes_after, writes_of_drawings}
 use Rattle.player.specs.Plays.{PlaysContent, PlaysOpened, PlaysRecords}
 
--- a canvas whose first row is 0, and that has all rows of its surface, counts the writes of the whole surface
+-- a canvas whose first row is 0 and that has all rows of its surface counts the writes of the whole surface
 whole_count : (content : Content) (state : State) (s : Surface) (old new : CanvasState) → old.first ≡ 0 → s.height ≡ old.rows → new.writes ≡ old.writes + writes_of_drawings (drawings_of content.steps state) s old.first old.rows → new.writes ≡ old.writes + writes_after (drawings_of content.steps state) s
 whole_count content state s old new first height count =
     let top : new.writes ≡ old.writes + writes_of_drawings (drawings_of content.steps state) s 0 old.rows = subst (λ (n : ℕ). new.writes ≡ old.writes + writes_of_drawings (drawings_of content.steps state) s n old.rows) first count in

@@ -1,4 +1,4 @@
--- Playing in bands: rows of a surface, one after another, from one colour, and the text of all of them.
+-- Playing in bands over one colour, and the text of all bands together.
 use Rattle.std.specs.Prelude.{◌≡◌, ℕ, ◌+◌, ◌++◌, List, Option, Result, Err}
 use Rattle.std.specs.Io.KnownBytes.{Appends}
 use Rattle.mapping.specs.Image.{Image, blank}
@@ -22,24 +22,24 @@ use Rattle.preflight_cert.specs.declared.cleared.Cleared.{Cleared}
 use Rattle.player.specs.Ready.{surface_of_file}
 use Rattle.player.specs.declared.band_plan.BandPlan.{BandPlan}
 
--- the text is the P6 text of the image which the run of a file leaves of another
+-- the text is the P6 text of the image that the run of a file makes from the start image
 pub record IsRunText (file : List ℕ) (width height : ℕ) (start : Image) (text : List ℕ) : Type 0 where
   pub image : Image
   pub run : Run file width height start (shown image)
   pub is_text : text ≡ ppm_text image
 
--- it is so for the file that was cleared, from one colour everywhere
+-- the text is that of the run of the cleared file, over one colour
 abbrev pub IsClearedText : Cleared → ℕ → ℕ → Colour → List ℕ → Type 0
 IsClearedText cleared width height start text =
     (file : List ℕ) → IsOpenedFrom file cleared.opened → IsRunText file width height (blank width height start) text
 
--- that text was written
+-- the text of the run was written
 pub record WritesRun (cleared : Cleared) (width height : ℕ) (start : Colour) (old new : Option (List ℕ)) : Type 0 where
   pub text : List ℕ
   pub of_run : IsClearedText cleared width height start text
   pub appended : Appends old new text
 
--- a front of it was
+-- a prefix of the text of the run was written
 pub record WritesRunFront (cleared : Cleared) (width height : ℕ) (start : Colour) (old new : Option (List ℕ)) : Type 0 where
   pub text : List ℕ
   pub of_run : IsClearedText cleared width height start text
@@ -49,40 +49,40 @@ pub record WritesRunFront (cleared : Cleared) (width height : ℕ) (start : Colo
 abbrev pub IsWriteFault : Result ℕ Fault → Type 0
 IsWriteFault result = result ≡ Err WriteFault
 
--- the same of a writer, by what it holds
+-- a prefix of the text of the run was written to a writer with these contents
 abbrev pub WritesFrontTo : {W : Type 0} → Cleared → ℕ → ℕ → Colour → (W → Option (List ℕ)) → W → W → Type 0
 WritesFrontTo cleared width height start contents old new = WritesRunFront cleared width height start (contents old) (contents new)
 
--- what the drawings of records make of so many rows of one colour
+-- the image that the drawings of records make on some rows, over one colour
 abbrev pub rows_played : OpenedValue → Content → Surface → Colour → ℕ → ℕ → Image
 rows_played o content s start first rows = rows_after (drawings_of content.steps (start_of o)) s first (blank s.width rows start)
 
--- how many pixels of those rows they write
+-- how many pixels of these rows the drawings of records write
 abbrev pub row_writes : OpenedValue → Content → Surface → ℕ → ℕ → ℕ
 row_writes o content s first rows = writes_of_drawings (drawings_of content.steps (start_of o)) s first rows
 
--- A band of rows from one colour was played: it shows what the records leave of it, and the writes there are counted.
+-- A band of rows was played over one colour: the canvas shows what the records draw there, and the writes were counted.
 pub record PlaysBand (o : OpenedValue) (records : List ℕ) (s : Surface) (start : Colour) (first rows : ℕ) (old new : CanvasState) : Type 0 where
   pub image : (content : Content) → HasContentOf o.format records content → image_of new ≡ rows_played o content s start first rows
   pub writes : (content : Content) → HasContentOf o.format records content → new.writes ≡ old.writes + row_writes o content s first rows
 
--- the rows before one, from one colour, were written, header and all
+-- the header and the rows before this one were written, played over one colour
 abbrev pub HasWrittenRows : OpenedValue → List ℕ → Surface → Colour → ℕ → Option (List ℕ) → Option (List ℕ) → Type 0
 HasWrittenRows o records s start rows old new =
     (content : Content) → HasContentOf o.format records content
     → Appends old new (header s.width s.height ++ raster (rows_played o content s start 0 rows).colours)
 
--- a front of the text of all rows was
+-- a prefix of the text of all rows was written
 abbrev pub HasWrittenFront : OpenedValue → List ℕ → Surface → Colour → Option (List ℕ) → Option (List ℕ) → Type 0
 HasWrittenFront o records s start old new =
     (content : Content) → HasContentOf o.format records content
     → AppendsFront old new (ppm_text (rows_played o content s start 0 s.height))
 
--- the pixels written on those rows were counted
+-- the number is that of the pixels written on these rows
 abbrev pub HasCountedRows : OpenedValue → List ℕ → Surface → ℕ → ℕ → Type 0
 HasCountedRows o records s rows writes = (content : Content) → HasContentOf o.format records content → writes ≡ row_writes o content s 0 rows
 
--- the same of a cleared file and a plan
+-- the surface of a plan, for a cleared file; a band of the plan was played, and the writes on its rows were counted
 abbrev pub plan_surface : Cleared → BandPlan → Surface
 plan_surface cleared plan = surface_of_file cleared plan.width plan.height
 
@@ -94,7 +94,7 @@ abbrev pub CountsRows : Cleared → BandPlan → ℕ → ℕ → Type 0
 CountsRows cleared plan rows writes =
     HasCountedRows (opened_of cleared.opened) cleared.opened.records.now (plan_surface cleared plan) rows writes
 
--- and of a writer that holds these bytes
+-- the text of the run by a plan, its first rows, or a prefix was written to a writer with these contents
 module _ {W : Type 0} where
   abbrev pub WritesPlan : Cleared → BandPlan → (W → Option (List ℕ)) → W → W → Type 0
   WritesPlan cleared plan contents old new = WritesRun cleared plan.width plan.height plan.start (contents old) (contents new)

@@ -5,10 +5,10 @@ use Rattle.meta_headers.specs.File.{IsOpenedFrom}
 use Rattle.preflight_cert.specs.Run.{Run, RunWrites, shown}
 use Rattle.preflight_cert.specs.declared.cleared.Cleared.{Cleared}
 
--- The canvas shows what the run of that file leaves of what it showed.
+-- the canvas shows the image that the file's run makes from the old image
 abbrev pub LeavesRun : Cleared → CanvasState → CanvasState → Type 0
 LeavesRun cleared old new = (file : List ℕ) → IsOpenedFrom file cleared.opened → Run file old.width old.rows (image_of old) (shown (image_of new))
 
--- So many pixels does the run of that file write at this size.
+-- the file's run writes this number of pixels at this size
 abbrev pub AreClearedWrites : Cleared → ℕ → ℕ → ℕ → Type 0
 AreClearedWrites cleared width height writes = (file : List ℕ) → IsOpenedFrom file cleared.opened → RunWrites file width height writes

@@ -1,13 +1,13 @@
--- Parts of a text that went to a writer.
+-- Parts of a text, sent to a writer.
 use Rattle.std.specs.Prelude.{ℕ, List, Option}
 use Rattle.std.specs.Io.KnownBytes.{Appends}
 use Rattle.canvas.specs.Ppm.{AppendsFront}
 
 module _ {W : Type 0} where
-  -- a writer that holds these bytes got a text
+  -- a text was written to a writer with these contents
   abbrev pub SendsText : (W → Option (List ℕ)) → W → W → List ℕ → Type 0
   SendsText contents old new text = Appends (contents old) (contents new) text
 
-  -- or a front of it
+  -- a prefix of a text was written to a writer with these contents
   abbrev pub SendsFront : (W → Option (List ℕ)) → W → W → List ℕ → Type 0
   SendsFront contents old new text = AppendsFront (contents old) (contents new) text

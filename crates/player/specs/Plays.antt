@@ -1,4 +1,4 @@
--- What playing does to a canvas.
+-- How playing changes a canvas.
 use Rattle.std.specs.Prelude.{◌≡◌, ℕ, ◌+◌, List, None}
 use Rattle.draw_ops.specs.Content.{Content}
 use Rattle.canvas.specs.CanvasState.{CanvasState, image_of}
@@ -13,13 +13,14 @@ use Rattle.preflight_cert.specs.Drawings.{drawings_of}
 use Rattle.preflight_cert.specs.Stop.{stop_of}
 use Rattle.preflight_cert.specs.Writes.{writes_after, writes_of_drawings}
 
--- all steps of the content were played from a machine's state on, none has a fault, and what they draw is on the rows of a canvas
+-- all steps of the content were played from a machine's state, without a fault, and the canvas shows their drawings on
+-- its rows
 pub record PlaysContent (content : Content) (start : MachineState) (old new : CanvasState) : Type 0 where
   pub unstopped : stop_of content start.state start.surface ≡ None
   pub image : image_of new ≡ rows_after (drawings_of content.steps start.state) start.surface old.first (image_of old)
   pub writes : new.writes ≡ old.writes + writes_of_drawings (drawings_of content.steps start.state) start.surface old.first old.rows
 
--- the content stops somewhere
+-- the content stops at a fault
 abbrev pub Stops : Content → MachineState → Type 0
 Stops content start = stop_of content start.state start.surface ≡ None → ⊥
 
@@ -29,11 +30,11 @@ pub record PlaysRecords (format : FileFormat) (records : List ℕ) (start : Mach
   pub of_records : HasContentOf format records content
   pub plays : PlaysContent content start old new
 
--- all records of an opened file of the code were played and drawn
+-- all records of an opened file were played and drawn
 abbrev pub PlaysFile : Opened → MachineState → CanvasState → CanvasState → Type 0
 PlaysFile o start old new = PlaysRecords o.format o.records.now start old new
 
--- all records of an opened file were drawn from their start on, and none has a fault
+-- all records of an opened file were drawn from the file's start, without a fault
 pub record PlaysOpened (o : OpenedValue) (records : List ℕ) (old new : CanvasState) : Type 0 where
   pub content : Content
   pub of_records : HasContentOf o.format records content

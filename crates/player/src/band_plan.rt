@@ -1,23 +1,23 @@
-//! How a surface is shown in bands.
+//! How a surface is divided into bands.
 
 ghost use Rattle.std.specs.Prelude.{◌≤◌};
 
 use mapping::Colour;
 
-/// How a surface is shown in bands of rows.
+/// How a surface is divided into bands of rows.
 ///
 /// # Guarantees
 ///
-/// - Each side, and the rows of a band, are at least 1.
+/// - The width, the height and the number of rows of a band are at least 1.
 #[derive(Clone, Copy, Debug, PartialEq, Eq)]
 pub struct BandPlan {
-    /// How many pixels a row of the surface has.
+    /// The width of the surface in pixels.
     pub width: u32,
-    /// How many rows the surface has.
+    /// The height of the surface in pixels.
     pub height: u32,
-    /// The colour that each pixel has before the first record.
+    /// The colour of every pixel before the first record.
     pub start: Colour,
-    /// How many rows a band has; the last band has what is left.
+    /// The number of rows in each band. The last band has the rows that remain.
     pub rows: u32,
     pub ghost wide: { 1 ≤ width },
     pub ghost high: { 1 ≤ height },

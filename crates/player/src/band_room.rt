@@ -1,4 +1,4 @@
-//! The memory that playing in bands takes, all of it before a byte is written, and a band played in it.
+//! The memory for playing in bands, allocated before the first byte is written, and playing one band in it.
 
 ghost use Rattle.std.specs.Prelude.{◌≡◌, ◌+◌, ◌<◌, ◌≤◌, min, IfErr, IfOk};
 ghost use Rattle.player.specs.Bands.{PlaysClearedBand};
@@ -17,7 +17,7 @@ use painting::DrawingRoom;
 use preflight_cert::Cleared;
 use std::alloc::Global;
 
-/// A machine and room for drawings, enough for what a cleared file needs, and a canvas with room for a band.
+/// A machine and memory for drawings, enough for the needs of a cleared file, and a canvas with memory for one band.
 #[derive(Drop)]
 pub(crate) struct BandRoom<'a> {
     pub machine: Machine<'a, FileTable<'a>>,
@@ -25,8 +25,8 @@ pub(crate) struct BandRoom<'a> {
     pub canvas: Canvas,
 }
 
-/// Room for playing a cleared file in the bands of a plan: `SurfaceTooLarge` exactly where a side is above the certificate's bound, and
-/// `OutOfMemory` where memory was refused.
+/// Allocates the memory for playing a cleared file in the bands of a plan. Returns `SurfaceTooLarge` exactly if the
+/// surface exceeds the certificate's bound, and `OutOfMemory` if an allocation fails.
 pub(crate) fn band_room<'a>(
     alloc: Global,
     cleared: &Cleared<'a>,
@@ -54,7 +54,7 @@ pub(crate) fn band_room<'a>(
     }
 }
 
-/// Plays the file from its start on, on the rows of the band that begins with row `first`, and tells how many these are.
+/// Plays the whole file on the band that begins at row `first`, and returns the number of rows in that band.
 pub(crate) fn show_band<'a>(
     cleared: &Cleared<'a>,
     room: &mut BandRoom<'a>,

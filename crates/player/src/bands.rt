@@ -1,4 +1,4 @@
-//! Playing a cleared file in bands: rows of the surface, one after another, on one canvas.
+//! Plays a cleared file in bands: the rows of the surface, band after band, on one canvas.
 
 ghost use Rattle.std.specs.Prelude.{◌≡◌, ◌+◌, ◌-◌, ◌<◌, ◌≤◌, ◌^◌, Err, IfErr, IfOk, OnErr, OnOk};
 ghost use Rattle.std.specs.Io.KnownBytes.{Keeps};
@@ -18,12 +18,17 @@ use preflight_cert::{Cleared, answer_law, rows_law, size_law};
 use std::alloc::Global;
 use std::io::Write;
 
-/// Plays a cleared file over one colour on a surface of `width` by `height` pixels, each at least 1, in bands of so many rows, at least
-/// one, the last of what is left, and writes the P6 text (ppm(5)) of the image. It tells how many pixels were written: no more than
-/// certified. All memory is taken before the first byte is written: for what the certificate needs, and for a band.
+/// Plays a cleared file over one colour on a surface of `width` by `height` pixels, and writes the image as P6 text
+/// (ppm(5)). Returns the number of pixels written, which is at most the certified number.
 ///
-/// `SurfaceTooLarge` exactly where a side is above the certificate's bound, and `OutOfMemory` where memory was refused, and then no byte
-/// was written; `WriteFault` where the writer failed, or took no byte, and then a front of the text was.
+/// Each band has `rows` rows; the last one has the rows that remain. The three numbers must be at least 1. All memory
+/// is allocated before the first byte is written: as much as the certificate needs, and one band.
+///
+/// # Errors
+///
+/// - `SurfaceTooLarge` exactly if the surface exceeds the certificate's bound. Nothing was written.
+/// - `OutOfMemory` if an allocation failed. Nothing was written.
+/// - `WriteFault` if the writer failed or accepted no byte. A prefix of the text was written.
 pub fn play_bands<W: Write>(
     alloc: Global,
     cleared: &Cleared<'_>,
@@ -56,7 +61,8 @@ pub fn play_bands<W: Write>(
     }
 }
 
-/// The same as `play_bands`, to a writer that counts its faults and has room for one more: `WriteFault` comes only where the count rose.
+/// The same as `play_bands`, for a writer that counts its faults and can count at least one more. It returns
+/// `WriteFault` only if that count rose.
 pub fn play_bands_to<W: FaultCount>(
     alloc: Global,
     cleared: &Cleared<'_>,
@@ -93,7 +99,7 @@ pub fn play_bands_to<W: FaultCount>(
     }
 }
 
-/// The same in room that was made for it, whatever the way to write: nothing is refused, but by the writer.
+/// Plays and writes the image with memory that has been allocated, by any way to write. Only the writer can fail.
 fn write_image<'a, W: Write, P: PartWriter<W>>(
     cleared: &Cleared<'a>,
     room: &mut BandRoom<'a>,
@@ -122,7 +128,7 @@ fn write_image<'a, W: Write, P: PartWriter<W>>(
     }
 }
 
-/// Plays and writes one band after another.
+/// Plays the bands and writes each one.
 fn write_bands<'a, W: Write, P: PartWriter<W>>(
     cleared: &Cleared<'a>,
     room: &mut BandRoom<'a>,

@@ -1,4 +1,4 @@
-//! Playing a file whose certificate was accepted.
+//! Plays a file whose certificate was accepted.
 
 ghost use Rattle.std.specs.Prelude.{◌≡◌, ◌+◌, ◌≤◌, IfErr, IfOk, OnErr, OnOk};
 ghost use Rattle.meta_headers.specs.OpenedOf.{opened_of};
@@ -19,9 +19,11 @@ use painting::DrawingRoom;
 use preflight_cert::{Cleared, answer_law, size_law};
 use std::alloc::Global;
 
-/// Plays a cleared file over what a canvas shows, which holds a whole surface, and tells how many pixels were written: no more than
-/// certified. It is refused by `SurfaceTooLarge` exactly where a side is above the certificate's bound, and by `OutOfMemory` where memory
-/// for what the certificate needs was refused, and then the canvas is what it was.
+/// Plays a cleared file over the image on a canvas of a whole surface. Returns the number of pixels written, which is
+/// at most the certified number.
+///
+/// Returns `SurfaceTooLarge` exactly if the surface exceeds the certificate's bound, and `OutOfMemory` if the memory
+/// that the certificate needs can't be allocated. In both cases the canvas is unchanged.
 pub fn play(alloc: Global, cleared: &Cleared<'_>, canvas: &mut Canvas) -> Result<u64, Fault>
     requires whole { canvas.old.first ≡ 0 }
     requires countable { HasRoomForFile canvas.old }
@@ -46,7 +48,7 @@ pub fn play(alloc: Global, cleared: &Cleared<'_>, canvas: &mut Canvas) -> Result
     }
 }
 
-/// The same on a machine and with rows that have room for what the certificate needs: nothing is refused.
+/// Plays on a machine and with memory that meet the certificate's needs. It can't fail.
 #[tactic(auto, using(crate::proofs::WholeSurfaceLemmas::whole))]
 fn play_reserved<'a, T: Table<'a>>(
     cleared: &Cleared<'a>,

@@ -1,13 +1,14 @@
-//! What the records of a file draw on a canvas.
+//! The images that the records of a file draw.
 //!
 //! # What is promised
 //!
-//! - A file whose certificate was accepted plays over whatever a canvas of a surface within its bound shows, and leaves the run's image,
-//!   with no more pixels written than certified. It is refused only where a side is above the bound, or memory was, and then the canvas is
-//!   what it was (`play`).
-//! - Played in bands of any number of rows, it writes the text of the image that the run leaves of one colour, and tells the run's writes. It is
-//!   refused only where a side is above the bound, or memory was, and then no byte was written, or by the writer, and then a front of
-//!   the text was (`play_bands`); over a writer that counts its faults, only where the count rose (`play_bands_to`).
+//! - An accepted file plays over any image on a canvas within the certificate's bound. The canvas then shows the image
+//!   of the file's run, and at most the certified number of pixels was written. The call fails only if the surface
+//!   exceeds the bound or an allocation fails, and then the canvas is unchanged (`play`).
+//! - An accepted file also plays over one colour in bands of any number of rows. The text of the run's image is
+//!   written, and the run's number of writes is returned. If the surface exceeds the bound or an allocation fails,
+//!   nothing was written. If the writer fails, a prefix of the text was written (`play_bands`). With a writer that
+//!   counts its faults, a write error is returned only if that count rose (`play_bands_to`).
 #![tactic(auto)]
 
 mod band_plan;

@@ -1,4 +1,4 @@
-//! How the parts of an image's text go to a writer.
+//! How the parts of an image's text are sent to a writer.
 
 ghost use Rattle.std.specs.Prelude.{ℕ, ◌+◌, ◌^◌, ◌<◌, ◌≤◌, OnErr, OnOk};
 ghost use Rattle.canvas.specs.Ppm.{header, raster};
@@ -7,12 +7,12 @@ ghost use Rattle.player.specs.PartsWritten.{SendsFront, SendsText};
 use canvas::{Canvas, FaultCount, WriteFault, write_header, write_header_to};
 use std::io::Write;
 
-/// A way to write the parts of an image's text to a writer. What plays in bands is one text for all of them.
+/// A way to send the parts of an image's text to a writer. It lets the code that plays in bands be written once.
 pub(crate) trait PartWriter<W: Write> {
     /// How many faults a writer has counted.
     ghost faults: { W → ℕ };
 
-    /// How many a call counts where it fails: what counts has to have room for them.
+    /// How many faults a failing call counts. The counter must have room for them.
     ghost counted: { ℕ };
 
     /// Writes the header.
@@ -24,7 +24,7 @@ pub(crate) trait PartWriter<W: Write> {
         ensures room { OnOk result (faults out.new + counted < 2 ^ 64) }
         ensures count { faults out.old ≤ faults out.new };
 
-    /// Writes the samples of the rows that a canvas holds.
+    /// Writes the samples of a canvas's rows.
     fn write_rows(out: &mut W, canvas: &Canvas) -> Result<(), WriteFault>
         requires room { faults out.old + counted < 2 ^ 64 }
         ensures ok { OnOk result (SendsText W.contents out.old out.new (raster canvas.now.colours)) }
@@ -34,10 +34,10 @@ pub(crate) trait PartWriter<W: Write> {
         ensures count { faults out.old ≤ faults out.new };
 }
 
-/// By `write`, to any writer: no fault is counted.
+/// Sends bytes by `write` to any writer. Faults aren't counted.
 pub(crate) struct Uncounted;
 
-/// By `write_counted` alone, to a writer that counts its faults.
+/// Sends bytes by `write_counted` only, to a writer that counts its faults.
 pub(crate) struct Counted;
 
 impl<W: Write> PartWriter<W> for Uncounted {

@@ -1,4 +1,4 @@
-//! The memory that a play takes, all of it before a pixel is drawn.
+//! The memory for playing a file, allocated before the first pixel is drawn.
 
 ghost use Rattle.std.specs.Prelude.{◌≡◌, ◌≤◌, IfErr, IfOk};
 ghost use Rattle.player.specs.Bounds.{IsPlayFault, IsWithinBound, TellsTooLarge};
@@ -13,15 +13,15 @@ use preflight_cert::{Cleared, Version};
 use span_fill::OutOfMemory;
 use std::alloc::Global;
 
-/// A machine and room for drawings, enough for what a cleared file needs.
+/// A machine and memory for drawings, enough for the needs of a cleared file.
 #[derive(Drop)]
 pub(crate) struct PlayRoom<'a> {
     pub machine: Machine<'a, FileTable<'a>>,
     pub drawings: DrawingRoom,
 }
 
-/// Room for playing a cleared file from its start on, on a surface of these sides: `SurfaceTooLarge` exactly where one is above the
-/// certificate's bound, and `OutOfMemory` where memory was refused.
+/// Allocates the memory for playing a cleared file from its start on a surface of this size. Returns `SurfaceTooLarge`
+/// exactly if the surface exceeds the certificate's bound, and `OutOfMemory` if an allocation fails.
 pub(crate) fn play_room<'a>(
     alloc: Global,
     cleared: &Cleared<'a>,
@@ -46,7 +46,7 @@ pub(crate) fn play_room<'a>(
     }
 }
 
-/// The same on a surface within the certificate's bound.
+/// The same for a surface within the certificate's bound.
 fn room_within<'a>(
     alloc: Global,
     cleared: &Cleared<'a>,

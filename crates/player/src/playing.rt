@@ -1,4 +1,4 @@
-//! Playing a cleared file: its records' steps in order, on a machine and a canvas.
+//! Plays a cleared file: the steps of its records, in order, on a machine and a canvas.
 
 ghost use Rattle.std.specs.Prelude.{◌≡◌, ◌+◌, ◌≤◌, OnErr, OnOk, length};
 ghost use Rattle.draw_ops.specs.Records.{record_limit};
@@ -16,8 +16,9 @@ use object_tables::Table;
 use painting::{DrawingRoom, draw};
 use preflight_cert::{Cleared, answer_law, need_law, size_law};
 
-/// Plays a cleared file from its start on, on a canvas that holds rows of a surface within the certificate's bound, on a machine and
-/// with rows that have room for what the certificate needs, and tells how many pixels were written. Nothing is refused.
+/// Plays a whole cleared file on a canvas with some rows of a surface, and returns the number of pixels written. The
+/// surface is within the certificate's bound, and the machine and the memory for drawings meet the certificate's needs.
+/// It can't fail.
 pub(crate) fn play_rows<'a, T: Table<'a>>(
     cleared: &Cleared<'a>,
     machine: &mut Machine<'a, T>,
@@ -44,7 +45,8 @@ pub(crate) fn play_rows<'a, T: Table<'a>>(
     }
 }
 
-/// Plays the steps that are left of a source, and draws what they draw. It is refused only where a step has a fault, or the source has.
+/// Plays the remaining steps of a source, and draws their drawings. Returns an error only if a step or the source has a
+/// fault.
 fn play_steps<'a, S: OpSource<'a>, T: Table<'a>>(
     source: &mut S,
     machine: &mut Machine<'a, T>,

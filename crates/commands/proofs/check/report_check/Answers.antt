@@ -1,4 +1,4 @@
--- What was checked is reported in the words of the file and the certificate.
+-- The result of the check is reported in terms of the file and the certificate.
 use Rattle.commands.proofs.ReportLemmas.{reports}
 use Rattle.commands.proofs.check.report_check.Goals as goal
 

@@ -1,4 +1,4 @@
--- The report has no numbers but whole ones.
+-- All numbers of the report are integers.
 use Rattle.commands.proofs.ReportLemmas.{refused_whole}
 use Rattle.commands.proofs.check_report.refused_report.Goals as goal
 

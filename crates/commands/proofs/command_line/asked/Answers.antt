@@ -1,4 +1,4 @@
--- The rows of the command that was met are what it was given.
+-- The rows of the parsed command are the arguments that it was given.
 use Rattle.std.proofs.Common.{codes, refl}
 use Rattle.commands.specs.CommandLine.{check_app, list_app, over_app, play_app, prepare_app, show_app}
 use Rattle.commands.proofs.AskedLemmas.{asked_by, none_right, right_rows}

@@ -1,4 +1,4 @@
--- What is asked for by five plain words follows of what the words ask for.
+-- What five plain words ask for follows from what the words ask for.
 use Rattle.std.proofs.Common.{◌≡◌, ◌∙◌, List, Option, Result, Ok, Err, IfErr, IsErrAnd, ap, false, map, string_bytes, subst, sym, true}
 use Rattle.commands.specs.CommandLine.{IsAskedBy, IsAskedByWords, IsRightCommand, metaplay_app}
 use Rattle.commands.specs.RightWords.{AreRightWords}
@@ -25,7 +25,7 @@ returns-in-Some-clause-plain c =
     subst (λ (rows : Option (Text × List Row)). IsAskedBy rows c.in-Some.line) met c.in-Some.ensures.asked in
     plain_words (map string_bytes c.args.words.now) c.in-Some.line asked
 
--- `?` passes an error up as it is
+-- `?` returns an error unchanged
 passed_up : {T E : Type 0} (r : Result T E) (e : E) (P : E → Type 0) → IsErrAnd r (λ y. y ≡ e) → P e → IfErr r P
 passed_up (Ok x) e P is p = tt
 passed_up (Err y) e P is p = subst P (sym is) p

@@ -1,4 +1,4 @@
--- The name is what was given for the id.
+-- The name is the text of the argument with this id.
 use Rattle.std.proofs.Common.{◌≡◌, ◌∙◌, sym, refl, List, ℕ, Option, Some, None, IfSome, IsSome, option_map, Bor}
 use Rattle.clap.specs.Words.{Text, first_of, first_value, found_of, rows_of}
 use Rattle.clap.specs.declared.parser.matches.Found.{Found}

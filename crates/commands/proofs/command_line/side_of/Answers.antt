@@ -1,4 +1,4 @@
--- A number that was read was read of the text that was given.
+-- A number that was read comes from the text that was given.
 use Rattle.std.proofs.Common.{◌≡◌, ◌∙◌, sym, refl, ℕ, ◌≤◌, ◌<◌, Option, Some, None, Result, Ok, Err, Bool, true, false, IfSome, IsSome, arith}
 use Rattle.std.proofs.lemmas.Bool.{le-leb}
 use Rattle.std.specs.Bool.{then_some}
@@ -28,14 +28,14 @@ returns-clause-given c =
     let fact = given _ (λ bs r. ParsesUnsigned 32 10 bs r × ExplainsUnsignedError 10 bs r × HasUnsignedDigitsIfOk bs r) (found_of c.args.matches.now) c.args.id.now c.in-Some.side c.in-Some.ensures.none c.in-Some.ensures.value (λ text read. read.0) in
     rw c.then_some.ensures (kept _ _ (GivesNumber (rows_of (found_of c.args.matches.now)) c.args.id.now) fact)
 
--- a side that was given is read
+-- a width or height that was given is read
 read_side : (E : Type 0) (gives : Text → Result ℕ E → Type 0) (f : Found) (id : Text) (result : Option ℕ) → ((text : Text) → one_text f id ≡ Some text → ReadsOne gives text result) → ((text : Text) (r : Result ℕ E) → gives text r → ParsesUnsigned {E = E} 32 10 text r) → GivesSide (rows_of f) id → IsSome result
 read_side E gives f id (Some number) value parses given = refl
 read_side E gives f id None value parses given =
     let read = value given.text (one_text-rows f id ∙ given.is_given) in
     absurd (parses given.text (Err read.0) read.1 (fits_unsigned given.text given.is_side))
 
--- and is within its range
+-- it is in range
 read_within : (E : Type 0) (gives : Text → Result ℕ E → Type 0) (f : Found) (id : Text) (number : ℕ) → ((text : Text) → one_text f id ≡ Some text → gives text (Ok number)) → ((text : Text) (r : Result ℕ E) → gives text r → ParsesUnsigned {E = E} 32 10 text r) → GivesSide (rows_of f) id → (1 ≤ number) × (number ≤ surface_side_limit)
 read_within E gives f id number value parses given =
     let read = (parses given.text (Ok number) (value given.text (one_text-rows f id ∙ given.is_given))).1 in

@@ -1,4 +1,4 @@
--- The command with its texts left out, command by command.
+-- The command without its help texts, command by command.
 use Rattle.std.proofs.Common.{◌≡◌, ◌∙◌, ap, ap₂, codes, true}
 use Rattle.std.proofs.lemmas.Result.{IfOk-weaker}
 use Rattle.clap.specs.Words.{App, app_of, new_app, with_subcommand}

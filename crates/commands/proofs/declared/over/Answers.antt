@@ -1,4 +1,4 @@
--- The certificate stands behind the file, and the image behind it.
+-- The certificate comes after the file, then the image.
 use Rattle.std.proofs.Common.{◌∙◌, ap₂}
 use Rattle.std.proofs.lemmas.Result.{IfOk-weaker}
 use Rattle.clap.specs.Words.{with_rule}

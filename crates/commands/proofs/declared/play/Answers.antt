@@ -1,4 +1,4 @@
--- The certificate stands behind the file, the sides behind it, and the rows of a band behind them.
+-- The certificate comes after the file, then the width and height, then the rows of a band.
 use Rattle.std.proofs.Common.{◌∙◌, ap, ap₂}
 use Rattle.std.proofs.lemmas.Result.{IfOk-weaker}
 use Rattle.clap.specs.Words.{with_rule}

@@ -1,4 +1,4 @@
--- The sides stand behind the file, and the output behind them.
+-- The width and height come after the file, then the output.
 use Rattle.std.proofs.Common.{◌∙◌, ap, ap₂}
 use Rattle.std.proofs.lemmas.Result.{IfOk-weaker}
 use Rattle.clap.specs.Words.{with_rule}

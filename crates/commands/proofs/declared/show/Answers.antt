@@ -1,4 +1,4 @@
--- The sides stand behind the file.
+-- The width and height come after the file.
 use Rattle.std.proofs.Common.{◌∙◌, ap}
 use Rattle.std.proofs.lemmas.Result.{IfOk-weaker}
 use Rattle.commands.specs.CommandLine.{with_sides}

@@ -1,9 +1,9 @@
--- Where memory for a piece is refused, the reader has lost what was kept, and that piece.
+-- If there is no memory for a piece, the reader has lost the bytes that were kept and that piece.
 use Rattle.std.proofs.Common.{ℕ, List, ◌++◌, Option, Some, None, ap, sym, ◌∙◌, append_assoc}
 use Rattle.std.specs.Io.KnownBytes.{Consumes}
 use Rattle.commands.proofs.input.read_input.Goals as goal
 
--- what two reads took is lost together
+-- what two reads consumed is consumed together
 both : (a b c : Option (List ℕ)) (bs cs : List ℕ) → Consumes a b bs → Consumes b c cs → Consumes a c (bs ++ cs)
 both None b c bs cs p q = tt
 both (Some x) None c bs cs p q = absurd p

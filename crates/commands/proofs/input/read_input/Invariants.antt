@@ -2,7 +2,7 @@ use Rattle.std.proofs.Common.{◌-◌, vec_len}
 use Rattle.std.specs.Io.KnownBytes.{Consumes}
 use Rattle.commands.proofs.input.read_input.Given as goal
 
--- the bytes so far are the front of what the reader had
+-- the bytes so far are a prefix of what the reader had
 abbrev pub invariant-loop-piece : goal.invariant-loop-piece
 invariant-loop-piece g l = Consumes (g.R.Read.remaining l.fn.input) (g.R.Read.remaining l.input) l.bytes.items
 

@@ -1,4 +1,4 @@
--- However the command ends, what the law of listings says of any file holds of this one.
+-- However the command ends, what the law of listings says about any file holds for this one.
 use Rattle.commands.proofs.list.list_command.Goals as goal
 
 pub returns-in-Ok-Ended-clause-each_stop : goal.returns-in-Ok-Ended-clause-each_stop

@@ -1,4 +1,4 @@
--- What was written is the listing, or a front of it.
+-- What was written is the listing, or a prefix of it.
 use Rattle.std.proofs.Common.{refl, rules}
 use Rattle.std.proofs.lemmas.Result.{err_from_is_err_and}
 use Rattle.canvas.specs.Sending.{sending_front, sending_kept, sending_whole}

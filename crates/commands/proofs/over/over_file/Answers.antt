@@ -1,4 +1,4 @@
--- What was checked is played over the image, or refused behind the check.
+-- What was accepted is played over the image, or rejected after the check.
 use Rattle.std.proofs.Common.{rules}
 use Rattle.commands.proofs.PlayLemmas.{no_image_refuses, over_check_refuses, over_surface_refuses, played_over}
 use Rattle.commands.proofs.PreparedLemmas.{accepted_opens}

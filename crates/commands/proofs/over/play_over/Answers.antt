@@ -1,4 +1,5 @@
--- A surface is within the bound where the file was played, and else it is refused for its sides, or for want of memory.
+-- If the file was played, the surface is within the bound; otherwise it is rejected for its size, or because an
+-- allocation failed.
 use Rattle.commands.proofs.PlayLemmas.{surface_refused, within_where_done}
 use Rattle.commands.proofs.over.play_over.Goals as goal
 

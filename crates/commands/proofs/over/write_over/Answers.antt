@@ -1,4 +1,4 @@
--- What is refused was refused by the check, the image or the surface.
+-- A rejection is by the check, the image or the surface.
 use Rattle.commands.proofs.FailureLemmas.{is_want, kept, no_output, refusal_fails}
 use Rattle.commands.specs.Tasks.{over}
 use Rattle.commands.proofs.over.write_over.Goals as goal

@@ -1,4 +1,4 @@
--- What was checked is played, or refused behind the check.
+-- What was accepted is played, or rejected after the check.
 use Rattle.std.proofs.lemmas.Result.{IfErr-weaker, on_ok_weaker}
 use Rattle.commands.proofs.FailureLemmas.{is_want, no_output}
 use Rattle.commands.proofs.PreparedLemmas.{accepted_opens}

@@ -1,4 +1,4 @@
--- A text that was written whole before the output failed is a front of itself.
+-- A text that was written in full before the output failed is a prefix of itself.
 use Rattle.std.proofs.Common.{[], rules, sym}
 use Rattle.std.proofs.lemmas.List.{append-nil}
 use Rattle.std.specs.Io.KnownBytes.{Appends}

@@ -1,4 +1,5 @@
--- The end says what was written and reported, whether the output failed, and that a text that was finished is flushed.
+-- The way the command ends says what was written and reported, whether the output failed, and that a finished text is
+-- flushed.
 use Rattle.commands.proofs.FailureLemmas.{done_by, fails_by, holds_by, told_by, written_by}
 use Rattle.commands.proofs.prepare.prepare_command.Goals as goal
 

@@ -1,4 +1,4 @@
--- What is refused was refused by the file's run.
+-- A rejection is that of the file's run.
 use Rattle.commands.proofs.FailureLemmas.{is_want, kept, no_output, refusal_fails}
 use Rattle.commands.specs.Tasks.{prepare}
 use Rattle.commands.proofs.prepare.write_prepared.Goals as goal

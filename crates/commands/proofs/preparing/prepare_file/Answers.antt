@@ -1,4 +1,4 @@
--- Of sides that a surface may have, the refusal is the run's.
+-- For a valid size, the rejection is that of the run.
 use Rattle.commands.proofs.PreparedLemmas.{run_refused}
 use Rattle.commands.proofs.preparing.prepare_file.Goals as goal
 

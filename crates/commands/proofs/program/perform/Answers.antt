@@ -1,4 +1,4 @@
--- What a task leaves of the bytes that were read is what its line leaves.
+-- What a task writes for the bytes that were read is what its command line writes.
 use Rattle.std.proofs.Common.{rules}
 use Rattle.commands.proofs.LineLemmas.{err_of_task, err_unread, out_of_task, out_unread, unread_done, unread_failed}
 use Rattle.commands.proofs.program.perform.Goals as goal

@@ -1,4 +1,4 @@
--- What the words leave is what some line leaves.
+-- What the words write is what some command line writes.
 use Rattle.commands.proofs.LineLemmas.{err_of_asked, holds_of_some, out_of_asked}
 use Rattle.commands.proofs.program.run.Goals as goal
 

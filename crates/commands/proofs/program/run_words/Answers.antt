@@ -1,4 +1,4 @@
--- What a line that was read leaves is what the words leave.
+-- What a parsed command line writes is what the words write.
 use Rattle.std.proofs.Common.{inl}
 use Rattle.std.proofs.lemmas.Result.{on_err_weaker}
 use Rattle.commands.proofs.LineLemmas.{err_of_line, holds_of_line, out_of_line, usage_done, usage_failed}

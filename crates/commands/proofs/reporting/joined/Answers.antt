@@ -1,4 +1,4 @@
--- A text that has room is not cut.
+-- A text that fits isn't cut.
 use Rattle.std.proofs.Common.{◌∙◌, arith}
 use Rattle.std.proofs.lemmas.List.{length-append}
 use Rattle.std.specs.Fmt.InlineText.{inline_text}

@@ -1,4 +1,5 @@
--- What is refused was refused by the file's run, and what was prepared is played: the surface is within the bound that it was prepared for.
+-- A rejection is that of the file's run, and what was prepared is played: the surface is within the bound that it was
+-- prepared for.
 use Rattle.std.proofs.lemmas.Result.{IfErr-weaker, on_ok_weaker}
 use Rattle.commands.proofs.FailureLemmas.{is_want, kept, no_output, refusal_fails}
 use Rattle.commands.proofs.PlayLemmas.{show_done, show_fails}

@@ -11,7 +11,7 @@ use Rattle.painting.proofs.LandedBoxLemmas.{shows}
 use Rattle.painting.proofs.MissedLemmas.{missed_drawn}
 use Rattle.painting.proofs.drawing.draw.Goals as goal
 
--- what is beside the rows held is drawn already
+-- what lies outside the canvas's rows is already drawn
 pub returns-then-misses_rows-clause-drawn : goal.returns-then-misses_rows-clause-drawn
 returns-then-misses_rows-clause-drawn g c =
     let machine = c.args.machine.now in

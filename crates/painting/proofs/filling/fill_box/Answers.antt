@@ -10,7 +10,7 @@ use Rattle.painting.proofs.SourceLemmas.{columns_read, narrowed}
 use Rattle.painting.proofs.VisibleLemmas.{painted_same}
 use Rattle.painting.proofs.filling.fill_box.Goals as goal
 
--- the only span has what the spans have
+-- the only span has the pixels of the spans
 lone : (has : Bool) → (has || false) ≡ has
 lone true = refl
 lone false = refl

@@ -6,7 +6,7 @@ use Rattle.painting.specs.SourceRows.{HoldsRow}
 use Rattle.painting.proofs.RowLemmas.{HasRowsPainted}
 use Rattle.painting.proofs.filling.fill_box.Given as goal
 
--- the rows so far are painted, and what was gathered last is held
+-- the rows so far are painted, and the colours gathered last are kept
 abbrev pub invariant-loop-y : goal.invariant-loop-y
 invariant-loop-y l = record {
   clip : l.painter.clip ≡ l.initial.painter.clip;

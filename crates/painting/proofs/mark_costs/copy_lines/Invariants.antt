@@ -1,4 +1,4 @@
--- The outline's other lines are still to come.
+-- The outline's other lines still remain.
 use Rattle.std.proofs.Common.{◌≡◌, ◌++◌, length, vec_capacity}
 use Rattle.std.specs.List.{All}
 use Rattle.span_fill.specs.Lines.{HasNearEnds}

@@ -4,7 +4,7 @@ use Rattle.std.specs.Int.{int_max, int_min}
 use Rattle.mapping.specs.Limits.{IsWithin}
 use Rattle.painting.proofs.rectangles.between.Goals as goal
 
--- the lesser and the greater of two coordinates within a limit are within it
+-- the minimum and maximum of two coordinates within a limit are within it
 lesser_within : (limit : ℕ) (v w : ℤ) → IsWithin limit v → IsWithin limit w → IsWithin limit (int_min v w)
 lesser_within limit v w a b =
     let v_low = a.low in let v_high = a.high in let w_low = b.low in let w_high = b.high in

@@ -1,4 +1,4 @@
--- Products are before one another where the quotient is before the row.
+-- The products compare as the quotient and the row do.
 use Rattle.std.proofs.Common.{◌≡◌, ℤ, pos, ◌*ℤ◌, int_lt, FitsSigned, w32, w64, arith, rules, ap, ◌∙◌}
 use Rattle.std.proofs.lemmas.Int.{ints, to_z-of_z}
 use Rattle.painting.proofs.MissedLemmas.{quotient_before}

@@ -1,4 +1,4 @@
--- A drawing lies beside rows where it ends above them, or doesn't begin above their end.
+-- A drawing lies outside rows if it ends above them, or doesn't begin above their end.
 use Rattle.std.proofs.Common.{◌≡◌, FitsSigned, w32, rules, sym, ◌∙◌}
 use Rattle.std.proofs.lemmas.Int.{to_z-of_z}
 use Rattle.painting.proofs.MissedLemmas.{beside_else}

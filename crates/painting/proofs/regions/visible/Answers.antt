@@ -5,7 +5,7 @@ use Rattle.span_fill.specs.Spans.{in_span}
 use Rattle.painting.proofs.TestLemmas.{column_from}
 use Rattle.painting.proofs.regions.visible.Goals as goal
 
--- both tests, where the columns and rows that are held pass
+-- both tests, if the columns and rows of the canvas pass
 both : (columns rows narrowed_columns narrowed_rows a b : Bool) → columns ≡ true → rows ≡ true → narrowed_columns ≡ (columns && a) → narrowed_rows ≡ (rows && b) → (narrowed_columns && narrowed_rows) ≡ (a && b)
 both columns rows narrowed_columns narrowed_rows a b c r h k = rw (h, k, c, r) refl
 

@@ -6,7 +6,7 @@ use Rattle.canvas.specs.MixRows.{mix_at}
 use Rattle.raster_ops.specs.TernaryOps.{ternary_colour}
 use Rattle.painting.proofs.row_ink.mix_patterns.Given as goal
 
--- the mixes so far join the colours at their places
+-- the mixes so far combine the colours at their columns
 abbrev pub invariant-loop-x : goal.invariant-loop-x
 invariant-loop-x l = record {
   keeps : length l.keeps ≡ 8192;

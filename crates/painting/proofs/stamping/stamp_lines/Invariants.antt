@@ -2,7 +2,7 @@ use Rattle.std.proofs.Common.{length}
 use Rattle.painting.proofs.StampingLemmas.{HasStamped}
 use Rattle.painting.proofs.stamping.stamp_lines.Given as goal
 
--- the lines before those that are left are stamped
+-- the lines before the remaining ones are stroked and marked
 abbrev pub invariant-loop-line : goal.invariant-loop-line
 invariant-loop-line g l =
     HasStamped l.mix (g.O.Outline.lines l.fn.outline) (g.O.Outline.lines l.lines) l.fn.stamps.region l.stamps l.fn.canvas l.canvas

@@ -28,7 +28,7 @@ returns-in-Some-clause-pixels g c =
 pub returns-in-Some-clause-few : goal.returns-in-Some-clause-few
 returns-in-Some-clause-few g c = few_written c.writing_law.ensures _ _ c.args.canvas.now c.step_line.new.canvas c.step_line.ensures c.whole_law.ensures.pixels
 
--- what is seen of the lines lies in the region
+-- what is visible of the lines lies in the region
 pub stroke_by_marks-requires-clause-visible : goal.stroke_by_marks-requires-clause-visible
 stroke_by_marks-requires-clause-visible g c =
     let shape = in_wide_stroke one_pixel (g.O.Outline.lines c.args.lines.outline) in

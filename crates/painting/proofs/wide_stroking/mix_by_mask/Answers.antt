@@ -1,4 +1,4 @@
--- What is to come of the mask is what the region has of the stroke.
+-- The remaining spans of the mask are what the region has of the stroke.
 use Rattle.std.proofs.Common.{◌&&◌, refl}
 use Rattle.mapping.specs.Mixes.{mixed_by}
 use Rattle.span_fill.specs.Spans.{in_region}

@@ -1,4 +1,4 @@
--- Where nothing is cut out, what a region has of the stroke is what is stroked.
+-- If nothing is cut out, what a region has of the stroke is what is stroked.
 use Rattle.std.proofs.Common.{◌≡◌, true, List, rules, subst, sym, ◌∙◌}
 use Rattle.dc_stack.specs.Values.{placed_value}
 use Rattle.span_fill.specs.WideStrokes.{in_wide_stroke}

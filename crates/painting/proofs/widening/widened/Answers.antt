@@ -1,4 +1,4 @@
--- Each edge is moved by the nib's reach.
+-- Each edge is moved by the reach of the nib.
 use Rattle.std.proofs.Common.{FitsSigned, refl, rules, w32}
 use Rattle.std.proofs.lemmas.Int.{to_z-of_z}
 use Rattle.painting.proofs.widening.widened.Goals as goal

@@ -1,4 +1,4 @@
--- Numbers of one byte are near.
+-- Numbers of one byte are within the limits of lines.
 use Rattle.std.proofs.Common.{FitsSigned, w32, ℕ, pos, ◌<◌, arith, rules}
 use Rattle.std.proofs.lemmas.Int.{ints, to_z-of_z}
 use Rattle.mapping.specs.Limits.{place_limit}

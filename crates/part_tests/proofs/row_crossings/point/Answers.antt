@@ -1,4 +1,4 @@
--- Numbers of 16 bits are near.
+-- Numbers of 16 bits are within the limits of lines.
 use mir.Syntax.{w16}
 use Rattle.std.proofs.Common.{◌≡◌, FitsSigned, w32, ℤ, to_z, of_z, arith, rules}
 use Rattle.std.proofs.lemmas.Int.{ints, to_z-of_z}

@@ -3,7 +3,7 @@ use Rattle.player.specs.Bands.{CountsRows, WritesRows}
 use Rattle.player.specs.ReadyBands.{IsReadyForBands}
 use Rattle.player.proofs.bands.write_bands.Given as goal
 
--- the rows above the next band are written, and their pixels counted
+-- the rows above the next band are written, and their pixels are counted
 abbrev pub invariant-loop-first : goal.invariant-loop-first
 invariant-loop-first g l = record {
   within : l.first ≤ l.plan.height;

@@ -1,4 +1,4 @@
--- What was written and counted for all rows is the text and the writes of the file's run.
+-- What was written and counted for all rows is the text and the number of writes of the file's run.
 use Rattle.player.proofs.ClearedBandLemmas.{run_counted, run_few, run_front, run_written}
 use Rattle.player.proofs.bands.write_image.Goals as goal
 

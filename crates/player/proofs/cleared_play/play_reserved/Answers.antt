@@ -1,4 +1,4 @@
--- A cleared file writes no more than certified.
+-- A cleared file writes at most the certified number of pixels.
 use Rattle.std.proofs.Common.{◌≡◌, ℕ, ◌+◌, ap, subst, sym}
 use Rattle.mapping.specs.PlacingLaws.{ShowsFrame}
 use Rattle.mapping.specs.Surface.{Surface}

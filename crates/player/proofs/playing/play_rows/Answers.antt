@@ -1,4 +1,4 @@
--- A cleared file never stops, and what its certificate needs is enough.
+-- A cleared file never stops, and the memory that its certificate needs is enough.
 use Rattle.std.proofs.Common.{◌≡◌, None, rules}
 use Rattle.mapping.specs.PlacingLaws.{ShowsFrame}
 use Rattle.meta_headers.specs.OpenedOf.{opened_of}

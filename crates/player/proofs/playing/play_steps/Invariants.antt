@@ -9,7 +9,7 @@ use Rattle.preflight_cert.specs.Stop.{broken_behind, stopped}
 use Rattle.preflight_cert.specs.Writes.{writes_of_drawings}
 use Rattle.player.proofs.playing.play_steps.Given as goal
 
--- what is left of the run ends as the whole run does, and each step writes at most 2^27 pixels
+-- the rest of the run ends as the whole run does, and each step writes at most 2^27 pixels
 abbrev pub invariant-loop-is_put : goal.invariant-loop-is_put
 invariant-loop-is_put g l =
     let content = g.S.HasContent.content in

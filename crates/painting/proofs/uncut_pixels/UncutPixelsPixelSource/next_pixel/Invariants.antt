@@ -5,7 +5,7 @@ use Rattle.painting.specs.LinePixels.{is_to_step}
 use Rattle.painting.proofs.FilterLemmas.{filtered}
 use Rattle.painting.proofs.uncut_pixels.UncutPixelsPixelSource.next_pixel.Given as goal
 
--- the pixels that the clip has and that are to come are those of the start
+-- the remaining pixels that the clip contains are those of the start
 abbrev pub invariant-loop-pixel : goal.invariant-loop-pixel
 invariant-loop-pixel l = record {
   clip : l.self.clip.now ≡ l.fn.self.clip.now;

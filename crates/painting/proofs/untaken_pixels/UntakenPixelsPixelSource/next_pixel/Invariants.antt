@@ -4,7 +4,7 @@ use Rattle.painting.specs.Stamps.{is_taken}
 use Rattle.painting.proofs.FilterLemmas.{filtered}
 use Rattle.painting.proofs.untaken_pixels.UntakenPixelsPixelSource.next_pixel.Given as goal
 
--- the pixels to come whose marks aren't taken are those of the start, and so are those that are to come or taken
+-- the remaining pixels that aren't marked are those of the start, and so are those that remain or are marked
 abbrev pub invariant-loop-pixel : goal.invariant-loop-pixel
 invariant-loop-pixel l = record {
   name : l.self.stamps.ghost_name ≡ l.fn.self.stamps.ghost_name;
