@@ -26,15 +26,6 @@ lines_if_on ends (Some course) points = lines_from_course ends course points
 abbrev pub lines_left : ListLines → List Line
 lines_left lines = lines_if_on lines.ends lines.course (projected_list lines.by (points_of lines.points))
 
-<<<<<<< HEAD
--- and of the lists after it
-=======
--- the remaining lines of the current list, if there is one
-abbrev pub lines_of_current : Option ListLines → List Line
-lines_of_current None = []
-lines_of_current (Some lines) = lines_left lines
-
--- the remaining lines of the current list and of the lists after it
->>>>>>> 0f7160ad
+-- the remaining lines of the current list, and those of the lists after it
 abbrev pub lines_to_come : PlacedLines → List Line
 lines_to_come lines = lines_left lines.current ++ lines_of_lists lines.current.by lines.current.ends (lists_of lines.lists)

@@ -72,11 +72,7 @@ impl<'a> ListLines<'a> {
         }
     }
 
-<<<<<<< HEAD
-    /// The next line, or none after the last.
-=======
     /// The next line, or `None` after the last one.
->>>>>>> 0f7160ad
     pub(crate) fn next_line(&mut self) -> Option<Line>
         ensures line { GivesFirst (lines_left self.old) result (lines_left self.new) }
         ensures near { IfSome result HasNearEnds }
