@@ -126,9 +126,9 @@ fn is_short(line: Line) -> bool {
     is_small(line.to.x.wrapping_sub(line.from.x)) && is_small(line.to.y.wrapping_sub(line.from.y))
 }
 
-/// Whether a number is above -16 and below 16, by one comparison: each line of a stroke asks twice.
+/// Whether a number is above -16 and below 16: the compiler makes one comparison of the two.
 fn is_small(number: i32) -> bool {
-    (number.wrapping_add(SHORT as i32 - 1) as u32) < 2 * SHORT - 1
+    -(SHORT as i32) < number && number < SHORT as i32
 }
 
 /// How many numbers of a span lie between two numbers, inclusive. A result of 0 or less means none.
