@@ -30,20 +30,19 @@ fn page(alloc: Global, is_wide: bool, records: &[u16]) -> Result<Vec<u8>, AllocE
     framed(alloc, width, height, all.as_slice())
 }
 
-/// Whether a file writes so many pixels on this surface, in its second row or column the first and the last.
-fn has_stroke(alloc: Global, file: &[u8], shape: Shape, writes: u32) -> bool {
-    match run(alloc, file, shape, u64::from(writes)) {
-        Some(canvas) => {
-            let (x, y) = (shape.width.wrapping_sub(1), shape.height.wrapping_sub(1));
-            let ends = if shape.height == 4 {
-                (colour(&canvas, 0, 1), colour(&canvas, x, 1))
-            } else {
-                (colour(&canvas, 1, 0), colour(&canvas, 1, y))
-            };
-            ends == (Some(BLACK), Some(BLACK))
-        }
-        None => false,
-    }
+/// Whether a file writes so many pixels on this surface, and among them the first and the last of row 1, or of column 1.
+fn has_stroke(alloc: Global, file: &[u8], shape: Shape, is_row: bool, writes: u32) -> bool {
+    let Some(canvas) = run(alloc, file, shape, u64::from(writes)) else {
+        return false;
+    };
+    let (right, bottom) = (shape.width.wrapping_sub(1), shape.height.wrapping_sub(1));
+    let (first, last) = if is_row {
+        ((0, 1), (right, 1))
+    } else {
+        ((1, 0), (1, bottom))
+    };
+    colour(&canvas, first.0, first.1) == Some(BLACK)
+        && colour(&canvas, last.0, last.1) == Some(BLACK)
 }
 
 #[test]
@@ -57,12 +56,18 @@ fn a_nib_has_each_count_of_columns(rt: HostRuntime) -> Result<(), AllocError> {
             rows: 3,
         };
         assert!(rt;
-            has_stroke(rt.alloc(), line.as_slice(), shape, width),
+            has_stroke(rt.alloc(), line.as_slice(), shape, true, width),
             "{width}"
         );
         // Of row 2 the nib covers the columns from the left to half of its own.
         assert!(rt;
-            has_stroke(rt.alloc(), lines.as_slice(), shape, width + width / 2 + 1),
+            has_stroke(
+                rt.alloc(),
+                lines.as_slice(),
+                shape,
+                true,
+                width + width / 2 + 1
+            ),
             "{width}"
         );
     }
@@ -80,11 +85,17 @@ fn a_nib_has_each_count_of_rows(rt: HostRuntime) -> Result<(), AllocError> {
             rows: 1000,
         };
         assert!(rt;
-            has_stroke(rt.alloc(), line.as_slice(), shape, height),
+            has_stroke(rt.alloc(), line.as_slice(), shape, false, height),
             "{height}"
         );
         assert!(rt;
-            has_stroke(rt.alloc(), lines.as_slice(), shape, height + height / 2 + 1),
+            has_stroke(
+                rt.alloc(),
+                lines.as_slice(),
+                shape,
+                false,
+                height + height / 2 + 1
+            ),
             "{height}"
         );
     }
