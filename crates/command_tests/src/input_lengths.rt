@@ -69,7 +69,8 @@ fn is_shown_of<R: Files + AllocGlobal>(
     let mut out = Counting::new(Vec::new(alloc));
     let mut err = Counting::new(Vec::new(alloc));
     let answer = run_words(asked.as_slice(), rt, &mut input, &mut out, &mut err);
-    Ok(answer.status() == 0 && out.into_writer().as_slice() == IMAGE)
+    let image = out.into_writer();
+    Ok(answer.status() == 0 && image.as_slice() == IMAGE)
 }
 
 #[test]

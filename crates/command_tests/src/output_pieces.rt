@@ -36,7 +36,8 @@ fn taking(alloc: Global, most: usize) -> Counting<Taker> {
 
 /// Whether a command is done, and its writer took this text.
 fn is_done(answer: Completion, out: Counting<Taker>, want: &[u8]) -> bool {
-    answer.status() == 0 && out.into_writer().taken.as_slice() == want
+    let taken = out.into_writer().taken;
+    answer.status() == 0 && taken.as_slice() == want
 }
 
 /// Whether an image is written whole.
