@@ -126,6 +126,32 @@ fn is_played(
     is_done(answer, out, err, want)
 }
 
+/// Whether the file is played by this certificate, in bands that the command chooses.
+fn is_played_whole(
+    alloc: Global,
+    certificate: &[u8],
+    width: u32,
+    height: u32,
+    want: &[u8],
+) -> bool {
+    if width == 0 || 8192 < width || height == 0 || 8192 < height {
+        return false;
+    }
+    let mut out = Counting::new(Vec::new(alloc));
+    let mut err = Counting::new(Vec::new(alloc));
+    let answer = play_command(
+        alloc,
+        DOT,
+        certificate,
+        width,
+        height,
+        None,
+        &mut out,
+        &mut err,
+    );
+    is_done(answer, out, err, want)
+}
+
 /// Whether the file is played over this image.
 fn is_over(alloc: Global, certificate: &[u8], image: &[u8], want: &[u8]) -> bool {
     let mut out = Counting::new(Vec::new(alloc));
@@ -144,6 +170,7 @@ fn is_painted(alloc: Global, width: u32, height: u32) -> Result<bool, AllocError
     Ok(
         is_shown(alloc, width, height, want)
             && is_played(alloc, certificate, width, height, 1000, want)
+            && is_played_whole(alloc, certificate, width, height, want)
             && is_over(alloc, certificate, image.as_slice(), want),
     )
 }
