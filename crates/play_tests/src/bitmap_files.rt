@@ -57,14 +57,14 @@ pub(crate) struct Bitmap {
 }
 
 /// How many bytes a row has: as many as its pixels, filled up to a multiple of four.
-fn row_length(bitmap: &Bitmap) -> usize {
-    let bits = (bitmap.width as usize).wrapping_mul(bitmap.depth.bits as usize);
+fn row_length(bitmap: &Bitmap) -> u32 {
+    let bits = u32::from(bitmap.width).wrapping_mul(u32::from(bitmap.depth.bits));
     (bits.wrapping_add(31) / 32).wrapping_mul(4)
 }
 
 /// Appends a row that begins with the bytes of this pixel.
 fn put_row(bytes: &mut Vec<u8>, bitmap: &Bitmap, first: &[u8]) -> Result<(), AllocError> {
-    let end = bytes.len().wrapping_add(row_length(bitmap));
+    let end = bytes.len().wrapping_add(row_length(bitmap) as usize);
     bytes.extend_from_slice(first)?;
     if bitmap.depth.bits > 8 {
         for _ in 1..bitmap.width {
@@ -114,9 +114,9 @@ fn put_bitmap(bytes: &mut Vec<u8>, bitmap: &Bitmap) -> Result<(), AllocError> {
 
 /// The size in words of a record with a bitmap behind so many words.
 fn record_size(bitmap: &Bitmap, head: u32) -> u32 {
-    let rows = row_length(bitmap).wrapping_mul(bitmap.height as usize) / 2;
+    let rows = row_length(bitmap).wrapping_mul(u32::from(bitmap.height)) / 2;
     let table = if bitmap.depth.bits < 16 { 4 } else { 0 };
-    (rows as u32).wrapping_add(head).wrapping_add(20 + table)
+    rows.wrapping_add(head).wrapping_add(20 + table)
 }
 
 /// Appends a record's size.

@@ -108,8 +108,11 @@ fn has_pens(alloc: Global, count: u32) -> Result<bool, AllocError> {
     }
     records.extend_from_slice(&[37, 12, count, 54, 16, 4, 0])?;
     let mut file = bounded(alloc, 3, 0, records.as_slice())?;
+    let Ok(handles) = u16::try_from(count.wrapping_add(1)) else {
+        return Ok(false);
+    };
     // The count of indexes, 0 among them.
-    for (place, byte) in (56..58).zip((count as u16).wrapping_add(1).to_le_bytes()) {
+    for (place, byte) in (56..58).zip(handles.to_le_bytes()) {
         if let Some(at) = file.get_mut(place) {
             *at = byte;
         }
