@@ -11,8 +11,8 @@ use std::alloc::{AllocError, Global};
 const GREEN: Colour = Colour { r: 0, g: 255, b: 0 };
 
 /// Sides beside powers of two, and the last two.
-const SOME_SIDES: [u16; 19] = [
-    1, 2, 3, 7, 8, 9, 63, 64, 65, 255, 256, 257, 1023, 1024, 1025, 4096, 4097, 8191, 8192,
+const SOME_SIDES: [u16; 20] = [
+    1, 2, 7, 8, 9, 63, 64, 65, 255, 256, 257, 1023, 1024, 1025, 2049, 4095, 4096, 4097, 8191, 8192,
 ];
 
 /// A file whose box is as large as its surface: all of it is black, then a tile of a red and a blue column, then there is a black line along
@@ -76,8 +76,14 @@ fn a_page_has_each_width(rt: HostRuntime) -> Result<(), AllocError> {
 }
 
 #[test]
-fn a_page_has_each_height(rt: HostRuntime) -> Result<(), AllocError> {
-    for height in 1..8193u16 {
+fn a_page_has_many_heights(rt: HostRuntime) -> Result<(), AllocError> {
+    // Each up to 2,048, and each fifth of the others: a polygon has all of them.
+    for height in 1..2049u16 {
+        assert!(rt; is_page(rt.alloc(), 1, height, 8192)?, "1 by {height}");
+        assert!(rt; is_page(rt.alloc(), 2, height, 1000)?, "2 by {height}");
+    }
+    for part in 410..1638u16 {
+        let height = 5 * part;
         assert!(rt; is_page(rt.alloc(), 1, height, 8192)?, "1 by {height}");
         assert!(rt; is_page(rt.alloc(), 2, height, 1000)?, "2 by {height}");
     }
@@ -94,7 +100,7 @@ fn a_page_has_each_two_small_sides(rt: HostRuntime) -> Result<(), AllocError> {
         );
     }
     for width in SOME_SIDES {
-        for height in [3, 16, 33, 129] {
+        for height in [1, 2, 3, 33, 129] {
             assert!(rt;
                 is_page(rt.alloc(), width, height, 10)?,
                 "{width} by {height}"
@@ -151,11 +157,21 @@ fn is_square(alloc: Global, side: u32) -> bool {
 }
 
 #[test]
-fn a_polygon_has_each_width_and_each_height(rt: HostRuntime) {
-    for side in 1..8193u32 {
-        assert!(rt; is_edge(rt.alloc(), side, 1), "{side} by 1");
-        assert!(rt; is_edge(rt.alloc(), 1, side), "1 by {side}");
+fn a_polygon_has_each_width(rt: HostRuntime) {
+    for width in 1..8193u32 {
+        assert!(rt; is_edge(rt.alloc(), width, 1), "{width} by 1");
     }
+}
+
+#[test]
+fn a_polygon_has_each_height(rt: HostRuntime) {
+    for height in 1..8193u32 {
+        assert!(rt; is_edge(rt.alloc(), 1, height), "1 by {height}");
+    }
+}
+
+#[test]
+fn a_polygon_has_each_small_square(rt: HostRuntime) {
     for side in 1..301u32 {
         assert!(rt; is_square(rt.alloc(), side), "{side} by {side}");
     }
