@@ -29,9 +29,9 @@ impl Write for Taker {
 }
 
 /// A writer of nothing yet.
-fn taking(alloc: Global, most: usize) -> Counting<Taker> {
+fn taking(alloc: Global, most: usize) -> Taker {
     let taken = Vec::new(alloc);
-    Counting::new(Taker { taken, most })
+    Taker { taken, most }
 }
 
 /// Whether a command is done, and its writer took this text.
@@ -42,7 +42,7 @@ fn is_done(answer: Completion, out: Counting<Taker>, want: &[u8]) -> bool {
 
 /// Whether an image is written whole.
 fn is_shown(alloc: Global, most: usize) -> bool {
-    let mut out = taking(alloc, most);
+    let mut out = Counting::new(taking(alloc, most));
     let mut err = Counting::new(Vec::new(alloc));
     let answer = show_command(alloc, DOT, 4, 4, &mut out, &mut err);
     is_done(answer, out, IMAGE)
@@ -50,7 +50,7 @@ fn is_shown(alloc: Global, most: usize) -> bool {
 
 /// Whether a certificate is written whole.
 fn is_prepared(alloc: Global, most: usize) -> bool {
-    let mut out = taking(alloc, most);
+    let mut out = Counting::new(taking(alloc, most));
     let mut err = Counting::new(Vec::new(alloc));
     let answer = prepare_command(alloc, TRI, 4, 4, &mut out, &mut err);
     is_done(answer, out, TRI_CERT)
@@ -58,7 +58,7 @@ fn is_prepared(alloc: Global, most: usize) -> bool {
 
 /// Whether a report is written whole.
 fn is_reported(alloc: Global, most: usize) -> bool {
-    let mut out = taking(alloc, most);
+    let mut out = Counting::new(taking(alloc, most));
     let mut err = Counting::new(Vec::new(alloc));
     let answer = check_command(alloc, TRI, TRI_CERT, &mut out, &mut err);
     is_done(answer, out, REPORT)
@@ -66,7 +66,7 @@ fn is_reported(alloc: Global, most: usize) -> bool {
 
 /// Whether a listing is written whole.
 fn is_listed(alloc: Global, most: usize) -> bool {
-    let mut out = taking(alloc, most);
+    let mut out = Counting::new(taking(alloc, most));
     let mut err = Counting::new(Vec::new(alloc));
     let answer = list_command(alloc, DOT, &mut out, &mut err);
     is_done(answer, out, LINES)
@@ -74,7 +74,7 @@ fn is_listed(alloc: Global, most: usize) -> bool {
 
 /// Whether an image is played and written whole, in bands of three rows.
 fn is_played(alloc: Global, most: usize) -> bool {
-    let mut out = taking(alloc, most);
+    let mut out = Counting::new(taking(alloc, most));
     let mut err = Counting::new(Vec::new(alloc));
     let answer = play_command(alloc, DOT, DOT_CERT, 4, 4, Some(3), &mut out, &mut err);
     is_done(answer, out, IMAGE)
@@ -114,7 +114,7 @@ fn is_row_written(alloc: Global, width: u32, most: usize) -> bool {
         return false;
     }
     let mut err = Counting::new(Vec::new(alloc));
-    let mut out = taking(alloc, most);
+    let mut out = Counting::new(taking(alloc, most));
     let status = show_command(alloc, DOT, width, 1, &mut out, &mut err).status();
     let image = out.into_writer().taken;
     let pixels = image.len().wrapping_sub((width as usize).wrapping_mul(3));
@@ -122,7 +122,7 @@ fn is_row_written(alloc: Global, width: u32, most: usize) -> bool {
     let dot = (width as usize / 2).wrapping_mul(3).wrapping_add(pixels);
     let end = dot.wrapping_add(3);
     status == 0
-        && pixels == 10 + digits(width)
+        && pixels == digits(width).wrapping_add(10)
         && image.as_slice().starts_with(b"P6\n")
         && image.as_slice().get(dot..end) == Some(b"\xff\0\0".as_slice())
 }
