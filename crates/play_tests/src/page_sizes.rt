@@ -77,7 +77,7 @@ fn a_page_has_each_width(rt: HostRuntime) -> Result<(), AllocError> {
 
 #[test]
 fn a_page_has_many_heights(rt: HostRuntime) -> Result<(), AllocError> {
-    // Each up to 2,048, and each fifth of the others: a polygon has all of them.
+    // Each up to 2,048, and each fifth of the others.
     for height in 1..2049u16 {
         assert!(rt; is_page(rt.alloc(), 1, height, 8192)?, "1 by {height}");
         assert!(rt; is_page(rt.alloc(), 2, height, 1000)?, "2 by {height}");
@@ -164,9 +164,16 @@ fn a_polygon_has_each_width(rt: HostRuntime) {
 }
 
 #[test]
-fn a_polygon_has_each_height(rt: HostRuntime) {
-    for height in 1..8193u32 {
+fn a_polygon_has_many_heights(rt: HostRuntime) {
+    // Each up to 2,048, and each fifth of the others.
+    for height in 1..2049u32 {
         assert!(rt; is_edge(rt.alloc(), 1, height), "1 by {height}");
+    }
+    for part in 410..1638u32 {
+        assert!(rt; is_edge(rt.alloc(), 1, 5 * part), "part {part}");
+    }
+    for height in SOME_SIDES {
+        assert!(rt; is_edge(rt.alloc(), 1, u32::from(height)), "1 by {height}");
     }
 }
 
