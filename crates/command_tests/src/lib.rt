@@ -9,19 +9,27 @@ mod checking;
 #[cfg(test)]
 mod command_lines;
 #[cfg(test)]
+mod command_sizes;
+#[cfg(test)]
 mod comparing;
 #[cfg(test)]
 mod files;
 #[cfg(test)]
+mod input_lengths;
+#[cfg(test)]
 mod inputs;
 #[cfg(test)]
 mod listings;
+#[cfg(test)]
+mod output_pieces;
 #[cfg(test)]
 mod over_images;
 #[cfg(test)]
 mod playing;
 #[cfg(test)]
 mod preparing;
+#[cfg(test)]
+mod record_counts;
 #[cfg(test)]
 mod reports;
 #[cfg(test)]
