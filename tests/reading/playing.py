@@ -246,8 +246,8 @@ class Steps:
         """The kind of the record at a place of a file of this format, its bytes, its step, and what is noted of it."""
         step_of = (emf if self.opened.is_emf else wmf).step_of
         kind, data = self.opened.framing.front(file, place, number)
-        name, words, notes = step_of(kind, Record(data), number)
-        return kind, data, (name, words), notes
+        step = step_of(kind, Record(data), number)
+        return kind, data, (step.name, step.words), step.notes
 
     def read_all(self):
         """Reads records up to the end or to the first that can't be read."""
