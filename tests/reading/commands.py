@@ -109,7 +109,7 @@ class Asked:
         members = {"needs": dict(zip(names, certificate[3:7], strict=True)), "writes": certificate.writes, "accepted": True}
         members |= {"max": certificate[:2], "drawings": len(certificate.entries), "records": len(self.steps.read)}
         noted = self.steps.notes
-        members |= {"format": self.steps.opened.format, "frame": self.steps.opened.frame, "notes": {note: noted.count(note) for note in noted}}
+        members |= {"format": self.steps.form.name, "frame": self.steps.opened.frame, "notes": {note: noted.count(note) for note in noted}}
         return report(0, members)
 
     def over(self, data, text):
