@@ -1,5 +1,5 @@
 """Listings in the built programs: of each sample, of samples that were altered, of files cut short, of
-files whose headers are refused, and of all kinds of both formats, compared whole with a second reading."""
+files whose headers are refused, and of all kinds of both formats, compared whole with what `reading` makes of the same bytes."""
 
 import random
 import re
@@ -10,7 +10,7 @@ from metafile.fields import BLUE, joined, u16, u32
 from metafile.files import EMF_END, emf_file, emf_record, placeable_file, plain_file, wmf_record
 from metafile.scripts import FORMS
 from reading.commands import Asked
-from reference.listing import listing
+from reading.listing import listing
 from standards.emf import EMF
 from standards.wmf import WMF
 
@@ -205,7 +205,7 @@ class Listings(unittest.TestCase):
     """`list`: its lines and its status."""
 
     def same(self, program, given, stops=(), name=None):
-        """A listing is that of the second reading."""
+        """A listing is that of the player in Python."""
         self.assertEqual(listed(program, given), wanted(given, stops), name)
 
     @for_each_program

@@ -35,8 +35,8 @@ def text_of(refused):
 
 
 class Step(NamedTuple):
-    """What a record asks for: its name in scripts, the words that follow it there, and what is noted of the record. Of lists of points it is also how
-    many there are: no word says of a list without a point whether it is there."""
+    """What a record asks for: its name in scripts, the words that follow it there, and what is noted of the record. A step of lists of points also has
+    how many there are, since no word stands for a list without a point."""
 
     name: str
     words: list | tuple = ()
