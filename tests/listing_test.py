@@ -41,14 +41,14 @@ HELD = b"".join(
     ]
 )
 
-# Records that no sample has: comments with records of EMF+ and without, map mode 7, a null brush, two polygons of two and three points, a polyline
-# without a point, and a record without a polyline.
+# Records that no sample has: comments with records of EMF+ and without, map mode 7, a null brush, three polygons of two, no and three points, a
+# polyline without a point, and a record without a polyline.
 RARE = [
     emf_record(70, u32(4) + b"EMF+"),
     emf_record(70, u32(4) + b"EMF-"),
     emf_record(17, u32(7)),
     emf_record(39, u32(1, 1) + colour() + u32(0)),
-    emf_record(91, BOUNDS + u32(2, 5, 2, 3) + i16(*[1] * 10)),
+    emf_record(91, BOUNDS + u32(3, 5, 2, 0, 3) + i16(*[1] * 10)),
     emf_record(7, BOUNDS + u32(1, 0, 0)),
     emf_record(7, BOUNDS + u32(0, 0)),
     EMF_END,
@@ -62,10 +62,10 @@ RARE_LINES = b"".join(
         b"2\t104\t16\t70\tEMR_COMMENT\tnoted\tnothing; Skipped\n",
         b"3\t120\t12\t17\tEMR_SETMAPMODE\tplayed\tmap mode 7; Isotropic\n",
         b"4\t132\t24\t39\tEMR_CREATEBRUSHINDIRECT\tplayed\tcreate 1 brush null\n",
-        b"5\t156\t60\t91\tEMR_POLYPOLYGON16\tplayed\tpolygon lists 2, points 5\n",
-        b"6\t216\t36\t7\tEMR_POLYPOLYLINE\tplayed\tpolyline lists 1, points 0\n",
-        b"7\t252\t32\t7\tEMR_POLYPOLYLINE\tplayed\tpolyline lists 0, points 0\n",
-        b"8\t284\t20\t14\tEMR_EOF\tplayed\tnothing\n",
+        b"5\t156\t64\t91\tEMR_POLYPOLYGON16\tplayed\tpolygon lists 3, points 5\n",
+        b"6\t220\t36\t7\tEMR_POLYPOLYLINE\tplayed\tpolyline lists 1, points 0\n",
+        b"7\t256\t32\t7\tEMR_POLYPOLYLINE\tplayed\tpolyline lists 0, points 0\n",
+        b"8\t288\t20\t14\tEMR_EOF\tplayed\tnothing\n",
     ]
 )
 
