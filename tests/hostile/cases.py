@@ -8,7 +8,7 @@ from built import PROGRAMS, answer
 from hostile.changes import certificate_changed, changed, image_changed
 from hostile.corpus import corpus
 from reading.certificates import read_certificate
-from reading.commands import Asked, listing
+from reading.commands import Asked
 from reference.certificates import Certificate
 from reference.pixels import Refused
 
@@ -60,8 +60,8 @@ class Case(NamedTuple):
 
 @cache
 def has_list():
-    """Whether the program lists records, and there is a second reading of its listings."""
-    return listing is not None and b"\n  metaplay list " in answer(PROGRAMS[0], ["--help"]).out
+    """Whether the program lists records."""
+    return b"\n  metaplay list " in answer(PROGRAMS[0], ["--help"]).out
 
 
 def sides(chance, pixels):

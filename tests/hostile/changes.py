@@ -27,19 +27,19 @@ class Parts:
     def __init__(self, given):
         self.records = []
         try:
-            file = opened(given)
+            form = opened(given).form
         except Refused:
             self.is_emf, self.head, self.rest = given[:1] == b"\x01", given, b""
             return
-        self.is_emf, place, kind = file.is_emf, file.records, None
-        while kind != file.framing.end:
+        self.is_emf, place, kind = form.is_emf, form.records, None
+        while kind != form.framing.end:
             try:
-                kind, data = file.framing.front(given, place, 0)
+                kind, data = form.framing.front(given, place, 0)
             except Refused:
                 break
             self.records.append(data)
             place += len(data)
-        self.head, self.rest = given[: file.records], given[place:]
+        self.head, self.rest = given[: form.records], given[place:]
         if self.is_emf and self.records:
             self.head = self.records.pop(0)
 

@@ -6,6 +6,7 @@ import copy
 
 from reading.commands import Asked
 from reading.fields import text_of
+from reading.opening import PLAIN
 from reference.pixels import Refused
 
 # What a certifier has beside the drawings and the needs that it counts.
@@ -82,7 +83,7 @@ class Base:
             certifier.first = number
             stop = certifier.certify([step])
             place, number = place + len(data), number + 1
-            if stop or kind == self.steps.opened.framing.end:
+            if stop or kind == self.steps.form.framing.end:
                 return certifier, stop, number
             if number < len(self.before) and place == self.steps.places[number] and self.is_alike(certifier, number):
                 return self.finish(certifier, number)
@@ -91,7 +92,7 @@ class Base:
         """The same of a file that is this one up to a byte, or the refusal of one that does not open. A header that is changed, and any byte of a
         plain file, which tells its frame among its records, may change all that follows."""
         number = bisect.bisect_right(self.steps.places, at) - 1
-        if number < 0 or self.steps.opened.format == "wmf" or (number == 0 and self.steps.opened.is_emf):
+        if number < 0 or self.steps.form is PLAIN or (number == 0 and self.steps.form.is_emf):
             asked = Asked(file)
             certifier, stop = asked.certified(self.sides)
             return certifier, stop, len(asked.steps.read) if asked.steps else 0

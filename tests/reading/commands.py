@@ -1,6 +1,5 @@
 """What the commands answer to a file and a certificate, by the reference player."""
 
-import importlib.util
 import json
 import re
 from functools import cache
@@ -10,12 +9,9 @@ from built import ROOT, Answer
 from reading.certificates import read_certificate, refusal_of
 from reading.fields import text_of
 from reading.images import read_image
+from reading.listing import listing
 from reading.playing import Steps
 from reference.pixels import Refused
-
-# How listings read, where this repository has them.
-listing = importlib.import_module("reference.listing") if importlib.util.find_spec("reference.listing") else None
-
 
 # The longest side of a surface.
 LARGEST_SIDE = 8192
@@ -86,7 +82,7 @@ class Asked:
     def list(self):
         """The answer of `list`, which tells each record that is refused on some surface, up to the first that each refuses: of headers no fault is told."""
         stops = [] if self.refusal else self.steps.faults(1, LARGEST_SIDE)
-        text, has_ended = listing.listing(self.file, stops)
+        text, has_ended = listing(self.file, stops)
         return Answer(0 if has_ended else 1, text, b"")
 
     def checked(self, data):
@@ -109,7 +105,7 @@ class Asked:
         members = {"needs": dict(zip(names, certificate[3:7], strict=True)), "writes": certificate.writes, "accepted": True}
         members |= {"max": certificate[:2], "drawings": len(certificate.entries), "records": len(self.steps.read)}
         noted = self.steps.notes
-        members |= {"format": self.steps.opened.format, "frame": self.steps.opened.frame, "notes": {note: noted.count(note) for note in noted}}
+        members |= {"format": self.steps.form.name, "frame": self.steps.opened.frame, "notes": {note: noted.count(note) for note in noted}}
         return report(0, members)
 
     def over(self, data, text):

@@ -1,6 +1,6 @@
 """What the records of EMF ask for, [MS-EMF] 2.3, as steps of the reference player."""
 
-from reading.fields import GEOMETRIC_PEN, IDENTITY, bitmap_word, brush, fault, lists_words, made, map_mode, nothing, pen, setting
+from reading.fields import GEOMETRIC_PEN, IDENTITY, Step, bitmap_word, brush, fault, lists_step, made, map_mode, nothing, pen, setting
 from standards.emf import EMF_REFUSED, EMF_SKIPPED
 
 COMMENT = 70
@@ -8,12 +8,12 @@ COMMENT = 70
 
 def numbers(name, count):
     """What reads a step of so many numbers with a sign."""
-    return lambda record: (name, record.signed(8, count, 4), [])
+    return lambda record: Step(name, record.signed(8, count, 4))
 
 
 def index(name):
     """What reads a step of an object's index."""
-    return lambda record: (name, [record.need(12).u32(8)], [])
+    return lambda record: Step(name, [record.need(12).u32(8)])
 
 
 def mode(name, last):
@@ -23,7 +23,7 @@ def mode(name, last):
 
 def bare(name):
     """What reads a step without words."""
-    return lambda record: (name, [], [])
+    return lambda record: Step(name)
 
 
 def unnamed(kind):
@@ -38,7 +38,7 @@ def points(name, length):
         """A count, and the points."""
         count = record.need(28).u32(24)
         record.need(28 + 2 * length * count)
-        return name, lists_words(record, [count], 28, length), []
+        return lists_step(name, record, [count], 28, length)
 
     return read
 
@@ -54,7 +54,7 @@ def lists(name, length):
         if sum(counts) != total:
             raise fault("BadParams")
         record.need(32 + 4 * count + 2 * length * total)
-        return name, lists_words(record, counts, 32 + 4 * count, length), []
+        return lists_step(name, record, counts, 32 + 4 * count, length)
 
     return read
 
@@ -62,7 +62,7 @@ def lists(name, length):
 def pixel(record):
     """EMR_SETPIXELV."""
     colour = record.need(20).colour(16)
-    return "pixel", [*record.signed(8, 2, 4), colour], []
+    return Step("pixel", [*record.signed(8, 2, 4), colour])
 
 
 def set_transform(record):
@@ -84,7 +84,7 @@ def clip_region(record):
     """EMR_EXTSELECTCLIPRGN: that takes the clip away."""
     if record.need(16).u32(8) != 0 or record.u32(12) != 5:
         raise fault("Unsupported 75")
-    return "unclip", [], []
+    return Step("unclip")
 
 
 def layout(record):
@@ -138,8 +138,8 @@ def blt(name, least, source_count):
         box = [record.need(least).u32(40), *record.signed(24, 4, 4)]
         source = record.signed(44, 2, 4) + record.signed(100, source_count - 2, 4)
         if record.u32(88) == 0:
-            return f"bare_{name}", [*box, *source], []
-        return name, [*box, *source, bitmap(record, 84, 80, 52)], []
+            return Step(f"bare_{name}", [*box, *source])
+        return Step(name, [*box, *source, bitmap(record, 84, 80, 52)])
 
     return read
 
@@ -149,8 +149,8 @@ def stretch_dib(record):
     box = [record.need(80).u32(68), *record.signed(24, 2, 4), *record.signed(72, 2, 4)]
     source = record.signed(32, 4, 4)
     if record.u32(52) == 0:
-        return "bare_stretch_dib", [*box, *source], []
-    return "stretch_dib", [*box, *source, bitmap(record, 48, 64)], []
+        return Step("bare_stretch_dib", [*box, *source])
+    return Step("stretch_dib", [*box, *source, bitmap(record, 48, 64)])
 
 
 def pattern_brush(record):
@@ -175,7 +175,7 @@ READERS = {
     18: mode("back_mode", 2),
     19: mode("fill_mode", 2),
     20: mode("raster", 16),
-    25: lambda record: ("back_colour", [record.need(12).shade(8)], []),
+    25: lambda record: Step("back_colour", [record.need(12).shade(8)]),
     27: numbers("move", 2),
     29: numbers("cut", 4),
     30: numbers("keep", 4),
@@ -215,7 +215,7 @@ READERS = {
 
 
 def step_of(kind, record, number):
-    """The step of a record: its name in scripts, its words, and what is noted of it. The header is record 0."""
+    """The step of a record. The header is record 0."""
     if number == 0:
         return nothing()
     if kind in READERS:

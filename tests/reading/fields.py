@@ -1,6 +1,7 @@
 """The numbers of a record, the values that both formats share, and the faults of either."""
 
 import functools
+from typing import NamedTuple
 
 from metafile.bitmaps import APART
 from metafile.shapes import BETWEEN
@@ -31,6 +32,16 @@ def fault(text):
 def text_of(refused):
     """The text of a refusal."""
     return type(refused).__name__
+
+
+class Step(NamedTuple):
+    """What a record asks for: its name in scripts, the words that follow it there, and what is noted of the record. A step of lists of points also has
+    how many there are, since no word stands for a list without a point."""
+
+    name: str
+    words: list | tuple = ()
+    notes: list | tuple = ()
+    lists: int | None = None
 
 
 class Record:
@@ -87,24 +98,24 @@ def one_of(number, allowed):
 
 def setting(name, number, allowed):
     """A step that sets a mode."""
-    return name, [one_of(number, allowed)], []
+    return Step(name, [one_of(number, allowed)])
 
 
 def map_mode(number):
     """A step that sets the map mode: those in units of length aren't played."""
     if number in range(2, 7):
         raise fault("MetricMode")
-    return "map_mode", [one_of(number, (1, 7, 8))], ["Isotropic"] if number == 7 else []
+    return Step("map_mode", [one_of(number, (1, 7, 8))], ["Isotropic"] if number == 7 else [])
 
 
 def nothing(*notes):
     """A step without effect."""
-    return "nothing", [], list(notes)
+    return Step("nothing", notes=notes)
 
 
 def made(at, kind, name=None, words=(), notes=()):
     """A step that makes an object: at an index, if one is told; of a kind; and by the reference's name for it, if it draws."""
-    return "make", [at, kind, name, *words], list(notes)
+    return Step("make", [at, kind, name, *words], notes)
 
 
 def pen(record, at, style, width, colour, brush=SOLID, is_noted=True):
@@ -139,10 +150,10 @@ def bitmap_word(info, bits):
     return info.hex() + APART + (b"" if bits is None else bits).hex()
 
 
-def lists_words(record, counts, at, length):
-    """Script's words of lists of so many points each, which stand one behind the other from a place on."""
+def lists_step(name, record, counts, at, length):
+    """A step of lists of so many points each, which stand one after another from a place on."""
     numbers, words = record.signed(at, 2 * sum(counts), length), []
     for count in counts:
         words += [BETWEEN, *numbers[: 2 * count]]
         numbers = numbers[2 * count :]
-    return words[1:]
+    return Step(name, words[1:], lists=len(counts))

@@ -1,7 +1,9 @@
 """Opens files, and finds their records."""
 
+from collections.abc import Callable
 from typing import NamedTuple
 
+from reading import emf, wmf
 from reading.fields import Record, fault
 from reference.pixels import Refused
 
@@ -41,27 +43,34 @@ WMF_FRAMING = Framing(6, 0, 4, 2, 2, 2, 0)
 EMF_FRAMING = Framing(8, 4, 0, 4, 1, 4, 14)
 
 
-class Opened(NamedTuple):
-    """An opened file: its format's name in reports, the sides of its frame, the numbers of each axis of its page at the start (origin and
-    extent of the window, and of the viewport, and the corner), how many indexes it may use, where it tells that, what is noted of its headers,
-    and where its records begin."""
+class Form(NamedTuple):
+    """A form of files: its name in reports, how records of it are told apart, what reads the step of one, and where the first one begins."""
 
-    format: str
-    frame: tuple
-    axes: tuple
-    handles: int | None
-    notes: list
+    name: str
+    framing: Framing
+    step_of: Callable
     records: int
 
     @property
     def is_emf(self):
         """Whether its records are those of EMF."""
-        return self.format == "emf"
+        return self.framing is EMF_FRAMING
 
-    @property
-    def framing(self):
-        """How its records are told apart."""
-        return EMF_FRAMING if self.is_emf else WMF_FRAMING
+
+PLACEABLE = Form("placeable", WMF_FRAMING, wmf.step_of, 40)
+PLAIN = Form("wmf", WMF_FRAMING, wmf.step_of, 18)
+EMF = Form("emf", EMF_FRAMING, emf.step_of, 0)
+
+
+class Opened(NamedTuple):
+    """An opened file: its form, the sides of its frame, the numbers of each axis of its page at the start (origin and extent of the window, and of
+    the viewport, and the corner), how many indexes it may use, where it says so, and what is noted of its headers."""
+
+    form: Form
+    frame: tuple
+    axes: tuple
+    handles: int | None
+    notes: list
 
 
 def is_standard_header(head, at):
@@ -96,7 +105,7 @@ def opened_placeable(head):
     notes += ["PlaceableFields"] * (head.u16(4) != 0 or head.u32(16) != 0)
     frame = tuple(map(abs, sides))
     axes = tuple((near, side, 0, abs(side), 0) for near, side in zip((left, top), sides, strict=True))
-    return Opened("placeable", frame, axes, None, notes, 40)
+    return Opened(PLACEABLE, frame, axes, None, notes)
 
 
 def first_extent(file, place):
@@ -121,9 +130,9 @@ def opened_plain(head):
         raise fault("ShortHeader")
     if not has_version(head, 0):
         raise fault("BadHeader")
-    extent = first_extent(head.data, 18)
+    extent = first_extent(head.data, PLAIN.records)
     axes = tuple((0, side, 0, abs(side), 0) for side in extent)
-    return Opened("wmf", tuple(map(abs, extent)), axes, None, size_notes(head, 0), 18)
+    return Opened(PLAIN, tuple(map(abs, extent)), axes, None, size_notes(head, 0))
 
 
 def opened_emf(head):
@@ -139,18 +148,29 @@ def opened_emf(head):
     if max(frame) > LONGEST_FRAME:
         raise fault("NoFrame")
     notes = [] if head.u32(48) == len(head.data) else ["SizeField"]
-    return Opened("emf", frame, ((0, 1, 0, 1, left), (0, 1, 0, 1, top)), head.u16(56), notes, 0)
+    return Opened(EMF, frame, ((0, 1, 0, 1, left), (0, 1, 0, 1, top)), head.u16(56), notes)
+
+
+def form_of(file):
+    """The form of a file, by the bytes that it begins with, or none."""
+    head = Record(file)
+    if len(file) >= 4 and head.u32(0) == 0x9AC6CDD7:
+        return PLACEABLE
+    if len(file) >= 44 and head.u32(0) == 1 and file[40:44] == b" EMF":
+        return EMF
+    if len(file) >= 4 and is_standard_header(head, 0):
+        return PLAIN
+    return None
+
+
+OPENERS = {PLACEABLE: opened_placeable, PLAIN: opened_plain, EMF: opened_emf}
 
 
 def opened(file):
     """What a file is opened to, or the first fault."""
-    head = Record(file)
     if len(file) > LONGEST_FILE:
         raise fault("TooLong")
-    if len(file) >= 4 and head.u32(0) == 0x9AC6CDD7:
-        return opened_placeable(head)
-    if len(file) >= 44 and head.u32(0) == 1 and file[40:44] == b" EMF":
-        return opened_emf(head)
-    if len(file) >= 4 and is_standard_header(head, 0):
-        return opened_plain(head)
-    raise fault("NotMetafile")
+    form = form_of(file)
+    if form is None:
+        raise fault("NotMetafile")
+    return OPENERS[form](Record(file))

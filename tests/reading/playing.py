@@ -3,7 +3,6 @@ the objects with their indexes, what is held, the limits of states and clips, an
 
 from typing import NamedTuple
 
-from reading import emf, wmf
 from reading.fields import Record, fault, text_of
 from reading.opening import opened
 from reference.certificates import Certifier, PlaneAxis
@@ -42,7 +41,7 @@ class Records:
         self.handles = file.handles
         self.kinds = {}
         self.slots = 0
-        self.moment = Moment(file.is_emf, {})
+        self.moment = Moment(file.form.is_emf, {})
         self.moments = []
 
     def play_nothing(self):
@@ -236,6 +235,7 @@ class Steps:
     def __init__(self, file):
         self.file = file
         self.opened = opened(file)
+        self.form = self.opened.form
         self.read = []
         self.places = []
         self.refusal = None
@@ -244,15 +244,14 @@ class Steps:
 
     def record(self, file, place, number):
         """The kind of the record at a place of a file of this format, its bytes, its step, and what is noted of it."""
-        step_of = (emf if self.opened.is_emf else wmf).step_of
-        kind, data = self.opened.framing.front(file, place, number)
-        name, words, notes = step_of(kind, Record(data), number)
-        return kind, data, (name, words), notes
+        kind, data = self.form.framing.front(file, place, number)
+        step = self.form.step_of(kind, Record(data), number)
+        return kind, data, (step.name, step.words), step.notes
 
     def read_all(self):
         """Reads records up to the end or to the first that can't be read."""
-        place, kind = self.opened.records, None
-        while kind != self.opened.framing.end:
+        place, kind = self.form.records, None
+        while kind != self.form.framing.end:
             self.places.append(place)
             try:
                 kind, data, step, notes = self.record(self.file, place, len(self.read))
@@ -270,7 +269,7 @@ class Steps:
 
     def certifier(self, sides):
         """A certifier at a bound, before the first record."""
-        certifier = FileCertifier(self.axes(sides, PlaneAxis), self.opened.is_emf, 0)
+        certifier = FileCertifier(self.axes(sides, PlaneAxis), self.form.is_emf, 0)
         certifier.begin(self.opened)
         return certifier
 
@@ -283,7 +282,7 @@ class Steps:
         """The records that are refused on a surface of these sides at most, each with its fault, up to the first that each surface refuses."""
         limits = [Limit(frame, largest) for frame in self.opened.frame]
         axes = [limit.axis(*numbers, limit.frame, smallest) for limit, numbers in zip(limits, self.opened.axes, strict=True)]
-        judge = FileJudge(axes, self.opened.is_emf, limits)
+        judge = FileJudge(axes, self.form.is_emf, limits)
         judge.begin(self.opened)
         found = []
         for number, step in enumerate(self.read):
@@ -296,7 +295,7 @@ class Steps:
 
     def image(self, sides, before=None):
         """The image of these records, which have no fault at these sides, over white or over what was there before."""
-        reference = FileReference(self.axes(sides, Axis), self.opened.is_emf)
+        reference = FileReference(self.axes(sides, Axis), self.form.is_emf)
         reference.begin(self.opened)
         reference.image = Counted(before or reference.image)
         image, refusal = reference.play(self.read)

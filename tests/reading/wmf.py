@@ -1,6 +1,6 @@
 """What the records of WMF ask for, [MS-WMF] 2.3, as steps of the reference player. Heights stand before widths, and y before x."""
 
-from reading.fields import bitmap_word, brush, fault, lists_words, made, map_mode, nothing, pen, setting
+from reading.fields import Step, bitmap_word, brush, fault, lists_step, made, map_mode, nothing, pen, setting
 from standards.wmf import WMF_REFUSED, WMF_SKIPPED
 
 
@@ -11,17 +11,17 @@ def turned(record, at):
 
 def point(name):
     """What reads a step of a point."""
-    return lambda record: (name, turned(record, 6), [])
+    return lambda record: Step(name, turned(record, 6))
 
 
 def box(name):
     """What reads a step of a box, which is told from its last edge to its first."""
-    return lambda record: (name, record.signed(6, 4, 2)[::-1], [])
+    return lambda record: Step(name, record.signed(6, 4, 2)[::-1])
 
 
 def word(name):
     """What reads a step of a number without a sign."""
-    return lambda record: (name, [record.need(8).u16(6)], [])
+    return lambda record: Step(name, [record.need(8).u16(6)])
 
 
 def mode(name, last):
@@ -37,7 +37,7 @@ def points(name):
         count = record.need(8).i16(6)
         if count < 0:
             raise fault("BadParams")
-        return name, lists_words(record, [count], 8, 2), []
+        return lists_step(name, record, [count], 8, 2)
 
     return read
 
@@ -48,13 +48,13 @@ def poly_polygon(record):
     counts = [record.u16(8 + 2 * nth) for nth in range(lists)] if len(record.data) >= 8 + 2 * lists else None
     if counts is None:
         raise fault("BadParams")
-    return "polygons", lists_words(record, counts, 8 + 2 * lists, 2), []
+    return lists_step("polygons", record, counts, 8 + 2 * lists, 2)
 
 
 def pixel(record):
     """META_SETPIXEL."""
     colour = record.need(14).colour(6)
-    return "pixel", [*turned(record, 10), colour], []
+    return Step("pixel", [*turned(record, 10), colour])
 
 
 def layout(record):
@@ -83,30 +83,30 @@ def corner_and_sides(record, at):
 
 def pat_blt(record):
     """META_PATBLT."""
-    return "pat_blt", [record.need(18).u32(6), *corner_and_sides(record, 10)], []
+    return Step("pat_blt", [record.need(18).u32(6), *corner_and_sides(record, 10)])
 
 
 def bit_blt(record):
     """META_DIBBITBLT, of which that of 24 bytes has no bitmap."""
     if len(record.data) == 24:
-        return "bare_bit_blt", [record.u32(6), *corner_and_sides(record, 16)], []
+        return Step("bare_bit_blt", [record.u32(6), *corner_and_sides(record, 16)])
     record.need(22)
-    return "bit_blt", [record.u32(6), *corner_and_sides(record, 14), *turned(record, 10), packed(record, 22)], []
+    return Step("bit_blt", [record.u32(6), *corner_and_sides(record, 14), *turned(record, 10), packed(record, 22)])
 
 
 def stretch_blt(record):
     """META_DIBSTRETCHBLT, of which that of 28 bytes has no bitmap."""
     if len(record.data) == 28:
-        return "bare_stretch_blt", [record.u32(6), *corner_and_sides(record, 20)], []
+        return Step("bare_stretch_blt", [record.u32(6), *corner_and_sides(record, 20)])
     record.need(26)
-    return "stretch_blt", [record.u32(6), *corner_and_sides(record, 18), *corner_and_sides(record, 10), packed(record, 26)], []
+    return Step("stretch_blt", [record.u32(6), *corner_and_sides(record, 18), *corner_and_sides(record, 10), packed(record, 26)])
 
 
 def stretch_dib(record):
     """META_STRETCHDIB."""
     record.need(28)
     rgb_usage(record, 10)
-    return "stretch_dib", [record.u32(6), *corner_and_sides(record, 20), *corner_and_sides(record, 12), packed(record, 28)], []
+    return Step("stretch_dib", [record.u32(6), *corner_and_sides(record, 20), *corner_and_sides(record, 12), packed(record, 28)])
 
 
 def pattern_brush(record):
@@ -130,18 +130,18 @@ def create_brush(record):
 
 READERS = {
     0x0000: lambda record: nothing(),
-    0x001E: lambda record: ("save", [], []),
+    0x001E: lambda record: Step("save"),
     0x00F7: lambda record: made(None, "palette"),
     0x0102: mode("back_mode", 2),
     0x0103: lambda record: map_mode(record.need(8).u16(6)),
     0x0104: mode("raster", 16),
     0x0106: mode("fill_mode", 2),
-    0x0127: lambda record: ("restore", record.signed(6, 1, 2), []),
+    0x0127: lambda record: Step("restore", record.signed(6, 1, 2)),
     0x012D: word("select"),
     0x0142: pattern_brush,
     0x0149: layout,
     0x01F0: word("delete"),
-    0x0201: lambda record: ("back_colour", [record.need(10).shade(6)], []),
+    0x0201: lambda record: Step("back_colour", [record.need(10).shade(6)]),
     0x020B: point("window_origin"),
     0x020C: point("window_extent"),
     0x020D: point("viewport_origin"),
@@ -169,7 +169,7 @@ READERS = {
 
 
 def step_of(function, record, number):
-    """The step of a record: its name in scripts, its words, and what is noted of it."""
+    """The step of a record."""
     if function in READERS:
         return READERS[function](record)
     if function in WMF_SKIPPED:
