@@ -488,6 +488,28 @@ def strokes_in_either_order():
     return Counted(EMF.file(records, (width, height), 16), width, height)
 
 
+def blits_and_stock_objects_in_a_long_path():
+    """Blits that read a bitmap, and stock objects that are selected, many times over, while a path of 60,000 pieces is open: none of them may look
+    at its pieces."""
+    records = open_path(60_000)
+    each = EMF.records("select_at 0x80000005; select_at 0x80000007; select_palette_at 0x8000000F")
+    records += [*each, EMF.step("stretch_dib", SRCCOPY, 1, 1, 2, 2, 0, 0, 2, 2, str(noise(2, 24)))] * 200
+    return Counted(EMF.file([*records, EMF.step("abort_path")], 64, 16), 64, 64)
+
+
+def upright_strokes_in_a_box():
+    """Strokes of many upright lines and of few on a wide surface, in a box that is kept: they go by marks, as they do without one."""
+    chance, width, height = random.Random(24), 8192, 64
+    records = EMF.records("keep 8 2 8180 62")
+    for _ in range(10):
+        columns = chance.sample(range(width - 3), 1_100)
+        words = [word for column in columns[:1_000] for word in (BETWEEN, column, 0, column + 1, height - 1)]
+        records.append(EMF.step("short_polylines", *words[1:]))
+        for column in columns[1_000:]:
+            records.append(EMF.step("polyline", column, 0, column + 1, height - 1, column + 2, 0, column + 3, height - 1))
+    return Counted(EMF.file(records, (width, height), 16), width, height)
+
+
 FILES = {
     "10,000 small triangles, 64 by 8,192": triangles,
     "a zigzag of 20,000 points, 4,096 by 16": zigzag,
@@ -532,6 +554,8 @@ FILES = {
     "tiles and blits of which little is seen": unseen_ink,
     "empty lists beside a list of points": empty_lists,
     "4 strokes of flat and upright lines, 8,192 by 64": strokes_in_either_order,
+    "800 blits and stock objects while a path is open": blits_and_stock_objects_in_a_long_path,
+    "1,010 upright strokes in a box, 8,192 by 64": upright_strokes_in_a_box,
 }
 
 # How many times the instructions on record a file may take, where that is less than for others: what it is to show is a part of its work.
