@@ -277,6 +277,15 @@ def wide_fills():
     return Counted(WMF.file(records, (width, height), 0), width, height)
 
 
+def narrow_fills():
+    """High rectangles of two columns in one colour, at the right of a wide surface: their rows have one ink, which is made once."""
+    chance, width, height = random.Random(25), 8192, 64
+    records = WMF.records("null_pen 0; select 0; solid_brush 1 0x206040; select 1")
+    for left in chance.choices(range(4_096, width - 2), k=6_000):
+        records.append(WMF.step("rectangle", left, 0, left + 2, height))
+    return Counted(WMF.file(records, (width, height), 0), width, height)
+
+
 def wide_mixes():
     """Wide blits that mix a tile, again and again: little but rows of mixes."""
     width, height = 8192, 8
@@ -556,6 +565,7 @@ FILES = {
     "4 strokes of flat and upright lines, 8,192 by 64": strokes_in_either_order,
     "800 blits and stock objects while a path is open": blits_and_stock_objects_in_a_long_path,
     "1,010 upright strokes in a box, 8,192 by 64": upright_strokes_in_a_box,
+    "6,000 high rectangles of two columns, 8,192 by 64": narrow_fills,
 }
 
 # How many times the instructions on record a file may take, where that is less than for others: what it is to show is a part of its work.
