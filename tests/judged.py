@@ -1,6 +1,6 @@
-"""Which wrong bodies of a crate are tried: all, or a share of them where the record `edits/judged.json` says that each was refused.
+"""Which mutants of a crate are tried: all, or a share of them where the record `edits/judged.json` says that each was refused.
 
-The record has an entry for a crate: how many wrong bodies it had, and a checksum of all that their judgement read. An entry holds while the checksum
+The record has an entry for a crate: how many mutants it had, and a checksum of all that their judgement read. An entry holds while the checksum
 is that of the files as they are, and is believed once every parent of the commit has it, so that the commit that brings it tries the crate whole.
 """
 
@@ -18,19 +18,19 @@ SCRIPTS = ["edits.py", "edit_trials.py", "edit_rounds.py", "edit_verdicts.py", "
 # The parts of a crate that a proof reads.
 PARTS = ("src", "specs", "proofs")
 
-# Of a crate whose entry is believed, one wrong body of so many is tried, and at least one.
+# Of a crate whose entry is believed, one mutant of so many is tried, and at least one.
 SHARE = 8
 
 
 class Entry(NamedTuple):
-    """What is on record of a crate: a checksum of all that was read, and the number of its wrong bodies, each of which was refused."""
+    """What is on record of a crate: a checksum of all that was read, and the number of its mutants, each of which was refused."""
 
     checksum: str
     edits: int
 
 
 class Choice(NamedTuple):
-    """The wrong bodies of a crate that are tried, by their names, and which these are, in words."""
+    """The mutants of a crate that are tried, by their names, and which these are, in words."""
 
     names: list
     said: str
@@ -43,7 +43,7 @@ def files_in(folder, parts):
 
 
 def checksum(root, name, below, version):
-    """The SHA-256 of all that judging a crate's wrong bodies reads: its files and its edits, the files of the crates below it, the list of crates, the
+    """The SHA-256 of all that judging a crate's mutants reads: its files and its edits, the files of the crates below it, the list of crates, the
     scripts, and the toolchain's version."""
     total = hashlib.sha256(repr((name, sorted(below), version)).encode())
     files = [(path, root / path) for path in ("crates.txt", *(f"tests/{script}" for script in SCRIPTS))]
@@ -73,7 +73,7 @@ def written(record):
 
 
 def changed(record, folders, name, entry):
-    """A record with this entry of a crate, or without one where there is none, and of no crate but those that have wrong bodies."""
+    """A record with this entry of a crate, or without one where there is none, and of no crate but those that have mutants."""
     kept = {it: entry for it, entry in record.items() if it in folders and it != name}
     return {**kept, name: entry} if entry else kept
 
@@ -104,17 +104,17 @@ def believed(record, records):
 
 
 def place(name, commit):
-    """Where a wrong body stands among all, as its name and the commit give it."""
+    """Where a mutant stands among all, as its name and the commit give it."""
     return int(hashlib.sha256(f"{name} {commit}".encode()).hexdigest(), 16)
 
 
 def share_of(names, commit):
-    """The wrong bodies that are tried of these for a commit: one of `SHARE` on average, and at least one."""
+    """The mutants that are tried of these for a commit: one of `SHARE` on average, and at least one."""
     return [name for name in names if place(name, commit) % SHARE == 0] or [min(names, key=lambda name: place(name, commit))]
 
 
 def choice(names, now, entry, believed_entry, commit):
-    """Which of a crate's wrong bodies are tried, by their names: the crate's entry as it would be now, as it is on record, and as it is believed."""
+    """Which of a crate's mutants are tried, by their names: the crate's entry as it would be now, as it is on record, and as it is believed."""
     if entry is None:
         return Choice(names, f"all {len(names)}, since {RECORD} has no entry of it")
     if entry != now:
@@ -126,9 +126,9 @@ def choice(names, now, entry, believed_entry, commit):
 
 
 def mismatches(record, now):
-    """What is wrong with a record, where the entries of all crates that have wrong bodies would be these now."""
-    wrong = [f"{RECORD} has an entry of {name}, which has no wrong bodies" for name in sorted(record.keys() - now.keys())]
+    """What is wrong with a record, where the entries of all crates that have mutants would be these now."""
+    wrong = [f"{RECORD} has an entry of {name}, which has no mutants" for name in sorted(record.keys() - now.keys())]
     for name in sorted(record.keys() & now.keys()):
         if record[name].checksum == now[name].checksum and record[name].edits != now[name].edits:
-            wrong.append(f"{RECORD} has {record[name].edits} wrong bodies of {name}, and there are {now[name].edits}")
+            wrong.append(f"{RECORD} has {record[name].edits} mutants of {name}, and there are {now[name].edits}")
     return wrong

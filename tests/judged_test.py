@@ -1,4 +1,4 @@
-"""Which wrong bodies are tried, without the prover: what a checksum reads, which entries of the record are believed, the share that is tried of a
+"""Which mutants are tried, without the prover: what a checksum reads, which entries of the record are believed, the share that is tried of a
 crate on record, and what is written to the record."""
 
 import contextlib
@@ -107,7 +107,7 @@ class Checksums(unittest.TestCase):
 
 
 class Choices(unittest.TestCase):
-    """Which wrong bodies of a crate are tried."""
+    """Which mutants of a crate are tried."""
 
     def choice(self, names=NAMES, entry=ENTRY, believed=ENTRY, commit=COMMIT):
         """Which of these are tried of a crate whose entry would be `ENTRY` now."""
@@ -211,7 +211,7 @@ class Records(unittest.TestCase):
             with self.subTest(text=text):
                 self.assertEqual(judged.read_or_wrong(text), ({}, ["edits/judged.json can't be read"]))
 
-    def test_an_entry_of_a_crate_without_wrong_bodies_is_wrong(self):
+    def test_an_entry_of_a_crate_without_mutants_is_wrong(self):
         self.assertEqual(len(judged.mismatches(self.record, {"low": ENTRY})), 1)
         self.assertEqual(judged.mismatches(self.record, self.record), [])
 
@@ -241,7 +241,7 @@ class Crate(NamedTuple):
 
 
 def bodies(name):
-    """The one wrong body of a crate."""
+    """The one mutant of a crate."""
     return edits.Bodies(Crate(name), {}, [Edit("body", "", (f"{name}::f",))], [])
 
 
@@ -285,7 +285,7 @@ class Recording(unittest.TestCase):
     def test_a_crate_that_changed_meanwhile_is_not(self):
         self.assertEqual(self.record(changed=["high"])[0], {"low": self.low})
 
-    def test_entries_of_crates_without_wrong_bodies_go(self):
+    def test_entries_of_crates_without_mutants_go(self):
         self.assertEqual(self.record(before={"gone": ENTRY})[0], {"low": self.low, "high": self.high})
 
 
@@ -293,7 +293,7 @@ class OfTheGate(unittest.TestCase):
     """What the gate tries, and what it says is wrong before it tries anything."""
 
     def parts(self, record, count=1):
-        """The parts that are tried where one crate has one wrong body, and what is wrong, with this record and this number of wrong bodies."""
+        """The parts that are tried where one crate has one mutant, and what is wrong, with this record and this number of mutants."""
         with tempfile.TemporaryDirectory() as folder, contextlib.redirect_stdout(io.StringIO()):
             root = pathlib.Path(folder)
             (root / "edits/low").mkdir(parents=True)
@@ -312,7 +312,7 @@ class OfTheGate(unittest.TestCase):
             self.assertEqual(len(self.parts(judged.written(record))[1]), 1)
         self.assertEqual(self.parts("no record")[1], ["edits/judged.json can't be read"])
 
-    def test_another_number_of_wrong_bodies_is_wrong(self):
+    def test_another_number_of_mutants_is_wrong(self):
         self.assertEqual(self.parts("{}", 2)[1], ["there are 1 edits of crates, and not 2"])
 
 

@@ -14,7 +14,7 @@ from edit_functions import functions, modules_of
 GIVES_UP = re.compile(
     r'\b(?:OutOfMemory|CannotRead|WriteFault|InputFault|REFUSED|USAGE|INPUT_OR_OUTPUT|OUT_OF_MEMORY|ExitCode|AllocError)\b'
     r'|"cannot (?:read|write)"|\breport\(|\bcommand\.error\(|\.then_some\(|\bfmt::Error\b'
-    r'|\b(?:try_)?reserve(?:_exact|_all)?\b|\bmake_room\b|\bfrom_elem\b|\bwith_capacity\b|\bresize(?:_with)?\b'
+    r'|\b(?:try_)?reserve(?:_exact|_all)?\b|\bensure_capacity\b|\bfrom_elem\b|\bwith_capacity\b|\bresize(?:_with)?\b'
     r"|\bextend_from_(?:slice|within)\b|\bfrom_slice\b|\.repeat\b|\.collect\b"
     r"|\bgrow(?:::<[^>]*>)?\(|(?<!self)\.push\b|\.insert\b|\.append\b|\bto_vec\b|\bvec!|\bBox::"
     r"|\.(?:try_)?clone(?:_from)?\b|\b(?:from|extend_with)_clones\b|\b(?:in)?to_owned\b|\bto_string\b|\binto_boxed|\bformat!|\btry_resize"

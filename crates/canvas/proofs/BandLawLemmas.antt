@@ -12,7 +12,7 @@ raster_of_bands (band ∷ bands) = flat_map-append pixel_bytes band (laid_togeth
 
 pub band_laws : BandLaws
 band_laws = record {
-  behind = flat_map-append pixel_bytes;
+  after = flat_map-append pixel_bytes;
   text = λ width height bands. ap (λ samples. header width height ++ samples) (raster_of_bands bands);
   painted = λ test f width first rows upper lower wide. repainted_laid width first rows wide test f upper lower;
   counted = λ test width first upper lower wide. count_pixels_laid width first upper wide test lower;

@@ -50,8 +50,8 @@ count_stage_none cells column n = count_indexes_none (stage cells column 0) 0 n 
 count_with : (cells column offset n : ℕ) → count_indexes (stage cells column offset) 0 n + count_indexes (λ k. eqb (k % 8) offset) 0 n ≡ count_indexes (λ k. stage cells column offset k || eqb (k % 8) offset) 0 n
 count_with cells column offset n = sym (count_either (stage cells column offset) (λ k. eqb (k % 8) offset) 0 n (λ k a b. stage_apart cells column offset k))
 
-pub stage_room : (cells column offset n : ℕ) → count_indexes (stage cells column offset) 0 n + count_indexes (λ k. eqb (k % 8) offset) 0 n ≤ n
-stage_room cells column offset n = rw (count_with cells column offset n) (count_indexes_most (λ k. stage cells column offset k || eqb (k % 8) offset) 0 n)
+pub stage_capacity : (cells column offset n : ℕ) → count_indexes (stage cells column offset) 0 n + count_indexes (λ k. eqb (k % 8) offset) 0 n ≤ n
+stage_capacity cells column offset n = rw (count_with cells column offset n) (count_indexes_most (λ k. stage cells column offset k || eqb (k % 8) offset) 0 n)
 
 pub count_stage_set : (cells column offset n : ℕ) → is_cell cells (column + offset) ≡ true → count_indexes (stage cells column offset) 0 n + count_indexes (λ k. eqb (k % 8) offset) 0 n ≡ count_indexes (stage cells column (offset + 1)) 0 n
 count_stage_set cells column offset n h =

@@ -10,18 +10,18 @@ use Rattle.canvas.specs.declared.surface.Canvas.TheInside.{Inside}
 use Rattle.canvas.proofs.RowLemmas.{length-row_colours, row_part}
 
 -- The list holds the canvas's rows, each a stride behind the one above.
-pub record LiesIn (canvas : CanvasState) (stride : ℕ) (lent : List Colour) : Type 0 where
+pub record LiesIn (canvas : CanvasState) (stride : ℕ) (borrowed : List Colour) : Type 0 where
   pub wide : 1 ≤ canvas.width
   pub narrow : canvas.width ≤ stride
-  pub whole : canvas.rows * stride ≤ length lent
-  pub shown : canvas.colours ≡ row_colours canvas.rows canvas.width stride lent
+  pub whole : canvas.rows * stride ≤ length borrowed
+  pub shown : canvas.colours ≡ row_colours canvas.rows canvas.width stride borrowed
 
 -- what a canvas's fields show, and that its list holds that
 abbrev pub shown_by : Inside → CanvasState
 shown_by a = record { width = a.width; first = a.first; rows = a.rows; colours = row_colours a.rows a.width a.stride a.colours.items; writes = a.writes; most = a.most }
 
-pub lies_inside : (a : Inside) (lent : List Colour) → IsCanvas a → lent ≡ a.colours.items → LiesIn (shown_by a) a.stride lent
-lies_inside a lent is same =
+pub lies_inside : (a : Inside) (borrowed : List Colour) → IsCanvas a → borrowed ≡ a.colours.items → LiesIn (shown_by a) a.stride borrowed
+lies_inside a borrowed is same =
     let long : vec_len a.colours ≡ length a.colours.items = a.colours.ok.0 in
     let wide = is.wide.not_empty in
     let apart = is.apart in
@@ -34,15 +34,15 @@ lies_inside a lent is same =
     }
 
 -- each pixel held has a colour
-pub length_shown : (canvas : CanvasState) (stride : ℕ) (lent : List Colour) → LiesIn canvas stride lent → length canvas.colours ≡ canvas.rows * canvas.width
-length_shown canvas stride lent lies = ap length lies.shown ∙ length-row_colours canvas.rows canvas.width stride lent lies.narrow lies.whole
+pub length_shown : (canvas : CanvasState) (stride : ℕ) (borrowed : List Colour) → LiesIn canvas stride borrowed → length canvas.colours ≡ canvas.rows * canvas.width
+length_shown canvas stride borrowed lies = ap length lies.shown ∙ length-row_colours canvas.rows canvas.width stride borrowed lies.narrow lies.whole
 
 pub whole_inside : (a : Inside) (now : CanvasState) → shown_by a ≡ now → IsCanvas a → length now.colours ≡ now.rows * now.width
 whole_inside a now same is = subst (λ (s : CanvasState). length s.colours ≡ s.rows * s.width) same (length_shown (shown_by a) a.stride a.colours.items (lies_inside a a.colours.items is refl))
 
 -- the part that is lent has as many colours as the span has columns
-pub length_part : (place k : ℕ) (lent : List Colour) → place + k ≤ length lent → length (take k (drop place lent)) ≡ k
-length_part place k lent h = length-take-le k (drop place lent) (omega (arith, length-drop place lent))
+pub length_part : (place k : ℕ) (borrowed : List Colour) → place + k ≤ length borrowed → length (take k (drop place borrowed)) ≡ k
+length_part place k borrowed h = length-take-le k (drop place borrowed) (omega (arith, length-drop place borrowed))
 
 -- A pixel by its number, counted row by row: its column, and that its row lies in the list, which is no longer than this.
 pub record RowOf (a : Inside) (index : ℕ) : Type 0 where
@@ -71,14 +71,14 @@ module _ (a : Inside) (now : CanvasState) (same : shown_by a ≡ now) (is : IsCa
       }
 
   -- so many pixels of its row from it on are those of the list
-  pub part_from : (place k count : ℕ) (lent : List Colour) → lent ≡ a.colours.items → place ≡ index / a.width * a.stride + index % a.width → k ≡ count → count ≤ a.width - index % a.width → take k (drop place lent) ≡ take (length (take k (drop place lent))) (drop index now.colours)
-  part_from place k count lent borrowed at counted most =
+  pub part_from : (place k count : ℕ) (borrowed : List Colour) → borrowed ≡ a.colours.items → place ≡ index / a.width * a.stride + index % a.width → k ≡ count → count ≤ a.width - index % a.width → take k (drop place borrowed) ≡ take (length (take k (drop place borrowed))) (drop index now.colours)
+  part_from place k count borrowed is_borrowed at counted most =
       let lies = lies_inside a a.colours.items is refl in
       let row = row_of in
       let column = row.column in let fits = row.fits in let narrow = row.narrow in
-      let long : length (take k (drop place lent)) ≡ k = length_part place k lent (omega (arith, at, counted, ap length borrowed)) in
+      let long : length (take k (drop place borrowed)) ≡ k = length_part place k borrowed (omega (arith, at, counted, ap length is_borrowed)) in
       let is_index : index / a.width * a.width + index % a.width ≡ index = div-add-mod' index a.width in
-      let here : take k (drop place lent) ≡ take k (drop (index / a.width * a.stride + index % a.width) a.colours.items) = rw (at, borrowed) refl in
+      let here : take k (drop place borrowed) ≡ take k (drop (index / a.width * a.stride + index % a.width) a.colours.items) = rw (at, is_borrowed) refl in
       here
       ∙ sym (row_part a.rows a.width a.stride (index / a.width) (index % a.width) k a.colours.items lies.narrow lies.whole row.below (omega arith))
       ∙ ap (λ (n : ℕ). take k (drop n (shown_by a).colours)) is_index

@@ -8,24 +8,24 @@ use Rattle.canvas.specs.PartsMade.{EachIs}
 abbrev pub with_part : ℕ → List Colour → List Colour → List Colour
 with_part place made colours = take place colours ++ (made ++ drop (place + length made) colours)
 
-module _ (place : ℕ) (made colours : List Colour) (room : place + length made ≤ length colours) where
-  length-front : length (take place colours) ≡ place
-  length-front = length-take-le place colours (omega arith)
+module _ (place : ℕ) (made colours : List Colour) (capacity : place + length made ≤ length colours) where
+  length-prefix : length (take place colours) ≡ place
+  length-prefix = length-take-le place colours (omega arith)
 
   pub length-with_part : length (with_part place made colours) ≡ length colours
-  length-with_part = simp (length-append, length-drop) (omega (arith, length-front))
+  length-with_part = simp (length-append, length-drop) (omega (arith, length-prefix))
 
   pub part_before : (k : ℕ) (d : Colour) → k < place → get_or (with_part place made colours) k d ≡ get_or colours k d
-  part_before k d h = get_or_append_left (take place colours) _ d k (omega (arith, length-front)) ∙ get_or-take place colours k d h
+  part_before k d h = get_or_append_left (take place colours) _ d k (omega (arith, length-prefix)) ∙ get_or-take place colours k d h
 
   part_from : (k : ℕ) (d : Colour) → place ≤ k → get_or (with_part place made colours) k d ≡ get_or (made ++ drop (place + length made) colours) (k - place) d
-  part_from k d h = get_or-append_right (take place colours) _ place k d length-front h
+  part_from k d h = get_or-append_right (take place colours) _ place k d length-prefix h
 
   pub part_here : (k : ℕ) (d : Colour) → place ≤ k → k < place + length made → get_or (with_part place made colours) k d ≡ get_or made (k - place) d
   part_here k d low high = part_from k d low ∙ get_or_append_left made _ d (k - place) (omega arith)
 
-  pub part_behind : (k : ℕ) (d : Colour) → place + length made ≤ k → get_or (with_part place made colours) k d ≡ get_or colours k d
-  part_behind k d h =
+  pub part_after : (k : ℕ) (d : Colour) → place + length made ≤ k → get_or (with_part place made colours) k d ≡ get_or colours k d
+  part_after k d h =
       let e : place + length made + (k - place - length made) ≡ k = omega arith in
       part_from k d (omega arith)
       ∙ get_or-append_right made _ (length made) (k - place) d refl (omega arith)

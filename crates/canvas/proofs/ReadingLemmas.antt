@@ -6,7 +6,7 @@ use Rattle.std.proofs.Math.Bool.{and-false}
 use Rattle.mapping.specs.declared.geometry.Colour.{Colour}
 use Rattle.mapping.specs.Limits.{is_surface_side, surface_side_true}
 use Rattle.canvas.specs.PpmHead.{IsHeadOf, IsNumberAt}
-use Rattle.canvas.specs.PpmReading.{begins_ppm, behind_gap, colours_at, ends_head, has_head, height_text, is_white, most_text, front_number, space_text, width_text}
+use Rattle.canvas.specs.PpmReading.{begins_ppm, after_gap, colours_at, ends_head, has_head, height_text, is_white, most_text, prefix_number, space_text, width_text}
 use Rattle.canvas.specs.declared.reading.NumberRead.{NumberRead}
 use Rattle.canvas.specs.declared.reading.PpmHead.{PpmHead}
 
@@ -44,10 +44,10 @@ colours_at-add zero more text =
     ap (λ n. colours_at n text) all ∙ ap (λ n. colours_at more (drop n text)) none
 colours_at-add (suc count) more text =
     let all : suc count + more ≡ suc (count + more) = omega arith in
-    let behind : 3 + 3 * count ≡ 3 * suc count = omega arith in
+    let after : 3 + 3 * count ≡ 3 * suc count = omega arith in
     ap (λ n. colours_at n text) all
     ∙ ap (λ (cs : List Colour). sampled text 0 ∷ cs) (colours_at-add count more (drop 3 text))
-    ∙ ap (λ (rest : List ℕ). sampled text 0 ∷ (colours_at count (drop 3 text) ++ colours_at more rest)) (drop-drop (3 * count) 3 text ∙ ap (λ n. drop n text) behind)
+    ∙ ap (λ (rest : List ℕ). sampled text 0 ∷ (colours_at count (drop 3 text) ++ colours_at more rest)) (drop-drop (3 * count) 3 text ∙ ap (λ n. drop n text) after)
 
 -- there are as many as were asked for
 pub length-colours_at : (count : ℕ) (text : List ℕ) → length (colours_at count text) ≡ count
@@ -88,25 +88,25 @@ capped_most n = go (leb n 9999) (eqb n 255) refl refl
 
 -- the three numbers of a header, each behind the one before
 module _ (text : List ℕ) (w h m : NumberRead)
-    (first : IsNumberAt text (behind_gap false (drop 2 text)) w)
-    (second : IsNumberAt text (behind_gap false (drop w.end text)) h)
-    (third : IsNumberAt text (behind_gap false (drop h.end text)) m) where
+    (first : IsNumberAt text (after_gap false (drop 2 text)) w)
+    (second : IsNumberAt text (after_gap false (drop w.end text)) h)
+    (third : IsNumberAt text (after_gap false (drop h.end text)) m) where
   high : IsNumberAt text (height_text text) h
-  high = subst (λ (t : List ℕ). IsNumberAt text (behind_gap false t) h) first.behind second
+  high = subst (λ (t : List ℕ). IsNumberAt text (after_gap false t) h) first.after second
 
   most : IsNumberAt text (most_text text) m
-  most = subst (λ (t : List ℕ). IsNumberAt text (behind_gap false t) m) high.behind third
+  most = subst (λ (t : List ℕ). IsNumberAt text (after_gap false t) m) high.after third
 
   pub head_tests : begins_ppm text ≡ true → has_head text ≡ ends_head w.value h.value m.value (drop m.end text)
   head_tests begins =
-      let a : is_surface_side (front_number (width_text text)) ≡ is_surface_side w.value = sym (ap is_surface_side first.value ∙ capped_side (front_number (width_text text))) in
-      let b : is_surface_side (front_number (height_text text)) ≡ is_surface_side h.value = sym (ap is_surface_side high.value ∙ capped_side (front_number (height_text text))) in
-      let c : (front_number (most_text text) == 255) ≡ (m.value == 255) = sym (ap (λ n. n == 255) most.value ∙ capped_most (front_number (most_text text))) in
-      ap (λ t. t && ends_head (front_number (width_text text)) (front_number (height_text text)) (front_number (most_text text)) (space_text text)) begins
-      ∙ ap (λ t. t && is_surface_side (front_number (height_text text)) && front_number (most_text text) == 255 && is_white (get_or (space_text text) 0 0)) a
-      ∙ ap (λ t. is_surface_side w.value && t && front_number (most_text text) == 255 && is_white (get_or (space_text text) 0 0)) b
+      let a : is_surface_side (prefix_number (width_text text)) ≡ is_surface_side w.value = sym (ap is_surface_side first.value ∙ capped_side (prefix_number (width_text text))) in
+      let b : is_surface_side (prefix_number (height_text text)) ≡ is_surface_side h.value = sym (ap is_surface_side high.value ∙ capped_side (prefix_number (height_text text))) in
+      let c : (prefix_number (most_text text) == 255) ≡ (m.value == 255) = sym (ap (λ n. n == 255) most.value ∙ capped_most (prefix_number (most_text text))) in
+      ap (λ t. t && ends_head (prefix_number (width_text text)) (prefix_number (height_text text)) (prefix_number (most_text text)) (space_text text)) begins
+      ∙ ap (λ t. t && is_surface_side (prefix_number (height_text text)) && prefix_number (most_text text) == 255 && is_white (get_or (space_text text) 0 0)) a
+      ∙ ap (λ t. is_surface_side w.value && t && prefix_number (most_text text) == 255 && is_white (get_or (space_text text) 0 0)) b
       ∙ ap (λ t. is_surface_side w.value && is_surface_side h.value && t && is_white (get_or (space_text text) 0 0)) c
-      ∙ ap (λ (t : List ℕ). ends_head w.value h.value m.value t) (sym most.behind)
+      ∙ ap (λ (t : List ℕ). ends_head w.value h.value m.value t) (sym most.after)
 
   pub head_is : (head : PpmHead) → head.width ≡ w.value → head.height ≡ h.value → head.start ≡ m.end + 1
       → begins_ppm text ≡ true → ends_head w.value h.value m.value (drop m.end text) ≡ true
@@ -114,15 +114,15 @@ module _ (text : List ℕ) (w h m : NumberRead)
   head_is head wide high_is start begins passes there =
       let white = and_parts (is_surface_side w.value && is_surface_side h.value && (m.value == 255)) (is_white (get_or (drop m.end text) 0 0)) passes in
       let value = and_parts (is_surface_side w.value && is_surface_side h.value) (m.value == 255) white.0 in
-      let sides = and_parts (is_surface_side w.value) (is_surface_side h.value) value.0 in
-      let low = (surface_side_true w.value sides.0).within in
-      let lower = (surface_side_true h.value sides.1).within in
+      let dimensions = and_parts (is_surface_side w.value) (is_surface_side h.value) value.0 in
+      let low = (surface_side_true w.value dimensions.0).within in
+      let lower = (surface_side_true h.value dimensions.1).within in
       let first_value = first.value in
       let high_value = high.value in
       record {
         there = head_tests begins ∙ passes;
         wide = wide ∙ (omega (arith, low, first_value));
         high = high_is ∙ (omega (arith, lower, high_value));
-        raster = ap (λ n. drop n text) start ∙ sym (drop-drop 1 m.end text) ∙ ap (λ (t : List ℕ). drop 1 t) most.behind;
+        raster = ap (λ n. drop n text) start ∙ sym (drop-drop 1 m.end text) ∙ ap (λ (t : List ℕ). drop 1 t) most.after;
         within = omega (arith, start, there);
       }

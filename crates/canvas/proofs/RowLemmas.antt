@@ -5,7 +5,7 @@ use Rattle.std.proofs.lemmas.List.{drop-replicate, get_or-append_right, get_or-d
 use Rattle.std.proofs.lemmas.Nat.{div-add-mod', div_below, mod_below, row_fits}
 use Rattle.mapping.specs.declared.geometry.Colour.{Colour}
 use Rattle.canvas.specs.Rows.{row_colours}
-use Rattle.canvas.proofs.PartLemmas.{length-with_part, part_before, part_behind, part_here, set_is_part, with_part}
+use Rattle.canvas.proofs.PartLemmas.{length-with_part, part_before, part_after, part_here, set_is_part, with_part}
 
 -- each pixel held has a colour
 pub length-row_colours : (rows width stride : ℕ) (colours : List Colour) → width ≤ stride → rows * stride ≤ length colours → length (row_colours rows width stride colours) ≡ rows * width
@@ -51,37 +51,37 @@ module _ (rows width stride row column : ℕ) (made colours : List Colour) (wide
   abbrev written : List Colour
   written = with_part place made colours
 
-  room : place + length made ≤ length colours
-  room = let fits = row_fits row stride rows stride below (omega arith) in omega (arith, fits)
+  capacity : place + length made ≤ length colours
+  capacity = let fits = row_fits row stride rows stride below (omega arith) in omega (arith, fits)
 
   length-held : length held ≡ rows * width
   length-held = length-row_colours rows width stride colours narrow whole
 
-  room_held : index + length made ≤ length held
-  room_held = let fits = row_fits row width rows width below (omega arith) in omega (arith, fits, length-held)
+  capacity_held : index + length made ≤ length held
+  capacity_held = let fits = row_fits row width rows width below (omega arith) in omega (arith, fits, length-held)
 
   whole_written : rows * stride ≤ length written
-  whole_written = omega (arith, length-with_part place made colours room)
+  whole_written = omega (arith, length-with_part place made colours capacity)
 
   -- a pixel before the part, in it, and behind it
   before : (r c : ℕ) (d : Colour) → r < rows → c < width → r * stride + c < place → r * width + c < index → get_or written (r * stride + c) d ≡ get_or (with_part index made held) (r * width + c) d
   before r c d a b p q =
-      part_before place made colours room (r * stride + c) d p
+      part_before place made colours capacity (r * stride + c) d p
       ∙ sym (get_or-row_colours rows width stride colours r c d narrow whole a b)
-      ∙ sym (part_before index made held room_held (r * width + c) d q)
+      ∙ sym (part_before index made held capacity_held (r * width + c) d q)
 
   here : (c : ℕ) (d : Colour) → column ≤ c → c < column + length made → get_or written (row * stride + c) d ≡ get_or (with_part index made held) (row * width + c) d
   here c d a b =
       let k : row * stride + c - place ≡ row * width + c - index = omega arith in
-      part_here place made colours room (row * stride + c) d (omega arith) (omega arith)
+      part_here place made colours capacity (row * stride + c) d (omega arith) (omega arith)
       ∙ ap (λ (i : ℕ). get_or made i d) k
-      ∙ sym (part_here index made held room_held (row * width + c) d (omega arith) (omega arith))
+      ∙ sym (part_here index made held capacity_held (row * width + c) d (omega arith) (omega arith))
 
-  behind : (r c : ℕ) (d : Colour) → r < rows → c < width → place + length made ≤ r * stride + c → index + length made ≤ r * width + c → get_or written (r * stride + c) d ≡ get_or (with_part index made held) (r * width + c) d
-  behind r c d a b p q =
-      part_behind place made colours room (r * stride + c) d p
+  after : (r c : ℕ) (d : Colour) → r < rows → c < width → place + length made ≤ r * stride + c → index + length made ≤ r * width + c → get_or written (r * stride + c) d ≡ get_or (with_part index made held) (r * width + c) d
+  after r c d a b p q =
+      part_after place made colours capacity (r * stride + c) d p
       ∙ sym (get_or-row_colours rows width stride colours r c d narrow whole a b)
-      ∙ sym (part_behind index made held room_held (r * width + c) d q)
+      ∙ sym (part_after index made held capacity_held (r * width + c) d q)
 
   -- a pixel of the part's row, and one of any row
   in_row_of_part : (c : ℕ) (d : Colour) → c < width → get_or written (row * stride + c) d ≡ get_or (with_part index made held) (row * width + c) d
@@ -89,7 +89,7 @@ module _ (rows width stride row column : ℕ) (made colours : List Colour) (wide
     | inl low ↦ before row c d below b (omega arith) (omega arith)
     | inr high ↦ elim (cases_lt c (column + length made)) [
       | inl inside ↦ here c d high inside
-      | inr out ↦ behind row c d below b (omega arith) (omega arith)
+      | inr out ↦ after row c d below b (omega arith) (omega arith)
     ]
   ]
 
@@ -103,7 +103,7 @@ module _ (rows width stride row column : ℕ) (made colours : List Colour) (wide
       | inl under ↦
           let p = row_fits row stride r stride under (omega arith) in
           let q = row_fits row width r width under (omega arith) in
-          behind r c d a b (omega (arith, p)) (omega (arith, q))
+          after r c d a b (omega (arith, p)) (omega (arith, q))
       | inr not_under ↦
           let e : row ≡ r = omega arith in
           subst (λ (n : ℕ). get_or written (n * stride + c) d ≡ get_or (with_part index made held) (n * width + c) d) e (in_row_of_part c d b)
@@ -121,7 +121,7 @@ module _ (rows width stride row column : ℕ) (made colours : List Colour) (wide
   pub row_with_part : row_colours rows width stride (with_part (row * stride + column) made colours) ≡ with_part (row * width + column) made (row_colours rows width stride colours)
   row_with_part =
       let long = length-row_colours rows width stride written narrow whole_written in
-      same_lists _ _ (long ∙ sym (length-with_part index made held room_held ∙ length-held)) (λ k d h. at_index k d (omega (arith, h, long)))
+      same_lists _ _ (long ∙ sym (length-with_part index made held capacity_held ∙ length-held)) (λ k d h. at_index k d (omega (arith, h, long)))
 
 -- one colour put at the place of a pixel
 pub row_set : (rows width stride row column : ℕ) (colour : Colour) (colours : List Colour) → width ≤ stride → rows * stride ≤ length colours → row < rows → column < width → row_colours rows width stride (set colours (row * stride + column) colour) ≡ set (row_colours rows width stride colours) (row * width + column) colour
@@ -145,7 +145,7 @@ row_colours_of_one (suc rows) width stride colour narrow =
     let sum : width + rows * width ≡ suc rows * width = omega arith in
     let row : take width (replicate (suc rows * stride) colour) ≡ replicate width colour = take-replicate width (suc rows * stride) colour (omega arith) in
     let others : drop stride (replicate (suc rows * stride) colour) ≡ replicate (rows * stride) colour = ap (λ (n : ℕ). drop stride (replicate n colour)) all ∙ drop-replicate stride (stride + rows * stride) colour ∙ ap (λ (n : ℕ). replicate n colour) rest in
-    ap (λ (front : List Colour). front ++ row_colours rows width stride (drop stride (replicate (suc rows * stride) colour))) row
+    ap (λ (prefix : List Colour). prefix ++ row_colours rows width stride (drop stride (replicate (suc rows * stride) colour))) row
     ∙ ap (λ (cs : List Colour). replicate width colour ++ row_colours rows width stride cs) others
     ∙ ap (λ (cs : List Colour). replicate width colour ++ cs) (row_colours_of_one rows width stride colour narrow)
     ∙ replicate-append-replicate width (rows * width) colour

@@ -29,25 +29,25 @@ module _ (rows width stride row place at k : ℕ) (made colours : List Colour) (
 
   written : put_mid place k colours made ≡ with_part (row * stride + 0) made colours
   written =
-      let behind : place + k ≡ row * stride + 0 + length made = omega (arith, long_made) in
+      let after : place + k ≡ row * stride + 0 + length made = omega (arith, long_made) in
       ap (λ (cs : List Colour). take place colours ++ (made ++ cs)) (drop-drop k place colours)
-      ∙ ap (λ n. take place colours ++ (made ++ drop n colours)) behind
+      ∙ ap (λ n. take place colours ++ (made ++ drop n colours)) after
       ∙ ap (λ n. take n colours ++ (made ++ drop (row * stride + 0 + length made) colours)) is_place
 
   pub one_row_more : take (row * width) (row_colours rows width stride colours) ≡ colours_at (row * width) samples → take ((row + 1) * width) (row_colours rows width stride (put_mid place k colours made)) ≡ colours_at ((row + 1) * width) samples
   one_row_more before =
       let fits = row_fits row width rows width below (omega arith) in
-      let front = take (row * width) (row_colours rows width stride colours) in
+      let prefix = take (row * width) (row_colours rows width stride colours) in
       let rest = drop (row * width + 0 + length made) (row_colours rows width stride colours) in
       let next : row * width + width ≡ (row + 1) * width = omega arith in
       let first : row * width + 0 ≡ row * width = omega arith in
-      let long_front : length front ≡ row * width = length-take-le (row * width) (row_colours rows width stride colours) (omega (arith, fits, length-row_colours rows width stride colours narrow (omega arith))) in
-      let long : length (front ++ made) ≡ (row + 1) * width = length-append front made ∙ omega (arith, long_front, long_made) in
+      let long_prefix : length prefix ≡ row * width = length-take-le (row * width) (row_colours rows width stride colours) (omega (arith, fits, length-row_colours rows width stride colours narrow (omega arith))) in
+      let long : length (prefix ++ made) ≡ (row + 1) * width = length-append prefix made ∙ omega (arith, long_prefix, long_made) in
       ap (λ (cs : List Colour). take ((row + 1) * width) (row_colours rows width stride cs)) written
       ∙ ap (λ (cs : List Colour). take ((row + 1) * width) cs) (row_with_part rows width stride row 0 made colours wide narrow (omega arith) below (omega (arith, long_made)))
       ∙ ap (λ n. take ((row + 1) * width) (take n (row_colours rows width stride colours) ++ (made ++ rest))) first
-      ∙ ap (λ (cs : List Colour). take ((row + 1) * width) cs) (sym (append_assoc front made rest))
-      ∙ take_at (front ++ made) rest ((row + 1) * width) long
+      ∙ ap (λ (cs : List Colour). take ((row + 1) * width) cs) (sym (append_assoc prefix made rest))
+      ∙ take_at (prefix ++ made) rest ((row + 1) * width) long
       ∙ ap (λ (cs : List Colour). cs ++ made) before
       ∙ ap (λ (cs : List Colour). colours_at (row * width) samples ++ cs) made_is
       ∙ sym (colours_at-add (row * width) width samples)

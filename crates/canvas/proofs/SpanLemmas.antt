@@ -8,7 +8,7 @@ use Rattle.mapping.specs.declared.geometry.Colour.{Colour}
 use Rattle.mapping.specs.Pixels.{count_indexes, count_pixels, repainted}
 use Rattle.canvas.specs.CanvasState.{CanvasState}
 use Rattle.canvas.specs.Writing.{Repaints, in_row_span}
-use Rattle.canvas.proofs.PartLemmas.{length-with_part, part_before, part_behind, part_here, with_part}
+use Rattle.canvas.proofs.PartLemmas.{length-with_part, part_before, part_after, part_here, with_part}
 use Rattle.canvas.proofs.IndexLemmas.{count_same, get_or-map_indexed}
 
 -- what it is to be in a span
@@ -94,11 +94,11 @@ module _ (width first rows y from to : ℕ) (part : IsPart width first rows y fr
         let first_cut = count_indexes-append at 0 start (n + rest) in
         let second_cut = count_indexes-append at (0 + start) n rest in
         let before = count_indexes_none at 0 start (λ i a b. fails i (λ c d. omega arith)) in
-        let behind = count_indexes_none at (0 + start + n) rest (λ i a b. fails i (λ c d. omega arith)) in
+        let after = count_indexes_none at (0 + start + n) rest (λ i a b. fails i (λ c d. omega arith)) in
         let here : 0 + start ≡ start + 0 = omega arith in
         let moved : count_indexes at (0 + start) n ≡ count_indexes (λ k. at (start + k)) 0 n = ap (λ (i : ℕ). count_indexes at i n) here ∙ count_indexes_moved at (λ k. at (start + k)) start 0 n (λ k. refl) in
         let same = count_same (λ k. at (start + k)) (λ k. t (from + k) y) 0 n (λ i a b. test_of i (omega arith)) in
-        ap (λ (m : ℕ). count_indexes at 0 m) all ∙ omega (arith, first_cut, second_cut, before, behind, moved, same)
+        ap (λ (m : ℕ). count_indexes at 0 m) all ∙ omega (arith, first_cut, second_cut, before, after, moved, same)
 
     module _ (f : ℕ → ℕ → Colour → Colour) (old made : List Colour) (whole : length old ≡ rows * width) (long : length made ≡ to - from) where
       -- the list of colours with the part's in place of what was there
@@ -123,7 +123,7 @@ module _ (width first rows y from to : ℕ) (part : IsPart width first rows y fr
             | inl b ↦
                 let e : start + (k - start) ≡ k = omega arith in
                 subst (λ (i : ℕ). get_or put i d ≡ changed f i (get_or old i d)) e (put_within (k - start) d (omega arith))
-            | inr b ↦ part_behind start made old within_list k d (omega arith) ∙ sym (cond-false (at k) _ (get_or old k d) (fails k (λ c e. omega arith)))
+            | inr b ↦ part_after start made old within_list k d (omega arith) ∙ sym (cond-false (at k) _ (get_or old k d) (fails k (λ c e. omega arith)))
           ]
         ]
 

@@ -1,4 +1,4 @@
--- How bands, one below the other, make a surface.
+-- How consecutive bands make up a surface.
 use Rattle.std.specs.Prelude.{◌≡◌, ℕ, ◌+◌, ◌*◌, ◌≤◌, Bool, List, ◌++◌, flat_map, length}
 use Rattle.mapping.specs.declared.geometry.Colour.{Colour}
 use Rattle.mapping.specs.Pixels.{count_pixels, repainted}
@@ -12,11 +12,11 @@ laid_together bands = flat_map (λ band. band) bands
 abbrev pub rasters : List (List Colour) → List ℕ
 rasters bands = flat_map raster bands
 
--- The raster of colours behind others is behind theirs, and the P6 text of an image is its header and then the rasters of
--- the bands that make it. What is painted on rows, and how many pixels that writes, is what is painted on the upper ones
--- and on the lower ones.
+-- The raster of some colours after others is their rasters in that order, and the P6 text of an image is its header
+-- followed by the rasters of the bands that make it up. Painting two consecutive parts of some rows separately gives
+-- the same colours and the same number of writes as painting all of these rows at once.
 pub record BandLaws : Type 0 where
-  pub behind : (front rest : List Colour) → raster (front ++ rest) ≡ raster front ++ raster rest
+  pub after : (prefix rest : List Colour) → raster (prefix ++ rest) ≡ raster prefix ++ raster rest
   pub text :
       (width height : ℕ) (bands : List (List Colour))
       → ppm_text record { width = width; height = height; colours = laid_together bands } ≡ header width height ++ rasters bands

@@ -1,11 +1,11 @@
--- What is true of the fields of every canvas.
+-- The fields of a canvas.
 use Rattle.std.specs.Prelude.{◌≡◌, ◌+◌, ◌*◌, ◌≤◌, vec_capacity, vec_len}
 use Rattle.mapping.specs.Limits.{IsSurfaceSide, surface_side_limit}
 use Rattle.canvas.specs.Rows.{row_stride}
 use Rattle.canvas.specs.declared.surface.Canvas.TheInside.{Inside}
 
--- the sides are within their limits, rows lie as far apart as their width says, each pixel has its colour, and there is room for
--- the rows that the canvas was made for
+-- the size is within the limits, the rows are as far apart as their width says, each pixel has its colour, and the
+-- capacity is enough for the rows that the canvas was made for
 pub record IsCanvas (canvas : Inside) : Type 0 where
   pub wide : IsSurfaceSide canvas.width
   pub apart : canvas.stride ≡ row_stride canvas.width
@@ -13,4 +13,4 @@ pub record IsCanvas (canvas : Inside) : Type 0 where
   pub high_within : canvas.first + canvas.rows ≤ surface_side_limit
   pub whole : vec_len canvas.colours ≡ canvas.rows * canvas.stride
   pub held : canvas.rows ≤ canvas.most
-  pub room : canvas.most * canvas.stride ≤ vec_capacity canvas.colours
+  pub capacity : canvas.most * canvas.stride ≤ vec_capacity canvas.colours

@@ -1,10 +1,10 @@
--- What a canvas is to its callers.
+-- A canvas as callers see it.
 use Rattle.std.specs.Prelude.{ℕ, ◌+◌, ◌-◌, ◌*◌, ◌<◌, ◌≤◌, List, replicate}
 use Rattle.mapping.specs.declared.geometry.Colour.{Colour}
 use Rattle.mapping.specs.Image.{Image}
 
--- the rows that a canvas holds of its surface, from `first` on, with their colours, how many pixels were written, and for how
--- many rows it was made
+-- the rows of a surface in a canvas, from `first` on, with their colours, the number of pixels written, and the number
+-- of rows that it was made for
 pub record CanvasState : Type 0 where
   pub width : ℕ
   pub first : ℕ
@@ -13,22 +13,22 @@ pub record CanvasState : Type 0 where
   pub writes : ℕ
   pub most : ℕ
 
--- the image of the rows held
+-- the image of the canvas's rows
 abbrev pub image_of : CanvasState → Image
 image_of canvas = record { width = canvas.width; height = canvas.rows; colours = canvas.colours }
 
--- the canvas holds the surface's pixel (x, y)
+-- the canvas contains the surface's pixel (x, y)
 pub record HasPixel (canvas : CanvasState) (x y : ℕ) : Type 0 where
   pub column : x < canvas.width
   pub from_first : canvas.first ≤ y
   pub to_last : y < canvas.first + canvas.rows
 
--- the canvas holds the surface's row y
+-- the canvas contains the surface's row y
 pub record HasRow (canvas : CanvasState) (y : ℕ) : Type 0 where
   pub from_first : canvas.first ≤ y
   pub to_last : y < canvas.first + canvas.rows
 
--- where the colour of pixel (x, y) stands in the list of colours
+-- the index of pixel (x, y) in the list of colours
 abbrev pub colour_index : CanvasState → ℕ → ℕ → ℕ
 colour_index canvas x y = (y - canvas.first) * canvas.width + x
 
@@ -40,7 +40,7 @@ made_of colours width first rows = record { width = width; first = first; rows =
 abbrev pub unwritten : ℕ → ℕ → ℕ → Colour → CanvasState
 unwritten width first rows colour = made_of (replicate (rows * width) colour) width first rows
 
--- a canvas that shows one colour on other rows, and else is what it was
+-- a canvas after it was reset to other rows in one colour
 abbrev pub shown_again : ℕ → ℕ → Colour → CanvasState → CanvasState
 shown_again first rows colour canvas = record {
   width = canvas.width;

@@ -1,4 +1,4 @@
--- The names of what hinders an image from being read.
+-- The names of errors on reading an image.
 use Rattle.std.specs.Prelude.{ℕ, List, codes}
 use Rattle.canvas.specs.declared.canvas_error.ImageError.{ImageError}
 use Rattle.canvas.specs.declared.canvas_error.ImageError.TheVariants.{BadImage, OutOfMemory}

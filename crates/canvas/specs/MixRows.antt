@@ -4,6 +4,7 @@ use Rattle.mapping.specs.Colours.{black_colour, white_colour}
 use Rattle.mapping.specs.declared.geometry.Colour.{Colour}
 use Rattle.mapping.specs.declared.mix.Mix.{Mix}
 
--- the mix at this place of a row, by a row of what they keep and one of what they flip; where there is none, all is kept and nothing flipped
+-- the mix at an index of a row, from a row of bits to keep and a row of bits to flip; if there is none, everything is
+-- kept and nothing flipped
 abbrev pub mix_at : List Colour → List Colour → ℕ → Mix
 mix_at keeps flips place = record { keep = slice_index_or keeps place white_colour; flip = slice_index_or flips place black_colour }

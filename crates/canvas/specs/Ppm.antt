@@ -6,7 +6,7 @@ use Rattle.mapping.specs.declared.geometry.Colour.{Colour}
 use Rattle.mapping.specs.Image.{Image}
 use Rattle.canvas.specs.CanvasState.{CanvasState}
 
--- the magic number, the two sides in decimal digits, and the greatest value of a sample
+-- the magic number, the width and height in decimal digits, and the greatest sample value
 abbrev pub header : ℕ → ℕ → List ℕ
 header width height = codes "P6\n" ++ decimal width ++ codes " " ++ decimal height ++ codes "\n255\n"
 
@@ -18,17 +18,17 @@ pixel_bytes colour = colour.r ∷ colour.g ∷ colour.b ∷ []
 abbrev pub raster : List Colour → List ℕ
 raster colours = flat_map pixel_bytes colours
 
--- the P6 text of an image: the header, and then the raster row by row
+-- the P6 text of an image: the header, followed by the raster row by row
 abbrev pub ppm_text : Image → List ℕ
 ppm_text image = header image.width image.height ++ raster image.colours
 
--- what is ready at the start of a piece, and then the raster of the rows held
+-- the bytes at the start of a piece, followed by the raster of the canvas's rows
 abbrev pub rest : ℕ → List ℕ → CanvasState → List ℕ
 rest ready piece canvas = take ready piece ++ raster canvas.colours
 
--- known bytes grow by a front of the text
-pub record AppendsFront (old new : Option (List ℕ)) (text : List ℕ) : Type 0 where
+-- a prefix of the text was appended to the known bytes
+pub record AppendsPrefix (old new : Option (List ℕ)) (text : List ℕ) : Type 0 where
   pub sent : List ℕ
   pub unsent : List ℕ
-  pub front : text ≡ sent ++ unsent
+  pub prefix : text ≡ sent ++ unsent
   pub appended : Appends old new sent

@@ -1,4 +1,4 @@
--- What reading a P6 text and writing one have to do with each other.
+-- Reading and writing P6 texts.
 use Rattle.std.specs.Prelude.{◌≡◌, ◌↔◌, ℕ, ◌*◌, List, length, Some}
 use Rattle.mapping.specs.Image.{Image}
 use Rattle.mapping.specs.Limits.{IsSurfaceSide}
@@ -11,8 +11,8 @@ pub record IsSurfaceImage (image : Image) : Type 0 where
   pub high : IsSurfaceSide image.height
   pub whole : length image.colours ≡ image.height * image.width
 
--- What is read is the image that the text says, and nothing else is; and the text that is written for an image is read
--- as that image.
+-- Reading returns exactly the image that the text describes, and the text that is written for an image is read as that
+-- image.
 pub record PpmLaws : Type 0 where
   pub reads : (text : List ℕ) (image : Image) → read_ppm text ≡ Some image ↔ IsPpm text image
   pub reads_back : (image : Image) → IsSurfaceImage image → read_ppm (ppm_text image) ≡ Some image

@@ -1,14 +1,14 @@
--- A text on its way to a writer: what was sent is a front of it, and the rest is left.
+-- A text that is being sent to a writer: a prefix of it was sent, and the rest remains.
 use Rattle.std.specs.Prelude.{◌≡◌, ℕ, List, [], ◌++◌, Option, Some, None}
 use Rattle.std.specs.Io.KnownBytes.{Appends, Keeps}
 use Rattle.std.proofs.Common.{refl, sym, ◌∙◌, ap, subst}
 use Rattle.std.proofs.lemmas.List.{append_assoc, append-nil}
-use Rattle.canvas.specs.Ppm.{AppendsFront}
+use Rattle.canvas.specs.Ppm.{AppendsPrefix}
 
--- known bytes grow by a front of the text, and the rest of it is left
+-- a prefix of the text was appended to the known bytes, and the rest of it remains
 pub record Sending (old new : Option (List ℕ)) (text rest : List ℕ) : Type 0 where
   pub sent : List ℕ
-  pub front : text ≡ sent ++ rest
+  pub prefix : text ≡ sent ++ rest
   pub appended : Appends old new sent
 
 -- nothing was sent yet
@@ -17,7 +17,7 @@ Appends-nil None = tt
 Appends-nil (Some xs) = sym (append-nil xs)
 
 pub sending_none : (known : Option (List ℕ)) (text : List ℕ) → Sending known known text text
-sending_none known text = record { sent = []; front = refl; appended = Appends-nil known }
+sending_none known text = record { sent = []; prefix = refl; appended = Appends-nil known }
 
 -- one thing after another
 Appends-append : (old mid new : Option (List ℕ)) (first second : List ℕ) → Appends old mid first → Appends mid new second → Appends old new (first ++ second)
@@ -32,40 +32,40 @@ Appends-keeps (Some xs) None new first p q = absurd p
 Appends-keeps (Some xs) (Some ys) None first p q = absurd q
 Appends-keeps (Some xs) (Some ys) (Some zs) first p q = q ∙ p
 
--- a writer took the first bytes of the rest
+-- a writer accepted the first bytes of the rest
 pub sending_more : {old mid new : Option (List ℕ)} {text rest : List ℕ} (next left : List ℕ) → Sending old mid text rest → rest ≡ next ++ left → Appends mid new next → Sending old new text left
 sending_more {old} {mid} {new} next left s e a = record {
   sent = s.sent ++ next;
-  front = s.front ∙ ap (λ r. s.sent ++ r) e ∙ sym (append_assoc s.sent next left);
+  prefix = s.prefix ∙ ap (λ r. s.sent ++ r) e ∙ sym (append_assoc s.sent next left);
   appended = Appends-append old mid new s.sent next s.appended a;
 }
 
--- a writer took nothing
+-- a writer accepted nothing
 pub sending_kept : {old mid new : Option (List ℕ)} {text rest : List ℕ} → Sending old mid text rest → Keeps mid new → Sending old new text rest
-sending_kept {old} {mid} {new} s k = record { sent = s.sent; front = s.front; appended = Appends-keeps old mid new s.sent s.appended k }
+sending_kept {old} {mid} {new} s k = record { sent = s.sent; prefix = s.prefix; appended = Appends-keeps old mid new s.sent s.appended k }
 
--- nothing is left
+-- nothing remains
 pub sending_all : {old new : Option (List ℕ)} {text : List ℕ} → Sending old new text [] → Appends old new text
-sending_all {old} {new} {text} s = subst (λ (t : List ℕ). Appends old new t) (sym (s.front ∙ append-nil s.sent)) s.appended
+sending_all {old} {new} {text} s = subst (λ (t : List ℕ). Appends old new t) (sym (s.prefix ∙ append-nil s.sent)) s.appended
 
--- what was sent is a front
-pub sending_front : {old new : Option (List ℕ)} {text rest : List ℕ} → Sending old new text rest → AppendsFront old new text
-sending_front {rest = rest} s = record { sent = s.sent; unsent = rest; front = s.front; appended = s.appended }
+-- what was sent is a prefix
+pub sending_prefix : {old new : Option (List ℕ)} {text rest : List ℕ} → Sending old new text rest → AppendsPrefix old new text
+sending_prefix {rest = rest} s = record { sent = s.sent; unsent = rest; prefix = s.prefix; appended = s.appended }
 
--- a front of the rest was sent on top of what was sent
-pub sending_front_more : {old mid new : Option (List ℕ)} {text rest : List ℕ} (next left : List ℕ) → Sending old mid text rest → rest ≡ next ++ left → AppendsFront mid new next → AppendsFront old new text
-sending_front_more {old} {mid} {new} {text} next left s e f = sending_front (sending_more f.sent (f.unsent ++ left) s (e ∙ ap (λ n. n ++ left) f.front ∙ append_assoc f.sent f.unsent left) f.appended)
+-- a prefix of the rest was sent after what was sent
+pub sending_prefix_more : {old mid new : Option (List ℕ)} {text rest : List ℕ} (next left : List ℕ) → Sending old mid text rest → rest ≡ next ++ left → AppendsPrefix mid new next → AppendsPrefix old new text
+sending_prefix_more {old} {mid} {new} {text} next left s e f = sending_prefix (sending_more f.sent (f.unsent ++ left) s (e ∙ ap (λ n. n ++ left) f.prefix ∙ append_assoc f.sent f.unsent left) f.appended)
 
--- all of a text was sent, and no more is left of it
+-- all of a text was sent, and nothing of it remains
 pub sending_whole : {old new : Option (List ℕ)} {text : List ℕ} → Appends old new text → Sending old new text []
-sending_whole {text = text} a = record { sent = text; front = sym (append-nil text); appended = a }
+sending_whole {text = text} a = record { sent = text; prefix = sym (append-nil text); appended = a }
 
 -- a part of what was to be sent next was sent
 pub sending_part : {old mid new : Option (List ℕ)} {text page kept : List ℕ} (left : List ℕ) → Sending old mid text (page ++ left) → Sending mid new page kept → Sending old new text (kept ++ left)
 sending_part {kept = kept} left s part =
-    sending_more part.sent (kept ++ left) s (ap (λ p. p ++ left) part.front ∙ append_assoc part.sent kept left) part.appended
+    sending_more part.sent (kept ++ left) s (ap (λ p. p ++ left) part.prefix ∙ append_assoc part.sent kept left) part.appended
 
--- what is left is the same
+-- the same remains
 pub sending_same : {old new : Option (List ℕ)} {text rest other : List ℕ} → Sending old new text rest → rest ≡ other → Sending old new text other
 sending_same {old} {new} {text} s same = subst (λ (r : List ℕ). Sending old new text r) same s
 
@@ -73,6 +73,6 @@ sending_same {old} {new} {text} s same = subst (λ (r : List ℕ). Sending old n
 pub sending_rest : {old mid : Option (List ℕ)} {text rest : List ℕ} (new : Option (List ℕ)) → Sending old mid text rest → Appends mid new rest → Appends old new text
 sending_rest {rest = rest} new s a = sending_all (sending_more {new = new} rest [] s (sym (append-nil rest)) a)
 
--- a front of the rest was sent
-pub sending_rest_front : {old mid new : Option (List ℕ)} {text rest : List ℕ} → Sending old mid text rest → AppendsFront mid new rest → AppendsFront old new text
-sending_rest_front {rest = rest} s f = sending_front_more rest [] s (sym (append-nil rest)) f
+-- a prefix of the rest was sent
+pub sending_rest_prefix : {old mid new : Option (List ℕ)} {text rest : List ℕ} → Sending old mid text rest → AppendsPrefix mid new rest → AppendsPrefix old new text
+sending_rest_prefix {rest = rest} s f = sending_prefix_more rest [] s (sym (append-nil rest)) f

@@ -1,29 +1,29 @@
--- How calls that write are put together.
+-- How writes are combined.
 use Rattle.std.specs.Prelude.{◌≡◌, ℕ, ◌+◌, ◌-◌, ◌*◌, ◌≤◌, Bool, true, false, ◌&&◌, ◌||◌, length}
 use Rattle.mapping.specs.declared.geometry.Colour.{Colour}
 use Rattle.canvas.specs.CanvasState.{CanvasState, HasPixel, HasRow}
 use Rattle.canvas.specs.Writing.{Repaints, in_row_span}
 
--- a canvas has columns, and a colour for each pixel held
+-- a canvas has columns, and a colour for each of its pixels
 pub record IsWhole (canvas : CanvasState) : Type 0 where
   pub wide : 1 ≤ canvas.width
   pub whole : length canvas.colours ≡ canvas.rows * canvas.width
 
--- no pixel held passes the test
+-- no pixel of the canvas passes the test
 abbrev pub PassesNone : CanvasState → (ℕ → ℕ → Bool) → Type 0
 PassesNone canvas test = (x y : ℕ) → HasPixel canvas x y → test x y ≡ false
 
--- two tests agree on each pixel held
+-- two tests agree on each pixel of the canvas
 abbrev pub SameTest : CanvasState → (ℕ → ℕ → Bool) → (ℕ → ℕ → Bool) → Type 0
 SameTest canvas t u = (x y : ℕ) → HasPixel canvas x y → t x y ≡ u x y
 
--- two functions make the same of each pixel held that passes the test
+-- two functions give the same for each pixel of the canvas that passes the test
 abbrev pub SameWhere : CanvasState → (ℕ → ℕ → Bool) → (f g : ℕ → ℕ → Colour → Colour) → Type 0
 SameWhere canvas test f g = (x y : ℕ) (old : Colour) → HasPixel canvas x y → test x y ≡ true → f x y old ≡ g x y old
 
--- Where no pixel passes nothing is done. What is written goes by the pixels held alone. Two writes that share no
--- pixel are one, a span is counted once a column, each pixel is counted at most once a write, and a canvas stays
--- whole.
+-- If no pixel passes the test, nothing changes. What is written depends only on the pixels of the canvas. Two writes
+-- that share no pixel are one write, a span counts once per column, each pixel counts at most once per write, and a
+-- canvas stays whole.
 pub record WritingLaws : Type 0 where
   pub none :
       (t : ℕ → ℕ → Bool) (f : ℕ → ℕ → Colour → Colour) (canvas : CanvasState) → IsWhole canvas

@@ -1,9 +1,9 @@
-//! What can go wrong outside a canvas: the system refuses memory, a writer fails, or a text is no image.
+//! Errors outside a canvas: an allocation fails, a writer fails, or a text isn't an image.
 
 use std::error::Error;
 use std::fmt;
 
-/// Memory for the colours was refused.
+/// Memory for the colours couldn't be allocated.
 #[derive(Clone, Copy, Debug, PartialEq, Eq)]
 pub struct OutOfMemory;
 
@@ -20,7 +20,7 @@ impl fmt::Display for OutOfMemory {
 
 impl Error for OutOfMemory {}
 
-/// The writer failed, or took no byte of what it was given.
+/// The writer failed, or accepted none of the bytes that it was given.
 #[derive(Clone, Copy, Debug, PartialEq, Eq)]
 pub struct WriteFault;
 
@@ -37,12 +37,12 @@ impl fmt::Display for WriteFault {
 
 impl Error for WriteFault {}
 
-/// An image can't be read: the text says none, or memory for its colours was refused.
+/// An image can't be read: the text isn't an image, or memory for its colours couldn't be allocated.
 #[derive(Clone, Copy, Debug, PartialEq, Eq)]
 pub enum ImageError {
-    /// The text isn't a P6 text, or its image is none that a canvas can have.
+    /// The text isn't a P6 text, or a canvas can't have its image.
     BadImage,
-    /// Memory was refused.
+    /// An allocation failed.
     OutOfMemory,
 }
 

@@ -1,4 +1,4 @@
-//! Writers that count how often they failed.
+//! Writers that count their failures.
 
 ghost use Rattle.std.specs.Prelude.{◌≡◌, ℕ, Bool, false, ◌-◌, ◌^◌, ◌<◌};
 ghost use Rattle.std.specs.Io.{WritesAtMost};
@@ -8,35 +8,35 @@ ghost use Rattle.canvas.specs.Faults.{CountsFault, CountsFlush, flushed_by_flush
 use std::io;
 use std::io::Write;
 
-/// A writer that counts its faults: the calls that failed, and those that took no byte of some. So what writes to it
-/// can be shown to tell a fault only where there was one.
+/// A writer that counts its faults: the calls that failed, and those that accepted none of some bytes. This lets code
+/// that uses it prove that it reports a fault only if there was one.
 pub trait FaultCount: Write {
     ghost fault_count: { Self → ℕ };
 
-    /// True only where a flush succeeded and no byte was taken after it.
+    /// True only if a flush succeeded and no byte was accepted after it.
     ghost is_flushed: { Self → Bool };
 
-    /// How many faults there were.
+    /// The number of faults.
     fn faults(&self) -> u64
         ensures { result ≡ fault_count self.now };
 
-    /// Writes some of the bytes and tells how many, as `write` does, and counts a fault.
+    /// Writes some of the bytes and returns how many, as `write` does, and counts a fault.
     fn write_counted(&mut self, buf: &[u8]) -> io::Result<usize>
-        requires room { fault_count self.old < 2 ^ 64 - 1 }
+        requires capacity { fault_count self.old < 2 ^ 64 - 1 }
         ensures bound { WritesAtMost result buf.now }
         ensures bytes { WriteAppends (Self.contents self.old) (Self.contents self.new) result buf.now }
         ensures count { CountsFault (fault_count self.old) (fault_count self.new) result buf.now }
         ensures flushed { is_flushed self.new ≡ flushed_by_write (is_flushed self.old) result };
 
-    /// Passes on what it holds back, as `flush` does, and counts a failure.
+    /// Flushes the writer, as `flush` does, and counts a failure.
     fn flush_counted(&mut self) -> io::Result<()>
-        requires room { fault_count self.old < 2 ^ 64 - 1 }
+        requires capacity { fault_count self.old < 2 ^ 64 - 1 }
         ensures bytes { Keeps (Self.contents self.old) (Self.contents self.new) }
         ensures count { CountsFlush (fault_count self.old) (fault_count self.new) result }
         ensures flushed { is_flushed self.new ≡ flushed_by_flush (is_flushed self.old) result };
 }
 
-/// Any writer, with a count of its faults. Bytes written by `write` go to it as they are, and aren't looked at.
+/// Any writer, with a count of its faults. Bytes that are written by `write` are passed to it unchanged.
 #[derive(Drop)]
 pub struct Counting<W> {
     writer: W,
@@ -45,7 +45,7 @@ pub struct Counting<W> {
 }
 
 impl<W: Write + Drop> Counting<W> {
-    /// The writer, whose faults are counted from now on.
+    /// Counts the faults of this writer from now on.
     pub fn new(writer: W) -> Counting<W>
         ensures contents { ⟦<Counting<W> as Write>⟧.contents result ≡ W.contents writer }
         ensures count { ⟦<Counting<W> as FaultCount>⟧.fault_count result ≡ 0 }

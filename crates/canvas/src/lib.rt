@@ -2,30 +2,31 @@
 //!
 //! # What is promised
 //!
-//! - A new canvas shows one colour and counts no write (`Canvas::new`, and `Canvas::band` for a band of rows).
-//! - A canvas can be shown again on other rows, in one colour: it keeps its count and takes no memory (`Canvas::again`).
-//! - A write changes the pixel that it names and no other, and is counted once (`Canvas::put`).
-//! - A call that writes a part of a row writes the pixels of the row that it names, each with the colour that
-//!   it says, leaves every other pixel as it is and counts each write (`Canvas::put_span`, `put_swatch`, `put_pattern`,
-//!   `put_row`, `mix_span`, `mix_row`, `mix_cells`, `mix`, by `Repaints`).
-//! - Pixels that a source gives one after another, none twice, are written in one colour, or changed by one mix, each
+//! - A new canvas shows one colour and has counted no writes (`Canvas::new`, and `Canvas::band` for a band of rows).
+//! - A canvas can be reset to other rows in one colour. It keeps its count and allocates no memory (`Canvas::again`).
+//! - A write changes the named pixel and no other, and is counted once (`Canvas::put`).
+//! - A call that writes a part of a row writes the named pixels, each in its colour, changes no other pixel and counts
+//!   each write (`Canvas::put_span`, `put_swatch`, `put_pattern`, `put_row`, `mix_span`, `mix_row`, `mix_cells`, `mix`,
+//!   by `Repaints`).
+//! - Pixels that a source returns one by one, none twice, are written in one colour or changed by one mix, and each is
 //!   counted once (`Canvas::put_each`, `Canvas::mix_each`, `PixelSource`).
-//! - The same is true of the pixels of spans of rows that a source gives one after another, no pixel in two of them
+//! - The same holds for the pixels of row spans that a source returns one by one, with no pixel in two of them
 //!   (`Canvas::put_each_span`, `Canvas::mix_each_span`, `SpanSource`).
-//! - Writes that share no pixel are put together as one (`writing_law`).
-//! - What is written out is the P6 text of the image, byte for byte, and after a failure a front of
-//!   that text (`Canvas::write_ppm`, by `ppm_text`). Header and rows can be written apart (`write_header`,
-//!   `Canvas::write_rows`), and the text of an image is its header and then the rasters of its bands (`band_law`).
-//! - What is read from a P6 text is exactly the image that the text says, and it is refused exactly where it says
-//!   none (`Canvas::from_ppm`, by `read_ppm`); the text that is written for an image reads back as that image (`ppm_law`).
-//! - Bytes are sent whole, or a front of them, whatever the writer takes a call (`send`).
-//! - Over a writer that counts its faults, a `WriteFault` comes only where the count rose in that call, and so never over
-//!   one that never failed (`send_counted`, `write_header_to`, `Canvas::write_ppm_to`, `Canvas::write_rows_to`, `flush_sent`);
-//!   `Counting` makes such a writer of any other. A text that such a writer took whole was flushed, and nothing was written
-//!   after that (`send_finished`).
+//! - Writes that share no pixel can be combined into one (`writing_law`).
+//! - The output is the P6 text of the image, byte for byte, and after a failure a prefix of that text
+//!   (`Canvas::write_ppm`, by `ppm_text`). Header and rows can be written separately (`write_header`,
+//!   `Canvas::write_rows`), and the text of an image is its header followed by the rasters of its bands (`band_law`).
+//! - Reading a P6 text returns exactly the image that the text describes, and fails exactly if it describes none
+//!   (`Canvas::from_ppm`, by `read_ppm`). The text that is written for an image is read back as that image (`ppm_law`).
+//! - All bytes are sent, or a prefix of them if the writer fails, however many the writer accepts per call (`send`).
+//! - With a writer that counts its faults, `WriteFault` is returned only if that count rose in the call, and so never
+//!   if the writer didn't fail (`send_counted`, `write_header_to`, `Canvas::write_ppm_to`, `Canvas::write_rows_to`,
+//!   `flush_sent`). `Counting` makes such a writer from any other. A text that such a writer accepted in full was
+//!   flushed, and nothing was written after that (`send_finished`).
 //!
-//! Memory, three bytes a pixel with what lies between rows, is taken when a canvas is made. No other call takes any: no
-//! contract says that but by the room that a canvas has, and a test over the built program counts its calls for memory.
+//! Memory is allocated when a canvas is made: three bytes per pixel, and the padding between rows. No other call
+//! allocates any. The contracts say this only through the canvas's capacity, but a test counts the allocations of the
+//! built program.
 #![tactic(auto)]
 
 mod canvas_error;
@@ -41,8 +42,8 @@ mod ppm_counted;
 mod reading;
 mod sending;
 mod span_source;
+mod splat;
 mod surface;
-mod swatch;
 mod writing;
 
 pub use canvas_error::{ImageError, OutOfMemory, WriteFault};
@@ -54,5 +55,5 @@ pub use ppm::write_header;
 pub use ppm_counted::write_header_to;
 pub use sending::send;
 pub use span_source::{RowSpan, SpanSource};
+pub use splat::Splat;
 pub use surface::Canvas;
-pub use swatch::Swatch;

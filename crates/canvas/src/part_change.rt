@@ -1,4 +1,4 @@
-//! What a write makes of the colours of a part of a row.
+//! Changes to the colours of a part of a row.
 
 ghost use Rattle.std.specs.Prelude.{◌≡◌, ℕ, length, slice_index_or};
 ghost use Rattle.mapping.specs.declared.geometry.Colour.{Colour};
@@ -6,12 +6,12 @@ ghost use Rattle.mapping.specs.Mixes.{mixed_by};
 ghost use Rattle.canvas.specs.PartsMade.{EachIs};
 
 use crate::parts::{fill_with, mix_all};
-use crate::swatch::Swatch;
+use crate::splat::Splat;
 use mapping::{Colour, Mix};
 
-/// What becomes of the pixels of a part of a row that is written.
+/// A change to the pixels of a part of a row.
 pub(crate) trait PartChange {
-    /// The new colour of a pixel, by its old one.
+    /// The new colour of a pixel, from its old one.
     ghost made: { Self → Colour → Colour };
 
     /// Changes each colour of the part.
@@ -20,8 +20,8 @@ pub(crate) trait PartChange {
 }
 
 /// The swatch's colour replaces every other.
-impl PartChange for Swatch {
-    ghost made = { λ swatch old. swatch.colour };
+impl PartChange for Splat {
+    ghost made = { λ splat old. splat.colour };
 
     fn change(&self, part: &mut [Colour]) {
         fill_with(part, self);

@@ -1,4 +1,4 @@
-//! What is done to the colours of a part of a row.
+//! Filling and changing the colours of a part of a row.
 
 ghost use Rattle.std.specs.Prelude.{◌≡◌, ℕ, ◌+◌, ◌-◌, ◌%◌, ◌<◌, ◌≤◌, ◌==◌, length, slice_index_or, if◌then◌else◌};
 ghost use Rattle.std.specs.Int.{bit_at};
@@ -8,14 +8,14 @@ ghost use Rattle.mapping.specs.Pixels.{count_indexes, is_cell};
 ghost use Rattle.canvas.specs.MixRows.{mix_at};
 ghost use Rattle.canvas.specs.PartsMade.{EachIs, EachMixed, MixedWhere};
 
-use crate::swatch::Swatch;
+use crate::splat::Splat;
 use mapping::{Colour, Mix};
 
-/// How many colours repeat.
+/// The number of repeating colours.
 const PERIOD: usize = 8;
 
-/// Fills the part, whose first colour stands in this column, with the colours of the pattern, each at its
-/// column modulo 8. From the column on where the pattern begins it goes in as it is: a pattern that was turned first would be waited for.
+/// Fills the part, whose first colour is in this column, with the colours of the pattern, each at its column modulo 8.
+/// From the column where the pattern begins it is copied unchanged: rotating the pattern first would cause a stall.
 pub(crate) fn fill_with_pattern(part: &mut [Colour], column: u32, pattern: &[Colour; 8])
     ensures { EachIs (length part.old) part.new (λ k any. slice_index_or pattern.now ((column + k) % 8) any) }
 {
@@ -24,12 +24,12 @@ pub(crate) fn fill_with_pattern(part: &mut [Colour], column: u32, pattern: &[Col
     repeat(&mut part[first..], pattern);
 }
 
-/// How many columns there are from this one to the next in which the pattern begins.
+/// The number of columns from this one to the next where the pattern begins.
 fn columns_to_next(column: u32) -> usize
     ensures few { result < 8 }
     ensures begins { (column + result) % 8 ≡ 0 }
 {
-    (PERIOD - turned(column, 0)) & 7
+    (PERIOD - rotated(column, 0)) & 7
 }
 
 /// The same as `fill_with_pattern` for at most 8 colours.
@@ -38,24 +38,24 @@ fn fill_few(part: &mut [Colour], column: u32, pattern: &[Colour; 8])
     ensures { EachIs (length part.old) part.new (λ k any. slice_index_or pattern.now ((column + k) % 8) any) }
 {
     for k in 0..part.len() {
-        part[k] = pattern[turned(column, k)];
+        part[k] = pattern[rotated(column, k)];
     }
 }
 
-/// Fills the part with one colour: by copies of eight, the last of which goes to its end, wherever it begins.
-pub(crate) fn fill_with(part: &mut [Colour], swatch: &Swatch)
-    ensures { EachIs (length part.old) part.new (λ k any. swatch.now.colour) }
+/// Fills the part with one colour, by copies of eight. The last copy is aligned to the end of the part.
+pub(crate) fn fill_with(part: &mut [Colour], splat: &Splat)
+    ensures { EachIs (length part.old) part.new (λ k any. splat.now.colour) }
 {
     if part.len() < PERIOD {
-        put_few(part, swatch.colour);
+        put_few(part, splat.colour);
         return;
     }
-    repeat_whole(part, &swatch.eight);
+    repeat_whole(part, &splat.eight);
     let last = part.len() - PERIOD;
-    copy_at(part, last, &swatch.eight);
+    copy_at(part, last, &splat.eight);
 }
 
-/// Gives each of a few colours this one.
+/// Sets a few colours to this one.
 fn put_few(part: &mut [Colour], colour: Colour)
     ensures { EachIs (length part.old) part.new (λ k any. colour) }
 {
@@ -64,8 +64,8 @@ fn put_few(part: &mut [Colour], colour: Colour)
     }
 }
 
-/// Fills the part with these eight colours, again and again. All but the last few go in by copies of eight,
-/// whose size the compiler knows, which is cheaper than a colour at a time and than copies of any size.
+/// Fills the part with these eight colours, repeatedly. All but the last few are copied eight at a time: the compiler
+/// knows that size, which is faster than single colours or copies of other sizes.
 fn repeat(part: &mut [Colour], colours: &[Colour; 8])
     ensures { EachIs (length part.old) part.new (λ k any. slice_index_or colours.now (k % 8) any) }
 {
@@ -75,7 +75,7 @@ fn repeat(part: &mut [Colour], colours: &[Colour; 8])
     }
 }
 
-/// Fills as much of the part as whole copies of the colours take, and tells how many that is.
+/// Fills the part with whole copies of the colours, and returns how many colours were filled.
 fn repeat_whole(part: &mut [Colour], colours: &[Colour; 8]) -> usize
     ensures within { result ≤ length part.old }
     ensures all_but_few { length part.old < result + 8 }
@@ -89,12 +89,12 @@ fn repeat_whole(part: &mut [Colour], colours: &[Colour; 8]) -> usize
     filled
 }
 
-/// Copies the colours to this place of the part.
+/// Copies the colours to this index of the part.
 fn copy_at(part: &mut [Colour], at: usize, colours: &[Colour; 8])
     requires { at + 8 ≤ length part.old }
     ensures before { (k : ℕ) (d : Colour) → k < at → slice_index_or part.new k d ≡ slice_index_or part.old k d }
     ensures here { (k : ℕ) (d : Colour) → k < 8 → slice_index_or part.new (at + k) d ≡ slice_index_or colours.now k d }
-    ensures behind { (k : ℕ) (d : Colour) → at + 8 ≤ k → slice_index_or part.new k d ≡ slice_index_or part.old k d }
+    ensures after { (k : ℕ) (d : Colour) → at + 8 ≤ k → slice_index_or part.new k d ≡ slice_index_or part.old k d }
 {
     part[at..at + PERIOD].copy_from_slice(colours);
 }
@@ -108,9 +108,9 @@ pub(crate) fn mix_all(part: &mut [Colour], mix: Mix)
     }
 }
 
-/// Changes each colour by the mix at its place, of what is kept and what is flipped. All but the last few go by eights, whose size the compiler
-/// knows and which are read before any is written: it then mixes many at once, in a third of the time that a
-/// colour at a time takes.
+/// Changes each colour by the mix at its index, made of the bits to keep and the bits to flip. All but the last few are
+/// handled eight at a time: the compiler knows that size, and all eight are read before any is written, so it uses
+/// vector instructions. This takes a third of the time of one colour at a time.
 pub(crate) fn mix_all_by(part: &mut [Colour], keeps: &[Colour], flips: &[Colour])
     requires keeps { length keeps.now ≡ length part.old }
     requires flips { length flips.now ≡ length part.old }
@@ -123,8 +123,7 @@ pub(crate) fn mix_all_by(part: &mut [Colour], keeps: &[Colour], flips: &[Colour]
     }
 }
 
-/// Changes as many of the colours as whole eights take, each by the mix at its place, and tells how many
-/// that is.
+/// Changes whole groups of eight colours, each by the mix at its index, and returns how many colours were changed.
 fn mix_eights(part: &mut [Colour], keeps: &[Colour], flips: &[Colour]) -> usize
     requires keeps { length keeps.now ≡ length part.old }
     requires flips { length flips.now ≡ length part.old }
@@ -141,7 +140,7 @@ fn mix_eights(part: &mut [Colour], keeps: &[Colour], flips: &[Colour]) -> usize
     done
 }
 
-/// What the mixes make of the eight colours at this place.
+/// The results of the mixes on the eight colours at this index.
 fn mixed_eight(part: &[Colour], keeps: &[Colour], flips: &[Colour], at: usize) -> [Colour; 8]
     requires colours { at + 8 ≤ length part.now }
     requires keeps { at + 8 ≤ length keeps.now }
@@ -156,8 +155,8 @@ fn mixed_eight(part: &[Colour], keeps: &[Colour], flips: &[Colour], at: usize) -
     colours
 }
 
-/// Changes the colours by the mix whose column has its bit set in `cells`, and tells how many they are. The
-/// part's first colour stands in this column.
+/// Mixes the colours whose column has its bit set in `cells`, and returns how many there are. The part's first colour
+/// is in this column.
 pub(crate) fn mix_cells_of(part: &mut [Colour], column: u32, cells: u8, mix: Mix) -> usize
     ensures colours { MixedWhere (λ k. is_cell cells (column + k)) mix part.old part.new }
     ensures count { result ≡ count_indexes (λ k. is_cell cells (column + k)) 0 (length part.old) }
@@ -165,14 +164,14 @@ pub(crate) fn mix_cells_of(part: &mut [Colour], column: u32, cells: u8, mix: Mix
 {
     let mut count = 0;
     for offset in 0..PERIOD {
-        if has_bit(cells, turned(column, offset)) {
+        if has_bit(cells, rotated(column, offset)) {
             count += mix_each_eighth(part, offset, mix);
         }
     }
     count
 }
 
-/// Changes each eighth colour by the mix, from this one on, and tells how many they are.
+/// Mixes every eighth colour, from this one on, and returns how many there are.
 fn mix_each_eighth(part: &mut [Colour], offset: usize, mix: Mix) -> usize
     requires { offset < 8 }
     ensures colours { MixedWhere (λ k. k % 8 == offset) mix part.old part.new }
@@ -186,8 +185,8 @@ fn mix_each_eighth(part: &mut [Colour], offset: usize, mix: Mix) -> usize
     (part.len() + 7 - offset) / PERIOD
 }
 
-/// The place in a pattern of the column so many behind this one.
-fn turned(column: u32, offset: usize) -> usize
+/// The index in a pattern of the column this far after another.
+fn rotated(column: u32, offset: usize) -> usize
     requires { offset < 8 }
     ensures place { result ≡ (column + offset) % 8 }
     ensures below { result < 8 }

@@ -1,4 +1,4 @@
-//! What a write makes of a pixel's old colour.
+//! Changes to a pixel's colour.
 
 ghost use Rattle.std.specs.Prelude.{◌≡◌};
 ghost use Rattle.mapping.specs.declared.geometry.Colour.{Colour};
@@ -6,12 +6,12 @@ ghost use Rattle.mapping.specs.Mixes.{mixed_by};
 
 use mapping::{Colour, Mix};
 
-/// What becomes of a pixel that is written.
+/// A change to a pixel.
 pub(crate) trait PixelChange: Copy {
-    /// The new colour, by the old one.
+    /// The new colour, from the old one.
     ghost made: { Self → Colour → Colour };
 
-    /// The new colour of a pixel that has this one.
+    /// The new colour of a pixel with this old one.
     fn of(self, old: Colour) -> Colour
         ensures { result ≡ made self old };
 }

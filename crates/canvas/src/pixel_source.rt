@@ -1,4 +1,4 @@
-//! Pixels that a source gives one after another, and that are written.
+//! Writing pixels that a source returns one by one.
 
 ghost use Rattle.std.specs.Prelude.{◌≡◌, ◌+◌, ◌*◌, ◌<◌, ◌^◌, ℕ, Bool, true};
 ghost use Rattle.mapping.specs.Mixes.{mixed_by};
@@ -17,25 +17,25 @@ pub struct PixelAt {
     pub y: u32,
 }
 
-/// Pixels of a surface, one after another and none twice.
+/// Pixels of a surface, one by one and none twice.
 pub trait PixelSource {
-    /// Whether a pixel is to come.
+    /// Whether a pixel remains.
     ghost to_come: { Self → ℕ → ℕ → Bool };
 
-    /// A number that each pixel makes less.
+    /// A number that decreases with each pixel.
     ghost measure: { Self → ℕ };
 
-    /// What a source is, once it has given all its pixels.
+    /// What a source is after it has returned all its pixels.
     ghost ends_as: { Self → Self → Type 0 };
 
-    /// The next pixel, or none behind the last.
+    /// The next pixel, or `None` after the last one.
     fn next_pixel(&mut self) -> Option<PixelAt>
         ensures pixel { GivesNext (to_come self.old) (measure self.old) result (to_come self.new) (measure self.new) }
         ensures end { KeepsEnd ends_as result self.old self.new };
 }
 
 impl Canvas {
-    /// Writes the pixels that a source gives in one colour, each counted once.
+    /// Writes the pixels of a source in one colour, and counts each once.
     pub fn put_each<P: PixelSource>(&mut self, pixels: &mut P, colour: Colour)
         requires held { (x y : ℕ) → P.to_come pixels.old x y ≡ true → HasPixel self.old x y }
         requires countable { self.old.writes + self.old.rows * self.old.width + 1 < 2 ^ 64 }
@@ -45,7 +45,8 @@ impl Canvas {
         self.change_each(pixels, colour);
     }
 
-    /// Changes the pixels that a source gives by the mix, each counted once. Where the mix makes one colour of all, no colour is read.
+    /// Changes the pixels of a source by the mix, and counts each once. If the mix gives one colour for all old
+    /// colours, none is read.
     pub fn mix_each<P: PixelSource>(&mut self, pixels: &mut P, mix: Mix)
         requires held { (x y : ℕ) → P.to_come pixels.old x y ≡ true → HasPixel self.old x y }
         requires countable { self.old.writes + self.old.rows * self.old.width + 1 < 2 ^ 64 }
@@ -59,7 +60,7 @@ impl Canvas {
         }
     }
 
-    /// Makes of the pixels that a source gives what the change makes of them, each counted once.
+    /// Changes the pixels of a source, and counts each once.
     fn change_each<P: PixelSource, C: PixelChange>(&mut self, pixels: &mut P, change: C)
         requires held { (x y : ℕ) → P.to_come pixels.old x y ≡ true → HasPixel self.old x y }
         requires countable { self.old.writes + self.old.rows * self.old.width + 1 < 2 ^ 64 }
@@ -67,7 +68,7 @@ impl Canvas {
         ensures end { P.ends_as pixels.old pixels.new }
     {
         self.width();
-        // (the writes are counted here: a count in the canvas would go through memory for each pixel)
+        // (the writes are counted here: counting in the canvas would access memory for each pixel)
         let mut count: u64 = 0;
         while let Some(pixel) = pixels.next_pixel() {
             self.change(pixel.x, pixel.y, change);
@@ -76,7 +77,7 @@ impl Canvas {
         self.writes += count;
     }
 
-    /// Makes of the surface's pixel `(x, y)` what the change makes of it, and doesn't count it.
+    /// Changes the surface's pixel `(x, y)`, without counting it.
     pub(crate) fn change<C: PixelChange>(&mut self, x: u32, y: u32, change: C)
         requires { HasPixel self.old x y }
         ensures repaints { Repaints (is_at x y) (λ column row old. C.made change old) self.old (counted 1 self.new) }

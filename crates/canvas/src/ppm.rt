@@ -3,7 +3,7 @@
 ghost use Rattle.std.specs.Prelude.{◌≡◌, ◌+◌, ◌-◌, ◌*◌, ◌<◌, ◌≤◌, ◌++◌, length, take, drop, decimal, OnOk, OnErr};
 ghost use Rattle.std.specs.Io.KnownBytes.{Appends};
 ghost use Rattle.canvas.specs.CanvasState.{image_of};
-ghost use Rattle.canvas.specs.Ppm.{AppendsFront, header, ppm_text, raster, rest};
+ghost use Rattle.canvas.specs.Ppm.{AppendsPrefix, header, ppm_text, raster, rest};
 
 use crate::canvas_error::WriteFault;
 use crate::sending::send;
@@ -12,60 +12,60 @@ use itoa::Buffer;
 use mapping::Colour;
 use std::io::Write;
 
-/// How many pixels go into a piece. The first piece has the header as well.
+/// The number of pixels in a piece. The first piece also has the header.
 pub(crate) const PIECE_PIXELS: usize = 4096;
 
-/// Room for the longest header, 29 bytes: its two numbers have at most ten digits each.
-pub(crate) const HEADER_ROOM: usize = 32;
+/// The capacity for the longest header, 29 bytes: its two numbers have at most ten digits each.
+pub(crate) const HEADER_CAPACITY: usize = 32;
 
-/// Room for a piece, three bytes a pixel.
-pub(crate) const PIECE_ROOM: usize = HEADER_ROOM + 3 * PIECE_PIXELS;
+/// The capacity for a piece, with three bytes per pixel.
+pub(crate) const PIECE_CAPACITY: usize = HEADER_CAPACITY + 3 * PIECE_PIXELS;
 
-/// How many pixels are turned into bytes at once.
+/// The number of pixels that are converted to bytes at once.
 const GROUP_PIXELS: usize = 16;
 
-/// Writes the header of a P6 text (ppm(5)), for an image of these sides in pixels: the text of the image is this
-/// header, and then its rows. The writer isn't flushed. `WriteFault` where the writer failed or took no byte: then a
-/// front of the header was written.
+/// Writes the header of a P6 text (ppm(5)), for an image of this size in pixels. The text of the image is this header,
+/// followed by its rows. The writer isn't flushed. Returns `WriteFault` if the writer failed or accepted no byte; then
+/// a prefix of the header was written.
 pub fn write_header<W: Write>(out: &mut W, width: u32, height: u32) -> Result<(), WriteFault>
     ensures ok { OnOk result (Appends (W.contents out.old) (W.contents out.new) (header width height)) }
-    ensures err { OnErr result (AppendsFront (W.contents out.old) (W.contents out.new) (header width height)) }
+    ensures err { OnErr result (AppendsPrefix (W.contents out.old) (W.contents out.new) (header width height)) }
 {
-    let mut text = [0u8; HEADER_ROOM];
+    let mut text = [0u8; HEADER_CAPACITY];
     let length = put_header(&mut text, width, height);
     send(out, &text[..length])
 }
 
-/// Writes the P6 text of the rows held.
+/// Writes the P6 text of the canvas's rows.
 pub(crate) fn write_text<W: Write>(out: &mut W, canvas: &Canvas) -> Result<(), WriteFault>
     ensures ok { OnOk result (Appends (W.contents out.old) (W.contents out.new) (ppm_text (image_of canvas.now))) }
-    ensures err { OnErr result (AppendsFront (W.contents out.old) (W.contents out.new) (ppm_text (image_of canvas.now))) }
+    ensures err { OnErr result (AppendsPrefix (W.contents out.old) (W.contents out.new) (ppm_text (image_of canvas.now))) }
 {
-    let mut piece = [0u8; PIECE_ROOM];
+    let mut piece = [0u8; PIECE_CAPACITY];
     let ready = put_header(&mut piece, canvas.width(), canvas.rows());
     write_pieces(out, &mut piece, ready, canvas)
 }
 
-/// Writes the samples of the rows held.
+/// Writes the samples of the canvas's rows.
 pub(crate) fn write_raster<W: Write>(out: &mut W, canvas: &Canvas) -> Result<(), WriteFault>
     ensures ok { OnOk result (Appends (W.contents out.old) (W.contents out.new) (raster canvas.now.colours)) }
-    ensures err { OnErr result (AppendsFront (W.contents out.old) (W.contents out.new) (raster canvas.now.colours)) }
+    ensures err { OnErr result (AppendsPrefix (W.contents out.old) (W.contents out.new) (raster canvas.now.colours)) }
 {
-    let mut piece = [0u8; PIECE_ROOM];
+    let mut piece = [0u8; PIECE_CAPACITY];
     write_pieces(out, &mut piece, 0, canvas)
 }
 
-/// Writes what is ready at the start of the piece, and then the samples of the rows held, a piece at a time.
+/// Writes the bytes at the start of the buffer, and then the samples of the canvas's rows, piece by piece.
 fn write_pieces<W: Write>(
     out: &mut W,
     piece: &mut [u8],
     ready: usize,
     canvas: &Canvas,
 ) -> Result<(), WriteFault>
-    requires room { 12320 ≤ length piece.old }
+    requires capacity { 12320 ≤ length piece.old }
     requires few { ready ≤ 32 }
     ensures ok { OnOk result (Appends (W.contents out.old) (W.contents out.new) (rest ready piece.old canvas.now)) }
-    ensures err { OnErr result (AppendsFront (W.contents out.old) (W.contents out.new) (rest ready piece.old canvas.now)) }
+    ensures err { OnErr result (AppendsPrefix (W.contents out.old) (W.contents out.new) (rest ready piece.old canvas.now)) }
 {
     let count = canvas.pixel_count();
     let mut filled = ready;
@@ -80,7 +80,7 @@ fn write_pieces<W: Write>(
     send(out, &piece[..filled])
 }
 
-/// Puts the header at the start of the buffer, and tells its length.
+/// Writes the header to the start of the buffer, and returns its length.
 pub(crate) fn put_header(buffer: &mut [u8], width: u32, height: u32) -> usize
     requires { 32 ≤ length buffer.old }
     ensures text { take result buffer.new ≡ header width height }
@@ -93,7 +93,7 @@ pub(crate) fn put_header(buffer: &mut [u8], width: u32, height: u32) -> usize
     put_text(buffer, end, b"\n255\n")
 }
 
-/// Puts a number's decimal digits behind the first `at` bytes.
+/// Writes a number's decimal digits after the first `at` bytes, and returns where they end.
 fn put_number(buffer: &mut [u8], at: usize, number: u32) -> usize
     requires { at + 10 ≤ length buffer.old }
     ensures text { take result buffer.new ≡ take at buffer.old ++ decimal number }
@@ -104,7 +104,7 @@ fn put_number(buffer: &mut [u8], at: usize, number: u32) -> usize
     put_text(buffer, at, digits.format(number).as_bytes())
 }
 
-/// Puts a text behind the first `at` bytes, and tells where it ends.
+/// Writes a text after the first `at` bytes, and returns where it ends.
 #[inline]
 fn put_text(buffer: &mut [u8], at: usize, text: &[u8]) -> usize
     requires { at + length text.now ≤ length buffer.old }
@@ -117,19 +117,19 @@ fn put_text(buffer: &mut [u8], at: usize, text: &[u8]) -> usize
 }
 
 impl Canvas {
-    /// How many pixels are held.
+    /// The number of pixels of the canvas.
     pub(crate) fn pixel_count(&self) -> usize
         ensures { result ≡ length self.now.colours }
     {
         self.rows() as usize * self.width as usize
     }
 
-    /// Puts the samples of pixels behind the first `at` bytes, and tells where they end: of the pixels held, counted row by
-    /// row, those from one on, up to and without another.
+    /// Writes the samples of pixels after the first `at` bytes, and returns where they end. The pixels are those from
+    /// one to before another, counted row by row.
     pub(crate) fn put_samples(&self, buffer: &mut [u8], at: usize, from: usize, to: usize) -> usize
         requires order { from ≤ to }
         requires within { to ≤ length self.now.colours }
-        requires room { at + 3 * (to - from) ≤ length buffer.old }
+        requires capacity { at + 3 * (to - from) ≤ length buffer.old }
         ensures text { take result buffer.new ≡ take at buffer.old ++ raster (take (to - from) (drop from self.now.colours)) }
         ensures end { result ≡ at + 3 * (to - from) }
     {
@@ -142,7 +142,7 @@ impl Canvas {
         end
     }
 
-    /// The colours of such pixels of one row: from one on, up to the end of its row, or up to and without another.
+    /// The colours of such pixels in one row: from one to the end of its row, or to before another.
     fn part_of_row(&self, from: usize, to: usize) -> &[Colour]
         requires order { from < to }
         requires within { to ≤ length self.now.colours }
@@ -158,8 +158,8 @@ impl Canvas {
     }
 }
 
-/// Puts the samples of the colours after the first `at` bytes, and returns where they end. Groups of pixels are turned into bytes by themselves
-/// and copied whole, since the compiler knows how large they are.
+/// Writes the samples of the colours after the first `at` bytes, and returns where they end. Groups of pixels are
+/// converted separately and copied at once, because the compiler knows their size.
 pub(crate) fn put_pixels(buffer: &mut [u8], at: usize, colours: &[Colour]) -> usize
     requires { at + 3 * length colours.now ≤ length buffer.old }
     ensures text { take result buffer.new ≡ take at buffer.old ++ raster colours.now }

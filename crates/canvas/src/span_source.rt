@@ -1,4 +1,4 @@
-//! Spans of rows that a source gives one after another, and that are written.
+//! Writing row spans that a source returns one by one.
 
 ghost use Rattle.std.specs.Prelude.{◌≡◌, ◌+◌, ◌*◌, ◌<◌, ◌≤◌, ◌^◌, ℕ, Bool, true};
 ghost use Rattle.mapping.specs.Mixes.{mixed_by};
@@ -8,11 +8,11 @@ ghost use Rattle.canvas.specs.SpanSources.{ChangesSpan, GivesNextSpan};
 ghost use Rattle.canvas.specs.Writing.{Repaints, in_row_span};
 
 use crate::part_change::PartChange;
+use crate::splat::Splat;
 use crate::surface::{Canvas, place};
-use crate::swatch::Swatch;
 use mapping::{Colour, Mix};
 
-/// Columns of a row of a surface, from the first up to before the last. Where `to` isn't above `from` there is none.
+/// Columns of a row of a surface, from the first to before the last. If `to` isn't above `from`, there are none.
 #[derive(Clone, Copy, Debug, PartialEq, Eq)]
 pub struct RowSpan {
     pub y: u32,
@@ -20,15 +20,15 @@ pub struct RowSpan {
     pub to: u32,
 }
 
-/// Spans of a surface's rows, one after another, no pixel in two of them.
+/// Spans of a surface's rows, one by one, with no pixel in two of them.
 pub trait SpanSource {
-    /// Whether a pixel is to come.
+    /// Whether a pixel remains.
     ghost to_come: { Self → ℕ → ℕ → Bool };
 
-    /// A number that each span makes less.
+    /// A number that decreases with each span.
     ghost measure: { Self → ℕ };
 
-    /// What a source is, once it has given all its spans.
+    /// What a source is after it has returned all its spans.
     ghost ends_as: { Self → Self → Type 0 };
 
     /// The next span, which may be empty, or none after the last.
@@ -38,18 +38,18 @@ pub trait SpanSource {
 }
 
 impl Canvas {
-    /// Writes the pixels of all spans that a source gives in one colour, each counted once.
+    /// Writes the pixels of all spans of a source in one colour, and counts each once.
     pub fn put_each_span<S: SpanSource>(&mut self, spans: &mut S, colour: Colour)
         requires held { (x y : ℕ) → S.to_come spans.old x y ≡ true → HasPixel self.old x y }
         requires countable { self.old.writes + self.old.rows * self.old.width + 1 < 2 ^ 64 }
         ensures pixels { Repaints (S.to_come spans.old) (λ x y old. colour) self.old self.new }
         ensures end { S.ends_as spans.old spans.new }
     {
-        self.change_spans(spans, &Swatch::new(colour));
+        self.change_spans(spans, &Splat::new(colour));
     }
 
-    /// Changes the pixels of all spans that a source gives by the mix, each counted once. Where the mix makes one
-    /// colour of all, no colour is read.
+    /// Changes the pixels of all spans of a source by the mix, and counts each once. If the mix gives one colour for
+    /// all old colours, none is read.
     pub fn mix_each_span<S: SpanSource>(&mut self, spans: &mut S, mix: Mix)
         requires held { (x y : ℕ) → S.to_come spans.old x y ≡ true → HasPixel self.old x y }
         requires countable { self.old.writes + self.old.rows * self.old.width + 1 < 2 ^ 64 }
@@ -63,7 +63,7 @@ impl Canvas {
         }
     }
 
-    /// Makes of the pixels of all spans that a source gives what the change makes of them, each counted once.
+    /// Changes the pixels of all spans of a source, and counts each once.
     fn change_spans<S: SpanSource, C: PartChange>(&mut self, spans: &mut S, change: &C)
         requires held { (x y : ℕ) → S.to_come spans.old x y ≡ true → HasPixel self.old x y }
         requires countable { self.old.writes + self.old.rows * self.old.width + 1 < 2 ^ 64 }
@@ -71,7 +71,7 @@ impl Canvas {
         ensures end { S.ends_as spans.old spans.new }
     {
         self.width();
-        // (the writes are counted here: a count in the canvas would go through memory for each span)
+        // (the writes are counted here: counting in the canvas would access memory for each span)
         let mut count: u64 = 0;
         while let Some(span) = spans.next_span() {
             count += self.change_span(span, change);
@@ -79,21 +79,21 @@ impl Canvas {
         self.writes += count;
     }
 
-    /// Makes of the pixels of a span what the change makes of them, and tells how many they are. It counts none of them.
+    /// Changes the pixels of a span, and returns how many there are, without counting them.
     fn change_span<C: PartChange>(&mut self, span: RowSpan, change: &C) -> u64
         requires { (x y : ℕ) → in_row_span span.y span.from span.to x y ≡ true → HasPixel self.old x y }
         ensures pixels { ChangesSpan span (C.made change.now) result self.old self.new }
         ensures count { self.new.writes ≡ self.old.writes }
     {
         self.width();
-        // (the row of an empty span need not be held)
+        // (the canvas need not have the row of an empty span)
         if span.from >= span.to {
             return 0;
         }
         self.change_columns(span, change)
     }
 
-    /// The same for a span of a row that is held.
+    /// The same for a span in a row of the canvas.
     fn change_columns<C: PartChange>(&mut self, span: RowSpan, change: &C) -> u64
         requires columns { span.from ≤ span.to }
         requires width { span.to ≤ self.old.width }

@@ -1,4 +1,4 @@
-//! The canvas: the rows of a surface, each pixel with its colour.
+//! The canvas: rows of a surface, with a colour for each pixel.
 
 ghost use Rattle.std.specs.Prelude.{◌≡◌, ◌+◌, ◌-◌, ◌*◌, ◌<◌, ◌≤◌, ◌^◌, ◌↔◌, Some, None, IsTrue, IfOk, IfErr, OnOk, OnErr, length, slice_get, slice_set, vec_len};
 ghost use Rattle.std.specs.Io.KnownBytes.{Appends};
@@ -7,7 +7,7 @@ ghost use Rattle.canvas.specs.CanvasState.{HasPixel, image_of, colour_index, mad
 ghost use Rattle.canvas.specs.Rows.{row_colours, row_stride};
 ghost use Rattle.canvas.specs.Writing.{Repaints, is_at};
 ghost use Rattle.canvas.specs.WritingLaws.{IsWhole};
-ghost use Rattle.canvas.specs.Ppm.{AppendsFront, ppm_text, raster};
+ghost use Rattle.canvas.specs.Ppm.{AppendsPrefix, ppm_text, raster};
 ghost use Rattle.canvas.specs.PpmReading.{read_ppm};
 ghost use Rattle.canvas.specs.declared.canvas_error.ImageError.TheVariants.{BadImage};
 
@@ -17,7 +17,7 @@ use crate::parts::fill_with;
 use crate::ppm::{write_raster, write_text};
 use crate::ppm_counted::{write_raster_to, write_text_to};
 use crate::reading::{read_head, read_rows};
-use crate::swatch::{Swatch, same_colours};
+use crate::splat::{Splat, same_colours};
 use mapping::Colour;
 use std::alloc::Global;
 use std::io::Write;
@@ -27,11 +27,11 @@ use std::marker::Model;
 ///
 /// # Guarantees
 ///
-/// - The width is from 1 to 8,192 pixels, and the rows held are among 8,192.
-/// - There is one colour for each pixel held.
-/// - There is room for as many rows as the canvas was made for.
+/// - The width is from 1 to 8,192 pixels, and the rows are among 8,192.
+/// - There is one colour for each pixel of these rows.
+/// - The capacity is as many rows as the canvas was made for.
 ///
-/// Rows lie apart (`stride_of`): what stands behind the width of one is in no row, and no call shows it.
+/// Rows are stored with padding (`stride_of`). No call shows the padding.
 #[derive(Debug, Drop)]
 pub struct Canvas {
     pub(crate) colours: Vec<Colour>,
@@ -58,8 +58,7 @@ impl Model for Canvas {
 }
 
 impl Canvas {
-    /// A surface of `width` by `height` pixels that shows one colour: `OutOfMemory` where memory
-    /// for it was refused.
+    /// A surface of `width` by `height` pixels in one colour. Fails with `OutOfMemory`.
     pub fn new(
         alloc: Global,
         width: u32,
@@ -73,8 +72,8 @@ impl Canvas {
         Canvas::band(alloc, width, 0, height, colour)
     }
 
-    /// The rows of a surface of `width` columns from row `first` on, `rows` of them, that show one colour:
-    /// `OutOfMemory` where memory for them was refused.
+    /// A band of a surface of `width` columns: `rows` rows from row `first` on, in one colour. Fails with
+    /// `OutOfMemory`.
     pub fn band(
         alloc: Global,
         width: u32,
@@ -87,27 +86,27 @@ impl Canvas {
         requires within { first + rows ≤ surface_side_limit }
         ensures { IfOk result (λ canvas. canvas ≡ unwritten width first rows colour) }
     {
-        let colours = same_colours(alloc, room(rows, stride_of(width)), colour)?;
+        let colours = same_colours(alloc, area(rows, stride_of(width)), colour)?;
         Ok(Canvas::of(colours, width, first, rows))
     }
 
-    /// Shows one colour on other rows, `rows` of them from row `first` on, at most as many as the canvas was made for.
-    /// It keeps its count of writes, and takes no memory.
+    /// Resets the canvas to other rows in one colour: `rows` of them from row `first` on, at most as many as the canvas
+    /// was made for. It keeps its count of writes, and allocates no memory.
     pub fn again(&mut self, first: u32, rows: u32, colour: Colour)
         requires high { 1 ≤ rows }
         requires within { first + rows ≤ surface_side_limit }
         requires most { rows ≤ self.old.most }
         ensures { self.new ≡ shown_again first rows colour self.old }
     {
-        let count = room(rows, self.stride);
+        let count = area(rows, self.stride);
         let _ = self.colours.resize(count, colour);
-        fill_with(&mut self.colours[..], &Swatch::new(colour));
+        fill_with(&mut self.colours[..], &Splat::new(colour));
         (self.first, self.rows) = (first, rows);
     }
 
-    /// The image that a P6 text says (ppm(5)): comments may stand in its gaps and directly behind a digit, and bytes
-    /// behind its raster aren't looked at. `BadImage` where it says none whose sides are from 1 to 8,192 and whose samples
-    /// go up to 255, and `OutOfMemory` where memory was refused.
+    /// The image of a P6 text (ppm(5)). Comments may be in its gaps and directly after a digit, and bytes after its
+    /// raster are ignored. Fails with `BadImage` if the text isn't a P6 text with a width and height from 1 to 8,192
+    /// and samples up to 255, or with `OutOfMemory`.
     pub fn from_ppm(alloc: Global, bytes: &[u8]) -> Result<Canvas, ImageError>
         ensures image { IfOk result (λ canvas. read_ppm bytes.now ≡ Some (image_of canvas)) }
         ensures shown { IfOk result (λ canvas. canvas ≡ showing (image_of canvas)) }
@@ -118,18 +117,18 @@ impl Canvas {
         };
         let samples = &bytes[head.start..];
         let width = head.width as usize;
-        if samples.len() / 3 < room(head.height, width) {
+        if samples.len() / 3 < area(head.height, width) {
             return Err(ImageError::BadImage);
         }
         let stride = stride_of(head.width);
-        let Ok(mut colours) = Vec::from_elem(alloc, Colour::WHITE, room(head.height, stride)) else {
+        let Ok(mut colours) = Vec::from_elem(alloc, Colour::WHITE, area(head.height, stride)) else {
             return Err(ImageError::OutOfMemory);
         };
         read_rows(&mut colours, head.height, width, stride, samples);
         Ok(Canvas::of(colours, head.width, 0, head.height))
     }
 
-    /// The rows that lie so in these colours, before anything is written.
+    /// The canvas with these colours, before anything is written.
     fn of(colours: Vec<Colour>, width: u32, first: u32, rows: u32) -> Canvas
         requires wide { IsSurfaceSide width }
         requires high { 1 ≤ rows }
@@ -157,14 +156,14 @@ impl Canvas {
         self.width
     }
 
-    /// The number of the first row held.
+    /// The number of the first row.
     pub fn first(&self) -> u32
         ensures { result ≡ self.now.first }
     {
         self.first
     }
 
-    /// How many rows are held. They are among 8,192.
+    /// The number of rows. All of them are among 8,192.
     pub fn rows(&self) -> u32
         ensures rows { result ≡ self.now.rows }
         ensures side { IsSurfaceSide self.now.rows }
@@ -173,7 +172,7 @@ impl Canvas {
         self.rows
     }
 
-    /// How many rows the canvas was made for: no more can be shown.
+    /// The number of rows that the canvas was made for, which is its capacity.
     pub fn most_rows(&self) -> u32
         ensures most { result ≡ self.now.most }
         ensures held { self.now.rows ≤ self.now.most }
@@ -181,14 +180,14 @@ impl Canvas {
         self.most
     }
 
-    /// How many pixels were written since the canvas was made, each write counted.
+    /// The number of pixel writes since the canvas was made.
     pub fn writes(&self) -> u64
         ensures { result ≡ self.now.writes }
     {
         self.writes
     }
 
-    /// Whether the canvas holds the surface's pixel `(x, y)`. There is a colour for each pixel held.
+    /// Whether the canvas contains the surface's pixel `(x, y)`. There is a colour for each of its pixels.
     pub fn has_pixel(&self, x: u32, y: u32) -> bool
         ensures pixel { IsTrue result ↔ HasPixel self.now x y }
         ensures whole { length self.now.colours ≡ self.now.rows * self.now.width }
@@ -220,56 +219,57 @@ impl Canvas {
         self.writes += 1;
     }
 
-    /// Writes the P6 text (ppm(5)) of the rows held, in pieces of 12 KiB, and doesn't flush. A
-    /// write that was interrupted is tried again.
+    /// Writes the P6 text (ppm(5)) of the canvas's rows, in pieces of 12 KiB, without flushing. An interrupted write is
+    /// retried.
     ///
-    /// After a `WriteFault` a front of the text was written.
+    /// After a `WriteFault`, a prefix of the text was written.
     pub fn write_ppm<W: Write>(&self, out: &mut W) -> Result<(), WriteFault>
         ensures ok { OnOk result (Appends (W.contents out.old) (W.contents out.new) (ppm_text (image_of self.now))) }
-        ensures err { OnErr result (AppendsFront (W.contents out.old) (W.contents out.new) (ppm_text (image_of self.now))) }
+        ensures err { OnErr result (AppendsPrefix (W.contents out.old) (W.contents out.new) (ppm_text (image_of self.now))) }
     {
         write_text(out, self)
     }
 
-    /// Writes the raster of the rows held, red, green and blue of each pixel row by row (ppm(5)), without a header. The
-    /// writer isn't flushed. `WriteFault` where the writer failed or took no byte: then a front of the raster was written.
+    /// Writes the raster of the canvas's rows, without a header: red, green and blue of each pixel, row by row
+    /// (ppm(5)). The writer isn't flushed. Returns `WriteFault` if the writer failed or accepted no byte; then a prefix
+    /// of the raster was written.
     pub fn write_rows<W: Write>(&self, out: &mut W) -> Result<(), WriteFault>
         ensures ok { OnOk result (Appends (W.contents out.old) (W.contents out.new) (raster self.now.colours)) }
-        ensures err { OnErr result (AppendsFront (W.contents out.old) (W.contents out.new) (raster self.now.colours)) }
+        ensures err { OnErr result (AppendsPrefix (W.contents out.old) (W.contents out.new) (raster self.now.colours)) }
     {
         write_raster(out, self)
     }
 
-    /// The same as `write_ppm`, to a writer that counts its faults and has room for one more: `WriteFault` comes only
-    /// where the count rose.
+    /// The same as `write_ppm`, for a writer that counts its faults and can count at least one more. Returns
+    /// `WriteFault` only if the count rose.
     pub fn write_ppm_to<W: FaultCount>(&self, out: &mut W) -> Result<(), WriteFault>
-        requires room { W.fault_count out.old < 2 ^ 64 - 1 }
+        requires capacity { W.fault_count out.old < 2 ^ 64 - 1 }
         ensures ok { OnOk result (Appends (W.contents out.old) (W.contents out.new) (ppm_text (image_of self.now))) }
-        ensures err { OnErr result (AppendsFront (W.contents out.old) (W.contents out.new) (ppm_text (image_of self.now))) }
+        ensures err { OnErr result (AppendsPrefix (W.contents out.old) (W.contents out.new) (ppm_text (image_of self.now))) }
         ensures fault { OnErr result (W.fault_count out.old < W.fault_count out.new) }
-        ensures room { OnOk result (W.fault_count out.new < 2 ^ 64 - 1) }
+        ensures capacity { OnOk result (W.fault_count out.new < 2 ^ 64 - 1) }
         ensures count { W.fault_count out.old ≤ W.fault_count out.new }
     {
         write_text_to(out, self)
     }
 
-    /// The same as `write_rows`, to a writer that counts its faults and has room for one more: `WriteFault` comes only
-    /// where the count rose.
+    /// The same as `write_rows`, for a writer that counts its faults and can count at least one more. Returns
+    /// `WriteFault` only if the count rose.
     pub fn write_rows_to<W: FaultCount>(&self, out: &mut W) -> Result<(), WriteFault>
-        requires room { W.fault_count out.old < 2 ^ 64 - 1 }
+        requires capacity { W.fault_count out.old < 2 ^ 64 - 1 }
         ensures ok { OnOk result (Appends (W.contents out.old) (W.contents out.new) (raster self.now.colours)) }
-        ensures err { OnErr result (AppendsFront (W.contents out.old) (W.contents out.new) (raster self.now.colours)) }
+        ensures err { OnErr result (AppendsPrefix (W.contents out.old) (W.contents out.new) (raster self.now.colours)) }
         ensures fault { OnErr result (W.fault_count out.old < W.fault_count out.new) }
-        ensures room { OnOk result (W.fault_count out.new < 2 ^ 64 - 1) }
+        ensures capacity { OnOk result (W.fault_count out.new < 2 ^ 64 - 1) }
         ensures count { W.fault_count out.old ≤ W.fault_count out.new }
     {
         write_raster_to(out, self)
     }
 }
 
-/// How far behind a row's begin that of the next row lies, in colours: by the least odd multiple of 64 that is at least the
-/// width. Were it the width, each row of 4,096 pixels would begin 12,288 bytes behind the one above, and the pixels of a
-/// steep line, one in each row, would share few of the places that a processor's cache has for them.
+/// The distance from the start of one row to the start of the next, in colours: the least odd multiple of 64 that is at
+/// least the width. If it were the width, each row of 4,096 pixels would begin 12,288 bytes after the one above. Then
+/// the pixels of a y-major line, one in each row, would share only a few sets of the processor's cache.
 pub(crate) fn stride_of(width: u32) -> usize
     requires { width ≤ surface_side_limit }
     ensures { result ≡ row_stride width }
@@ -277,8 +277,8 @@ pub(crate) fn stride_of(width: u32) -> usize
     (width as usize + 63) / 128 * 128 + 64
 }
 
-/// How many colours so many rows take that lie so far apart.
-fn room(rows: u32, stride: usize) -> usize
+/// The number of colours in this many rows, including padding.
+fn area(rows: u32, stride: usize) -> usize
     requires rows { rows ≤ surface_side_limit }
     requires stride { stride ≤ row_stride surface_side_limit }
     ensures { result ≡ rows * stride }
@@ -286,7 +286,7 @@ fn room(rows: u32, stride: usize) -> usize
     rows as usize * stride
 }
 
-/// The place of a column in a row, counted from the first row, where rows lie so far apart.
+/// The index of a column in a row, counted from the first row.
 pub(crate) fn place(stride: usize, row: u32, column: u32) -> usize
     requires stride { stride ≤ row_stride surface_side_limit }
     requires row { row < surface_side_limit }

@@ -1,4 +1,4 @@
-//! Calls that write the pixels of a row.
+//! Writing the pixels of a row.
 
 ghost use Rattle.std.specs.Prelude.{◌≡◌, ◌+◌, ◌-◌, ◌<◌, ◌≤◌, ◌^◌, length};
 ghost use Rattle.mapping.specs.Mixes.{mixed_by};
@@ -6,12 +6,12 @@ ghost use Rattle.canvas.specs.CanvasState.{HasPixel, HasRow};
 ghost use Rattle.canvas.specs.Writing.{Repaints, in_cells, in_row, in_row_span, is_at, mixed_by_row, put_by_pattern, put_by_row};
 
 use crate::parts::{fill_with, fill_with_pattern, mix_all, mix_all_by, mix_cells_of};
+use crate::splat::Splat;
 use crate::surface::{Canvas, place};
-use crate::swatch::Swatch;
 use mapping::{Colour, Mix};
 
 impl Canvas {
-    /// Writes the pixels of row `y` in the columns from `x_from` up to and without `x_to` in one colour.
+    /// Writes the pixels of row `y` in the columns from `x_from` to before `x_to` in one colour.
     pub fn put_span(&mut self, x_from: u32, x_to: u32, y: u32, colour: Colour)
         requires columns { x_from ≤ x_to }
         requires width { x_to ≤ self.old.width }
@@ -20,26 +20,26 @@ impl Canvas {
         ensures pixels { Repaints (in_row_span y x_from x_to) (λ column row old. colour) self.old self.new }
         ensures count { self.new.writes ≡ self.old.writes + (x_to - x_from) }
     {
-        self.put_swatch(x_from, x_to, y, &Swatch::new(colour));
+        self.put_swatch(x_from, x_to, y, &Splat::new(colour));
     }
 
     /// The same in the colour of a swatch, which is made once for many spans.
-    pub fn put_swatch(&mut self, x_from: u32, x_to: u32, y: u32, swatch: &Swatch)
+    pub fn put_swatch(&mut self, x_from: u32, x_to: u32, y: u32, splat: &Splat)
         requires columns { x_from ≤ x_to }
         requires width { x_to ≤ self.old.width }
         requires row { HasRow self.old y }
         requires countable { self.old.writes + (x_to - x_from) < 2 ^ 64 }
-        ensures pixels { Repaints (in_row_span y x_from x_to) (λ column row old. swatch.now.colour) self.old self.new }
+        ensures pixels { Repaints (in_row_span y x_from x_to) (λ column row old. splat.now.colour) self.old self.new }
         ensures count { self.new.writes ≡ self.old.writes + (x_to - x_from) }
     {
         let start = place(self.stride, y - self.first, x_from);
         let end = start + (x_to - x_from) as usize;
-        fill_with(&mut self.colours[start..end], swatch);
+        fill_with(&mut self.colours[start..end], splat);
         self.writes += u64::from(x_to - x_from);
     }
 
-    /// Writes the pixels of row `y` in the columns from `x_from` up to and without `x_to`, each in the
-    /// colour of the pattern at its column modulo 8.
+    /// Writes the pixels of row `y` in the columns from `x_from` to before `x_to`, each in the colour of the pattern at
+    /// its column modulo 8.
     pub fn put_pattern(&mut self, x_from: u32, x_to: u32, y: u32, pattern: &[Colour; 8])
         requires columns { x_from ≤ x_to }
         requires width { x_to ≤ self.old.width }
@@ -68,7 +68,7 @@ impl Canvas {
         self.writes += inks.len() as u64;
     }
 
-    /// Changes the pixels of row `y` in the columns from `x_from` up to and without `x_to`, each by the mix.
+    /// Changes the pixels of row `y` in the columns from `x_from` to before `x_to` by the mix.
     pub fn mix_span(&mut self, x_from: u32, x_to: u32, y: u32, mix: Mix)
         requires columns { x_from ≤ x_to }
         requires width { x_to ≤ self.old.width }
@@ -83,8 +83,8 @@ impl Canvas {
         self.writes += u64::from(x_to - x_from);
     }
 
-    /// Changes the pixels of row `y` from column `x_from` on, each by the mix at its place: as many as there
-    /// are mixes. What these keep and what they flip stand in rows of their own.
+    /// Changes the pixels of row `y` from column `x_from` on, each by the mix at its index, as many as there are mixes.
+    /// The bits to keep and the bits to flip are in separate rows.
     pub fn mix_row(&mut self, x_from: u32, y: u32, keeps: &[Colour], flips: &[Colour])
         requires mixes { length flips.now ≡ length keeps.now }
         requires width { x_from + length keeps.now ≤ self.old.width }
@@ -99,8 +99,8 @@ impl Canvas {
         self.writes += keeps.len() as u64;
     }
 
-    /// Changes those pixels of row `y` in the columns from `x_from` up to and without `x_to` whose column
-    /// has its bit, the column modulo 8, set in `cells`, each by the mix.
+    /// Changes the pixels of row `y` in the columns from `x_from` to before `x_to` whose bit, at their column modulo 8,
+    /// is set in `cells`, by the mix.
     pub fn mix_cells(&mut self, x_from: u32, x_to: u32, y: u32, cells: u8, mix: Mix)
         requires columns { x_from ≤ x_to }
         requires width { x_to ≤ self.old.width }

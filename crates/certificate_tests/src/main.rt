@@ -89,8 +89,8 @@ fn shown(alloc: Global, width: u32, height: u32, image: &[u8]) -> Option<Canvas>
     let mut rest = image;
     for y in 0..height {
         for x in 0..width {
-            let (colour, behind) = first_colour(rest)?;
-            rest = behind;
+            let (colour, after) = first_colour(rest)?;
+            rest = after;
             if canvas.has_pixel(x, y) && canvas.writes() < 1 << 62 {
                 canvas.put(x, y, colour);
             }
@@ -175,11 +175,11 @@ fn main(rt: HostRuntime) -> io::Result<()> {
     let mut out = rt.stdout();
     let mut rest: &[u8] = &bytes;
     for _ in 0..1_000_000 {
-        let Some((asked, behind)) = next_request(rest) else {
+        let Some((asked, after)) = next_request(rest) else {
             return Ok(());
         };
         answer(alloc, &asked, &mut out)?;
-        rest = behind;
+        rest = after;
     }
     Ok(())
 }

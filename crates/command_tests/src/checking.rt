@@ -1,6 +1,6 @@
 //! Checking certificates, and the reports.
 
-use crate::comparing::{same, same_want_of_memory};
+use crate::command_results::{same, same_want_of_memory};
 use crate::files::{DOT, NIL, NIL_CERT, NOTED, NOTED_CERT, TRI, TRI_CERT, changed};
 use crate::limited;
 use canvas::Counting;
@@ -25,7 +25,7 @@ fn reports(
     let err = err.into_writer();
     same(rt, (want, answer.status()), (want, status));
     same(rt, out.as_slice(), want.as_bytes());
-    same(rt, (err.len(), answer.told), (0, Ok(())));
+    same(rt, (err.len(), answer.printed), (0, Ok(())));
 }
 
 #[test]
@@ -203,7 +203,7 @@ fn a_report_that_cannot_be_written_has_status_3(rt: HostRuntime) -> Result<(), F
 }
 
 #[test]
-fn checking_under_refused_growth(rt: HostRuntime) -> Result<(), Fail> {
+fn checking_under_failed_growth(rt: HostRuntime) -> Result<(), Fail> {
     let mut out = [0u8; 128];
     let mut err = [0u8; 64];
     let answer = check_command(

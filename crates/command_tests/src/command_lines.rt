@@ -1,6 +1,6 @@
 //! Command lines, and the response to each wrong one.
 
-use crate::comparing::same;
+use crate::command_results::same;
 use canvas::Counting;
 use commands::{CommandLine, line, usage};
 use std::alloc::{AllocError, Global};
@@ -16,7 +16,7 @@ pub(crate) fn words(alloc: Global, words: &[&str]) -> Result<Vec<String>, AllocE
 }
 
 #[test]
-fn a_command_line_asks_for_a_file_and_sides(rt: HostRuntime) -> Result<(), Fail> {
+fn a_command_line_asks_for_a_file_and_dimensions(rt: HostRuntime) -> Result<(), Fail> {
     for (width, height, wide, high) in [("1", "8192", 1, 8192), ("400", "+3", 400, 3)] {
         let asked = words(rt.alloc(), &["metaplay", "show", "a.wmf", width, height])?;
         let want = CommandLine::Show {
@@ -272,7 +272,7 @@ fn help_that_was_asked_for_goes_to_standard_output(rt: HostRuntime) -> Result<()
 }
 
 #[test]
-fn a_command_line_under_refused_growth(rt: HostRuntime) -> Result<(), Fail> {
+fn a_command_line_under_failed_growth(rt: HostRuntime) -> Result<(), Fail> {
     // If the allocation for the test's own words fails, no command line is parsed.
     let Ok(asked) = words(rt.alloc(), &["metaplay", "show", "a.wmf", "4", "5"]) else {
         return Ok(());

@@ -53,7 +53,7 @@ fn is_done(
 ) -> bool {
     let out = out.into_writer();
     let err = err.into_writer();
-    answer.status() == 0 && answer.told.is_ok() && err.is_empty() && out.as_slice() == want
+    answer.status() == 0 && answer.printed.is_ok() && err.is_empty() && out.as_slice() == want
 }
 
 /// Whether the dot's file is shown.
@@ -202,7 +202,7 @@ fn an_image_has_each_height(rt: HostRuntime) -> Result<(), AllocError> {
 }
 
 #[test]
-fn an_image_has_each_two_small_sides(rt: HostRuntime) -> Result<(), AllocError> {
+fn an_image_has_each_two_small_dimensions(rt: HostRuntime) -> Result<(), AllocError> {
     for area in 0..2500u32 {
         let (width, height) = (area % 50 + 1, area / 50 + 1);
         assert!(rt;

@@ -1,6 +1,6 @@
 //! Inputs that are read to their end, and inputs that can't be read.
 
-use crate::comparing::same;
+use crate::command_results::same;
 use commands::{InputFault, read_file, read_input};
 use std::alloc::{AllocError, Global};
 use std::io;
@@ -133,7 +133,7 @@ fn pattern(alloc: Global, length: usize) -> Result<Vec<u8>, AllocError> {
 }
 
 #[test]
-fn an_input_may_end_at_a_piece_or_beside_it(rt: HostRuntime) -> Result<(), Fail> {
+fn an_input_may_end_at_a_piece_or_next_to_it(rt: HostRuntime) -> Result<(), Fail> {
     for length in [1, 65535, 65536, 65537, 131072] {
         let wanted = pattern(rt.alloc(), length)?;
         let mut input = wanted.as_slice();
@@ -185,7 +185,7 @@ fn is_read_whole(alloc: Global, bytes: &[u8], length: usize) -> Result<bool, Inp
 }
 
 #[test]
-fn an_input_under_refused_growth(rt: HostRuntime) -> Result<(), Fail> {
+fn an_input_under_failed_growth(rt: HostRuntime) -> Result<(), Fail> {
     match read_input(rt.alloc(), &mut io::repeat(7).take(300000)) {
         Ok(bytes) => {
             same(&rt, bytes.len(), 300000);

@@ -1,6 +1,6 @@
 //! Command lines, inputs and outputs that work, and each kind that doesn't.
 //!
-//! tests/refused_growth_test.py runs the tests named `.._under_refused_growth` once more for each allocation that can
+//! tests/rejected_growth_test.py runs the tests named `.._under_failed_growth` once more for each allocation that can
 //! fail.
 #![tactic(auto)]
 
@@ -9,9 +9,9 @@ mod checking;
 #[cfg(test)]
 mod command_lines;
 #[cfg(test)]
-mod command_sizes;
+mod command_results;
 #[cfg(test)]
-mod comparing;
+mod command_sizes;
 #[cfg(test)]
 mod files;
 #[cfg(test)]
@@ -25,9 +25,9 @@ mod output_pieces;
 #[cfg(test)]
 mod over_images;
 #[cfg(test)]
-mod playing;
+mod play_runs;
 #[cfg(test)]
-mod preparing;
+mod prepare_runs;
 #[cfg(test)]
 mod record_counts;
 #[cfg(test)]
@@ -51,11 +51,11 @@ struct Full {
 
 impl Write for Full {
     fn write(&mut self, buf: &[u8]) -> io::Result<usize> {
-        let room = self.most.saturating_sub(self.taken.len());
-        if room == 0 && !buf.is_empty() {
+        let capacity = self.most.saturating_sub(self.taken.len());
+        if capacity == 0 && !buf.is_empty() {
             return Err(io::Error::from(io::ErrorKind::StorageFull));
         }
-        let count = buf.len().min(room);
+        let count = buf.len().min(capacity);
         self.taken.extend_from_slice(&buf[..count])?;
         Ok(count)
     }

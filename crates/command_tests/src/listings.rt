@@ -1,6 +1,6 @@
 //! Listings, and the reports when they can't be written.
 
-use crate::comparing::{same, same_want_of_memory};
+use crate::command_results::{same, same_want_of_memory};
 use crate::files::{DOT, FAR, NIL};
 use crate::limited;
 use canvas::Counting;
@@ -35,7 +35,7 @@ fn lists(rt: &impl Abort, alloc: Global, file: &[u8], status: u8, want: &str) {
     let err = err.into_writer();
     same(rt, (want, answer.status()), (want, status));
     same(rt, out.as_slice(), want.as_bytes());
-    same(rt, (err.len(), answer.told), (0, Ok(())));
+    same(rt, (err.len(), answer.printed), (0, Ok(())));
 }
 
 #[test]
@@ -53,7 +53,9 @@ fn each_record_has_its_line(rt: HostRuntime) -> Result<(), Fail> {
 }
 
 #[test]
-fn faults_of_the_smallest_surface_and_of_the_largest_are_told(rt: HostRuntime) -> Result<(), Fail> {
+fn faults_of_the_smallest_surface_and_of_the_largest_are_printed(
+    rt: HostRuntime,
+) -> Result<(), Fail> {
     lists(&rt, rt.alloc(), FAR, 0, FAR_LINES);
     Ok(())
 }
@@ -87,7 +89,7 @@ fn a_listing_that_cannot_be_written_has_status_3(rt: HostRuntime) -> Result<(), 
 }
 
 #[test]
-fn listing_under_refused_growth(rt: HostRuntime) -> Result<(), Fail> {
+fn listing_under_failed_growth(rt: HostRuntime) -> Result<(), Fail> {
     let mut out = [0u8; 128];
     let mut err = [0u8; 64];
     let answer = list_command(

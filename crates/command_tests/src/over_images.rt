@@ -1,6 +1,6 @@
 //! Playing files over images by their certificates.
 
-use crate::comparing::{same, same_want_of_memory};
+use crate::command_results::{same, same_want_of_memory};
 use crate::files::{DOT, DOT_CERT, NIL, NIL_CERT, TRI, TRI_CERT, changed};
 use crate::limited;
 use canvas::Counting;
@@ -45,13 +45,13 @@ fn a_file_is_played_over_an_image_at_its_size(rt: HostRuntime) -> Result<(), Fai
         let err = err.into_writer();
         same(&rt, answer.status(), 0);
         same(&rt, out.taken.as_slice(), want);
-        assert!(rt; err.is_empty() && answer.told.is_ok());
+        assert!(rt; err.is_empty() && answer.printed.is_ok());
     }
     Ok(())
 }
 
 #[test]
-fn the_check_refuses_before_the_image_and_that_before_its_size(
+fn the_check_rejects_before_the_image_and_that_before_its_size(
     rt: HostRuntime,
 ) -> Result<(), Fail> {
     let poor = changed(rt.alloc(), DOT_CERT, 12, b"\0")?;
@@ -115,7 +115,7 @@ fn an_image_over_another_that_cannot_be_written_has_status_3(rt: HostRuntime) ->
 }
 
 #[test]
-fn playing_over_an_image_under_refused_growth(rt: HostRuntime) -> Result<(), Fail> {
+fn playing_over_an_image_under_failed_growth(rt: HostRuntime) -> Result<(), Fail> {
     let mut out = [0u8; 64];
     let mut err = [0u8; 64];
     let answer = over_command(

@@ -1,6 +1,6 @@
 //! Lines on standard error.
 
-use crate::comparing::same;
+use crate::command_results::same;
 use canvas::{Counting, WriteFault};
 use commands::{CommandEnd, Completion, InputFault, no_input, report, report_refusal};
 use draw_ops::{Fault, RecordFault};
@@ -29,7 +29,10 @@ fn an_input_that_fails_is_reported_in_one_line(rt: HostRuntime) -> Result<(), Fa
         same(
             &rt,
             no_input(fault, &mut err),
-            Completion { end, told: Ok(()) },
+            Completion {
+                end,
+                printed: Ok(()),
+            },
         );
         let err = err.into_writer();
         same(&rt, end.status(), status);
@@ -48,7 +51,7 @@ fn the_faults_of_an_input_show_their_lines(rt: HostRuntime) -> Result<(), Fail> 
 }
 
 #[test]
-fn the_longest_refusal_has_room(rt: HostRuntime) -> Result<(), Fail> {
+fn the_longest_refusal_has_capacity(rt: HostRuntime) -> Result<(), Fail> {
     let refusal = Refusal {
         number: Some(u32::MAX),
         fault: Fault::Record(RecordFault::UnknownRecord(u32::MAX)),
@@ -78,7 +81,7 @@ fn some_numbers(alloc: Global) -> Result<Vec<u32>, AllocError> {
 }
 
 #[test]
-fn a_refusal_in_each_record_is_told_whole(rt: HostRuntime) -> Result<(), Fail> {
+fn a_refusal_in_each_record_is_printed_whole(rt: HostRuntime) -> Result<(), Fail> {
     let numbers = some_numbers(rt.alloc())?;
     for number in numbers.iter() {
         let refusal = Refusal {
@@ -99,14 +102,14 @@ fn a_refusal_in_each_record_is_told_whole(rt: HostRuntime) -> Result<(), Fail> {
 }
 
 #[test]
-fn a_line_of_each_length_is_told_whole(rt: HostRuntime) -> Result<(), Fail> {
+fn a_line_of_each_length_is_printed_whole(rt: HostRuntime) -> Result<(), Fail> {
     // 117 bytes, the program's name and the line feed fill a line exactly.
     let text = "0123456789".repeat(rt.alloc(), 12)?;
     for length in 0..118 {
-        let told = text.as_str().get(..length).ok_or("a front")?;
-        let want = format!(in rt.alloc(); "metaplay: {told}\n")?;
+        let printed = text.as_str().get(..length).ok_or("a front")?;
+        let want = format!(in rt.alloc(); "metaplay: {printed}\n")?;
         let mut err = Counting::new(Vec::new(rt.alloc()));
-        same(&rt, (length, report(&mut err, told)), (length, Ok(())));
+        same(&rt, (length, report(&mut err, printed)), (length, Ok(())));
         let err = err.into_writer();
         same(&rt, (length, err.as_slice()), (length, want.as_bytes()));
     }
@@ -114,7 +117,7 @@ fn a_line_of_each_length_is_told_whole(rt: HostRuntime) -> Result<(), Fail> {
 }
 
 #[test]
-fn a_line_is_told_whole_or_not_at_all(rt: HostRuntime) -> Result<(), Fail> {
+fn a_line_is_printed_whole_or_not_at_all(rt: HostRuntime) -> Result<(), Fail> {
     // 117 bytes, the program's name and the line feed fill a line exactly.
     let text = "0123456789".repeat(rt.alloc(), 12)?;
     let mut err = Counting::new(Vec::new(rt.alloc()));

@@ -1,6 +1,6 @@
 //! Showing files, and rejected files.
 
-use crate::comparing::{same, same_want_of_memory};
+use crate::command_results::{same, same_want_of_memory};
 use crate::files::DOT;
 use crate::limited;
 use canvas::Counting;
@@ -65,7 +65,7 @@ fn a_file_that_draws_nothing_is_white(rt: HostRuntime) -> Result<(), Fail> {
 }
 
 #[test]
-fn sides_of_1_8191_and_8192_are_shown(rt: HostRuntime) -> Result<(), Fail> {
+fn dimensions_of_1_8191_and_8192_are_shown(rt: HostRuntime) -> Result<(), Fail> {
     // Column 2 of 4 begins at half the width, and row 1 of 4 at a quarter of the height.
     let strips = [
         Strip {
@@ -138,7 +138,7 @@ fn each_height_from_1_to_8192_is_shown(rt: HostRuntime) -> Result<(), Fail> {
 }
 
 #[test]
-fn a_refused_file_is_reported_in_one_line(rt: HostRuntime) -> Result<(), Fail> {
+fn a_rejected_file_is_reported_in_one_line(rt: HostRuntime) -> Result<(), Fail> {
     let cases: [(&[u8], &[u8]); 3] = [
         (b"", b"metaplay: NotMetafile\n"),
         (&DOT[..54], b"metaplay: NoEnd at record 1\n"),
@@ -158,13 +158,13 @@ fn a_refused_file_is_reported_in_one_line(rt: HostRuntime) -> Result<(), Fail> {
         let mut closed = Counting::new(limited(rt.alloc(), 0, false));
         let answer = show_command(rt.alloc(), file, 4, 4, &mut out, &mut closed);
         same(&rt, answer.status(), 1);
-        assert!(rt; answer.told.is_err());
+        assert!(rt; answer.printed.is_err());
     }
     Ok(())
 }
 
 #[test]
-fn showing_under_refused_growth(rt: HostRuntime) -> Result<(), Fail> {
+fn showing_under_failed_growth(rt: HostRuntime) -> Result<(), Fail> {
     let mut out = [0u8; 64];
     let mut err = [0u8; 64];
     let status = show_command(

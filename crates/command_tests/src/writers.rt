@@ -1,7 +1,7 @@
 //! Writers that fail, accept nothing, stop short or are interrupted.
 
 use crate::command_lines::words;
-use crate::comparing::same;
+use crate::command_results::same;
 use crate::files::DOT;
 use crate::limited;
 use canvas::Counting;
@@ -89,7 +89,7 @@ fn a_failed_write_or_flush_has_status_3(rt: HostRuntime) -> Result<(), Fail> {
 }
 
 #[test]
-fn an_image_is_flushed_once_behind_its_last_byte(rt: HostRuntime) -> Result<(), Fail> {
+fn an_image_is_flushed_once_after_its_last_byte(rt: HostRuntime) -> Result<(), Fail> {
     let mut out = Counting::new(Slow::new(rt.alloc(), u32::MAX, io::ErrorKind::Other));
     let mut err = Counting::new(Slow::new(rt.alloc(), u32::MAX, io::ErrorKind::Other));
     let status = show_command(rt.alloc(), DOT, 4, 1, &mut out, &mut err).status();
@@ -103,7 +103,7 @@ fn an_image_is_flushed_once_behind_its_last_byte(rt: HostRuntime) -> Result<(), 
 }
 
 #[test]
-fn a_refused_file_writes_and_flushes_nothing(rt: HostRuntime) -> Result<(), Fail> {
+fn a_rejected_file_writes_and_flushes_nothing(rt: HostRuntime) -> Result<(), Fail> {
     let mut out = Counting::new(Slow::new(rt.alloc(), u32::MAX, io::ErrorKind::Other));
     let mut err = Counting::new(Slow::new(rt.alloc(), u32::MAX, io::ErrorKind::Other));
     let status = show_command(rt.alloc(), &DOT[..50], 4, 1, &mut out, &mut err).status();
@@ -184,7 +184,7 @@ fn a_writer_that_takes_nothing_cannot_be_written(rt: HostRuntime) -> Result<(), 
 }
 
 #[test]
-fn a_line_is_told_whole_where_standard_error_is_slow(rt: HostRuntime) -> Result<(), Fail> {
+fn a_line_is_printed_whole_where_standard_error_is_slow(rt: HostRuntime) -> Result<(), Fail> {
     for fails_at in [0, 3, 21] {
         let mut out = Counting::new(Vec::new(rt.alloc()));
         let mut err = Counting::new(Slow::new(rt.alloc(), fails_at, io::ErrorKind::Interrupted));
@@ -222,7 +222,7 @@ fn a_usage_is_shown_whole_or_up_to_where_its_writer_fails(rt: HostRuntime) -> Re
         let mut out = Counting::new(limited(rt.alloc(), 0, true));
         let mut err = Counting::new(limited(rt.alloc(), most, true));
         let answer = usage(&error, &mut out, &mut err);
-        same(&rt, (answer.status(), answer.told.is_ok()), (2, whole));
+        same(&rt, (answer.status(), answer.printed.is_ok()), (2, whole));
         let err = err.into_writer();
         same(&rt, err.taken.len().min(20), most.min(20));
     }

@@ -23,10 +23,10 @@ not_found [] name shape others found = cc
 not_found (s ∷ shapes) name shape others found = go (bytes_eq s.name name) refl (not_found shapes name shape others.1)
   where
     go : (same : Bool) → bytes_eq s.name name ≡ same → (find (λ t. bytes_eq t.name name) shapes ≡ Some shape → ⊥) → ⊥
-    go true is behind =
+    go true is after =
         let bad : false ≡ true = others.0 (ap Some (sym ((bytes_eq-Decides s.name name).0 is))) in
         cc
-    go false is behind = behind (rw is at found)
+    go false is after = after (rw is at found)
 
 module _ {Z : Type 0} where
   -- the name of the parsed command

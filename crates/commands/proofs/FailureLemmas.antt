@@ -5,13 +5,13 @@ use Rattle.std.specs.Io.KnownBytes.{Keeps}
 use Rattle.draw_ops.specs.declared.fault.Fault.TheVariants as fault
 use Rattle.preflight_cert.specs.Refusal.{IsWantOfMemory}
 use Rattle.preflight_cert.specs.declared.refusal.Refusal.{Refusal}
-use Rattle.commands.specs.Ends.{IsDoneBy, IsRefusedBy, TellsBy, TellsRefusal, TellsRefused, WritesBy, WritesRefused, WritesText}
-use Rattle.commands.specs.Failures.{Fails, IsFailureOf, TellsEnding, ending_of}
+use Rattle.commands.specs.Ends.{IsDoneBy, IsRejectedBy, PrintsBy, PrintsRefusal, PrintsRejected, WritesBy, WritesRejected, WritesText}
+use Rattle.commands.specs.Failures.{Fails, IsFailureOf, PrintsEnding, ending_of}
 use Rattle.commands.specs.Tasks.{Task}
 use Rattle.commands.specs.declared.command_end.Completion.{Completion}
 use Rattle.commands.specs.declared.command_end.CommandEnd.TheVariants as end
 use Rattle.commands.specs.declared.failure.Failure.{Failure}
-use Rattle.commands.specs.declared.failure.Failure.TheVariants.{CannotWrite, OutOfMemory, Refused}
+use Rattle.commands.specs.declared.failure.Failure.TheVariants.{CannotWrite, OutOfMemory, Rejected}
 
 pub kept : (held : Option (List ℕ)) → Keeps held held
 kept None = tt
@@ -22,26 +22,26 @@ pub written_by :
     (task : Task) (done : Result ⊤ Failure) (a : Completion) (old new : Option (List ℕ)) → a.end ≡ ending_of done → OnOk done (WritesText (IsDoneBy task) old new)
     → IfErr done (λ failure. Fails task failure old new) → WritesBy a.end task old new
 written_by task (Ok u) a old new e done failed = rw e done
-written_by task (Err (Refused r)) a old new e done failed = rw e failed.1
+written_by task (Err (Rejected r)) a old new e done failed = rw e failed.1
 written_by task (Err CannotWrite) a old new e done failed = rw e failed
 written_by task (Err OutOfMemory) a old new e done failed = rw e failed
 
 -- what is reported is what the reason for the failure says
-pub told_by :
+pub printed_by :
     (task : Task) (done : Result ⊤ Failure) (a : Completion) (old new held now : Option (List ℕ)) → a.end ≡ ending_of done
-    → IfErr done (λ failure. Fails task failure old new) → TellsEnding done a.told held now
-    → (TellsRefusal task a.told held now → TellsRefused task a.told held now) → TellsBy a.end task a.told held now
-told_by task (Ok u) a old new held now e failed tells refused = rw e tells
-told_by task (Err (Refused r)) a old new held now e failed tells refused = rw e (refused (record { refusal = r; refused = failed.0; reported = tells }))
-told_by task (Err CannotWrite) a old new held now e failed tells refused = rw e tells
-told_by task (Err OutOfMemory) a old new held now e failed tells refused = rw e tells
+    → IfErr done (λ failure. Fails task failure old new) → PrintsEnding done a.printed held now
+    → (PrintsRefusal task a.printed held now → PrintsRejected task a.printed held now) → PrintsBy a.end task a.printed held now
+printed_by task (Ok u) a old new held now e failed prints rejected = rw e prints
+printed_by task (Err (Rejected r)) a old new held now e failed prints rejected = rw e (rejected (record { refusal = r; rejected = failed.0; reported = prints }))
+printed_by task (Err CannotWrite) a old new held now e failed prints rejected = rw e prints
+printed_by task (Err OutOfMemory) a old new held now e failed prints rejected = rw e prints
 
 -- what holds if an allocation failed
 pub holds_by :
     (done : Result ⊤ Failure) (a : Completion) (P : Type 0) → a.end ≡ ending_of done → IfErr done (λ failure. failure ≡ OutOfMemory → P)
     → a.end ≡ end.OutOfMemory → P
 holds_by (Ok u) a P e h memory = cc
-holds_by (Err (Refused r)) a P e h memory = cc
+holds_by (Err (Rejected r)) a P e h memory = cc
 holds_by (Err CannotWrite) a P e h memory = cc
 holds_by (Err OutOfMemory) a P e h memory = h refl
 
@@ -50,34 +50,34 @@ pub fails_by :
     (done : Result ⊤ Failure) (a : Completion) (P : Type 0) → a.end ≡ ending_of done → IfErr done (λ failure. failure ≡ CannotWrite → P)
     → a.end ≡ end.CannotWrite → P
 fails_by (Ok u) a P e h failed = cc
-fails_by (Err (Refused r)) a P e h failed = cc
+fails_by (Err (Rejected r)) a P e h failed = cc
 fails_by (Err CannotWrite) a P e h failed = h refl
 fails_by (Err OutOfMemory) a P e h failed = cc
 
 -- what holds if the task is done
 pub done_by : (done : Result ⊤ Failure) (a : Completion) (P : Type 0) → a.end ≡ ending_of done → OnOk done P → a.end ≡ end.Done → P
 done_by (Ok u) a P e h is = h
-done_by (Err (Refused r)) a P e h is = cc
+done_by (Err (Rejected r)) a P e h is = cc
 done_by (Err CannotWrite) a P e h is = cc
 done_by (Err OutOfMemory) a P e h is = cc
 
 -- a rejection isn't a failed output
 pub no_output : (r : Refusal) (failure : Failure) (P : Type 0) → IsFailureOf r failure → failure ≡ CannotWrite → P
-no_output r (Refused other) P by e = cc
+no_output r (Rejected other) P by e = cc
 no_output r CannotWrite P by e = absurd by
 no_output r OutOfMemory P by e = cc
 
 -- a rejection with nothing written
 pub refusal_fails :
-    (task : Task) (r : Refusal) (failure : Failure) (held : Option (List ℕ)) → (IsRefusedBy task r.number r.fault ⊎ IsWantOfMemory r)
-    → WritesRefused task held held → IsFailureOf r failure → Fails task failure held held
-refusal_fails task r (Refused other) held (inl refused) writes by = (rw by.0 refused, writes)
-refusal_fails task r (Refused other) held (inr want) writes by = absurd (by.1 want.fault)
+    (task : Task) (r : Refusal) (failure : Failure) (held : Option (List ℕ)) → (IsRejectedBy task r.number r.fault ⊎ IsWantOfMemory r)
+    → WritesRejected task held held → IsFailureOf r failure → Fails task failure held held
+refusal_fails task r (Rejected other) held (inl rejected) writes by = (rw by.0 rejected, writes)
+refusal_fails task r (Rejected other) held (inr want) writes by = absurd (by.1 want.fault)
 refusal_fails task r CannotWrite held h writes by = absurd by
 refusal_fails task r OutOfMemory held h writes by = kept held
 
 -- an allocation failed if that is the reason
 pub is_want : (r : Refusal) (failure : Failure) → IsFailureOf r failure → failure ≡ OutOfMemory → r.fault ≡ fault.OutOfMemory
-is_want r (Refused other) by e = cc
+is_want r (Rejected other) by e = cc
 is_want r CannotWrite by e = absurd by
 is_want r OutOfMemory by e = by

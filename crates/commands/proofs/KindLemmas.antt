@@ -122,9 +122,9 @@ abbrev end_passes : Shape → Bool → Held → Bool
 end_passes s walk_passed end =
     walk_passed && (settle_passes s.rules s.args_override_self end && (list_all default_passes s.rules && is_valid s (finished s.rules end) false))
 
-abbrev pub level_kinds : Shape → List ArgumentKind → List Text → Bool
-level_kinds s kinds words = end_passes s (kinds_pass s kinds (walk_from nothing_held) words) (kinds_end s.rules kinds words)
+abbrev pub horizontal_kinds : Shape → List ArgumentKind → List Text → Bool
+horizontal_kinds s kinds words = end_passes s (kinds_pass s kinds (walk_from nothing_held) words) (kinds_end s.rules kinds words)
 
-pub level_is : (s : Shape) (kinds : List ArgumentKind) (words : List Text) → AreOfKinds kinds words → level_passes s [] nothing_held words false ≡ level_kinds s kinds words
-level_is s kinds words are =
+pub horizontal_is : (s : Shape) (kinds : List ArgumentKind) (words : List Text) → AreOfKinds kinds words → level_passes s [] nothing_held words false ≡ horizontal_kinds s kinds words
+horizontal_is s kinds words are =
     ap₂ (λ (passes : Bool) (w : Walk). end_passes s passes w.held) (passes_kinds s kinds (walk_from nothing_held) words are) (walked_kinds s.rules kinds (walk_from nothing_held) words are)

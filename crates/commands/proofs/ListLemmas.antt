@@ -8,8 +8,8 @@ use Rattle.commands.specs.Listings.{IsListing}
 module _ (file : List ℕ) where
   -- by how the records end
   by_end : (listed : ListingEnd) → listed ≡ listed_of file → IsListing file (listing_of file)
-  by_end Ended end = inl (record { end = end; told = refl })
-  by_end Broken end = inr (record { end = end; told = refl })
+  by_end Ended end = inl (record { end = end; printed = refl })
+  by_end Broken end = inr (record { end = end; printed = refl })
 
   -- the records end in one of the ways
   pub is_listing : IsListing file (listing_of file)

@@ -7,7 +7,7 @@ use Rattle.canvas.specs.PpmReading.{read_ppm}
 use Rattle.draw_ops.specs.declared.fault.Fault.{Fault}
 use Rattle.draw_ops.specs.declared.fault.Fault.TheVariants.{BadImage, OutOfMemory, SurfaceTooLarge, WriteFault}
 use Rattle.meta_headers.specs.File.{IsOpenedFrom}
-use Rattle.preflight_cert.specs.Answer.{IsAnswer, accepted, refuses}
+use Rattle.preflight_cert.specs.Answer.{IsAnswer, accepted, rejects}
 use Rattle.preflight_cert.specs.CertificateOf.{certificate_of}
 use Rattle.preflight_cert.specs.CertificateReading.{read_certificate}
 use Rattle.preflight_cert.specs.Refusal.{IsWantOfMemory}
@@ -17,10 +17,10 @@ use Rattle.preflight_cert.specs.declared.cleared.Cleared.{Cleared}
 use Rattle.preflight_cert.specs.declared.refusal.Refusal.{Refusal}
 use Rattle.player.specs.Bands.{IsRunText}
 use Rattle.player.specs.Bounds.{IsAboveBound, IsWithinBound}
-use Rattle.commands.specs.ClearedFiles.{FailsToPlay, Leaves, RefusesSurface, WritesPlayed}
+use Rattle.commands.specs.ClearedFiles.{FailsToPlay, Leaves, RejectsSurface, WritesPlayed}
 use Rattle.commands.specs.Ends.{IsDoneBy, WritesDone, WritesText}
 use Rattle.commands.specs.Failures.{Fails, IsFailureOf}
-use Rattle.commands.specs.Images.{IsPlayed, IsPlayedOver, IsPlayedText, RefusesOver}
+use Rattle.commands.specs.Images.{IsPlayed, IsPlayedOver, IsPlayedText, RejectsOver}
 use Rattle.commands.specs.Tasks.{play, show}
 use Rattle.commands.specs.declared.failure.Failure.{Failure}
 use Rattle.commands.specs.declared.failure.Failure.TheVariants as why
@@ -38,7 +38,7 @@ played file bytes cleared width height start image accepts from read within leav
 -- what the check rejects isn't played
 pub check_fails :
     (file bytes : List ℕ) (width height : ℕ) (r : Refusal) (failure : Failure) (held : Option (List ℕ))
-    → (IsAnswer file bytes (refuses r.number r.fault) ⊎ IsWantOfMemory r) → IsFailureOf r failure → Fails (play file bytes width height) failure held held
+    → (IsAnswer file bytes (rejects r.number r.fault) ⊎ IsWantOfMemory r) → IsFailureOf r failure → Fails (play file bytes width height) failure held held
 check_fails file bytes width height r failure held (inl denies) by =
     refusal_fails (play file bytes width height) r failure held (inl (inl denies)) (kept held) by
 check_fails file bytes width height r failure held (inr want) by = refusal_fails (play file bytes width height) r failure held (inr want) (kept held) by
@@ -64,7 +64,7 @@ module _ (file bytes : List ℕ) (cleared : Cleared) (width height : ℕ) (accep
   pub play_fails :
       {W : Type 0} → (contents : W → Option (List ℕ)) (old new : W) (failure : Failure) → FailsToPlay cleared width height contents old new failure
       → Fails (play file bytes width height) failure (contents old) (contents new)
-  play_fails contents old new (why.Refused r) p = (
+  play_fails contents old new (why.Rejected r) p = (
     inr (record {
       accepted = accepts;
       excluded = record { value = certificate_of cleared.certificate; read = read; larger = p.above.larger };
@@ -92,7 +92,7 @@ pub show_fails :
     {W : Type 0} → (file : List ℕ) (cleared : Cleared) (width height : ℕ) (contents : W → Option (List ℕ)) (old new : W) (failure : Failure)
     → IsOpenedFrom file cleared.opened → IsWithinBound cleared.certificate width height → FailsToPlay cleared width height contents old new failure
     → Fails (show file width height) failure (contents old) (contents new)
-show_fails file cleared width height contents old new (why.Refused r) from within p = absurd (never_both cleared.certificate width height within p.above.larger)
+show_fails file cleared width height contents old new (why.Rejected r) from within p = absurd (never_both cleared.certificate width height within p.above.larger)
 show_fails file cleared width height contents old new why.CannotWrite from within p =
     record { text = p.written.text; fact = p.written.of_run file from; written = p.written.appended }
 show_fails file cleared width height contents old new why.OutOfMemory from within p = p
@@ -115,10 +115,10 @@ module _ (c : Certificate) (width height : ℕ) (result : Result ℕ Fault) (bou
   within_where_written is = within_bound (λ large. cc)
 
 -- a surface is rejected for its size, or because an allocation failed
-pub surface_refused : (c : Certificate) (width height : ℕ) (result : Result ℕ Fault) (fault : Fault) → result ≡ Err fault
-    → ((result ≡ Err SurfaceTooLarge) ↔ IsAboveBound width height c) → (fault ≡ SurfaceTooLarge ⊎ fault ≡ OutOfMemory) → RefusesSurface c width height fault
-surface_refused c width height result fault is bound (inl large) = inl (record { larger = bound.0 (is ∙ ap (λ (f : Fault). Err f) large); is = large })
-surface_refused c width height result fault is bound (inr want) = inr want
+pub surface_rejected : (c : Certificate) (width height : ℕ) (result : Result ℕ Fault) (fault : Fault) → result ≡ Err fault
+    → ((result ≡ Err SurfaceTooLarge) ↔ IsAboveBound width height c) → (fault ≡ SurfaceTooLarge ⊎ fault ≡ OutOfMemory) → RejectsSurface c width height fault
+surface_rejected c width height result fault is bound (inl large) = inl (record { larger = bound.0 (is ∙ ap (λ (f : Fault). Err f) large); is = large })
+surface_rejected c width height result fault is bound (inr want) = inr want
 
 -- unless the writer fails, a surface is rejected for its size, or because an allocation failed
 pub fails_unwritten :
@@ -128,7 +128,7 @@ pub fails_unwritten :
     → r.number ≡ None → r.fault ≡ fault → IsFailureOf r failure → FailsToPlay cleared width height contents old new failure
 fails_unwritten cleared width height contents old new result fault r why.CannotWrite is bound by unwritten kept none same failed = absurd failed
 fails_unwritten cleared width height contents old new result fault r why.OutOfMemory is bound by unwritten kept none same failed = kept
-fails_unwritten cleared width height contents old new result fault r (why.Refused other) is bound (inl large) unwritten kept none same failed = record {
+fails_unwritten cleared width height contents old new result fault r (why.Rejected other) is bound (inl large) unwritten kept none same failed = record {
   number = ap (λ (x : Refusal). x.number) failed.0 ∙ none;
   above = record {
     larger = bound.0 (is ∙ ap (λ (f : Fault). Err f) large);
@@ -136,25 +136,25 @@ fails_unwritten cleared width height contents old new result fault r (why.Refuse
   };
   kept = kept;
 }
-fails_unwritten cleared width height contents old new result fault r (why.Refused other) is bound (inr (inl want)) unwritten kept none same failed =
+fails_unwritten cleared width height contents old new result fault r (why.Rejected other) is bound (inr (inl want)) unwritten kept none same failed =
     absurd (failed.1 (same ∙ want))
-fails_unwritten cleared width height contents old new result fault r (why.Refused other) is bound (inr (inr written)) unwritten kept none same failed =
+fails_unwritten cleared width height contents old new result fault r (why.Rejected other) is bound (inr (inr written)) unwritten kept none same failed =
     absurd (unwritten written)
 
-pub over_check_refuses : (file bytes image : List ℕ) (r : Refusal) → (IsAnswer file bytes (refuses r.number r.fault) ⊎ IsWantOfMemory r)
-    → (RefusesOver file bytes image r.number r.fault ⊎ IsWantOfMemory r)
-over_check_refuses file bytes image r (inl denies) = inl (inl (inl denies))
-over_check_refuses file bytes image r (inr want) = inr want
+pub over_check_rejects : (file bytes image : List ℕ) (r : Refusal) → (IsAnswer file bytes (rejects r.number r.fault) ⊎ IsWantOfMemory r)
+    → (RejectsOver file bytes image r.number r.fault ⊎ IsWantOfMemory r)
+over_check_rejects file bytes image r (inl denies) = inl (inl (inl denies))
+over_check_rejects file bytes image r (inr want) = inr want
 
-pub no_image_refuses : (file bytes image : List ℕ) (r : Refusal) → IsAnswer file bytes accepted → read_ppm image ≡ None
-    → r.number ≡ None → r.fault ≡ BadImage → (RefusesOver file bytes image r.number r.fault ⊎ IsWantOfMemory r)
-no_image_refuses file bytes image r accepts unread none is = inl (inl (inr (record { accepted = accepts; unread = unread; in_none = none; is_fault = is })))
+pub no_image_rejects : (file bytes image : List ℕ) (r : Refusal) → IsAnswer file bytes accepted → read_ppm image ≡ None
+    → r.number ≡ None → r.fault ≡ BadImage → (RejectsOver file bytes image r.number r.fault ⊎ IsWantOfMemory r)
+no_image_rejects file bytes image r accepts unread none is = inl (inl (inr (record { accepted = accepts; unread = unread; in_none = none; is_fault = is })))
 
-pub over_surface_refuses : (file bytes image : List ℕ) (start : Image) (cleared : Cleared) (fault : Fault) (r : Refusal) → IsAnswer file bytes accepted
+pub over_surface_rejects : (file bytes image : List ℕ) (start : Image) (cleared : Cleared) (fault : Fault) (r : Refusal) → IsAnswer file bytes accepted
     → read_certificate bytes ≡ Ok (certificate_of cleared.certificate) → read_ppm image ≡ Some start
-    → RefusesSurface cleared.certificate start.width start.height fault
-    → r.number ≡ None → r.fault ≡ fault → (RefusesOver file bytes image r.number r.fault ⊎ IsWantOfMemory r)
-over_surface_refuses file bytes image start cleared fault r accepts read shows (inl above) none is =
+    → RejectsSurface cleared.certificate start.width start.height fault
+    → r.number ≡ None → r.fault ≡ fault → (RejectsOver file bytes image r.number r.fault ⊎ IsWantOfMemory r)
+over_surface_rejects file bytes image start cleared fault r accepts read shows (inl above) none is =
     inl (inr (record {
       start = start;
       read = shows;
@@ -165,7 +165,7 @@ over_surface_refuses file bytes image start cleared fault r accepts read shows (
         is_fault = rw is above.is;
       };
     }))
-over_surface_refuses file bytes image start cleared fault r accepts read shows (inr want) none is = inr (record { number = none; fault = rw is want })
+over_surface_rejects file bytes image start cleared fault r accepts read shows (inr want) none is = inr (record { number = none; fault = rw is want })
 
 pub played_over : (file bytes image : List ℕ) (start after : Image) (cleared : Cleared) → IsAnswer file bytes accepted → IsOpenedFrom file cleared.opened
     → read_certificate bytes ≡ Ok (certificate_of cleared.certificate) → read_ppm image ≡ Some start

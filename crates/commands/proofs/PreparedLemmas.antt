@@ -8,13 +8,13 @@ use Rattle.draw_ops.specs.declared.fault.Fault.TheVariants.{BadBound, NotCertifi
 use Rattle.meta_headers.specs.Headers.{OpenedValue}
 use Rattle.meta_headers.specs.Opening.{opened, record_bytes}
 use Rattle.point_views.specs.Numbers.{number_at}
-use Rattle.preflight_cert.specs.Answer.{Answer, AnswersOpened, AnswersRead, IsAnswer, accepted, refuses}
+use Rattle.preflight_cert.specs.Answer.{Answer, AnswersOpened, AnswersRead, IsAnswer, accepted, rejects}
 use Rattle.preflight_cert.specs.CertificateReading.{CertificateValue, have_nibs, is_bounded, read_certificate, read_version, read_whole, value_in, version_of, whole_size}
 use Rattle.preflight_cert.specs.CertificateText.{HeadValue, certificate_text, entry_text, head_of, text_with}
 use Rattle.preflight_cert.specs.CertificateOf.{certificate_of}
 use Rattle.preflight_cert.specs.Refusal.{IsWantOfMemory}
-use Rattle.preflight_cert.specs.Preparation.{Prepares, PreparesIfOpened, PreparesWithin, RefusesWithin, StopsPreparing, is_bound}
-use Rattle.preflight_cert.specs.Run.{Refused}
+use Rattle.preflight_cert.specs.Preparation.{Prepares, PreparesIfOpened, PreparesWithin, RejectsWithin, StopsPreparing, is_bound}
+use Rattle.preflight_cert.specs.Run.{Rejected}
 use Rattle.preflight_cert.specs.declared.certificate.Certificate.{Certificate}
 use Rattle.preflight_cert.specs.declared.refusal.Refusal.{Refusal}
 use Rattle.preflight_cert.specs.declared.version.Version.{Version}
@@ -84,26 +84,26 @@ high_back : (c : CertificateValue) → c.max_height ≤ 8192 → number_at (cert
 high_back c h = high_with c.version (head_of c) (length c.entries) (flat_map (entry_text c.version) c.entries) h
 
 -- a certificate for this size, whose text the bytes are
-record IsOfSides (width height : ℕ) (bytes : List ℕ) : Type 0 where
+record IsOfDimensions (width height : ℕ) (bytes : List ℕ) : Type 0 where
   certificate : CertificateValue
   wide : certificate.max_width ≡ width
   high : certificate.max_height ≡ height
   is_text : bytes ≡ certificate_text certificate
 
 of_opened : (file : List ℕ) (width height : ℕ) (bytes : List ℕ) (r : Result OpenedValue Fault) → PreparesIfOpened r file width height bytes
-    → IsOfSides width height bytes
+    → IsOfDimensions width height bytes
 of_opened file width height bytes (Err fault) p = absurd p
 of_opened file width height bytes (Ok o) p =
     record { certificate = p.certificate; wide = p.is_prepared.wide; high = p.is_prepared.high; is_text = p.is_text }
 
 of_bound : (file : List ℕ) (width height : ℕ) (bytes : List ℕ) (allowed : Bool) → PreparesWithin allowed file width height bytes
-    → IsOfSides width height bytes
+    → IsOfDimensions width height bytes
 of_bound file width height bytes false p = absurd p
 of_bound file width height bytes true p = of_opened file width height bytes (opened file) p
 
 module _ (file : List ℕ) (width height : ℕ) (bytes : List ℕ) (prepared : Prepares file width height bytes)
     (value : CertificateValue) (read : read_certificate bytes ≡ Ok value) where
-  text : IsOfSides width height bytes
+  text : IsOfDimensions width height bytes
   text = of_bound file width height bytes (is_bound width height) prepared
 
   read_text : IsReadAs (certificate_text text.certificate) value
@@ -122,7 +122,7 @@ module _ (file : List ℕ) (width height : ℕ) (bytes : List ℕ) (prepared : P
 -- an accepting answer
 is_accepted : Answer → Bool
 is_accepted accepted = true
-is_accepted (refuses number fault) = false
+is_accepted (rejects number fault) = false
 
 -- a surface of the size that a certificate was prepared for doesn't exceed its bound
 pub prepared_within : (file : List ℕ) (width height : ℕ) (bytes : List ℕ) → Prepares file width height bytes → IsSurfaceSide width → IsSurfaceSide height
@@ -133,12 +133,12 @@ prepared_within file width height bytes prepared wide high c read =
     record { wide = omega (arith, is_wide); high = omega (arith, is_high) }
 
 -- for a valid size, the rejection is that of the run
-pub run_refused : (file : List ℕ) (width height : ℕ) → IsSurfaceSide width → IsSurfaceSide height → (r : Refusal)
-    → (StopsPreparing file width height r ⊎ IsWantOfMemory r) → (Refused file width height r.number r.fault ⊎ IsWantOfMemory r)
-run_refused file width height wide high r (inr want) = inr want
-run_refused file width height wide high r (inl stops) =
+pub run_rejected : (file : List ℕ) (width height : ℕ) → IsSurfaceSide width → IsSurfaceSide height → (r : Refusal)
+    → (StopsPreparing file width height r ⊎ IsWantOfMemory r) → (Rejected file width height r.number r.fault ⊎ IsWantOfMemory r)
+run_rejected file width height wide high r (inr want) = inr want
+run_rejected file width height wide high r (inl stops) =
     let bound : is_bound width height ≡ true = and_from (is_surface_side width) (is_surface_side height) (surface_side_from width wide) (surface_side_from height high) in
-    inl (subst (λ (allowed : Bool). RefusesWithin allowed file width height r.number r.fault) bound stops)
+    inl (subst (λ (allowed : Bool). RejectsWithin allowed file width height r.number r.fault) bound stops)
 
 -- an accepted file opens, and its certificate can be read
 read_of_answer : (read : Result CertificateValue Fault) (o : OpenedValue) (records : List ℕ) → AnswersRead read o records accepted → IsOk read

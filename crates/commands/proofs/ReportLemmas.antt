@@ -18,21 +18,21 @@ use Rattle.meta_headers.specs.Headers.{OpenedValue}
 use Rattle.meta_headers.specs.OpenedOf.{opened_of}
 use Rattle.meta_headers.specs.Opening.{HasContentOf, record_bytes}
 use Rattle.preflight_cert.specs.After.{file_notes}
-use Rattle.preflight_cert.specs.Answer.{AnswerLaws, AnswersOpened, AnswersRead, CountsRecords, Fits, IsAnswer, RecordsAnswer, accepted, refuses}
+use Rattle.preflight_cert.specs.Answer.{AnswerLaws, AnswersOpened, AnswersRead, CountsRecords, Fits, IsAnswer, RecordsAnswer, accepted, rejects}
 use Rattle.preflight_cert.specs.CertificateOf.{certificate_of}
 use Rattle.preflight_cert.specs.CertificateReading.{CertificateValue, read_certificate}
 use Rattle.preflight_cert.specs.Refusal.{IsWantOfMemory}
 use Rattle.preflight_cert.specs.EntriesOf.{entries_of}
 use Rattle.preflight_cert.specs.Drawings.{NumberedDrawing, drawings_of}
 use Rattle.preflight_cert.specs.Entries.{AreCovered}
-use Rattle.preflight_cert.specs.declared.entry.Entry.{Entry}
+use Rattle.preflight_cert.specs.declared.certificate_entry.Entry.{Entry}
 use Rattle.draw_ops.specs.Content.{Content}
 use Rattle.draw_ops.specs.Fault.{record_kind_of}
 use Rattle.draw_ops.specs.FaultTable.{fault_row}
 use Rattle.preflight_cert.specs.declared.cleared.Cleared.{Cleared}
 use Rattle.preflight_cert.specs.declared.refusal.Refusal.{Refusal}
 use Rattle.meta_headers.specs.Formats.{format_name}
-use Rattle.commands.specs.CheckReport.{ReportsAccepted, ReportsRefused, accepted_report, all_kinds, needs_data, noted_kinds, notes_data, refused_report, report_text, sides, whole, whole_if}
+use Rattle.commands.specs.CheckReport.{ReportsAccepted, ReportsRejected, accepted_report, all_kinds, needs_data, noted_kinds, notes_data, rejected_report, report_text, dimensions, whole, whole_if}
 use Rattle.commands.specs.ClearedFiles.{report_of}
 
 put_whole : (k : List ℕ) (d : Data) (ms : Members) → has_float d ≡ false → members_have_float ms ≡ false → members_have_float (put k d ms) ≡ false
@@ -66,10 +66,10 @@ accepted_whole o c records drawings notes =
     let e2 : members_have_float m2 ≡ false = put_whole (codes "notes") (notes_data notes) m1 (kinds_whole all_kinds notes) e1 in
     let m3 = put (codes "needs") (needs_data c.needs) m2 in
     let e3 : members_have_float m3 ≡ false = put_whole (codes "needs") (needs_data c.needs) m2 refl e2 in
-    let m4 = put (codes "max") (sides c.max_width c.max_height) m3 in
-    let e4 : members_have_float m4 ≡ false = put_whole (codes "max") (sides c.max_width c.max_height) m3 refl e3 in
-    let m5 = put (codes "frame") (sides o.frame_width o.frame_height) m4 in
-    let e5 : members_have_float m5 ≡ false = put_whole (codes "frame") (sides o.frame_width o.frame_height) m4 refl e4 in
+    let m4 = put (codes "max") (dimensions c.max_width c.max_height) m3 in
+    let e4 : members_have_float m4 ≡ false = put_whole (codes "max") (dimensions c.max_width c.max_height) m3 refl e3 in
+    let m5 = put (codes "frame") (dimensions o.frame_width o.frame_height) m4 in
+    let e5 : members_have_float m5 ≡ false = put_whole (codes "frame") (dimensions o.frame_width o.frame_height) m4 refl e4 in
     let m6 = put (codes "format") (string (format_name o.format)) m5 in
     let e6 : members_have_float m6 ≡ false = put_whole (codes "format") (string (format_name o.format)) m5 refl e5 in
     let m7 = put (codes "drawings") (whole drawings) m6 in
@@ -86,8 +86,8 @@ if_whole : (n : Option ℕ) → has_float (whole_if n) ≡ false
 if_whole None = refl
 if_whole (Some n) = refl
 
-pub refused_whole : (number : Option ℕ) (fault : Fault) → has_float (refused_report number fault) ≡ false
-refused_whole number fault =
+pub rejected_whole : (number : Option ℕ) (fault : Fault) → has_float (rejected_report number fault) ≡ false
+rejected_whole number fault =
     let m0 = put (codes "record") (whole_if number) no_members in
     let e0 : members_have_float m0 ≡ false = put_whole (codes "record") (whole_if number) no_members (if_whole number) refl in
     let m1 = put (codes "number") (whole_if (record_kind_of fault)) m0 in
@@ -150,7 +150,7 @@ reports file bytes cleared text laws accepts from read counts is =
     }
 
 -- a rejection that isn't a failed allocation
-pub refusal_reports : (file bytes : List ℕ) (r : Refusal) (text : List ℕ) → (IsAnswer file bytes (refuses r.number r.fault) ⊎ IsWantOfMemory r)
-    → (r.fault ≡ OutOfMemory → ⊥) → text ≡ report_text (refused_report r.number r.fault) → ReportsRefused file bytes text
-refusal_reports file bytes r text (inl refused) other is = record { in_record = r.number; fault = r.fault; refused = refused; is_text = is }
+pub refusal_reports : (file bytes : List ℕ) (r : Refusal) (text : List ℕ) → (IsAnswer file bytes (rejects r.number r.fault) ⊎ IsWantOfMemory r)
+    → (r.fault ≡ OutOfMemory → ⊥) → text ≡ report_text (rejected_report r.number r.fault) → ReportsRejected file bytes text
+refusal_reports file bytes r text (inl rejected) other is = record { in_record = r.number; fault = r.fault; rejected = rejected; is_text = is }
 refusal_reports file bytes r text (inr want) other is = absurd (other want.fault)

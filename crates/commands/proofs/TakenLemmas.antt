@@ -13,7 +13,7 @@ use Rattle.clap.specs.Words.{subcommand_of, takes}
 use Rattle.clap.proofs.OnLiterals.{clap_on_literals}
 use Rattle.commands.specs.CommandLine.{GivesAll, GivesSide, IsRightCommand, IsSideText, check_app, list_app, metaplay_app, over_app, play_app, prepare_app, show_app}
 use Rattle.commands.specs.RightWords.{AreOfKinds, AreRightWords, ArgumentKind, IsOfKind, bands, name, side, usages}
-use Rattle.commands.proofs.KindLemmas.{kinds_end, level_is, level_kinds, rows_kinds}
+use Rattle.commands.proofs.KindLemmas.{kinds_end, horizontal_is, horizontal_kinds, rows_kinds}
 use Rattle.commands.proofs.SideLemmas.{no_minus, plain_side, side_passes}
 
 -- a width or height was given
@@ -34,10 +34,10 @@ of_usage : (command : Text) (declared : Shape) (kinds : List ArgumentKind) (argu
     → find (λ s. bytes_eq s.name command) metaplay_app.subs ≡ Some declared
     → ((program : Text) → level_passes (built_shape command) [] nothing_held arguments false ≡ true → takes metaplay_app (program ∷ command ∷ arguments) ≡ true)
     → ((program : Text) → subcommand_of metaplay_app (program ∷ command ∷ arguments) ≡ Some (command, rows_after (built_shape command).rules [] arguments))
-    → level_kinds (built_shape command) kinds arguments ≡ true
+    → horizontal_kinds (built_shape command) kinds arguments ≡ true
     → GivesAll declared.rules (finished (built_shape command).rules (kinds_end (built_shape command).rules kinds arguments)) → IsTaken command arguments
 of_usage command declared kinds arguments are found enters meets passes gives = record {
-  taken = λ program. enters program (level_is (built_shape command) kinds arguments are ∙ passes);
+  taken = λ program. enters program (horizontal_is (built_shape command) kinds arguments are ∙ passes);
   right = λ program. record {
     name = command;
     given = finished (built_shape command).rules (kinds_end (built_shape command).rules kinds arguments);

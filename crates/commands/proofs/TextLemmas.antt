@@ -4,6 +4,6 @@ use Rattle.std.proofs.lemmas.Bool.{le-leb}
 use Rattle.std.specs.Fmt.Cut.{cut_to}
 
 -- a text that fits isn't cut
-pub whole : (room : ℕ) (text : List ℕ) → length text ≤ room → cut_to room text ≡ text
+pub whole : (capacity : ℕ) (text : List ℕ) → length text ≤ capacity → cut_to capacity text ≡ text
 unfolding cut_to
-whole room text fits = rw (le-leb (length text) room fits) refl
+whole capacity text fits = rw (le-leb (length text) capacity fits) refl

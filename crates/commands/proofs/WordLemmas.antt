@@ -7,7 +7,7 @@ use Rattle.clap.specs.Words.{first_of, subcommand_of}
 use Rattle.clap.proofs.OnLiterals.{clap_on_literals}
 use Rattle.commands.specs.declared.asked.CommandLine.{CommandLine}
 use Rattle.commands.specs.declared.asked.CommandLine.TheVariants.{Check, List as ListLine, Over, Play, Prepare, Show}
-use Rattle.commands.specs.CommandLine.{AreOfWords, GivesName, GivesNumber, GivesSides, HasPlainWords, HasWords, IsAskedByWords, IsPlainWord, metaplay_app, number_of}
+use Rattle.commands.specs.CommandLine.{AreOfWords, GivesName, GivesNumber, GivesDimensions, HasPlainWords, HasWords, IsAskedByWords, IsPlainWord, metaplay_app, number_of}
 use Rattle.commands.specs.RightWords as kind
 use Rattle.commands.proofs.KindLemmas.{kinds_end, rows_kinds}
 use Rattle.commands.proofs.SideLemmas.{no_minus}
@@ -61,14 +61,14 @@ one_name : (met : Option (Text × List Row)) (name other : Text) (given all : Li
 one_name met name other given all e f = ap (λ (command : Text × List Row). first_byte command.0) (same_inside (sym e ∙ f))
 
 -- what a command asks for if its rows are known
-by_rows : (met : Option (Text × List Row)) (all given : List Row) (file wide high name : Text) (width height : ℕ) → IsPlainWord wide → IsPlainWord high → met ≡ Some (codes "show", all) → first_of (codes "FILE") all ≡ Some file → one_of (codes "W") all ≡ Some (without_minus wide) → one_of (codes "H") all ≡ Some (without_minus high) → met ≡ Some (codes "show", given) → GivesName given (codes "FILE") name → GivesSides given width height → AreOfWords file wide high name width height
-by_rows met all given file wide high name width height plain_wide plain_high is has_file has_wide has_high command named sides =
+by_rows : (met : Option (Text × List Row)) (all given : List Row) (file wide high name : Text) (width height : ℕ) → IsPlainWord wide → IsPlainWord high → met ≡ Some (codes "show", all) → first_of (codes "FILE") all ≡ Some file → one_of (codes "W") all ≡ Some (without_minus wide) → one_of (codes "H") all ≡ Some (without_minus high) → met ≡ Some (codes "show", given) → GivesName given (codes "FILE") name → GivesDimensions given width height → AreOfWords file wide high name width height
+by_rows met all given file wide high name width height plain_wide plain_high is has_file has_wide has_high command named dimensions =
     let same = same_rows met _ _ _ _ command is in
     let found : first_of (codes "FILE") all ≡ Some name = rw same at named in
     record {
       named = same_inside (sym found ∙ has_file);
-      wide_reads = number_given wide all (codes "W") width plain_wide has_wide (rw same at sides.wide);
-      high_reads = number_given high all (codes "H") height plain_high has_high (rw same at sides.high);
+      wide_reads = number_given wide all (codes "W") width plain_wide has_wide (rw same at dimensions.wide);
+      high_reads = number_given high all (codes "H") height plain_high has_high (rw same at dimensions.high);
     }
 
 -- the rows that five such words give

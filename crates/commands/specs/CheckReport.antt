@@ -16,7 +16,7 @@ use Rattle.meta_headers.specs.File.{IsFile}
 use Rattle.meta_headers.specs.Formats.{format_name}
 use Rattle.meta_headers.specs.Headers.{OpenedValue}
 use Rattle.preflight_cert.specs.After.{file_notes}
-use Rattle.preflight_cert.specs.Answer.{IsAnswer, accepted, refuses}
+use Rattle.preflight_cert.specs.Answer.{IsAnswer, accepted, rejects}
 use Rattle.preflight_cert.specs.CertificateReading.{CertificateValue, read_certificate}
 use Rattle.preflight_cert.specs.Drawings.{drawings_of}
 
@@ -30,8 +30,8 @@ whole_if None = null
 whole_if (Some n) = whole n
 
 -- a width and a height
-abbrev pub sides : ℕ → ℕ → Data
-sides width height = array (item (whole width) (item (whole height) no_items))
+abbrev pub dimensions : ℕ → ℕ → Data
+dimensions width height = array (item (whole width) (item (whole height) no_items))
 
 -- the needs, by name
 abbrev pub needs_data : Needs → Data
@@ -64,8 +64,8 @@ accepted_report o c records drawings notes =
     object (put (codes "accepted") (boolean true)
     (put (codes "drawings") (whole drawings)
     (put (codes "format") (string (format_name o.format))
-    (put (codes "frame") (sides o.frame_width o.frame_height)
-    (put (codes "max") (sides c.max_width c.max_height)
+    (put (codes "frame") (dimensions o.frame_width o.frame_height)
+    (put (codes "max") (dimensions c.max_width c.max_height)
     (put (codes "needs") (needs_data c.needs)
     (put (codes "notes") (notes_data notes)
     (put (codes "records") (whole records)
@@ -73,8 +73,8 @@ accepted_report o c records drawings notes =
 
 -- the report for a rejection: the code and name of the fault, the kind of record that it refers to, and the number of
 -- the record that it is in
-abbrev pub refused_report : Option ℕ → Fault → Data
-refused_report record_number fault =
+abbrev pub rejected_report : Option ℕ → Fault → Data
+rejected_report record_number fault =
     object (put (codes "accepted") (boolean false)
     (put (codes "code") (whole (fault_row fault).code)
     (put (codes "fault") (string (fault_row fault).name)
@@ -98,8 +98,8 @@ pub record ReportsAccepted (file certificate text : List ℕ) : Type 0 where
       ≡ report_text (accepted_report headers value (length content.steps) (length (drawings_of content.steps (start_of headers))) (file_notes content headers))
 
 -- the pair of file and certificate is rejected, and the text is the report of that
-pub record ReportsRefused (file certificate text : List ℕ) : Type 0 where
+pub record ReportsRejected (file certificate text : List ℕ) : Type 0 where
   pub in_record : Option ℕ
   pub fault : Fault
-  pub refused : IsAnswer file certificate (refuses in_record fault)
-  pub is_text : text ≡ report_text (refused_report in_record fault)
+  pub rejected : IsAnswer file certificate (rejects in_record fault)
+  pub is_text : text ≡ report_text (rejected_report in_record fault)

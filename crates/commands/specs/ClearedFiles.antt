@@ -14,7 +14,7 @@ use Rattle.preflight_cert.specs.Run.{Run, shown}
 use Rattle.preflight_cert.specs.declared.certificate.Certificate.{Certificate}
 use Rattle.preflight_cert.specs.declared.cleared.Cleared.{Cleared}
 use Rattle.preflight_cert.specs.declared.refusal.Refusal.{Refusal}
-use Rattle.player.specs.Bands.{WritesRun, WritesRunFront}
+use Rattle.player.specs.Bands.{WritesRun, WritesRunPrefix}
 use Rattle.player.specs.Bounds.{IsAboveBound, IsWithinBound}
 use Rattle.commands.specs.CheckReport.{accepted_report}
 use Rattle.commands.specs.declared.failure.Failure.{Failure}
@@ -41,12 +41,12 @@ pub record WritesPlayed (cleared : Cleared) (width height : ℕ) (old new : Opti
   pub written : WritesRun cleared width height white_colour old new
 
 -- the surface is within the bound, and a prefix of the text of that image was written
-pub record WritesPlayedFront (cleared : Cleared) (width height : ℕ) (old new : Option (List ℕ)) : Type 0 where
+pub record WritesPlayedPrefix (cleared : Cleared) (width height : ℕ) (old new : Option (List ℕ)) : Type 0 where
   pub within : IsWithinBound cleared.certificate width height
-  pub written : WritesRunFront cleared width height white_colour old new
+  pub written : WritesRunPrefix cleared width height white_colour old new
 
 -- the surface exceeds the bound, and nothing was written
-pub record RefusesToPlay (cleared : Cleared) (width height : ℕ) (r : Refusal) (old new : Option (List ℕ)) : Type 0 where
+pub record RejectsToPlay (cleared : Cleared) (width height : ℕ) (r : Refusal) (old new : Option (List ℕ)) : Type 0 where
   pub number : r.number ≡ None
   pub above : IsFaultAboveBound cleared.certificate width height r.fault
   pub kept : Keeps old new
@@ -58,10 +58,10 @@ module _ {W : Type 0} where
 
   -- why a cleared file wasn't played, and what was written then
   abbrev pub FailsToPlay : Cleared → ℕ → ℕ → (W → Option (List ℕ)) → W → W → Failure → Type 0
-  FailsToPlay cleared width height contents old new (why.Refused r) = RefusesToPlay cleared width height r (contents old) (contents new)
-  FailsToPlay cleared width height contents old new why.CannotWrite = WritesPlayedFront cleared width height (contents old) (contents new)
+  FailsToPlay cleared width height contents old new (why.Rejected r) = RejectsToPlay cleared width height r (contents old) (contents new)
+  FailsToPlay cleared width height contents old new why.CannotWrite = WritesPlayedPrefix cleared width height (contents old) (contents new)
   FailsToPlay cleared width height contents old new why.OutOfMemory = Keeps (contents old) (contents new)
 
 -- the fault by which a surface is rejected
-abbrev pub RefusesSurface : Certificate → ℕ → ℕ → Fault → Type 0
-RefusesSurface c width height fault = IsFaultAboveBound c width height fault ⊎ fault ≡ OutOfMemory
+abbrev pub RejectsSurface : Certificate → ℕ → ℕ → Fault → Type 0
+RejectsSurface c width height fault = IsFaultAboveBound c width height fault ⊎ fault ≡ OutOfMemory

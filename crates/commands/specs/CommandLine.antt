@@ -8,7 +8,7 @@ use Rattle.clap.specs.Words.{App, Row, Rule, Shape, Text, first_of, new_app, new
 use Rattle.clap.specs.declared.builder.ArgAction.TheVariants.{Set}
 use Rattle.clap.specs.declared.builder.value_parser.ValueParser.{ValueParser}
 use Rattle.clap.specs.declared.builder.value_parser.ValueParser.TheVariants.{Signed}
-use Rattle.commands.specs.Sides.{HasSides}
+use Rattle.commands.specs.Dimensions.{HasDimensions}
 use Rattle.commands.specs.declared.asked.CommandLine.{CommandLine}
 use Rattle.commands.specs.declared.asked.CommandLine.TheVariants.{Check, List as ListLine, Over, Play, Prepare, Show}
 
@@ -29,16 +29,16 @@ abbrev pub file_app : Text → App
 file_app name = with_rule (new_app name) (name_rule (codes "FILE"))
 
 -- a command followed by W and H
-abbrev pub with_sides : App → App
-with_sides app = with_rule (with_rule app (side_rule (codes "W"))) (side_rule (codes "H"))
+abbrev pub with_dimensions : App → App
+with_dimensions app = with_rule (with_rule app (side_rule (codes "W"))) (side_rule (codes "H"))
 
 -- show FILE W H
 abbrev pub show_app : App
-show_app = with_sides (file_app (codes "show"))
+show_app = with_dimensions (file_app (codes "show"))
 
 -- prepare FILE W H OUT
 abbrev pub prepare_app : App
-prepare_app = with_rule (with_sides (file_app (codes "prepare"))) (name_rule (codes "OUT"))
+prepare_app = with_rule (with_dimensions (file_app (codes "prepare"))) (name_rule (codes "OUT"))
 
 -- check FILE CERT
 abbrev pub check_app : App
@@ -50,7 +50,7 @@ bands_rule = record (new_rule (codes "ROWS")) { long = Some (codes "bands"); act
 
 -- play FILE CERT W H [--bands ROWS]
 abbrev pub play_app : App
-play_app = with_rule (with_sides (with_rule (file_app (codes "play")) (name_rule (codes "CERT")))) bands_rule
+play_app = with_rule (with_dimensions (with_rule (file_app (codes "play")) (name_rule (codes "CERT")))) bands_rule
 
 -- over FILE CERT IMAGE
 abbrev pub over_app : App
@@ -83,7 +83,7 @@ pub record GivesNumber (given : List Row) (id : Text) (number : ℕ) : Type 0 wh
   pub reads : number ≡ number_of text
 
 -- the arguments W and H were given, and they read as these numbers
-pub record GivesSides (given : List Row) (width height : ℕ) : Type 0 where
+pub record GivesDimensions (given : List Row) (width height : ℕ) : Type 0 where
   pub wide : GivesNumber given (codes "W") width
   pub high : GivesNumber given (codes "H") height
 
@@ -107,12 +107,12 @@ command_name (ListLine file) = codes "list"
 
 -- a command line has the names and numbers of the given arguments
 abbrev pub HoldsWords : List Row → CommandLine → Type 0
-HoldsWords given (Show file width height) = GivesName given (codes "FILE") file.now × GivesSides given width height
+HoldsWords given (Show file width height) = GivesName given (codes "FILE") file.now × GivesDimensions given width height
 HoldsWords given (Prepare file width height output) =
-    GivesName given (codes "FILE") file.now × GivesSides given width height × GivesName given (codes "OUT") output.now
+    GivesName given (codes "FILE") file.now × GivesDimensions given width height × GivesName given (codes "OUT") output.now
 HoldsWords given (Check file certificate) = GivesName given (codes "FILE") file.now × GivesName given (codes "CERT") certificate.now
 HoldsWords given (Play file certificate width height bands) =
-    GivesName given (codes "FILE") file.now × GivesName given (codes "CERT") certificate.now × GivesSides given width height × GivesBands given bands
+    GivesName given (codes "FILE") file.now × GivesName given (codes "CERT") certificate.now × GivesDimensions given width height × GivesBands given bands
 HoldsWords given (Over file certificate image) =
     GivesName given (codes "FILE") file.now × GivesName given (codes "CERT") certificate.now × GivesName given (codes "IMAGE") image.now
 HoldsWords given (ListLine file) = GivesName given (codes "FILE") file.now
@@ -193,6 +193,6 @@ pub record IsRightCommand (met : Option (Text × List Row)) : Type 0 where
 -- a statement holds for a command line that the words give, with valid sizes
 pub record HoldsOfAsked (words : List Text) (holds : CommandLine → Type 0) : Type 0 where
   pub line : CommandLine
-  pub sides : HasSides line
+  pub dimensions : HasDimensions line
   pub asked : IsAskedByWords words line
   pub fact : holds line

@@ -2,17 +2,17 @@
 use Rattle.std.specs.Prelude.{◌⊎◌, ℕ, List, Option, codes}
 use Rattle.std.specs.Io.KnownBytes.{Appends, Keeps}
 use Rattle.draw_ops.specs.declared.fault.Fault.{Fault}
-use Rattle.canvas.specs.Ppm.{AppendsFront}
-use Rattle.preflight_cert.specs.Answer.{IsAnswer, refuses}
+use Rattle.canvas.specs.Ppm.{AppendsPrefix}
+use Rattle.preflight_cert.specs.Answer.{IsAnswer, rejects}
 use Rattle.preflight_cert.specs.Preparation.{Prepares}
 use Rattle.preflight_cert.specs.Refusal.{refusal_text}
-use Rattle.preflight_cert.specs.Run.{Refused, white}
+use Rattle.preflight_cert.specs.Run.{Rejected, white}
 use Rattle.preflight_cert.specs.declared.refusal.Refusal.{Refusal}
 use Rattle.player.specs.Bands.{IsRunText}
-use Rattle.commands.specs.CheckReport.{ReportsAccepted, ReportsRefused}
-use Rattle.commands.specs.Images.{IsPlayedOverText, IsPlayedText, RefusesOver, RefusesPlay}
+use Rattle.commands.specs.CheckReport.{ReportsAccepted, ReportsRejected}
+use Rattle.commands.specs.Images.{IsPlayedOverText, IsPlayedText, RejectsOver, RejectsPlay}
 use Rattle.commands.specs.Listings.{IsListing, Lists}
-use Rattle.commands.specs.Report.{Reports, TellsNothing, Told}
+use Rattle.commands.specs.Report.{Reports, PrintsNothing, Printed}
 use Rattle.commands.specs.Tasks.{Task, check, list, over, play, prepare, show}
 use Rattle.listing.specs.declared.listing_end.ListingEnd.TheVariants.{Broken, Ended}
 use Rattle.commands.specs.declared.command_end.Completion.{Completion}
@@ -31,17 +31,17 @@ IsDoneBy (list file) text = Lists file Ended text
 
 -- The fault by which a task is rejected, in a record or in none. A listing reports faults itself, and is never
 -- rejected.
-abbrev pub IsRefusedBy : Task → Option ℕ → Fault → Type 0
-IsRefusedBy (show file width height) number fault = Refused file width height number fault
-IsRefusedBy (prepare file width height) number fault = Refused file width height number fault
-IsRefusedBy (check file certificate) number fault = IsAnswer file certificate (refuses number fault)
-IsRefusedBy (play file certificate width height) number fault = RefusesPlay file certificate width height number fault
-IsRefusedBy (over file certificate image) number fault = RefusesOver file certificate image number fault
-IsRefusedBy (list file) number fault = ⊥
+abbrev pub IsRejectedBy : Task → Option ℕ → Fault → Type 0
+IsRejectedBy (show file width height) number fault = Rejected file width height number fault
+IsRejectedBy (prepare file width height) number fault = Rejected file width height number fault
+IsRejectedBy (check file certificate) number fault = IsAnswer file certificate (rejects number fault)
+IsRejectedBy (play file certificate width height) number fault = RejectsPlay file certificate width height number fault
+IsRejectedBy (over file certificate image) number fault = RejectsOver file certificate image number fault
+IsRejectedBy (list file) number fault = ⊥
 
 -- a text that a task writes if its output accepts it: that of a task that is done, or of a rejected check or listing
 abbrev pub IsTextOf : Task → List ℕ → Type 0
-IsTextOf (check file certificate) text = ReportsAccepted file certificate text ⊎ ReportsRefused file certificate text
+IsTextOf (check file certificate) text = ReportsAccepted file certificate text ⊎ ReportsRejected file certificate text
 IsTextOf (list file) text = IsListing file text
 IsTextOf task text = IsDoneBy task text
 
@@ -52,48 +52,48 @@ pub record WritesText (holds : List ℕ → Type 0) (old new : Option (List ℕ)
   pub written : Appends old new text
 
 -- a prefix of a text with some property was written
-pub record WritesFront (holds : List ℕ → Type 0) (old new : Option (List ℕ)) : Type 0 where
+pub record WritesPrefix (holds : List ℕ → Type 0) (old new : Option (List ℕ)) : Type 0 where
   pub text : List ℕ
   pub fact : holds text
-  pub written : AppendsFront old new text
+  pub written : AppendsPrefix old new text
 
 -- what a rejected task has written: a check its report, a listing the lines of records that break, any other task
 -- nothing
-abbrev pub WritesRefused : Task → Option (List ℕ) → Option (List ℕ) → Type 0
-WritesRefused (check file certificate) old new = WritesText (ReportsRefused file certificate) old new
-WritesRefused (list file) old new = WritesText (Lists file Broken) old new
-WritesRefused task old new = Keeps old new
+abbrev pub WritesRejected : Task → Option (List ℕ) → Option (List ℕ) → Type 0
+WritesRejected (check file certificate) old new = WritesText (ReportsRejected file certificate) old new
+WritesRejected (list file) old new = WritesText (Lists file Broken) old new
+WritesRejected task old new = Keeps old new
 
 -- What a task has written to its output: its text and nothing else; a prefix of it if the output failed; nothing if an
 -- allocation failed. It doesn't end in any other way.
 abbrev pub WritesBy : CommandEnd → Task → Option (List ℕ) → Option (List ℕ) → Type 0
 WritesBy end.Done task old new = WritesText (IsDoneBy task) old new
-WritesBy end.Refused task old new = WritesRefused task old new
-WritesBy end.CannotWrite task old new = WritesFront (IsTextOf task) old new
+WritesBy end.Rejected task old new = WritesRejected task old new
+WritesBy end.CannotWrite task old new = WritesPrefix (IsTextOf task) old new
 WritesBy end.OutOfMemory task old new = Keeps old new
 WritesBy end.WrongUsage task old new = ⊥
 WritesBy end.CannotRead task old new = ⊥
 
 -- the line for the task's rejection was reported
-pub record TellsRefusal (task : Task) (told : Told) (old new : Option (List ℕ)) : Type 0 where
+pub record PrintsRefusal (task : Task) (printed : Printed) (old new : Option (List ℕ)) : Type 0 where
   pub refusal : Refusal
-  pub refused : IsRefusedBy task refusal.number refusal.fault
-  pub reported : Reports told old new (refusal_text refusal)
+  pub rejected : IsRejectedBy task refusal.number refusal.fault
+  pub reported : Reports printed old new (refusal_text refusal)
 
 -- what a rejected task reports on standard error: a check and a listing nothing, any other task its rejection
-abbrev pub TellsRefused : Task → Told → Option (List ℕ) → Option (List ℕ) → Type 0
-TellsRefused (check file certificate) told old new = TellsNothing told old new
-TellsRefused (list file) told old new = TellsNothing told old new
-TellsRefused task told old new = TellsRefusal task told old new
+abbrev pub PrintsRejected : Task → Printed → Option (List ℕ) → Option (List ℕ) → Type 0
+PrintsRejected (check file certificate) printed old new = PrintsNothing printed old new
+PrintsRejected (list file) printed old new = PrintsNothing printed old new
+PrintsRejected task printed old new = PrintsRefusal task printed old new
 
 -- What a task reports on standard error: nothing if it is done, otherwise one line.
-abbrev pub TellsBy : CommandEnd → Task → Told → Option (List ℕ) → Option (List ℕ) → Type 0
-TellsBy end.Done task told old new = TellsNothing told old new
-TellsBy end.Refused task told old new = TellsRefused task told old new
-TellsBy end.CannotWrite task told old new = Reports told old new (codes "cannot write")
-TellsBy end.OutOfMemory task told old new = Reports told old new (codes "OutOfMemory")
-TellsBy end.WrongUsage task told old new = ⊥
-TellsBy end.CannotRead task told old new = ⊥
+abbrev pub PrintsBy : CommandEnd → Task → Printed → Option (List ℕ) → Option (List ℕ) → Type 0
+PrintsBy end.Done task printed old new = PrintsNothing printed old new
+PrintsBy end.Rejected task printed old new = PrintsRejected task printed old new
+PrintsBy end.CannotWrite task printed old new = Reports printed old new (codes "cannot write")
+PrintsBy end.OutOfMemory task printed old new = Reports printed old new (codes "OutOfMemory")
+PrintsBy end.WrongUsage task printed old new = ⊥
+PrintsBy end.CannotRead task printed old new = ⊥
 
 module _ {W : Type 0} where
   -- a task is done, and its text was written to a writer with these contents
@@ -104,5 +104,5 @@ module _ {W : Type 0} where
   abbrev pub Writes : Task → Completion → (W → Option (List ℕ)) → W → W → Type 0
   Writes task answer contents old new = WritesBy answer.end task (contents old) (contents new)
 
-  abbrev pub Tells : Task → Completion → (W → Option (List ℕ)) → W → W → Type 0
-  Tells task answer contents old new = TellsBy answer.end task answer.told (contents old) (contents new)
+  abbrev pub Prints : Task → Completion → (W → Option (List ℕ)) → W → W → Type 0
+  Prints task answer contents old new = PrintsBy answer.end task answer.printed (contents old) (contents new)

@@ -5,7 +5,7 @@ use Rattle.draw_ops.specs.declared.fault.Fault.TheVariants.{BadImage, SurfaceToo
 use Rattle.mapping.specs.Image.{Image}
 use Rattle.canvas.specs.Ppm.{ppm_text}
 use Rattle.canvas.specs.PpmReading.{read_ppm}
-use Rattle.preflight_cert.specs.Answer.{IsAnswer, accepted, refuses}
+use Rattle.preflight_cert.specs.Answer.{IsAnswer, accepted, rejects}
 use Rattle.preflight_cert.specs.CertificateReading.{CertificateValue, read_certificate}
 use Rattle.preflight_cert.specs.Run.{Run, shown}
 
@@ -36,16 +36,16 @@ pub record IsPlayedText (file certificate : List ℕ) (width height : ℕ) (star
   pub is_text : text ≡ ppm_text image
 
 -- the certificate is accepted for the file, but the surface exceeds its bound
-pub record IsRefusedAsTooLarge (file certificate : List ℕ) (width height : ℕ) (number : Option ℕ) (fault : Fault) : Type 0 where
+pub record IsRejectedAsTooLarge (file certificate : List ℕ) (width height : ℕ) (number : Option ℕ) (fault : Fault) : Type 0 where
   pub accepted : IsAnswer file certificate accepted
   pub excluded : Excludes certificate width height
   pub in_none : number ≡ None
   pub is_fault : fault ≡ SurfaceTooLarge
 
 -- the check rejects the pair, or else the surface exceeds the certificate's bound
-abbrev pub RefusesPlay : List ℕ → List ℕ → ℕ → ℕ → Option ℕ → Fault → Type 0
-RefusesPlay file certificate width height number fault =
-    IsAnswer file certificate (refuses number fault) ⊎ IsRefusedAsTooLarge file certificate width height number fault
+abbrev pub RejectsPlay : List ℕ → List ℕ → ℕ → ℕ → Option ℕ → Fault → Type 0
+RejectsPlay file certificate width height number fault =
+    IsAnswer file certificate (rejects number fault) ⊎ IsRejectedAsTooLarge file certificate width height number fault
 
 -- The bytes are a valid P6 image, and the file is played over it, at its size.
 pub record IsPlayedOver (file certificate bytes : List ℕ) (image : Image) : Type 0 where
@@ -70,10 +70,10 @@ pub record IsNoImage (file certificate bytes : List ℕ) (number : Option ℕ) (
 pub record IsTooLargeImage (file certificate bytes : List ℕ) (number : Option ℕ) (fault : Fault) : Type 0 where
   pub start : Image
   pub read : read_ppm bytes ≡ Some start
-  pub larger : IsRefusedAsTooLarge file certificate start.width start.height number fault
+  pub larger : IsRejectedAsTooLarge file certificate start.width start.height number fault
 
 -- the check rejects the pair, or else the bytes aren't a valid image, or else the image exceeds the certificate's bound
-abbrev pub RefusesOver : List ℕ → List ℕ → List ℕ → Option ℕ → Fault → Type 0
-RefusesOver file certificate bytes number fault =
-    (IsAnswer file certificate (refuses number fault) ⊎ IsNoImage file certificate bytes number fault)
+abbrev pub RejectsOver : List ℕ → List ℕ → List ℕ → Option ℕ → Fault → Type 0
+RejectsOver file certificate bytes number fault =
+    (IsAnswer file certificate (rejects number fault) ⊎ IsNoImage file certificate bytes number fault)
     ⊎ IsTooLargeImage file certificate bytes number fault

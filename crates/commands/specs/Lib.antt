@@ -13,6 +13,6 @@ pub mod Reading
 pub mod Report
 pub mod Reported
 pub mod RightWords
-pub mod Sides
+pub mod Dimensions
 pub mod Statuses
 pub mod Tasks

@@ -4,9 +4,9 @@ use Rattle.std.specs.Io.KnownBytes.{Keeps}
 use Rattle.clap.specs.Words.{Text}
 use Rattle.std.specs.declared.alloc.Global.{Global}
 use Rattle.commands.specs.CommandLine.{HoldsOfAsked, texts_of}
-use Rattle.commands.specs.Ends.{TellsBy, WritesBy}
-use Rattle.commands.specs.Report.{Reports, TellsNothing, Told}
-use Rattle.commands.specs.Sides.{HoldsOfSome, file_of}
+use Rattle.commands.specs.Ends.{PrintsBy, WritesBy}
+use Rattle.commands.specs.Report.{Reports, PrintsNothing, Printed}
+use Rattle.commands.specs.Dimensions.{HoldsOfSome, file_of}
 use Rattle.commands.specs.Tasks.{Task, check, list, over, play, prepare, show}
 use Rattle.commands.specs.declared.command_end.Completion.{Completion}
 use Rattle.commands.specs.declared.command_end.CommandEnd.{CommandEnd}
@@ -48,31 +48,31 @@ pub record LeavesOut (line : CommandLine) (input : Option (List ℕ)) (end : Com
   pub written : LineWrites line (task_of line file certificate image) end old new
 
 -- the task of a command line reported this on standard error, for some bytes of its inputs
-pub record LeavesErr (line : CommandLine) (input : Option (List ℕ)) (end : CommandEnd) (told : Told) (old new : Option (List ℕ)) : Type 0 where
+pub record LeavesErr (line : CommandLine) (input : Option (List ℕ)) (end : CommandEnd) (printed : Printed) (old new : Option (List ℕ)) : Type 0 where
   pub file : List ℕ
   pub certificate : List ℕ
   pub image : List ℕ
   pub read : IsInput (file_of line) input file
-  pub tells : TellsBy end (task_of line file certificate image) told old new
+  pub prints : PrintsBy end (task_of line file certificate image) printed old new
 
 -- What a command line writes to standard output, by how it ends: nothing if an input can't be read or an allocation
 -- failed.
 abbrev pub OutBy : CommandEnd → CommandLine → Option (List ℕ) → Option (List ℕ) → Option (List ℕ) → Type 0
 OutBy end.Done line input old new = LeavesOut line input end.Done old new
-OutBy end.Refused line input old new = LeavesOut line input end.Refused old new
+OutBy end.Rejected line input old new = LeavesOut line input end.Rejected old new
 OutBy end.CannotWrite line input old new = LeavesOut line input end.CannotWrite old new
 OutBy end.CannotRead line input old new = Keeps old new
 OutBy end.OutOfMemory line input old new = Keeps old new
 OutBy end.WrongUsage line input old new = ⊥
 
 -- What a command line reports on standard error, by how it ends.
-abbrev pub ErrBy : CommandEnd → CommandLine → Option (List ℕ) → Told → Option (List ℕ) → Option (List ℕ) → Type 0
-ErrBy end.Done line input told old new = TellsNothing told old new
-ErrBy end.Refused line input told old new = LeavesErr line input end.Refused told old new
-ErrBy end.CannotWrite line input told old new = Reports told old new (codes "cannot write")
-ErrBy end.CannotRead line input told old new = Reports told old new (codes "cannot read")
-ErrBy end.OutOfMemory line input told old new = Reports told old new (codes "OutOfMemory")
-ErrBy end.WrongUsage line input told old new = ⊥
+abbrev pub ErrBy : CommandEnd → CommandLine → Option (List ℕ) → Printed → Option (List ℕ) → Option (List ℕ) → Type 0
+ErrBy end.Done line input printed old new = PrintsNothing printed old new
+ErrBy end.Rejected line input printed old new = LeavesErr line input end.Rejected printed old new
+ErrBy end.CannotWrite line input printed old new = Reports printed old new (codes "cannot write")
+ErrBy end.CannotRead line input printed old new = Reports printed old new (codes "cannot read")
+ErrBy end.OutOfMemory line input printed old new = Reports printed old new (codes "OutOfMemory")
+ErrBy end.WrongUsage line input printed old new = ⊥
 
 -- What the program writes to standard output for its words: anything if they are wrong usage, otherwise what a command
 -- line that they give writes.
@@ -82,10 +82,10 @@ OutOfWords end.OutOfMemory words input old new = Keeps old new
 OutOfWords end words input old new = HoldsOfAsked words (λ line. OutBy end line input old new)
 
 -- What the program reports on standard error for its words.
-abbrev pub ErrOfWords : CommandEnd → List Text → Option (List ℕ) → Told → Option (List ℕ) → Option (List ℕ) → Type 0
-ErrOfWords end.WrongUsage words input told old new = ⊤
-ErrOfWords end.OutOfMemory words input told old new = Reports told old new (codes "OutOfMemory")
-ErrOfWords end words input told old new = HoldsOfAsked words (λ line. ErrBy end line input told old new)
+abbrev pub ErrOfWords : CommandEnd → List Text → Option (List ℕ) → Printed → Option (List ℕ) → Option (List ℕ) → Type 0
+ErrOfWords end.WrongUsage words input printed old new = ⊤
+ErrOfWords end.OutOfMemory words input printed old new = Reports printed old new (codes "OutOfMemory")
+ErrOfWords end words input printed old new = HoldsOfAsked words (λ line. ErrBy end line input printed old new)
 
 -- what the program writes to standard output, or reports on standard error, for some command line
 abbrev pub OutOfSome : CommandEnd → Option (List ℕ) → Option (List ℕ) → Option (List ℕ) → Type 0
@@ -93,10 +93,10 @@ OutOfSome end.WrongUsage input old new = ⊤
 OutOfSome end.OutOfMemory input old new = Keeps old new
 OutOfSome end input old new = HoldsOfSome (λ line. OutBy end line input old new)
 
-abbrev pub ErrOfSome : CommandEnd → Option (List ℕ) → Told → Option (List ℕ) → Option (List ℕ) → Type 0
-ErrOfSome end.WrongUsage input told old new = ⊤
-ErrOfSome end.OutOfMemory input told old new = Reports told old new (codes "OutOfMemory")
-ErrOfSome end input told old new = HoldsOfSome (λ line. ErrBy end line input told old new)
+abbrev pub ErrOfSome : CommandEnd → Option (List ℕ) → Printed → Option (List ℕ) → Option (List ℕ) → Type 0
+ErrOfSome end.WrongUsage input printed old new = ⊤
+ErrOfSome end.OutOfMemory input printed old new = Reports printed old new (codes "OutOfMemory")
+ErrOfSome end input printed old new = HoldsOfSome (λ line. ErrBy end line input printed old new)
 
 module _ {W : Type 0} where
   -- what a task, a command line, given words, or some words write to a writer with these contents
@@ -114,20 +114,20 @@ module _ {W : Type 0} where
   WritesSome input answer contents old new = OutOfSome answer.end input (contents old) (contents new)
 
   -- what a task, a command line, given words, or some words report on a writer with these contents
-  abbrev pub TaskTells : CommandLine → Inputs → Completion → (W → Option (List ℕ)) → W → W → Type 0
-  TaskTells line inputs answer contents old new =
-      TellsBy answer.end (task_of line inputs.file.items inputs.certificate.items inputs.image.items) answer.told (contents old) (contents new)
+  abbrev pub TaskPrints : CommandLine → Inputs → Completion → (W → Option (List ℕ)) → W → W → Type 0
+  TaskPrints line inputs answer contents old new =
+      PrintsBy answer.end (task_of line inputs.file.items inputs.certificate.items inputs.image.items) answer.printed (contents old) (contents new)
 
-  abbrev pub TellsLine : CommandLine → Option (List ℕ) → Completion → (W → Option (List ℕ)) → W → W → Type 0
-  TellsLine line input answer contents old new = ErrBy answer.end line input answer.told (contents old) (contents new)
+  abbrev pub PrintsLine : CommandLine → Option (List ℕ) → Completion → (W → Option (List ℕ)) → W → W → Type 0
+  PrintsLine line input answer contents old new = ErrBy answer.end line input answer.printed (contents old) (contents new)
 
-  abbrev pub TellsAsked : List (String Global) → Option (List ℕ) → Completion → (W → Option (List ℕ)) → W → W → Type 0
-  TellsAsked words input answer contents old new =
-      ErrOfWords answer.end (texts_of words) input answer.told (contents old) (contents new)
+  abbrev pub PrintsAsked : List (String Global) → Option (List ℕ) → Completion → (W → Option (List ℕ)) → W → W → Type 0
+  PrintsAsked words input answer contents old new =
+      ErrOfWords answer.end (texts_of words) input answer.printed (contents old) (contents new)
 
-  abbrev pub TellsSome : Option (List ℕ) → Completion → (W → Option (List ℕ)) → W → W → Type 0
-  TellsSome input answer contents old new = ErrOfSome answer.end input answer.told (contents old) (contents new)
+  abbrev pub PrintsSome : Option (List ℕ) → Completion → (W → Option (List ℕ)) → W → W → Type 0
+  PrintsSome input answer contents old new = ErrOfSome answer.end input answer.printed (contents old) (contents new)
 
   -- it is reported that an allocation failed
-  abbrev pub TellsMemory : Completion → (W → Option (List ℕ)) → W → W → Type 0
-  TellsMemory answer contents old new = Reports answer.told (contents old) (contents new) (codes "OutOfMemory")
+  abbrev pub PrintsMemory : Completion → (W → Option (List ℕ)) → W → W → Type 0
+  PrintsMemory answer contents old new = Reports answer.printed (contents old) (contents new) (codes "OutOfMemory")

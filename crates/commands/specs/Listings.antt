@@ -7,7 +7,7 @@ use Rattle.listing.specs.declared.listing_end.ListingEnd.TheVariants.{Broken, En
 -- a text is the listing of a file, and its records end in this way
 pub record Lists (file : List ℕ) (listed : ListingEnd) (text : List ℕ) : Type 0 where
   pub end : listed ≡ listed_of file
-  pub told : text ≡ listing_of file
+  pub printed : text ≡ listing_of file
 
 -- a text is the listing of a file, however its records end
 abbrev pub IsListing : List ℕ → List ℕ → Type 0

@@ -32,4 +32,4 @@ module _ {W : Type 0} where
   -- unless the command ends with its usage, the message on standard error can be incomplete only because that writer
   -- failed
   abbrev pub IsUnreported : Completion → (W → ℕ) → W → W → Type 0
-  IsUnreported answer count old new = answer.end ≢ end.WrongUsage → OnErr answer.told (Rises count old new)
+  IsUnreported answer count old new = answer.end ≢ end.WrongUsage → OnErr answer.printed (Rises count old new)

@@ -7,6 +7,6 @@ unfoldable pub input_limit : ℕ
 input_limit = 268435456
 
 -- a prefix of the known bytes was consumed
-pub record ConsumesFront (old new : Option (List ℕ)) : Type 0 where
-  pub front : List ℕ
-  pub consumed : Consumes old new front
+pub record ConsumesPrefix (old new : Option (List ℕ)) : Type 0 where
+  pub prefix : List ℕ
+  pub consumed : Consumes old new prefix

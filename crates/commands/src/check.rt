@@ -2,10 +2,10 @@
 
 ghost use Rattle.std.specs.Prelude.{◌≡◌, ◌⊎◌, ◌-◌, ◌^◌, ◌<◌, IfOk, OnErr, true};
 ghost use Rattle.commands.specs.Reported.{IsReportOf};
-ghost use Rattle.commands.specs.Ends.{Tells, Writes};
+ghost use Rattle.commands.specs.Ends.{Prints, Writes};
 ghost use Rattle.commands.specs.Tasks.{check};
 
-use crate::check_report::{accepted_report, refused_report};
+use crate::check_report::{accepted_report, rejected_report};
 use crate::command_end::{CommandEnd, Completion};
 use crate::reporting::report;
 use canvas::{FaultCount, send_finished};
@@ -22,38 +22,38 @@ pub fn check_command<O: FaultCount, E: FaultCount>(
     out: &mut O,
     err: &mut E,
 ) -> Completion
-    requires room_out { O.fault_count out.old < 2 ^ 64 - 1 }
-    requires room_err { E.fault_count err.old < 2 ^ 64 - 1 }
+    requires capacity_out { O.fault_count out.old < 2 ^ 64 - 1 }
+    requires capacity_err { E.fault_count err.old < 2 ^ 64 - 1 }
     ensures written { Writes (check file.now certificate.now) result O.contents out.old out.new }
-    ensures told { Tells (check file.now certificate.now) result E.contents err.old err.new }
+    ensures printed { Prints (check file.now certificate.now) result E.contents err.old err.new }
     ensures cannot_write { result.end ≡ CommandEnd.CannotWrite → O.fault_count out.old < O.fault_count out.new }
-    ensures unreported { OnErr result.told (E.fault_count err.old < E.fault_count err.new) }
-    ensures flushed { result.end ≡ CommandEnd.Done ⊎ result.end ≡ CommandEnd.Refused → O.is_flushed out.new ≡ true }
+    ensures unreported { OnErr result.printed (E.fault_count err.old < E.fault_count err.new) }
+    ensures flushed { result.end ≡ CommandEnd.Done ⊎ result.end ≡ CommandEnd.Rejected → O.is_flushed out.new ≡ true }
 {
     match report_check(alloc, file, certificate) {
         Ok(Report::Accepted(text)) => match send_finished(out, text.as_slice()) {
             Ok(()) => Completion {
                 end: CommandEnd::Done,
-                told: Ok(()),
+                printed: Ok(()),
             },
             Err(_) => Completion {
                 end: CommandEnd::CannotWrite,
-                told: report(err, "cannot write"),
+                printed: report(err, "cannot write"),
             },
         },
-        Ok(Report::Refused(text)) => match send_finished(out, text.as_slice()) {
+        Ok(Report::Rejected(text)) => match send_finished(out, text.as_slice()) {
             Ok(()) => Completion {
-                end: CommandEnd::Refused,
-                told: Ok(()),
+                end: CommandEnd::Rejected,
+                printed: Ok(()),
             },
             Err(_) => Completion {
                 end: CommandEnd::CannotWrite,
-                told: report(err, "cannot write"),
+                printed: report(err, "cannot write"),
             },
         },
         Err(AllocError) => Completion {
             end: CommandEnd::OutOfMemory,
-            told: report(err, "OutOfMemory"),
+            printed: report(err, "OutOfMemory"),
         },
     }
 }
@@ -64,7 +64,7 @@ enum Report {
     /// For an accepted certificate.
     Accepted(Vec<u8>),
     /// For a rejection.
-    Refused(Vec<u8>),
+    Rejected(Vec<u8>),
 }
 
 /// Checks a certificate against a file, and makes the report.
@@ -75,15 +75,15 @@ fn report_check(alloc: Global, file: &[u8], certificate: &[u8]) -> Result<Report
     match check(alloc, file, certificate) {
         Ok(cleared) => match accepted_report(alloc, &cleared) {
             Ok(text) => Ok(Report::Accepted(text)),
-            Err(refused) => Err(refused),
+            Err(rejected) => Err(rejected),
         },
         Err(refusal) => {
             if refusal.fault == Fault::OutOfMemory {
                 return Err(AllocError);
             }
-            match refused_report(alloc, refusal) {
-                Ok(text) => Ok(Report::Refused(text)),
-                Err(refused) => Err(refused),
+            match rejected_report(alloc, refusal) {
+                Ok(text) => Ok(Report::Rejected(text)),
+                Err(rejected) => Err(rejected),
             }
         }
     }

@@ -4,7 +4,7 @@ ghost use Rattle.std.specs.Prelude.{◌≡◌, IfOk, OnOk, false};
 ghost use Rattle.serde_json.specs.Data.{put as with_member, string};
 ghost use Rattle.serde_json.specs.View.{members_view, view};
 ghost use Rattle.serde_json.specs.Written.{has_float};
-ghost use Rattle.commands.specs.CheckReport.{needs_data, notes_data, refused_report, report_text, sides, whole, whole_if, with_kind};
+ghost use Rattle.commands.specs.CheckReport.{needs_data, notes_data, rejected_report, report_text, dimensions, whole, whole_if, with_kind};
 ghost use Rattle.commands.specs.ClearedFiles.{report_of};
 
 use dc_stack::Needs;
@@ -27,12 +27,12 @@ fn accepted_value(alloc: Global, cleared: &Cleared<'_>) -> Result<Value, AllocEr
 {
     let certificate = cleared.certificate;
     let format = cleared.opened.format.name();
-    let frame = sides_value(
+    let frame = dimensions_value(
         alloc,
         cleared.opened.frame.width,
         cleared.opened.frame.height,
     )?;
-    let max = sides_value(alloc, certificate.max_width, certificate.max_height)?;
+    let max = dimensions_value(alloc, certificate.max_width, certificate.max_height)?;
     let needs = needs_value(alloc, certificate.needs)?;
     let notes = notes_value(alloc, cleared.notes)?;
     let mut members = Map::new(alloc);
@@ -89,8 +89,8 @@ fn put_option(
 }
 
 /// A width and a height.
-fn sides_value(alloc: Global, width: u32, height: u32) -> Result<Value, AllocError>
-    ensures { IfOk result (λ value. view value ≡ sides width height) }
+fn dimensions_value(alloc: Global, width: u32, height: u32) -> Result<Value, AllocError>
+    ensures { IfOk result (λ value. view value ≡ dimensions width height) }
 {
     json!(in alloc; [width, height])
 }
@@ -141,16 +141,16 @@ fn put_kind(
 }
 
 /// The text of the report for a rejection.
-pub(crate) fn refused_report(alloc: Global, refusal: Refusal) -> Result<Vec<u8>, AllocError>
-    ensures { IfOk result (λ text. text.items ≡ report_text (refused_report refusal.number refusal.fault)) }
+pub(crate) fn rejected_report(alloc: Global, refusal: Refusal) -> Result<Vec<u8>, AllocError>
+    ensures { IfOk result (λ text. text.items ≡ report_text (rejected_report refusal.number refusal.fault)) }
 {
-    let report = refused_value(alloc, refusal)?;
+    let report = rejected_value(alloc, refusal)?;
     text_of(alloc, &report)
 }
 
 /// The report for a rejection.
-fn refused_value(alloc: Global, refusal: Refusal) -> Result<Value, AllocError>
-    ensures { IfOk result (λ value. view value ≡ refused_report refusal.number refusal.fault) }
+fn rejected_value(alloc: Global, refusal: Refusal) -> Result<Value, AllocError>
+    ensures { IfOk result (λ value. view value ≡ rejected_report refusal.number refusal.fault) }
 {
     let fault = refusal.fault;
     let mut members = Map::new(alloc);

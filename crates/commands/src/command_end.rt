@@ -8,7 +8,7 @@ pub enum CommandEnd {
     /// The work is done.
     Done,
     /// The file, the certificate, the image or the surface was rejected.
-    Refused,
+    Rejected,
     /// The command line is wrong, or asks for help.
     WrongUsage,
     /// An input can't be read.
@@ -29,7 +29,7 @@ impl CommandEnd {
     {
         match self {
             CommandEnd::Done => 0,
-            CommandEnd::Refused => 1,
+            CommandEnd::Rejected => 1,
             CommandEnd::WrongUsage => 2,
             CommandEnd::CannotRead | CommandEnd::CannotWrite => 3,
             CommandEnd::OutOfMemory => 4,
@@ -42,7 +42,7 @@ impl CommandEnd {
 pub struct Completion {
     pub end: CommandEnd,
     /// An error if the writer failed before the last byte of the message. Never an error if there was no message.
-    pub told: Result<(), WriteFault>,
+    pub printed: Result<(), WriteFault>,
 }
 
 impl Completion {

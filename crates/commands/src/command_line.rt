@@ -3,11 +3,11 @@
 ghost use Rattle.std.specs.Prelude.{◌≡◌, IfErr, IfOk, IfSome, IsSome, codes};
 ghost use Rattle.clap.specs.Words.{first_of, found_of, kind_of, rows_of, subcommand_rows_of};
 ghost use Rattle.mapping.specs.Limits.{IsSurfaceSide};
-ghost use Rattle.commands.specs.CommandLine.{GivesAll, GivesArgument, GivesBands, GivesName, GivesNumber, GivesSide, GivesSides};
+ghost use Rattle.commands.specs.CommandLine.{GivesAll, GivesArgument, GivesBands, GivesName, GivesNumber, GivesSide, GivesDimensions};
 ghost use Rattle.commands.specs.CommandLine.{HasPlainWords, HoldsWords, IsAskedBy, IsAskedByWords, IsRightCommand, command_name, texts_of};
 ghost use Rattle.commands.specs.CommandLine.{bands_rule, check_app, list_app, over_app, play_app, prepare_app, show_app, side_rules};
 ghost use Rattle.commands.specs.RightWords.{AreRightWords};
-ghost use Rattle.commands.specs.Sides.{AreSides, HasSides};
+ghost use Rattle.commands.specs.Dimensions.{AreDimensions, HasDimensions};
 
 use crate::asked::CommandLine;
 use crate::declared::metaplay;
@@ -20,7 +20,7 @@ use std::alloc::Global;
 /// the user; help is an error too. If the words are right for a command, parsing can fail only because an allocation
 /// failed.
 pub fn line<'a>(alloc: Global, words: &'a [String]) -> Result<CommandLine<'a>, Error>
-    ensures sides { IfOk result HasSides }
+    ensures dimensions { IfOk result HasDimensions }
     ensures asked { IfOk result (IsAskedByWords (texts_of words.entry.now)) }
     ensures plain { IfOk result (HasPlainWords (texts_of words.entry.now)) }
     ensures taken { IfErr result (λ e. AreRightWords (texts_of words.entry.now) → kind_of e ≡ ErrorKind.OutOfMemory) }
@@ -35,7 +35,7 @@ pub fn line<'a>(alloc: Global, words: &'a [String]) -> Result<CommandLine<'a>, E
 
 /// The command that was found, if its numbers are in range.
 fn asked<'a>(matches: &ArgMatches<'a>) -> Option<CommandLine<'a>>
-    ensures sides { IfSome result HasSides }
+    ensures dimensions { IfSome result HasDimensions }
     ensures asked { IfSome result (IsAskedBy (subcommand_rows_of matches.now)) }
     ensures taken { IsRightCommand (subcommand_rows_of matches.now) → IsSome result }
 {
@@ -62,7 +62,7 @@ fn asked<'a>(matches: &ArgMatches<'a>) -> Option<CommandLine<'a>>
 
 /// The arguments of `show`.
 fn asked_show<'a>(given: &ArgMatches<'a>) -> Option<CommandLine<'a>>
-    ensures sides { IfSome result HasSides }
+    ensures dimensions { IfSome result HasDimensions }
     ensures name { IfSome result (λ line. command_name line ≡ codes "show") }
     ensures gives { IfSome result (HoldsWords (rows_of (found_of given.now))) }
     ensures taken { GivesAll show_app.top.rules (rows_of (found_of given.now)) → IsSome result }
@@ -70,7 +70,7 @@ fn asked_show<'a>(given: &ArgMatches<'a>) -> Option<CommandLine<'a>>
     let Some(file) = name_of(given, "FILE") else {
         return None;
     };
-    let Some((width, height)) = sides_of(given) else {
+    let Some((width, height)) = dimensions_of(given) else {
         return None;
     };
     Some(CommandLine::Show {
@@ -82,7 +82,7 @@ fn asked_show<'a>(given: &ArgMatches<'a>) -> Option<CommandLine<'a>>
 
 /// The arguments of `prepare`.
 fn asked_prepare<'a>(given: &ArgMatches<'a>) -> Option<CommandLine<'a>>
-    ensures sides { IfSome result HasSides }
+    ensures dimensions { IfSome result HasDimensions }
     ensures name { IfSome result (λ line. command_name line ≡ codes "prepare") }
     ensures gives { IfSome result (HoldsWords (rows_of (found_of given.now))) }
     ensures taken { GivesAll prepare_app.top.rules (rows_of (found_of given.now)) → IsSome result }
@@ -90,7 +90,7 @@ fn asked_prepare<'a>(given: &ArgMatches<'a>) -> Option<CommandLine<'a>>
     let Some(file) = name_of(given, "FILE") else {
         return None;
     };
-    let Some((width, height)) = sides_of(given) else {
+    let Some((width, height)) = dimensions_of(given) else {
         return None;
     };
     let Some(output) = name_of(given, "OUT") else {
@@ -106,7 +106,7 @@ fn asked_prepare<'a>(given: &ArgMatches<'a>) -> Option<CommandLine<'a>>
 
 /// The arguments of `check`.
 fn asked_check<'a>(given: &ArgMatches<'a>) -> Option<CommandLine<'a>>
-    ensures sides { IfSome result HasSides }
+    ensures dimensions { IfSome result HasDimensions }
     ensures name { IfSome result (λ line. command_name line ≡ codes "check") }
     ensures gives { IfSome result (HoldsWords (rows_of (found_of given.now))) }
     ensures taken { GivesAll check_app.top.rules (rows_of (found_of given.now)) → IsSome result }
@@ -122,7 +122,7 @@ fn asked_check<'a>(given: &ArgMatches<'a>) -> Option<CommandLine<'a>>
 
 /// The arguments of `play`.
 fn asked_play<'a>(given: &ArgMatches<'a>) -> Option<CommandLine<'a>>
-    ensures sides { IfSome result HasSides }
+    ensures dimensions { IfSome result HasDimensions }
     ensures name { IfSome result (λ line. command_name line ≡ codes "play") }
     ensures gives { IfSome result (HoldsWords (rows_of (found_of given.now))) }
     ensures taken { GivesAll play_app.top.rules (rows_of (found_of given.now)) → IsSome result }
@@ -133,7 +133,7 @@ fn asked_play<'a>(given: &ArgMatches<'a>) -> Option<CommandLine<'a>>
     let Some(certificate) = name_of(given, "CERT") else {
         return None;
     };
-    let Some((width, height)) = sides_of(given) else {
+    let Some((width, height)) = dimensions_of(given) else {
         return None;
     };
     let Some(bands) = bands_of(given) else {
@@ -150,7 +150,7 @@ fn asked_play<'a>(given: &ArgMatches<'a>) -> Option<CommandLine<'a>>
 
 /// The arguments of `over`.
 fn asked_over<'a>(given: &ArgMatches<'a>) -> Option<CommandLine<'a>>
-    ensures sides { IfSome result HasSides }
+    ensures dimensions { IfSome result HasDimensions }
     ensures name { IfSome result (λ line. command_name line ≡ codes "over") }
     ensures gives { IfSome result (HoldsWords (rows_of (found_of given.now))) }
     ensures taken { GivesAll over_app.top.rules (rows_of (found_of given.now)) → IsSome result }
@@ -173,7 +173,7 @@ fn asked_over<'a>(given: &ArgMatches<'a>) -> Option<CommandLine<'a>>
 
 /// The arguments of `list`.
 fn asked_list<'a>(given: &ArgMatches<'a>) -> Option<CommandLine<'a>>
-    ensures sides { IfSome result HasSides }
+    ensures dimensions { IfSome result HasDimensions }
     ensures name { IfSome result (λ line. command_name line ≡ codes "list") }
     ensures gives { IfSome result (HoldsWords (rows_of (found_of given.now))) }
     ensures taken { GivesAll list_app.top.rules (rows_of (found_of given.now)) → IsSome result }
@@ -193,9 +193,9 @@ fn name_of<'a>(given: &ArgMatches<'a>, id: &str) -> Option<&'a str>
 }
 
 /// The width and height of a surface, if they are in range.
-fn sides_of(given: &ArgMatches<'_>) -> Option<(u32, u32)>
-    ensures sides { IfSome result (λ sides. AreSides sides.0 sides.1) }
-    ensures given { IfSome result (λ sides. GivesSides (rows_of (found_of given.now)) sides.0 sides.1) }
+fn dimensions_of(given: &ArgMatches<'_>) -> Option<(u32, u32)>
+    ensures dimensions { IfSome result (λ dimensions. AreDimensions dimensions.0 dimensions.1) }
+    ensures given { IfSome result (λ dimensions. GivesDimensions (rows_of (found_of given.now)) dimensions.0 dimensions.1) }
     ensures taken { GivesAll side_rules (rows_of (found_of given.now)) → IsSome result }
 {
     let Some(width) = side_of(given, "W") else {

@@ -4,7 +4,7 @@ ghost use Rattle.std.specs.Prelude.{◌≡◌, IfOk, false};
 ghost use Rattle.clap.specs.Words.{app_of, rule_of};
 ghost use Rattle.commands.specs.CommandLine.{check_app, file_app, list_app, metaplay_app, name_rule, over_app};
 ghost use Rattle.commands.specs.CommandLine.{bands_rule, play_app, prepare_app, show_app, side_rule};
-ghost use Rattle.commands.specs.Apps.{AddsSides, IsLocalApp};
+ghost use Rattle.commands.specs.Apps.{AddsDimensions, IsLocalApp};
 
 use clap::{Arg, ArgAction, Command, value_parser};
 use mapping::MAX_SURFACE_SIDE;
@@ -73,7 +73,7 @@ fn show<'a>(alloc: Global) -> Result<Command<'a>, AllocError>
 {
     let about = "Plays a metafile on white and writes the image to standard output";
     let command = of_file(alloc, "show", about)?;
-    with_sides(alloc, command)
+    with_dimensions(alloc, command)
 }
 
 /// The command `prepare`.
@@ -82,7 +82,7 @@ fn prepare<'a>(alloc: Global) -> Result<Command<'a>, AllocError>
 {
     let about = "Makes a certificate for a metafile, for surfaces of at most W by H";
     let command = of_file(alloc, "prepare", about)?;
-    let command = with_sides(alloc, command)?;
+    let command = with_dimensions(alloc, command)?;
     command.arg(name(alloc, "OUT", "The file to write the certificate to"))
 }
 
@@ -102,7 +102,7 @@ fn play<'a>(alloc: Global) -> Result<Command<'a>, AllocError>
     let about = "Plays a metafile by its certificate on white and writes the image";
     let command = of_file(alloc, "play", about)?;
     let command = command.arg(name(alloc, "CERT", "The certificate"))?;
-    let command = with_sides(alloc, command)?;
+    let command = with_dimensions(alloc, command)?;
     command.arg(bands(alloc))
 }
 
@@ -139,8 +139,8 @@ fn of_file<'a>(alloc: Global, command: &'a str, about: &'a str) -> Result<Comman
 }
 
 /// Adds the width and height of a surface to a command.
-fn with_sides<'a>(alloc: Global, command: Command<'a>) -> Result<Command<'a>, AllocError>
-    ensures { IfOk result (AddsSides command.entry) }
+fn with_dimensions<'a>(alloc: Global, command: Command<'a>) -> Result<Command<'a>, AllocError>
+    ensures { IfOk result (AddsDimensions command.entry) }
 {
     command
         .arg(side(alloc, "W", "The width of the surface in pixels"))?

@@ -1,7 +1,7 @@
 //! Why a command fails, and how it ends then.
 
 ghost use Rattle.std.specs.Prelude.{◌≡◌, ◌-◌, ◌^◌, ◌<◌, OnErr};
-ghost use Rattle.commands.specs.Failures.{IsFailureOf, TellsEnding, ending_of};
+ghost use Rattle.commands.specs.Failures.{IsFailureOf, PrintsEnding, ending_of};
 
 use crate::command_end::{CommandEnd, Completion};
 use crate::reporting::{report, report_refusal};
@@ -13,7 +13,7 @@ use preflight_cert::Refusal;
 #[derive(Clone, Copy, Debug)]
 pub(crate) enum Failure {
     /// The file, the certificate, the image or the surface was rejected.
-    Refused(Refusal),
+    Rejected(Refusal),
     /// The output failed.
     CannotWrite,
     /// An allocation failed.
@@ -27,32 +27,32 @@ pub(crate) fn failure_of(refusal: Refusal) -> Failure
     if refusal.fault == Fault::OutOfMemory {
         return Failure::OutOfMemory;
     }
-    Failure::Refused(refusal)
+    Failure::Rejected(refusal)
 }
 
 /// Ends a command. If it failed, one line about the failure goes to `err`. A fault of `err` doesn't change the status.
 pub(crate) fn ending<E: FaultCount>(done: Result<(), Failure>, err: &mut E) -> Completion
-    requires room { E.fault_count err.old < 2 ^ 64 - 1 }
+    requires capacity { E.fault_count err.old < 2 ^ 64 - 1 }
     ensures end { result.end ≡ ending_of done }
-    ensures told { TellsEnding done result.told (E.contents err.old) (E.contents err.new) }
-    ensures unreported { OnErr result.told (E.fault_count err.old < E.fault_count err.new) }
+    ensures printed { PrintsEnding done result.printed (E.contents err.old) (E.contents err.new) }
+    ensures unreported { OnErr result.printed (E.fault_count err.old < E.fault_count err.new) }
 {
     match done {
         Ok(()) => Completion {
             end: CommandEnd::Done,
-            told: Ok(()),
+            printed: Ok(()),
         },
-        Err(Failure::Refused(refusal)) => Completion {
-            end: CommandEnd::Refused,
-            told: report_refusal(err, refusal),
+        Err(Failure::Rejected(refusal)) => Completion {
+            end: CommandEnd::Rejected,
+            printed: report_refusal(err, refusal),
         },
         Err(Failure::CannotWrite) => Completion {
             end: CommandEnd::CannotWrite,
-            told: report(err, "cannot write"),
+            printed: report(err, "cannot write"),
         },
         Err(Failure::OutOfMemory) => Completion {
             end: CommandEnd::OutOfMemory,
-            told: report(err, "OutOfMemory"),
+            printed: report(err, "OutOfMemory"),
         },
     }
 }

@@ -4,7 +4,7 @@ ghost use Rattle.std.specs.Prelude.{◌≡◌, ◌≤◌, ◌<◌, ◌↔◌, If
 ghost use Rattle.std.specs.IoError.{error_kind};
 ghost use Rattle.std.specs.Io.KnownBytes.{IsAtEnd};
 ghost use Rattle.commands.specs.Faults.{fault_text};
-ghost use Rattle.commands.specs.Reading.{ConsumesFront, input_limit};
+ghost use Rattle.commands.specs.Reading.{ConsumesPrefix, input_limit};
 
 use std::alloc::Global;
 use std::io;
@@ -60,7 +60,7 @@ pub fn read_input<R: Read>(alloc: Global, input: &mut R) -> Result<Vec<u8>, Inpu
     ensures end { OnOk result (IsAtEnd (R.remaining input.new)) }
     ensures within { IfOk result (λ bytes. vec_len bytes ≤ input_limit) }
     ensures longer { IfSome (R.remaining input.old) (λ all. input_limit < length all → IsErr result) }
-    ensures front { OnErr result (ConsumesFront (R.remaining input.old) (R.remaining input.new)) }
+    ensures prefix { OnErr result (ConsumesPrefix (R.remaining input.old) (R.remaining input.new)) }
 {
     let mut bytes = Vec::new(alloc);
     let mut piece = [0u8; PIECE];

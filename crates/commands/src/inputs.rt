@@ -4,7 +4,7 @@ ghost use Rattle.std.specs.Prelude.{◌≡◌, ◌≢◌, ◌≤◌, IfOk, vec_l
 ghost use Rattle.std.specs.Io.KnownBytes.{Keeps};
 ghost use Rattle.commands.specs.Lines.{IsInput, standard_input};
 ghost use Rattle.commands.specs.Reading.{input_limit};
-ghost use Rattle.commands.specs.Sides.{file_of};
+ghost use Rattle.commands.specs.Dimensions.{file_of};
 
 use crate::asked::CommandLine;
 use crate::input::{InputFault, read_input};

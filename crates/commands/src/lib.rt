@@ -8,7 +8,7 @@
 //! - An input is read in full, or reading it fails (`read_input`).
 //! - One definition for all commands says what a command writes to its output and to standard error, by how it ends
 //!   (`show_command`, `prepare_command`, `check_command`, `play_command`, `over_command`, `list_command`, by `Writes`
-//!   and `Tells`).
+//!   and `Prints`).
 //! - A command that is done has written one text and nothing else. That is the P6 text of the image that the file's
 //!   records define, over white (`show`, `play`) or over the given image (`over`); the prepared certificate
 //!   (`prepare`); the report of an accepted one (`check`); or the listing of records that end with an end record
@@ -18,8 +18,8 @@
 //!   own entry (`list_command`).
 //! - A command rejects its input only with the right fault: the file's first fault (`show`, `prepare`), or the fault
 //!   that the check reports. After a successful check, `play` can reject only a surface above the certificate's bound,
-//!   and `over` such a surface or an invalid image. Then nothing was written, except the report of `check`, and the lines of `list`
-//!   for records that break.
+//!   and `over` such a surface or an invalid image. Then nothing was written, except the report of `check`, and the
+//!   lines of `list` for records that break.
 //! - If an allocation fails, nothing was written. For `show`, `prepare` and `list` the file opens in that case, and for
 //!   `play` and `over` the certificate can be read too.
 //! - If an output fails, a prefix of such a text was written. A command ends by `CannotWrite` only if its output
@@ -41,6 +41,7 @@ mod command_end;
 mod command_line;
 mod declared;
 mod failure;
+mod image_output;
 mod input;
 mod inputs;
 mod list;
@@ -54,7 +55,6 @@ mod program;
 mod reporting;
 mod show;
 mod shown;
-mod writing;
 
 pub use asked::CommandLine;
 pub use check::check_command;

@@ -5,15 +5,15 @@ ghost use Rattle.canvas.specs.CanvasState.{image_of};
 ghost use Rattle.preflight_cert.specs.Reached.{OpensBoth};
 ghost use Rattle.preflight_cert.specs.Refusal.{IsWantOfMemory};
 ghost use Rattle.player.specs.Bounds.{IsWithinBound};
-ghost use Rattle.commands.specs.ClearedFiles.{Leaves, RefusesSurface};
-ghost use Rattle.commands.specs.Ends.{Tells, Writes, WritesDone};
+ghost use Rattle.commands.specs.ClearedFiles.{Leaves, RejectsSurface};
+ghost use Rattle.commands.specs.Ends.{Prints, Writes, WritesDone};
 ghost use Rattle.commands.specs.Failures.{FailsWith};
-ghost use Rattle.commands.specs.Images.{IsPlayedOver, RefusesOver};
+ghost use Rattle.commands.specs.Images.{IsPlayedOver, RejectsOver};
 ghost use Rattle.commands.specs.Tasks.{over};
 
 use crate::command_end::{CommandEnd, Completion};
 use crate::failure::{Failure, ending, failure_of};
-use crate::writing::write_image;
+use crate::image_output::write_image;
 use canvas::{Canvas, FaultCount, ImageError};
 use draw_ops::Fault;
 use player::play;
@@ -32,13 +32,13 @@ pub fn over_command<O: FaultCount, E: FaultCount>(
     out: &mut O,
     err: &mut E,
 ) -> Completion
-    requires room_out { O.fault_count out.old < 2 ^ 64 - 1 }
-    requires room_err { E.fault_count err.old < 2 ^ 64 - 1 }
+    requires capacity_out { O.fault_count out.old < 2 ^ 64 - 1 }
+    requires capacity_err { E.fault_count err.old < 2 ^ 64 - 1 }
     ensures written { Writes (over file.now certificate.now image.now) result O.contents out.old out.new }
-    ensures told { Tells (over file.now certificate.now image.now) result E.contents err.old err.new }
+    ensures printed { Prints (over file.now certificate.now image.now) result E.contents err.old err.new }
     ensures memory { result.end ≡ CommandEnd.OutOfMemory → OpensBoth file.now certificate.now }
     ensures cannot_write { result.end ≡ CommandEnd.CannotWrite → O.fault_count out.old < O.fault_count out.new }
-    ensures unreported { OnErr result.told (E.fault_count err.old < E.fault_count err.new) }
+    ensures unreported { OnErr result.printed (E.fault_count err.old < E.fault_count err.new) }
     ensures flushed { result.end ≡ CommandEnd.Done → O.is_flushed out.new ≡ true }
 {
     let done = write_over(alloc, file, certificate, image, out);
@@ -53,7 +53,7 @@ fn write_over<O: FaultCount>(
     image: &[u8],
     out: &mut O,
 ) -> Result<(), Failure>
-    requires room { O.fault_count out.old < 2 ^ 64 - 1 }
+    requires capacity { O.fault_count out.old < 2 ^ 64 - 1 }
     ensures done { OnOk result (WritesDone (over file.now certificate.now image.now) O.contents out.old out.new) }
     ensures failed { IfErr result (FailsWith (over file.now certificate.now image.now) O.contents out.old out.new) }
     ensures memory { IfErr result (λ failure. failure ≡ Failure.OutOfMemory → OpensBoth file.now certificate.now) }
@@ -79,7 +79,7 @@ fn over_file(
 ) -> Result<Canvas, Refusal>
     ensures image { IfOk result (λ canvas. IsPlayedOver file.now certificate.now image.now (image_of canvas)) }
     ensures refusal { IfErr result
-        (λ r. RefusesOver file.now certificate.now image.now r.number r.fault ⊎ IsWantOfMemory r) }
+        (λ r. RejectsOver file.now certificate.now image.now r.number r.fault ⊎ IsWantOfMemory r) }
     ensures memory { IfErr result (λ r. r.fault ≡ Fault.OutOfMemory → OpensBoth file.now certificate.now) }
 {
     let cleared = match check(alloc, file, certificate) {
@@ -105,7 +105,7 @@ fn play_over(alloc: Global, cleared: &Cleared<'_>, mut canvas: Canvas) -> Result
     ensures image { IfOk result
         (λ after. Leaves cleared.now canvas.width canvas.rows (image_of canvas) (image_of after)) }
     ensures within { IfOk result (λ _. IsWithinBound cleared.now.certificate canvas.width canvas.rows) }
-    ensures refusal { IfErr result (RefusesSurface cleared.now.certificate canvas.width canvas.rows) }
+    ensures refusal { IfErr result (RejectsSurface cleared.now.certificate canvas.width canvas.rows) }
 {
     match play(alloc, cleared, &mut canvas) {
         Ok(_) => Ok(canvas),

@@ -3,7 +3,7 @@
 ghost use Rattle.std.specs.Prelude.{◌≡◌, ◌-◌, ◌^◌, ◌<◌, ◌≤◌, IfErr, IfSome, OnErr, OnOk, true};
 ghost use Rattle.mapping.specs.Limits.{IsSurfaceSide};
 ghost use Rattle.preflight_cert.specs.Reached.{OpensBoth};
-ghost use Rattle.commands.specs.Ends.{Tells, Writes, WritesDone};
+ghost use Rattle.commands.specs.Ends.{Prints, Writes, WritesDone};
 ghost use Rattle.commands.specs.Failures.{FailsWith};
 ghost use Rattle.commands.specs.Tasks.{asked_play, play};
 
@@ -31,13 +31,13 @@ pub fn play_command<O: FaultCount, E: FaultCount>(
     requires wide { IsSurfaceSide width }
     requires high { IsSurfaceSide height }
     requires bands { IfSome bands (λ rows. 1 ≤ rows) }
-    requires room_out { O.fault_count out.old < 2 ^ 64 - 1 }
-    requires room_err { E.fault_count err.old < 2 ^ 64 - 1 }
+    requires capacity_out { O.fault_count out.old < 2 ^ 64 - 1 }
+    requires capacity_err { E.fault_count err.old < 2 ^ 64 - 1 }
     ensures written { Writes (play file.now certificate.now width height) result O.contents out.old out.new }
-    ensures told { Tells (play file.now certificate.now width height) result E.contents err.old err.new }
+    ensures printed { Prints (play file.now certificate.now width height) result E.contents err.old err.new }
     ensures memory { result.end ≡ CommandEnd.OutOfMemory → OpensBoth file.now certificate.now }
     ensures cannot_write { result.end ≡ CommandEnd.CannotWrite → O.fault_count out.old < O.fault_count out.new }
-    ensures unreported { OnErr result.told (E.fault_count err.old < E.fault_count err.new) }
+    ensures unreported { OnErr result.printed (E.fault_count err.old < E.fault_count err.new) }
     ensures flushed { result.end ≡ CommandEnd.Done → O.is_flushed out.new ≡ true }
 {
     let asked = AskedSurface {
@@ -58,7 +58,7 @@ fn play_checked<O: FaultCount>(
     out: &mut O,
 ) -> Result<(), Failure>
     requires bands { IfSome asked.bands (λ rows. 1 ≤ rows) }
-    requires room { O.fault_count out.old < 2 ^ 64 - 1 }
+    requires capacity { O.fault_count out.old < 2 ^ 64 - 1 }
     ensures done { OnOk result (WritesDone (asked_play file.now certificate.now asked) O.contents out.old out.new) }
     ensures failed { IfErr result (FailsWith (asked_play file.now certificate.now asked) O.contents out.old out.new) }
     ensures memory { IfErr result (λ failure. failure ≡ Failure.OutOfMemory → OpensBoth file.now certificate.now) }

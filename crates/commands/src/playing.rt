@@ -75,7 +75,7 @@ pub(crate) fn write_played<O: FaultCount>(
     out: &mut O,
 ) -> Result<(), Failure>
     requires bands { IfSome asked.bands (λ rows. 1 ≤ rows) }
-    requires room { O.fault_count out.old < 2 ^ 64 - 1 }
+    requires capacity { O.fault_count out.old < 2 ^ 64 - 1 }
     ensures done { OnOk result (PlaysTo cleared.now asked.width asked.height O.contents out.old out.new) }
     ensures failed { IfErr result (FailsToPlay cleared.now asked.width asked.height O.contents out.old out.new) }
     ensures fault { IfErr result (λ failure. failure ≡ Failure.CannotWrite → O.fault_count out.old < O.fault_count out.new) }

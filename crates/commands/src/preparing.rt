@@ -7,7 +7,7 @@ ghost use Rattle.preflight_cert.specs.Answer.{IsAnswer, accepted};
 ghost use Rattle.preflight_cert.specs.Preparation.{Prepares};
 ghost use Rattle.preflight_cert.specs.Reached.{Opens};
 ghost use Rattle.preflight_cert.specs.Refusal.{IsWantOfMemory};
-ghost use Rattle.preflight_cert.specs.Run.{Refused};
+ghost use Rattle.preflight_cert.specs.Run.{Rejected};
 
 use draw_ops::Fault;
 use preflight_cert::{Prepared, Refusal};
@@ -26,7 +26,7 @@ pub(crate) fn prepare_file<'a>(
     ensures text { IfOk result (λ prepared. Prepares file.now width height prepared.text.items) }
     ensures accepted { IfOk result (λ prepared. IsAnswer file.now prepared.text.items accepted) }
     ensures opened { IfOk result (λ prepared. IsOpenedFrom file.now prepared.opened) }
-    ensures refusal { IfErr result (λ r. Refused file.now width height r.number r.fault ⊎ IsWantOfMemory r) }
+    ensures refusal { IfErr result (λ r. Rejected file.now width height r.number r.fault ⊎ IsWantOfMemory r) }
     ensures memory { IfErr result (λ r. r.fault ≡ Fault.OutOfMemory → Opens file.now) }
 {
     match Prepared::new(alloc, file, width, height) {

@@ -6,10 +6,10 @@ ghost use Rattle.clap.specs.Words.{kind_of};
 ghost use Rattle.commands.specs.Outputs.{FailsAsked, FlushesAsked, IsUnreported, OutputFailed, OutputFlushed, Rises};
 ghost use Rattle.commands.specs.RightWords.{AreRightWords};
 ghost use Rattle.commands.specs.Faults.{input_end, fault_text};
-ghost use Rattle.commands.specs.Lines.{TaskTells, TaskWrites, TellsAsked, TellsLine, TellsMemory, TellsSome};
+ghost use Rattle.commands.specs.Lines.{TaskPrints, TaskWrites, PrintsAsked, PrintsLine, PrintsMemory, PrintsSome};
 ghost use Rattle.commands.specs.Lines.{WritesAsked, WritesLine, WritesSome, standard_input};
 ghost use Rattle.commands.specs.Report.{Reports};
-ghost use Rattle.commands.specs.Sides.{HasSides, HoldsOfSome, file_of};
+ghost use Rattle.commands.specs.Dimensions.{HasDimensions, HoldsOfSome, file_of};
 
 use crate::asked::CommandLine;
 use crate::check::check_command;
@@ -39,25 +39,25 @@ where
     I: Read,
     O: FaultCount,
     E: FaultCount,
-    requires room_out { O.fault_count out.old < 2 ^ 64 - 1 }
-    requires room_err { E.fault_count err.old < 2 ^ 64 - 1 }
+    requires capacity_out { O.fault_count out.old < 2 ^ 64 - 1 }
+    requires capacity_err { E.fault_count err.old < 2 ^ 64 - 1 }
     ensures written { WritesSome (I.remaining input.old) result O.contents out.old out.new }
-    ensures told { TellsSome (I.remaining input.old) result E.contents err.old err.new }
+    ensures printed { PrintsSome (I.remaining input.old) result E.contents err.old err.new }
     ensures usage_unread { result.end ≡ CommandEnd.WrongUsage → Keeps (I.remaining input.old) (I.remaining input.new) }
     ensures cannot_write { result.end ≡ CommandEnd.CannotWrite → HoldsOfSome (OutputFailed O.fault_count out.old out.new) }
     ensures flushed { result.end ≡ CommandEnd.Done → HoldsOfSome (OutputFlushed O.is_flushed out.old out.new) }
     ensures unreported { IsUnreported result E.fault_count err.old err.new }
-    ensures unshown { OnErr result.told (Rises E.fault_count err.old err.new ⊎ Rises O.fault_count out.old out.new) }
+    ensures unshown { OnErr result.printed (Rises E.fault_count err.old err.new ⊎ Rises O.fault_count out.old out.new) }
 {
     match words(rt) {
         Ok(words) => run_words(words.as_slice(), rt, input, out, err),
         Err(InputFault::OutOfMemory) => Completion {
             end: CommandEnd::OutOfMemory,
-            told: report(err, "OutOfMemory"),
+            printed: report(err, "OutOfMemory"),
         },
         Err(InputFault::CannotRead) => Completion {
             end: CommandEnd::WrongUsage,
-            told: report(err, "the command line is not UTF-8 text"),
+            printed: report(err, "the command line is not UTF-8 text"),
         },
     }
 }
@@ -75,16 +75,16 @@ where
     I: Read,
     O: FaultCount,
     E: FaultCount,
-    requires room_out { O.fault_count out.old < 2 ^ 64 - 1 }
-    requires room_err { E.fault_count err.old < 2 ^ 64 - 1 }
+    requires capacity_out { O.fault_count out.old < 2 ^ 64 - 1 }
+    requires capacity_err { E.fault_count err.old < 2 ^ 64 - 1 }
     ensures written { WritesAsked words.entry.now (I.remaining input.old) result O.contents out.old out.new }
-    ensures told { TellsAsked words.entry.now (I.remaining input.old) result E.contents err.old err.new }
+    ensures printed { PrintsAsked words.entry.now (I.remaining input.old) result E.contents err.old err.new }
     ensures usage_wrong { result.end ≡ CommandEnd.WrongUsage → AreRightWords (map string_bytes words.entry.now) → ⊥ }
     ensures usage_unread { result.end ≡ CommandEnd.WrongUsage → Keeps (I.remaining input.old) (I.remaining input.new) }
     ensures cannot_write { result.end ≡ CommandEnd.CannotWrite → FailsAsked words.entry.now O.fault_count out.old out.new }
     ensures flushed { result.end ≡ CommandEnd.Done → FlushesAsked words.entry.now O.is_flushed out.old out.new }
     ensures unreported { IsUnreported result E.fault_count err.old err.new }
-    ensures unshown { OnErr result.told (Rises E.fault_count err.old err.new ⊎ Rises O.fault_count out.old out.new) }
+    ensures unshown { OnErr result.printed (Rises E.fault_count err.old err.new ⊎ Rises O.fault_count out.old out.new) }
 {
     match line(rt.alloc(), words) {
         Ok(line) => perform(rt, line, input, out, err),
@@ -105,15 +105,15 @@ where
     I: Read,
     O: FaultCount,
     E: FaultCount,
-    requires sides { HasSides line }
-    requires room_out { O.fault_count out.old < 2 ^ 64 - 1 }
-    requires room_err { E.fault_count err.old < 2 ^ 64 - 1 }
+    requires dimensions { HasDimensions line }
+    requires capacity_out { O.fault_count out.old < 2 ^ 64 - 1 }
+    requires capacity_err { E.fault_count err.old < 2 ^ 64 - 1 }
     ensures written { WritesLine line.entry (I.remaining input.old) result O.contents out.old out.new }
-    ensures told { TellsLine line.entry (I.remaining input.old) result E.contents err.old err.new }
+    ensures printed { PrintsLine line.entry (I.remaining input.old) result E.contents err.old err.new }
     ensures unread { file_of line.entry ≢ standard_input → Keeps (I.remaining input.old) (I.remaining input.new) }
     ensures cannot_write { result.end ≡ CommandEnd.CannotWrite → OutputFailed O.fault_count out.old out.new line.entry }
     ensures flushed { result.end ≡ CommandEnd.Done → OutputFlushed O.is_flushed out.old out.new line.entry }
-    ensures unreported { OnErr result.told (E.fault_count err.old < E.fault_count err.new) }
+    ensures unreported { OnErr result.printed (E.fault_count err.old < E.fault_count err.new) }
 {
     match read_inputs(rt, line, input) {
         Ok(inputs) => run_task(rt, line, &inputs, out, err),
@@ -129,14 +129,14 @@ fn run_task<R: Files + AllocGlobal, O: FaultCount, E: FaultCount>(
     out: &mut O,
     err: &mut E,
 ) -> Completion
-    requires sides { HasSides line }
-    requires room_out { O.fault_count out.old < 2 ^ 64 - 1 }
-    requires room_err { E.fault_count err.old < 2 ^ 64 - 1 }
+    requires dimensions { HasDimensions line }
+    requires capacity_out { O.fault_count out.old < 2 ^ 64 - 1 }
+    requires capacity_err { E.fault_count err.old < 2 ^ 64 - 1 }
     ensures written { TaskWrites line.entry inputs.now result O.contents out.old out.new }
-    ensures told { TaskTells line.entry inputs.now result E.contents err.old err.new }
+    ensures printed { TaskPrints line.entry inputs.now result E.contents err.old err.new }
     ensures cannot_write { result.end ≡ CommandEnd.CannotWrite → OutputFailed O.fault_count out.old out.new line.entry }
     ensures flushed { result.end ≡ CommandEnd.Done → OutputFlushed O.is_flushed out.old out.new line.entry }
-    ensures unreported { OnErr result.told (E.fault_count err.old < E.fault_count err.new) }
+    ensures unreported { OnErr result.printed (E.fault_count err.old < E.fault_count err.new) }
 {
     let (file, certificate) = (inputs.file.as_slice(), inputs.certificate.as_slice());
     match line {
@@ -180,17 +180,17 @@ fn words<R: Env + AllocGlobal>(rt: &R) -> Result<Vec<String>, InputFault> {
 
 /// Reports that an input wasn't read.
 pub fn no_input<E: FaultCount>(fault: InputFault, err: &mut E) -> Completion
-    requires room { E.fault_count err.old < 2 ^ 64 - 1 }
+    requires capacity { E.fault_count err.old < 2 ^ 64 - 1 }
     ensures end { result.end ≡ input_end fault }
-    ensures line { Reports result.told (E.contents err.old) (E.contents err.new) (fault_text fault) }
-    ensures unreported { OnErr result.told (E.fault_count err.old < E.fault_count err.new) }
+    ensures line { Reports result.printed (E.contents err.old) (E.contents err.new) (fault_text fault) }
+    ensures unreported { OnErr result.printed (E.fault_count err.old < E.fault_count err.new) }
 {
-    let told = report(err, fault.text());
+    let printed = report(err, fault.text());
     let end = match fault {
         InputFault::CannotRead => CommandEnd::CannotRead,
         InputFault::OutOfMemory => CommandEnd::OutOfMemory,
     };
-    Completion { end, told }
+    Completion { end, printed }
 }
 
 /// Shows the usage, or help if it was asked for, on the stream that `clap` chooses, and returns whether that writer
@@ -200,25 +200,25 @@ pub fn usage<O: FaultCount, E: FaultCount>(
     out: &mut O,
     err: &mut E,
 ) -> Completion
-    requires room_out { O.fault_count out.old < 2 ^ 64 - 1 }
-    requires room_err { E.fault_count err.old < 2 ^ 64 - 1 }
+    requires capacity_out { O.fault_count out.old < 2 ^ 64 - 1 }
+    requires capacity_err { E.fault_count err.old < 2 ^ 64 - 1 }
     ensures memory { result.end ≡ CommandEnd.OutOfMemory ↔ kind_of error.now ≡ ErrorKind.OutOfMemory }
     ensures ends { (result.end ≡ CommandEnd.WrongUsage) ⊎ (result.end ≡ CommandEnd.OutOfMemory) }
     ensures unwritten { result.end ≡ CommandEnd.OutOfMemory → Keeps (O.contents out.old) (O.contents out.new) }
-    ensures line { result.end ≡ CommandEnd.OutOfMemory → TellsMemory result E.contents err.old err.new }
+    ensures line { result.end ≡ CommandEnd.OutOfMemory → PrintsMemory result E.contents err.old err.new }
     ensures unreported { IsUnreported result E.fault_count err.old err.new }
-    ensures unshown { OnErr result.told (Rises E.fault_count err.old err.new ⊎ Rises O.fault_count out.old out.new) }
+    ensures unshown { OnErr result.printed (Rises E.fault_count err.old err.new ⊎ Rises O.fault_count out.old out.new) }
 {
     if error.kind() == ErrorKind::OutOfMemory {
         return no_input(InputFault::OutOfMemory, err);
     }
-    let told = if error.use_stderr() {
+    let printed = if error.use_stderr() {
         show_error(error, err)
     } else {
         show_error(error, out)
     };
     Completion {
         end: CommandEnd::WrongUsage,
-        told,
+        printed,
     }
 }

@@ -13,15 +13,15 @@ use preflight_cert::Refusal;
 use std::fmt::InlineText;
 
 /// The capacity of a line. The program's own lines have at most 56 bytes.
-const LINE_ROOM: usize = 128;
+const LINE_CAPACITY: usize = 128;
 
 /// The capacity for the message of a line, without the program's name and the line feed.
-const TEXT_ROOM: usize = 117;
+const TEXT_CAPACITY: usize = 117;
 
 /// Writes one line about what went wrong, and returns an error if it wasn't written in full. A text of more than 117
 /// bytes is a `WriteFault` too, and then nothing is written.
 pub fn report<E: FaultCount>(err: &mut E, text: &str) -> Result<(), WriteFault>
-    requires room { E.fault_count err.old < 2 ^ 64 - 1 }
+    requires capacity { E.fault_count err.old < 2 ^ 64 - 1 }
     ensures line { Reports result (E.contents err.old) (E.contents err.new) text.now }
     ensures unreported { length text.now ≤ 117 → OnErr result (E.fault_count err.old < E.fault_count err.new) }
 {
@@ -33,7 +33,7 @@ pub fn report<E: FaultCount>(err: &mut E, text: &str) -> Result<(), WriteFault>
 
 /// Writes the line for a rejection, and returns an error if it wasn't written in full.
 pub fn report_refusal<E: FaultCount>(err: &mut E, refusal: Refusal) -> Result<(), WriteFault>
-    requires room { E.fault_count err.old < 2 ^ 64 - 1 }
+    requires capacity { E.fault_count err.old < 2 ^ 64 - 1 }
     ensures line { Reports result (E.contents err.old) (E.contents err.new) (refusal_text refusal) }
     ensures unreported { OnErr result (E.fault_count err.old < E.fault_count err.new) }
 {
@@ -41,19 +41,19 @@ pub fn report_refusal<E: FaultCount>(err: &mut E, refusal: Refusal) -> Result<()
 }
 
 /// The line for a message, if it fits. It allocates no memory, so that a failed allocation can be reported.
-fn line(text: &str) -> Option<InlineText<LINE_ROOM>>
+fn line(text: &str) -> Option<InlineText<LINE_CAPACITY>>
     ensures line { IfSome result (λ line. inline_text line ≡ program_line text.now) }
     ensures fits { length text.now ≤ 117 → IsSome result }
 {
-    if text.len() > TEXT_ROOM {
+    if text.len() > TEXT_CAPACITY {
         return None;
     }
-    let told = joined(joined(InlineText::new(), "metaplay: "), text);
-    Some(joined(told, "\n"))
+    let printed = joined(joined(InlineText::new(), "metaplay: "), text);
+    Some(joined(printed, "\n"))
 }
 
 /// The message for a rejection.
-fn text_of_refusal(refusal: Refusal) -> InlineText<TEXT_ROOM>
+fn text_of_refusal(refusal: Refusal) -> InlineText<TEXT_CAPACITY>
     ensures text { inline_text result ≡ refusal_text refusal }
     ensures short { length (inline_text result) ≤ 117 }
 {
@@ -65,7 +65,7 @@ fn text_of_refusal(refusal: Refusal) -> InlineText<TEXT_ROOM>
 }
 
 /// The message for a fault.
-fn text_of_fault(fault: Fault) -> InlineText<TEXT_ROOM>
+fn text_of_fault(fault: Fault) -> InlineText<TEXT_CAPACITY>
     ensures text { inline_text result ≡ text_of fault }
     ensures short { length (inline_text result) ≤ 27 }
 {
@@ -77,7 +77,11 @@ fn text_of_fault(fault: Fault) -> InlineText<TEXT_ROOM>
 }
 
 /// A text followed by another text and a number.
-fn with_number(text: InlineText<TEXT_ROOM>, more: &str, number: u32) -> InlineText<TEXT_ROOM>
+fn with_number(
+    text: InlineText<TEXT_CAPACITY>,
+    more: &str,
+    number: u32,
+) -> InlineText<TEXT_CAPACITY>
     requires { length (inline_text text) + length more.now + 10 ≤ 117 }
     ensures text { inline_text result ≡ inline_text text ++ (more.now ++ decimal number) }
     ensures short { length (inline_text result) ≤ length (inline_text text) + length more.now + 10 }

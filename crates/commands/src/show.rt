@@ -2,7 +2,7 @@
 
 ghost use Rattle.std.specs.Prelude.{◌≡◌, ◌-◌, ◌^◌, ◌<◌, IfErr, OnErr, OnOk, true};
 ghost use Rattle.mapping.specs.Limits.{IsSurfaceSide};
-ghost use Rattle.commands.specs.Ends.{Tells, Writes, WritesDone};
+ghost use Rattle.commands.specs.Ends.{Prints, Writes, WritesDone};
 ghost use Rattle.preflight_cert.specs.Reached.{Opens};
 ghost use Rattle.commands.specs.Failures.{FailsWith};
 ghost use Rattle.commands.specs.Tasks.{show};
@@ -26,13 +26,13 @@ pub fn show_command<O: FaultCount, E: FaultCount>(
 ) -> Completion
     requires wide { IsSurfaceSide width }
     requires high { IsSurfaceSide height }
-    requires room_out { O.fault_count out.old < 2 ^ 64 - 1 }
-    requires room_err { E.fault_count err.old < 2 ^ 64 - 1 }
+    requires capacity_out { O.fault_count out.old < 2 ^ 64 - 1 }
+    requires capacity_err { E.fault_count err.old < 2 ^ 64 - 1 }
     ensures written { Writes (show file.now width height) result O.contents out.old out.new }
-    ensures told { Tells (show file.now width height) result E.contents err.old err.new }
+    ensures printed { Prints (show file.now width height) result E.contents err.old err.new }
     ensures memory { result.end ≡ CommandEnd.OutOfMemory → Opens file.now }
     ensures cannot_write { result.end ≡ CommandEnd.CannotWrite → O.fault_count out.old < O.fault_count out.new }
-    ensures unreported { OnErr result.told (E.fault_count err.old < E.fault_count err.new) }
+    ensures unreported { OnErr result.printed (E.fault_count err.old < E.fault_count err.new) }
     ensures flushed { result.end ≡ CommandEnd.Done → O.is_flushed out.new ≡ true }
 {
     let done = show_file(alloc, file, width, height, out);
@@ -50,7 +50,7 @@ fn show_file<O: FaultCount>(
 ) -> Result<(), Failure>
     requires wide { IsSurfaceSide width }
     requires high { IsSurfaceSide height }
-    requires room { O.fault_count out.old < 2 ^ 64 - 1 }
+    requires capacity { O.fault_count out.old < 2 ^ 64 - 1 }
     ensures done { OnOk result (WritesDone (show file.now width height) O.contents out.old out.new) }
     ensures failed { IfErr result (FailsWith (show file.now width height) O.contents out.old out.new) }
     ensures memory { IfErr result (λ failure. failure ≡ Failure.OutOfMemory → Opens file.now) }

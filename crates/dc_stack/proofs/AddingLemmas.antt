@@ -18,7 +18,7 @@ use Rattle.dc_stack.specs.Adding.{Adds, AddsLines, AddsLists, HasNotAdded, addin
 use Rattle.dc_stack.specs.Drawing.{Drawing, drawing_now, drawing_of, edge_limit, lines_mark, lists_mark, points_of_lists, rectangle_mark}
 use Rattle.dc_stack.specs.Extents.{IsExtent}
 use Rattle.dc_stack.specs.Figures.{Figures, box_corners, points_gone_on}
-use Rattle.dc_stack.specs.GatheredPath.{WantsPieceRoom, after_lists, path_in}
+use Rattle.dc_stack.specs.GatheredPath.{WantsPieceCapacity, after_lists, path_in}
 use Rattle.dc_stack.specs.MachineState.{IsUnchanged, MachineState, Plays, undrawn}
 use Rattle.dc_stack.specs.Mapped.{mapped_box, mapped_corners, mapped_list, mapped_lists, mapped_point}
 use Rattle.dc_stack.specs.Needs.{drawing_needs, greater_needs, needs_of, pieces_needed}
@@ -30,8 +30,8 @@ use Rattle.dc_stack.specs.State.{State, with_path, with_position}
 use Rattle.dc_stack.specs.declared.draw.Painting.TheVariants.{Stroke, StrokeAndFill}
 use Rattle.dc_stack.specs.declared.path.PathPhase.{PathPhase}
 use Rattle.dc_stack.specs.declared.path.PathPhase.TheVariants.{NoPath, BetweenFigures, InFigure, Finished, Painted}
-use Rattle.dc_stack.specs.declared.piece.Joining.{Joining}
-use Rattle.dc_stack.specs.declared.piece.Joining.TheVariants.{GoesOn, Polylines, Polygons}
+use Rattle.dc_stack.specs.declared.piece.Verb.{Verb}
+use Rattle.dc_stack.specs.declared.piece.Verb.TheVariants.{GoesOn, Polylines, Polygons}
 use Rattle.dc_stack.specs.declared.piece.Piece.{Piece}
 use Rattle.dc_stack.specs.declared.piece.PiecePoints.{PiecePoints}
 use Rattle.dc_stack.specs.declared.piece.PiecePoints.TheVariants.{Point as OnePoint, List as OneList, Lists, Corners}
@@ -62,16 +62,16 @@ nothing_gone_on start (open_path figures n) =
     same_open _ figures n (n + 0) (ap (λ (points : List Point). record { done = figures.done; current = points }) (append-nil figures.current)) (omega arith)
 nothing_gone_on start (finished_path figures) = refl
 
-unchanged_lists : (joining : Joining) (lists : List (List Point)) (f : Figures) → joining ≢ GoesOn → points_of_lists lists ≡ [] → with_lists joining lists f ≡ f
+unchanged_lists : (verb : Verb) (lists : List (List Point)) (f : Figures) → verb ≢ GoesOn → points_of_lists lists ≡ [] → with_lists verb lists f ≡ f
 unchanged_lists GoesOn lists f own h = absurd (own refl)
 unchanged_lists Polylines lists f own h = no_polylines lists f h
 unchanged_lists Polygons lists f own h = no_polygons lists f h
 
-pub nothing_listed : (joining : Joining) (lists : List (List Point)) (path : Path) → joining ≢ GoesOn → points_of_lists lists ≡ [] → after_lists joining lists path ≡ path
-nothing_listed joining lists no_path own h = refl
-nothing_listed joining lists (open_path figures n) own h =
-    same_open (with_lists joining lists figures) figures n _ (unchanged_lists joining lists figures own h) (rw h (omega arith))
-nothing_listed joining lists (finished_path figures) own h = refl
+pub nothing_listed : (verb : Verb) (lists : List (List Point)) (path : Path) → verb ≢ GoesOn → points_of_lists lists ≡ [] → after_lists verb lists path ≡ path
+nothing_listed verb lists no_path own h = refl
+nothing_listed verb lists (open_path figures n) own h =
+    same_open (with_lists verb lists figures) figures n _ (unchanged_lists verb lists figures own h) (rw h (omega arith))
+nothing_listed verb lists (finished_path figures) own h = refl
 
 -- and has no fault
 pub no_fault_of_none : (path : Path) (points : List Point) (s : Surface) → piece_count path ≤ piece_limit → points ≡ [] → option_or (pieces_fault (piece_count path)) (off_plane_fault points s) ≡ None
@@ -93,15 +93,15 @@ lines_add start (p ∷ ps) (open_path figures n) at some = by_current figures.cu
     by_current (q ∷ qs) = omega arith
 lines_add start points (finished_path figures) at some = cc
 
-pub lists_count : (joining : Joining) (lists : List (List Point)) (path : Path) → is_open path ≡ true → points_of_lists lists ≢ [] → piece_count (after_lists joining lists path) ≡ piece_count path + 1
-lists_count joining lists no_path at some = cc
-lists_count joining lists (open_path figures n) at some = ap (λ (k : ℕ). n + k) (one_piece (points_of_lists lists) some)
-lists_count joining lists (finished_path figures) at some = cc
+pub lists_count : (verb : Verb) (lists : List (List Point)) (path : Path) → is_open path ≡ true → points_of_lists lists ≢ [] → piece_count (after_lists verb lists path) ≡ piece_count path + 1
+lists_count verb lists no_path at some = cc
+lists_count verb lists (open_path figures n) at some = ap (λ (k : ℕ). n + k) (one_piece (points_of_lists lists) some)
+lists_count verb lists (finished_path figures) at some = cc
 
 -- a refused addition, where room that is wanted is for pieces that are added
-pub not_added : (after : Path) (first : Option RecordFault) (old new : MachineState) (fault : Fault) (Lacks : Type 0) → (option_map Record first ≡ Some fault) ⊎ WantsPieceRoom first fault Lacks → (Lacks → old.room.pieces < piece_count after) → piece_count old.state.path < piece_count after → IsUnchanged old new → HasNotAdded after first old new fault
+pub not_added : (after : Path) (first : Option RecordFault) (old new : MachineState) (fault : Fault) (Lacks : Type 0) → (option_map Record first ≡ Some fault) ⊎ WantsPieceCapacity first fault Lacks → (Lacks → old.capacity.pieces < piece_count after) → piece_count old.state.path < piece_count after → IsUnchanged old new → HasNotAdded after first old new fault
 not_added after first old new fault Lacks answer lacks adds kept = record {
-  refused = elim answer [
+  rejected = elim answer [
     | inl e ↦ inl e
     | inr wants ↦ inr (record { no_fault = wants.no_fault; memory = wants.memory; lacks = (adds, lacks wants.lacks) })
   ];
@@ -151,7 +151,7 @@ plays_added operation after points position old (Ok extent) new state needs draw
   figures = λ (e : false ≡ true). cc;
 }
 plays_added operation after points position old (Err e) new state needs drawing fault placed h = record {
-  refused = elim h.refused [
+  rejected = elim h.rejected [
     | inl first ↦ inl (ap (option_map Record) fault ∙ first)
     | inr wants ↦ inr (record {
       no_fault = fault ∙ wants.no_fault;

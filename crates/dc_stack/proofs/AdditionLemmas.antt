@@ -15,7 +15,7 @@ use Rattle.draw_ops.specs.declared.record_fault.RecordFault.{RecordFault}
 use Rattle.dc_stack.specs.Drawing.{points_of_lists}
 use Rattle.dc_stack.specs.Extents.{IsExtent}
 use Rattle.dc_stack.specs.Figures.{Figures, no_figures, points_gone_on, with_polygon, with_polygons, with_polyline, with_polylines}
-use Rattle.dc_stack.specs.GatheredPath.{AnswersAddition, IsGathered, after_lists, is_open_phase, open_piece, path_in, path_of, phase_behind}
+use Rattle.dc_stack.specs.GatheredPath.{AnswersAddition, IsGathered, after_lists, is_open_phase, open_piece, path_in, path_of, phase_after}
 use Rattle.dc_stack.specs.Mapped.{mapped_list, mapped_point}
 use Rattle.dc_stack.specs.OperationFault.{addition_fault}
 use Rattle.dc_stack.specs.Path.{Path, after_lines, open_path, piece_count, piece_for, piece_limit, pieces_of_lines, points_if_open}
@@ -25,12 +25,12 @@ use Rattle.dc_stack.specs.declared.piece.FigureEnd.TheVariants.{Open}
 use Rattle.dc_stack.specs.declared.path.GatheredPath.{GatheredPath}
 use Rattle.dc_stack.specs.declared.path.PathPhase.{PathPhase}
 use Rattle.dc_stack.specs.declared.path.PathPhase.TheVariants.{NoPath, BetweenFigures, InFigure, Finished, Painted}
-use Rattle.dc_stack.specs.declared.piece.Joining.{Joining}
-use Rattle.dc_stack.specs.declared.piece.Joining.TheVariants.{GoesOn, Polylines, Polygons}
+use Rattle.dc_stack.specs.declared.piece.Verb.{Verb}
+use Rattle.dc_stack.specs.declared.piece.Verb.TheVariants.{GoesOn, Polylines, Polygons}
 use Rattle.dc_stack.specs.declared.piece.Piece.{Piece}
 use Rattle.dc_stack.specs.declared.piece.PiecePoints.{PiecePoints}
 use Rattle.dc_stack.specs.declared.piece.PiecePoints.TheVariants.{Point as OnePoint}
-use Rattle.dc_stack.proofs.FigureLemmas.{piece_behind}
+use Rattle.dc_stack.proofs.FigureLemmas.{piece_after}
 
 -- what follows from two facts of an accepted answer
 pub of_ok : {T E A B C : Type 0} (r : Result T E) → (A → B → C) → OnOk r A → OnOk r B → OnOk r C
@@ -57,7 +57,7 @@ opened InFigure pieces h = refl
 opened Finished pieces h = cc
 opened Painted pieces h = cc
 
-pub stays_open : (joining : Joining) → is_open_phase (phase_behind joining) ≡ true
+pub stays_open : (verb : Verb) → is_open_phase (phase_after verb) ≡ true
 stays_open GoesOn = refl
 stays_open Polylines = refl
 stays_open Polygons = refl
@@ -134,12 +134,12 @@ polygons_close (list ∷ lists) f h = elim (some_or_none (points_of_lists lists)
 goes_on_open : (points : List Point) (f : Figures) → points ≢ [] → (gone_on points f).current ≢ []
 goes_on_open points f h = λ e. h (rest_empty f.current points e)
 
-pub leaves_open : (joining : Joining) (lists : List (List Point)) (f : Figures) → points_of_lists lists ≢ [] → phase_behind joining ≡ InFigure → (with_lists joining lists f).current ≢ []
+pub leaves_open : (verb : Verb) (lists : List (List Point)) (f : Figures) → points_of_lists lists ≢ [] → phase_after verb ≡ InFigure → (with_lists verb lists f).current ≢ []
 leaves_open GoesOn lists f h e = goes_on_open (points_of_lists lists) f h
 leaves_open Polylines lists f h e = polylines_open lists f h
 leaves_open Polygons lists f h e = cc
 
-pub leaves_none : (joining : Joining) (lists : List (List Point)) (f : Figures) → points_of_lists lists ≢ [] → phase_behind joining ≡ BetweenFigures → (with_lists joining lists f).current ≡ []
+pub leaves_none : (verb : Verb) (lists : List (List Point)) (f : Figures) → points_of_lists lists ≢ [] → phase_after verb ≡ BetweenFigures → (with_lists verb lists f).current ≡ []
 leaves_none GoesOn lists f h e = cc
 leaves_none Polylines lists f h e = cc
 leaves_none Polygons lists f h e = polygons_close lists f h
@@ -215,38 +215,38 @@ module _ (start : Point) (ps : List Point) (some : ps ≢ []) where
 pub one_longer : (pieces : List Piece) (piece : Piece) → length (pieces ++ piece ∷ []) ≡ length pieces + 1
 one_longer pieces piece = length-append pieces (piece ∷ [])
 
-pub figures_behind : (pieces : List Piece) (piece : Piece) → figures_of (pieces ++ piece ∷ []) ≡ with_piece piece (figures_of pieces)
-figures_behind pieces piece = piece_behind pieces piece no_figures
+pub figures_after : (pieces : List Piece) (piece : Piece) → figures_of (pieces ++ piece ∷ []) ≡ with_piece piece (figures_of pieces)
+figures_after pieces piece = piece_after pieces piece no_figures
 
 -- a path with a piece of lists more
-module _ (old new : GatheredPath) (piece : Piece) (items : new.pieces.items ≡ old.pieces.items ++ piece ∷ []) (phase : new.phase ≡ phase_behind piece.joining) (some : points_of_lists (plane_lists (map_numbers piece.map) piece.points) ≢ []) (stays : piece.end ≡ Open) where
-  pub figures_with : figures_of new.pieces.items ≡ with_lists piece.joining (plane_lists (map_numbers piece.map) piece.points) (figures_of old.pieces.items)
+module _ (old new : GatheredPath) (piece : Piece) (items : new.pieces.items ≡ old.pieces.items ++ piece ∷ []) (phase : new.phase ≡ phase_after piece.verb) (some : points_of_lists (plane_lists (map_numbers piece.map) piece.points) ≢ []) (stays : piece.end ≡ Open) where
+  pub figures_with : figures_of new.pieces.items ≡ with_lists piece.verb (plane_lists (map_numbers piece.map) piece.points) (figures_of old.pieces.items)
   figures_with =
-      ap figures_of items ∙ figures_behind old.pieces.items piece
-      ∙ ap (λ (end : FigureEnd). with_end end (with_lists piece.joining (plane_lists (map_numbers piece.map) piece.points) (figures_of old.pieces.items))) stays
+      ap figures_of items ∙ figures_after old.pieces.items piece
+      ∙ ap (λ (end : FigureEnd). with_end end (with_lists piece.verb (plane_lists (map_numbers piece.map) piece.points) (figures_of old.pieces.items))) stays
 
   pub count_with : length new.pieces.items ≡ length old.pieces.items + 1
   count_with = ap length items ∙ one_longer old.pieces.items piece
 
-  pub path_now : path_of new ≡ open_path (with_lists piece.joining (plane_lists (map_numbers piece.map) piece.points) (figures_of old.pieces.items)) (length old.pieces.items + 1)
+  pub path_now : path_of new ≡ open_path (with_lists piece.verb (plane_lists (map_numbers piece.map) piece.points) (figures_of old.pieces.items)) (length old.pieces.items + 1)
   path_now =
-      opened new.phase new.pieces.items (ap is_open_phase phase ∙ stays_open piece.joining)
+      opened new.phase new.pieces.items (ap is_open_phase phase ∙ stays_open piece.verb)
       ∙ ap (λ (f : Figures). open_path f (length new.pieces.items)) figures_with
-      ∙ ap (λ (n : ℕ). open_path (with_lists piece.joining (plane_lists (map_numbers piece.map) piece.points) (figures_of old.pieces.items)) n) count_with
+      ∙ ap (λ (n : ℕ). open_path (with_lists piece.verb (plane_lists (map_numbers piece.map) piece.points) (figures_of old.pieces.items)) n) count_with
 
-  pub path_with : is_open_phase old.phase ≡ true → path_of new ≡ after_lists piece.joining (plane_lists (map_numbers piece.map) piece.points) (path_of old)
+  pub path_with : is_open_phase old.phase ≡ true → path_of new ≡ after_lists piece.verb (plane_lists (map_numbers piece.map) piece.points) (path_of old)
   path_with begun =
       let lists = plane_lists (map_numbers piece.map) piece.points in
       path_now
-      ∙ ap (λ (n : ℕ). open_path (with_lists piece.joining lists (figures_of old.pieces.items)) (length old.pieces.items + n)) (sym (one_piece (points_of_lists lists) some))
-      ∙ ap (after_lists piece.joining lists) (sym (opened old.phase old.pieces.items begun))
+      ∙ ap (λ (n : ℕ). open_path (with_lists piece.verb lists (figures_of old.pieces.items)) (length old.pieces.items + n)) (sym (one_piece (points_of_lists lists) some))
+      ∙ ap (after_lists piece.verb lists) (sym (opened old.phase old.pieces.items begun))
 
   pub gathered_with : length new.pieces.items ≤ piece_limit → IsGathered new
   gathered_with few =
       let lists = plane_lists (map_numbers piece.map) piece.points in
       record {
-        between = λ e. ap (λ (f : Figures). f.current) figures_with ∙ leaves_none piece.joining lists (figures_of old.pieces.items) some (sym phase ∙ e);
-        within = λ e. subst (λ (f : Figures). f.current ≢ []) (sym figures_with) (leaves_open piece.joining lists (figures_of old.pieces.items) some (sym phase ∙ e));
+        between = λ e. ap (λ (f : Figures). f.current) figures_with ∙ leaves_none piece.verb lists (figures_of old.pieces.items) some (sym phase ∙ e);
+        within = λ e. subst (λ (f : Figures). f.current ≢ []) (sym figures_with) (leaves_open piece.verb lists (figures_of old.pieces.items) some (sym phase ∙ e));
         few = few;
       }
 
@@ -278,10 +278,10 @@ module _ (old new : GatheredPath) (start : Point) (points : PiecePoints) (map : 
 
   -- in a figure they are one piece
   module _ (at : old.phase ≡ InFigure) where
-    pub answer_within : (r : Result (Option Rect) Fault) (s : Surface) (room : ℕ) → AnswersAddition r through (addition_fault (count + 1) through s) (room < count + 1) → AnswersAddition r added (addition_fault (piece_count (after_lines start through (path_of old))) added s) (room < piece_count (after_lines start through (path_of old)))
-    answer_within r s room h =
+    pub answer_within : (r : Result (Option Rect) Fault) (s : Surface) (capacity : ℕ) → AnswersAddition r through (addition_fault (count + 1) through s) (capacity < count + 1) → AnswersAddition r added (addition_fault (piece_count (after_lines start through (path_of old))) added s) (capacity < piece_count (after_lines start through (path_of old)))
+    answer_within r s capacity h =
         same_answer r _ _ _ _ _ _ (points_gone start through some_through (path_of old) before count (within at) (whole.within at)) (fault_gone_on start through some_through (path_of old) before count (within at) s (whole.within at))
-        (λ (lacks : room < count + 1). subst (λ (n : ℕ). room < n) (sym (count_gone_on start through some_through (path_of old) before count (within at) (whole.within at))) lacks) h
+        (λ (lacks : capacity < count + 1). subst (λ (n : ℕ). capacity < n) (sym (count_gone_on start through some_through (path_of old) before count (within at) (whole.within at))) lacks) h
 
     module _ (items : new.pieces.items ≡ old.pieces.items ++ open_piece points map GoesOn ∷ []) (phase : new.phase ≡ InFigure) where
       pub path_within : path_of new ≡ after_lines start through (path_of old)
@@ -295,17 +295,17 @@ module _ (old new : GatheredPath) (start : Point) (points : PiecePoints) (map : 
 
   -- and where none is open, two
   module _ (at : old.phase ≡ BetweenFigures) where
-    pub answer_between : (r : Result (Option Rect) Fault) (s : Surface) (room : ℕ) → AnswersAddition r (start ∷ through) (addition_fault (count + 2) (start ∷ through) s) (room < count + 2) → AnswersAddition r added (addition_fault (piece_count (after_lines start through (path_of old))) added s) (room < piece_count (after_lines start through (path_of old)))
-    answer_between r s room h =
+    pub answer_between : (r : Result (Option Rect) Fault) (s : Surface) (capacity : ℕ) → AnswersAddition r (start ∷ through) (addition_fault (count + 2) (start ∷ through) s) (capacity < count + 2) → AnswersAddition r added (addition_fault (piece_count (after_lines start through (path_of old))) added s) (capacity < piece_count (after_lines start through (path_of old)))
+    answer_between r s capacity h =
         same_answer r _ _ _ _ _ _ (points_begun start through some_through (path_of old) before count (between at) (whole.between at)) (fault_begun start through some_through (path_of old) before count (between at) s (whole.between at))
-        (λ (lacks : room < count + 2). subst (λ (n : ℕ). room < n) (sym (count_begun start through some_through (path_of old) before count (between at) (whole.between at))) lacks) h
+        (λ (lacks : capacity < count + 2). subst (λ (n : ℕ). capacity < n) (sym (count_begun start through some_through (path_of old) before count (between at) (whole.between at))) lacks) h
 
     module _ (position : Point) (here : start ≡ mapped_point (map_numbers map) position) (items : new.pieces.items ≡ old.pieces.items ++ open_piece (OnePoint position) map GoesOn ∷ [] ++ open_piece points map GoesOn ∷ []) (phase : new.phase ≡ InFigure) where
       figures_begun : figures_of new.pieces.items ≡ gone_on through (gone_on (start ∷ []) before)
       figures_begun =
           ap figures_of items
-          ∙ figures_behind (old.pieces.items ++ open_piece (OnePoint position) map GoesOn ∷ []) (open_piece points map GoesOn)
-          ∙ ap (with_piece (open_piece points map GoesOn)) (figures_behind old.pieces.items (open_piece (OnePoint position) map GoesOn))
+          ∙ figures_after (old.pieces.items ++ open_piece (OnePoint position) map GoesOn ∷ []) (open_piece points map GoesOn)
+          ∙ ap (with_piece (open_piece points map GoesOn)) (figures_after old.pieces.items (open_piece (OnePoint position) map GoesOn))
           ∙ ap (λ (ps : List Point). gone_on ps (gone_on (mapped_point (map_numbers map) position ∷ []) before)) same
           ∙ ap (λ (p : Point). gone_on through (gone_on (p ∷ []) before)) (sym here)
 

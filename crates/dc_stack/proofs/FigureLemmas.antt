@@ -12,22 +12,22 @@ use Rattle.dc_stack.specs.GatheredPath.{gathered_points}
 use Rattle.dc_stack.specs.Pieces.{figures_of, gone_on, plane_lists, with_end, with_lists, with_piece, with_pieces}
 use Rattle.dc_stack.specs.declared.piece.FigureEnd.{FigureEnd}
 use Rattle.dc_stack.specs.declared.piece.FigureEnd.TheVariants.{Open, Ended, Closed}
-use Rattle.dc_stack.specs.declared.piece.Joining.{Joining}
-use Rattle.dc_stack.specs.declared.piece.Joining.TheVariants.{GoesOn, Polylines, Polygons}
+use Rattle.dc_stack.specs.declared.piece.Verb.{Verb}
+use Rattle.dc_stack.specs.declared.piece.Verb.TheVariants.{GoesOn, Polylines, Polygons}
 use Rattle.dc_stack.specs.declared.piece.Piece.{Piece}
 
 -- what a piece behind others adds
-pub piece_behind : (pieces : List Piece) (piece : Piece) (f : Figures) → with_pieces (pieces ++ piece ∷ []) f ≡ with_piece piece (with_pieces pieces f)
-piece_behind [] piece f = refl
-piece_behind (first ∷ pieces) piece f = piece_behind pieces piece (with_piece first f)
+pub piece_after : (pieces : List Piece) (piece : Piece) (f : Figures) → with_pieces (pieces ++ piece ∷ []) f ≡ with_piece piece (with_pieces pieces f)
+piece_after [] piece f = refl
+piece_after (first ∷ pieces) piece f = piece_after pieces piece (with_piece first f)
 
 -- the same piece with another end
 abbrev pub ended_piece : FigureEnd → Piece → Piece
-ended_piece end piece = record { points = piece.points; map = piece.map; joining = piece.joining; end = end }
+ended_piece end piece = record { points = piece.points; map = piece.map; verb = piece.verb; end = end }
 
 -- where a figure is open behind the last piece, the piece leaves it open
 piece_ends : (piece : Piece) (end : FigureEnd) (f : Figures) → (with_piece piece f).current ≢ [] → with_piece (ended_piece end piece) f ≡ with_end end (with_piece piece f)
-piece_ends piece end f = by_end piece.end (with_lists piece.joining (plane_lists (map_numbers piece.map) piece.points) f)
+piece_ends piece end f = by_end piece.end (with_lists piece.verb (plane_lists (map_numbers piece.map) piece.points) f)
   where
     by_end : (before : FigureEnd) (g : Figures) → (with_end before g).current ≢ [] → with_end end g ≡ with_end end (with_end before g)
     by_end Open g h = refl
@@ -36,8 +36,8 @@ piece_ends piece end f = by_end piece.end (with_lists piece.joining (plane_lists
 
 pub last_ends : (pieces : List Piece) (piece : Piece) (end : FigureEnd) → (figures_of (pieces ++ piece ∷ [])).current ≢ [] → figures_of (pieces ++ ended_piece end piece ∷ []) ≡ with_end end (figures_of (pieces ++ piece ∷ []))
 last_ends pieces piece end h =
-    let before = piece_behind pieces piece no_figures in
-    piece_behind pieces (ended_piece end piece) no_figures
+    let before = piece_after pieces piece no_figures in
+    piece_after pieces (ended_piece end piece) no_figures
     ∙ piece_ends piece end (figures_of pieces) (λ none. h (ap (λ (f : Figures). f.current) before ∙ none))
     ∙ ap (with_end end) (sym before)
 
@@ -109,7 +109,7 @@ polygons_points (list ∷ lists) f =
     ∙ ap (λ (ps : List Point). ps ++ points_of_lists lists) (polygon_points list f)
     ∙ one_more (points_of_figures (all_figures f)) list lists
 
-lists_points : (joining : Joining) (lists : List (List Point)) (f : Figures) → points_of_figures (all_figures (with_lists joining lists f)) ≡ points_of_figures (all_figures f) ++ points_of_lists lists
+lists_points : (verb : Verb) (lists : List (List Point)) (f : Figures) → points_of_figures (all_figures (with_lists verb lists f)) ≡ points_of_figures (all_figures f) ++ points_of_lists lists
 lists_points GoesOn lists f = gone_on_points (points_of_lists lists) f
 lists_points Polylines lists f = polylines_points lists f
 lists_points Polygons lists f = polygons_points lists f
@@ -120,12 +120,12 @@ plane_points piece = points_of_lists (plane_lists (map_numbers piece.map) piece.
 
 points_with : (piece : Piece) (f : Figures) → points_of_figures (all_figures (with_piece piece f)) ≡ points_of_figures (all_figures f) ++ plane_points piece
 points_with piece f =
-    end_keeps_points piece.end (with_lists piece.joining (plane_lists (map_numbers piece.map) piece.points) f)
-    ∙ lists_points piece.joining (plane_lists (map_numbers piece.map) piece.points) f
+    end_keeps_points piece.end (with_lists piece.verb (plane_lists (map_numbers piece.map) piece.points) f)
+    ∙ lists_points piece.verb (plane_lists (map_numbers piece.map) piece.points) f
 
-pub points_behind : (pieces : List Piece) (piece : Piece) → gathered_points (pieces ++ piece ∷ []) ≡ gathered_points pieces ++ plane_points piece
-points_behind pieces piece =
-    ap (λ (f : Figures). points_of_figures (all_figures f)) (piece_behind pieces piece no_figures) ∙ points_with piece (figures_of pieces)
+pub points_after : (pieces : List Piece) (piece : Piece) → gathered_points (pieces ++ piece ∷ []) ≡ gathered_points pieces ++ plane_points piece
+points_after pieces piece =
+    ap (λ (f : Figures). points_of_figures (all_figures f)) (piece_after pieces piece no_figures) ∙ points_with piece (figures_of pieces)
 
 -- so the points of figures are those of the pieces
 points_of_pieces : (pieces : List Piece) (f : Figures) → points_of_figures (all_figures (with_pieces pieces f)) ≡ points_of_figures (all_figures f) ++ flat_map plane_points pieces

@@ -13,7 +13,7 @@ use Rattle.dc_stack.specs.Path.{piece_limit}
 use Rattle.dc_stack.specs.Pieces.{AllLandOn, LandsOn, page_points, plane_lists}
 use Rattle.dc_stack.specs.declared.path.GatheredPath.{GatheredPath}
 use Rattle.dc_stack.specs.declared.piece.Piece.{Piece}
-use Rattle.dc_stack.proofs.FigureLemmas.{points_behind}
+use Rattle.dc_stack.proofs.FigureLemmas.{points_after}
 use Rattle.dc_stack.proofs.LandingLemmas.{all_land}
 
 -- pieces land where one more that has no fault is added
@@ -26,7 +26,7 @@ pieces_land s pieces piece none h =
 pub lands_with : (s : Surface) (old new : GatheredPath) (piece : Piece) → new.pieces.items ≡ old.pieces.items ++ piece ∷ [] → (IsExtent old.bounds (gathered_points old.pieces.items) → IsExtent new.bounds (gathered_points old.pieces.items ++ points_of_lists (plane_lists (map_numbers piece.map) piece.points))) → None ≡ off_plane_fault (mapped_list (map_numbers piece.map) (page_points piece.points)) s → LandsInside s old → LandsInside s new
 lands_with s old new piece items grows none h = record {
   pieces = subst (AllLandOn s) (sym items) (pieces_land s old.pieces.items piece none h.pieces);
-  least = subst (IsExtent new.bounds) (sym (ap gathered_points items ∙ points_behind old.pieces.items piece)) (grows h.least);
+  least = subst (IsExtent new.bounds) (sym (ap gathered_points items ∙ points_after old.pieces.items piece)) (grows h.least);
 }
 
 -- where there are few pieces, the fault of an addition is that of its points

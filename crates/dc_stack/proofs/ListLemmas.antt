@@ -60,8 +60,8 @@ few_then count h = le-leb count edge_limit (never_too_many count h)
 
 -- there is a point where a test says that there are some
 pub has_points : (points : List Point) (test : Bool) → IsTrue test ↔ (points ≡ []) → test ≡ false → 0 < length points
-has_points [] test tells h = absurd (false≢true (sym h ∙ tells.1 refl))
-has_points (p ∷ ps) test tells h = omega arith
+has_points [] test reports h = absurd (false≢true (sym h ∙ reports.1 refl))
+has_points (p ∷ ps) test reports h = omega arith
 
 -- the last point
 pub end_at : (start : Point) (points : List Point) (i : ℕ) (p : Point) → suc i ≡ length points → slice_get points i ≡ Some p → p ≡ end_of start points

@@ -15,7 +15,7 @@ use Rattle.draw_ops.specs.declared.fault.Fault.{Fault}
 use Rattle.draw_ops.specs.declared.fault.Fault.TheVariants.{Record}
 use Rattle.draw_ops.specs.declared.record_fault.RecordFault.{RecordFault}
 use Rattle.dc_stack.specs.Drawing.{MarkValue, drawing_nib, drawing_now, drawing_of, edge_limit, going_on, is_stroked, lines_mark, lists_mark, lists_painted, mark_edges, mark_points, pen_width, points_of_lists, rectangle_mark, tools_of}
-use Rattle.dc_stack.specs.Draws.{IsReady, lends_path, mark_value_of, strokes}
+use Rattle.dc_stack.specs.Draws.{IsReady, borrows_path, mark_value_of, strokes}
 use Rattle.dc_stack.specs.DrawsApart.{DrawsApart, DrawsHere, DrawsLines, HasNotDrawn, mark_fault}
 use Rattle.dc_stack.specs.Extents.{IsExtent}
 use Rattle.dc_stack.specs.Figures.{Figures, box_corners, points_gone_on, with_lines, with_polygons, with_polylines}
@@ -58,7 +58,7 @@ nib_of_mark pieces mark value m s valued =
     (strokes_value pieces mark ∙ ap is_stroked valued)
 
 -- a mark that isn't of a path, the box of whose points is known
-module _ (mark : Mark) (value : MarkValue) (extent : Option Rect) (edges : ℕ) (valued : (pieces : List Piece) → mark_value_of pieces mark ≡ value) (apart : lends_path mark ≡ false) (counted : edges ≡ mark_edges value) (few : edges ≤ edge_limit) (boxed : IsExtent extent (mark_points value)) where
+module _ (mark : Mark) (value : MarkValue) (extent : Option Rect) (edges : ℕ) (valued : (pieces : List Piece) → mark_value_of pieces mark ≡ value) (apart : borrows_path mark ≡ false) (counted : edges ≡ mark_edges value) (few : edges ≤ edge_limit) (boxed : IsExtent extent (mark_points value)) where
   few_edges : mark_edges value ≤ edge_limit
   few_edges = subst (λ n. n ≤ edge_limit) counted few
 
@@ -69,9 +69,9 @@ module _ (mark : Mark) (value : MarkValue) (extent : Option Rect) (edges : ℕ) 
       (ap (λ nib. option_or (off_plane_fault (mark_points value) m.surface) (wide_fault nib)) (sym (nib_of_mark [] mark value m m.surface (valued []))))
 
   pub draws_marked : (old new : MachineState) (result : Result Outcome Fault) → IsReady old.surface new.painted mark → Marks mark extent edges old result new → DrawsApart value old.state.dc.position old result new
-  draws_marked old new (Ok told) ready h =
+  draws_marked old new (Ok reported) ready h =
       let points = mark_points value in
-      rw h.tells (record {
+      rw h.reports (record {
         no_fault = fault_then old ∙ none_of_both (off_plane_fault points old.surface) (wide_fault (mark_nib mark old old.surface)) (sym (h.lands points boxed)) (rw (nib_from (mark_nib mark old old.surface) h.allowed) refl);
         state = h.state;
         needs = h.needs ∙ ap (λ n. greater_needs old.needs (points_needed n)) counted;
@@ -91,7 +91,7 @@ module _ (mark : Mark) (value : MarkValue) (extent : Option Rect) (edges : ℕ) 
         extent = boxed;
       })
   draws_marked old new (Err fault) ready h = record {
-    refused = ap (option_map Record) (fault_then old) ∙ h.refused (mark_points value) boxed;
+    rejected = ap (option_map Record) (fault_then old) ∙ h.rejected (mark_points value) boxed;
     kept = h.kept;
   }
 
@@ -109,25 +109,25 @@ draws_through map start from points extent count old new result some at counted 
     (subst (IsExtent extent) (sym (listed ∙ through_joined m start through_points some)) boxed) old new result tt h
 
 -- a mark isn't drawn whose points have a fault
-refuses_points : (mark : MarkValue) (old new : MachineState) (fault : RecordFault) → option_or (edges_fault (drawing_now mark old.state)) (off_plane_fault (mark_points mark) old.surface) ≡ Some fault → IsUnchanged old new → HasNotDrawn mark old new (Record fault)
-refuses_points mark old new fault found unchanged =
+rejects_points : (mark : MarkValue) (old new : MachineState) (fault : RecordFault) → option_or (edges_fault (drawing_now mark old.state)) (off_plane_fault (mark_points mark) old.surface) ≡ Some fault → IsUnchanged old new → HasNotDrawn mark old new (Record fault)
+rejects_points mark old new fault found unchanged =
     let drawing = drawing_now mark old.state in
     record {
-      refused = ap (option_map Record) (points_first fault (edges_fault drawing) (off_plane_fault (mark_points mark) old.surface) (nib_fault drawing old.surface) found);
+      rejected = ap (option_map Record) (points_first fault (edges_fault drawing) (off_plane_fault (mark_points mark) old.surface) (nib_fault drawing old.surface) found);
       kept = unchanged;
     }
 
-pub refuses_off : (mark : MarkValue) (old new : MachineState) (fault : RecordFault) → mark_edges mark ≤ edge_limit → Some fault ≡ off_plane_fault (mark_points mark) old.surface → IsUnchanged old new → HasNotDrawn mark old new (Record fault)
-refuses_off mark old new fault few off = refuses_points mark old new fault (rw (le-leb (mark_edges mark) edge_limit few) (sym off))
+pub rejects_off : (mark : MarkValue) (old new : MachineState) (fault : RecordFault) → mark_edges mark ≤ edge_limit → Some fault ≡ off_plane_fault (mark_points mark) old.surface → IsUnchanged old new → HasNotDrawn mark old new (Record fault)
+rejects_off mark old new fault few off = rejects_points mark old new fault (rw (le-leb (mark_edges mark) edge_limit few) (sym off))
 
-pub refuses_lists : (painting : Painting) (lists : List (List Point)) (old new : MachineState) (fault : RecordFault) → points_fault (points_of_lists lists) old.surface ≡ Some fault → IsUnchanged old new → HasNotDrawn (lists_painted painting lists) old new (Record fault)
-refuses_lists painting lists old new fault h =
-    refuses_points (lists_painted painting lists) old new fault (ap (λ ps. points_fault ps old.surface) (points_listed lists) ∙ h)
+pub rejects_lists : (painting : Painting) (lists : List (List Point)) (old new : MachineState) (fault : RecordFault) → points_fault (points_of_lists lists) old.surface ≡ Some fault → IsUnchanged old new → HasNotDrawn (lists_painted painting lists) old new (Record fault)
+rejects_lists painting lists old new fault h =
+    rejects_points (lists_painted painting lists) old new fault (ap (λ ps. points_fault ps old.surface) (points_listed lists) ∙ h)
 
 -- an operation that draws a mark, and moves the position at most
 module _ (operation : Operation) (mark : MarkValue) (position : Point) (old new : MachineState) (after : next operation old.state ≡ with_position position old.state) (needed : needs_of operation old.state ≡ points_needed (mark_edges mark)) (drawing : drawing_of operation old.state ≡ drawing_now mark old.state) (fault : fault_of operation old.state old.surface ≡ mark_fault mark old.state old.surface) (points : plane_points operation old.state ≡ mark_points mark) where
   pub plays_drawn : (result : Result Outcome Fault) → DrawsApart mark position old result new → Plays operation old result new
-  plays_drawn (Ok told) h = record {
+  plays_drawn (Ok reported) h = record {
     stepped = record {
       no_fault = fault ∙ h.no_fault;
       state = h.state ∙ sym after;
@@ -136,13 +136,13 @@ module _ (operation : Operation) (mark : MarkValue) (position : Point) (old new 
     drawn = h.drawn ∙ sym drawing;
     placed = h.placed;
     nib = h.nib;
-    extent = subst (IsExtent told.extent) (sym points) h.extent;
+    extent = subst (IsExtent reported.extent) (sym points) h.extent;
     figures = λ e. absurd (no_path_painted (sym e ∙ h.apart));
   }
     where
       no_path_painted : true ≡ false → ⊥
       no_path_painted e = cc
-  plays_drawn (Err found) h = record { refused = inl (ap (option_map Record) fault ∙ h.refused); kept = h.kept }
+  plays_drawn (Err found) h = record { rejected = inl (ap (option_map Record) fault ∙ h.rejected); kept = h.kept }
 
 -- a path that isn't open stays as it is, and nothing is added to it
 stays_closed : (path : Path) → is_open path ≡ false → (change : Figures → Figures) (more : Figures → ℕ) → with_figures change more path ≡ path

@@ -21,7 +21,7 @@ use Rattle.dc_stack.specs.Drawing.{drawing_of, edge_limit, figures_painted, poin
 use Rattle.dc_stack.specs.Extents.{IsExtent}
 use Rattle.dc_stack.specs.Figures.{Figure, all_figures, box_corners, points_of_figures}
 use Rattle.dc_stack.specs.GatheredPath.{gathered_points, path_in}
-use Rattle.dc_stack.specs.MachineState.{HasPlayed, IsUnchanged, HasRefused, MachineState, Outcome, painting_operation}
+use Rattle.dc_stack.specs.MachineState.{HasPlayed, IsUnchanged, HasRejected, MachineState, Outcome, painting_operation}
 use Rattle.dc_stack.specs.DrawsApart.{mark_fault}
 use Rattle.dc_stack.specs.Marking.{HasMarked, HasNotMarked, mark_nib}
 use Rattle.dc_stack.specs.Mapped.{left_top, mapped_box, mapped_corners, mapped_list, right_bottom}
@@ -156,16 +156,16 @@ module _ (old new : MachineState) (painting : Painting) (extent : Option Rect) (
       ∙ rw (le-leb (length (points_of_figures figures)) edge_limit few) refl
 
   -- whose figures are those of the pieces that are lent
-  pub plays_painting : (mid : MachineState) (told : Outcome) (pieces : List Piece) → all_figures (figures_of pieces) ≡ figures → new.state ≡ with_path no_path old.state → new.painted ≡ pieces → new.needs ≡ mid.needs → AllLandOn old.surface pieces → HasMarked (Figures painting Path) extent edges old mid told → HasPlayed (painting_operation painting) old new told
-  plays_painting mid told pieces same state lent needs land h =
-      rw h.tells (record {
+  pub plays_painting : (mid : MachineState) (reported : Outcome) (pieces : List Piece) → all_figures (figures_of pieces) ≡ figures → new.state ≡ with_path no_path old.state → new.painted ≡ pieces → new.needs ≡ mid.needs → AllLandOn old.surface pieces → HasMarked (Figures painting Path) extent edges old mid reported → HasPlayed (painting_operation painting) old new reported
+  plays_painting mid reported pieces same state borrowed needs land h =
+      rw h.reports (record {
         stepped = record {
           no_fault = fault_then ∙ none_of_both (off_plane_fault (points_of_figures figures) old.surface) (wide_fault (mark_nib (Figures painting Path) old old.surface)) (sym (h.lands (points_of_figures figures) boxed)) (rw (nib_from (mark_nib (Figures painting Path) old old.surface) h.allowed) refl);
           state = state ∙ sym (painting_next old.state figures at painting);
           needs = needs ∙ h.needs ∙ ap (λ n. greater_needs old.needs (points_needed n)) counted ∙ ap (greater_needs old.needs) (sym (painting_needs old.state figures at painting));
         };
-        drawn = rw (lent, same, state) (sym (painting_drawn old.state figures at painting));
-        placed = rw lent (record {
+        drawn = rw (borrowed, same, state) (sym (painting_drawn old.state figures at painting));
+        placed = rw borrowed (record {
           ready = land;
           counted = rw same counted;
           least = rw same (least_of_extent extent (points_of_figures figures) boxed);
@@ -174,13 +174,13 @@ module _ (old new : MachineState) (painting : Painting) (extent : Option Rect) (
         });
         nib = record { is = rw state refl; allowed = h.allowed };
         extent = subst (IsExtent extent) (sym (painting_points old.state figures at painting)) boxed;
-        figures = λ e. rw (lent, at, same) refl;
+        figures = λ e. rw (borrowed, at, same) refl;
       })
 
   -- or its points don't land, or its nib is too wide
-  pub refuses_marking : (fault : Fault) → HasNotMarked (Figures painting Path) extent old new fault → HasRefused (painting_operation painting) old new fault
-  refuses_marking fault h = record {
-    refused = inl (ap (option_map Record) fault_then ∙ h.refused (points_of_figures figures) boxed);
+  pub rejects_marking : (fault : Fault) → HasNotMarked (Figures painting Path) extent old new fault → HasRejected (painting_operation painting) old new fault
+  rejects_marking fault h = record {
+    rejected = inl (ap (option_map Record) fault_then ∙ h.rejected (points_of_figures figures) boxed);
     kept = h.kept;
   }
 
@@ -193,12 +193,12 @@ finished_figures Finished pieces figures h = cc
 finished_figures Painted pieces figures h = cc
 
 -- or has more points than it may
-pub refuses_painting : (old new : MachineState) (painting : Painting) (pieces : List Piece) → old.state.path ≡ finished_path (all_figures (figures_of pieces)) → edge_limit < length (gathered_points pieces) → IsUnchanged old new → HasRefused (painting_operation painting) old new (Record TooManyEdges)
-refuses_painting old new painting pieces at many kept =
+pub rejects_painting : (old new : MachineState) (painting : Painting) (pieces : List Piece) → old.state.path ≡ finished_path (all_figures (figures_of pieces)) → edge_limit < length (gathered_points pieces) → IsUnchanged old new → HasRejected (painting_operation painting) old new (Record TooManyEdges)
+rejects_painting old new painting pieces at many kept =
     let figures = all_figures (figures_of pieces) in
     let found : fault_of (painting_operation painting) old.state old.surface ≡ Some TooManyEdges =
     painting_fault old.state figures at painting old.surface ∙ rw (lt-leb (length (gathered_points pieces)) edge_limit many) refl in
     record {
-      refused = inl (ap (option_map Record) found);
+      rejected = inl (ap (option_map Record) found);
       kept = kept;
     }

@@ -5,7 +5,7 @@ use Rattle.std.proofs.lemmas.Int.{ints}
 use Rattle.std.proofs.lemmas.List.Elements.{All-cons, All-nil}
 use Rattle.std.specs.Int.{int_max, int_min}
 use Rattle.std.specs.List.{list_all}
-use Rattle.mapping.specs.Boxes.{HasPoint, IsBoxOver, IsLeastBox, IsTight, KeepsBetween, no_box, point_box, box_between, right_bottom_of, mapped_by, left_top_of}
+use Rattle.mapping.specs.Boxes.{HasPoint, IsBoxOver, IsBoundingBox, IsTight, KeepsBetween, no_box, point_box, box_between, right_bottom_of, mapped_by, left_top_of}
 use Rattle.mapping.specs.BoxLaws.{BoxLaws}
 use Rattle.mapping.specs.PageMap.{axis_numbers, map_numbers}
 use Rattle.mapping.specs.LimitTests.{TestsAreLimits}
@@ -157,8 +157,8 @@ corners_plane_box p q plane at h = record {
 }
 
 -- a drawing has the box of its points
-pub least_of_extent : (extent : Option Rect) (points : List Point) → IsExtent extent points → IsLeastBox (box_of extent) points
-least_of_extent None points h = subst (IsLeastBox no_box) (sym h) refl
+pub least_of_extent : (extent : Option Rect) (points : List Point) → IsExtent extent points → IsBoundingBox (box_of extent) points
+least_of_extent None points h = subst (IsBoundingBox no_box) (sym h) refl
 least_of_extent (Some box) [] h = absurd (omega (arith, h.least.left.2))
 least_of_extent (Some box) (p ∷ ps) h = h.least
 

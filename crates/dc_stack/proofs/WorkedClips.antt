@@ -4,39 +4,39 @@ use Rattle.draw_ops.specs.Operation.{Operation, exclude_clip, intersect_clip, re
 use Rattle.draw_ops.specs.declared.record_fault.RecordFault.TheVariants.{OffPlane, TooManyCuts}
 use Rattle.mapping.specs.Limits.{place_limit, plane_limit}
 use Rattle.dc_stack.specs.Clip.{ClipValue, in_clip, placed_clip}
-use Rattle.dc_stack.proofs.WorkedStart.{box, fault_behind, four, half, played, start}
+use Rattle.dc_stack.proofs.WorkedStart.{box, fault_after, four, half, played, start}
 
 -- a box of one pixel is cut out
 abbrev cut : Operation
 cut = exclude_clip (box (pos 1) (pos 1) (pos 2) (pos 2))
 
 -- behind fifteen cuts there may be one more
-cut_16 : fault_behind (save ∷ replicate 15 cut) cut ≡ None
+cut_16 : fault_after (save ∷ replicate 15 cut) cut ≡ None
 unfolding place_limit plane_limit
 cut_16 = refl
 
 -- behind sixteen there may not
-cut_17 : fault_behind (save ∷ replicate 16 cut) cut ≡ Some TooManyCuts
+cut_17 : fault_after (save ∷ replicate 16 cut) cut ≡ Some TooManyCuts
 cut_17 = refl
 
 -- also where it would be off the plane
-cut_17_off_plane : fault_behind (replicate 16 cut) (exclude_clip (box (pos (2 ^ 30 + 1)) (pos 0) (pos 0) (pos 0))) ≡ Some TooManyCuts
+cut_17_off_plane : fault_after (replicate 16 cut) (exclude_clip (box (pos (2 ^ 30 + 1)) (pos 0) (pos 0) (pos 0))) ≡ Some TooManyCuts
 cut_17_off_plane = refl
 
 -- where it has another fault if there are fewer
-cut_1_off_plane : fault_behind [] (exclude_clip (box (pos (2 ^ 30 + 1)) (pos 0) (pos 0) (pos 0))) ≡ Some OffPlane
+cut_1_off_plane : fault_after [] (exclude_clip (box (pos (2 ^ 30 + 1)) (pos 0) (pos 0) (pos 0))) ≡ Some OffPlane
 unfolding place_limit plane_limit
 cut_1_off_plane = refl
 
 -- the saved state comes back without the cuts
-cut_after_restore : fault_behind (save ∷ replicate 16 cut ++ restore (negsuc 0) ∷ []) cut ≡ None
+cut_after_restore : fault_after (save ∷ replicate 16 cut ++ restore (negsuc 0) ∷ []) cut ≡ None
 unfolding place_limit plane_limit
 cut_after_restore = refl
 
 -- a kept box is no cut
-keep_behind_16_cuts : fault_behind (replicate 16 cut) (intersect_clip (box (pos 1) (pos 1) (pos 2) (pos 2))) ≡ None
+keep_after_16_cuts : fault_after (replicate 16 cut) (intersect_clip (box (pos 1) (pos 1) (pos 2) (pos 2))) ≡ None
 unfolding place_limit plane_limit
-keep_behind_16_cuts = refl
+keep_after_16_cuts = refl
 
 -- the clip after some operations
 abbrev clip_after : List Operation → ClipValue

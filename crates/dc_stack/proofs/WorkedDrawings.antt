@@ -17,15 +17,15 @@ use Rattle.dc_stack.specs.Next.{next}
 use Rattle.dc_stack.specs.OperationFault.{fault_of}
 use Rattle.dc_stack.specs.Path.{piece_limit}
 use Rattle.dc_stack.specs.State.{with_position}
-use Rattle.dc_stack.proofs.WorkedStart.{at, box, fault_behind, half, played, start}
+use Rattle.dc_stack.proofs.WorkedStart.{at, box, fault_after, half, played, start}
 
 -- the mark of an operation behind others
-abbrev mark_behind : List Operation → Operation → Option MarkValue
-mark_behind before operation = option_map (λ drawing. drawing.mark) (drawing_of operation (played before start))
+abbrev mark_after : List Operation → Operation → Option MarkValue
+mark_after before operation = option_map (λ drawing. drawing.mark) (drawing_of operation (played before start))
 
 -- and the tools that it is drawn with
-abbrev tools_behind : List Operation → Operation → Option Tools
-tools_behind before operation = option_map (λ drawing. drawing.tools) (drawing_of operation (played before start))
+abbrev tools_after : List Operation → Operation → Option Tools
+tools_after before operation = option_map (λ drawing. drawing.tools) (drawing_of operation (played before start))
 
 -- three points
 abbrev p : Point
@@ -47,19 +47,19 @@ scaled =
     set_map_mode Anisotropic ∷ set_window_origin (at (pos 1) (pos 1)) ∷ set_window_extent (at (pos 2) (pos 2)) ∷ set_viewport_extent (at (pos 4) (negsuc 1)) ∷ []
 
 -- LINETO draws a line from the position to its point
-line_mark : mark_behind (move_to p ∷ []) (line_to q) ≡ Some (lists_painted Stroke ((p ∷ q ∷ []) ∷ []))
+line_mark : mark_after (move_to p ∷ []) (line_to q) ≡ Some (lists_painted Stroke ((p ∷ q ∷ []) ∷ []))
 line_mark = refl
 
 -- at first that is from the origin
-first_line_mark : mark_behind [] (line_to q) ≡ Some (lists_painted Stroke ((at (pos 0) (pos 0) ∷ q ∷ []) ∷ []))
+first_line_mark : mark_after [] (line_to q) ≡ Some (lists_painted Stroke ((at (pos 0) (pos 0) ∷ q ∷ []) ∷ []))
 first_line_mark = refl
 
 -- the next goes on from there
-next_line_mark : mark_behind (move_to p ∷ line_to q ∷ []) (line_to r) ≡ Some (lists_painted Stroke ((q ∷ r ∷ []) ∷ []))
+next_line_mark : mark_after (move_to p ∷ line_to q ∷ []) (line_to r) ≡ Some (lists_painted Stroke ((q ∷ r ∷ []) ∷ []))
 next_line_mark = refl
 
 -- both ends are where the map puts them at the line, and not where it did at MOVETO
-scaled_line_mark : mark_behind (move_to p ∷ scaled) (line_to q) ≡ Some (lists_painted Stroke ((at (pos 0) (negsuc 0) ∷ at (pos 4) (pos 1) ∷ []) ∷ []))
+scaled_line_mark : mark_after (move_to p ∷ scaled) (line_to q) ≡ Some (lists_painted Stroke ((at (pos 0) (negsuc 0) ∷ at (pos 4) (pos 1) ∷ []) ∷ []))
 scaled_line_mark = refl
 
 -- it needs room for two points
@@ -74,30 +74,30 @@ scaled_line_moves : next (line_to p) (played scaled start) ≡ with_position p (
 scaled_line_moves = refl
 
 -- a position off the plane has no fault
-far_position : fault_behind [] (move_to far) ≡ None
+far_position : fault_after [] (move_to far) ≡ None
 far_position = refl
 
 -- and a line from it has one
-line_from_far : fault_behind (move_to far ∷ []) (line_to p) ≡ Some OffPlane
+line_from_far : fault_after (move_to far ∷ []) (line_to p) ≡ Some OffPlane
 unfolding place_limit plane_limit piece_limit edge_limit
 line_from_far = refl
 
 -- as a line to such a point has
-line_to_far : fault_behind (move_to p ∷ []) (line_to far) ≡ Some OffPlane
+line_to_far : fault_after (move_to p ∷ []) (line_to far) ≡ Some OffPlane
 unfolding place_limit plane_limit piece_limit edge_limit
 line_to_far = refl
 
 -- the line before has none
-line_on_plane : fault_behind (move_to p ∷ []) (line_to q) ≡ None
+line_on_plane : fault_after (move_to p ∷ []) (line_to q) ≡ None
 unfolding place_limit plane_limit piece_limit edge_limit
 line_on_plane = refl
 
 -- POLYLINE draws each list
-polyline_mark : mark_behind (move_to r ∷ []) (polyline ((p ∷ q ∷ []) ∷ (q ∷ r ∷ p ∷ []) ∷ [])) ≡ Some (lists_painted Stroke ((p ∷ q ∷ []) ∷ (q ∷ r ∷ p ∷ []) ∷ []))
+polyline_mark : mark_after (move_to r ∷ []) (polyline ((p ∷ q ∷ []) ∷ (q ∷ r ∷ p ∷ []) ∷ [])) ≡ Some (lists_painted Stroke ((p ∷ q ∷ []) ∷ (q ∷ r ∷ p ∷ []) ∷ []))
 polyline_mark = refl
 
 -- where the map puts its points
-scaled_polyline_mark : mark_behind scaled (polyline ((p ∷ q ∷ []) ∷ (r ∷ []) ∷ [])) ≡ Some (lists_painted Stroke ((at (pos 0) (negsuc 0) ∷ at (pos 4) (pos 1) ∷ []) ∷ (at (negsuc 3) (negsuc 3) ∷ []) ∷ []))
+scaled_polyline_mark : mark_after scaled (polyline ((p ∷ q ∷ []) ∷ (r ∷ []) ∷ [])) ≡ Some (lists_painted Stroke ((at (pos 0) (negsuc 0) ∷ at (pos 4) (pos 1) ∷ []) ∷ (at (negsuc 3) (negsuc 3) ∷ []) ∷ []))
 scaled_polyline_mark = refl
 
 -- it needs room for the points of all lists
@@ -109,24 +109,24 @@ polyline_stays : next (polyline ((p ∷ q ∷ []) ∷ [])) (played (move_to r �
 polyline_stays = refl
 
 -- which may be off the plane
-polyline_behind_far : fault_behind (move_to far ∷ []) (polyline ((p ∷ q ∷ []) ∷ [])) ≡ None
+polyline_after_far : fault_after (move_to far ∷ []) (polyline ((p ∷ q ∷ []) ∷ [])) ≡ None
 unfolding place_limit plane_limit edge_limit piece_limit
-polyline_behind_far = refl
+polyline_after_far = refl
 
 -- the last point of the last list may not
-polyline_to_far : fault_behind [] (polyline ((p ∷ q ∷ []) ∷ (q ∷ far ∷ []) ∷ [])) ≡ Some OffPlane
+polyline_to_far : fault_after [] (polyline ((p ∷ q ∷ []) ∷ (q ∷ far ∷ []) ∷ [])) ≡ Some OffPlane
 unfolding place_limit plane_limit edge_limit piece_limit
 polyline_to_far = refl
 
 -- no list is drawn as none, without a fault
-no_polyline_mark : mark_behind [] (polyline []) ≡ Some (lists_painted Stroke [])
+no_polyline_mark : mark_after [] (polyline []) ≡ Some (lists_painted Stroke [])
 no_polyline_mark = refl
 
 no_polyline_needs : needs_of (polyline []) start ≡ no_needs
 no_polyline_needs = refl
 
 -- POLYLINETO draws lines from the position through its points
-through_mark : mark_behind (move_to p ∷ []) (polyline_to (q ∷ r ∷ [])) ≡ Some (lists_painted Stroke ((p ∷ q ∷ r ∷ []) ∷ []))
+through_mark : mark_after (move_to p ∷ []) (polyline_to (q ∷ r ∷ [])) ≡ Some (lists_painted Stroke ((p ∷ q ∷ r ∷ []) ∷ []))
 through_mark = refl
 
 -- through one point it draws LINETO's line
@@ -142,16 +142,16 @@ through_moves : next (polyline_to (p ∷ q ∷ [])) start ≡ with_position q st
 through_moves = refl
 
 -- from off the plane it has a fault, as to there
-through_from_far : fault_behind (move_to far ∷ []) (polyline_to (q ∷ r ∷ [])) ≡ Some OffPlane
+through_from_far : fault_after (move_to far ∷ []) (polyline_to (q ∷ r ∷ [])) ≡ Some OffPlane
 unfolding place_limit plane_limit edge_limit piece_limit
 through_from_far = refl
 
-through_to_far : fault_behind [] (polyline_to (q ∷ far ∷ [])) ≡ Some OffPlane
+through_to_far : fault_after [] (polyline_to (q ∷ far ∷ [])) ≡ Some OffPlane
 unfolding place_limit plane_limit edge_limit piece_limit
 through_to_far = refl
 
 -- without points it draws no line
-no_through_mark : mark_behind (move_to p ∷ []) (polyline_to []) ≡ Some (lists_painted Stroke [])
+no_through_mark : mark_after (move_to p ∷ []) (polyline_to []) ≡ Some (lists_painted Stroke [])
 no_through_mark = refl
 
 -- needs nothing
@@ -163,12 +163,12 @@ no_through_moves : next (polyline_to []) (played (move_to p ∷ []) start) ≡ p
 no_through_moves = refl
 
 -- and has no fault even from off the plane
-no_through_from_far : fault_behind (move_to far ∷ []) (polyline_to []) ≡ None
+no_through_from_far : fault_after (move_to far ∷ []) (polyline_to []) ≡ None
 unfolding edge_limit piece_limit
 no_through_from_far = refl
 
 -- POLYGON draws each list as a polygon
-polygon_mark : mark_behind [] (polygon ((p ∷ q ∷ r ∷ []) ∷ (q ∷ r ∷ p ∷ []) ∷ [])) ≡ Some (lists_painted StrokeAndFill ((p ∷ q ∷ r ∷ []) ∷ (q ∷ r ∷ p ∷ []) ∷ []))
+polygon_mark : mark_after [] (polygon ((p ∷ q ∷ r ∷ []) ∷ (q ∷ r ∷ p ∷ []) ∷ [])) ≡ Some (lists_painted StrokeAndFill ((p ∷ q ∷ r ∷ []) ∷ (q ∷ r ∷ p ∷ []) ∷ []))
 polygon_mark = refl
 
 -- its last point needn't be its first, and needs no room if it isn't there
@@ -180,7 +180,7 @@ polygon_stays : next (polygon ((p ∷ q ∷ r ∷ []) ∷ [])) start ≡ start
 polygon_stays = refl
 
 -- a point that lands past the limit of placed coordinates is off the plane
-polygon_past_the_limit : fault_behind [] (polygon ((p ∷ q ∷ at (pos 0) (pos (2 ^ 28 + 1)) ∷ []) ∷ [])) ≡ Some OffPlane
+polygon_past_the_limit : fault_after [] (polygon ((p ∷ q ∷ at (pos 0) (pos (2 ^ 28 + 1)) ∷ []) ∷ [])) ≡ Some OffPlane
 unfolding place_limit plane_limit edge_limit piece_limit
 polygon_past_the_limit = refl
 
@@ -190,15 +190,15 @@ unfolding place_limit plane_limit edge_limit piece_limit
 polygon_on_half = refl
 
 -- RECTANGLE draws the rectangle between its left top and its right bottom
-rectangle_mark : mark_behind [] (rectangle (box (pos 1) (pos 2) (pos 3) (pos 4)) HalfOpen) ≡ Some (rectangle_between (at (pos 1) (pos 2)) (at (pos 3) (pos 4)) HalfOpen)
+rectangle_mark : mark_after [] (rectangle (box (pos 1) (pos 2) (pos 3) (pos 4)) HalfOpen) ≡ Some (rectangle_between (at (pos 1) (pos 2)) (at (pos 3) (pos 4)) HalfOpen)
 rectangle_mark = refl
 
 -- also where the right bottom comes first
-turned_rectangle_mark : mark_behind [] (rectangle (box (pos 3) (pos 4) (pos 1) (pos 2)) Inclusive) ≡ Some (rectangle_between (at (pos 3) (pos 4)) (at (pos 1) (pos 2)) Inclusive)
-turned_rectangle_mark = refl
+flipped_rectangle_mark : mark_after [] (rectangle (box (pos 3) (pos 4) (pos 1) (pos 2)) Inclusive) ≡ Some (rectangle_between (at (pos 3) (pos 4)) (at (pos 1) (pos 2)) Inclusive)
+flipped_rectangle_mark = refl
 
 -- where the map puts them
-scaled_rectangle_mark : mark_behind scaled (rectangle (box (pos 1) (pos 2) (pos 3) (pos 0)) HalfOpen) ≡ Some (rectangle_between (at (pos 0) (negsuc 0)) (at (pos 4) (pos 1)) HalfOpen)
+scaled_rectangle_mark : mark_after scaled (rectangle (box (pos 1) (pos 2) (pos 3) (pos 0)) HalfOpen) ≡ Some (rectangle_between (at (pos 0) (negsuc 0)) (at (pos 4) (pos 1)) HalfOpen)
 scaled_rectangle_mark = refl
 
 -- it needs room for four corners
@@ -210,16 +210,16 @@ rectangle_stays : next (rectangle (box (pos 1) (pos 2) (pos 3) (pos 4)) HalfOpen
 rectangle_stays = refl
 
 -- its right bottom may not be off the plane
-rectangle_to_far : fault_behind [] (rectangle (box (pos 1) (pos 2) (pos 3) (pos (2 ^ 30 + 1))) HalfOpen) ≡ Some OffPlane
+rectangle_to_far : fault_after [] (rectangle (box (pos 1) (pos 2) (pos 3) (pos (2 ^ 30 + 1))) HalfOpen) ≡ Some OffPlane
 unfolding place_limit plane_limit piece_limit edge_limit
 rectangle_to_far = refl
 
 -- a pixel is marked where the map puts it
-pixel_mark : mark_behind scaled (pixel q white_colour) ≡ Some (dot (at (pos 4) (pos 1)) white_colour)
+pixel_mark : mark_after scaled (pixel q white_colour) ≡ Some (dot (at (pos 4) (pos 1)) white_colour)
 pixel_mark = refl
 
 -- a drawing has the tools of its moment
-start_tools : tools_behind [] (line_to q) ≡ Some (tools_of start.dc)
+start_tools : tools_after [] (line_to q) ≡ Some (tools_of start.dc)
 start_tools = refl
 
 -- a pen and a brush that were selected, and the clip
@@ -227,11 +227,11 @@ abbrev with_tools : List Operation
 with_tools =
     create None (pen_object Null) ∷ create None (brush_object null_brush) ∷ select 0 ∷ select 1 ∷ intersect_clip (box (pos 0) (pos 0) (pos 2) (pos 2)) ∷ []
 
-selected_tools : tools_behind with_tools (polygon ((p ∷ q ∷ r ∷ []) ∷ [])) ≡ Some (record { pen = Null; brush = null_brush; modes = start.dc.modes; clip = record { kept = Some (box (pos 0) (pos 0) (pos 2) (pos 2)); cuts = [] }; map = start.dc.map })
+selected_tools : tools_after with_tools (polygon ((p ∷ q ∷ r ∷ []) ∷ [])) ≡ Some (record { pen = Null; brush = null_brush; modes = start.dc.modes; clip = record { kept = Some (box (pos 0) (pos 0) (pos 2) (pos 2)); cuts = [] }; map = start.dc.map })
 selected_tools = refl
 
 -- MOVETO draws nothing, and needs nothing
-move_mark : mark_behind [] (move_to p) ≡ None
+move_mark : mark_after [] (move_to p) ≡ None
 move_mark = refl
 
 move_needs : needs_of (move_to p) start ≡ no_needs

@@ -17,7 +17,7 @@ use Rattle.dc_stack.specs.SavedStates.{saved_place}
 use Rattle.dc_stack.specs.Selecting.{after_selecting, object_fault, own_index, palette_fault}
 use Rattle.dc_stack.specs.State.{State, start_state, stock_selections}
 use Rattle.dc_stack.specs.StockObjects.{grey, stock_object, stock_objects}
-use Rattle.dc_stack.proofs.WorkedStart.{at, fault_behind, four, half, played, start}
+use Rattle.dc_stack.proofs.WorkedStart.{at, fault_after, four, half, played, start}
 
 -- the stock objects by what is added to 0x80000000: 0 is a white brush
 white_brush : stock_object 0x80000000 ≡ Some (brush_object (solid_brush white_colour))
@@ -192,59 +192,59 @@ palette_palette : palette_fault (Some palette_object) ≡ None
 palette_palette = refl
 
 -- a stock pen is there from the start
-select_stock : fault_behind [] (select 0x80000007) ≡ None
+select_stock : fault_after [] (select 0x80000007) ≡ None
 select_stock = refl
 
 -- a stock index that is none isn't
-select_missing_stock : fault_behind [] (select 0x80000009) ≡ Some NoSuchHandle
+select_missing_stock : fault_after [] (select 0x80000009) ≡ Some NoSuchHandle
 select_missing_stock = refl
 
 -- nor is the index 0
-select_missing : fault_behind [] (select 0) ≡ Some NoSuchHandle
+select_missing : fault_after [] (select 0) ≡ Some NoSuchHandle
 select_missing = refl
 
 -- but it is behind a create
-select_own : fault_behind (create None red_pen ∷ []) (select 0) ≡ None
+select_own : fault_after (create None red_pen ∷ []) (select 0) ≡ None
 select_own = refl
 
 -- SELECTOBJECT refuses the stock palette
-select_stock_palette : fault_behind [] (select 0x8000000f) ≡ Some WrongKind
+select_stock_palette : fault_after [] (select 0x8000000f) ≡ Some WrongKind
 select_stock_palette = refl
 
 -- and SELECTPALETTE selects it
-palette_stock_palette : fault_behind [] (select_palette 0x8000000f) ≡ None
+palette_stock_palette : fault_after [] (select_palette 0x8000000f) ≡ None
 palette_stock_palette = refl
 
 -- two pens, of which the first is in use and the state saved, and the second is in use behind it
-abbrev held_in_saved : List Operation
-held_in_saved = create None red_pen ∷ create None red_pen ∷ select 0 ∷ save ∷ select 1 ∷ []
+abbrev used_in_saved : List Operation
+used_in_saved = create None red_pen ∷ create None red_pen ∷ select 0 ∷ save ∷ select 1 ∷ []
 
 -- the saved state holds the first pen
-held_by_saved : fault_behind held_in_saved (delete 0) ≡ Some HeldObject
-held_by_saved = refl
+used_by_saved : fault_after used_in_saved (delete 0) ≡ Some HeldObject
+used_by_saved = refl
 
 -- the state holds the second
-held_by_current : fault_behind held_in_saved (delete 1) ≡ Some HeldObject
-held_by_current = refl
+used_by_current : fault_after used_in_saved (delete 1) ≡ Some HeldObject
+used_by_current = refl
 
 -- a stock object can't be deleted
-delete_stock : fault_behind held_in_saved (delete 0x80000007) ≡ Some NoSuchHandle
+delete_stock : fault_after used_in_saved (delete 0x80000007) ≡ Some NoSuchHandle
 delete_stock = refl
 
 -- nor an index that nothing has
-delete_missing : fault_behind held_in_saved (delete 2) ≡ Some NoSuchHandle
+delete_missing : fault_after used_in_saved (delete 2) ≡ Some NoSuchHandle
 delete_missing = refl
 
 -- with the saved state back, the first pen is in use again
-held_again : fault_behind (held_in_saved ++ restore (negsuc 0) ∷ []) (delete 0) ≡ Some HeldObject
-held_again = refl
+used_again : fault_after (used_in_saved ++ restore (negsuc 0) ∷ []) (delete 0) ≡ Some HeldObject
+used_again = refl
 
 -- and nothing holds the second
-second_is_free : fault_behind (held_in_saved ++ restore (negsuc 0) ∷ []) (delete 1) ≡ None
+second_is_free : fault_after (used_in_saved ++ restore (negsuc 0) ∷ []) (delete 1) ≡ None
 second_is_free = refl
 
 -- with the second in use, nothing holds the first
-first_is_free : fault_behind (held_in_saved ++ restore (negsuc 0) ∷ select 1 ∷ []) (delete 0) ≡ None
+first_is_free : fault_after (used_in_saved ++ restore (negsuc 0) ∷ select 1 ∷ []) (delete 0) ≡ None
 first_is_free = refl
 
 -- an object that is made behind a save stays where the saved state comes back
@@ -252,15 +252,15 @@ object_stays : (played (save ∷ create None red_pen ∷ restore (negsuc 0) ∷ 
 object_stays = refl
 
 -- at first no state is saved
-restore_first : fault_behind [] (restore (negsuc 0)) ≡ Some NoSavedState
+restore_first : fault_after [] (restore (negsuc 0)) ≡ Some NoSavedState
 restore_first = refl
 
 -- 0 names none of the saved states
-restore_0 : fault_behind (save ∷ []) (restore (pos 0)) ≡ Some NoSavedState
+restore_0 : fault_after (save ∷ []) (restore (pos 0)) ≡ Some NoSavedState
 restore_0 = refl
 
 -- a state comes back once
-restore_twice : fault_behind (save ∷ restore (negsuc 0) ∷ []) (restore (negsuc 0)) ≡ Some NoSavedState
+restore_twice : fault_after (save ∷ restore (negsuc 0) ∷ []) (restore (negsuc 0)) ≡ Some NoSavedState
 restore_twice = refl
 
 -- of three saved states, 1 names the oldest
@@ -316,11 +316,11 @@ restores_oldest_then : (played (three_saved ++ restore (negsuc 1) ∷ restore (n
 restores_oldest_then = refl
 
 -- behind 255 saved states there may be one more
-save_256 : fault_behind (replicate 255 save) save ≡ None
+save_256 : fault_after (replicate 255 save) save ≡ None
 save_256 = refl
 
 -- behind 256 there may not
-save_257 : fault_behind (replicate 256 save) save ≡ Some DepthLimit
+save_257 : fault_after (replicate 256 save) save ≡ Some DepthLimit
 save_257 = refl
 
 -- a map mode 2 can't be made
@@ -332,11 +332,11 @@ no_mode_6 : map_mode_of 6 ≡ None
 no_mode_6 = refl
 
 -- in mode 8 a window's extent of 0 is refused
-zero_in_8 : fault_behind (set_map_mode Anisotropic ∷ []) (set_window_extent (at (pos 0) (pos 5))) ≡ Some ZeroExtent
+zero_in_8 : fault_after (set_map_mode Anisotropic ∷ []) (set_window_extent (at (pos 0) (pos 5))) ≡ Some ZeroExtent
 zero_in_8 = refl
 
 -- in mode 1 it isn't
-zero_in_1 : fault_behind [] (set_window_extent (at (pos 0) (pos 5))) ≡ None
+zero_in_1 : fault_after [] (set_window_extent (at (pos 0) (pos 5))) ≡ None
 zero_in_1 = refl
 
 -- and it does nothing
@@ -356,17 +356,17 @@ last_by_0 : fault_of (offset_window_origin (at (pos 0) (pos 0))) at_last four �
 last_by_0 = refl
 
 -- a pixel past the last point of the plane is refused
-pixel_off_plane : fault_behind [] (pixel (at (pos (2 ^ 30 + 1)) (pos 0)) black_colour) ≡ Some OffPlane
+pixel_off_plane : fault_after [] (pixel (at (pos (2 ^ 30 + 1)) (pos 0)) black_colour) ≡ Some OffPlane
 unfolding place_limit plane_limit
 pixel_off_plane = refl
 
 -- one that lands on the last placed coordinate isn't
-pixel_at_the_limit : fault_behind [] (pixel (at (pos (2 ^ 28)) (pos 0)) black_colour) ≡ None
+pixel_at_the_limit : fault_after [] (pixel (at (pos (2 ^ 28)) (pos 0)) black_colour) ≡ None
 unfolding place_limit plane_limit
 pixel_at_the_limit = refl
 
 -- one that lands behind it is
-pixel_past_the_limit : fault_behind [] (pixel (at (pos 0) (pos (2 ^ 28 + 1))) black_colour) ≡ Some OffPlane
+pixel_past_the_limit : fault_after [] (pixel (at (pos 0) (pos (2 ^ 28 + 1))) black_colour) ≡ Some OffPlane
 unfolding place_limit plane_limit
 pixel_past_the_limit = refl
 

@@ -37,5 +37,5 @@ played [] state = state
 played (operation ∷ rest) state = played rest (next operation state)
 
 -- the fault of an operation behind others, from the start, on the surface of 4 by 4
-abbrev pub fault_behind : List Operation → Operation → Option RecordFault
-fault_behind before operation = fault_of operation (played before start) four
+abbrev pub fault_after : List Operation → Operation → Option RecordFault
+fault_after before operation = fault_of operation (played before start) four

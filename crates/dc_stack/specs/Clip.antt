@@ -16,24 +16,24 @@ pub record ClipValue : Type 0 where
 abbrev pub unclipped : ClipValue
 unclipped = record { kept = None; cuts = [] }
 
--- how many boxes are cut out at most at a time
+-- the most boxes that are cut out at a time
 abbrev pub cut_limit : ℕ
 cut_limit = 16
 
--- a box, within what is kept already
+-- a box, intersected with the kept box, if there is one
 abbrev pub within_kept : Option Rect → Rect → Rect
 within_kept None box = box
 within_kept (Some kept) box = common_box kept box
 
--- the clip that keeps what a box has of it
+-- the clip, intersected with a box
 abbrev pub with_kept : Rect → ClipValue → ClipValue
 with_kept box clip = record { kept = Some (within_kept clip.kept box); cuts = clip.cuts }
 
--- the clip from which a box is cut out
+-- the clip with one more box cut out
 abbrev pub with_cut : Rect → ClipValue → ClipValue
 with_cut box clip = record { kept = clip.kept; cuts = clip.cuts ++ box ∷ [] }
 
--- where a box of the plane lands on a surface
+-- a box of the plane, on a surface
 abbrev pub placed_box : Surface → Rect → Rect
 placed_box s box = record {
   l = placed box.l s.width s.frame_width;
@@ -42,19 +42,19 @@ placed_box s box = record {
   b = placed box.b s.height s.frame_height;
 }
 
--- where the boxes of a clip land on a surface
+-- the boxes of a clip, on a surface
 abbrev pub placed_clip : Surface → ClipValue → ClipValue
 placed_clip s clip = record { kept = option_map (placed_box s) clip.kept; cuts = map (placed_box s) clip.cuts }
 
--- the kept box has the pixel: where there is none, every pixel is kept
+-- the kept box contains the pixel; if there is none, every pixel is kept
 abbrev pub in_kept : Option Rect → ℕ → ℕ → Bool
 in_kept None x y = true
 in_kept (Some box) x y = in_box box x y
 
--- the pixel is in the kept box of a surface, if there is one, and in no box that is cut out
+-- the pixel is in the kept box, if there is one, and in no box that is cut out
 abbrev pub in_boxes : ClipValue → ℕ → ℕ → Bool
 in_boxes clip x y = in_kept clip.kept x y && not (list_any (λ box. in_box box x y) clip.cuts)
 
--- the clip has the surface's pixel (x, y)
+-- the clip contains the surface's pixel (x, y)
 abbrev pub in_clip : ClipValue → Surface → ℕ → ℕ → Bool
 in_clip clip s x y = in_boxes (placed_clip s clip) x y

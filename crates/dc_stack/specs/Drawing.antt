@@ -24,8 +24,9 @@ use Rattle.dc_stack.specs.declared.draw.Painting.{Painting}
 use Rattle.dc_stack.specs.declared.draw.Painting.TheVariants.{Fill, Stroke, StrokeAndFill}
 use Rattle.dc_stack.specs.declared.modes.Modes.{Modes}
 
--- What is marked on the plane: a point in a colour, the insides or the lines of figures or both, the rectangle between two corners,
--- whichever of them comes first, or the box between two, of which each pixel becomes what a ternary raster operation makes of it.
+-- What a drawing marks on the plane: a point in a colour; the insides or the lines of figures, or both; the rectangle
+-- between two corners, in any order; or the box between two corners, to each of whose pixels a ternary raster operation
+-- is applied.
 pub data MarkValue : Type 0 where
   dot : Point → Colour → MarkValue
   figures_painted : Painting → List Figure → MarkValue
@@ -36,7 +37,7 @@ pub data MarkValue : Type 0 where
 abbrev pub lists_painted : Painting → List (List Point) → MarkValue
 lists_painted painting lists = figures_painted painting (figures_of_lists lists)
 
--- what is drawn with: the pen, the brush, the modes, the clip, and the page map
+-- what a drawing uses: the pen, the brush, the modes, the clip, and the page map
 pub record Tools : Type 0 where
   pub pen : Pen
   pub brush : BrushValue
@@ -44,7 +45,7 @@ pub record Tools : Type 0 where
   pub clip : ClipValue
   pub map : MapNumbers
 
--- the tools of the moment
+-- the current tools
 abbrev pub tools_of : DcValue → Tools
 tools_of dc = record {
   pen = dc.selected.pen.object;
@@ -54,12 +55,12 @@ tools_of dc = record {
   map = dc.map;
 }
 
--- a drawing: its mark, and the tools of its moment
+-- a drawing: its mark, and the tools that were current
 pub record Drawing : Type 0 where
   pub mark : MarkValue
   pub tools : Tools
 
--- more of figures is painted than their inside
+-- the lines of figures are painted, and not only their inside
 abbrev pub paints_lines : Painting → Bool
 paints_lines Fill = false
 paints_lines Stroke = true
@@ -72,29 +73,29 @@ is_stroked (figures_painted painting figures) = paints_lines painting
 is_stroked (rectangle_between p q edges) = true
 is_stroked (blit_between p q table source) = false
 
--- how wide a pen is, in page units
+-- the width of a pen, in page units
 abbrev pub pen_width : Pen → ℕ
 pen_width Null = 0
 pen_width (Solid width colour) = width
 
--- how wide the stroke of a drawing is, in page units: 0 where it has none
+-- the width of a drawing's stroke, in page units; 0 if it has none
 abbrev pub stroke_width : Drawing → ℕ
 stroke_width drawing = if is_stroked drawing.mark then pen_width drawing.tools.pen else 0
 
--- the nib of a drawing on a surface, by the page map of its moment
+-- the nib of a drawing on a surface, by its page map
 abbrev pub drawing_nib : Drawing → Surface → Nib
 drawing_nib drawing s = nib_of (stroke_width drawing) drawing.tools.map s
 
--- the drawing of a mark, with the tools of the moment
+-- the drawing of a mark, with the current tools
 abbrev pub drawing_now : MarkValue → State → Option Drawing
 drawing_now mark state = Some (record { mark = mark; tools = tools_of state.dc })
 
--- lines go on from a point through others, if there are others
+-- lines from a point through others, if there are others
 abbrev pub going_on : Point → List Point → List (List Point)
 going_on start [] = []
 going_on start (point ∷ points) = (start ∷ point ∷ points) ∷ []
 
--- the mark of lines from the position through points of the page
+-- the mark of lines from the current position through points of the page
 abbrev pub lines_mark : List Point → State → MarkValue
 lines_mark points state = lists_painted Stroke (mapped_lists state.dc.map (going_on state.dc.position points))
 
@@ -106,11 +107,11 @@ lists_mark painting lists state = lists_painted painting (mapped_lists state.dc.
 abbrev pub rectangle_mark : Rect → RectangleEdges → State → MarkValue
 rectangle_mark corners edges state = rectangle_between (left_top state.dc.map corners) (right_bottom state.dc.map corners) edges
 
--- the drawing of a mark where no path is open: an open one is added to in place of that
+-- the drawing of a mark if no path is open; an open path is added to instead
 abbrev drawing_unless_open : MarkValue → State → Option Drawing
 drawing_unless_open mark state = unless_open state.path (drawing_now mark state)
 
--- the painting of the figures of a path that waits for it
+-- the painting of the figures of a finished path
 abbrev painting_now : Painting → State → Option Drawing
 painting_now painting state =
     option_map (λ (figures : List Figure). record { mark = figures_painted painting figures; tools = tools_of state.dc }) (figures_to_paint state.path)
@@ -155,11 +156,11 @@ drawing_of fill_path state = painting_now Fill state
 drawing_of stroke_path state = painting_now Stroke state
 drawing_of stroke_and_fill_path state = painting_now StrokeAndFill state
 
--- the points of some lists, one list's after another's
+-- the points of some lists, list after list
 abbrev pub points_of_lists : List (List Point) → List Point
 points_of_lists lists = flat_map (λ list. list) lists
 
--- the points of a mark: of a rectangle and of a blit's box the two corners
+-- the points of a mark; for a rectangle and for a blit's box, the two corners
 abbrev pub mark_points : MarkValue → List Point
 mark_points (dot point colour) = point ∷ []
 mark_points (figures_painted painting figures) = points_of_figures figures
@@ -170,18 +171,18 @@ mark_points (blit_between p q table source) = p ∷ q ∷ []
 abbrev pub drawing_points : Drawing → List Point
 drawing_points drawing = mark_points drawing.mark
 
--- how many points a mark needs room for: a dot and a blit need none, a rectangle its four corners
+-- the number of points for which a mark needs memory: a dot and a blit need none, a rectangle has four corners
 abbrev pub mark_edges : MarkValue → ℕ
 mark_edges (dot point colour) = 0
 mark_edges (figures_painted painting figures) = length (points_of_figures figures)
 mark_edges (rectangle_between p q edges) = 4
 mark_edges (blit_between p q table source) = 0
 
--- how many a drawing does, if there is one
+-- the number of points for which a drawing needs memory, if there is one
 abbrev pub drawing_edges : Option Drawing → ℕ
 drawing_edges None = 0
 drawing_edges (Some drawing) = mark_edges drawing.mark
 
--- how many there are at most in one drawing
+-- the most points of one drawing
 unfoldable pub edge_limit : ℕ
 edge_limit = 1048576

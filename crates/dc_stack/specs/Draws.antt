@@ -1,7 +1,7 @@
--- The value of what a step draws.
+-- The value of a step's drawing.
 use Rattle.std.specs.Prelude.{◌≡◌, ◌≤◌, Bool, true, false, [], ◌∷◌, IsTrue, List, Option, Some, None}
 use Rattle.std.specs.List.{list_all}
-use Rattle.mapping.specs.Boxes.{IsLeastBox}
+use Rattle.mapping.specs.Boxes.{IsBoundingBox}
 use Rattle.mapping.specs.PageMap.{map_numbers}
 use Rattle.mapping.specs.Surface.{Surface, lands_within_limits}
 use Rattle.mapping.specs.declared.geometry.Point.{Point}
@@ -29,17 +29,17 @@ use Rattle.dc_stack.specs.declared.piece.Piece.{Piece}
 abbrev pub points_on_plane : PageMap → Points → List Point
 points_on_plane map points = mapped_list (map_numbers map) (points_of points)
 
--- the lists of several, on the plane
+-- the points of several lists of the page, on the plane
 abbrev pub lists_on_plane : PageMap → Polys → List (List Point)
 lists_on_plane map lists = mapped_lists (map_numbers map) (lists_of lists)
 
--- the figures that points make on the plane, these pieces being lent
+-- the figures of points on the plane, with these pieces of a path
 abbrev pub figures_drawn : List Piece → FigurePoints → List Figure
 figures_drawn pieces (Through from points map) = figures_of_lists ((from ∷ points_on_plane map points) ∷ [])
 figures_drawn pieces (Lists lists map) = figures_of_lists (lists_on_plane map lists)
 figures_drawn pieces Path = all_figures (figures_of pieces)
 
--- what is marked
+-- the value of a mark, with these pieces of a path
 abbrev pub mark_value_of : List Piece → Mark → MarkValue
 mark_value_of pieces (Dot at colour) = dot at colour
 mark_value_of pieces (Line from to) = lists_painted Stroke ((from ∷ to ∷ []) ∷ [])
@@ -47,45 +47,47 @@ mark_value_of pieces (Figures painting points) = figures_painted painting (figur
 mark_value_of pieces (Rectangle first second edges) = rectangle_between first second edges
 mark_value_of pieces (Blit blit) = blit_between blit.first blit.second blit.operation.table (source_of blit.source)
 
--- by what a step draws
+-- the value of a drawing's mark, with these pieces of a path
 abbrev pub mark_of : List Piece → Draw → MarkValue
 mark_of pieces draw = mark_value_of pieces draw.mark
 
--- the pieces of a path that are lent land on this surface
-abbrev pub LendsLanded : Surface → List Piece → FigurePoints → Type 0
-LendsLanded s pieces (Through from points map) = Unit
-LendsLanded s pieces (Lists lists map) = Unit
-LendsLanded s pieces Path = AllLandOn s pieces
+-- the pieces of the path, if the figures use them, land on this surface
+abbrev pub BorrowsLanded : Surface → List Piece → FigurePoints → Type 0
+BorrowsLanded s pieces (Through from points map) = Unit
+BorrowsLanded s pieces (Lists lists map) = Unit
+BorrowsLanded s pieces Path = AllLandOn s pieces
 
--- so do those of a mark, and where a blit's operation depends on its source, there is something to read
+-- the pieces of the path, if the mark uses them, land on this surface; and if a blit's operation depends on its source,
+-- the source is readable
 abbrev pub IsReady : Surface → List Piece → Mark → Type 0
 IsReady s pieces (Dot at colour) = Unit
 IsReady s pieces (Line from to) = Unit
-IsReady s pieces (Figures painting points) = LendsLanded s pieces points
+IsReady s pieces (Figures painting points) = BorrowsLanded s pieces points
 IsReady s pieces (Rectangle first second edges) = Unit
 IsReady s pieces (Blit blit) = uses_source blit.operation.table ≡ true → is_readable (source_of blit.source) ≡ true
 
--- its mark is ready, its points are counted, its box is the least one on the plane, all its points land within the limits, and there are at most so many
+-- a drawing's mark is ready, its points are counted, its box is their bounding box on the plane, all its points land
+-- within the limits, and it has at most as many as allowed
 pub record IsPlacedDraw (s : Surface) (pieces : List Piece) (draw : Draw) : Type 0 where
   pub ready : IsReady s pieces draw.mark
   pub counted : draw.edges ≡ mark_edges (mark_of pieces draw)
-  pub least : IsLeastBox draw.bounds (mark_points (mark_of pieces draw))
+  pub least : IsBoundingBox draw.bounds (mark_points (mark_of pieces draw))
   pub within : IsTrue (list_all (λ point. lands_within_limits point s) (mark_points (mark_of pieces draw)))
   pub few : mark_edges (mark_of pieces draw) ≤ edge_limit
 
--- figures are those of a path
+-- the figures are those of a path
 abbrev pub is_of_path : FigurePoints → Bool
 is_of_path (Through from points map) = false
 is_of_path (Lists lists map) = false
 is_of_path Path = true
 
--- a mark is of a path
-abbrev pub lends_path : Mark → Bool
-lends_path (Dot at colour) = false
-lends_path (Line from to) = false
-lends_path (Figures painting points) = is_of_path points
-lends_path (Rectangle first second edges) = false
-lends_path (Blit blit) = false
+-- the mark is that of a path
+abbrev pub borrows_path : Mark → Bool
+borrows_path (Dot at colour) = false
+borrows_path (Line from to) = false
+borrows_path (Figures painting points) = is_of_path points
+borrows_path (Rectangle first second edges) = false
+borrows_path (Blit blit) = false
 
 -- a mark is stroked
 abbrev pub strokes : Mark → Bool
@@ -98,4 +100,4 @@ strokes (Blit blit) = false
 -- a path is painted
 abbrev pub paints_path : Option Draw → Bool
 paints_path None = false
-paints_path (Some draw) = lends_path draw.mark
+paints_path (Some draw) = borrows_path draw.mark

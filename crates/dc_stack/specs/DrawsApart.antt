@@ -1,4 +1,4 @@
--- What drawing does to a machine whose path isn't open.
+-- How drawing changes a machine whose path isn't open.
 use Rattle.std.specs.Prelude.{◌≡◌, false, List, Option, None, Some, IfSome, Result, Ok, Err}
 use Rattle.std.specs.Option.{option_map}
 use Rattle.mapping.specs.declared.geometry.Point.{Point}
@@ -19,31 +19,32 @@ use Rattle.mapping.specs.Surface.{Surface}
 abbrev pub mark_fault : MarkValue → State → Surface → Option RecordFault
 mark_fault mark state s = drawn_fault (drawing_now mark state) (mark_points mark) s
 
--- a mark was drawn, which isn't of a path, and the position is this
-pub record HasDrawn (mark : MarkValue) (position : Point) (old new : MachineState) (told : Outcome) : Type 0 where
+-- a mark that isn't that of a path was drawn, and the position is this
+pub record HasDrawn (mark : MarkValue) (position : Point) (old new : MachineState) (reported : Outcome) : Type 0 where
   pub no_fault : mark_fault mark old.state old.surface ≡ None
   pub state : new.state ≡ with_position position old.state
   pub needs : new.needs ≡ greater_needs old.needs (points_needed (mark_edges mark))
-  pub drawn : option_map (drawing_with new) told.draw ≡ drawing_now mark old.state
-  pub placed : IfSome told.draw (IsPlacedDraw old.surface new.painted)
-  pub nib : IfSome told.draw (HasNib old.surface new)
-  pub apart : paints_path told.draw ≡ false
-  pub extent : IsExtent told.extent (mark_points mark)
+  pub drawn : option_map (drawing_with new) reported.draw ≡ drawing_now mark old.state
+  pub placed : IfSome reported.draw (IsPlacedDraw old.surface new.painted)
+  pub nib : IfSome reported.draw (HasNib old.surface new)
+  pub apart : paints_path reported.draw ≡ false
+  pub extent : IsExtent reported.extent (mark_points mark)
 
--- it has a fault: nothing has changed
+-- a mark has a fault, and nothing has changed
 pub record HasNotDrawn (mark : MarkValue) (old new : MachineState) (fault : Fault) : Type 0 where
-  pub refused : option_map Record (mark_fault mark old.state old.surface) ≡ Some fault
+  pub rejected : option_map Record (mark_fault mark old.state old.surface) ≡ Some fault
   pub kept : IsUnchanged old new
 
--- one of both
+-- a mark was drawn, or it has a fault
 abbrev pub DrawsApart : MarkValue → Point → MachineState → Result Outcome Fault → MachineState → Type 0
-DrawsApart mark position old (Ok told) new = HasDrawn mark position old new told
+DrawsApart mark position old (Ok reported) new = HasDrawn mark position old new reported
 DrawsApart mark position old (Err fault) new = HasNotDrawn mark old new fault
 
--- the same for the mark that the state makes, and for a position that stays
+-- the mark of the state was drawn, without moving the position; or it has a fault
 abbrev pub DrawsHere : (State → MarkValue) → MachineState → Result Outcome Fault → MachineState → Type 0
 DrawsHere mark old result new = DrawsApart (mark old.state) old.state.dc.position old result new
 
--- and for lines from the position through points, of which the last is the position then
+-- lines from the current position through points were drawn, and the last point is the new position; or they have a
+-- fault
 abbrev pub DrawsLines : List Point → MachineState → Result Outcome Fault → MachineState → Type 0
 DrawsLines points old result new = DrawsApart (lines_mark points old.state) (end_of old.state.dc.position points) old result new

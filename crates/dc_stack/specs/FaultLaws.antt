@@ -8,9 +8,9 @@ use Rattle.draw_ops.specs.declared.record_fault.RecordFault.TheVariants.{NibTooW
 use Rattle.dc_stack.specs.OperationFault.{fault_of}
 use Rattle.dc_stack.specs.State.{State}
 
--- A fault other than being off the plane or having too wide a nib is the same on each surface. An operation without a fault on a surface has
--- none on each that is no larger; so one with a fault has one on each that is no smaller, the same unless it is too wide a nib, which there
--- may be off the plane first.
+-- Every fault except being off the plane or having a nib that is too wide is the same on each surface. An operation
+-- without a fault on a surface has none on any that is no larger. So one with a fault has one on each that is no
+-- smaller: the same, except that a nib that is too wide may be off the plane there.
 pub record FaultLaws : Type 0 where
   pub by_surface :
       (operation : Operation) (state : State) (s other : Surface) (fault : RecordFault)

@@ -1,4 +1,4 @@
--- What a machine keeps fits the surface that it plays on.
+-- What a machine stores fits its surface.
 use Rattle.std.specs.Prelude.{List}
 use Rattle.mapping.specs.Surface.{Surface}
 use Rattle.dc_stack.specs.GatheredPath.{IsGathered, LandsInside}

@@ -1,4 +1,4 @@
--- What a machine is to its callers.
+-- A machine as callers see it.
 use Rattle.std.specs.Prelude.{◌≡◌, ◌⊎◌, ℕ, ◌^◌, ◌<◌, ◌≤◌, Bool, true, false, List, [], length, Option, Some, None, IfSome, Result, Ok, Err}
 use Rattle.std.specs.Option.{option_map}
 use Rattle.mapping.specs.Nibs.{IsNib}
@@ -27,148 +27,148 @@ use Rattle.dc_stack.specs.declared.draw.Painting.TheVariants.{Fill, Stroke, Stro
 use Rattle.dc_stack.specs.declared.needs.Needs.{Needs}
 use Rattle.dc_stack.specs.declared.piece.Piece.{Piece}
 
--- for how many saved states there is room, below which index objects have theirs, and for how many pieces of a path
-pub record Room : Type 0 where
+-- the capacity for saved states, for objects by their indexes, and for pieces of a path
+pub record Capacity : Type 0 where
   pub depth : ℕ
   pub slots : ℕ
   pub pieces : ℕ
 
--- there is less room for saved states than so many, or for objects below this index, or for so many pieces
-abbrev pub LacksRoom : Room → ℕ → ℕ → ℕ → Type 0
-LacksRoom room depth slots pieces = room.depth < depth ⊎ (room.slots < slots ⊎ room.pieces < pieces)
+-- the capacity is less than this, for saved states, objects or pieces
+abbrev pub LacksCapacity : Capacity → ℕ → ℕ → ℕ → Type 0
+LacksCapacity capacity depth slots pieces = capacity.depth < depth ⊎ (capacity.slots < slots ⊎ capacity.pieces < pieces)
 
--- The state that is played, the pieces of the path that the last accepted step painted, the extent of what it placed on the plane, the surface
--- that is played on, the greatest needs so far, and the room.
+-- The playing state, the pieces of the path that the last accepted step painted, the extent of what it placed on the
+-- plane, the surface, the greatest needs so far, and the capacity.
 pub record MachineState : Type 0 where
   pub state : State
   pub painted : List Piece
   pub plane_extent : Option Rect
   pub surface : Surface
   pub needs : Needs
-  pub room : Room
+  pub capacity : Capacity
 
--- the surface and the kind of table are the same, and there is as much room or more
+-- the surface and the kind of table are the same, and the capacity hasn't decreased
 pub record GoesOn (old new : MachineState) : Type 0 where
   pub kind : new.state.table_kind ≡ old.state.table_kind
   pub surface : new.surface ≡ old.surface
-  pub depth : old.room.depth ≤ new.room.depth
-  pub slots : old.room.slots ≤ new.room.slots
-  pub pieces : old.room.pieces ≤ new.room.pieces
+  pub depth : old.capacity.depth ≤ new.capacity.depth
+  pub slots : old.capacity.slots ≤ new.capacity.slots
+  pub pieces : old.capacity.pieces ≤ new.capacity.pieces
 
--- state, pieces that are lent, the extent of the last step and needs are what they were
+-- the state, the pieces of a painted path, the extent of the last step and the needs are unchanged
 pub record IsUnchanged (old new : MachineState) : Type 0 where
   pub state : new.state ≡ old.state
   pub painted : new.painted ≡ old.painted
   pub plane_extent : new.plane_extent ≡ old.plane_extent
   pub needs : new.needs ≡ old.needs
 
--- an operation was played: it has no fault, and the state is the next
+-- an operation was played: it has no fault, and the state is the next one
 pub record HasStepped (operation : Operation) (old new : MachineState) : Type 0 where
   pub no_fault : fault_of operation old.state old.surface ≡ None
   pub state : new.state ≡ next operation old.state
   pub needs : new.needs ≡ greater_needs old.needs (needs_of operation old.state)
 
--- the drawing of a draw, with the tools of the moment
+-- the drawing of a draw, with the current tools
 abbrev pub drawing_with : MachineState → Draw → Drawing
 drawing_with m draw = record { mark = mark_of m.painted draw; tools = tools_of m.state.dc }
 
--- a nib is that of a drawing on a surface, and has no more columns and rows than it may
+-- a nib is that of a drawing on a surface, and within the limits of nibs
 pub record IsNibOf (drawing : Drawing) (s : Surface) (nib : Nib) : Type 0 where
   pub is : nib ≡ drawing_nib drawing s
   pub allowed : IsNib nib
 
--- a draw has the nib of its drawing
+-- the nib of a draw is that of its drawing
 abbrev pub HasNib : Surface → MachineState → Draw → Type 0
 HasNib s m draw = IsNibOf (drawing_with m draw) s draw.nib
 
--- what is to be drawn is the operation's drawing, of the pieces that are lent, with the tools that the new state has still
+-- what is drawn is the operation's drawing, with the pieces to be painted and the tools of the new state
 abbrev pub IsDrawingOf : Operation → MachineState → MachineState → Option Draw → Type 0
 IsDrawingOf operation old new draw = option_map (drawing_with new) draw ≡ drawing_of operation old.state
 
--- pieces are lent that make the figures of the path that is painted, and none of any other drawing
-abbrev pub LendsFor : Bool → Path → List Piece → Type 0
-LendsFor true path pieces = figures_to_paint path ≡ Some (all_figures (figures_of pieces))
-LendsFor false path pieces = pieces ≡ []
+-- the pieces to be painted define the figures of the painted path; there are none for any other drawing
+abbrev pub BorrowsFor : Bool → Path → List Piece → Type 0
+BorrowsFor true path pieces = figures_to_paint path ≡ Some (all_figures (figures_of pieces))
+BorrowsFor false path pieces = pieces ≡ []
 
-abbrev pub LendsPainted : MachineState → Option Draw → MachineState → Type 0
-LendsPainted old draw new = LendsFor (paints_path draw) old.state.path new.painted
+abbrev pub BorrowsPainted : MachineState → Option Draw → MachineState → Type 0
+BorrowsPainted old draw new = BorrowsFor (paints_path draw) old.state.path new.painted
 
--- a save finds no room for one more state
+-- the operation is a save, and the capacity is too small for one more state
 pub record LacksDepth (operation : Operation) (m : MachineState) : Type 0 where
   pub saves : operation ≡ save
-  pub full : m.room.depth ≤ length m.state.saved
+  pub full : m.capacity.depth ≤ length m.state.saved
 
--- a new object finds no room at its index
+-- the operation creates an object, and the capacity is too small for its index
 pub record LacksSlot (operation : Operation) (m : MachineState) : Type 0 where
   pub at : Option ℕ
   pub object : ObjectValue
   pub creates : operation ≡ create at object
-  pub full : m.room.slots ≤ created_index m.state.table_kind at m.state.slots
+  pub full : m.capacity.slots ≤ created_index m.state.table_kind at m.state.slots
 
--- what is added to a path finds no room
+-- the operation adds to a path, and the capacity is too small for its pieces
 pub record LacksPieces (operation : Operation) (m : MachineState) : Type 0 where
   pub adds : piece_count m.state.path < piece_count (next operation m.state).path
-  pub full : m.room.pieces < piece_count (next operation m.state).path
+  pub full : m.capacity.pieces < piece_count (next operation m.state).path
 
--- memory was refused, though the operation has no fault: there was no room for it
-pub record WantsRoom (operation : Operation) (m : MachineState) (fault : Fault) : Type 0 where
+-- an allocation failed: the operation has no fault, but the capacity wasn't enough for it
+pub record WantsCapacity (operation : Operation) (m : MachineState) (fault : Fault) : Type 0 where
   pub no_fault : fault_of operation m.state m.surface ≡ None
   pub memory : fault ≡ OutOfMemory
   pub lacks : LacksDepth operation m ⊎ (LacksSlot operation m ⊎ LacksPieces operation m)
 
--- there is room for as many saved states as there may be, for each index, and for as many pieces
-pub record HasFullRoom (m : MachineState) : Type 0 where
-  pub depth : depth_limit ≤ m.room.depth
-  pub slots : index_bound m.state.table_kind ≤ m.room.slots
-  pub pieces : 2 ^ 16 ≤ m.room.pieces
+-- the capacity is enough for the most saved states, for each index, and for the most pieces
+pub record HasFullCapacity (m : MachineState) : Type 0 where
+  pub depth : depth_limit ≤ m.capacity.depth
+  pub slots : index_bound m.state.table_kind ≤ m.capacity.slots
+  pub pieces : 2 ^ 16 ≤ m.capacity.pieces
 
--- an operation is refused: by its fault, or for want of memory
-abbrev pub RefusesStep : Operation → MachineState → Fault → Type 0
-RefusesStep operation m fault = option_map Record (fault_of operation m.state m.surface) ≡ Some fault ⊎ WantsRoom operation m fault
+-- an operation fails: by its fault, or because an allocation failed
+abbrev pub RejectsStep : Operation → MachineState → Fault → Type 0
+RejectsStep operation m fault = option_map Record (fault_of operation m.state m.surface) ≡ Some fault ⊎ WantsCapacity operation m fault
 
 -- the box is the extent of what an operation places on the plane
 abbrev pub IsExtentOf : Operation → MachineState → Option Rect → Type 0
 IsExtentOf operation m extent = IsExtent extent (plane_points operation m.state)
 
--- what a step that was played tells: its drawing, if it draws, and the extent of what it places on the plane
+-- the results of a step: its drawing, if it draws, and the extent of what it places on the plane
 pub record Outcome : Type 0 where
   pub draw : Option Draw
   pub extent : Option Rect
 
--- an operation was played: the state is the next, and what it draws and where it does is told
-pub record HasPlayed (operation : Operation) (old new : MachineState) (told : Outcome) : Type 0 where
+-- an operation was played: the state is the next one, and its drawing and its extent are returned
+pub record HasPlayed (operation : Operation) (old new : MachineState) (reported : Outcome) : Type 0 where
   pub stepped : HasStepped operation old new
-  pub drawn : IsDrawingOf operation old new told.draw
-  pub placed : IfSome told.draw (IsPlacedDraw old.surface new.painted)
-  pub nib : IfSome told.draw (HasNib old.surface new)
-  pub extent : IsExtentOf operation old told.extent
-  pub figures : paints_path told.draw ≡ true → LendsFor true old.state.path new.painted
+  pub drawn : IsDrawingOf operation old new reported.draw
+  pub placed : IfSome reported.draw (IsPlacedDraw old.surface new.painted)
+  pub nib : IfSome reported.draw (HasNib old.surface new)
+  pub extent : IsExtentOf operation old reported.extent
+  pub figures : paints_path reported.draw ≡ true → BorrowsFor true old.state.path new.painted
 
--- an operation was refused: nothing has changed
-pub record HasRefused (operation : Operation) (old new : MachineState) (fault : Fault) : Type 0 where
-  pub refused : RefusesStep operation old fault
+-- an operation failed, and nothing has changed
+pub record HasRejected (operation : Operation) (old new : MachineState) (fault : Fault) : Type 0 where
+  pub rejected : RejectsStep operation old fault
   pub kept : IsUnchanged old new
 
--- an operation was played or refused
+-- an operation was played, or it failed
 abbrev pub Plays : Operation → MachineState → Result Outcome Fault → MachineState → Type 0
-Plays operation old (Ok told) new = HasPlayed operation old new told
-Plays operation old (Err fault) new = HasRefused operation old new fault
+Plays operation old (Ok reported) new = HasPlayed operation old new reported
+Plays operation old (Err fault) new = HasRejected operation old new fault
 
--- what a step tells that answers with the extent, and puts the drawing into a place
+-- the results of a step that returns the extent and writes the drawing to a variable
 abbrev pub outcome : Result (Option Rect) Fault → Option Draw → Result Outcome Fault
 outcome (Ok extent) draw = Ok (record { draw = draw; extent = extent })
 outcome (Err fault) draw = Err fault
 
--- what one tells that draws nothing
+-- the results of a step that returns the extent and draws nothing
 abbrev pub undrawn : Result (Option Rect) Fault → Result Outcome Fault
 undrawn result = outcome result None
 
--- a step tells this where it answers with the extent and draws nothing
-abbrev pub TellsUndrawn : Result (Option Rect) Fault → Result (Option Rect) Fault → Option Draw → Type 0
-TellsUndrawn answer result draw =
+-- a step returned this extent, and drew nothing
+abbrev pub ReportsUndrawn : Result (Option Rect) Fault → Result (Option Rect) Fault → Option Draw → Type 0
+ReportsUndrawn answer result draw =
     (operation : Operation) (old new : MachineState) → Plays operation old (undrawn answer) new → Plays operation old (outcome result draw) new
 
--- the operation of a painting
+-- the operation that paints a path in this way
 abbrev pub painting_operation : Painting → Operation
 painting_operation Fill = fill_path
 painting_operation Stroke = stroke_path

@@ -1,4 +1,4 @@
--- What making a drawing does to a machine.
+-- How making a drawing changes a machine.
 use Rattle.std.specs.Prelude.{◌≡◌, ℕ, if◌then◌else◌, List, Option, Some, None, Result, Ok, Err}
 use Rattle.std.specs.Option.{option_map, option_or}
 use Rattle.mapping.specs.declared.geometry.Point.{Point}
@@ -17,11 +17,11 @@ use Rattle.dc_stack.specs.Needs.{greater_needs, points_needed}
 use Rattle.dc_stack.specs.OperationFault.{off_plane_fault, wide_fault}
 use Rattle.dc_stack.specs.declared.draw.Mark.{Mark}
 
--- the nib of a stroke of this width on a surface, by the page map of the moment
+-- the nib of a stroke of this width on a surface, by the current page map
 abbrev pub stroke_nib : ℕ → MachineState → Surface → Nib
 stroke_nib width m s = nib_of width m.state.dc.map s
 
--- the nib of a mark on a surface, by the pen and the page map of the moment
+-- the nib of a mark on a surface, by the current pen and page map
 abbrev pub mark_nib : Mark → MachineState → Surface → Nib
 mark_nib mark m s = stroke_nib (if strokes mark then pen_width m.state.dc.selected.pen.object else 0) m s
 
@@ -29,29 +29,29 @@ mark_nib mark m s = stroke_nib (if strokes mark then pen_width m.state.dc.select
 abbrev pub AllLand : Option Rect → Surface → Type 0
 AllLand extent s = (points : List Point) → IsExtent extent points → None ≡ off_plane_fault points s
 
--- a drawing is refused by the points of its extent, or else by its nib
+-- the fault of a drawing: the points of its extent don't all land, or else its nib is too wide
 abbrev pub IsPlaceFault : Option Rect → Nib → Surface → RecordFault → Type 0
 IsPlaceFault extent nib s fault =
     (points : List Point) → IsExtent extent points → option_or (off_plane_fault points s) (wide_fault nib) ≡ Some fault
 
--- the drawing of a mark is made: the points of its extent land on the surface, its nib is no wider than it may be, and the needs are raised to
--- so many points
-pub record HasMarked (mark : Mark) (extent : Option Rect) (edges : ℕ) (old new : MachineState) (told : Outcome) : Type 0 where
+-- the drawing of a mark was made: the points of its extent land on the surface, its nib is within the limits, and the
+-- needs are raised to this number of points
+pub record HasMarked (mark : Mark) (extent : Option Rect) (edges : ℕ) (old new : MachineState) (reported : Outcome) : Type 0 where
   pub lands : AllLand extent old.surface
   pub allowed : IsNib (mark_nib mark old old.surface)
   pub state : new.state ≡ old.state
   pub painted : new.painted ≡ old.painted
   pub needs : new.needs ≡ greater_needs old.needs (points_needed edges)
-  pub tells : told ≡ record { draw = Some (record { mark = mark; bounds = box_of extent; edges = edges; nib = mark_nib mark old old.surface }); extent = extent }
+  pub reports : reported ≡ record { draw = Some (record { mark = mark; bounds = box_of extent; edges = edges; nib = mark_nib mark old old.surface }); extent = extent }
 
--- it is refused, since the points of its extent don't all land, or else its nib is too wide: nothing has changed
+-- making a drawing failed: the points of its extent don't all land, or else its nib is too wide; nothing has changed
 pub record HasNotMarked (mark : Mark) (extent : Option Rect) (old new : MachineState) (fault : Fault) : Type 0 where
-  pub refused :
+  pub rejected :
       (points : List Point) → IsExtent extent points
       → option_map Record (option_or (off_plane_fault points old.surface) (wide_fault (mark_nib mark old old.surface))) ≡ Some fault
   pub kept : IsUnchanged old new
 
--- one of both
+-- the drawing of a mark was made, or that failed
 abbrev pub Marks : Mark → Option Rect → ℕ → MachineState → Result Outcome Fault → MachineState → Type 0
-Marks mark extent edges old (Ok told) new = HasMarked mark extent edges old new told
+Marks mark extent edges old (Ok reported) new = HasMarked mark extent edges old new reported
 Marks mark extent edges old (Err fault) new = HasNotMarked mark extent old new fault

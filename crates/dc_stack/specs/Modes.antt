@@ -1,11 +1,11 @@
--- Modes and colours, each set by itself.
+-- Modes and colours, set one by one.
 use Rattle.mapping.specs.declared.geometry.Colour.{Colour}
 use Rattle.draw_ops.specs.declared.raster_op.RasterOp.{RasterOp}
 use Rattle.draw_ops.specs.declared.settings.BackgroundMode.{BackgroundMode}
 use Rattle.draw_ops.specs.declared.settings.FillMode.{FillMode}
 use Rattle.dc_stack.specs.declared.modes.Modes.{Modes}
 
--- with another background mode
+-- the modes with another background mode
 abbrev pub with_background_mode : BackgroundMode → Modes → Modes
 with_background_mode mode m = record {
   background_mode = mode;
@@ -14,7 +14,7 @@ with_background_mode mode m = record {
   fill_mode = m.fill_mode;
 }
 
--- with another background colour
+-- the modes with another background colour
 abbrev pub with_background_colour : Colour → Modes → Modes
 with_background_colour colour m = record {
   background_mode = m.background_mode;
@@ -23,7 +23,7 @@ with_background_colour colour m = record {
   fill_mode = m.fill_mode;
 }
 
--- with another raster operation
+-- the modes with another raster operation
 abbrev pub with_raster_op : RasterOp → Modes → Modes
 with_raster_op op m = record {
   background_mode = m.background_mode;
@@ -32,7 +32,7 @@ with_raster_op op m = record {
   fill_mode = m.fill_mode;
 }
 
--- with another fill mode
+-- the modes with another fill mode
 abbrev pub with_fill_mode : FillMode → Modes → Modes
 with_fill_mode mode m = record {
   background_mode = m.background_mode;

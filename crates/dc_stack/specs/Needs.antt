@@ -1,5 +1,5 @@
--- What a run needs room for: the most saved states at a time, the slots up to the greatest index of an object, and the most points of
--- one drawing and pieces of a path.
+-- The memory needs of a run: the most saved states at a time, the slots up to the greatest index of an object, and the
+-- most points of one drawing and pieces of a path.
 use Rattle.std.specs.Prelude.{ℕ, suc, length, max}
 use Rattle.draw_ops.specs.Operation.{Operation, no_effect, save, restore, set_background_mode, set_map_mode, set_raster_op, set_fill_mode, set_background_colour, set_window_origin, set_window_extent, set_viewport_origin, set_viewport_extent, offset_window_origin, offset_viewport_origin, exclude_clip, intersect_clip, remove_clip, move_to, line_to, pixel, rectangle, polyline, polygon, polyline_to, blit, create, select, select_palette, delete, begin_path, end_path, close_figure, abort_path, fill_path, stroke_path, stroke_and_fill_path}
 use Rattle.object_tables.specs.Table.{created_index}
@@ -9,11 +9,11 @@ use Rattle.dc_stack.specs.Path.{piece_count}
 use Rattle.dc_stack.specs.State.{State}
 use Rattle.dc_stack.specs.declared.needs.Needs.{Needs}
 
--- nothing is needed
+-- no needs
 abbrev pub no_needs : Needs
 no_needs = record { depth = 0; slots = 0; edges = 0; pieces = 0 }
 
--- of each the greater
+-- the maximum of each need
 abbrev pub greater_needs : Needs → Needs → Needs
 greater_needs a b = record {
   depth = max a.depth b.depth;
@@ -22,23 +22,23 @@ greater_needs a b = record {
   pieces = max a.pieces b.pieces;
 }
 
--- how many saved states there are after a save
+-- the number of saved states after a save
 abbrev pub depth_needed : ℕ → Needs
 depth_needed depth = record { depth = depth; slots = 0; edges = 0; pieces = 0 }
 
--- how many slots reach to the index of a new object
+-- the number of slots up to the index of a new object
 abbrev pub slots_needed : ℕ → Needs
 slots_needed index = record { depth = 0; slots = suc index; edges = 0; pieces = 0 }
 
--- how many points a drawing has
+-- the number of points of a drawing
 abbrev pub points_needed : ℕ → Needs
 points_needed count = record { depth = 0; slots = 0; edges = count; pieces = 0 }
 
--- how many pieces a path has
+-- the number of pieces of a path
 abbrev pub pieces_needed : ℕ → Needs
 pieces_needed pieces = record { depth = 0; slots = 0; edges = 0; pieces = pieces }
 
--- how many points the drawing of an operation needs room for, if it draws, and how many pieces an open path has then
+-- the number of points of the operation's drawing, if it draws, and the number of pieces of an open path afterwards
 abbrev pub drawing_needs : Operation → State → Needs
 drawing_needs operation state = record {
   depth = 0;
@@ -47,7 +47,7 @@ drawing_needs operation state = record {
   pieces = piece_count (next operation state).path;
 }
 
--- what one operation needs
+-- the needs of one operation
 abbrev pub needs_of : Operation → State → Needs
 needs_of no_effect state = no_needs
 needs_of save state = depth_needed (suc (length state.saved))

@@ -1,4 +1,4 @@
--- What an operation does to the playing state.
+-- How an operation changes the playing state.
 use Rattle.std.specs.Prelude.{List, [], ◌∷◌, length}
 use Rattle.mapping.specs.declared.geometry.Point.{Point}
 use Rattle.mapping.specs.MapSettings.{with_mode, with_offset_viewport_origin, with_offset_window_origin, with_viewport_extent, with_viewport_origin, with_window_extent, with_window_origin}
@@ -14,18 +14,20 @@ use Rattle.dc_stack.specs.SavedStates.{after_restoring, after_saving, saved_plac
 use Rattle.dc_stack.specs.Selecting.{after_selecting, named_object}
 use Rattle.dc_stack.specs.State.{State, with_clip, with_map, with_modes, with_path, with_position, with_selected, with_slots}
 
--- where lines from a point through others end
+-- the end of lines from a point through others
 abbrev pub end_of : Point → List Point → Point
 end_of start [] = start
 end_of start (point ∷ points) = end_of point points
 
--- lines from the position through points of the page: the last of them is the position then, and an open path goes on
+-- lines from the current position through points of the page: the last point is the new position, and an open path
+-- continues
 abbrev after_drawing_lines : List Point → State → State
 after_drawing_lines points state =
     with_position (end_of state.dc.position points)
     (with_path (after_lines (mapped_point state.dc.map state.dc.position) (mapped_list state.dc.map points) state.path) state)
 
--- The state after an operation that has no fault. Lines, polylines, polygons and rectangles add to the path, where one is open.
+-- The state after an operation that has no fault. Lines, polylines, polygons and rectangles are added to the path if
+-- one is open.
 abbrev pub next : Operation → State → State
 next no_effect state = state
 next save state = after_saving state

@@ -1,4 +1,4 @@
--- The fault of an operation, in two parts: what it meets in the state, and where its points land on a surface.
+-- The fault of an operation, in two parts: what is wrong in the state, and where its points land on a surface.
 use Rattle.std.specs.Prelude.{ℕ, Bool, if◌then◌else◌, List, [], ◌∷◌, ◌++◌, length, nat_le, nat_lt, Option, Some, None}
 use Rattle.std.specs.List.{list_all}
 use Rattle.std.specs.Option.{option_or}
@@ -25,36 +25,36 @@ use Rattle.dc_stack.specs.SavedStates.{restore_fault, save_fault, saved_place}
 use Rattle.dc_stack.specs.Selecting.{delete_fault, named_object, object_fault, palette_fault}
 use Rattle.dc_stack.specs.State.{State}
 
--- an extent of 0 is to be set
+-- an extent of 0 would be set
 abbrev pub zero_fault : Point → State → Option RecordFault
 zero_fault extent state = if sets_zero_extent extent state.dc.map then Some ZeroExtent else None
 
--- an origin would leave the numbers of 32 bits
+-- an origin would no longer fit 32 bits
 abbrev pub origin_fault : Point → Option RecordFault
 origin_fault origin = if is_page_point origin then None else Some OffPlane
 
--- one box more is cut out than there may be
+-- there would be more boxes cut out than allowed
 abbrev pub cut_fault : ClipValue → Option RecordFault
 cut_fault clip = if nat_lt (length clip.cuts) cut_limit then None else Some TooManyCuts
 
--- a drawing has more points than there may be
+-- a drawing has more points than allowed
 abbrev pub edges_fault : Option Drawing → Option RecordFault
 edges_fault drawing = if nat_le (drawing_edges drawing) edge_limit then None else Some TooManyEdges
 
--- an open path would have more pieces than it may, or else the drawing more points
+-- an open path would have more pieces than allowed, or else the drawing has more points than allowed
 abbrev added_or_drawn_fault : Operation → State → Option RecordFault
 added_or_drawn_fault operation state = option_or (pieces_fault (piece_count (next operation state).path)) (edges_fault (drawing_of operation state))
 
--- no path waits to be painted, or else the painting has more points than it may
+-- no path is finished, or else the painting has more points than allowed
 abbrev painting_fault : Operation → State → Option RecordFault
 painting_fault operation state = option_or (finished_fault state.path) (edges_fault (drawing_of operation state))
 
--- there is no bitmap, or the rectangle of it that is read has no pixel or doesn't lie inside
+-- there is no bitmap, or its rectangle is empty or doesn't lie inside
 abbrev pub reading_fault : Option SourceValue → Option RecordFault
 reading_fault None = Some SourceMissing
 reading_fault (Some source) = if is_source_inside source then None else Some SourceOutside
 
--- the same, where a ternary raster operation depends on the source; others don't look at it
+-- the fault of the source, if a ternary raster operation depends on it
 abbrev pub source_fault : ℕ → Option SourceValue → Option RecordFault
 source_fault table source = if uses_source table then reading_fault source else None
 
@@ -102,20 +102,20 @@ abbrev pub points_drawn : Option Drawing → List Point
 points_drawn None = []
 points_drawn (Some drawing) = drawing_points drawing
 
--- the points that lines from the position through points of the page add to an open path
+-- the points that lines from the current position through points of the page add to an open path
 abbrev line_points_added : List Point → State → List Point
 line_points_added points state =
     points_if_open state.path (λ figures. points_gone_on (mapped_point state.dc.map state.dc.position) figures.current (mapped_list state.dc.map points))
 
--- those that lists do
+-- the points that lists add to an open path
 abbrev list_points_added : List (List Point) → State → List Point
 list_points_added lists state = points_if_open state.path (λ figures. points_of_lists (mapped_lists state.dc.map lists))
 
--- the corners of a rectangle that is added
+-- the corners of a rectangle that is added to an open path
 abbrev corners_added : Rect → State → List Point
 corners_added corners state = points_if_open state.path (λ figures. mapped_corners state.dc.map corners)
 
--- the points of the plane that an operation places and doesn't draw: corners of the clip, and what is added to a path
+-- the points of the plane that an operation places and doesn't draw: corners of the clip, and additions to a path
 abbrev points_kept : Operation → State → List Point
 points_kept no_effect state = []
 points_kept save state = []
@@ -158,28 +158,30 @@ points_kept stroke_and_fill_path state = []
 abbrev pub plane_points : Operation → State → List Point
 plane_points operation state = points_kept operation state ++ points_drawn (drawing_of operation state)
 
--- all of these mapped points are of the plane, and land within the limits
+-- all of these points lie on the plane and land within the limits
 abbrev pub all_land_within : List Point → Surface → Bool
 all_land_within points s = list_all (λ point. lands_within_limits point s) points
 
--- off the plane, where one of them isn't one of the plane, or doesn't land within the limits
+-- off the plane, if one of the points doesn't lie on the plane or doesn't land within the limits
 abbrev pub off_plane_fault : List Point → Surface → Option RecordFault
 off_plane_fault points s = if all_land_within points s then None else Some OffPlane
 
--- the fault of adding points to a path that has so many pieces with them: more than a path may have, or else points off the plane
+-- the fault of adding points to a path that then has this many pieces: more pieces than allowed, or else points off the
+-- plane
 abbrev pub addition_fault : ℕ → List Point → Surface → Option RecordFault
 addition_fault count points s = option_or (pieces_fault count) (off_plane_fault points s)
 
--- a nib has more columns or rows than it may
+-- a nib has more columns or rows than allowed
 abbrev pub wide_fault : Nib → Option RecordFault
 wide_fault nib = if is_nib nib then None else Some NibTooWide
 
--- that of a drawing has, if there is one
+-- the nib of a drawing, if there is one, has more columns or rows than allowed
 abbrev pub nib_fault : Option Drawing → Surface → Option RecordFault
 nib_fault None s = None
 nib_fault (Some drawing) s = wide_fault (drawing_nib drawing s)
 
--- the fault of a drawing and of its points: more than one drawing may have, or else points off the plane, or else too wide a nib
+-- the fault of a drawing and of its points: more points than allowed, or else points off the plane, or else a nib that
+-- is too wide
 abbrev pub drawn_fault : Option Drawing → List Point → Surface → Option RecordFault
 drawn_fault drawing points s = option_or (edges_fault drawing) (option_or (off_plane_fault points s) (nib_fault drawing s))
 
@@ -187,7 +189,7 @@ drawn_fault drawing points s = option_or (edges_fault drawing) (option_or (off_p
 abbrev pub points_fault : List Point → Surface → Option RecordFault
 points_fault points s = option_or (if nat_le (length points) edge_limit then None else Some TooManyEdges) (off_plane_fault points s)
 
--- the fault that depends on the surface, and comes last: points off the plane, or else too wide a nib
+-- the fault that depends on the surface, and comes last: points off the plane, or else a nib that is too wide
 abbrev pub place_fault : Operation → State → Surface → Option RecordFault
 place_fault operation state s = option_or (off_plane_fault (plane_points operation state) s) (nib_fault (drawing_of operation state) s)
 

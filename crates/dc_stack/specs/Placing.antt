@@ -1,4 +1,4 @@
--- Points of the page on the plane, by a page map of the code.
+-- Page points on the plane.
 use Rattle.std.specs.Prelude.{List}
 use Rattle.mapping.specs.PageMap.{map_numbers}
 use Rattle.mapping.specs.declared.geometry.Point.{Point}
@@ -12,14 +12,14 @@ use Rattle.dc_stack.specs.declared.piece.PiecePoints.{PiecePoints}
 abbrev pub plane_list : PageMap → List Point → List Point
 plane_list map points = mapped_list (map_numbers map) points
 
--- those of several lists, one list's after another's
+-- the points of several lists of the page, on the plane, list after list
 abbrev pub joined_plane_list : PageMap → List (List Point) → List Point
 joined_plane_list map lists = points_of_lists (mapped_lists (map_numbers map) lists)
 
--- the points of the page that a piece has, on the plane: of a box two corners
+-- the page points of a piece, on the plane; for a box, two corners
 abbrev pub mapped_piece : PageMap → PiecePoints → List Point
 mapped_piece map points = plane_list map (page_points points)
 
--- all points that it has on the plane: of a box all four
+-- all points of a piece, on the plane; for a box, all four corners
 abbrev pub whole_piece : PageMap → PiecePoints → List Point
 whole_piece map points = points_of_lists (plane_lists (map_numbers map) points)

@@ -1,4 +1,4 @@
--- Where points of the page land.
+-- Projections of page points to a surface.
 use Rattle.std.specs.Prelude.{Bool}
 use Rattle.mapping.specs.PageMap.{map_numbers}
 use Rattle.mapping.specs.PlaceOf.{surface_of}
@@ -7,10 +7,10 @@ use Rattle.mapping.specs.declared.geometry.Point.{Point}
 use Rattle.dc_stack.specs.Mapped.{mapped_point}
 use Rattle.dc_stack.specs.declared.projection.Projection.{Projection}
 
--- where a point of the page lands on the surface
+-- a point of the page, on the surface
 abbrev pub projected : Projection → Point → Point
 projected by point = placed_point (mapped_point (map_numbers by.map) point) (surface_of by.place)
 
--- it is one of the plane, and lands within the limits
+-- a point of the page lies on the plane and lands within the limits
 abbrev pub is_projected : Projection → Point → Bool
 is_projected by point = lands_within_limits (mapped_point (map_numbers by.map) point) (surface_of by.place)

@@ -1,18 +1,18 @@
--- Saving the state, and taking a saved one back ([MS-WMF] 2.3.5.10 and 2.3.5.11, [MS-EMF] 2.3.11).
+-- Saving the state and restoring a saved one ([MS-WMF] 2.3.5.10 and 2.3.5.11, [MS-EMF] 2.3.11).
 use Rattle.std.specs.Prelude.{ℕ, zero, suc, ◌-◌, ℤ, pos, negsuc, if◌then◌else◌, nat_lt, [], ◌∷◌, ◌++◌, length, take, Option, Some, None, slice_index_or}
 use Rattle.draw_ops.specs.declared.record_fault.RecordFault.{RecordFault}
 use Rattle.draw_ops.specs.declared.record_fault.RecordFault.TheVariants.{DepthLimit, NoSavedState}
 use Rattle.dc_stack.specs.State.{State}
 
--- how many states are saved at most at a time
+-- the most saved states at a time
 abbrev pub depth_limit : ℕ
 depth_limit = 256
 
--- there is room for one more
+-- the fault of saving if there are as many saved states as allowed
 abbrev pub save_fault : State → Option RecordFault
 save_fault state = if nat_lt (length state.saved) depth_limit then None else Some DepthLimit
 
--- the state with a copy of what drawings depend on saved, the newest last
+-- the state with one more saved state, a copy of what drawings depend on, as the newest
 abbrev pub after_saving : State → State
 after_saving state = record {
   dc = state.dc;
@@ -22,19 +22,20 @@ after_saving state = record {
   path = state.path;
 }
 
--- The place, of so many saved states, that a number names: a number above 0 counts from the oldest, which is 1, and one below 0 from
--- the newest, which is -1.
+-- The position, among some saved states, that a number names. A positive number counts from the oldest, which is 1, and
+-- a negative one from the newest, which is -1.
 abbrev pub saved_place : ℤ → ℕ → Option ℕ
 saved_place (pos zero) count = None
 saved_place (pos (suc n)) count = if nat_lt n count then Some n else None
 saved_place (negsuc n) count = if nat_lt n count then Some (count - suc n) else None
 
--- no saved state has the place
+-- the fault of restoring if no saved state has the position
 abbrev pub restore_fault : Option ℕ → Option RecordFault
 restore_fault None = Some NoSavedState
 restore_fault (Some place) = None
 
--- the saved state at a place comes back, and it and all saved after it leave the list: objects and path stay as they are
+-- the state after the saved state at a position is restored; it and all newer ones are removed, and objects and path
+-- are unchanged
 abbrev pub after_restoring : Option ℕ → State → State
 after_restoring None state = state
 after_restoring (Some place) state = record {

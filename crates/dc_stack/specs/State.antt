@@ -16,20 +16,20 @@ use Rattle.dc_stack.specs.Clip.{ClipValue, unclipped}
 use Rattle.dc_stack.specs.Path.{Path, no_path}
 use Rattle.dc_stack.specs.declared.modes.Modes.{Modes}
 
--- an object in use, and its index, if it isn't a stock object
+-- a selected object, and its index, unless it is a stock object
 pub record Selection (A : Type 0) : Type 0 where
   pub object : A
   pub index : Option ℕ
 
--- the objects in use: of font and palette the index alone, since nothing is drawn with them
+-- the selected objects; for font and palette only the index, since nothing is drawn with them
 pub record Selections : Type 0 where
   pub pen : Selection Pen
   pub brush : Selection BrushValue
   pub font : Option ℕ
   pub palette : Option ℕ
 
--- What drawings depend on, and saving copies: the objects in use, modes and colours, the page map, the position in page units, and
--- the clip.
+-- What drawings depend on, and what saving copies: the selected objects, modes and colours, the page map, the current
+-- position in page units, and the clip.
 pub record DcValue : Type 0 where
   pub selected : Selections
   pub modes : Modes
@@ -37,7 +37,7 @@ pub record DcValue : Type 0 where
   pub position : Point
   pub clip : ClipValue
 
--- The whole state: what saving copies, and beside it the objects by their indexes and how new ones get theirs, the states saved, the
+-- The whole state: what saving copies, the objects by their indexes, how new ones get theirs, the saved states, the
 -- oldest first, and the path.
 pub record State : Type 0 where
   pub dc : DcValue
@@ -46,7 +46,7 @@ pub record State : Type 0 where
   pub saved : List DcValue
   pub path : Path
 
--- a black pen, a white brush, the stock font and the default palette
+-- the initial selection: a black pen, a white brush, the stock font and the default palette
 abbrev pub stock_selections : Selections
 stock_selections = record {
   pen = record { object = Solid 0 black_colour; index = None };
@@ -55,7 +55,7 @@ stock_selections = record {
   palette = None;
 }
 
--- gaps are painted white, pens and brushes copied, and every other part filled
+-- the initial modes: gaps are painted white, pens and brushes replace the old colour, and alternate filling
 abbrev pub start_modes : Modes
 start_modes = record {
   background_mode = Opaque;
@@ -64,7 +64,7 @@ start_modes = record {
   fill_mode = Alternate;
 }
 
--- what drawings depend on before the first record of a file that starts with this map
+-- what drawings depend on before the first record of a file with this initial map
 abbrev pub start_dc : MapNumbers → DcValue
 start_dc map = record {
   selected = stock_selections;
@@ -74,7 +74,7 @@ start_dc map = record {
   clip = unclipped;
 }
 
--- the state before the first record of a file that starts with this map, and whose objects get their indexes so
+-- the state before the first record of a file with this initial map and this kind of table
 abbrev pub start_state : MapNumbers → TableKind → State
 start_state map kind = record { dc = start_dc map; slots = []; table_kind = kind; saved = []; path = no_path }
 
@@ -82,7 +82,7 @@ start_state map kind = record { dc = start_dc map; slots = []; table_kind = kind
 abbrev pub start_of : OpenedValue → State
 start_of o = start_state o.map (table_kind_of o.handles)
 
--- the state with other things that drawings depend on
+-- the state with another state for drawings
 abbrev pub with_dc : DcValue → State → State
 with_dc dc state = record {
   dc = dc;
@@ -112,7 +112,7 @@ with_path path state = record {
   path = path;
 }
 
--- the state with other objects in use
+-- the state with other selected objects
 abbrev pub with_selected : Selections → State → State
 with_selected selected state = with_dc (record {
   selected = selected;
@@ -142,7 +142,7 @@ with_map map state = with_dc (record {
   clip = state.dc.clip;
 }) state
 
--- the state with the position here
+-- the state with the position at this point
 abbrev pub with_position : Point → State → State
 with_position position state = with_dc (record {
   selected = state.dc.selected;

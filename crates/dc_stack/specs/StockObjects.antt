@@ -1,4 +1,4 @@
--- The objects that every file has from the start ([MS-EMF] 2.1.31).
+-- The objects that exist in every file ([MS-EMF] 2.1.31).
 use Rattle.std.specs.Prelude.{ℕ, Bool, List, [], ◌∷◌, Option, nat_le}
 use Rattle.mapping.specs.declared.geometry.Colour.{Colour}
 use Rattle.mapping.specs.Colours.{black_colour, white_colour}
@@ -14,7 +14,7 @@ first_stock_index = 0x80000000
 abbrev pub is_stock_index : ℕ → Bool
 is_stock_index index = nat_le first_stock_index index
 
--- a grey by its one part
+-- a grey, by its single component
 abbrev pub grey : ℕ → Colour
 grey part = record { r = part; g = part; b = part }
 

@@ -1,4 +1,4 @@
--- The values of what the code keeps of a state.
+-- The values of the parts of a state.
 use Rattle.std.specs.Prelude.{◌≡◌, List, map, take}
 use Rattle.std.specs.List.{All}
 use Rattle.std.specs.Option.{option_map}
@@ -16,25 +16,25 @@ use Rattle.dc_stack.specs.declared.selected.Selected.{Selected}
 abbrev pub cuts_of : Clip → List ClipBox
 cuts_of clip = take clip.count clip.cuts
 
--- the clip, by its boxes of the plane
+-- the clip, with its boxes on the plane
 abbrev pub clip_value : Clip → ClipValue
 clip_value clip = record {
   kept = option_map (λ (box : ClipBox). box.plane) clip.kept;
   cuts = map (λ (box : ClipBox). box.plane) (cuts_of clip);
 }
 
--- the same by its boxes of the surface
+-- the clip, with its boxes on the surface
 abbrev pub placed_value : Clip → ClipValue
 placed_value clip = record {
   kept = option_map (λ (box : ClipBox). box.placed) clip.kept;
   cuts = map (λ (box : ClipBox). box.placed) (cuts_of clip);
 }
 
--- the boxes of the surface are where those of the plane land
+-- the boxes of the clip are placed on the surface
 abbrev pub IsPlacedOn : Surface → Clip → Type 0
 IsPlacedOn s clip = placed_value clip ≡ placed_clip s (clip_value clip)
 
--- the objects in use
+-- the selected objects
 abbrev pub selections_value : Selected → Selections
 selections_value s = record {
   pen = record { object = s.pen; index = index_of s.pen_handle };
@@ -53,7 +53,7 @@ dc_value dc = record {
   clip = clip_value dc.clip;
 }
 
--- the clip of what drawings depend on, and of each saved state, is placed on the surface
+-- the current clip, and that of each saved state, are placed on the surface
 pub record ArePlacedOn (s : Surface) (dc : Dc) (before : List Dc) : Type 0 where
   pub now : IsPlacedOn s dc.clip
   pub saved : All (λ (d : Dc). IsPlacedOn s d.clip) before

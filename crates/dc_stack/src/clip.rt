@@ -7,12 +7,11 @@ ghost use Rattle.dc_stack.specs.Clip.{cut_limit, in_boxes, in_kept, unclipped, w
 
 use mapping::Rect;
 
-/// How many boxes are cut out at most at a time.
+/// The most boxes that are cut out at a time.
 const CUT_LIMIT: usize = 16;
 
-/// A box of the plane, and where it lands on the surface that is played on: from its left and top on, up
-/// to before its right and bottom. One without a pixel may have its right before its left, or its bottom
-/// above its top.
+/// A box of the plane, and its position on the surface, which includes its left and top edges and excludes its right
+/// and bottom ones. The edges of an empty box may be out of order.
 #[derive(Clone, Copy, Debug, PartialEq, Eq)]
 pub struct ClipBox {
     pub plane: Rect,
@@ -22,9 +21,9 @@ pub struct ClipBox {
 /// One kept box or none, and up to sixteen boxes that are cut out of it.
 #[derive(Clone, Copy, Debug)]
 pub struct Clip {
-    /// The box that is kept, or none where nothing is left out but the cuts.
+    /// The kept box. `None` if everything is kept except what the cuts remove.
     pub kept: Option<ClipBox>,
-    /// The boxes that are cut out, the first `count` of these.
+    /// The boxes that are cut out: the first `count` of these.
     pub cuts: [ClipBox; CUT_LIMIT],
     pub count: usize,
 }
@@ -54,7 +53,7 @@ impl Clip {
         }
     }
 
-    /// Whether one box more may be cut out.
+    /// Whether one more box can be cut out.
     pub(crate) fn may_be_cut(&self) -> bool
         ensures test { result ≡ nat_lt (length (clip_value self.now).cuts) cut_limit }
         ensures place { result ≡ nat_lt self.now.count cut_limit }
@@ -62,7 +61,7 @@ impl Clip {
         self.count < CUT_LIMIT
     }
 
-    /// Keeps what a box has of the clip.
+    /// Intersects the clip with a box.
     pub(crate) fn keep(&mut self, kept: ClipBox)
         ensures plane { clip_value self.new ≡ with_kept kept.plane (clip_value self.old) }
         ensures placed { placed_value self.new ≡ with_kept kept.placed (placed_value self.old) }
@@ -101,7 +100,7 @@ impl Clip {
         &self.cuts[..count]
     }
 
-    /// Whether the kept box has the pixel, if there is one.
+    /// Whether the kept box contains the pixel; true if there is none.
     fn keeps(&self, x: u32, y: u32) -> bool
         ensures { result ≡ in_kept (placed_value self.now).kept x y }
     {
@@ -111,7 +110,7 @@ impl Clip {
         }
     }
 
-    /// Whether a box that is cut out has the pixel.
+    /// Whether a box that is cut out contains the pixel.
     fn cuts_out(&self, x: u32, y: u32) -> bool
         ensures { result ≡ list_any (λ cut. in_box cut x y) (placed_value self.now).cuts }
     {
@@ -119,7 +118,7 @@ impl Clip {
     }
 }
 
-/// Whether one of so many boxes has the pixel `(x, y)`.
+/// Whether one of the first `count` boxes contains the pixel `(x, y)`.
 fn any_contains(boxes: &[ClipBox], count: usize, x: u32, y: u32) -> bool
     ensures { result ≡ list_any (λ cut. in_box cut.placed x y) (take count boxes.now) }
 {

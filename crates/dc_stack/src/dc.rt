@@ -1,4 +1,4 @@
-//! What drawings depend on, and saving copies.
+//! The state that drawings depend on, which can be saved.
 
 ghost use Rattle.std.specs.Prelude.{◌≡◌};
 ghost use Rattle.mapping.specs.PageMap.{map_numbers};
@@ -9,7 +9,7 @@ use crate::modes::Modes;
 use crate::selected::Selected;
 use mapping::{PageMap, Point};
 
-/// What drawings depend on, and SAVEDC copies: the objects in use, modes and colours, the page map, the
+/// What drawings depend on, and what SAVEDC copies: the selected objects, modes and colours, the page map, the current
 /// position in page units, and the clip.
 #[derive(Clone, Copy, Debug)]
 pub struct Dc<'a> {
@@ -24,7 +24,7 @@ impl<'a> Dc<'a> {
     ghost use Rattle.dc_stack.specs.Clip.{unclipped};
     ghost use Rattle.dc_stack.specs.Values.{dc_value, placed_value};
 
-    /// What drawings depend on before the first record of a file that starts with this map.
+    /// This state before the first record of a file with this initial map.
     pub(crate) fn start(map: PageMap) -> Dc<'a>
         ensures value { dc_value result ≡ start_dc (map_numbers map) }
         ensures placed { placed_value result.clip ≡ unclipped }

@@ -1,8 +1,8 @@
-//! What a step draws.
+//! Drawings.
 
 ghost use Rattle.std.specs.Prelude.{◌≡◌, None};
 ghost use Rattle.dc_stack.specs.Drawing.{paints_lines};
-ghost use Rattle.dc_stack.specs.Draws.{is_of_path, lends_path, paints_path, strokes};
+ghost use Rattle.dc_stack.specs.Draws.{is_of_path, borrows_path, paints_path, strokes};
 
 use draw_ops::{BlitSource, RectangleEdges, TernaryOp};
 use mapping::{Colour, Nib, PageMap, Point, Rect};
@@ -11,36 +11,35 @@ use point_views::{Points, Polys};
 /// Which parts of figures are painted.
 #[derive(Clone, Copy, Debug, PartialEq, Eq)]
 pub enum Painting {
-    /// Their inside, each closed.
+    /// Their inside, with all figures closed.
     Fill,
     /// Their lines.
     Stroke,
-    /// Their inside, and then their lines, each closed.
+    /// Their inside, and then their lines, with all figures closed.
     StrokeAndFill,
 }
 
-/// The points of figures, as a record or a path has them.
+/// The points of figures, as they are in a record or a path.
 #[derive(Clone, Copy, Debug, PartialEq, Eq)]
 pub enum FigurePoints<'a> {
-    /// An open figure from a point of the plane through others of the page, of which there is at least one.
+    /// An open figure from a point of the plane through other points of the page, at least one.
     Through {
         from: Point,
         points: Points<'a>,
         map: PageMap,
     },
-    /// An open figure for each list of points of the page.
+    /// An open figure for each list of page points.
     Lists {
         lists: Polys<'a>,
         map: PageMap,
     },
-    /// The figures of the path whose pieces the machine lends (`Machine::painted`): how their points land is by the page map of each
-    /// piece.
+    /// The figures of the path whose pieces the machine has (`Machine::painted`). The points of each piece are mapped
+    /// by its own page map.
     Path,
 }
 
-/// The box between two corners on the plane, whichever of them comes first, of which each pixel becomes what the
-/// operation makes of the brush, of what is read, and of the colour that is there. Where the operation depends
-/// on the source, what is read lies inside of its picture.
+/// The box between two corners on the plane, in any order. Each of its pixels becomes the result of the operation on
+/// the brush, the source and its old colour. If the operation depends on the source, the source lies inside its bitmap.
 #[derive(Clone, Copy, Debug, PartialEq, Eq)]
 pub struct PlaneBlit<'a> {
     pub first: Point,
@@ -49,7 +48,7 @@ pub struct PlaneBlit<'a> {
     pub source: BlitSource<'a>,
 }
 
-/// What is marked on the plane.
+/// What a drawing marks on the plane.
 #[derive(Clone, Copy, Debug, PartialEq, Eq)]
 pub enum Mark<'a> {
     /// One pixel.
@@ -57,7 +56,7 @@ pub enum Mark<'a> {
         at: Point,
         colour: Colour,
     },
-    /// A line: a figure of two points, which is stroked.
+    /// A line: a stroked figure of two points.
     Line {
         from: Point,
         to: Point,
@@ -67,7 +66,7 @@ pub enum Mark<'a> {
         painting: Painting,
         points: FigurePoints<'a>,
     },
-    /// The rectangle between two corners, whichever of them comes first.
+    /// The rectangle between two corners, in any order.
     Rectangle {
         first: Point,
         second: Point,
@@ -77,16 +76,16 @@ pub enum Mark<'a> {
     Blit(PlaneBlit<'a>),
 }
 
-/// What a step draws. All its points land within the limits. Pen, brush, modes and clip of its moment are those that the machine lends
-/// still (`Machine::dc`), since no drawing changes them.
+/// What a step draws. All its points land within the limits. The current pen, brush, modes and clip are those of the
+/// machine (`Machine::dc`), since no drawing changes them.
 #[derive(Clone, Copy, Debug, PartialEq, Eq)]
 pub struct Draw<'a> {
     pub mark: Mark<'a>,
-    /// The least box around its points on the plane, its right and bottom included: `Rect::NONE` where there is no point.
+    /// The bounding box of its points on the plane, with right and bottom inclusive. `Rect::NONE` if there is no point.
     pub bounds: Rect,
-    /// How many points it needs room for.
+    /// The number of points for which it needs memory.
     pub edges: u32,
-    /// The nib of its stroke on the surface that is played on: one pixel where it has none.
+    /// The nib of its stroke on the machine's surface. One pixel if it has no stroke.
     pub nib: Nib,
 }
 
@@ -100,9 +99,9 @@ fn is_of_path(points: &FigurePoints<'_>) -> bool
     }
 }
 
-/// Whether a mark is of a path.
-fn lends_path(mark: &Mark<'_>) -> bool
-    ensures { result ≡ lends_path mark.now }
+/// Whether a mark uses the pieces of a path.
+fn borrows_path(mark: &Mark<'_>) -> bool
+    ensures { result ≡ borrows_path mark.now }
 {
     match mark {
         Mark::Figures { points, .. } => is_of_path(points),
@@ -110,7 +109,7 @@ fn lends_path(mark: &Mark<'_>) -> bool
     }
 }
 
-/// Whether more of figures is painted than their inside.
+/// Whether the lines of figures are painted, and not only their inside.
 fn paints_lines(painting: Painting) -> bool
     ensures { result ≡ paints_lines painting }
 {
@@ -137,11 +136,12 @@ pub(crate) fn paints_path(drawn: &Option<Draw<'_>>) -> bool
 {
     match drawn {
         None => false,
-        Some(drawn) => lends_path(&drawn.mark),
+        Some(drawn) => borrows_path(&drawn.mark),
     }
 }
 
-/// Leaves no drawing. It isn't inlined, since its caller would clear the room of an empty drawing in every step.
+/// Leaves no drawing. This isn't inlined, because the caller would otherwise clear the memory of an empty drawing in
+/// every step.
 #[inline(never)]
 pub(crate) fn clear_drawing(drawn: &mut Option<Draw<'_>>)
     ensures { drawn.new ≡ None }

@@ -1,12 +1,12 @@
-//! The law of steps: how faults depend on the surface.
+//! The law of how faults depend on the surface.
 
 ghost use Rattle.dc_stack.specs.FaultLaws.{FaultLaws};
 
 use mapping::{nib_law, placing_law};
 
-/// Each fault of an operation lies in its record. A fault other than `OffPlane` and `NibTooWide` is the same on each surface. An operation
-/// without a fault on a surface has none on each that is no larger, and one with a fault has it on each that is no smaller, except that it
-/// may be `OffPlane` there in place of `NibTooWide`.
+/// Each fault of an operation lies in its record. Every fault except `OffPlane` and `NibTooWide` is the same on each
+/// surface. An operation without a fault on a surface has none on any smaller surface. One with a fault has the same
+/// fault on any larger surface, except that `NibTooWide` may become `OffPlane` there.
 pub fn fault_law()
     ensures { FaultLaws }
 {

@@ -1,4 +1,4 @@
-//! Lists that are one line.
+//! Lists that consist of one line.
 
 ghost use Rattle.std.specs.Prelude.{◌≡◌, [], ◌∷◌, Some, IfSome};
 ghost use Rattle.mapping.specs.declared.geometry.Point.{Point};
@@ -8,7 +8,8 @@ ghost use Rattle.point_views.specs.Polys.{lists_of};
 use mapping::Point;
 use point_views::{Points, Polys};
 
-/// The ends of a line, exactly where the lists are one list of two points: such a line goes by its steps, without any rows.
+/// The ends of a line, exactly if the lists are a single list of two points. Such a line is painted step by step,
+/// without rows.
 pub(crate) fn lone_line(lists: Polys<'_>) -> Option<(Point, Point)>
     ensures line { IfSome result (λ line. lists_of lists.entry ≡ (line.0 ∷ line.1 ∷ []) ∷ []) }
     ensures each { (from to : Point) → lists_of lists.entry ≡ (from ∷ to ∷ []) ∷ [] → result ≡ Some (from, to) }
@@ -23,7 +24,7 @@ pub(crate) fn lone_line(lists: Polys<'_>) -> Option<(Point, Point)>
     }
 }
 
-/// Both points, exactly where there are two.
+/// Both points, exactly if there are two.
 fn two_points(points: Points<'_>) -> Option<(Point, Point)>
     ensures points { IfSome result (λ line. points_of points.entry ≡ line.0 ∷ line.1 ∷ []) }
     ensures each { (from to : Point) → points_of points.entry ≡ from ∷ to ∷ [] → result ≡ Some (from, to) }

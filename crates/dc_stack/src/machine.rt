@@ -1,4 +1,4 @@
-//! The machine: the playing state, and what one operation does to it.
+//! The machine: the playing state, and how one operation changes it.
 
 ghost use Rattle.std.specs.Prelude.{◌≡◌, ◌≤◌, ◌<◌, ◌⊎◌, [], IfErr, IfOk, IfSome, None, OnErr, OnOk, length};
 ghost use Rattle.mapping.specs.PageMap.{map_numbers};
@@ -6,7 +6,7 @@ ghost use Rattle.mapping.specs.PlaceOf.{surface_of};
 ghost use Rattle.draw_ops.specs.Operation.{Operation};
 ghost use Rattle.draw_ops.specs.OperationOf.{operation_of};
 ghost use Rattle.draw_ops.specs.declared.fault.Fault.TheVariants.{OutOfMemory};
-ghost use Rattle.dc_stack.specs.MachineState.{GoesOn, HasNib, HasStepped, IsDrawingOf, IsExtentOf, IsUnchanged, LacksRoom, LendsPainted, MachineState, Plays, RefusesStep, TellsUndrawn, outcome};
+ghost use Rattle.dc_stack.specs.MachineState.{GoesOn, HasNib, HasStepped, IsDrawingOf, IsExtentOf, IsUnchanged, LacksCapacity, BorrowsPainted, MachineState, Plays, RejectsStep, ReportsUndrawn, outcome};
 ghost use Rattle.dc_stack.specs.Draws.{IsPlacedDraw};
 ghost use Rattle.dc_stack.specs.Needs.{no_needs};
 ghost use Rattle.dc_stack.specs.State.{start_state};
@@ -34,8 +34,8 @@ pub use saving::MAX_SAVED_STATES;
 use std::alloc::Global;
 use std::marker::Model;
 
-/// The playing state of a file on a surface. It starts as the file does, and each record's operation
-/// is a step. The objects are those of a table, which says how a new one gets its index.
+/// The playing state of a file on a surface. It starts as the file does, and each record's operation is a step. The
+/// objects are in a table, which decides how a new one gets its index.
 #[derive(Drop)]
 pub struct Machine<'a, T: Contents> {
     dc: Dc<'a>,
@@ -63,7 +63,7 @@ impl<'a, T: Contents> Model for Machine<'a, T> {
       plane_extent = m.plane_extent;
       surface = surface_of m.place;
       needs = m.needs;
-      room = record { depth = vec_capacity m.saved; slots = (T.state m.table).room; pieces = vec_capacity m.path.pieces };
+      capacity = record { depth = vec_capacity m.saved; slots = (T.state m.table).capacity; pieces = vec_capacity m.path.pieces };
     } };
 
     ghost invariant = { λ m. FitsSurface (surface_of m.place) m.dc m.saved.items m.path };
@@ -72,17 +72,16 @@ impl<'a, T: Contents> Model for Machine<'a, T> {
 impl<'a, T: Table<'a>> Machine<'a, T> {
     ghost use Rattle.dc_stack.specs.Values.{IsPlacedOn, dc_value};
 
-    /// The machine at the start of a file that is shown on a surface, with no object in its table. No
-    /// memory is taken.
+    /// The machine at the start of a file that is shown on a surface. Its table has no objects. Allocates no memory.
     pub fn new(alloc: Global, opened: &Opened<'_>, place: Place, mut table: T) -> Machine<'a, T>
         ensures state { result.state ≡ start_state (map_numbers opened.now.start_map) (T.state table).kind }
         ensures surface { result.surface ≡ surface_of place }
         ensures needs { result.needs ≡ no_needs }
         ensures painted { result.painted ≡ [] }
         ensures extent { result.plane_extent ≡ None }
-        ensures depth { result.room.depth ≡ 0 }
-        ensures slots { result.room.slots ≡ (T.state table).room }
-        ensures pieces { result.room.pieces ≡ 0 }
+        ensures depth { result.capacity.depth ≡ 0 }
+        ensures slots { result.capacity.slots ≡ (T.state table).capacity }
+        ensures pieces { result.capacity.pieces ≡ 0 }
     {
         table.clear();
         Machine {
@@ -96,7 +95,7 @@ impl<'a, T: Table<'a>> Machine<'a, T> {
         }
     }
 
-    /// Goes back to the start of a file, on the same surface. The room is kept.
+    /// Goes back to the start of a file, on the same surface. The capacity is kept.
     pub fn restart(&mut self, opened: &Opened<'_>)
         ensures state { self.new.state ≡ start_state (map_numbers opened.now.start_map) self.old.state.table_kind }
         ensures painted { self.new.painted ≡ [] }
@@ -112,14 +111,14 @@ impl<'a, T: Table<'a>> Machine<'a, T> {
         self.needs = Needs::none();
     }
 
-    /// Makes room for so many saved states, for objects with indexes below `slots`, and for so many pieces
-    /// of a path, so that no step within it wants memory: `OutOfMemory` where some was refused.
+    /// Allocates memory for this many saved states, for objects with indexes below `slots`, and for this many pieces of
+    /// a path, so that no step within these numbers allocates memory. Fails with `OutOfMemory`.
     pub fn reserve(&mut self, depth: usize, slots: usize, pieces: usize) -> Result<(), Fault>
-        ensures depth { OnOk result (depth ≤ self.new.room.depth) }
-        ensures slots { OnOk result (slots ≤ self.new.room.slots) }
-        ensures pieces { OnOk result (pieces ≤ self.new.room.pieces) }
-        ensures full { OnErr result (LacksRoom self.old.room depth slots pieces) }
-        ensures refused { IfErr result (λ fault. fault ≡ OutOfMemory) }
+        ensures depth { OnOk result (depth ≤ self.new.capacity.depth) }
+        ensures slots { OnOk result (slots ≤ self.new.capacity.slots) }
+        ensures pieces { OnOk result (pieces ≤ self.new.capacity.pieces) }
+        ensures full { OnErr result (LacksCapacity self.old.capacity depth slots pieces) }
+        ensures rejected { IfErr result (λ fault. fault ≡ OutOfMemory) }
         ensures unchanged { IsUnchanged self.old self.new }
         ensures goes_on { GoesOn self.old self.new }
     {
@@ -133,20 +132,24 @@ impl<'a, T: Table<'a>> Machine<'a, T> {
         self.table.reserve(slots)
     }
 
-    /// Plays one operation, and tells what it draws. The fault is the operation's first: of an object
-    /// `TableFull`, `HandleTaken`, `NoSuchHandle`, `WrongKind` or `HeldObject`; of a saved state `DepthLimit`
-    /// or `NoSavedState`; of an extent `ZeroExtent`; of a cut `TooManyCuts`; of what is added to a path
-    /// `TooManyPieces`; of a drawing `PathState`, `TooManyEdges`, and of a blit `SourceMissing` or
-    /// `SourceOutside`; and last `OffPlane` and `NibTooWide`. It is `OutOfMemory` where there was no room and memory was refused.
-    /// After a fault nothing has changed.
+    /// Plays one operation, and returns its drawing, if it draws. After a fault nothing has changed. The fault is the
+    /// operation's first:
+    ///
+    /// - for an object `TableFull`, `HandleTaken`, `NoSuchHandle`, `WrongKind` or `HeldObject`;
+    /// - for a saved state `DepthLimit` or `NoSavedState`; for an extent `ZeroExtent`; for a cut `TooManyCuts`;
+    /// - for an addition to a path `TooManyPieces`; for a drawing `PathState` or `TooManyEdges`, for a blit
+    ///   `SourceMissing` or `SourceOutside`;
+    /// - last `OffPlane` and `NibTooWide`.
+    ///
+    /// It is `OutOfMemory` if memory was needed and an allocation failed.
     pub fn step(&mut self, op: Op<'a>) -> Result<Option<Draw<'a>>, Fault>
         ensures stepped { OnOk result (HasStepped (operation_of op.entry) self.old self.new) }
         ensures drawn { IfOk result (IsDrawingOf (operation_of op.entry) self.old self.new) }
         ensures placed { IfOk result (λ draw. IfSome draw (IsPlacedDraw self.old.surface self.new.painted)) }
         ensures nib { IfOk result (λ draw. IfSome draw (HasNib self.old.surface self.new)) }
-        ensures lent { IfOk result (λ draw. LendsPainted self.old draw self.new) }
+        ensures borrowed { IfOk result (λ draw. BorrowsPainted self.old draw self.new) }
         ensures extent { OnOk result (IsExtentOf (operation_of op.entry) self.old self.new.plane_extent) }
-        ensures refused { IfErr result (RefusesStep (operation_of op.entry) self.old) }
+        ensures rejected { IfErr result (RejectsStep (operation_of op.entry) self.old) }
         ensures kept { OnErr result (IsUnchanged self.old self.new) }
         ensures goes_on { GoesOn self.old self.new }
     {
@@ -157,17 +160,17 @@ impl<'a, T: Table<'a>> Machine<'a, T> {
         }
     }
 
-    /// The same for a borrowed operation, whose drawing is written to `drawn`, so that a loop over records moves neither. After a fault
-    /// `drawn` is `None`.
+    /// The same for a borrowed operation, whose drawing is written to `drawn`, so that a loop over records moves
+    /// neither. After a fault `drawn` is `None`.
     #[inline(never)]
     pub fn step_into(&mut self, op: &Op<'a>, drawn: &mut Option<Draw<'a>>) -> Result<(), Fault>
         ensures stepped { OnOk result (HasStepped (operation_of op.now) self.old self.new) }
         ensures drawn { OnOk result (IsDrawingOf (operation_of op.now) self.old self.new drawn.new) }
         ensures placed { OnOk result (IfSome drawn.new (IsPlacedDraw self.old.surface self.new.painted)) }
         ensures nib { OnOk result (IfSome drawn.new (HasNib self.old.surface self.new)) }
-        ensures lent { OnOk result (LendsPainted self.old drawn.new self.new) }
+        ensures borrowed { OnOk result (BorrowsPainted self.old drawn.new self.new) }
         ensures extent { OnOk result (IsExtentOf (operation_of op.now) self.old self.new.plane_extent) }
-        ensures refused { IfErr result (RefusesStep (operation_of op.now) self.old) }
+        ensures rejected { IfErr result (RejectsStep (operation_of op.now) self.old) }
         ensures kept { OnErr result (IsUnchanged self.old self.new) }
         ensures undrawn { OnErr result (drawn.new ≡ None) }
         ensures goes_on { GoesOn self.old self.new }
@@ -187,8 +190,8 @@ impl<'a, T: Table<'a>> Machine<'a, T> {
         }
     }
 
-    /// Plays one operation, and answers with the extent of what it places on the plane. The pieces of a path that the step before painted may
-    /// still be lent.
+    /// Plays one operation, and returns the extent of what it places on the plane. The pieces of a path that the
+    /// previous step painted may still be borrowed.
     fn play(&mut self, op: &Op<'a>, drawn: &mut Option<Draw<'a>>) -> Result<Option<Rect>, Fault>
         ensures plays { Plays (operation_of op.now) self.old (outcome result drawn.new) self.new }
         ensures goes_on { GoesOn self.old self.new }
@@ -242,23 +245,23 @@ impl<'a, T: Table<'a>> Machine<'a, T> {
         }
     }
 
-    /// The pieces of the path that the last accepted step painted, or none where it painted none.
+    /// The pieces of the path that the last accepted step painted. Empty if it painted none.
     pub fn painted(&self) -> &[Piece<'a>]
         ensures { result.now ≡ self.now.painted }
     {
         self.path.painted()
     }
 
-    /// The least box on the plane around all points that the last accepted step placed, its right and bottom included: of its drawing, of
-    /// what it added to a path, or of a box of the clip. There is none where it placed no point. `fits` tells whether they land on another
-    /// surface.
+    /// The bounding box on the plane of all points that the last accepted step placed, with right and bottom inclusive.
+    /// These are the points of its drawing, of its addition to a path, or of a box of the clip. `None` if it placed no
+    /// point. `fits` returns whether they land on another surface.
     pub fn plane_extent(&self) -> Option<Rect>
         ensures { result ≡ self.now.plane_extent }
     {
         self.plane_extent
     }
 
-    /// Where it shows its frame.
+    /// The surface and the frame that it shows.
     pub fn place(&self) -> Place
         ensures { surface_of result ≡ self.now.surface }
     {
@@ -281,12 +284,12 @@ impl<'a, T: Table<'a>> Machine<'a, T> {
     }
 }
 
-/// The answer of a step that draws nothing: so nothing is put into the place of its drawing.
+/// The result of a step that draws nothing. Nothing is written to `drawn`.
 fn draw_nothing<'a>(
     answer: Result<Option<Rect>, Fault>,
     drawn: &mut Option<Draw<'a>>,
 ) -> Result<Option<Rect>, Fault>
-    ensures { TellsUndrawn answer result drawn.new }
+    ensures { ReportsUndrawn answer result drawn.new }
 {
     *drawn = None;
     answer

@@ -1,11 +1,11 @@
-//! How what follows is drawn: modes and colours.
+//! Modes and colours for later drawing.
 
 ghost use Rattle.std.specs.Prelude.{◌≡◌};
 
 use draw_ops::{BackgroundMode, FillMode, RasterOp};
 use mapping::Colour;
 
-/// The settings that say how what follows is drawn. The background is that of hatched brushes alone.
+/// The settings for later drawing. The background applies only to hatched brushes.
 #[derive(Clone, Copy, Debug, PartialEq, Eq)]
 pub struct Modes {
     pub background_mode: BackgroundMode,

@@ -1,9 +1,9 @@
-//! What a run needs room for.
+//! The memory needs of a run.
 
 ghost use Rattle.std.specs.Prelude.{◌≡◌, ◌<◌, ◌^◌};
 
-/// What a run needs room for, each the greatest that came: saved states at a time, slots of objects (the
-/// greatest index that was made, and 1), points of one drawing, and pieces of a path at a time.
+/// The needs of a run, each the greatest that occurred: saved states at a time, slots of objects (the greatest index
+/// plus 1), points of one drawing, and pieces of a path at a time.
 #[derive(Clone, Copy, Debug, PartialEq, Eq)]
 pub struct Needs {
     pub depth: u32,
@@ -15,7 +15,7 @@ pub struct Needs {
 impl Needs {
     ghost use Rattle.dc_stack.specs.Needs.{depth_needed, greater_needs, no_needs, pieces_needed, points_needed, slots_needed};
 
-    /// Nothing is needed.
+    /// No needs.
     pub(crate) fn none() -> Needs
         ensures { result ≡ no_needs }
     {
@@ -27,14 +27,14 @@ impl Needs {
         }
     }
 
-    /// Raises how many saved states there are at a time to this, if it is more.
+    /// Raises the number of saved states at a time to at least this.
     pub(crate) fn raise_depth(&mut self, depth: u32)
         ensures { self.new ≡ greater_needs self.old (depth_needed depth) }
     {
         self.depth = self.depth.max(depth);
     }
 
-    /// Raises how many slots there are so that this index has one.
+    /// Raises the number of slots so that this index has one.
     pub(crate) fn raise_slots(&mut self, index: u32)
         requires { index < 2 ^ 16 }
         ensures { self.new ≡ greater_needs self.old (slots_needed index) }
@@ -42,14 +42,14 @@ impl Needs {
         self.slots = self.slots.max(index + 1);
     }
 
-    /// Raises how many points one drawing has to this, if it is more.
+    /// Raises the number of points of one drawing to at least this.
     pub(crate) fn raise_edges(&mut self, edges: u32)
         ensures { self.new ≡ greater_needs self.old (points_needed edges) }
     {
         self.edges = self.edges.max(edges);
     }
 
-    /// Raises how many pieces a path has at a time to this, if it is more.
+    /// Raises the number of pieces of a path at a time to at least this.
     pub(crate) fn raise_pieces(&mut self, pieces: u32)
         ensures { self.new ≡ greater_needs self.old (pieces_needed pieces) }
     {

@@ -1,39 +1,39 @@
-//! The path that records gather.
+//! Gathering a path.
 
 ghost use Rattle.std.specs.Prelude.{◌≡◌, ◌≢◌, ◌+◌, ◌<◌, ◌≤◌, [], ◌∷◌, ◌++◌, Bool, true, length, nat_le, None, vec_capacity, OnOk, OnErr, IfErr, IsTrue};
 ghost use Rattle.mapping.specs.Surface.{Surface};
 ghost use Rattle.draw_ops.specs.declared.fault.Fault.TheVariants.{OutOfMemory};
 ghost use Rattle.dc_stack.specs.Figures.{no_figures};
-ghost use Rattle.dc_stack.specs.GatheredPath.{IsGathered, IsSamePath, StaysInside, is_open_phase, open_piece, painted_of, path_of, phase_behind};
+ghost use Rattle.dc_stack.specs.GatheredPath.{IsGathered, IsSamePath, StaysInside, is_open_phase, open_piece, painted_of, path_of, phase_after};
 ghost use Rattle.dc_stack.specs.Path.{after_closing, after_ending, after_moving, is_finished, is_open, no_path, open_path, piece_limit};
 ghost use Rattle.dc_stack.specs.Pieces.{figures_of, with_end};
 ghost use Rattle.dc_stack.specs.declared.path.PathPhase.TheVariants.{BetweenFigures, Finished, InFigure};
 ghost use Rattle.dc_stack.specs.declared.piece.FigureEnd.TheVariants.{Open};
 
-use crate::piece::{FigureEnd, Joining, Piece, PiecePoints};
+use crate::piece::{FigureEnd, Piece, PiecePoints, Verb};
 use draw_ops::Fault;
 use mapping::{PageMap, Rect};
 use std::alloc::Global;
 
-/// How many pieces a path has at most.
+/// The most pieces of a path.
 pub const MAX_PIECES: usize = 65_536;
 
-/// Where a path stands.
+/// The phase of a path.
 #[derive(Clone, Copy, Debug, PartialEq, Eq)]
 pub(crate) enum PathPhase {
     NoPath,
-    /// It is open, and no figure is.
+    /// It is open, but no figure is.
     BetweenFigures,
     /// It is open, and so is a figure.
     InFigure,
-    /// It waits to be painted.
+    /// It is ready to be painted.
     Finished,
-    /// It was painted by the last step, and its pieces are lent.
+    /// The last step painted it, and its pieces can be borrowed.
     Painted,
 }
 
-/// A path: where it stands, its pieces, and the least box around all their points on the plane, the right
-/// and bottom included.
+/// A path: its phase, its pieces, and the bounding box of all their points on the plane, with right and bottom
+/// inclusive.
 #[derive(Drop)]
 pub(crate) struct GatheredPath<'a> {
     pub(crate) phase: PathPhase,
@@ -42,13 +42,13 @@ pub(crate) struct GatheredPath<'a> {
 }
 
 impl<'a> GatheredPath<'a> {
-    /// No path. No memory is taken.
+    /// No path. Allocates no memory.
     pub(crate) fn new(alloc: Global) -> GatheredPath<'a>
         ensures path { path_of result ≡ no_path }
         ensures painted { painted_of result ≡ [] }
         ensures gathered { IsGathered result }
         ensures pieces { result.pieces.items ≡ [] }
-        ensures room { vec_capacity result.pieces ≡ 0 }
+        ensures capacity { vec_capacity result.pieces ≡ 0 }
         ensures bounds { result.bounds ≡ None }
     {
         GatheredPath {
@@ -58,28 +58,28 @@ impl<'a> GatheredPath<'a> {
         }
     }
 
-    /// Drops whatever there is. The room is kept.
+    /// Drops any path. The capacity is kept.
     pub(crate) fn abort(&mut self)
         ensures path { path_of self.new ≡ no_path }
         ensures painted { painted_of self.new ≡ [] }
         ensures gathered { IsGathered self.new }
         ensures pieces { self.new.pieces.items ≡ [] }
         ensures bounds { self.new.bounds ≡ None }
-        ensures room { vec_capacity self.new.pieces ≡ vec_capacity self.old.pieces }
+        ensures capacity { vec_capacity self.new.pieces ≡ vec_capacity self.old.pieces }
     {
         self.phase = PathPhase::NoPath;
         self.pieces.clear();
         self.bounds = None;
     }
 
-    /// Opens an empty path, in place of what there is. The room is kept.
+    /// Opens an empty path, replacing any other. The capacity is kept.
     pub(crate) fn begin(&mut self)
         ensures path { path_of self.new ≡ open_path no_figures 0 }
         ensures painted { painted_of self.new ≡ [] }
         ensures gathered { IsGathered self.new }
         ensures pieces { self.new.pieces.items ≡ [] }
         ensures bounds { self.new.bounds ≡ None }
-        ensures room { vec_capacity self.new.pieces ≡ vec_capacity self.old.pieces }
+        ensures capacity { vec_capacity self.new.pieces ≡ vec_capacity self.old.pieces }
     {
         self.abort();
         self.phase = PathPhase::BetweenFigures;
@@ -96,7 +96,7 @@ impl<'a> GatheredPath<'a> {
         }
     }
 
-    /// Whether the path waits to be painted.
+    /// Whether the path is ready to be painted.
     pub(crate) fn is_finished(&self) -> bool
         ensures path { result ≡ is_finished (path_of self.now) }
         ensures phase { IsTrue result → self.now.phase ≡ Finished }
@@ -117,8 +117,8 @@ impl<'a> GatheredPath<'a> {
         self.phase = PathPhase::Finished;
     }
 
-    /// Lends the pieces of a finished path, which is no path any more.
-    pub(crate) fn lend(&mut self)
+    /// Makes the pieces of a finished path available for painting. The path is then dropped.
+    pub(crate) fn borrow_pieces(&mut self)
         requires gathered { IsGathered self.old }
         ensures path { path_of self.new ≡ no_path }
         ensures painted { painted_of self.new ≡ self.old.pieces.items }
@@ -129,7 +129,7 @@ impl<'a> GatheredPath<'a> {
         self.phase = PathPhase::Painted;
     }
 
-    /// The pieces that are lent.
+    /// The pieces to be painted.
     pub(crate) fn painted(&self) -> &[Piece<'a>]
         ensures { result.now ≡ painted_of self.now }
     {
@@ -142,35 +142,35 @@ impl<'a> GatheredPath<'a> {
         }
     }
 
-    /// Lends no pieces any more.
+    /// Drops the pieces to be painted.
     pub(crate) fn forget(&mut self)
         requires gathered { IsGathered self.old }
         ensures path { path_of self.new ≡ path_of self.old }
         ensures painted { painted_of self.new ≡ [] }
         ensures gathered { IsGathered self.new }
         ensures lands { (s : Surface) → StaysInside s self.old self.new }
-        ensures room { vec_capacity self.new.pieces ≡ vec_capacity self.old.pieces }
+        ensures capacity { vec_capacity self.new.pieces ≡ vec_capacity self.old.pieces }
     {
         if self.phase == PathPhase::Painted {
             self.abort();
         }
     }
 
-    /// Makes room for so many pieces in all: `OutOfMemory` where some was refused.
+    /// Allocates memory for this many pieces in all. Fails with `OutOfMemory`.
     pub(crate) fn reserve(&mut self, pieces: usize) -> Result<(), Fault>
-        ensures room { OnOk result (pieces ≤ vec_capacity self.new.pieces) }
+        ensures capacity { OnOk result (pieces ≤ vec_capacity self.new.pieces) }
         ensures full { OnErr result (vec_capacity self.old.pieces < pieces) }
-        ensures refused { IfErr result (λ fault. fault ≡ OutOfMemory) }
+        ensures rejected { IfErr result (λ fault. fault ≡ OutOfMemory) }
         ensures same { IsSamePath self.old self.new }
     {
         let count = self.pieces.len();
         if pieces <= self.pieces.capacity() {
             return Ok(());
         }
-        self.make_room(pieces - count)
+        self.ensure_capacity(pieces - count)
     }
 
-    /// How many pieces there are.
+    /// The number of pieces.
     pub(crate) fn count(&self) -> u32
         requires gathered { IsGathered self.now }
         ensures { result ≡ length self.now.pieces.items }
@@ -178,7 +178,7 @@ impl<'a> GatheredPath<'a> {
         self.pieces.len() as u32
     }
 
-    /// Whether there may be so many pieces more.
+    /// Whether this many more pieces are allowed.
     pub(crate) fn may_add(&self, more: usize) -> bool
         requires gathered { IsGathered self.now }
         requires few { more ≤ 2 }
@@ -187,11 +187,11 @@ impl<'a> GatheredPath<'a> {
         self.pieces.len() + more <= MAX_PIECES
     }
 
-    /// Makes room for so many pieces more: `OutOfMemory` where there was none and memory was refused.
-    pub(crate) fn make_room(&mut self, more: usize) -> Result<(), Fault>
-        ensures room { OnOk result (length self.new.pieces.items + more ≤ vec_capacity self.new.pieces) }
+    /// Allocates memory for this many more pieces, if it is needed. Fails with `OutOfMemory`.
+    pub(crate) fn ensure_capacity(&mut self, more: usize) -> Result<(), Fault>
+        ensures capacity { OnOk result (length self.new.pieces.items + more ≤ vec_capacity self.new.pieces) }
         ensures full { OnErr result (vec_capacity self.old.pieces < length self.old.pieces.items + more) }
-        ensures refused { IfErr result (λ fault. fault ≡ OutOfMemory) }
+        ensures rejected { IfErr result (λ fault. fault ≡ OutOfMemory) }
         ensures same { IsSamePath self.old self.new }
     {
         match self.pieces.reserve(more) {
@@ -200,29 +200,29 @@ impl<'a> GatheredPath<'a> {
         }
     }
 
-    /// Adds a piece to an open path, for which there is room. This is the box around all points then.
+    /// Adds a piece to an open path, within its capacity. `bounds` becomes the box of all points.
     pub(crate) fn push(
         &mut self,
         points: PiecePoints<'a>,
         map: PageMap,
-        joining: Joining,
+        verb: Verb,
         bounds: Option<Rect>,
     )
-        requires room { length self.old.pieces.items < vec_capacity self.old.pieces }
-        ensures pieces { self.new.pieces.items ≡ self.old.pieces.items ++ open_piece points.entry map joining ∷ [] }
-        ensures phase { self.new.phase ≡ phase_behind joining }
+        requires capacity { length self.old.pieces.items < vec_capacity self.old.pieces }
+        ensures pieces { self.new.pieces.items ≡ self.old.pieces.items ++ open_piece points.entry map verb ∷ [] }
+        ensures phase { self.new.phase ≡ phase_after verb }
         ensures bounds { self.new.bounds ≡ bounds }
-        ensures room { vec_capacity self.new.pieces ≡ vec_capacity self.old.pieces }
+        ensures capacity { vec_capacity self.new.pieces ≡ vec_capacity self.old.pieces }
     {
         self.pieces.push_reserved(Piece {
             points,
             map,
-            joining,
+            verb,
             end: FigureEnd::Open,
         });
-        self.phase = match joining {
-            Joining::GoesOn | Joining::Polylines => PathPhase::InFigure,
-            Joining::Polygons => PathPhase::BetweenFigures,
+        self.phase = match verb {
+            Verb::GoesOn | Verb::Polylines => PathPhase::InFigure,
+            Verb::Polygons => PathPhase::BetweenFigures,
         };
         self.bounds = bounds;
     }
@@ -234,7 +234,7 @@ impl<'a> GatheredPath<'a> {
         ensures painted { painted_of self.new ≡ painted_of self.old }
         ensures gathered { IsGathered self.new }
         ensures lands { (s : Surface) → StaysInside s self.old self.new }
-        ensures room { vec_capacity self.new.pieces ≡ vec_capacity self.old.pieces }
+        ensures capacity { vec_capacity self.new.pieces ≡ vec_capacity self.old.pieces }
     {
         if self.phase != PathPhase::InFigure {
             return;
@@ -249,14 +249,14 @@ impl<'a> GatheredPath<'a> {
         ensures painted { painted_of self.new ≡ painted_of self.old }
         ensures gathered { IsGathered self.new }
         ensures lands { (s : Surface) → StaysInside s self.old self.new }
-        ensures room { vec_capacity self.new.pieces ≡ vec_capacity self.old.pieces }
+        ensures capacity { vec_capacity self.new.pieces ≡ vec_capacity self.old.pieces }
     {
         if self.phase == PathPhase::InFigure {
             self.end_with(FigureEnd::Closed);
         }
     }
 
-    /// Says what becomes of the figure that is open behind the last piece, which lines no more go on with.
+    /// Says how the figure that is open after the last piece ends. No more lines continue it.
     fn end_with(&mut self, end: FigureEnd)
         requires open { self.old.phase ≡ InFigure }
         requires gathered { IsGathered self.old }
@@ -265,7 +265,7 @@ impl<'a> GatheredPath<'a> {
         ensures count { length self.new.pieces.items ≡ length self.old.pieces.items }
         ensures phase { self.new.phase ≡ BetweenFigures }
         ensures lands { (s : Surface) → StaysInside s self.old self.new }
-        ensures room { vec_capacity self.new.pieces ≡ vec_capacity self.old.pieces }
+        ensures capacity { vec_capacity self.new.pieces ≡ vec_capacity self.old.pieces }
     {
         let Some(last) = self.pieces.pop() else {
             return;

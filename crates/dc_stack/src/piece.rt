@@ -6,14 +6,14 @@ ghost use Rattle.point_views.specs.Polys.{lists_of};
 use mapping::{PageMap, Point, Rect};
 use point_views::{PartedPoints, Points, Polys};
 
-/// The points of a piece, which are those of the page, as the file has them.
+/// The points of a piece. They are page points, as the file has them.
 #[derive(Clone, Copy, Debug, PartialEq, Eq)]
 pub enum PiecePoints<'a> {
-    /// A point.
+    /// One point.
     Point(Point),
     /// The points of a list.
     List(Points<'a>),
-    /// Those of several lists.
+    /// The points of several lists.
     Lists(PartedPoints<'a>),
     /// The corners of the box between two points.
     Corners(Rect),
@@ -48,35 +48,35 @@ impl<'a> PiecePoints<'a> {
     }
 }
 
-/// How a piece joins the figures before it.
+/// How a piece continues the figures before it.
 #[derive(Clone, Copy, Debug, PartialEq, Eq)]
-pub enum Joining {
-    /// The open figure goes on through the points, or a figure begins at the first where none is open.
+pub enum Verb {
+    /// The open figure continues through the points. If none is open, one begins at the first point.
     GoesOn,
-    /// Each list with a point is a figure, of which the last stays open.
+    /// Each list with a point is a figure, and the last one stays open.
     Polylines,
     /// Each list with a point is a closed figure.
     Polygons,
 }
 
-/// What becomes of the open figure behind a piece, if there is one.
+/// How the open figure ends after a piece, if there is one.
 #[derive(Clone, Copy, Debug, PartialEq, Eq)]
 pub enum FigureEnd {
-    /// Lines may go on with it.
+    /// It stays open, and lines may continue it.
     Open,
-    /// No line does.
+    /// It ends without being closed.
     Ended,
-    /// Its last point is joined to its first.
+    /// It ends, and its last point is joined to its first.
     Closed,
 }
 
-/// A piece of a path, which is what one record adds to it, or the position where a record begins a figure.
-/// Its points are on the plane by the page map of the moment when it was added.
+/// A piece of a path: what one record adds to it, or the current position where a record begins a figure. Its points
+/// are mapped by the page map that was current when it was added.
 #[derive(Clone, Copy, Debug, PartialEq, Eq)]
 pub struct Piece<'a> {
     pub points: PiecePoints<'a>,
     pub map: PageMap,
-    pub joining: Joining,
+    pub verb: Verb,
     pub end: FigureEnd,
 }
 

@@ -1,4 +1,4 @@
-//! Where the points of a piece land.
+//! The positions of a piece's points on the plane.
 
 ghost use Rattle.std.specs.Prelude.{◌≡◌, [], ◌∷◌, IfErr, IfOk};
 ghost use Rattle.std.specs.Result.{result_err};
@@ -18,7 +18,7 @@ use draw_ops::RecordFault;
 use mapping::{PageMap, Point, Rect, box_law};
 use point_views::Polys;
 
-/// The least box around the points of a piece on the plane, or `OffPlane` where one of them doesn't land.
+/// The bounding box of a piece's points on the plane, or `OffPlane` if one of them doesn't land.
 pub(crate) fn land_piece(
     by: &Projection,
     points: PiecePoints<'_>,
@@ -39,7 +39,7 @@ pub(crate) fn land_piece(
     }
 }
 
-/// The same without a surface: `OffPlane` where a point leaves the plane.
+/// The same without a surface: `OffPlane` if a point leaves the plane.
 fn piece_box(map: &PageMap, points: PiecePoints<'_>) -> Result<Option<Rect>, RecordFault>
     ensures off { IfErr result (IsOffPlane (mapped_piece map.now points.entry)) }
     ensures page { IfOk result (λ extent. IsExtent extent (mapped_piece map.now points.entry)) }
@@ -56,7 +56,7 @@ fn piece_box(map: &PageMap, points: PiecePoints<'_>) -> Result<Option<Rect>, Rec
     }
 }
 
-/// The box around a point.
+/// The bounding box of a point.
 fn point_box(map: &PageMap, point: Point) -> Result<Option<Rect>, RecordFault>
     ensures off { IfErr result (IsOffPlane (plane_list map.now (point ∷ []))) }
     ensures extent { IfOk result (λ extent. IsExtent extent (plane_list map.now (point ∷ []))) }
@@ -68,7 +68,7 @@ fn point_box(map: &PageMap, point: Point) -> Result<Option<Rect>, RecordFault>
     }
 }
 
-/// The box between two corners, which is that of all four.
+/// The box between two corners, which is the bounding box of all four.
 fn corners_box(map: &PageMap, corners: Rect) -> Result<Option<Rect>, RecordFault>
     ensures off { IfErr result (IsOffPlane (mapped_corners (map_numbers map.now) corners)) }
     ensures page { IfOk result (λ extent. IsExtent extent (mapped_corners (map_numbers map.now) corners)) }

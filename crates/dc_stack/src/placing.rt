@@ -1,4 +1,4 @@
-//! Page points and boxes on the plane. None of this knows a surface, but for where a box of the clip lands on it.
+//! Page points and boxes on the plane. Only the position of a clip's box depends on a surface.
 
 ghost use Rattle.std.specs.Prelude.{◌≡◌, ◌≤◌, true, suc, [], ◌∷◌, length, Some, IfErr, IfOk, SomeIff, is_some};
 ghost use Rattle.std.specs.Result.{result_err};
@@ -11,7 +11,7 @@ ghost use Rattle.point_views.specs.Polys.{lists_of};
 ghost use Rattle.draw_ops.specs.Blits.{blit_value_of};
 ghost use Rattle.dc_stack.specs.Clip.{placed_box};
 ghost use Rattle.dc_stack.specs.Drawing.{edge_limit};
-ghost use Rattle.dc_stack.specs.Extents.{IsExtent, IsOffPlane, IsPlaneBox, IsRefused};
+ghost use Rattle.dc_stack.specs.Extents.{IsExtent, IsOffPlane, IsPlaneBox, IsRejected};
 ghost use Rattle.dc_stack.specs.Mapped.{blit_corners, opposite_corner, mapped_box, mapped_corners, mapped_opposite, mapped_point};
 ghost use Rattle.dc_stack.specs.OperationFault.{off_plane_fault};
 ghost use Rattle.dc_stack.specs.Placing.{joined_plane_list, plane_list};
@@ -22,17 +22,17 @@ use draw_ops::{Blit, RecordFault};
 use mapping::{PageMap, Place, Point, Rect, box_law, limits_law};
 use point_views::{Points, Polys};
 
-/// How many points one drawing has at most.
+/// The most points of one drawing.
 pub(crate) const MAX_EDGES: usize = 1_048_576;
 
-/// A point of the page, or one outside of the page's own numbers.
+/// A page point whose coordinates may exceed 32 bits.
 #[derive(Clone, Copy, Debug)]
 struct WidePoint {
     x: i64,
     y: i64,
 }
 
-/// A page point on the plane, or `OffPlane` where it leaves the plane.
+/// A page point on the plane, or `OffPlane` if it leaves the plane.
 pub(crate) fn plane_point(map: &PageMap, point: Point) -> Result<Point, RecordFault>
     ensures off { IfErr result (IsOffPlane (plane_list map.now (point ∷ []))) }
     ensures plane { IfOk result (λ plane. plane ≡ mapped_point (map_numbers map.now) point) }
@@ -43,7 +43,7 @@ pub(crate) fn plane_point(map: &PageMap, point: Point) -> Result<Point, RecordFa
     wide_plane_point(map, WidePoint { x, y })
 }
 
-/// The same for a point that may be outside of the page's own numbers.
+/// The same for a point whose coordinates may exceed 32 bits.
 fn wide_plane_point(map: &PageMap, point: WidePoint) -> Result<Point, RecordFault>
     ensures off { IfErr result (IsOffPlane (plane_point (map_numbers map.now) point.x point.y ∷ [])) }
     ensures plane { IfOk result (λ plane. plane ≡ plane_point (map_numbers map.now) point.x point.y) }
@@ -55,7 +55,7 @@ fn wide_plane_point(map: &PageMap, point: WidePoint) -> Result<Point, RecordFaul
     }
 }
 
-/// The plane point of a page point, or none where it would leave the plane.
+/// The plane point of a page point. `None` if it would leave the plane.
 fn mapped(map: &PageMap, point: WidePoint) -> Option<Point>
     ensures point { let p = plane_point (map_numbers map.now) point.x point.y in SomeIff result (IsOnPlane p) p }
     ensures test { is_some result ≡ is_on_plane (plane_point (map_numbers map.now) point.x point.y) }
@@ -63,7 +63,7 @@ fn mapped(map: &PageMap, point: WidePoint) -> Option<Point>
     map.plane(point.x, point.y)
 }
 
-/// Two page points on the plane, or `OffPlane` where one of them leaves the plane.
+/// Two page points on the plane, or `OffPlane` if one of them leaves the plane.
 pub(crate) fn plane_pair(
     map: &PageMap,
     first: Point,
@@ -86,7 +86,8 @@ pub(crate) fn plane_pair(
     Ok((first, second))
 }
 
-/// The corners of a blit's box on the plane, the one from which it extends first, or `OffPlane` where one of them leaves the plane.
+/// The corners of a blit's box on the plane, first the one from which it extends, or `OffPlane` if one of them leaves
+/// the plane.
 pub(crate) fn plane_blit(map: &PageMap, asked: &Blit<'_>) -> Result<(Point, Point), RecordFault>
     ensures off { IfErr result (IsOffPlane (blit_corners (map_numbers map.now) (blit_value_of asked.now))) }
     ensures first { IfOk result (λ r. r.0 ≡ mapped_point (map_numbers map.now) asked.now.corner) }
@@ -105,7 +106,7 @@ pub(crate) fn plane_blit(map: &PageMap, asked: &Blit<'_>) -> Result<(Point, Poin
     Ok((first, second))
 }
 
-/// The corner of a blit's box that lies opposite to the one from which it extends.
+/// The corner of a blit's box opposite to the one from which it extends.
 fn far_corner(asked: &Blit<'_>) -> WidePoint
     ensures x { result.x ≡ (opposite_corner (blit_value_of asked.now)).x }
     ensures y { result.y ≡ (opposite_corner (blit_value_of asked.now)).y }
@@ -116,18 +117,17 @@ fn far_corner(asked: &Blit<'_>) -> WidePoint
     }
 }
 
-/// What a drawing of several points is made with: how many they are, and the least box around them on the plane, or
-/// none where there is no point.
+/// What a drawing of several points needs: their number, and their bounding box on the plane, if there is a point.
 #[derive(Clone, Copy, Debug)]
 pub(crate) struct PlanePoints {
     pub(crate) count: u32,
     pub(crate) extent: Option<Rect>,
 }
 
-/// How many points some lists have, and their box: `TooManyEdges` where they have more than one
-/// drawing may, and then `OffPlane` where one of them leaves the plane.
+/// The number of points in some lists, and their bounding box. Fails with `TooManyEdges` if there are more than one
+/// drawing may have, or else with `OffPlane` if one of them leaves the plane.
 pub(crate) fn plane_lists(map: &PageMap, lists: Polys<'_>) -> Result<PlanePoints, RecordFault>
-    ensures refused { IfErr result (IsRefused (joined_plane_list map.now (lists_of lists.entry))) }
+    ensures rejected { IfErr result (IsRejected (joined_plane_list map.now (lists_of lists.entry))) }
     ensures count { IfOk result (λ p. p.count ≡ length (joined_plane_list map.now (lists_of lists.entry))) }
     ensures few { IfOk result (λ p. p.count ≤ edge_limit) }
     ensures extent { IfOk result (λ p. IsExtent p.extent (joined_plane_list map.now (lists_of lists.entry))) }
@@ -145,14 +145,14 @@ pub(crate) fn plane_lists(map: &PageMap, lists: Polys<'_>) -> Result<PlanePoints
     }
 }
 
-/// The page point from which lines go through others on the plane, how many they are together, and their box: the
-/// faults are those of lists.
+/// For lines from a page point through others: the point on the plane, the number of all points, and their bounding
+/// box. The faults are those of lists.
 pub(crate) fn plane_lines(
     map: &PageMap,
     start: Point,
     points: Points<'_>,
 ) -> Result<(Point, PlanePoints), RecordFault>
-    ensures refused { IfErr result (IsRefused (plane_list map.now (start ∷ points_of points.entry))) }
+    ensures rejected { IfErr result (IsRejected (plane_list map.now (start ∷ points_of points.entry))) }
     ensures from { IfOk result (λ r. r.0 ≡ mapped_point (map_numbers map.now) start) }
     ensures count { IfOk result (λ r. r.1.count ≡ suc (length (points_of points.entry))) }
     ensures few { IfOk result (λ r. r.1.count ≤ edge_limit) }
@@ -179,7 +179,7 @@ pub(crate) fn plane_lines(
     }
 }
 
-/// A box of the page on the plane, its corners put in order, or `OffPlane` where one of them leaves the plane.
+/// A box of the page on the plane, with its corners in order, or `OffPlane` if one of them leaves the plane.
 pub(crate) fn plane_rect(map: &PageMap, corners: Rect) -> Result<Rect, RecordFault>
     ensures off { IfErr result (IsOffPlane (mapped_corners (map_numbers map.now) corners)) }
     ensures plane { IfOk result (λ plane. plane ≡ mapped_box (map_numbers map.now) corners) }
@@ -191,7 +191,7 @@ pub(crate) fn plane_rect(map: &PageMap, corners: Rect) -> Result<Rect, RecordFau
     }
 }
 
-/// The same for a box of the clip, and where that lands on the surface: `OffPlane` also where a corner doesn't land there.
+/// The same for a box of the clip, with its position on the surface. `OffPlane` also if a corner doesn't land there.
 pub(crate) fn land_clip_box(
     map: &PageMap,
     place: Place,

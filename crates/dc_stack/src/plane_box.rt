@@ -1,4 +1,4 @@
-//! Least boxes around points on the plane, and whether their points land on a surface: two corners tell for all.
+//! Bounding boxes of points on the plane, and whether the points land on a surface: two corners decide for all.
 
 ghost use Rattle.std.specs.Prelude.{◌≡◌, List, IfErr, IfOk};
 ghost use Rattle.mapping.specs.PlaceOf.{surface_of};
@@ -13,8 +13,9 @@ use draw_ops::RecordFault;
 use mapping::{PageMap, Place, Rect, box_law};
 use point_views::Points;
 
-/// The least box around some page points on the plane, or none where there is no point, or `OffPlane` where one of them leaves the plane.
-/// A page map keeps what lies between two coordinates: two corners of the page's least box decide for all points.
+/// The bounding box of some page points on the plane, if there is a point, or `OffPlane` if one of them leaves the
+/// plane. A page map keeps what lies between two coordinates between their images, so two corners of the page's
+/// bounding box decide for all points.
 pub(crate) fn plane_box(map: &PageMap, points: Points<'_>) -> Result<Option<Rect>, RecordFault>
     ensures off { IfErr result (IsOffPlane (plane_list map.now (points_of points.entry))) }
     ensures extent { IfOk result (λ extent. IsExtent extent (plane_list map.now (points_of points.entry))) }
@@ -29,7 +30,7 @@ pub(crate) fn plane_box(map: &PageMap, points: Points<'_>) -> Result<Option<Rect
     }
 }
 
-/// The box around the boxes of two lists of points.
+/// The bounding box of two lists of points, from their boxes.
 pub(crate) fn joined(first: Option<Rect>, second: Option<Rect>) -> Option<Rect>
     ensures { JoinsExtents first second result }
 {
@@ -41,7 +42,7 @@ pub(crate) fn joined(first: Option<Rect>, second: Option<Rect>) -> Option<Rect>
     }
 }
 
-/// The box of a drawing of points.
+/// The box of a drawing's points.
 pub(crate) fn least(extent: Option<Rect>) -> Rect
     ensures { result ≡ box_of extent }
 {
@@ -51,8 +52,8 @@ pub(crate) fn least(extent: Option<Rect>) -> Rect
     }
 }
 
-/// Whether all points land within the limits on a surface, whose least box on the plane this is: none where there is no point. A place
-/// keeps what lies between two coordinates.
+/// Whether all points with this bounding box on the plane land within the limits on a surface. `None` means that there
+/// is no point. A place keeps what lies between two coordinates between their images, so the corners decide.
 pub fn fits(extent: Option<Rect>, place: Place) -> bool
     ensures { (points : List ThePoint) → IsExtent extent points → result ≡ all_land_within points (surface_of place) }
 {
@@ -63,7 +64,7 @@ pub fn fits(extent: Option<Rect>, place: Place) -> bool
     }
 }
 
-/// Whether the left top and the right bottom of a box of the plane land within the limits.
+/// Whether the top left and bottom right corners of a box of the plane land within the limits.
 fn box_fits(bounds: Rect, place: Place) -> bool
     ensures { result ≡ do_corners_fit bounds (surface_of place) }
 {

@@ -1,10 +1,10 @@
-//! How points of the page land on a surface.
+//! Projections of page points to a surface.
 
 ghost use Rattle.std.specs.Prelude.{◌≡◌, IsTrue};
 
 use mapping::{PageMap, Place, Point, limits_law};
 
-/// How points of the page land: on the plane by a page map, and from there on a surface.
+/// A projection of page points: by a page map to the plane, and from there to a surface.
 #[derive(Clone, Copy, Debug, PartialEq, Eq)]
 pub struct Projection {
     pub map: PageMap,
@@ -14,7 +14,7 @@ pub struct Projection {
 impl Projection {
     ghost use Rattle.dc_stack.specs.Projected.{is_projected, projected};
 
-    /// Where a point of the page lands that does so within the limits.
+    /// The position of a page point that lands within the limits.
     pub fn at(&self, point: Point) -> Point
         requires { IsTrue (is_projected self.now point) }
         ensures { result ≡ projected self.now point }

@@ -1,11 +1,11 @@
-//! Which of the saved states a number names.
+//! The saved state that a number names.
 
 ghost use Rattle.std.specs.Prelude.{◌≡◌, ◌<◌, ◌^◌, IfSome};
 ghost use Rattle.dc_stack.specs.SavedStates.{saved_place};
 
 use draw_ops::SavedState;
 
-/// The place, of so many saved states, that a number names, counted from the oldest.
+/// The position, among `count` saved states from the oldest on, that a number names.
 pub(crate) fn place_of(which: SavedState, count: usize) -> Option<usize>
     ensures place { result ≡ saved_place which.0 count }
     ensures within { IfSome result (λ place. place < count) }

@@ -1,4 +1,4 @@
-//! The objects in use.
+//! The selected objects.
 
 ghost use Rattle.std.specs.Prelude.{◌≡◌, None};
 ghost use Rattle.draw_ops.specs.Objects.{index_of, object_value_of};
@@ -8,8 +8,8 @@ ghost use Rattle.dc_stack.specs.State.{stock_selections};
 use draw_ops::{Brush, Handle, Object, Pen};
 use mapping::Colour;
 
-/// The objects in use, each with its index, if it isn't a stock object. Nothing is drawn with the font
-/// and the palette: of them the index alone is kept.
+/// The selected objects, each with its index, unless it is a stock object. Nothing is drawn with the font and the
+/// palette, so only their indexes are stored.
 #[derive(Clone, Copy, Debug, PartialEq, Eq)]
 pub struct Selected<'a> {
     pub pen: Pen,
@@ -23,7 +23,7 @@ pub struct Selected<'a> {
 impl<'a> Selected<'a> {
     ghost use Rattle.dc_stack.specs.Values.{selections_value};
 
-    /// The stock objects with which each file starts.
+    /// The stock objects that are selected at the start of each file.
     pub(crate) fn stock() -> Selected<'a>
         ensures { selections_value result ≡ stock_selections }
     {
@@ -37,7 +37,7 @@ impl<'a> Selected<'a> {
         }
     }
 
-    /// Puts an object in use, in the place of its kind.
+    /// Selects an object, replacing the one of its kind.
     pub(crate) fn select(&mut self, handle: Option<Handle>, object: Object<'a>)
         ensures { selections_value self.new ≡ with_object_selected (index_of handle) (object_value_of object.entry) (selections_value self.old) }
     {
@@ -55,7 +55,7 @@ impl<'a> Selected<'a> {
         }
     }
 
-    /// Whether one of the objects has this index.
+    /// Whether one of the selected objects has this index.
     pub(crate) fn has(&self, handle: Handle) -> bool
         ensures { result ≡ selects handle.0 (selections_value self.now) }
     {
@@ -66,7 +66,7 @@ impl<'a> Selected<'a> {
     }
 }
 
-/// Whether a kept index is this one.
+/// Whether a stored index is this one.
 fn is_of(handle: Handle, kept: Option<Handle>) -> bool
     ensures { result ≡ is_index_of handle.0 (index_of kept) }
 {

@@ -1,4 +1,4 @@
-//! The stock objects, which every file has from the start.
+//! The stock objects, which exist in every file.
 
 ghost use Rattle.std.specs.Prelude.{◌≡◌};
 ghost use Rattle.std.specs.Option.{option_map};
@@ -13,14 +13,14 @@ use mapping::Colour;
 /// The first index of the stock objects ([MS-EMF] 2.1.31).
 const FIRST_STOCK: u32 = 0x8000_0000;
 
-/// Whether the index is one of the stock objects.
+/// Whether the index is that of a stock object.
 pub(crate) fn is_stock(handle: Handle) -> bool
     ensures { result ≡ is_stock_index handle.0 }
 {
     FIRST_STOCK <= handle.0
 }
 
-/// The index that is kept of a selected object: none of a stock object.
+/// The index to store for a selected object. None for a stock object.
 pub(crate) fn own_handle(handle: Handle) -> Option<Handle>
     ensures { index_of result ≡ own_index handle.0 }
 {
@@ -55,7 +55,7 @@ pub(crate) fn stock_object<'a>(handle: Handle) -> Option<Object<'a>>
     }
 }
 
-/// A brush of a grey, by its one part.
+/// A grey brush, by its single component.
 fn grey_brush<'a>(part: u8) -> Object<'a>
     ensures { object_value_of result ≡ brush_object (solid_brush (grey part)) }
 {
@@ -66,7 +66,7 @@ fn grey_brush<'a>(part: u8) -> Object<'a>
     }))
 }
 
-/// A pen of a grey, by its one part.
+/// A grey pen, by its single component.
 fn grey_pen<'a>(part: u8) -> Object<'a>
     ensures { object_value_of result ≡ pen_object (Solid 0 (grey part)) }
 {

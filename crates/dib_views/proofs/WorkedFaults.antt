@@ -125,8 +125,8 @@ too_high = refl
 too_high_down : packed_dib (plain (small 1) too_long_side_down 1 (small 0)) ≡ Err BadDib
 too_high_down = refl
 
-longest_sides : packed_dib (plain longest_side longest_side 1 (small 0)) ≡ Err ShortDib
-longest_sides = refl
+longest_dimensions : packed_dib (plain longest_side longest_side 1 (small 0)) ≡ Err ShortDib
+longest_dimensions = refl
 
 three_entries_of_1_bit : packed_dib (plain (small 1) (small 1) 1 (small 3)) ≡ Err BadDib
 three_entries_of_1_bit = refl

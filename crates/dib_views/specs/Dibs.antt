@@ -8,39 +8,39 @@ use Rattle.dib_views.specs.Pictures.{Dib}
 use Rattle.dib_views.specs.Pixels.{StoredDib, rows_size, stored_picture}
 use Rattle.dib_views.specs.Results.{result_map}
 
--- a bitmap's value, as it is stored
+-- the value of a stored bitmap
 abbrev pub stored_dib : StoredDib → Dib
 stored_dib dib = record { picture = stored_picture dib; order = dib.shape.order }
 
--- the table and the rows that a header asks for, in the bytes with the header and in those that begin with the rows
+-- the stored bitmap of a header, with its table in the first bytes and its rows in the second
 abbrev pub parts_by : DibHead → List ℕ → List ℕ → Result StoredDib DibFault
 parts_by head info bits =
     if nat_lt (length info) head.table_end then Err ShortDib
     else (if nat_lt (length bits) (rows_size head.shape) then Err ShortDib
     else Ok (record { shape = head.shape; table = slice_range info head.table_start head.table_end; rows = take (rows_size head.shape) bits }))
 
--- the same, where the header has no fault
+-- the stored bitmap of a header, or the header's fault, with table and rows in separate bytes
 abbrev pub parts_from : Result DibHead DibFault → List ℕ → List ℕ → Result StoredDib DibFault
 parts_from (Ok head) info bits = parts_by head info bits
 parts_from (Err fault) info bits = Err fault
 
--- the same, where the rows stand behind the table
+-- the stored bitmap of a header, or the header's fault, with the rows after the table
 abbrev pub packed_from : Result DibHead DibFault → List ℕ → Result StoredDib DibFault
 packed_from (Ok head) bytes = parts_by head bytes (drop head.table_end bytes)
 packed_from (Err fault) bytes = Err fault
 
--- a bitmap whose rows stand behind its header and its table, as it is stored, or its first fault
+-- a bitmap whose rows follow its header and its table, as it is stored, or its first fault
 abbrev pub packed_stored : List ℕ → Result StoredDib DibFault
 packed_stored bytes = packed_from (dib_head bytes) bytes
 
--- a bitmap with header and table in one place and the rows in another, as it is stored, or its first fault
+-- a bitmap whose header and table are separate from its rows, as it is stored, or its first fault
 abbrev pub parts_stored : List ℕ → List ℕ → Result StoredDib DibFault
 parts_stored info bits = parts_from (dib_head info) info bits
 
--- a bitmap whose rows stand behind its header and its table, or its first fault
+-- a bitmap whose rows follow its header and its table, or its first fault
 abbrev pub packed_dib : List ℕ → Result Dib DibFault
 packed_dib bytes = result_map stored_dib (packed_stored bytes)
 
--- a bitmap with header and table in one place and the rows in another, or its first fault
+-- a bitmap whose header and table are separate from its rows, or its first fault
 abbrev pub parts_dib : List ℕ → List ℕ → Result Dib DibFault
 parts_dib info bits = result_map stored_dib (parts_stored info bits)

@@ -1,4 +1,4 @@
--- What a bitmap's header says: BitmapInfoHeader ([MS-WMF] 2.2.2.3), or one of those that begin with it.
+-- The contents of a bitmap's header: BitmapInfoHeader ([MS-WMF] 2.2.2.3), or one of those that begin with it.
 use Rattle.std.specs.Prelude.{ℕ, ◌+◌, ◌*◌, ◌≤◌, ℤ, pos, negsuc, unsigned_abs, int_le, Bool, ◌&&◌, ◌||◌, not, ◌==◌, nat_lt, nat_le, if◌then◌else◌, List, length, Option, Some, None, Result, Ok, Err}
 use Rattle.point_views.specs.Numbers.{number_at, i32_at}
 use Rattle.dib_views.specs.declared.fault.DibFault.{DibFault}
@@ -10,7 +10,8 @@ use Rattle.dib_views.specs.declared.shape.RowOrder.{RowOrder}
 use Rattle.dib_views.specs.declared.shape.RowOrder.TheVariants.{BottomUp, TopDown}
 use Rattle.dib_views.specs.Pixels.{IsDibSide, is_dib_side}
 
--- the fields of a header that are read: its size in bytes, the sides, the bits of a pixel, how the rows are packed, and ClrUsed
+-- the fields of a header that are read: its size in bytes, the width and height, the bits of a pixel, the compression,
+-- and ClrUsed
 pub record DibHeader : Type 0 where
   pub size : ℕ
   pub width : ℤ
@@ -34,7 +35,7 @@ header_in bytes = record {
 abbrev pub is_header_size : ℕ → Bool
 is_header_size size = size == 40 || size == 108 || size == 124
 
--- the bits of a pixel by their number
+-- the bits of a pixel, by the number in the header
 abbrev pub bit_count : ℕ → Option BitCount
 bit_count number =
     if number == 1 then Some One
@@ -45,7 +46,7 @@ bit_count number =
     else (if number == 32 then Some ThirtyTwo
     else None)))))
 
--- how many entries of a table the bits of a pixel can name; 0 where a pixel has its colour itself
+-- how many entries of a table a pixel can refer to; 0 if a pixel contains its colour
 abbrev pub full_table : BitCount → ℕ
 full_table One = 2
 full_table Four = 16
@@ -54,24 +55,24 @@ full_table Sixteen = 0
 full_table TwentyFour = 0
 full_table ThirtyTwo = 0
 
--- the entries of the colour table: as ClrUsed says, where 0 means all that the bits can name
+-- the number of entries in the colour table, from ClrUsed, where 0 means all that pixels can refer to
 abbrev pub table_entries : BitCount → ℕ → ℕ
 table_entries bits used = if used == 0 then full_table bits else used
 
--- a table may have so many entries: where pixels name them, no more than their bits can name
+-- a table may have this many entries: if pixels refer to them, at most as many as they can refer to
 abbrev pub is_table_size : BitCount → ℕ → Bool
 is_table_size bits used = full_table bits == 0 || nat_le used (full_table bits)
 
--- a width and a height are ones that a bitmap may have: the height may be negative, the width not
-abbrev pub has_dib_sides : ℤ → ℤ → Bool
-has_dib_sides width height = int_le (pos 1) width && is_dib_side (unsigned_abs width) && is_dib_side (unsigned_abs height)
+-- a bitmap may have this width and height: the height may be negative, the width may not
+abbrev pub has_dib_dimensions : ℤ → ℤ → Bool
+has_dib_dimensions width height = int_le (pos 1) width && is_dib_side (unsigned_abs width) && is_dib_side (unsigned_abs height)
 
--- the bottom row is stored first, or, where the height is negative, the top row
+-- the order of the rows: the bottom row is stored first, or, if the height is negative, the top row
 abbrev pub row_order : ℤ → RowOrder
 row_order (pos height) = BottomUp
 row_order (negsuc height) = TopDown
 
--- what a header says, where a pixel has so many bits: the table stands behind the header
+-- the contents of a header with this many bits per pixel; the table follows the header
 abbrev pub head_with : DibHeader → BitCount → DibHead
 head_with header bits = record {
   table_start = header.size;
@@ -79,27 +80,28 @@ head_with header bits = record {
   shape = record { width = unsigned_abs header.width; height = unsigned_abs header.height; bits = bits; order = row_order header.height };
 }
 
--- the same, where the sides and the table are good
+-- the contents of a header if its size and table are valid
 abbrev pub good_head : DibHeader → Option BitCount → Result DibHead DibFault
 good_head header None = Err BadDib
 good_head header (Some bits) =
-    if has_dib_sides header.width header.height && is_table_size bits header.colours_used then Ok (head_with header bits) else Err BadDib
+    if has_dib_dimensions header.width header.height && is_table_size bits header.colours_used then Ok (head_with header bits) else Err BadDib
 
--- the sides are ones that a bitmap may have, and the table begins no later than it ends
+-- the size is valid for a bitmap, and the table doesn't end before it begins
 pub record IsGoodHead (head : DibHead) : Type 0 where
   pub wide : IsDibSide head.shape.width
   pub high : IsDibSide head.shape.height
   pub order : head.table_start ≤ head.table_end
 
--- a size is there, and no header has it
+-- the size field of the header is present and has an unknown value
 abbrev pub has_other_size : List ℕ → Bool
 has_other_size bytes = nat_le 4 (length bytes) && not (is_header_size (header_in bytes).size)
 
--- the header isn't there as a whole
+-- the header is incomplete
 abbrev pub is_header_short : List ℕ → Bool
 is_header_short bytes = nat_lt (length bytes) 40 || nat_lt (length bytes) (header_in bytes).size
 
--- what the header in the first bytes says, or its first fault: its size, its bytes, the compression, and then the other fields
+-- the contents of the header in the first bytes, or its first fault: its size, its bytes, the compression, and then the
+-- other fields
 abbrev pub dib_head : List ℕ → Result DibHead DibFault
 dib_head bytes =
     if has_other_size bytes then Err BadDib

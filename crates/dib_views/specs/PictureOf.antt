@@ -1,11 +1,11 @@
--- What a view of a bitmap shows.
+-- The picture of a bitmap's view.
 use Rattle.dib_views.specs.declared.shape.RowOrder.{RowOrder}
 use Rattle.dib_views.specs.declared.view.DibView.{DibView}
 use Rattle.dib_views.specs.Dibs.{stored_dib}
 use Rattle.dib_views.specs.Pictures.{Dib, Picture}
 use Rattle.dib_views.specs.Pixels.{StoredDib, stored_picture}
 
--- the bitmap of a view as it is stored
+-- the bitmap of a view, as it is stored
 abbrev pub stored_of : DibView → StoredDib
 stored_of view = record { shape = view.shape; table = view.table.now; rows = view.rows.now }
 

@@ -1,4 +1,4 @@
--- How the rows and the pixels of a bitmap stand in bytes.
+-- The rows and pixels of a bitmap in bytes.
 use Rattle.std.specs.Prelude.{ℕ, ◌+◌, ◌-◌, ◌*◌, ◌/◌, ◌%◌, ◌^◌, ◌≤◌, Bool, ◌&&◌, nat_lt, nat_le, if◌then◌else◌, List, length, slice_index, slice_range, map}
 use Rattle.std.specs.List.{range_with_len}
 use Rattle.mapping.specs.Colours.{black_colour}
@@ -20,23 +20,23 @@ pixel_bits Sixteen = 16
 pixel_bits TwentyFour = 24
 pixel_bits ThirtyTwo = 32
 
--- the bytes of a row: as few as hold its pixels, in whole numbers of four bytes
+-- the number of bytes in a row: as few as contain its pixels, in a multiple of four
 abbrev pub row_size : BitCount → ℕ → ℕ
 row_size bits width = (width * pixel_bits bits + 31) / 32 * 4
 
--- the longest side that a bitmap may have, in pixels: our own limit
+-- the greatest width or height of a bitmap, in pixels: our own limit
 abbrev pub dib_side_limit : ℕ
 dib_side_limit = 32768
 
--- a side that a bitmap may have
+-- a width or height that a bitmap may have
 abbrev pub IsDibSide : ℕ → Type 0
 IsDibSide side = (1 ≤ side) × (side ≤ dib_side_limit)
 
--- the same as a test
+-- whether a bitmap may have this width or height
 abbrev pub is_dib_side : ℕ → Bool
 is_dib_side side = nat_le 1 side && nat_le side dib_side_limit
 
--- which of the stored rows is the picture's row y, counted from the top
+-- the index of the stored row that is the picture's row y, counted from the top
 abbrev pub stored_row : RowOrder → ℕ → ℕ → ℕ
 stored_row BottomUp height y = height - 1 - y
 stored_row TopDown height y = y
@@ -45,19 +45,19 @@ stored_row TopDown height y = y
 abbrev pub index_in_row : BitCount → List ℕ → ℕ → ℕ
 index_in_row bits row x = slice_index row (x * pixel_bits bits / 8) / 2 ^ (8 - pixel_bits bits - x * pixel_bits bits % 8) % 2 ^ pixel_bits bits
 
--- the colour in three bytes at a place: blue, green, red
+-- the colour in three bytes at an offset: blue, green, red
 abbrev pub colour_at : List ℕ → ℕ → Colour
 colour_at bytes place = record { r = slice_index bytes (place + 2); g = slice_index bytes (place + 1); b = slice_index bytes place }
 
--- the colour of an entry of a table, of four bytes each; black past its end, which is our own choice
+-- the colour of an entry of a table, with four bytes each; black beyond its end, which is our own choice
 abbrev pub table_colour : List ℕ → ℕ → Colour
 table_colour table index = if nat_lt (4 * index + 3) (length table) then colour_at table (4 * index) else black_colour
 
--- a part of five bits as one of eight, from 0 (none) to 255 (full): that a part v is v*8 + v/4 is our own choice
+-- a component of five bits widened to eight, from 0 (none) to 255 (full); the rule v*8 + v/4 is our own choice
 abbrev pub wide_part : ℕ → ℕ
 wide_part part = part * 8 + part / 4
 
--- the colour in a number of 16 bits: five bits each, red in the highest, blue in the lowest
+-- the colour in a number of 16 bits: five bits per component, red in the highest, blue in the lowest
 abbrev pub colour_of_16 : ℕ → Colour
 colour_of_16 number = record { r = wide_part (number / 1024 % 32); g = wide_part (number / 32 % 32); b = wide_part (number % 32) }
 
@@ -70,7 +70,7 @@ colour_in_row Sixteen table row x = colour_of_16 (number_at row (2 * x) 2)
 colour_in_row TwentyFour table row x = colour_at row (3 * x)
 colour_in_row ThirtyTwo table row x = colour_at row (4 * x)
 
--- the colours of a row's pixels from the left
+-- the colours of a row's pixels, from the left
 abbrev pub colours_in_row : BitCount → List ℕ → ℕ → List ℕ → List Colour
 colours_in_row bits table width row = map (colour_in_row bits table row) (range_with_len 0 width)
 
@@ -80,7 +80,7 @@ pub record StoredDib : Type 0 where
   pub table : List ℕ
   pub rows : List ℕ
 
--- the bytes of all rows
+-- the number of bytes in all rows
 abbrev pub rows_size : DibShape → ℕ
 rows_size shape = shape.height * row_size shape.bits shape.width
 
@@ -91,11 +91,11 @@ row_bytes dib y =
     let row = stored_row dib.shape.order dib.shape.height y in
     slice_range dib.rows (row * size) (row * size + size)
 
--- the colours of the picture's row y from the left
+-- the colours of the picture's row y, from the left
 abbrev pub row_colours : StoredDib → ℕ → List Colour
 row_colours dib y = colours_in_row dib.shape.bits dib.table dib.shape.width (row_bytes dib y)
 
--- what a stored bitmap shows
+-- the picture of a stored bitmap
 abbrev pub stored_picture : StoredDib → Picture
 stored_picture dib = record {
   width = dib.shape.width;

@@ -1,9 +1,9 @@
-//! Why a bitmap is refused.
+//! Why a bitmap is rejected.
 
-/// Why a bitmap is refused.
+/// Why a bitmap is rejected.
 #[derive(Clone, Copy, Debug, PartialEq, Eq)]
 pub enum DibFault {
-    /// A number in its header is one that it may not have.
+    /// A number in its header has an invalid value.
     BadDib,
     /// Its rows are compressed, or its pixels have masks.
     CompressedDib,

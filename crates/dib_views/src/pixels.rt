@@ -23,7 +23,7 @@ pub(crate) fn colour_in_row(bits: BitCount, table: &[u8], row: &[u8], x: usize) 
     }
 }
 
-/// The index that a pixel of 1 bit has: the leftmost pixel of a byte has the highest bit.
+/// The index in a pixel of 1 bit: the leftmost pixel of a byte has the highest bit.
 #[inline]
 fn index_of_1(row: &[u8], x: usize) -> u8
     requires { x < 8 * length row.now }
@@ -32,7 +32,7 @@ fn index_of_1(row: &[u8], x: usize) -> u8
     row[x / 8] >> (7 - x % 8) & 1
 }
 
-/// The index that a pixel of 4 bits has: the left pixel of a byte has the high bits.
+/// The index in a pixel of 4 bits: the left pixel of a byte has the high bits.
 #[inline]
 fn index_of_4(row: &[u8], x: usize) -> u8
     requires { x < 2 * length row.now }
@@ -41,7 +41,7 @@ fn index_of_4(row: &[u8], x: usize) -> u8
     row[x / 2] >> (4 - x % 2 * 4) & 0xf
 }
 
-/// The colour of an entry of a table; black past its end, which is our own choice.
+/// The colour of an entry of a table; black beyond its end, which is our own choice.
 #[inline]
 fn table_colour(table: &[u8], index: u8) -> Colour
     ensures { result ≡ table_colour table.now index }
@@ -54,7 +54,7 @@ fn table_colour(table: &[u8], index: u8) -> Colour
     }
 }
 
-/// The colour in three bytes at a place: blue, green and red.
+/// The colour in three bytes at an offset: blue, green and red.
 #[inline]
 fn colour_at(bytes: &[u8], place: usize) -> Colour
     requires { place + 3 ≤ length bytes.now }
@@ -67,8 +67,8 @@ fn colour_at(bytes: &[u8], place: usize) -> Colour
     }
 }
 
-/// The colour in a number of 16 bits: five bits each, red in the highest, blue in the lowest. The highest
-/// bit isn't read.
+/// The colour in a number of 16 bits: five bits per component, red in the highest, blue in the lowest. The highest bit
+/// is ignored.
 #[inline]
 fn colour_of_16(number: u16) -> Colour
     ensures { result ≡ colour_of_16 number }
@@ -80,8 +80,7 @@ fn colour_of_16(number: u16) -> Colour
     }
 }
 
-/// A part of five bits as one of eight, from 0 (none) to 255 (full): that a part v is v*8 + v/4 is our own
-/// choice.
+/// Widens a component of five bits to eight, from 0 (none) to 255 (full). The rule v*8 + v/4 is our own choice.
 #[inline]
 fn wide_part(part: u16) -> u8
     requires { part < 32 }

@@ -8,15 +8,15 @@ use crate::pixels::colour_in_row;
 use crate::shape::BitCount;
 use mapping::Colour;
 
-/// One row of a picture: its bytes, with what tells the colours in them. It is for callers who read along
-/// a row.
+/// One row of a picture: its bytes, with what is needed to decode their colours. It is for callers that read along a
+/// row.
 ///
 /// # Guarantees
 ///
-/// - `bytes` is as long as a row of this width.
+/// - `bytes` has the length of a row of this width.
 #[derive(Clone, Copy, Debug, PartialEq, Eq)]
 pub struct DibRow<'a> {
-    /// The row's bytes, those that fill it up to whole numbers of four included.
+    /// The row's bytes, with the padding to a multiple of four.
     pub bytes: &'a [u8],
     /// The colour table's bytes.
     pub table: &'a [u8],

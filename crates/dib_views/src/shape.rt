@@ -1,4 +1,4 @@
-//! What a bitmap's header says of its rows and pixels.
+//! What a bitmap's header says about its rows and pixels.
 
 ghost use Rattle.std.specs.Prelude.{◌≡◌, ◌<◌, ◌≤◌};
 ghost use Rattle.dib_views.specs.Pixels.{pixel_bits, row_size, rows_size, stored_row};
@@ -22,17 +22,17 @@ pub enum BitCount {
     Four,
     /// 8 bits, the index of one of 256 colours.
     Eight,
-    /// 16 bits, of which 5 each are red, green and blue.
+    /// 16 bits: 5 bits each of red, green and blue.
     Sixteen,
     /// 24 bits: blue, green and red.
     TwentyFour,
-    /// 32 bits: blue, green, red and 8 that aren't read.
+    /// 32 bits: blue, green, red and 8 bits that are ignored.
     ThirtyTwo,
 }
 
 impl RowOrder {
-    /// The order that the height in a header tells: the bottom row is stored first, or, where the height is
-    /// negative, the top row.
+    /// The order for the height in a header: the bottom row is stored first, or, if the height is negative, the top
+    /// row.
     pub(crate) fn of_height(height: i32) -> RowOrder
         ensures { result ≡ row_order height }
     {
@@ -45,7 +45,7 @@ impl RowOrder {
 }
 
 impl BitCount {
-    /// The bit count that a header's number means: none where it means none here.
+    /// The bit count for the number in a header. `None` if the number isn't supported.
     pub(crate) fn from_number(number: u16) -> Option<BitCount>
         ensures { result ≡ bit_count number }
     {
@@ -60,7 +60,7 @@ impl BitCount {
         }
     }
 
-    /// How many bits.
+    /// The number of bits.
     pub(crate) fn number(self) -> u32
         ensures bits { result ≡ pixel_bits self }
         ensures few { result ≤ 32 }
@@ -75,7 +75,7 @@ impl BitCount {
         }
     }
 
-    /// How many entries of a colour table the bits can name: 0 where a pixel has its colour itself.
+    /// How many entries of a colour table a pixel can refer to: 0 if a pixel contains its colour.
     pub(crate) fn full_table(self) -> u32
         ensures { result ≡ full_table self }
     {
@@ -87,15 +87,15 @@ impl BitCount {
         }
     }
 
-    /// Whether a colour table may have so many entries: where pixels name them, no more than their bits can
-    /// name.
+    /// Whether a colour table may have this many entries: if pixels refer to them, at most as many as they can refer
+    /// to.
     pub(crate) fn is_table_size(self, used: u32) -> bool
         ensures { result ≡ is_table_size self used }
     {
         self.full_table() == 0 || used <= self.full_table()
     }
 
-    /// How many entries the colour table has by ClrUsed, where 0 means all that the bits can name.
+    /// The number of entries in the colour table by ClrUsed, where 0 means all that pixels can refer to.
     pub(crate) fn table_entries(self, used: u32) -> u32
         ensures { result ≡ table_entries self used }
     {
@@ -103,7 +103,7 @@ impl BitCount {
     }
 }
 
-/// A bitmap's sides, the bits of a pixel, and the order of its rows.
+/// A bitmap's size, the bits of a pixel, and the order of its rows.
 #[derive(Clone, Copy, Debug, PartialEq, Eq)]
 pub struct DibShape {
     /// The width in pixels.
@@ -117,7 +117,7 @@ pub struct DibShape {
 }
 
 impl DibShape {
-    /// The bytes of a row: as few as hold its pixels, in whole numbers of four bytes.
+    /// The number of bytes in a row: as few as contain its pixels, in a multiple of four.
     pub(crate) fn row_size(self) -> usize
         ensures size { result ≡ row_size self.bits self.width }
         ensures bound { result ≤ 262144 }
@@ -126,14 +126,14 @@ impl DibShape {
         (bits + 31) as usize / 32 * 4
     }
 
-    /// The bytes of all rows.
+    /// The number of bytes in all rows.
     pub(crate) fn rows_size(self) -> usize
         ensures { result ≡ rows_size self }
     {
         usize::from(self.height) * self.row_size()
     }
 
-    /// Which of the stored rows is the picture's row `y`, counted from the top.
+    /// The index of the stored row that is the picture's row `y`, counted from the top.
     pub(crate) fn stored_row(self, y: u32) -> usize
         requires { y < self.height }
         ensures row { result ≡ stored_row self.order self.height y }

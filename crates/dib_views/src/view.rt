@@ -14,20 +14,20 @@ use crate::row::DibRow;
 use crate::shape::{DibShape, RowOrder};
 use mapping::Colour;
 
-/// A device-independent bitmap ([MS-WMF] 2.2.2.9): slices of the bytes that hold it, and what its header
-/// says of them.
+/// A device-independent bitmap ([MS-WMF] 2.2.2.9): slices of the bytes that contain it, and what its header says about
+/// them.
 ///
 /// # Guarantees
 ///
-/// - Each side is from 1 to 32,768.
-/// - `rows` holds the rows and nothing else.
+/// - The width and the height are from 1 to 32,768.
+/// - `rows` contains the rows and nothing else.
 #[derive(Clone, Copy, Debug, PartialEq, Eq)]
 pub struct DibView<'a> {
-    /// The colour table's bytes, four of each entry: blue, green, red and one that isn't read.
+    /// The colour table's bytes, four for each entry: blue, green, red and one that is ignored.
     pub table: &'a [u8],
     /// The rows' bytes, in the order in which they are stored.
     pub rows: &'a [u8],
-    /// The sides, the bits of a pixel and the order of the rows.
+    /// The size, the bits of a pixel and the order of the rows.
     pub shape: DibShape,
     pub ghost wide: { IsDibSide shape.width },
     pub ghost high: { IsDibSide shape.height },
@@ -37,17 +37,17 @@ pub struct DibView<'a> {
 impl<'a> DibView<'a> {
     ghost use Rattle.dib_views.specs.PictureOf.{dib_of, picture_of, row_order_of, stored_of};
 
-    /// The bitmap whose header, colour table and rows stand one behind another in the bytes, or its first
-    /// fault. Bytes behind the rows don't matter.
+    /// The bitmap whose header, colour table and rows follow one another in the bytes, or its first fault. Bytes after
+    /// the rows don't matter.
     ///
     /// # Errors
     ///
     /// The first of these:
     ///
-    /// - `BadDib`: the header's size is there, and isn't 40, 108 or 124.
-    /// - `ShortDib`: the header isn't whole.
+    /// - `BadDib`: the header's size is present, but isn't 40, 108 or 124.
+    /// - `ShortDib`: the header is incomplete.
     /// - `CompressedDib`: the compression isn't 0.
-    /// - `BadDib`: the bits of a pixel, a side or ClrUsed is one that a bitmap may not have.
+    /// - `BadDib`: the bits of a pixel, the width, the height or ClrUsed is invalid.
     /// - `ShortDib`: bytes of the colour table or the rows are missing.
     pub fn packed(bytes: &'a [u8]) -> Result<DibView<'a>, DibFault>
         ensures dib { result_map dib_of result ≡ packed_dib bytes.now }
@@ -60,17 +60,17 @@ impl<'a> DibView<'a> {
         DibView::new(head, bytes, &bytes[head.table_end..])
     }
 
-    /// The bitmap whose header and colour table are in `info`, and whose rows are in `bits`, or its first
-    /// fault. Bytes behind the table and behind the rows don't matter.
+    /// The bitmap whose header and colour table are in `info`, and whose rows are in `bits`, or its first fault. Bytes
+    /// after the table and after the rows don't matter.
     ///
     /// # Errors
     ///
     /// The first of these:
     ///
-    /// - `BadDib`: the header's size is there, and isn't 40, 108 or 124.
-    /// - `ShortDib`: the header isn't whole.
+    /// - `BadDib`: the header's size is present, but isn't 40, 108 or 124.
+    /// - `ShortDib`: the header is incomplete.
     /// - `CompressedDib`: the compression isn't 0.
-    /// - `BadDib`: the bits of a pixel, a side or ClrUsed is one that a bitmap may not have.
+    /// - `BadDib`: the bits of a pixel, the width, the height or ClrUsed is invalid.
     /// - `ShortDib`: bytes of the colour table or the rows are missing.
     pub fn parts(info: &'a [u8], bits: &'a [u8]) -> Result<DibView<'a>, DibFault>
         ensures dib { result_map dib_of result ≡ parts_dib info.now bits.now }
@@ -80,8 +80,8 @@ impl<'a> DibView<'a> {
         DibView::new(head, info, bits)
     }
 
-    /// The bitmap whose header, which says what `head` says, and whose colour table are in `info`, and whose
-    /// rows are in `bits`: a fault exactly where bytes of the table or the rows are missing.
+    /// The bitmap whose header, read as `head`, and colour table are in `info`, and whose rows are in `bits`. Fails
+    /// exactly if bytes of the table or the rows are missing.
     fn new(head: DibHead, info: &'a [u8], bits: &'a [u8]) -> Result<DibView<'a>, DibFault>
         requires { IsGoodHead head }
         ensures { result_map stored_of result ≡ parts_by head info.now bits.now }
@@ -129,8 +129,7 @@ impl<'a> DibView<'a> {
         self.order() == RowOrder::BottomUp
     }
 
-    /// The bytes of the picture's row `y`, counted from the top: all of them, those that fill it up to
-    /// whole numbers of four included.
+    /// All bytes of the picture's row `y`, counted from the top, with the padding to a multiple of four.
     #[inline]
     pub fn row(&self, y: u32) -> &'a [u8]
         requires { y < (picture_of self.now).height }
@@ -168,5 +167,5 @@ impl<'a> DibView<'a> {
     }
 }
 
-// An operation that draws a bitmap holds one.
+// An operation that draws a bitmap has one of these.
 const _: () = prove!(size_of::<DibView<'static>>() <= 40);

@@ -4,36 +4,36 @@ use Rattle.std.proofs.Math.ListN.{get_or, set}
 use Rattle.draw_ops.specs.NoteCounts.{note_limit, added_notes}
 
 -- the first counts added, and the others as they were
-abbrev pub added_front : ℕ → List ℕ → List ℕ → List ℕ
-added_front zero counts more = counts
-added_front (suc i) [] more = []
-added_front (suc i) (count ∷ counts) [] = count ∷ counts
-added_front (suc i) (count ∷ counts) (m ∷ more) = min (count + m) note_limit ∷ added_front i counts more
+abbrev pub added_prefix : ℕ → List ℕ → List ℕ → List ℕ
+added_prefix zero counts more = counts
+added_prefix (suc i) [] more = []
+added_prefix (suc i) (count ∷ counts) [] = count ∷ counts
+added_prefix (suc i) (count ∷ counts) (m ∷ more) = min (count + m) note_limit ∷ added_prefix i counts more
 
-get_or-added_front : (i : ℕ) (counts more : List ℕ) → get_or (added_front i counts more) i 0 ≡ get_or counts i 0
-get_or-added_front zero counts more = refl
-get_or-added_front (suc i) [] more = refl
-get_or-added_front (suc i) (count ∷ counts) [] = refl
-get_or-added_front (suc i) (count ∷ counts) (m ∷ more) = get_or-added_front i counts more
+get_or-added_prefix : (i : ℕ) (counts more : List ℕ) → get_or (added_prefix i counts more) i 0 ≡ get_or counts i 0
+get_or-added_prefix zero counts more = refl
+get_or-added_prefix (suc i) [] more = refl
+get_or-added_prefix (suc i) (count ∷ counts) [] = refl
+get_or-added_prefix (suc i) (count ∷ counts) (m ∷ more) = get_or-added_prefix i counts more
 
-set-added_front : (i : ℕ) (counts more : List ℕ) → i < length counts → length counts ≡ length more → set (added_front i counts more) i (min (get_or counts i 0 + get_or more i 0) note_limit) ≡ added_front (suc i) counts more
-set-added_front i [] more inside same = absurd (omega arith)
-set-added_front i (count ∷ counts) [] inside same = absurd (omega arith)
-set-added_front zero (count ∷ counts) (m ∷ more) inside same = refl
-set-added_front (suc i) (count ∷ counts) (m ∷ more) inside same =
-    ap (λ rest. min (count + m) note_limit ∷ rest) (set-added_front i counts more (omega arith) (omega arith))
+set-added_prefix : (i : ℕ) (counts more : List ℕ) → i < length counts → length counts ≡ length more → set (added_prefix i counts more) i (min (get_or counts i 0 + get_or more i 0) note_limit) ≡ added_prefix (suc i) counts more
+set-added_prefix i [] more inside same = absurd (omega arith)
+set-added_prefix i (count ∷ counts) [] inside same = absurd (omega arith)
+set-added_prefix zero (count ∷ counts) (m ∷ more) inside same = refl
+set-added_prefix (suc i) (count ∷ counts) (m ∷ more) inside same =
+    ap (λ rest. min (count + m) note_limit ∷ rest) (set-added_prefix i counts more (omega arith) (omega arith))
 
 -- when all are added
-pub added_front-all : (i : ℕ) (counts more : List ℕ) → i ≡ length counts → length counts ≡ length more → added_front i counts more ≡ added_notes counts more
-added_front-all zero [] more ends same = refl
-added_front-all (suc i) [] more ends same = absurd (omega arith)
-added_front-all i (count ∷ counts) [] ends same = absurd (omega arith)
-added_front-all zero (count ∷ counts) (m ∷ more) ends same = absurd (omega arith)
-added_front-all (suc i) (count ∷ counts) (m ∷ more) ends same = ap (λ rest. min (count + m) note_limit ∷ rest) (added_front-all i counts more (omega arith) (omega arith))
+pub added_prefix-all : (i : ℕ) (counts more : List ℕ) → i ≡ length counts → length counts ≡ length more → added_prefix i counts more ≡ added_notes counts more
+added_prefix-all zero [] more ends same = refl
+added_prefix-all (suc i) [] more ends same = absurd (omega arith)
+added_prefix-all i (count ∷ counts) [] ends same = absurd (omega arith)
+added_prefix-all zero (count ∷ counts) (m ∷ more) ends same = absurd (omega arith)
+added_prefix-all (suc i) (count ∷ counts) (m ∷ more) ends same = ap (λ rest. min (count + m) note_limit ∷ rest) (added_prefix-all i counts more (omega arith) (omega arith))
 
 -- one more is added
-pub next_added : (i : ℕ) (counts more now : List ℕ) → i < length counts → length counts ≡ length more → now ≡ added_front i counts more → set now i (min (get_or now i 0 + get_or more i 0) note_limit) ≡ added_front (i + 1) counts more
-next_added i counts more now inside same is = rw (is, get_or-added_front i counts more, add-one) (set-added_front i counts more inside same)
+pub next_added : (i : ℕ) (counts more now : List ℕ) → i < length counts → length counts ≡ length more → now ≡ added_prefix i counts more → set now i (min (get_or now i 0 + get_or more i 0) note_limit) ≡ added_prefix (i + 1) counts more
+next_added i counts more now inside same is = rw (is, get_or-added_prefix i counts more, add-one) (set-added_prefix i counts more inside same)
 
 -- what the tactics take to a sum of notes
-pub ruleset sums = (added_front-all, next_added)
+pub ruleset sums = (added_prefix-all, next_added)

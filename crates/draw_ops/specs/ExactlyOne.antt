@@ -1,4 +1,4 @@
--- That there is one value of a kind, and no other.
+-- There is exactly one value of a kind.
 use Rattle.std.specs.Prelude.{◌≡◌}
 
 pub record ExactlyOne {A : Type 0} (P : A → Type 0) : Type 0 where

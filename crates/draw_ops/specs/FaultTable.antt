@@ -1,4 +1,4 @@
--- The table of faults: the code and the name of each.
+-- The table of faults: the code and name of each.
 use Rattle.std.specs.Prelude.{ℕ, List, codes}
 use Rattle.draw_ops.specs.declared.fault.Fault.{Fault}
 use Rattle.draw_ops.specs.declared.fault.Fault.TheVariants.{TooLong, NotMetafile, ShortHeader, BadHeader, NoFrame, NotCertificate, ShortCertificate, BadBound, TrailingBytes, Record, NeedTooSmall, BudgetTooSmall, SurfaceTooLarge, BadImage, WriteFault, OutOfMemory}
@@ -12,7 +12,7 @@ pub record FaultRow : Type 0 where
 abbrev row : ℕ → List ℕ → FaultRow
 row code name = record { code = code; name = name }
 
--- the row of each fault
+-- a fault's row in the table
 abbrev pub fault_row : Fault → FaultRow
 fault_row TooLong = row 1 (codes "TooLong")
 fault_row NotMetafile = row 2 (codes "NotMetafile")

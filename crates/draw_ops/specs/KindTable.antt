@@ -8,7 +8,7 @@ use Rattle.std.proofs.lemmas.Bool.{ne_eqb}
 abbrev pub row_with : {A : Type 0} → List (ℕ × A) → ℕ → Option A
 row_with rows kind = option_map (λ row. row.1) (find (λ row. row.0 == kind) rows)
 
--- the kind isn't the row's, and this holds of the rows behind it
+-- the kind isn't that of the row, and this holds for the rows after it
 pub record IsAbsentFirst (kind row_kind : ℕ) (holds : Type 0) : Type 0 where
   pub other : row_kind ≢ kind
   pub onward : holds
@@ -18,7 +18,7 @@ abbrev pub IsAbsent : {A : Type 0} → ℕ → List (ℕ × A) → Type 0
 IsAbsent kind [] = Unit {0}
 IsAbsent kind (row ∷ rows) = IsAbsentFirst kind row.0 (IsAbsent kind rows)
 
--- so nothing is found
+-- if no row has the kind, nothing is found
 pub row_of_absent : {A : Type 0} (kind : ℕ) (rows : List (ℕ × A)) → IsAbsent kind rows → row_with rows kind ≡ None
 row_of_absent kind [] absent = refl
 row_of_absent kind (row ∷ rows) absent = rw (ne_eqb _ _ absent.other) (row_of_absent kind rows absent.onward)
@@ -28,17 +28,17 @@ abbrev pub is_listed : ℕ → List ℕ → Bool
 is_listed kind [] = false
 is_listed kind (other ∷ others) = other == kind || is_listed kind others
 
--- no kind stands twice
+-- no kind occurs twice
 abbrev pub is_each_once : List ℕ → Bool
 is_each_once [] = true
 is_each_once (kind ∷ kinds) = not (is_listed kind kinds) && is_each_once kinds
 
--- a kind in front, if it isn't listed
+-- a kind before others, unless it is listed
 abbrev with_unlisted : Bool → ℕ → List ℕ → List ℕ
 with_unlisted true kind rest = rest
 with_unlisted false kind rest = kind ∷ rest
 
--- the kinds below one that aren't listed, the greatest first
+-- the kinds below a number that aren't listed, in descending order
 abbrev pub unlisted_below : ℕ → List ℕ → List ℕ
 unlisted_below zero kinds = []
 unlisted_below (suc n) kinds = with_unlisted (is_listed n kinds) n (unlisted_below n kinds)

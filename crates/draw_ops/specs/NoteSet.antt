@@ -1,4 +1,4 @@
--- The kinds that a set of notes of the code has.
+-- The kinds in a set of notes.
 use Rattle.std.specs.Prelude.{ℕ, List, [], ◌∷◌}
 use Rattle.std.specs.Int.{bit_at}
 use Rattle.draw_ops.specs.declared.note_set.NoteSet.{NoteSet}

@@ -11,7 +11,7 @@ pub record NoteRow : Type 0 where
 abbrev note_row : ℕ → List ℕ → NoteRow
 note_row index name = record { index = index; name = name }
 
--- the row of each kind
+-- the row of a kind of notes in the table
 abbrev pub note_row_of : Note → NoteRow
 note_row_of PlaceableChecksum = note_row 0 (codes "PlaceableChecksum")
 note_row_of PlaceableFields = note_row 1 (codes "PlaceableFields")

@@ -1,4 +1,4 @@
--- What a record asks for, as plain values: lists of points in place of parts of a file.
+-- Operations as plain values, with lists of points instead of parts of a file.
 use Rattle.std.specs.Prelude.{ℕ, ℤ, List, Option}
 use Rattle.mapping.specs.declared.geometry.Colour.{Colour}
 use Rattle.mapping.specs.declared.geometry.Point.{Point}

@@ -1,4 +1,4 @@
--- The value of an operation of the code.
+-- The value of an operation.
 use Rattle.point_views.specs.Points.{points_of}
 use Rattle.point_views.specs.Polys.{lists_of}
 use Rattle.draw_ops.specs.Blits.{blit_value_of}

@@ -7,17 +7,17 @@ use Rattle.point_views.specs.Points.{points_in}
 use Rattle.point_views.specs.Split.{split_by}
 use Rattle.point_views.specs.declared.numbers.NumberWidth.{NumberWidth}
 
--- so many points from a place on, if the bytes hold them
+-- this many points, from an offset on, if the bytes contain them
 abbrev pub points_at : NumberWidth → ℕ → List ℕ → ℕ → Option (List Point)
 points_at width count bytes place =
     if nat_le (point_size width * count) (length (drop place bytes)) then Some (points_in width count (drop place bytes)) else None
 
--- so many counts from a place on, if the bytes hold them
+-- this many counts, from an offset on, if the bytes contain them
 abbrev pub counts_at : NumberWidth → ℕ → List ℕ → ℕ → Option (List ℕ)
 counts_at width count bytes place =
     if nat_le (number_size width * count) (length (drop place bytes)) then Some (counts_in width count (drop place bytes)) else None
 
--- the points cut into lists of so many each, if these are all the points
+-- the points divided into lists with these lengths, if the lengths add up to the number of points
 abbrev pub lists_by : Option (List ℕ) → Option (List Point) → Option (List (List Point))
 lists_by None points = None
 lists_by (Some counts) None = None

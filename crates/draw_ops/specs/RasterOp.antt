@@ -1,9 +1,9 @@
--- The numbers of the binary raster operations.
+-- The codes of the binary raster operations.
 use Rattle.std.specs.Prelude.{ℕ, ◌==◌, List, [], ◌∷◌, Option, find}
 use Rattle.draw_ops.specs.declared.raster_op.RasterOp.{RasterOp}
 use Rattle.draw_ops.specs.declared.raster_op.RasterOp.TheVariants.{Black, NotMergePen, MaskNotPen, NotCopyPen, MaskPenNot, Not, XorPen, NotMaskPen, MaskPen, NotXorPen, Nop, MergeNotPen, CopyPen, MergePenNot, MergePen, White}
 
--- an operation's number
+-- an operation's code
 abbrev pub raster_op_code : RasterOp → ℕ
 raster_op_code Black = 1
 raster_op_code NotMergePen = 2
@@ -26,6 +26,6 @@ raster_op_code White = 16
 abbrev pub all_raster_ops : List RasterOp
 all_raster_ops = Black ∷ NotMergePen ∷ MaskNotPen ∷ NotCopyPen ∷ MaskPenNot ∷ Not ∷ XorPen ∷ NotMaskPen ∷ MaskPen ∷ NotXorPen ∷ Nop ∷ MergeNotPen ∷ CopyPen ∷ MergePenNot ∷ MergePen ∷ White ∷ []
 
--- the operation with this number
+-- the operation with this code
 abbrev pub raster_op_of : ℕ → Option RasterOp
 raster_op_of code = find (λ op. raster_op_code op == code) all_raster_ops

@@ -1,4 +1,4 @@
--- The value of a step of the code.
+-- The value of a step.
 use Rattle.std.specs.Prelude.{Result}
 use Rattle.draw_ops.specs.Content.{StepValue}
 use Rattle.draw_ops.specs.NoteSet.{notes_in}
@@ -10,6 +10,6 @@ use Rattle.draw_ops.specs.declared.step.Step.{Step}
 abbrev pub step_value_of : Step → StepValue
 step_value_of step = record { number = step.number; operation = operation_of step.op; notes = notes_in step.notes }
 
--- the step that stands in a place, or the fault in place of one
+-- the step in a variable, or the fault instead of one
 abbrev pub step_or_fault : {T : Type 0} → Step → Result T RecordFault → Result StepValue RecordFault
 step_or_fault step result = result_map (λ _. step_value_of step) result

@@ -1,4 +1,4 @@
--- What the tables of faults and of notes are: no code and no name stands twice, and none is left out.
+-- The tables of faults and notes: each code and name is unique, and none is left out.
 use Rattle.std.specs.Prelude.{◌≡◌, ◌↔◌, ◌⊎◌, ℕ, ◌<◌, ◌≤◌}
 use Rattle.draw_ops.specs.Fault.{IsInRecord, record_kind_of}
 use Rattle.draw_ops.specs.FaultTable.{fault_row}
@@ -6,7 +6,7 @@ use Rattle.draw_ops.specs.NoteTable.{note_row_of}
 use Rattle.draw_ops.specs.declared.fault.Fault.{Fault}
 use Rattle.draw_ops.specs.declared.note.Note.{Note}
 
--- a number is one of these
+-- a number is from `first` to `last`
 pub record IsFromTo (first last number : ℕ) : Type 0 where
   pub low : first ≤ number
   pub high : number ≤ last
@@ -25,8 +25,8 @@ pub record IsIndex (index : ℕ) : Type 0 where
 abbrev pub IsRecordCode : ℕ → Type 0
 IsRecordCode code = IsFromTo 10 39 code ⊎ IsFromTo 46 47 code
 
--- The codes of faults are 1 to 47, each that of some fault. A code, with the kind of record that the fault speaks of, is that of one fault,
--- and so is a name. The codes 10 to 39, 46 and 47 are those of faults that lie in a record, and no others are.
+-- The codes of faults are 1 to 47, and each is that of a fault. A code, with the kind of record that the fault refers
+-- to, determines the fault, and so does a name. The codes of faults that lie in a record are 10 to 39, 46 and 47.
 pub record FaultTableLaws : Type 0 where
   pub within : (fault : Fault) → IsFromTo 1 47 (fault_row fault).code
   pub none_left_out : (code : ℕ) → IsFromTo 1 47 code → IsCode code
@@ -38,7 +38,7 @@ pub record FaultTableLaws : Type 0 where
       → record_kind_of fault ≡ record_kind_of other → fault ≡ other
   pub in_record : (fault : Fault) → IsInRecord fault ↔ IsRecordCode (fault_row fault).code
 
--- The indexes of notes are below 9, each that of some kind. An index is that of one kind, and so is a name.
+-- The indexes of notes are below 9, and each is that of a kind. An index determines the kind, and so does a name.
 pub record NoteTableLaws : Type 0 where
   pub within : (note : Note) → (note_row_of note).index < 9
   pub none_left_out : (index : ℕ) → index < 9 → IsIndex index

@@ -1,12 +1,12 @@
-//! What a record means that makes a brush.
+//! Decodes records that create brushes.
 
 ghost use Rattle.std.specs.Prelude.{◌≡◌};
 ghost use Rattle.draw_ops.specs.BrushRecords.{brush_meant, brush_of};
 ghost use Rattle.draw_ops.specs.Objects.{brush_value_of, index_of};
-ghost use Rattle.draw_ops.specs.RecordOf.{meant_of};
+ghost use Rattle.draw_ops.specs.RecordOf.{decoded_of};
 ghost use Rattle.draw_ops.specs.Results.{result_map};
 
-use crate::format::Meant;
+use crate::format::Decoded;
 use crate::hatch::Hatch;
 use crate::objects::{Brush, Handle, Object};
 use crate::operation::Op;
@@ -20,19 +20,19 @@ const BS_NULL: u32 = 1;
 
 const BS_HATCHED: u32 = 2;
 
-/// A brush of a style, a colour and a hatch, made at an index or at the lowest free one. A style or a
-/// hatch that isn't played is `BadValue`. Only a hatched brush has its hatch looked at, and of a null one
-/// not even the colour is.
+/// A brush with a style, a colour and a hatch, made at an index or at the lowest free one. A style or hatch that isn't
+/// supported is `BadValue`. The hatch is read only for a hatched brush, and for a null brush even the colour is
+/// ignored.
 pub fn brush_meant<'a>(
     at: Option<Handle>,
     style: u32,
     colour: Result<Colour, RecordFault>,
     hatch: u32,
-) -> Result<Meant<'a>, RecordFault>
-    ensures value { brush_meant (index_of at) style colour hatch ≡ result_map meant_of result }
+) -> Result<Decoded<'a>, RecordFault>
+    ensures value { brush_meant (index_of at) style colour hatch ≡ result_map decoded_of result }
 {
     let brush = brush(style, colour, hatch)?;
-    Ok(Meant::unnoted(Op::Create {
+    Ok(Decoded::unnoted(Op::Create {
         at,
         object: Object::Brush(brush),
     }))

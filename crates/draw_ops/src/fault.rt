@@ -1,4 +1,4 @@
-//! Why a file, a certificate or a call is refused.
+//! Why a file, a certificate or a call is rejected.
 
 ghost use Rattle.std.specs.Prelude.{◌≡◌};
 
@@ -6,34 +6,35 @@ use crate::record_fault::RecordFault;
 use std::error::Error;
 use std::fmt;
 
-/// A fault. Its code, its name and, where it has one, the kind of record that it speaks of (a
-/// function or a type) never change: callers know them, and refusals show the name and the kind.
+/// A fault. Its code and its name never change, nor does the kind of record (a function or a type) that some faults
+/// refer to. Callers know them, and rejections show the name and the kind.
 #[derive(Clone, Copy, Debug, PartialEq, Eq)]
 pub enum Fault {
     // The file: its opening.
     /// The file is longer than 67,108,864 bytes.
     TooLong,
-    /// The file begins as no metafile does.
+    /// The file doesn't begin like any metafile.
     NotMetafile,
     /// The file ends within its headers.
     ShortHeader,
     /// A header has a type, a size or a version that the standard does not allow.
     BadHeader,
-    /// No picture frame can be told: a side is 0 or too long, or no record of a plain WMF file gives one.
+    /// The size of the picture isn't known: its width or height is 0 or too large, or no record of a plain WMF file
+    /// gives it.
     NoFrame,
     // The certificate: its bytes.
-    /// The certificate begins with other bytes than a certificate does.
+    /// The bytes don't begin like a certificate.
     NotCertificate,
     /// The certificate ends before its last entry does.
     ShortCertificate,
-    /// A number of the certificate, or a bound that is asked for, is outside its limits.
+    /// A number in the certificate, or a requested bound, is outside its limits.
     BadBound,
     /// Bytes follow the last entry of the certificate.
     TrailingBytes,
     // A record of the file.
-    /// The record that is told beside it has this fault.
+    /// The record that is reported with it has this fault.
     Record(RecordFault),
-    // The certificate: what it states of the file.
+    // The certificate: what it states about the file.
     /// The certificate states less than the file needs.
     NeedTooSmall,
     /// The certificate states fewer writes than its entries may make.
@@ -41,12 +42,12 @@ pub enum Fault {
     // The caller.
     /// The surface is larger than the bound of the certificate.
     SurfaceTooLarge,
-    /// The image is no P6 text with allowed sides.
+    /// The image isn't a P6 text of a valid size.
     BadImage,
     // The computer.
-    /// The writer failed, or took no byte.
+    /// The writer failed, or accepted no byte.
     WriteFault,
-    /// Memory was refused.
+    /// An allocation failed.
     OutOfMemory,
 }
 
@@ -61,15 +62,14 @@ impl Fault {
         self.row().0
     }
 
-    /// The fault's name, as its variant is written.
+    /// The fault's name, spelled as its variant is.
     pub fn name(self) -> &'static str
         ensures { result.now ≡ (fault_row self).name }
     {
         self.row().1
     }
 
-    /// The kind of record that the fault speaks of, if it does: a function ([MS-WMF]) or a type
-    /// ([MS-EMF]).
+    /// The kind of record that the fault refers to, if any: a function ([MS-WMF]) or a type ([MS-EMF]).
     pub fn number(self) -> Option<u32>
         ensures { result ≡ record_kind_of self }
     {
@@ -144,7 +144,7 @@ impl fmt::Display for Fault {
 
     ghost output = { λ fault. Some (text_of fault) };
 
-    /// The name, and behind it the kind of record that the fault speaks of, if it does.
+    /// The name, followed by the kind of record that the fault refers to, if any.
     fn fmt<W: fmt::Write>(&self, f: &mut fmt::Formatter<W>) -> fmt::Result {
         let name = self.name();
         match self.number() {
@@ -163,7 +163,7 @@ impl fmt::Display for RecordFault {
 
     ghost output = { λ fault. Some (text_of (Record fault)) };
 
-    /// As the record's fault is shown.
+    /// Shown as the fault of the record.
     fn fmt<W: fmt::Write>(&self, f: &mut fmt::Formatter<W>) -> fmt::Result {
         let fault = Fault::Record(*self);
         write!(f, "{fault}")

@@ -1,14 +1,14 @@
 //! Fields of records.
 
 ghost use Rattle.std.specs.Prelude.{◌≡◌, ◌+◌, ◌≤◌, length};
-ghost use Rattle.draw_ops.specs.Fields.{box_at, is_rgb, rgb_at, turned_box_at, xy_at, yx_at};
+ghost use Rattle.draw_ops.specs.Fields.{box_at, is_rgb, rgb_at, reversed_box_at, xy_at, yx_at};
 
 use crate::record_fault::RecordFault;
 use mapping::{Colour, Point, Rect};
 use point_views::{i16_at, i32_at, u8_at};
 
-/// The colour whose red stands at a place ([MS-WMF] 2.2.2.8), or `PaletteColour` where its type, the byte
-/// behind its blue, is neither 0 nor 2.
+/// The colour whose red is at an offset ([MS-WMF] 2.2.2.8). `PaletteColour` if its type, the byte after its blue, is
+/// neither 0 nor 2.
 pub fn rgb_at(bytes: &[u8], place: usize) -> Result<Colour, RecordFault>
     requires { place + 4 ≤ length bytes.now }
     ensures value { result ≡ rgb_at bytes.now place }
@@ -23,7 +23,7 @@ pub fn rgb_at(bytes: &[u8], place: usize) -> Result<Colour, RecordFault>
     })
 }
 
-/// The point at a place, of which WMF's records have y before x, in 16 bits each.
+/// The point at an offset, with y before x in 16 bits each, as in WMF records.
 pub fn yx_at(bytes: &[u8], place: usize) -> Point
     requires { place + 4 ≤ length bytes.now }
     ensures { result ≡ yx_at bytes.now place }
@@ -34,7 +34,7 @@ pub fn yx_at(bytes: &[u8], place: usize) -> Point
     }
 }
 
-/// The point at a place, of which EMF's records have x before y, in 32 bits each.
+/// The point at an offset, with x before y in 32 bits each, as in EMF records.
 pub fn xy_at(bytes: &[u8], place: usize) -> Point
     requires { place + 8 ≤ length bytes.now }
     ensures { result ≡ xy_at bytes.now place }
@@ -45,7 +45,7 @@ pub fn xy_at(bytes: &[u8], place: usize) -> Point
     }
 }
 
-/// The box at a place, of which EMF's records have left, top, right and bottom, in 32 bits each.
+/// The box at an offset, with left, top, right and bottom in 32 bits each, as in EMF records.
 pub fn box_at(bytes: &[u8], place: usize) -> Rect
     requires { place + 16 ≤ length bytes.now }
     ensures { result ≡ box_at bytes.now place }
@@ -58,10 +58,10 @@ pub fn box_at(bytes: &[u8], place: usize) -> Rect
     }
 }
 
-/// The box at a place, of which WMF's records have bottom, right, top and left, in 16 bits each.
-pub fn turned_box_at(bytes: &[u8], place: usize) -> Rect
+/// The box at an offset, with bottom, right, top and left in 16 bits each, as in WMF records.
+pub fn reversed_box_at(bytes: &[u8], place: usize) -> Rect
     requires { place + 8 ≤ length bytes.now }
-    ensures { result ≡ turned_box_at bytes.now place }
+    ensures { result ≡ reversed_box_at bytes.now place }
 {
     Rect {
         l: i32::from(i16_at(bytes, place + 6)),
@@ -71,7 +71,7 @@ pub fn turned_box_at(bytes: &[u8], place: usize) -> Rect
     }
 }
 
-/// Whether a colour of this type is given by red, green and blue.
+/// Whether a colour of this type is given as red, green and blue.
 fn is_rgb(colour_type: u8) -> bool
     ensures { result ≡ is_rgb colour_type }
 {

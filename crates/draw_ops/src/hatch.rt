@@ -1,4 +1,4 @@
-//! The patterns of lines that a brush may have.
+//! The hatch patterns of brushes.
 
 ghost use Rattle.std.specs.Prelude.{◌≡◌};
 ghost use Rattle.draw_ops.specs.Hatch.{hatch_code, hatch_of};
@@ -6,22 +6,22 @@ ghost use Rattle.draw_ops.specs.Hatch.{hatch_code, hatch_of};
 /// The lines of a hatched brush ([MS-WMF] 2.1.1.12).
 #[derive(Clone, Copy, Debug, PartialEq, Eq)]
 pub enum Hatch {
-    /// Level lines.
+    /// Horizontal lines.
     Horizontal,
-    /// Upright lines.
+    /// Vertical lines.
     Vertical,
     /// HS_FDIAGONAL.
     ForwardDiagonal,
     /// HS_BDIAGONAL.
     BackwardDiagonal,
-    /// Level and upright lines.
+    /// Horizontal and vertical lines.
     Cross,
     /// The lines of both diagonals.
     DiagonalCross,
 }
 
 impl Hatch {
-    /// The hatch with this number: none exactly where the standard has none.
+    /// The hatch with this code. `None` exactly if the standard has none.
     pub fn from_code(code: u32) -> Option<Hatch>
         ensures { result ≡ hatch_of code }
     {
@@ -36,7 +36,7 @@ impl Hatch {
         }
     }
 
-    /// The hatch's number, from 0 to 5.
+    /// The hatch's code, from 0 to 5.
     pub fn code(self) -> u8
         ensures { result ≡ hatch_code self }
     {

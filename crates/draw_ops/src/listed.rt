@@ -1,4 +1,4 @@
-//! Steps that are listed, for tests, examples and files that are read already.
+//! Listed steps, for tests, examples and files that have been read.
 
 ghost use Rattle.std.specs.Prelude.{◌≡◌, IfSome, map};
 ghost use Rattle.draw_ops.specs.StepOf.{step_value_of};
@@ -8,7 +8,7 @@ use crate::source::{HasContent, OpSource};
 use crate::step::Step;
 use std::marker::Model;
 
-/// The steps of a list in order, and then perhaps a fault.
+/// The steps of a list in order, and then possibly a fault.
 #[derive(Debug, Drop)]
 pub struct Listed<'a> {
     steps: &'a [Step<'a>],
@@ -26,7 +26,7 @@ impl<'a> Model for Listed<'a> {
 }
 
 impl<'a> Listed<'a> {
-    /// The source of these steps, and of this fault behind them.
+    /// The source of these steps, followed by this fault.
     pub fn new(steps: &'a [Step<'a>], fault: Option<RecordFault>) -> Listed<'a>
         ensures steps { result.steps ≡ map step_value_of steps.entry.now }
         ensures fault { result.fault ≡ fault }

@@ -1,5 +1,4 @@
-//! What a file has that is against the standard, or that is not played as it stands, and yet is no
-//! reason to refuse it.
+//! Deviations from the standard, and features that are played differently, that don't cause a rejection.
 
 ghost use Rattle.std.specs.Prelude.{◌≡◌, ◌<◌};
 ghost use Rattle.draw_ops.specs.NoteTable.{note_row_of};
@@ -7,17 +6,17 @@ ghost use Rattle.draw_ops.specs.NoteTable.{note_row_of};
 /// A kind of note.
 #[derive(Clone, Copy, Debug, PartialEq, Eq)]
 pub enum Note {
-    /// The checksum of the placeable header is not that of its fields.
+    /// The checksum in the placeable header doesn't match its fields.
     PlaceableChecksum,
     /// A field of the placeable header has a value that the standard does not allow.
     PlaceableFields,
-    /// A size in a header is not that of the file.
+    /// A size in a header isn't that of the file.
     SizeField,
     /// Bytes follow the last record.
     AfterEnd,
     /// A pen with dashes draws unbroken lines.
     DashedPen,
-    /// A pen wider than a unit draws lines of one pixel.
+    /// A pen that draws is wider than one unit.
     WidePen,
     /// An isotropic map is played as it is set, and no extent is adjusted.
     Isotropic,
@@ -28,14 +27,14 @@ pub enum Note {
 }
 
 impl Note {
-    /// The note's name, as its variant is written.
+    /// The note's name, spelled as its variant is.
     pub fn name(self) -> &'static str
         ensures { result.now ≡ (note_row_of self).name }
     {
         self.row().1
     }
 
-    /// The row of the table of notes: the index of the kind's count, and the name.
+    /// The row in the table of notes: the index of the kind's count, and the name.
     pub(crate) fn row(self) -> (usize, &'static str)
         ensures index { result.0 ≡ (note_row_of self).index }
         ensures name { result.1.now ≡ (note_row_of self).name }

@@ -1,4 +1,4 @@
-//! Which kinds of notes a record has.
+//! The kinds of notes of a record.
 
 ghost use Rattle.std.specs.Prelude.{◌≡◌, ◌<◌, ◌^◌};
 ghost use Rattle.std.specs.Int.{bit_at};
@@ -6,14 +6,14 @@ ghost use Rattle.draw_ops.specs.NoteKinds.{is_noted, noted};
 
 use crate::note::Note;
 
-/// A set of kinds of notes: what is to be noted of one record, each kind at most once.
+/// A set of kinds of notes: the notes of one record, each kind at most once.
 ///
 /// # Guarantees
 ///
-/// - No other bit is set, so two sets are equal exactly where they have the same kinds.
+/// - No other bit is set, so two sets are equal exactly if they have the same kinds.
 #[derive(Clone, Copy, Debug, PartialEq, Eq)]
 pub struct NoteSet {
-    /// One bit a kind, from the lowest on in the order of the table of notes.
+    /// One bit per kind, from the lowest on, in the order of the table of notes.
     pub bits: u16,
     pub ghost within: { bits < 2 ^ 9 },
 }
@@ -22,21 +22,21 @@ impl NoteSet {
     ghost use Rattle.draw_ops.specs.NoteCounts.{no_notes};
     ghost use Rattle.draw_ops.specs.NoteSet.{notes_in};
 
-    /// No kind.
+    /// The empty set.
     pub fn none() -> NoteSet
         ensures { notes_in result ≡ no_notes }
     {
         NoteSet { bits: 0 }
     }
 
-    /// Whether a kind is noted.
+    /// Whether the set contains a kind.
     pub fn contains(self, note: Note) -> bool
         ensures { result ≡ is_noted (notes_in self) note }
     {
         (self.bits >> note.row().0) & 1 == 1
     }
 
-    /// The same kinds, and this one.
+    /// The set with this kind added.
     pub fn with(self, note: Note) -> NoteSet
         ensures { notes_in result ≡ noted (notes_in self) note }
     {
@@ -45,7 +45,7 @@ impl NoteSet {
         }
     }
 
-    /// 1 where the kind at an index of the table of notes is noted, and else 0.
+    /// 1 if the set contains the kind at an index of the table of notes, otherwise 0.
     pub(crate) fn bit(self, index: u32) -> u32
         requires { index < 9 }
         ensures { result ≡ bit_at self.bits index }

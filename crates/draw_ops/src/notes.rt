@@ -1,4 +1,4 @@
-//! How many notes there are.
+//! Counts of notes.
 
 ghost use Rattle.std.specs.Prelude.{◌≡◌};
 ghost use Rattle.draw_ops.specs.NoteCounts.{note_count, no_notes, with_note, added_notes};
@@ -7,7 +7,7 @@ ghost use Rattle.draw_ops.specs.NoteSet.{notes_in};
 use crate::note::Note;
 use crate::note_set::NoteSet;
 
-/// How many notes of each kind.
+/// The number of notes of each kind.
 #[derive(Clone, Copy, Debug, PartialEq, Eq)]
 pub struct Notes {
     /// The counts, in the order of the table of notes.
@@ -15,7 +15,7 @@ pub struct Notes {
 }
 
 impl Notes {
-    /// No note of any kind.
+    /// No notes.
     pub fn none() -> Notes
         ensures { result.counts ≡ no_notes }
     {
@@ -41,15 +41,14 @@ impl Notes {
         }
     }
 
-    /// How many notes of a kind.
+    /// The number of notes of a kind.
     pub fn count(self, note: Note) -> u32
         ensures { result ≡ note_count self.counts note }
     {
         self.counts[note.row().0]
     }
 
-    /// One more note of a kind, and as many as before of each other kind. A count stops at 2^32 - 1, which
-    /// no file reaches.
+    /// The counts with one more note of a kind. A count stops at 2^32 - 1, which no file reaches.
     pub fn with(self, note: Note) -> Notes
         ensures { result.counts ≡ with_note self.counts note }
     {
@@ -59,7 +58,7 @@ impl Notes {
         Notes { counts }
     }
 
-    /// As many notes of each kind as both have together. A count stops at 2^32 - 1, which no file reaches.
+    /// The sums of two counts for each kind. A count stops at 2^32 - 1, which no file reaches.
     #[tactic(auto, using(crate::proofs::NoteLemmas::sums))]
     pub fn plus(self, other: Notes) -> Notes
         ensures { result.counts ≡ added_notes self.counts other.counts }
@@ -71,7 +70,7 @@ impl Notes {
         Notes { counts }
     }
 
-    /// The same and one more note of each kind in a set, which mostly has none.
+    /// The counts with one more note of each kind in a set. Most sets are empty.
     pub fn with_all(self, set: NoteSet) -> Notes
         ensures { result.counts ≡ added_notes self.counts (notes_in set) }
     {

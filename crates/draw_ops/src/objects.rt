@@ -1,4 +1,4 @@
-//! The objects that a metafile makes, selects and deletes.
+//! The objects that a metafile creates, selects and deletes.
 
 ghost use Rattle.std.specs.Prelude.{◌≡◌};
 ghost use Rattle.draw_ops.specs.declared.objects.Pen.TheVariants.{Solid};
@@ -15,14 +15,14 @@ pub struct Handle(pub u32);
 /// What draws lines and outlines.
 #[derive(Clone, Copy, Debug, PartialEq, Eq)]
 pub enum Pen {
-    /// It draws nothing.
+    /// Draws nothing.
     Null,
-    /// It draws lines of this colour, whose width is in page units. Of width 0 they are one pixel wide.
+    /// Draws lines of this colour, with a width in page units. Lines of width 0 are one pixel wide.
     Solid { width: u32, colour: Colour },
 }
 
 impl Pen {
-    /// The pen of width 0 that draws lines of this colour.
+    /// The pen of width 0 for lines of this colour.
     pub fn hairline(colour: Colour) -> Pen
         ensures { result ≡ Solid 0 colour }
     {
@@ -33,17 +33,17 @@ impl Pen {
 /// What fills.
 #[derive(Clone, Copy, Debug, PartialEq, Eq)]
 pub enum Brush<'a> {
-    /// It paints every pixel in this colour.
+    /// Paints every pixel in this colour.
     Solid(Colour),
-    /// It paints nothing.
+    /// Paints nothing.
     Null,
-    /// It paints the lines of the hatch in this colour. The gaps go by the background mode.
+    /// Paints the lines of the hatch in this colour. The background mode decides about the gaps.
     Hatched { hatch: Hatch, colour: Colour },
-    /// It paints a picture's colours. The picture is repeated over the surface, from the surface's corner on.
+    /// Paints a bitmap, which is repeated over the surface from the surface's corner on.
     Tiled(DibView<'a>),
 }
 
-/// An object. Fonts and palettes take an index and draw nothing.
+/// An object. Fonts and palettes occupy an index and draw nothing.
 #[derive(Clone, Copy, Debug, PartialEq, Eq)]
 pub enum Object<'a> {
     Pen(Pen),

@@ -1,4 +1,4 @@
-//! What a record asks for, in the terms that WMF and EMF share.
+//! Operations: what records ask for, in terms that WMF and EMF share.
 
 use crate::blits::Blit;
 use crate::objects::{Handle, Object};
@@ -7,21 +7,21 @@ use crate::settings::{BackgroundMode, FillMode};
 use mapping::{Colour, MapMode, Point, Rect};
 use point_views::{Points, Polys};
 
-/// Which saved state is to come back, as META_RESTOREDC and EMR_RESTOREDC say it: a number above 0
-/// counts from the first state that was saved, and one below 0 from the last.
+/// The saved state to restore, as META_RESTOREDC and EMR_RESTOREDC give it: a positive number counts from the first
+/// saved state, a negative one from the last.
 #[derive(Clone, Copy, Debug, PartialEq, Eq)]
 pub struct SavedState(pub i32);
 
-/// Whether a rectangle's right and bottom belong to it.
+/// Whether the right and bottom edges of a rectangle belong to it.
 #[derive(Clone, Copy, Debug, PartialEq, Eq)]
 pub enum RectangleEdges {
-    /// They don't: META_RECTANGLE.
+    /// They don't, as in META_RECTANGLE.
     HalfOpen,
-    /// They do: EMR_RECTANGLE.
+    /// They do, as in EMR_RECTANGLE.
     Inclusive,
 }
 
-/// What one record asks for. Coordinates are those of the page.
+/// What one record asks for. Coordinates are page coordinates.
 #[derive(Clone, Copy, Debug, PartialEq, Eq)]
 pub enum Op<'a> {
     /// Nothing: a header, the end of the file, or a record that is skipped.
@@ -30,7 +30,7 @@ pub enum Op<'a> {
     // The state.
     /// Save the state (SAVEDC).
     Save,
-    /// Take a saved state back (RESTOREDC).
+    /// Restore a saved state (RESTOREDC).
     Restore(SavedState),
     /// SETBKMODE.
     SetBackgroundMode(BackgroundMode),
@@ -62,15 +62,15 @@ pub enum Op<'a> {
     ExcludeClip(Rect),
     /// Keep the clip within the box (INTERSECTCLIPRECT).
     IntersectClip(Rect),
-    /// Clip nothing from here on.
+    /// Remove the clip.
     RemoveClip,
 
     // Drawings.
     /// Make the point the current one (MOVETO, MOVETOEX).
     MoveTo(Point),
-    /// A line from the current point, which the end then is (LINETO).
+    /// Draw a line from the current point, and make its end the current point (LINETO).
     LineTo(Point),
-    /// One pixel (SETPIXEL, SETPIXELV).
+    /// Draw one pixel (SETPIXEL, SETPIXELV).
     Pixel {
         point: Point,
         colour: Colour,
@@ -80,14 +80,13 @@ pub enum Op<'a> {
         corners: Rect,
         edges: RectangleEdges,
     },
-    /// Lines from point to point, for each list (POLYLINE, POLYPOLYLINE).
+    /// Draw lines from point to point, for each list (POLYLINE, POLYPOLYLINE).
     Polyline(Polys<'a>),
-    /// Polygons filled together, one for each list (POLYGON, POLYPOLYGON).
+    /// Draw polygons that are filled together, one for each list (POLYGON, POLYPOLYGON).
     Polygon(Polys<'a>),
-    /// Lines from the current point to each point, of which the last is then the current one
-    /// (POLYLINETO).
+    /// Draw lines from the current point to each point, and make the last one the current point (POLYLINETO).
     PolylineTo(Points<'a>),
-    /// What a brush and a picture make of a rectangle (PATBLT, BITBLT, STRETCHBLT, STRETCHDIB and their kin).
+    /// Combine a brush and a bitmap with a rectangle (PATBLT, BITBLT, STRETCHBLT, STRETCHDIB and similar records).
     Blit(Blit<'a>),
 
     // Objects.
@@ -96,7 +95,7 @@ pub enum Op<'a> {
         at: Option<Handle>,
         object: Object<'a>,
     },
-    /// Draw with the object from here on (SELECTOBJECT).
+    /// Select the object for further drawing (SELECTOBJECT).
     Select(Handle),
     /// SELECTPALETTE.
     SelectPalette(Handle),

@@ -1,13 +1,13 @@
-//! What a record means that makes a pen.
+//! Decodes records that create pens.
 
 ghost use Rattle.std.specs.Prelude.{◌≡◌};
 ghost use Rattle.draw_ops.specs.NoteSet.{notes_in};
 ghost use Rattle.draw_ops.specs.Objects.{index_of};
 ghost use Rattle.draw_ops.specs.PenRecords.{is_geometric, log_pen_ex_fields, log_pen_fields, pen_meant, pen_notes, pen_of, pen_style_of};
-ghost use Rattle.draw_ops.specs.RecordOf.{meant_of};
+ghost use Rattle.draw_ops.specs.RecordOf.{decoded_of};
 ghost use Rattle.draw_ops.specs.Results.{result_map};
 
-use crate::format::Meant;
+use crate::format::Decoded;
 use crate::note::Note;
 use crate::note_set::NoteSet;
 use crate::objects::{Handle, Object, Pen};
@@ -15,19 +15,19 @@ use crate::operation::Op;
 use crate::record_fault::RecordFault;
 use mapping::Colour;
 
-/// How a pen's lines look ([MS-WMF] 2.1.1.23).
+/// The style of a pen's lines ([MS-WMF] 2.1.1.23).
 #[derive(Clone, Copy, Debug, PartialEq, Eq)]
 pub enum PenStyle {
     /// Without gaps: PS_SOLID, PS_INSIDEFRAME.
     Solid,
-    /// With gaps, and played without them.
+    /// With gaps, but played without them.
     Dashed,
     /// Nothing is drawn: PS_NULL.
     Null,
 }
 
 impl PenStyle {
-    /// The style with this number, by its low four bits: none exactly where the standard has none.
+    /// The style with this code, from its low four bits. `None` exactly if the standard has none.
     pub fn from_code(code: u32) -> Option<PenStyle>
         ensures { result ≡ pen_style_of code }
     {
@@ -46,23 +46,23 @@ impl PenStyle {
     }
 }
 
-/// What a record says of a pen, but for its colour.
+/// What a record says about a pen, except its colour.
 #[derive(Clone, Copy, Debug, PartialEq, Eq)]
 pub struct PenFields {
-    /// How the pen's lines look.
+    /// The style of the lines.
     pub style: PenStyle,
-    /// How wide they are, in units of the page.
+    /// The width of the lines, in page units.
     pub width: u32,
-    /// Whether the width is to be noted as above one unit.
+    /// Whether to note a width above one unit.
     pub is_wide: bool,
 }
 
-/// The bit of a style by which the width of an extended pen is in units of the page ([MS-EMF] 2.1.25).
+/// The bit of a style that makes the width of an extended pen count in page units ([MS-EMF] 2.1.25).
 const PS_GEOMETRIC: u32 = 0x0001_0000;
 
 impl PenFields {
-    /// The fields of a LogPen: none exactly where the standard has no such style. A width below 0 counts by its distance from 0, and isn't
-    /// noted.
+    /// The fields of a LogPen. `None` exactly if the standard has no such style. A negative width counts by its
+    /// absolute value, and isn't noted.
     pub fn log_pen(style: u32, width: i32) -> Option<PenFields>
         ensures { result ≡ log_pen_fields style width }
     {
@@ -73,8 +73,8 @@ impl PenFields {
         })
     }
 
-    /// The fields of a LogPenEx: none exactly where the standard has no such style. The width counts where the pen is geometric,
-    /// and isn't noted.
+    /// The fields of a LogPenEx. `None` exactly if the standard has no such style. The width counts only if the pen is
+    /// geometric, and isn't noted.
     pub fn log_pen_ex(style: u32, width: u32) -> Option<PenFields>
         ensures { result ≡ log_pen_ex_fields style width }
     {
@@ -85,7 +85,7 @@ impl PenFields {
         })
     }
 
-    /// The pen of these fields. The colour of a pen that draws nothing isn't looked at.
+    /// The pen with these fields. The colour of a pen that draws nothing is ignored.
     pub fn pen(self, colour: Result<Colour, RecordFault>) -> Result<Pen, RecordFault>
         ensures value { result ≡ pen_of self colour }
     {
@@ -98,7 +98,7 @@ impl PenFields {
         }
     }
 
-    /// What is to be noted of a pen of these fields.
+    /// The notes of a pen with these fields.
     pub fn notes(self) -> NoteSet
         ensures { notes_in result ≡ pen_notes self }
     {
@@ -112,27 +112,27 @@ impl PenFields {
     }
 }
 
-/// Whether a style's number has the bit of a geometric pen.
+/// Whether the code of a style has the bit of a geometric pen.
 fn is_geometric(style: u32) -> bool
     ensures { result ≡ is_geometric style }
 {
     style & PS_GEOMETRIC != 0
 }
 
-/// A pen of these fields, made at an index or at the lowest free one, or `BadValue` where there are none, since the standard has no such
-/// style. A wide pen and a dashed one are noted.
+/// A pen with these fields, made at an index or at the lowest free one. `BadValue` if there are no fields because the
+/// standard has no such style. Wide pens and dashed pens are noted.
 pub fn pen_meant<'a>(
     at: Option<Handle>,
     fields: Option<PenFields>,
     colour: Result<Colour, RecordFault>,
-) -> Result<Meant<'a>, RecordFault>
-    ensures value { pen_meant (index_of at) fields colour ≡ result_map meant_of result }
+) -> Result<Decoded<'a>, RecordFault>
+    ensures value { pen_meant (index_of at) fields colour ≡ result_map decoded_of result }
 {
     let Some(fields) = fields else {
         return Err(RecordFault::BadValue);
     };
     let pen = fields.pen(colour)?;
-    Ok(Meant {
+    Ok(Decoded {
         op: Op::Create {
             at,
             object: Object::Pen(pen),

@@ -1,4 +1,4 @@
-//! Lists of points in a record, as parts of it.
+//! Lists of points in a record.
 
 ghost use Rattle.std.specs.Prelude.{◌≡◌, ◌+◌, ◌*◌, ◌≤◌, OnSome, length};
 ghost use Rattle.std.specs.Option.{option_map};
@@ -9,7 +9,7 @@ ghost use Rattle.draw_ops.specs.PointLists.{counts_at, points_at};
 
 use point_views::{Counts, NumberWidth, Points};
 
-/// So many points from a place on: none exactly where the bytes behind the place don't hold them.
+/// This many points, from an offset on. `None` exactly if the bytes after the offset don't contain them.
 pub fn points_at(width: NumberWidth, count: usize, bytes: &[u8], place: usize) -> Option<Points<'_>>
     requires { place ≤ length bytes.now }
     ensures value { points_at width count bytes.entry.now place ≡ option_map points_of result }
@@ -21,7 +21,7 @@ pub fn points_at(width: NumberWidth, count: usize, bytes: &[u8], place: usize) -
     }
 }
 
-/// So many counts from a place on: none exactly where the bytes behind the place don't hold them.
+/// This many counts, from an offset on. `None` exactly if the bytes after the offset don't contain them.
 pub fn counts_at(width: NumberWidth, count: usize, bytes: &[u8], place: usize) -> Option<Counts<'_>>
     requires { place ≤ length bytes.now }
     ensures value { counts_at width count bytes.entry.now place ≡ option_map counts_of result }

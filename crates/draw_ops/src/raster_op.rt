@@ -1,48 +1,48 @@
-//! How what is drawn joins what is there.
+//! Binary raster operations.
 
 ghost use Rattle.std.specs.Prelude.{◌≡◌};
 ghost use Rattle.draw_ops.specs.RasterOp.{raster_op_code, raster_op_of};
 
-/// A binary raster operation: what a pixel becomes, bit by bit, of the colour that is drawn, the pen,
-/// and the colour that is there ([MS-WMF] 2.1.1.2).
+/// A binary raster operation: the new colour of a pixel, bit by bit, from the pen (the drawn colour) and the old colour
+/// ([MS-WMF] 2.1.1.2).
 #[derive(Clone, Copy, Debug, PartialEq, Eq)]
 pub enum RasterOp {
     /// All bits 0.
     Black,
     /// The complement of `MergePen`.
     NotMergePen,
-    /// What is there, and the complement of the pen.
+    /// The old colour, and the complement of the pen.
     MaskNotPen,
     /// The complement of the pen.
     NotCopyPen,
-    /// The pen, and the complement of what is there.
+    /// The pen, and the complement of the old colour.
     MaskPenNot,
-    /// The complement of what is there.
+    /// The complement of the old colour.
     Not,
-    /// The pen, or what is there, and not both.
+    /// The pen, or the old colour, but not both.
     XorPen,
     /// The complement of `MaskPen`.
     NotMaskPen,
-    /// The pen, and what is there.
+    /// The pen, and the old colour.
     MaskPen,
     /// The complement of `XorPen`.
     NotXorPen,
-    /// What is there.
+    /// The old colour.
     Nop,
-    /// What is there, or the complement of the pen.
+    /// The old colour, or the complement of the pen.
     MergeNotPen,
     /// The pen.
     CopyPen,
-    /// The pen, or the complement of what is there.
+    /// The pen, or the complement of the old colour.
     MergePenNot,
-    /// The pen, or what is there.
+    /// The pen, or the old colour.
     MergePen,
     /// All bits 1.
     White,
 }
 
 impl RasterOp {
-    /// The operation with this number: none exactly where the standard has none.
+    /// The operation with this code. `None` exactly if the standard has none.
     pub fn from_code(code: u32) -> Option<RasterOp>
         ensures { result ≡ raster_op_of code }
     {
@@ -67,7 +67,7 @@ impl RasterOp {
         }
     }
 
-    /// The operation's number, from 1 to 16.
+    /// The operation's code, from 1 to 16.
     pub fn code(self) -> u8
         ensures { result ≡ raster_op_code self }
     {

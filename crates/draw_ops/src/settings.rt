@@ -1,4 +1,4 @@
-//! Settings that say how what follows is drawn.
+//! Settings for later drawing.
 
 ghost use Rattle.std.specs.Prelude.{◌≡◌};
 ghost use Rattle.draw_ops.specs.Settings.{background_mode_code, background_mode_of, fill_mode_code, fill_mode_of};
@@ -6,14 +6,14 @@ ghost use Rattle.draw_ops.specs.Settings.{background_mode_code, background_mode_
 /// How the gaps of a hatched brush are painted ([MS-WMF] 2.1.1.20).
 #[derive(Clone, Copy, Debug, PartialEq, Eq)]
 pub enum BackgroundMode {
-    /// They are left as they are.
+    /// They are left unchanged.
     Transparent,
     /// They get the background colour.
     Opaque,
 }
 
 impl BackgroundMode {
-    /// The mode with this number: none exactly where the standard has none.
+    /// The mode with this code. `None` exactly if the standard has none.
     pub fn from_code(code: u32) -> Option<BackgroundMode>
         ensures { result ≡ background_mode_of code }
     {
@@ -24,7 +24,7 @@ impl BackgroundMode {
         }
     }
 
-    /// The mode's number, 1 or 2.
+    /// The mode's code, 1 or 2.
     pub fn code(self) -> u8
         ensures { result ≡ background_mode_code self }
     {
@@ -35,17 +35,17 @@ impl BackgroundMode {
     }
 }
 
-/// Which parts of a plane, cut by the edges of polygons, are filled ([MS-WMF] 2.1.1.25).
+/// Which parts of a plane that is divided by the edges of polygons are filled ([MS-WMF] 2.1.1.25).
 #[derive(Clone, Copy, Debug, PartialEq, Eq)]
 pub enum FillMode {
-    /// Those that an odd number of edges lies beside.
+    /// Those with an odd number of edges to one side.
     Alternate,
-    /// Those that the polygons go round, counted with their direction.
+    /// Those that the polygons go around, counted with direction.
     Winding,
 }
 
 impl FillMode {
-    /// The mode with this number: none exactly where the standard has none.
+    /// The mode with this code. `None` exactly if the standard has none.
     pub fn from_code(code: u32) -> Option<FillMode>
         ensures { result ≡ fill_mode_of code }
     {
@@ -56,7 +56,7 @@ impl FillMode {
         }
     }
 
-    /// The mode's number, 1 or 2.
+    /// The mode's code, 1 or 2.
     pub fn code(self) -> u8
         ensures { result ≡ fill_mode_code self }
     {

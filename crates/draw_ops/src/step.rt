@@ -1,4 +1,4 @@
-//! One record of a file, as what it asks for.
+//! Steps: what records ask for, one by one.
 
 ghost use Rattle.std.specs.Prelude.{◌≡◌};
 ghost use Rattle.draw_ops.specs.NoteCounts.{no_notes};
@@ -14,12 +14,12 @@ pub struct Step<'a> {
     /// The record's number in the file, from 0.
     pub number: u32,
     pub op: Op<'a>,
-    /// What is to be noted of the record.
+    /// The notes of the record.
     pub notes: NoteSet,
 }
 
 impl<'a> Step<'a> {
-    /// Record 0 that asks for nothing: a place for steps to be put into.
+    /// Record 0 without an operation, which other steps can overwrite.
     pub fn without_effect() -> Step<'a>
         ensures { step_value_of result ≡ record { number = 0; operation = no_effect; notes = no_notes } }
     {

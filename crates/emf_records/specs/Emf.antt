@@ -1,7 +1,7 @@
 -- What each record of EMF means ([MS-EMF] 2.3).
 use Rattle.std.specs.Prelude.{ℕ, zero, suc, List, Option, Some, None, Result, Ok, Err}
 use Rattle.point_views.specs.declared.numbers.NumberWidth.TheVariants.{Long, Short}
-use Rattle.draw_ops.specs.Meaning.{Meaning, MeantValue, noting, unnoted}
+use Rattle.draw_ops.specs.Meaning.{Meaning, DecodedValue, noting, unnoted}
 use Rattle.draw_ops.specs.Objects.{font_object, palette_object}
 use Rattle.draw_ops.specs.Operation.{no_effect, save, move_to, set_viewport_extent, set_viewport_origin, set_window_extent, set_window_origin, select, select_palette, delete, begin_path, end_path, close_figure, abort_path, fill_path, stroke_path, stroke_and_fill_path}
 use Rattle.draw_ops.specs.Records.{Record}
@@ -15,15 +15,15 @@ use Rattle.emf_records.specs.ObjectRecords.{create_brush_indirect, create_pen, c
 use Rattle.emf_records.specs.StateRecords.{comment, exclude_clip_rect, ext_select_clip_rgn, intersect_clip_rect, point_record, restore_dc, set_bk_color, set_bk_mode, set_layout, set_map_mode_record, set_poly_fill_mode, set_rop2}
 use Rattle.emf_records.specs.TransformRecords.{modify_world_transform, set_world_transform}
 use Rattle.emf_records.specs.declared.entry.EmfEntry.{EmfEntry}
-use Rattle.emf_records.specs.declared.entry.EmfEntry.TheVariants.{BitBlt, StretchBlt, StretchDiBits, ExcludeClipRect, IntersectClipRect, ExtSelectClipRgn, Comment, Header, Eof, Polygon, Polyline, PolylineTo, PolyPolyline, PolyPolygon, SetPixelV, Rectangle, LineTo, FillPath, StrokeAndFillPath, StrokePath, Polygon16, Polyline16, PolylineTo16, PolyPolyline16, PolyPolygon16, SelectObject, CreatePen, CreateBrushIndirect, DeleteObject, SelectPalette, CreateDibPatternBrushPt, CreatePalette, ExtCreateFontIndirectW, ExtCreatePen, BeginPath, EndPath, CloseFigure, AbortPath, SetWindowExtEx, SetWindowOrgEx, SetViewportExtEx, SetViewportOrgEx, SetMapMode, SetBkMode, SetPolyFillMode, SetRop2, SetBkColor, MoveToEx, SaveDc, RestoreDc, SetLayout, SetWorldTransform, ModifyWorldTransform, Skipped, Refused}
+use Rattle.emf_records.specs.declared.entry.EmfEntry.TheVariants.{BitBlt, StretchBlt, StretchDiBits, ExcludeClipRect, IntersectClipRect, ExtSelectClipRgn, Comment, Header, Eof, Polygon, Polyline, PolylineTo, PolyPolyline, PolyPolygon, SetPixelV, Rectangle, LineTo, FillPath, StrokeAndFillPath, StrokePath, Polygon16, Polyline16, PolylineTo16, PolyPolyline16, PolyPolygon16, SelectObject, CreatePen, CreateBrushIndirect, DeleteObject, SelectPalette, CreateDibPatternBrushPt, CreatePalette, ExtCreateFontIndirectW, ExtCreatePen, BeginPath, EndPath, CloseFigure, AbortPath, SetWindowExtEx, SetWindowOrgEx, SetViewportExtEx, SetViewportOrgEx, SetMapMode, SetBkMode, SetPolyFillMode, SetRop2, SetBkColor, MoveToEx, SaveDc, RestoreDc, SetLayout, SetWorldTransform, ModifyWorldTransform, Skipped, Rejected}
 
--- EMR_HEADER is without effect as the file's first record, and isn't played behind it
-abbrev pub header_record : ℕ → Result MeantValue RecordFault
+-- EMR_HEADER has no effect as the first record of the file, and isn't supported after it
+abbrev pub header_record : ℕ → Result DecodedValue RecordFault
 header_record zero = Ok (unnoted no_effect)
 header_record (suc n) = Err (Unsupported 1)
 
--- what a record with each entry means, by its number in the file, its type and its bytes
-unfoldable pub emf_record : EmfEntry → ℕ → ℕ → List ℕ → Result MeantValue RecordFault
+-- what a record means, by its entry, its number in the file, its type and its bytes
+unfoldable pub emf_record : EmfEntry → ℕ → ℕ → List ℕ → Result DecodedValue RecordFault
 emf_record BitBlt number record_type bytes = bit_blt bytes
 emf_record StretchBlt number record_type bytes = stretch_blt bytes
 emf_record StretchDiBits number record_type bytes = stretch_di_bits bytes
@@ -78,13 +78,13 @@ emf_record SetLayout number record_type bytes = set_layout bytes
 emf_record SetWorldTransform number record_type bytes = set_world_transform bytes
 emf_record ModifyWorldTransform number record_type bytes = modify_world_transform bytes
 emf_record Skipped number record_type bytes = Ok (noting NoteSkipped no_effect)
-emf_record Refused number record_type bytes = Err (Unsupported record_type)
+emf_record Rejected number record_type bytes = Err (Unsupported record_type)
 
--- a type that the standard doesn't have is unknown
-abbrev pub emf_record_if : Option EmfEntry → ℕ → Record → Result MeantValue RecordFault
+-- what a record means; a type that the standard doesn't have is unknown
+abbrev pub emf_record_if : Option EmfEntry → ℕ → Record → Result DecodedValue RecordFault
 emf_record_if None number r = Err (UnknownRecord r.kind)
 emf_record_if (Some entry) number r = emf_record entry number r.kind r.bytes
 
--- by the record's type, and of a header by where it stands
+-- what each record of EMF means, by its type, and for a header by its position
 abbrev pub emf_meaning : Meaning
 emf_meaning number r = emf_record_if (emf_entry_of r.kind) number r

@@ -1,4 +1,4 @@
--- How the records of EMF are framed ([MS-EMF] 2.3).
+-- The framing of EMF records ([MS-EMF] 2.3).
 use Rattle.draw_ops.specs.Records.{Framing}
 
 -- a head of eight bytes: the type, and the size in bytes, a multiple of four; 14 ends the file

@@ -1,11 +1,12 @@
--- Where the fields of object records stand, in bytes from a record's front ([MS-EMF] 2.3.7 and 2.3.8). An `end` is the bytes that a record needs.
+-- The offsets of the fields of object records in bytes from the start of a record ([MS-EMF] 2.3.7 and 2.3.8). An `end`
+-- is the number of bytes that a record needs.
 use Rattle.std.specs.Prelude.{ℕ}
 
 -- the index of the object: ihObject, ihPal, ihFonts, ihPen or ihBrush
 abbrev pub object_index : ℕ
 object_index = 8
 
--- a record of which only the index is read
+-- a record with only an index
 abbrev pub index_end : ℕ
 index_end = 12
 
@@ -13,11 +14,11 @@ index_end = 12
 abbrev pub logpen_style : ℕ
 logpen_style = 12
 
--- x of its Width, which is a point
+-- x of the pen's Width, which is a point
 abbrev pub logpen_width : ℕ
 logpen_width = 16
 
--- its ColorRef
+-- the pen's ColorRef
 abbrev pub logpen_color : ℕ
 logpen_color = 24
 
@@ -29,11 +30,11 @@ logpen_end = 28
 abbrev pub logbrush_style : ℕ
 logbrush_style = 12
 
--- its Color
+-- the brush's Color
 abbrev pub logbrush_color : ℕ
 logbrush_color = 16
 
--- its BrushHatch
+-- the brush's BrushHatch
 abbrev pub logbrush_hatch : ℕ
 logbrush_hatch = 20
 
@@ -41,19 +42,19 @@ logbrush_hatch = 20
 abbrev pub logbrush_end : ℕ
 logbrush_end = 24
 
--- PenStyle of EMR_EXTCREATEPEN's LogPenEx (2.3.7.9, 2.2.20), which four numbers of a bitmap stand before
+-- PenStyle of EMR_EXTCREATEPEN's LogPenEx (2.3.7.9, 2.2.20), after four numbers for a bitmap
 abbrev pub logpenex_style : ℕ
 logpenex_style = 28
 
--- its Width
+-- the extended pen's Width
 abbrev pub logpenex_width : ℕ
 logpenex_width = 32
 
--- its BrushStyle
+-- the extended pen's BrushStyle
 abbrev pub logpenex_brush_style : ℕ
 logpenex_brush_style = 36
 
--- its ColorRef
+-- the extended pen's ColorRef
 abbrev pub logpenex_color : ℕ
 logpenex_color = 40
 

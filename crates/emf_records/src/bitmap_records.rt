@@ -1,9 +1,9 @@
-//! The records that bring bitmaps ([MS-EMF] 2.3.1 and 2.3.7.4).
+//! Records with bitmaps ([MS-EMF] 2.3.1 and 2.3.7.4).
 
 ghost use Rattle.std.specs.Prelude.{◌≡◌, ◌+◌, ◌≤◌, IsTrue, length};
 ghost use Rattle.dib_views.specs.PictureOf.{dib_of};
 ghost use Rattle.draw_ops.specs.Blits.{source_of};
-ghost use Rattle.draw_ops.specs.RecordOf.{meant_of};
+ghost use Rattle.draw_ops.specs.RecordOf.{decoded_of};
 ghost use Rattle.draw_ops.specs.Results.{result_map};
 ghost use Rattle.emf_records.specs.BitmapRecords.{bit_blt, block_blit, block_dib, block_source, create_dib_pattern_brush_pt, dib_by_parts, dib_of_parts};
 ghost use Rattle.emf_records.specs.BitmapRecords.{has_part, has_parts, part_at, part_end, stretch_blt, stretch_di_bits, stretch_source};
@@ -12,17 +12,17 @@ use crate::transform_records::is_identity_at;
 use crate::types::{EMR_BITBLT, EMR_STRETCHBLT};
 use dib_views::DibView;
 use draw_ops::{
-    BlitSource, Handle, Meant, RecordFault, blit_meant, pattern_brush_meant, rgb_dib_in,
+    BlitSource, Decoded, Handle, RecordFault, blit_meant, pattern_brush_meant, rgb_dib_in,
     source_as_stored, source_from_top, xy_at,
 };
 use mapping::Point;
 use point_views::u32_at;
 
-/// EMR_BITBLT (2.3.1.2): Bounds, xDest, yDest, cxDest, cyDest, BitBltRasterOperation, xSrc, ySrc, XformSrc,
-/// BkColorSrc, UsageSrc, offBmiSrc, cbBmiSrc, offBitsSrc, cbBitsSrc. The source is as wide and as high as the
-/// rectangle, and BkColorSrc isn't read.
-pub(crate) fn bit_blt(bytes: &[u8]) -> Result<Meant<'_>, RecordFault>
-    ensures value { bit_blt bytes.entry.now ≡ result_map meant_of result }
+/// EMR_BITBLT (2.3.1.2): Bounds, xDest, yDest, cxDest, cyDest, BitBltRasterOperation, xSrc, ySrc, XformSrc, BkColorSrc,
+/// UsageSrc, offBmiSrc, cbBmiSrc, offBitsSrc, cbBitsSrc. The source is as wide and as high as the rectangle, and
+/// BkColorSrc is ignored.
+pub(crate) fn bit_blt(bytes: &[u8]) -> Result<Decoded<'_>, RecordFault>
+    ensures value { bit_blt bytes.entry.now ≡ result_map decoded_of result }
 {
     if bytes.len() < 100 {
         return Err(RecordFault::BadParams);
@@ -31,8 +31,8 @@ pub(crate) fn bit_blt(bytes: &[u8]) -> Result<Meant<'_>, RecordFault>
 }
 
 /// EMR_STRETCHBLT (2.3.1.6): the fields of EMR_BITBLT, cxSrc, cySrc.
-pub(crate) fn stretch_blt(bytes: &[u8]) -> Result<Meant<'_>, RecordFault>
-    ensures value { stretch_blt bytes.entry.now ≡ result_map meant_of result }
+pub(crate) fn stretch_blt(bytes: &[u8]) -> Result<Decoded<'_>, RecordFault>
+    ensures value { stretch_blt bytes.entry.now ≡ result_map decoded_of result }
 {
     if bytes.len() < 108 {
         return Err(RecordFault::BadParams);
@@ -43,14 +43,14 @@ pub(crate) fn stretch_blt(bytes: &[u8]) -> Result<Meant<'_>, RecordFault>
     )
 }
 
-/// The blit of EMR_BITBLT or EMR_STRETCHBLT. What it reads may be a fault.
+/// The blit of EMR_BITBLT or EMR_STRETCHBLT. Its source may be a fault.
 #[tactic(auto, unfolding(crate::specs::BitmapRecords::block_blit))]
 fn block_blit<'a>(
     bytes: &'a [u8],
     source: Result<BlitSource<'a>, RecordFault>,
-) -> Result<Meant<'a>, RecordFault>
+) -> Result<Decoded<'a>, RecordFault>
     requires fields { 100 ≤ length bytes.now }
-    ensures value { block_blit bytes.entry.now (result_map source_of source.entry) ≡ result_map meant_of result }
+    ensures value { block_blit bytes.entry.now (result_map source_of source.entry) ≡ result_map decoded_of result }
 {
     let corner = xy_at(bytes, 24);
     let extent = xy_at(bytes, 32);
@@ -58,8 +58,7 @@ fn block_blit<'a>(
     blit_meant(corner, extent, code, source)
 }
 
-/// What EMR_BITBLT or EMR_STRETCHBLT reads. Where cbBmiSrc is 0 it has no bitmap, and nothing else of one is
-/// looked at.
+/// The source of EMR_BITBLT or EMR_STRETCHBLT. If cbBmiSrc is 0 there is no bitmap, and its other fields are ignored.
 #[tactic(auto, unfolding(crate::specs::BitmapRecords::block_source))]
 fn block_source(
     record_type: u32,
@@ -93,8 +92,8 @@ fn block_dib(record_type: u32, bytes: &[u8]) -> Result<DibView<'_>, RecordFault>
 
 /// EMR_STRETCHDIBITS (2.3.1.7): Bounds, xDest, yDest, xSrc, ySrc, cxSrc, cySrc, offBmiSrc, cbBmiSrc, offBitsSrc,
 /// cbBitsSrc, UsageSrc, BitBltRasterOperation, cxDest, cyDest.
-pub(crate) fn stretch_di_bits(bytes: &[u8]) -> Result<Meant<'_>, RecordFault>
-    ensures value { stretch_di_bits bytes.entry.now ≡ result_map meant_of result }
+pub(crate) fn stretch_di_bits(bytes: &[u8]) -> Result<Decoded<'_>, RecordFault>
+    ensures value { stretch_di_bits bytes.entry.now ≡ result_map decoded_of result }
 {
     if bytes.len() < 80 {
         return Err(RecordFault::BadParams);
@@ -105,7 +104,7 @@ pub(crate) fn stretch_di_bits(bytes: &[u8]) -> Result<Meant<'_>, RecordFault>
     blit_meant(corner, extent, code, stretch_source(bytes))
 }
 
-/// What EMR_STRETCHDIBITS reads. Where cbBmiSrc is 0 it has no bitmap, and nothing else of one is looked at.
+/// The source of EMR_STRETCHDIBITS. If cbBmiSrc is 0 there is no bitmap, and its other fields are ignored.
 #[tactic(auto, unfolding(crate::specs::BitmapRecords::stretch_source))]
 fn stretch_source(bytes: &[u8]) -> Result<BlitSource<'_>, RecordFault>
     requires { 80 ≤ length bytes.now }
@@ -119,8 +118,8 @@ fn stretch_source(bytes: &[u8]) -> Result<BlitSource<'_>, RecordFault>
 }
 
 /// EMR_CREATEDIBPATTERNBRUSHPT (2.3.7.4): ihBrush, Usage, offBmi, cbBmi, offBits, cbBits.
-pub(crate) fn create_dib_pattern_brush_pt(bytes: &[u8]) -> Result<Meant<'_>, RecordFault>
-    ensures value { create_dib_pattern_brush_pt bytes.entry.now ≡ result_map meant_of result }
+pub(crate) fn create_dib_pattern_brush_pt(bytes: &[u8]) -> Result<Decoded<'_>, RecordFault>
+    ensures value { create_dib_pattern_brush_pt bytes.entry.now ≡ result_map decoded_of result }
 {
     if bytes.len() < 32 {
         return Err(RecordFault::BadParams);
@@ -129,8 +128,8 @@ pub(crate) fn create_dib_pattern_brush_pt(bytes: &[u8]) -> Result<Meant<'_>, Rec
     pattern_brush_meant(at, dib_by_parts(u32_at(bytes, 12), bytes, 16))
 }
 
-/// The bitmap of a usage whose header and colour table are one part of the record, and whose rows are another:
-/// an offset and a size from a place on tell each. A part that isn't in the record is `BadParams`.
+/// A bitmap with a usage, whose header and colour table are one part of the record and whose rows are another. The
+/// offsets and sizes of both are at `place`. A part that isn't in the record is `BadParams`.
 #[tactic(auto, unfolding(crate::specs::BitmapRecords::dib_by_parts))]
 fn dib_by_parts(usage: u32, bytes: &[u8], place: usize) -> Result<DibView<'_>, RecordFault>
     requires { place + 16 ≤ length bytes.now }
@@ -142,10 +141,10 @@ fn dib_by_parts(usage: u32, bytes: &[u8], place: usize) -> Result<DibView<'_>, R
     dib_of_parts(usage, bytes, place)
 }
 
-/// The same of parts that are in the record.
+/// The same for parts that are in the record.
 #[tactic(auto, unfolding(crate::specs::BitmapRecords::dib_of_parts, crate::specs::BitmapRecords::has_parts))]
 fn dib_of_parts(usage: u32, bytes: &[u8], place: usize) -> Result<DibView<'_>, RecordFault>
-    requires told { place + 16 ≤ length bytes.now }
+    requires reported { place + 16 ≤ length bytes.now }
     requires inside { IsTrue (has_parts bytes.now place) }
     ensures value { dib_of_parts usage bytes.entry.now place ≡ result_map dib_of result }
 {
@@ -154,7 +153,7 @@ fn dib_of_parts(usage: u32, bytes: &[u8], place: usize) -> Result<DibView<'_>, R
     rgb_dib_in(usage, info, bits)
 }
 
-/// Whether both parts that offsets and sizes from a place on tell are in the record.
+/// Whether both parts, whose offsets and sizes are at `place`, are in the record.
 #[tactic(auto, unfolding(crate::specs::BitmapRecords::has_parts))]
 fn has_parts(bytes: &[u8], place: usize) -> bool
     requires { place + 16 ≤ length bytes.now }
@@ -163,7 +162,7 @@ fn has_parts(bytes: &[u8], place: usize) -> bool
     has_part(bytes, place) && has_part(bytes, place + 8)
 }
 
-/// Whether the part that an offset and a size at a place tell is in the record. An empty one has to be as well.
+/// Whether the part whose offset and size are at `place` is in the record. This applies to an empty part too.
 fn has_part(bytes: &[u8], place: usize) -> bool
     requires { place + 8 ≤ length bytes.now }
     ensures { result ≡ has_part bytes.now place }
@@ -171,9 +170,9 @@ fn has_part(bytes: &[u8], place: usize) -> bool
     part_end(bytes, place) <= bytes.len()
 }
 
-/// That part's bytes.
+/// The bytes of that part.
 fn part_at(bytes: &[u8], place: usize) -> &[u8]
-    requires told { place + 8 ≤ length bytes.now }
+    requires reported { place + 8 ≤ length bytes.now }
     requires inside { IsTrue (has_part bytes.now place) }
     ensures { result.now ≡ part_at bytes.entry.now place }
 {
@@ -181,7 +180,7 @@ fn part_at(bytes: &[u8], place: usize) -> &[u8]
     &bytes[start..part_end(bytes, place)]
 }
 
-/// Where the part that an offset and a size at a place tell ends. It may be outside the record.
+/// The end of the part whose offset and size are at `place`. It may be outside the record.
 fn part_end(bytes: &[u8], place: usize) -> usize
     requires { place + 8 ≤ length bytes.now }
     ensures { result ≡ part_end bytes.now place }

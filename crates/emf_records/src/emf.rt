@@ -1,8 +1,8 @@
-//! The records of EMF: how they are framed, and what each means.
+//! The records of EMF: their framing, and what each means.
 
 ghost use Rattle.std.specs.Prelude.{◌≡◌};
 ghost use Rattle.draw_ops.specs.PrefixLaws.{HoldsItsFields};
-ghost use Rattle.draw_ops.specs.RecordOf.{meant_of};
+ghost use Rattle.draw_ops.specs.RecordOf.{decoded_of};
 ghost use Rattle.draw_ops.specs.Results.{result_map};
 ghost use Rattle.emf_records.specs.Emf.{emf_meaning, emf_record, header_record};
 ghost use Rattle.emf_records.specs.Framing.{emf_framing};
@@ -23,10 +23,10 @@ use crate::state_records::{
 };
 use crate::transform_records::{modify_world_transform, set_world_transform};
 use crate::types::{EMR_EOF, EMR_HEADER};
-use draw_ops::{Format, Meant, Note, Object, Op, RawRecord, RecordFault, RecordOps};
+use draw_ops::{Decoded, Format, Note, Object, Op, RawRecord, RecordFault, RecordOps};
 use point_views::{NumberWidth, u32_at};
 
-/// The bytes of a record's head: the type, and the size in bytes.
+/// The number of bytes in a record's head: the type, and the size in bytes.
 const HEAD_LENGTH: usize = 8;
 
 /// The records of EMF.
@@ -62,20 +62,20 @@ impl Format for Emf {
     }
 
     #[inline(never)]
-    fn read(number: u32, front: RawRecord<'_>) -> Result<Meant<'_>, RecordFault> {
-        match entry_of(front.kind) {
-            Some(entry) => record(entry, number, front.kind, front.bytes),
-            None => Err(RecordFault::UnknownRecord(front.kind)),
+    fn read(number: u32, leading: RawRecord<'_>) -> Result<Decoded<'_>, RecordFault> {
+        match entry_of(leading.kind) {
+            Some(entry) => record(entry, number, leading.kind, leading.bytes),
+            None => Err(RecordFault::UnknownRecord(leading.kind)),
         }
     }
 }
 
-/// EMR_HEADER (2.3.4.2): without effect as the first record, and not played behind it.
-fn header<'a>(number: u32) -> Result<Meant<'a>, RecordFault>
-    ensures value { header_record number ≡ result_map meant_of result }
+/// EMR_HEADER (2.3.4.2): no effect as the first record, and not supported after it.
+fn header<'a>(number: u32) -> Result<Decoded<'a>, RecordFault>
+    ensures value { header_record number ≡ result_map decoded_of result }
 {
     if number == 0 {
-        Ok(Meant::unnoted(Op::NoEffect))
+        Ok(Decoded::unnoted(Op::NoEffect))
     } else {
         Err(RecordFault::Unsupported(EMR_HEADER))
     }
@@ -88,8 +88,8 @@ fn record(
     number: u32,
     record_type: u32,
     bytes: &[u8],
-) -> Result<Meant<'_>, RecordFault>
-    ensures value { emf_record entry number record_type bytes.entry.now ≡ result_map meant_of result }
+) -> Result<Decoded<'_>, RecordFault>
+    ensures value { emf_record entry number record_type bytes.entry.now ≡ result_map decoded_of result }
 {
     match entry {
         EmfEntry::BitBlt => bit_blt(bytes),
@@ -100,7 +100,7 @@ fn record(
         EmfEntry::ExtSelectClipRgn => ext_select_clip_rgn(bytes),
         EmfEntry::Comment => comment(bytes),
         EmfEntry::Header => header(number),
-        EmfEntry::Eof => Ok(Meant::unnoted(Op::NoEffect)),
+        EmfEntry::Eof => Ok(Decoded::unnoted(Op::NoEffect)),
         EmfEntry::Polygon => polygon(NumberWidth::Long, bytes),
         EmfEntry::Polyline => polyline(NumberWidth::Long, bytes),
         EmfEntry::PolylineTo => polyline_to(NumberWidth::Long, bytes),
@@ -109,9 +109,9 @@ fn record(
         EmfEntry::SetPixelV => set_pixel_v(bytes),
         EmfEntry::Rectangle => rectangle(bytes),
         EmfEntry::LineTo => line_to(bytes),
-        EmfEntry::FillPath => Ok(Meant::unnoted(Op::FillPath)),
-        EmfEntry::StrokeAndFillPath => Ok(Meant::unnoted(Op::StrokeAndFillPath)),
-        EmfEntry::StrokePath => Ok(Meant::unnoted(Op::StrokePath)),
+        EmfEntry::FillPath => Ok(Decoded::unnoted(Op::FillPath)),
+        EmfEntry::StrokeAndFillPath => Ok(Decoded::unnoted(Op::StrokeAndFillPath)),
+        EmfEntry::StrokePath => Ok(Decoded::unnoted(Op::StrokePath)),
         EmfEntry::Polygon16 => polygon(NumberWidth::Short, bytes),
         EmfEntry::Polyline16 => polyline(NumberWidth::Short, bytes),
         EmfEntry::PolylineTo16 => polyline_to(NumberWidth::Short, bytes),
@@ -126,10 +126,10 @@ fn record(
         EmfEntry::CreatePalette => create(Object::Palette, bytes),
         EmfEntry::ExtCreateFontIndirectW => create(Object::Font, bytes),
         EmfEntry::ExtCreatePen => ext_create_pen(bytes),
-        EmfEntry::BeginPath => Ok(Meant::unnoted(Op::BeginPath)),
-        EmfEntry::EndPath => Ok(Meant::unnoted(Op::EndPath)),
-        EmfEntry::CloseFigure => Ok(Meant::unnoted(Op::CloseFigure)),
-        EmfEntry::AbortPath => Ok(Meant::unnoted(Op::AbortPath)),
+        EmfEntry::BeginPath => Ok(Decoded::unnoted(Op::BeginPath)),
+        EmfEntry::EndPath => Ok(Decoded::unnoted(Op::EndPath)),
+        EmfEntry::CloseFigure => Ok(Decoded::unnoted(Op::CloseFigure)),
+        EmfEntry::AbortPath => Ok(Decoded::unnoted(Op::AbortPath)),
         EmfEntry::SetWindowExtEx => set_window_ext_ex(bytes),
         EmfEntry::SetWindowOrgEx => set_window_org_ex(bytes),
         EmfEntry::SetViewportExtEx => set_viewport_ext_ex(bytes),
@@ -140,17 +140,18 @@ fn record(
         EmfEntry::SetRop2 => set_rop2(bytes),
         EmfEntry::SetBkColor => set_bk_color(bytes),
         EmfEntry::MoveToEx => move_to_ex(bytes),
-        EmfEntry::SaveDc => Ok(Meant::unnoted(Op::Save)),
+        EmfEntry::SaveDc => Ok(Decoded::unnoted(Op::Save)),
         EmfEntry::RestoreDc => restore_dc(bytes),
         EmfEntry::SetLayout => set_layout(bytes),
         EmfEntry::SetWorldTransform => set_world_transform(bytes),
         EmfEntry::ModifyWorldTransform => modify_world_transform(bytes),
-        EmfEntry::Skipped => Ok(Meant::noting(Note::Skipped, Op::NoEffect)),
-        EmfEntry::Refused => Err(RecordFault::Unsupported(record_type)),
+        EmfEntry::Skipped => Ok(Decoded::noting(Note::Skipped, Op::NoEffect)),
+        EmfEntry::Rejected => Err(RecordFault::Unsupported(record_type)),
     }
 }
 
-/// The head of a record holds its size and its type: so bytes that spell records spell none where they are cut short (`prefix_law`).
+/// A law: the head of a record contains its size and its type. So bytes that spell records spell none if they are cut
+/// short (`prefix_law`).
 pub fn framing_law()
     ensures { HoldsItsFields emf_framing }
 {}

@@ -1,4 +1,4 @@
-//! What is done with each record, by its type.
+//! How each record is treated, by its type.
 
 ghost use Rattle.std.specs.Prelude.{◌≡◌, [], ◌∷◌, length, true};
 ghost use Rattle.draw_ops.specs.KindTable.{is_each_once, unlisted_below};
@@ -6,7 +6,7 @@ ghost use Rattle.emf_records.specs.Kinds.{emf_entry_of, emf_types};
 
 use crate::types::*;
 
-/// A record that is played, by its name in the standard, or what is done with the others.
+/// A supported record, by its name in the standard, or how other records are treated.
 #[derive(Clone, Copy, Debug, PartialEq, Eq)]
 pub(crate) enum EmfEntry {
     BitBlt,
@@ -62,13 +62,13 @@ pub(crate) enum EmfEntry {
     SetLayout,
     SetWorldTransform,
     ModifyWorldTransform,
-    /// It is without effect, and noted.
+    /// It has no effect, and adds a note.
     Skipped,
-    /// It is not played.
-    Refused,
+    /// It isn't supported.
+    Rejected,
 }
 
-/// What is done with a record of this type: none exactly where the standard has no such type.
+/// How a record with this type is treated. `None` exactly if the standard has no such type.
 pub(crate) fn entry_of(record_type: u32) -> Option<EmfEntry>
     ensures { result ≡ emf_entry_of record_type }
 {
@@ -144,60 +144,60 @@ pub(crate) fn entry_of(record_type: u32) -> Option<EmfEntry>
         EMR_NAMEDESCAPE => Some(EmfEntry::Skipped),
         EMR_SETLINKEDUFIS => Some(EmfEntry::Skipped),
         EMR_SETTEXTJUSTIFICATION => Some(EmfEntry::Skipped),
-        EMR_POLYBEZIER => Some(EmfEntry::Refused),
-        EMR_POLYBEZIERTO => Some(EmfEntry::Refused),
-        EMR_OFFSETCLIPRGN => Some(EmfEntry::Refused),
-        EMR_SETMETARGN => Some(EmfEntry::Refused),
-        EMR_SCALEVIEWPORTEXTEX => Some(EmfEntry::Refused),
-        EMR_SCALEWINDOWEXTEX => Some(EmfEntry::Refused),
-        EMR_ANGLEARC => Some(EmfEntry::Refused),
-        EMR_ELLIPSE => Some(EmfEntry::Refused),
-        EMR_ROUNDRECT => Some(EmfEntry::Refused),
-        EMR_ARC => Some(EmfEntry::Refused),
-        EMR_CHORD => Some(EmfEntry::Refused),
-        EMR_PIE => Some(EmfEntry::Refused),
-        EMR_EXTFLOODFILL => Some(EmfEntry::Refused),
-        EMR_ARCTO => Some(EmfEntry::Refused),
-        EMR_POLYDRAW => Some(EmfEntry::Refused),
-        EMR_FLATTENPATH => Some(EmfEntry::Refused),
-        EMR_WIDENPATH => Some(EmfEntry::Refused),
-        EMR_SELECTCLIPPATH => Some(EmfEntry::Refused),
-        EMR_FILLRGN => Some(EmfEntry::Refused),
-        EMR_FRAMERGN => Some(EmfEntry::Refused),
-        EMR_INVERTRGN => Some(EmfEntry::Refused),
-        EMR_PAINTRGN => Some(EmfEntry::Refused),
-        EMR_MASKBLT => Some(EmfEntry::Refused),
-        EMR_PLGBLT => Some(EmfEntry::Refused),
-        EMR_SETDIBITSTODEVICE => Some(EmfEntry::Refused),
-        EMR_EXTTEXTOUTA => Some(EmfEntry::Refused),
-        EMR_EXTTEXTOUTW => Some(EmfEntry::Refused),
-        EMR_POLYBEZIER16 => Some(EmfEntry::Refused),
-        EMR_POLYBEZIERTO16 => Some(EmfEntry::Refused),
-        EMR_POLYDRAW16 => Some(EmfEntry::Refused),
-        EMR_CREATEMONOBRUSH => Some(EmfEntry::Refused),
-        EMR_POLYTEXTOUTA => Some(EmfEntry::Refused),
-        EMR_POLYTEXTOUTW => Some(EmfEntry::Refused),
-        EMR_CREATECOLORSPACE => Some(EmfEntry::Refused),
-        EMR_SETCOLORSPACE => Some(EmfEntry::Refused),
-        EMR_DELETECOLORSPACE => Some(EmfEntry::Refused),
-        EMR_GLSRECORD => Some(EmfEntry::Refused),
-        EMR_GLSBOUNDEDRECORD => Some(EmfEntry::Refused),
-        EMR_PIXELFORMAT => Some(EmfEntry::Refused),
-        EMR_SMALLTEXTOUT => Some(EmfEntry::Refused),
-        EMR_COLORCORRECTPALETTE => Some(EmfEntry::Refused),
-        EMR_SETICMPROFILEA => Some(EmfEntry::Refused),
-        EMR_SETICMPROFILEW => Some(EmfEntry::Refused),
-        EMR_ALPHABLEND => Some(EmfEntry::Refused),
-        EMR_TRANSPARENTBLT => Some(EmfEntry::Refused),
-        EMR_GRADIENTFILL => Some(EmfEntry::Refused),
-        EMR_COLORMATCHTOTARGETW => Some(EmfEntry::Refused),
-        EMR_CREATECOLORSPACEW => Some(EmfEntry::Refused),
+        EMR_POLYBEZIER => Some(EmfEntry::Rejected),
+        EMR_POLYBEZIERTO => Some(EmfEntry::Rejected),
+        EMR_OFFSETCLIPRGN => Some(EmfEntry::Rejected),
+        EMR_SETMETARGN => Some(EmfEntry::Rejected),
+        EMR_SCALEVIEWPORTEXTEX => Some(EmfEntry::Rejected),
+        EMR_SCALEWINDOWEXTEX => Some(EmfEntry::Rejected),
+        EMR_ANGLEARC => Some(EmfEntry::Rejected),
+        EMR_ELLIPSE => Some(EmfEntry::Rejected),
+        EMR_ROUNDRECT => Some(EmfEntry::Rejected),
+        EMR_ARC => Some(EmfEntry::Rejected),
+        EMR_CHORD => Some(EmfEntry::Rejected),
+        EMR_PIE => Some(EmfEntry::Rejected),
+        EMR_EXTFLOODFILL => Some(EmfEntry::Rejected),
+        EMR_ARCTO => Some(EmfEntry::Rejected),
+        EMR_POLYDRAW => Some(EmfEntry::Rejected),
+        EMR_FLATTENPATH => Some(EmfEntry::Rejected),
+        EMR_WIDENPATH => Some(EmfEntry::Rejected),
+        EMR_SELECTCLIPPATH => Some(EmfEntry::Rejected),
+        EMR_FILLRGN => Some(EmfEntry::Rejected),
+        EMR_FRAMERGN => Some(EmfEntry::Rejected),
+        EMR_INVERTRGN => Some(EmfEntry::Rejected),
+        EMR_PAINTRGN => Some(EmfEntry::Rejected),
+        EMR_MASKBLT => Some(EmfEntry::Rejected),
+        EMR_PLGBLT => Some(EmfEntry::Rejected),
+        EMR_SETDIBITSTODEVICE => Some(EmfEntry::Rejected),
+        EMR_EXTTEXTOUTA => Some(EmfEntry::Rejected),
+        EMR_EXTTEXTOUTW => Some(EmfEntry::Rejected),
+        EMR_POLYBEZIER16 => Some(EmfEntry::Rejected),
+        EMR_POLYBEZIERTO16 => Some(EmfEntry::Rejected),
+        EMR_POLYDRAW16 => Some(EmfEntry::Rejected),
+        EMR_CREATEMONOBRUSH => Some(EmfEntry::Rejected),
+        EMR_POLYTEXTOUTA => Some(EmfEntry::Rejected),
+        EMR_POLYTEXTOUTW => Some(EmfEntry::Rejected),
+        EMR_CREATECOLORSPACE => Some(EmfEntry::Rejected),
+        EMR_SETCOLORSPACE => Some(EmfEntry::Rejected),
+        EMR_DELETECOLORSPACE => Some(EmfEntry::Rejected),
+        EMR_GLSRECORD => Some(EmfEntry::Rejected),
+        EMR_GLSBOUNDEDRECORD => Some(EmfEntry::Rejected),
+        EMR_PIXELFORMAT => Some(EmfEntry::Rejected),
+        EMR_SMALLTEXTOUT => Some(EmfEntry::Rejected),
+        EMR_COLORCORRECTPALETTE => Some(EmfEntry::Rejected),
+        EMR_SETICMPROFILEA => Some(EmfEntry::Rejected),
+        EMR_SETICMPROFILEW => Some(EmfEntry::Rejected),
+        EMR_ALPHABLEND => Some(EmfEntry::Rejected),
+        EMR_TRANSPARENTBLT => Some(EmfEntry::Rejected),
+        EMR_GRADIENTFILL => Some(EmfEntry::Rejected),
+        EMR_COLORMATCHTOTARGETW => Some(EmfEntry::Rejected),
+        EMR_CREATECOLORSPACEW => Some(EmfEntry::Rejected),
         _ => None,
     }
 }
 
-/// No type stands twice in the table of kinds, which has 119 of them, and of those below 123 four alone stand
-/// in none of its rows: so these are all types from 1 to 122 but three.
+/// A law: no type occurs twice in the table of kinds, which has 119 of them, and only four numbers below 123 have no
+/// row. So the types are 1 to 122 except three.
 pub fn kinds_law()
     ensures each_once { is_each_once emf_types ≡ true }
     ensures whole { length emf_types ≡ 119 }

@@ -2,16 +2,16 @@
 //!
 //! # What is promised
 //!
-//! - Over any bytes a source gives what their records mean, in order, and then none or their first fault
+//! - Over any bytes, a source returns what their records mean, in order, and then either nothing or their first fault
 //!   (`EmfOps::new` and `next_op`, by `IsContent` of `emf_framing` and `emf_meaning`).
 //! - Each record means one operation with its notes, or its first fault (`Emf`, by `emf_record`).
-//! - The head of a record holds its size and its type (`framing_law`).
-//! - What is done with a type is said once, and the types that the standard lacks are those that no row
-//!   has (`kinds_law`).
-//! - A bitmap is two parts of its record, neither of which goes past the record's end, whatever offsets and
-//!   sizes are given. A blit whose bitmap has no header has none, and nothing else of one is looked at (by
-//!   `bit_blt` and its like).
-//! - No call is handed an allocator: points, counts, lists and bitmaps are parts of the file.
+//! - The head of a record contains its size and its type (`framing_law`).
+//! - Each type occurs only once in the table that says how records are treated, and the types that the standard lacks
+//!   are those without a row (`kinds_law`).
+//! - A bitmap is two parts of its record, and neither extends beyond the record's end, whatever the offsets and sizes
+//!   are. A blit whose bitmap has no header has no bitmap, and the bitmap's other fields are ignored (by `bit_blt` and
+//!   similar definitions).
+//! - No call gets an allocator: points, counts, lists and bitmaps are parts of the file.
 #![tactic(auto)]
 
 mod bitmap_records;

@@ -3,26 +3,26 @@
 ghost use Rattle.std.specs.Prelude.{◌≡◌, ◌≤◌, length};
 ghost use Rattle.draw_ops.specs.Objects.{object_value_of};
 ghost use Rattle.draw_ops.specs.Operation.{delete, select, select_palette};
-ghost use Rattle.draw_ops.specs.RecordOf.{meant_of};
+ghost use Rattle.draw_ops.specs.RecordOf.{decoded_of};
 ghost use Rattle.draw_ops.specs.Results.{result_map};
 ghost use Rattle.emf_records.specs.ObjectFields.{logpen_end, logpenex_end};
-ghost use Rattle.emf_records.specs.ObjectRecords.{create_brush_indirect, create_pen, create_record, ext_create_pen, ext_pen_meant, index_in, index_record, log_pen_ex_in, log_pen_in};
+ghost use Rattle.emf_records.specs.ObjectRecords.{create_brush_indirect, create_pen, create_record, ext_create_pen, ext_pen_decoded, index_in, index_record, log_pen_ex_in, log_pen_in};
 
 use crate::types::EMR_EXTCREATEPEN;
 use draw_ops::{
-    Handle, Meant, Object, Op, Pen, PenFields, RecordFault, brush_meant, pen_meant, rgb_at,
+    Decoded, Handle, Object, Op, Pen, PenFields, RecordFault, brush_meant, pen_meant, rgb_at,
 };
 use mapping::Colour;
 use point_views::{i32_at, u32_at};
 
-// Where the fields stand, in bytes from a record's front, and where what a record needs ends.
+// The offsets of the fields in bytes from the start of a record, and the number of bytes that a record needs.
 
 /// ihObject, ihPal, ihFonts, ihPen or ihBrush.
 const OBJECT_INDEX: usize = 8;
 
 const INDEX_END: usize = 12;
 
-// EMR_CREATEPEN (2.3.7.7): its LogPen (2.2.19) is PenStyle, Width, a point of which y isn't read, and ColorRef.
+// EMR_CREATEPEN (2.3.7.7): its LogPen (2.2.19) is PenStyle, Width, which is a point whose y is ignored, and ColorRef.
 const LOGPEN_STYLE: usize = 12;
 
 const LOGPEN_WIDTH: usize = 16;
@@ -40,8 +40,8 @@ const LOGBRUSH_HATCH: usize = 20;
 
 const LOGBRUSH_END: usize = 24;
 
-// EMR_EXTCREATEPEN (2.3.7.9): behind offBmi, cbBmi, offBits and cbBits its LogPenEx (2.2.20) is PenStyle, Width, BrushStyle, ColorRef,
-// BrushHatch and NumStyleEntries.
+// EMR_EXTCREATEPEN (2.3.7.9): offBmi, cbBmi, offBits and cbBits, then its LogPenEx (2.2.20), which is PenStyle, Width,
+// BrushStyle, ColorRef, BrushHatch and NumStyleEntries.
 const LOGPENEX_STYLE: usize = 28;
 
 const LOGPENEX_WIDTH: usize = 32;
@@ -52,30 +52,30 @@ const LOGPENEX_COLOR: usize = 40;
 
 const LOGPENEX_END: usize = 52;
 
-// The styles of the brush that an extended pen draws with ([MS-WMF] 2.1.1.4).
+// The styles of the brush for the lines of an extended pen ([MS-WMF] 2.1.1.4).
 const BS_SOLID: u32 = 0;
 
 const BS_NULL: u32 = 1;
 
 /// EMR_SELECTOBJECT: ihObject.
-pub(crate) fn select_object(bytes: &[u8]) -> Result<Meant<'_>, RecordFault>
-    ensures value { index_record select bytes.entry.now ≡ result_map meant_of result }
+pub(crate) fn select_object(bytes: &[u8]) -> Result<Decoded<'_>, RecordFault>
+    ensures value { index_record select bytes.entry.now ≡ result_map decoded_of result }
 {
-    Ok(Meant::unnoted(Op::Select(index(bytes)?)))
+    Ok(Decoded::unnoted(Op::Select(index(bytes)?)))
 }
 
 /// EMR_DELETEOBJECT: ihObject.
-pub(crate) fn delete_object(bytes: &[u8]) -> Result<Meant<'_>, RecordFault>
-    ensures value { index_record delete bytes.entry.now ≡ result_map meant_of result }
+pub(crate) fn delete_object(bytes: &[u8]) -> Result<Decoded<'_>, RecordFault>
+    ensures value { index_record delete bytes.entry.now ≡ result_map decoded_of result }
 {
-    Ok(Meant::unnoted(Op::Delete(index(bytes)?)))
+    Ok(Decoded::unnoted(Op::Delete(index(bytes)?)))
 }
 
 /// EMR_SELECTPALETTE: ihPal.
-pub(crate) fn select_palette(bytes: &[u8]) -> Result<Meant<'_>, RecordFault>
-    ensures value { index_record select_palette bytes.entry.now ≡ result_map meant_of result }
+pub(crate) fn select_palette(bytes: &[u8]) -> Result<Decoded<'_>, RecordFault>
+    ensures value { index_record select_palette bytes.entry.now ≡ result_map decoded_of result }
 {
-    Ok(Meant::unnoted(Op::SelectPalette(index(bytes)?)))
+    Ok(Decoded::unnoted(Op::SelectPalette(index(bytes)?)))
 }
 
 /// The index of an object.
@@ -88,17 +88,17 @@ fn index(bytes: &[u8]) -> Result<Handle, RecordFault>
     Ok(Handle(u32_at(bytes, OBJECT_INDEX)))
 }
 
-/// EMR_CREATEPALETTE: ihPal, and EMR_EXTCREATEFONTINDIRECTW: ihFonts. Nothing else of them is read.
-pub(crate) fn create<'a>(object: Object<'a>, bytes: &'a [u8]) -> Result<Meant<'a>, RecordFault>
-    ensures value { create_record (object_value_of object.entry) bytes.entry.now ≡ result_map meant_of result }
+/// EMR_CREATEPALETTE: ihPal, and EMR_EXTCREATEFONTINDIRECTW: ihFonts. Their other fields are ignored.
+pub(crate) fn create<'a>(object: Object<'a>, bytes: &'a [u8]) -> Result<Decoded<'a>, RecordFault>
+    ensures value { create_record (object_value_of object.entry) bytes.entry.now ≡ result_map decoded_of result }
 {
     let at = Some(index(bytes)?);
-    Ok(Meant::unnoted(Op::Create { at, object }))
+    Ok(Decoded::unnoted(Op::Create { at, object }))
 }
 
 /// EMR_CREATEPEN: ihPen, LogPen.
-pub(crate) fn create_pen(bytes: &[u8]) -> Result<Meant<'_>, RecordFault>
-    ensures value { create_pen bytes.entry.now ≡ result_map meant_of result }
+pub(crate) fn create_pen(bytes: &[u8]) -> Result<Decoded<'_>, RecordFault>
+    ensures value { create_pen bytes.entry.now ≡ result_map decoded_of result }
 {
     if bytes.len() < LOGPEN_END {
         return Err(RecordFault::BadParams);
@@ -116,8 +116,8 @@ fn log_pen(bytes: &[u8]) -> Option<PenFields>
 }
 
 /// EMR_CREATEBRUSHINDIRECT: ihBrush, LogBrush.
-pub(crate) fn create_brush_indirect(bytes: &[u8]) -> Result<Meant<'_>, RecordFault>
-    ensures value { create_brush_indirect bytes.entry.now ≡ result_map meant_of result }
+pub(crate) fn create_brush_indirect(bytes: &[u8]) -> Result<Decoded<'_>, RecordFault>
+    ensures value { create_brush_indirect bytes.entry.now ≡ result_map decoded_of result }
 {
     if bytes.len() < LOGBRUSH_END {
         return Err(RecordFault::BadParams);
@@ -129,9 +129,9 @@ pub(crate) fn create_brush_indirect(bytes: &[u8]) -> Result<Meant<'_>, RecordFau
     brush_meant(at, style, colour, hatch)
 }
 
-/// EMR_EXTCREATEPEN: ihPen, offBmi, cbBmi, offBits, cbBits, elp. Bitmap, hatch and entries aren't read.
-pub(crate) fn ext_create_pen(bytes: &[u8]) -> Result<Meant<'_>, RecordFault>
-    ensures value { ext_create_pen bytes.entry.now ≡ result_map meant_of result }
+/// EMR_EXTCREATEPEN: ihPen, offBmi, cbBmi, offBits, cbBits, elp. Bitmap, hatch and entries are ignored.
+pub(crate) fn ext_create_pen(bytes: &[u8]) -> Result<Decoded<'_>, RecordFault>
+    ensures value { ext_create_pen bytes.entry.now ≡ result_map decoded_of result }
 {
     if bytes.len() < LOGPENEX_END {
         return Err(RecordFault::BadParams);
@@ -139,7 +139,7 @@ pub(crate) fn ext_create_pen(bytes: &[u8]) -> Result<Meant<'_>, RecordFault>
     let at = Handle(u32_at(bytes, OBJECT_INDEX));
     let brush_style = u32_at(bytes, LOGPENEX_BRUSH_STYLE);
     let colour = rgb_at(bytes, LOGPENEX_COLOR);
-    ext_pen_meant(at, log_pen_ex(bytes), brush_style, colour)
+    ext_pen_decoded(at, log_pen_ex(bytes), brush_style, colour)
 }
 
 /// The fields of the pen of EMR_EXTCREATEPEN.
@@ -150,14 +150,14 @@ fn log_pen_ex(bytes: &[u8]) -> Option<PenFields>
     PenFields::log_pen_ex(u32_at(bytes, LOGPENEX_STYLE), u32_at(bytes, LOGPENEX_WIDTH))
 }
 
-/// A pen of these fields, whose lines a brush of a style draws.
-fn ext_pen_meant<'a>(
+/// A pen with these fields, for whose lines a brush with this style is used.
+fn ext_pen_decoded<'a>(
     at: Handle,
     fields: Option<PenFields>,
     brush_style: u32,
     colour: Result<Colour, RecordFault>,
-) -> Result<Meant<'a>, RecordFault>
-    ensures value { ext_pen_meant at.0 fields brush_style colour ≡ result_map meant_of result }
+) -> Result<Decoded<'a>, RecordFault>
+    ensures value { ext_pen_decoded at.0 fields brush_style colour ≡ result_map decoded_of result }
 {
     let Some(fields) = fields else {
         return Err(RecordFault::BadValue);
@@ -169,7 +169,7 @@ fn ext_pen_meant<'a>(
     } else {
         return Err(RecordFault::Unsupported(EMR_EXTCREATEPEN));
     };
-    Ok(Meant {
+    Ok(Decoded {
         op: Op::Create {
             at: Some(at),
             object: Object::Pen(pen),

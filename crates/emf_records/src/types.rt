@@ -152,7 +152,7 @@ pub(crate) const EMR_SETLINKEDUFIS: u32 = 119;
 
 pub(crate) const EMR_SETTEXTJUSTIFICATION: u32 = 120;
 
-// Records that are not played.
+// Records that aren't supported.
 pub(crate) const EMR_POLYBEZIER: u32 = 2;
 
 pub(crate) const EMR_POLYBEZIERTO: u32 = 5;

@@ -1,7 +1,7 @@
 //! Opens a file and lists its records, one line per record, for people to read and for other programs to split.
 #![tactic(auto)]
 
-use listing::{Judge, write_listing};
+use listing::{DryRun, write_listing};
 use meta_headers::open_file;
 use std::{fs, io};
 
@@ -14,10 +14,10 @@ fn main(rt: HostRuntime) -> io::Result<()> {
         }
         Err(fault) => println!(rt; "held.wmf doesn't open: {fault}")?,
     }
-    let Ok(judge) = Judge::new(rt.alloc(), &file) else {
+    let Ok(dry_run) = DryRun::new(rt.alloc(), &file) else {
         return Err(io::ErrorKind::OutOfMemory.into());
     };
-    match write_listing(&file, judge, &mut rt.stdout()) {
+    match write_listing(&file, dry_run, &mut rt.stdout()) {
         Ok(_) => Ok(()),
         Err(_) => Err(io::ErrorKind::WriteZero.into()),
     }

@@ -6,13 +6,13 @@ use Rattle.std.proofs.lemmas.List.{append_assoc, append-nil, drop-drop, length-a
 use Rattle.std.proofs.Math.Seq.{drop-append_seam, take-append_seam}
 use Rattle.std.proofs.lemmas.List.Elements.{All-push}
 use Rattle.draw_ops.specs.Framed.{FramedByFunction}
-use Rattle.draw_ops.specs.Records.{Broken, Framing, IsSpelledOrBroken, Record, Spells, front_of, rest_of, size_of}
+use Rattle.draw_ops.specs.Records.{Broken, Framing, IsSpelledOrBroken, Record, Spells, leading_of, rest_of, size_of}
 use Rattle.draw_ops.specs.declared.record_fault.RecordFault.{RecordFault}
 use Rattle.meta_headers.specs.Formats.{format_of}
 use Rattle.meta_headers.specs.Opening.{framing_of, record_bytes}
 use Rattle.meta_headers.specs.declared.opened.FileFormat.{FileFormat}
 use Rattle.meta_headers.specs.declared.opened.FileFormat.TheVariants.{Placeable, Plain, Emf}
-use Rattle.listing.specs.FileRecords.{BreaksAt, HasRecord, bytes_of, place_behind}
+use Rattle.listing.specs.FileRecords.{BreaksAt, HasRecord, bytes_of, place_after}
 use Rattle.listing.specs.Formats.{first_place}
 use Rattle.listing.specs.Listing.{framed_records, listing_of}
 use Rattle.listing.specs.ListingLaws.{HasLine, IsOneLine, text_of_lines}
@@ -22,52 +22,52 @@ record BeginsWith (bytes : List ℕ) (records : List Record) : Type 0 where
   rest : List ℕ
   same : bytes ≡ bytes_of records ++ rest
 
-in_front_of : (f : Framing) (bytes : List ℕ) (r : Record) (rs : List Record) → r ≡ front_of f bytes → BeginsWith (rest_of f bytes) rs → BeginsWith bytes (r ∷ rs)
-in_front_of f bytes r rs front onward = record {
+ahead_of : (f : Framing) (bytes : List ℕ) (r : Record) (rs : List Record) → r ≡ leading_of f bytes → BeginsWith (rest_of f bytes) rs → BeginsWith bytes (r ∷ rs)
+ahead_of f bytes r rs leading onward = record {
   rest = onward.rest;
   same =
       sym (take-append-drop (size_of f bytes) bytes)
       ∙ ap (λ (more : List ℕ). take (size_of f bytes) bytes ++ more) onward.same
-      ∙ ap (λ (q : Record). q.bytes ++ (bytes_of rs ++ onward.rest)) (sym front)
+      ∙ ap (λ (q : Record). q.bytes ++ (bytes_of rs ++ onward.rest)) (sym leading)
       ∙ sym (append_assoc r.bytes (bytes_of rs) onward.rest);
 }
 
-spelled : (f : Framing) (number : ℕ) (bytes : List ℕ) (rs : List Record) (behind : List ℕ) → Spells f number bytes rs behind → BeginsWith bytes rs
-spelled f number bytes [] behind h = absurd h
-spelled f number bytes (r ∷ []) behind h = in_front_of f bytes r [] h.front (record { rest = rest_of f bytes; same = refl })
-spelled f number bytes (r ∷ s ∷ rs) behind h = in_front_of f bytes r (s ∷ rs) h.front (spelled f (suc number) (rest_of f bytes) (s ∷ rs) behind h.onward)
+spelled : (f : Framing) (number : ℕ) (bytes : List ℕ) (rs : List Record) (after : List ℕ) → Spells f number bytes rs after → BeginsWith bytes rs
+spelled f number bytes [] after h = absurd h
+spelled f number bytes (r ∷ []) after h = ahead_of f bytes r [] h.leading (record { rest = rest_of f bytes; same = refl })
+spelled f number bytes (r ∷ s ∷ rs) after h = ahead_of f bytes r (s ∷ rs) h.leading (spelled f (suc number) (rest_of f bytes) (s ∷ rs) after h.onward)
 
 broken : (f : Framing) (number : ℕ) (bytes : List ℕ) (rs : List Record) (fault : RecordFault) → Broken f number bytes rs fault → BeginsWith bytes rs
 broken f number bytes [] fault h = record { rest = bytes; same = refl }
-broken f number bytes (r ∷ rs) fault h = in_front_of f bytes r rs h.front (broken f (suc number) (rest_of f bytes) rs fault h.onward)
+broken f number bytes (r ∷ rs) fault h = ahead_of f bytes r rs h.leading (broken f (suc number) (rest_of f bytes) rs fault h.onward)
 
-by_fault : (f : Framing) (bytes : List ℕ) (rs : List Record) (fault : Option RecordFault) (behind : List ℕ) → IsSpelledOrBroken f 0 bytes rs fault behind → BeginsWith bytes rs
-by_fault f bytes rs None behind h = spelled f 0 bytes rs behind h
-by_fault f bytes rs (Some fault) behind h = broken f 0 bytes rs fault h.broken
+by_fault : (f : Framing) (bytes : List ℕ) (rs : List Record) (fault : Option RecordFault) (after : List ℕ) → IsSpelledOrBroken f 0 bytes rs fault after → BeginsWith bytes rs
+by_fault f bytes rs None after h = spelled f 0 bytes rs after h
+by_fault f bytes rs (Some fault) after h = broken f 0 bytes rs fault h.broken
 
 -- they stand behind the headers
-behind_headers : (format : FileFormat) (file : List ℕ) → record_bytes format file ≡ drop (first_place format) file
-behind_headers Placeable file = refl
-behind_headers Plain file = refl
-behind_headers Emf file = refl
+after_headers : (format : FileFormat) (file : List ℕ) → record_bytes format file ≡ drop (first_place format) file
+after_headers Placeable file = refl
+after_headers Plain file = refl
+after_headers Emf file = refl
 
 -- so a record's bytes lie behind those before it
-there : (by_function : FramedByFunction) (file : List ℕ) (format : FileFormat) (before : List Record) (r : Record) (behind : List Record) → (framed_records format file).records ≡ before ++ r ∷ behind → take (length r.bytes) (drop (place_behind format before) file) ≡ r.bytes
-there by_function file format before r behind among =
+there : (by_function : FramedByFunction) (file : List ℕ) (format : FileFormat) (before : List Record) (r : Record) (after : List Record) → (framed_records format file).records ≡ before ++ r ∷ after → take (length r.bytes) (drop (place_after format before) file) ≡ r.bytes
+there by_function file format before r after among =
     let f = framing_of format in
     let bytes = record_bytes format file in
     let framed = framed_records format file in
-    let all : BeginsWith bytes framed.records = by_fault f bytes framed.records framed.fault framed.behind (by_function f bytes) in
-    let more = bytes_of behind ++ all.rest in
+    let all : BeginsWith bytes framed.records = by_fault f bytes framed.records framed.fault framed.after (by_function f bytes) in
+    let more = bytes_of after ++ all.rest in
     let parted : bytes ≡ bytes_of before ++ (r.bytes ++ more) =
     all.same
     ∙ ap (λ (rs : List Record). bytes_of rs ++ all.rest) among
-    ∙ ap (λ (text : List ℕ). text ++ all.rest) (flat_map-append (λ (q : Record). q.bytes) before (r ∷ behind))
-    ∙ append_assoc (bytes_of before) (r.bytes ++ bytes_of behind) all.rest
-    ∙ ap (λ (text : List ℕ). bytes_of before ++ text) (append_assoc r.bytes (bytes_of behind) all.rest) in
-    let at_place : drop (place_behind format before) file ≡ r.bytes ++ more =
+    ∙ ap (λ (text : List ℕ). text ++ all.rest) (flat_map-append (λ (q : Record). q.bytes) before (r ∷ after))
+    ∙ append_assoc (bytes_of before) (r.bytes ++ bytes_of after) all.rest
+    ∙ ap (λ (text : List ℕ). bytes_of before ++ text) (append_assoc r.bytes (bytes_of after) all.rest) in
+    let at_place : drop (place_after format before) file ≡ r.bytes ++ more =
     sym (drop-drop (length (bytes_of before)) (first_place format) file)
-    ∙ ap (λ (text : List ℕ). drop (length (bytes_of before)) text) (sym (behind_headers format file) ∙ parted)
+    ∙ ap (λ (text : List ℕ). drop (length (bytes_of before)) text) (sym (after_headers format file) ∙ parted)
     ∙ drop-append_seam (bytes_of before) (r.bytes ++ more) in
     ap (λ (text : List ℕ). take (length r.bytes) text) at_place ∙ take-append_seam r.bytes more
 
@@ -77,10 +77,10 @@ pub record IsReached (file : List ℕ) (format : FileFormat) (number place : ℕ
   pub of_format : format_of file ≡ Some format
   pub lines : List (List ℕ)
   pub earlier : List Record
-  pub told : length lines ≡ number
+  pub reported : length lines ≡ number
   pub plain : All IsOneLine lines
   pub counted : length earlier ≡ number
-  pub begins : place ≡ place_behind format earlier
+  pub begins : place ≡ place_after format earlier
   pub among : (framed_records format file).records ≡ earlier ++ rs
   pub ends : (framed_records format file).fault ≡ ending
   pub text : listing_of file ≡ text_of_lines lines ++ left
@@ -90,7 +90,7 @@ pub own_record : (by_function : FramedByFunction) {file left : List ℕ} {format
 own_record by_function {file = file} {format = format} {r = r} {rs = rs} reached = record {
   of_format = reached.of_format;
   before = reached.earlier;
-  behind = rs;
+  after = rs;
   framed = reached.among;
   count = reached.counted;
   begins = reached.begins;
@@ -107,16 +107,16 @@ own_break {format = format} reached =
       of_format = reached.of_format;
       broken = reached.ends;
       count = ap (λ (rs : List Record). length rs) all ∙ reached.counted;
-      begins = reached.begins ∙ ap (place_behind format) (sym all);
+      begins = reached.begins ∙ ap (place_after format) (sym all);
     }
 
 -- the line in front of the text that is left, and the last one
 pub line_here : {file : List ℕ} {format : FileFormat} {number place : ℕ} {rs : List Record} {ending : Option RecordFault} (line rest there : List ℕ) (other : ℕ) → IsReached file format number place rs ending (line ++ rest) → number ≡ other → line ≡ there → HasLine (listing_of file) other there
 line_here line rest there other reached count same = record {
   before = reached.lines;
-  count = reached.told ∙ count;
+  count = reached.reported ∙ count;
   plain = reached.plain;
-  behind = rest;
+  after = rest;
   here =
       reached.text ∙ ap (λ (l : List ℕ). text_of_lines reached.lines ++ (l ++ rest)) same
       ∙ sym (append_assoc (text_of_lines reached.lines) there rest);
@@ -125,9 +125,9 @@ line_here line rest there other reached count same = record {
 pub line_last : {file : List ℕ} {format : FileFormat} {number place : ℕ} {rs : List Record} {ending : Option RecordFault} (line there : List ℕ) (other : ℕ) → IsReached file format number place rs ending line → number ≡ other → line ≡ there → HasLine (listing_of file) other there
 line_last line there other reached count same = record {
   before = reached.lines;
-  count = reached.told ∙ count;
+  count = reached.reported ∙ count;
   plain = reached.plain;
-  behind = [];
+  after = [];
   here =
       reached.text ∙ ap (λ (l : List ℕ). text_of_lines reached.lines ++ l) same
       ∙ sym (append-nil (text_of_lines reached.lines ++ there));
@@ -149,14 +149,14 @@ reached_next {format = format} {number = number} {place = place} {r = r} {rs = r
     ap (λ (bytes : List ℕ). length bytes) (flat_map-append (λ (q : Record). q.bytes) reached.earlier (r ∷ []))
     ∙ length-append (bytes_of reached.earlier) (bytes_of (r ∷ []))
     ∙ ap (λ (bytes : List ℕ). length (bytes_of reached.earlier) + length bytes) (append-nil r.bytes) in
-    let told = reached.told in
+    let reported = reached.reported in
     let begins = reached.begins in
     let counted = reached.counted in
     record {
       of_format = reached.of_format;
       lines = reached.lines ++ line ∷ [];
       earlier = reached.earlier ++ r ∷ [];
-      told = omega (arith, lines_sum, told);
+      reported = omega (arith, lines_sum, reported);
       plain = All-push IsOneLine reached.lines line reached.plain plain;
       counted = omega (arith, records_sum, counted);
       begins = omega (arith, begins, bytes_sum);

@@ -17,7 +17,7 @@ use Rattle.dc_stack.specs.FaultLaws.{FaultLaws}
 use Rattle.dc_stack.specs.OperationFault.{all_land_within, fault_of, nib_fault, place_fault, plain_fault, plane_points, wide_fault}
 use Rattle.dc_stack.specs.Path.{Path, no_path}
 use Rattle.dc_stack.specs.State.{DcValue, State}
-use Rattle.listing.specs.Judging.{without_pen}
+use Rattle.listing.specs.DryRunState.{without_pen}
 
 -- a state by its parts
 abbrev state_of : DcValue → Slots → TableKind → List DcValue → Path → State
@@ -75,10 +75,10 @@ nib_fault_is None s = refl
 nib_fault_is (Some drawing) s = refl
 
 -- where a fault is left without a nib, the one that is met with it comes before any of places, and is met everywhere
-refused_by : (plain nib there : Option RecordFault) (lands : Bool) (g : RecordFault) → option_or plain (placed_by lands nib) ≡ Some NibTooWide → option_or plain (placed_by lands None) ≡ Some g → option_or plain there ≡ Some NibTooWide
-refused_by (Some f) nib there lands g h e = h
-refused_by None nib there true g h e = cc
-refused_by None nib there false g h e = cc
+rejected_by : (plain nib there : Option RecordFault) (lands : Bool) (g : RecordFault) → option_or plain (placed_by lands nib) ≡ Some NibTooWide → option_or plain (placed_by lands None) ≡ Some g → option_or plain there ≡ Some NibTooWide
+rejected_by (Some f) nib there lands g h e = h
+rejected_by None nib there true g h e = cc
+rejected_by None nib there false g h e = cc
 
 -- and where it is met by the nib alone, points decide on a larger surface
 played_by : (plain nib : Option RecordFault) (lands there narrow : Bool) → option_or plain (placed_by lands nib) ≡ Some NibTooWide → option_or plain (placed_by lands None) ≡ None → (option_or plain (placed_by there (wide_unless narrow)) ≡ Some NibTooWide) ⊎ (option_or plain (placed_by there (wide_unless narrow)) ≡ Some OffPlane) → option_or plain (placed_by there (wide_unless narrow)) ≡ Some (if there then NibTooWide else OffPlane)
@@ -110,19 +110,19 @@ module _ (laws : FaultLaws) (nibs : NibLaws) (operation : Operation) (state : St
   plain_alone none = ap (option_or (plain_fault operation state)) (sym (none s)) ∙ wide
 
   -- so refused without a pen it has too wide a nib on a larger surface
-  refused_bare : (g : RecordFault) → fault_of operation (without_pen state) s ≡ Some g → fault_of operation state largest ≡ Some NibTooWide
-  refused_bare g refused = by_plain (bare operation state).plain
+  rejected_bare : (g : RecordFault) → fault_of operation (without_pen state) s ≡ Some g → fault_of operation state largest ≡ Some NibTooWide
+  rejected_bare g rejected = by_plain (bare operation state).plain
     where
       by_plain : (plain_fault operation (without_pen state) ≡ plain_fault operation state) ⊎ ((there : Surface) → place_fault operation state there ≡ None) → fault_of operation state largest ≡ Some NibTooWide
       by_plain (inl same) =
-          refused_by (plain_fault operation state) (nib_fault (drawing_of operation state) s) (place_fault operation state largest) (lands_on s) g wide
-          (sym (bare_fault same) ∙ refused)
+          rejected_by (plain_fault operation state) (nib_fault (drawing_of operation state) s) (place_fault operation state largest) (lands_on s) g wide
+          (sym (bare_fault same) ∙ rejected)
       by_plain (inr none) = ap (option_or (plain_fault operation state)) (none largest) ∙ plain_alone none
 
   -- the same by the fault of the machine
-  pub refused_there : (found : Option RecordFault) (fault : Fault) → fault_of operation (without_pen state) s ≡ found → option_map Record found ≡ Some fault → fault_of operation state largest ≡ Some NibTooWide
-  refused_there None fault is h = cc
-  refused_there (Some g) fault is h = refused_bare g is
+  pub rejected_there : (found : Option RecordFault) (fault : Fault) → fault_of operation (without_pen state) s ≡ found → option_map Record found ≡ Some fault → fault_of operation state largest ≡ Some NibTooWide
+  rejected_there None fault is h = cc
+  rejected_there (Some g) fault is h = rejected_bare g is
 
   -- and played without a pen it is off the plane there, or has too wide a nib
   pub played_bare : ShowsFrame largest → IsNoLarger s largest → fault_of operation (without_pen state) s ≡ None → fault_of operation state largest ≡ Some (if lands_on largest then NibTooWide else OffPlane)

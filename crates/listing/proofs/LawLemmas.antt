@@ -20,7 +20,7 @@ use Rattle.meta_headers.specs.EmfHeader.{bounds_height, bounds_width, emf_file, 
 use Rattle.meta_headers.specs.Headers.{OpenedValue, has_version, is_header, is_too_long}
 use Rattle.meta_headers.specs.Opening.{HasContentOf, framing_of, meaning_of, opened, record_bytes, surface_for}
 use Rattle.meta_headers.specs.OpeningLaws.{OpeningLaws}
-use Rattle.meta_headers.specs.PlaceableHeader.{box_sides, is_placeable, opened_placeable, placeable_file}
+use Rattle.meta_headers.specs.PlaceableHeader.{box_dimensions, is_placeable, opened_placeable, placeable_file}
 use Rattle.meta_headers.specs.PlainHeader.{is_plain, opened_plain, plain_file, plain_with}
 use Rattle.meta_headers.specs.declared.opened.FileFormat.TheVariants.{Emf, Placeable, Plain}
 use Rattle.dc_stack.specs.Drawing.{Drawing, drawing_nib, drawing_of, drawing_points}
@@ -28,21 +28,21 @@ use Rattle.dc_stack.specs.FaultLaws.{FaultLaws}
 use Rattle.dc_stack.specs.Next.{next}
 use Rattle.dc_stack.specs.OperationFault.{fault_of}
 use Rattle.dc_stack.specs.State.{State, start_of}
-use Rattle.preflight_cert.specs.Answer.{AnswersOpened, AnswersRead, answer_from, bound_of, refuses}
+use Rattle.preflight_cert.specs.Answer.{AnswersOpened, AnswersRead, answer_from, bound_of, rejects}
 use Rattle.preflight_cert.specs.CertificateReading.{CertificateValue, read_certificate}
 use Rattle.preflight_cert.specs.Checked.{check_of, checked, left_over}
-use Rattle.preflight_cert.specs.Entries.{covers, covers_nib, drawing_fault, entries_behind, entry_fault}
-use Rattle.preflight_cert.specs.Stop.{Stop, broken_behind, stop_at, stop_of, stopped, stopped_or}
+use Rattle.preflight_cert.specs.Entries.{covers, covers_nib, drawing_fault, entries_after, entry_fault}
+use Rattle.preflight_cert.specs.Stop.{Stop, broken_after, stop_at, stop_of, stopped, stopped_or}
 use Rattle.preflight_cert.specs.TextLaws.{TextLaws}
-use Rattle.preflight_cert.specs.declared.entry.Entry.{Entry}
+use Rattle.preflight_cert.specs.declared.certificate_entry.Entry.{Entry}
 use Rattle.meta_headers.specs.Formats.{format_of}
 use Rattle.listing.specs.Formats.{first_place}
-use Rattle.listing.specs.Judging.{judging_if, judging_of, start_judging}
+use Rattle.listing.specs.DryRunState.{dry_run_state_if, dry_run_state_of, start_dry_run}
 use Rattle.listing.specs.Listing.{framed_records, lines_of_framed, listing_of}
-use Rattle.listing.specs.ListingLaws.{IsOneLine, ListingLaws, TellsEachRefusal, TellsEachStop, TellsStop}
+use Rattle.listing.specs.ListingLaws.{IsOneLine, ListingLaws, ReportsEachRefusal, ReportsEachStop, ReportsStop}
 use Rattle.listing.proofs.FileLemmas.{IsReached}
 use Rattle.listing.proofs.PaintingLemmas.{meets_faults, no_painting_off}
-use Rattle.listing.proofs.StopLemmas.{same_fault, told}
+use Rattle.listing.proofs.StopLemmas.{same_fault, reported}
 
 abbrev opens_so : OpenedValue → Result OpenedValue Fault
 opens_so o = Ok o
@@ -62,7 +62,7 @@ module _ (file : List ℕ) (o : OpenedValue) where
   by_placeable false false false h = format_if (opened_placeable file) h
 
   placeable_format : placeable_file file ≡ Ok o → Some Placeable ≡ Some o.format
-  placeable_format h = by_placeable (nat_lt (length file) 40) (not (is_header file 22)) (unsigned_abs (box_sides file).x == 0 || unsigned_abs (box_sides file).y == 0) h
+  placeable_format h = by_placeable (nat_lt (length file) 40) (not (is_header file 22)) (unsigned_abs (box_dimensions file).x == 0 || unsigned_abs (box_dimensions file).y == 0) h
 
   by_emf : (short bad cut large : Bool) → (if short then Err ShortHeader else (if bad then Err BadHeader else (if cut then Err ShortHeader else (if large then Err NoFrame else opens_so (opened_emf file))))) ≡ opens_so o → Some Emf ≡ Some o.format
   by_emf true bad cut large h = cc
@@ -114,18 +114,18 @@ up_to_largest : (o : OpenedValue) (width height : ℕ) → IsSurfaceSide width �
 up_to_largest o width height wide high = record { width = wide.within; height = high.within; frame_width = refl; frame_height = refl }
 
 -- the listing of a file that opens
-listing_opened : (file : List ℕ) (o : OpenedValue) → opened file ≡ Ok o → listing_of file ≡ lines_of_framed o.format (Some (start_judging o)) 0 (first_place o.format) (framed_records o.format file)
+listing_opened : (file : List ℕ) (o : OpenedValue) → opened file ≡ Ok o → listing_of file ≡ lines_of_framed o.format (Some (start_dry_run o)) 0 (first_place o.format) (framed_records o.format file)
 listing_opened file o opens =
-    let at_start : judging_of file ≡ Some (start_judging o) = ap judging_if opens in
+    let at_start : dry_run_state_of file ≡ Some (start_dry_run o) = ap dry_run_state_if opens in
     rw (opened_format file o opens, at_start) refl
 
 -- so its first record is reached
-reached_first : (file : List ℕ) (o : OpenedValue) → opened file ≡ Ok o → IsReached file o.format 0 (first_place o.format) (framed_records o.format file).records (framed_records o.format file).fault (lines_of_framed o.format (Some (start_judging o)) 0 (first_place o.format) (framed_records o.format file))
+reached_first : (file : List ℕ) (o : OpenedValue) → opened file ≡ Ok o → IsReached file o.format 0 (first_place o.format) (framed_records o.format file).records (framed_records o.format file).fault (lines_of_framed o.format (Some (start_dry_run o)) 0 (first_place o.format) (framed_records o.format file))
 reached_first file o opens = record {
   of_format = opened_format file o opens;
   lines = [];
   earlier = [];
-  told = refl;
+  reported = refl;
   plain = All-nil IsOneLine;
   counted = refl;
   begins = omega arith;
@@ -135,23 +135,23 @@ reached_first file o opens = record {
 }
 
 -- a fault of no record isn't one of a record
-in_a_record : {number : ℕ} {one other : Fault} → refuses (Some number) one ≡ refuses None other → ⊥
+in_a_record : {number : ℕ} {one other : Fault} → rejects (Some number) one ≡ rejects None other → ⊥
 in_a_record e = cc
 
 -- what is refused in a record stops there
-refused_number : {one other : ℕ} {fault here : RecordFault} → refuses (Some one) (InRecord fault) ≡ refuses (Some other) (InRecord here) → one ≡ other
-refused_number e = cc
+rejected_number : {one other : ℕ} {fault here : RecordFault} → rejects (Some one) (InRecord fault) ≡ rejects (Some other) (InRecord here) → one ≡ other
+rejected_number e = cc
 
-refused_fault : {one other : ℕ} {fault here : RecordFault} → refuses (Some one) (InRecord fault) ≡ refuses (Some other) (InRecord here) → fault ≡ here
-refused_fault e = cc
+rejected_fault : {one other : ℕ} {fault here : RecordFault} → rejects (Some one) (InRecord fault) ≡ rejects (Some other) (InRecord here) → fault ≡ here
+rejected_fault e = cc
 
 stop_of_parts : (stop : Stop) (number : ℕ) (fault : RecordFault) → stop.number ≡ number → stop.fault ≡ fault → Some stop ≡ Some (stop_at number fault)
 stop_of_parts stop number fault p q = rw (← p, ← q) refl
 
-refused_at : (number : ℕ) (fault : RecordFault) (stop : Option Stop) (total : Option Fault) → answer_from stop total ≡ refuses (Some number) (InRecord fault) → stop ≡ Some (stop_at number fault)
-refused_at number fault None None h = cc
-refused_at number fault None (Some e) h = cc
-refused_at number fault (Some stop) total h = stop_of_parts stop number fault (refused_number h) (refused_fault h)
+rejected_at : (number : ℕ) (fault : RecordFault) (stop : Option Stop) (total : Option Fault) → answer_from stop total ≡ rejects (Some number) (InRecord fault) → stop ≡ Some (stop_at number fault)
+rejected_at number fault None None h = cc
+rejected_at number fault None (Some e) h = cc
+rejected_at number fault (Some stop) total h = stop_of_parts stop number fault (rejected_number h) (rejected_fault h)
 
 -- the faults of entries are three
 by_extent : (same fits narrow : Bool) (fault : RecordFault) → fault ≢ WrongEntry → fault ≢ BoxTooSmall → fault ≢ NibTooSmall → (if same then (if fits then (if narrow then None else Some NibTooSmall) else Some BoxTooSmall) else Some WrongEntry) ≡ Some fault → ⊥
@@ -181,61 +181,61 @@ module _ {number : ℕ} {fault : RecordFault} where
   by_step n None None later checked_later no_entry onward h = onward h
   by_step n None (Some e) later checked_later no_entry onward h = absurd (no_entry (ap Some (same_fault h)))
 
-  at_end : (behind : Option Stop) (over : Option Stop) → (over ≡ Some (stop_at number fault) → ⊥) → option_or behind over ≡ Some (stop_at number fault) → behind ≡ Some (stop_at number fault)
+  at_end : (after : Option Stop) (over : Option Stop) → (over ≡ Some (stop_at number fault) → ⊥) → option_or after over ≡ Some (stop_at number fault) → after ≡ Some (stop_at number fault)
   at_end (Some stop) over none h = h
   at_end None over none h = absurd (none h)
 
-  stops_in_run : (steps : List StepValue) (behind : Option Stop) (count : ℕ) (state : State) (s : Surface) (entries : List Entry) → fault ≢ WrongEntry → fault ≢ BoxTooSmall → fault ≢ NibTooSmall → checked steps behind count state s entries ≡ Some (stop_at number fault) → stopped steps behind state s ≡ Some (stop_at number fault)
-  stops_in_run [] behind count state s entries not_entry not_box not_nib h = at_end behind (left_over count entries) (no_left_over count entries fault not_entry) h
-  stops_in_run (step ∷ steps) behind count state s entries not_entry not_box not_nib h =
+  stops_in_run : (steps : List StepValue) (after : Option Stop) (count : ℕ) (state : State) (s : Surface) (entries : List Entry) → fault ≢ WrongEntry → fault ≢ BoxTooSmall → fault ≢ NibTooSmall → checked steps after count state s entries ≡ Some (stop_at number fault) → stopped steps after state s ≡ Some (stop_at number fault)
+  stops_in_run [] after count state s entries not_entry not_box not_nib h = at_end after (left_over count entries) (no_left_over count entries fault not_entry) h
+  stops_in_run (step ∷ steps) after count state s entries not_entry not_box not_nib h =
       by_step step.number (fault_of step.operation state s) (entry_fault step.number (drawing_of step.operation state) entries s)
-      (stopped steps behind (next step.operation state) s)
-      (checked steps behind count (next step.operation state) s (entries_behind (drawing_of step.operation state) entries))
+      (stopped steps after (next step.operation state) s)
+      (checked steps after count (next step.operation state) s (entries_after (drawing_of step.operation state) entries))
       (no_entry_fault step.number (drawing_of step.operation state) entries s fault not_entry not_box not_nib)
-      (stops_in_run steps behind count (next step.operation state) s (entries_behind (drawing_of step.operation state) entries) not_entry not_box not_nib) h
+      (stops_in_run steps after count (next step.operation state) s (entries_after (drawing_of step.operation state) entries) not_entry not_box not_nib) h
 
 -- where the content of a file's records stops, on a surface of allowed sides
 module _ (laws : FaultLaws) (nibs : NibLaws) (one : FramedInOneWay) (by_function : FramedByFunction) (opening : OpeningLaws) (file : List ℕ) where
-  tells_stop : (o : OpenedValue) (content : Content) (width height number : ℕ) (fault : RecordFault) → opened file ≡ Ok o → HasContentOf o.format (record_bytes o.format file) content → IsSurfaceSide width → IsSurfaceSide height → stop_of content (start_of o) (surface_for o width height) ≡ Some (stop_at number fault) → TellsStop file number fault
-  tells_stop o content width height number fault opens it wide high stops =
+  reports_stop : (o : OpenedValue) (content : Content) (width height number : ℕ) (fault : RecordFault) → opened file ≡ Ok o → HasContentOf o.format (record_bytes o.format file) content → IsSurfaceSide width → IsSurfaceSide height → stop_of content (start_of o) (surface_for o width height) ≡ Some (stop_at number fault) → ReportsStop file number fault
+  reports_stop o content width height number fault opens it wide high stops =
       let f = framing_of o.format in
       let framed = framed_records o.format file in
       let s = surface_for o width height in
       let largest = opening.frame file o surface_side_limit surface_side_limit opens in
-      let meant : content ≡ content_of f (meaning_of o.format) 0 framed =
-      it.meant ∙ ap (content_of f (meaning_of o.format) 0) (only_framed one by_function f (record_bytes o.format file) it.framed it.is_framed) in
+      let decoded : content ≡ content_of f (meaning_of o.format) 0 framed =
+      it.decoded ∙ ap (content_of f (meaning_of o.format) 0) (only_framed one by_function f (record_bytes o.format file) it.framed it.is_framed) in
       let all = content_of f (meaning_of o.format) 0 framed in
-      let all_stop : stop_of all (start_of o) s ≡ Some (stop_at number fault) = ap (λ (c : Content). stop_of c (start_of o) s) (sym meant) ∙ stops in
+      let all_stop : stop_of all (start_of o) s ≡ Some (stop_at number fault) = ap (λ (c : Content). stop_of c (start_of o) s) (sym decoded) ∙ stops in
       let counted : 0 + length all.steps ≡ length all.steps = omega arith in
-      told laws nibs by_function file o.format (surface_for o 1 1) s (surface_for o surface_side_limit surface_side_limit) (record { wide = largest.wide; high = largest.high }) largest
+      reported laws nibs by_function file o.format (surface_for o 1 1) s (surface_for o surface_side_limit surface_side_limit) (record { wide = largest.wide; high = largest.high }) largest
       (up_from_smallest o width height wide high) (up_to_largest o width height wide high) (length all.steps) number fault
-      framed.records 0 (first_place o.format) framed.behind framed.fault (start_of o) refl counted all_stop (reached_first file o opens)
+      framed.records 0 (first_place o.format) framed.after framed.fault (start_of o) refl counted all_stop (reached_first file o opens)
 
-  tells_each_stop : TellsEachStop file
-  tells_each_stop width height image number fault wide high run =
+  reports_each_stop : ReportsEachStop file
+  reports_each_stop width height image number fault wide high run =
       let s = surface_for run.headers width height in
       let stops : stop_of run.content (start_of run.headers) s ≡ Some (stop_at number fault) =
       run.stops ∙ ap (λ (h : RecordFault). Some (stop_at number h)) (sym (same_record run.in_record)) in
-      tells_stop run.headers run.content width height number fault run.of_file.opens run.of_file.records wide high stops
+      reports_stop run.headers run.content width height number fault run.of_file.opens run.of_file.records wide high stops
 
-  tells_each_refusal : TextLaws → TellsEachRefusal file
-  tells_each_refusal text certificate number fault bytes not_entry not_box not_nib answers = by_opening (opened file) refl answers
+  reports_each_refusal : TextLaws → ReportsEachRefusal file
+  reports_each_refusal text certificate number fault bytes not_entry not_box not_nib answers = by_opening (opened file) refl answers
     where
-      by_reading : (o : OpenedValue) → opened file ≡ Ok o → (read : Result CertificateValue Fault) → read_certificate certificate ≡ read → AnswersRead read o (record_bytes o.format file) (refuses (Some number) (InRecord fault)) → TellsStop file number fault
+      by_reading : (o : OpenedValue) → opened file ≡ Ok o → (read : Result CertificateValue Fault) → read_certificate certificate ≡ read → AnswersRead read o (record_bytes o.format file) (rejects (Some number) (InRecord fault)) → ReportsStop file number fault
       by_reading o opens (Err e) reads h = absurd (in_a_record h)
       by_reading o opens (Ok c) reads h =
           let is = text.is_certificate certificate c bytes reads in
-          let stops = stops_in_run h.content.steps (broken_behind (length h.content.steps) h.content.fault) (length h.content.steps) (start_of o) (bound_of o c) c.entries not_entry not_box not_nib (refused_at number fault (check_of h.content (start_of o) (bound_of o c) c.entries) _ (sym h.answers)) in
-          tells_stop o h.content c.max_width c.max_height number fault opens h.of_records is.wide is.high stops
+          let stops = stops_in_run h.content.steps (broken_after (length h.content.steps) h.content.fault) (length h.content.steps) (start_of o) (bound_of o c) c.entries not_entry not_box not_nib (rejected_at number fault (check_of h.content (start_of o) (bound_of o c) c.entries) _ (sym h.answers)) in
+          reports_stop o h.content c.max_width c.max_height number fault opens h.of_records is.wide is.high stops
 
-      by_opening : (open_or : Result OpenedValue Fault) → opened file ≡ open_or → AnswersOpened open_or file certificate (refuses (Some number) (InRecord fault)) → TellsStop file number fault
+      by_opening : (open_or : Result OpenedValue Fault) → opened file ≡ open_or → AnswersOpened open_or file certificate (rejects (Some number) (InRecord fault)) → ReportsStop file number fault
       by_opening (Err e) opens h = absurd (in_a_record h)
       by_opening (Ok o) opens h = by_reading o opens (read_certificate certificate) refl h
 
 pub listing_laws : FaultLaws → NibLaws → FramedInOneWay → FramedByFunction → OpeningLaws → TextLaws → ListingLaws
 listing_laws laws nibs one by_function opening text = record {
-  stops = tells_each_stop laws nibs one by_function opening;
-  refusals = λ file. tells_each_refusal laws nibs one by_function opening file text;
+  stops = reports_each_stop laws nibs one by_function opening;
+  refusals = λ file. reports_each_refusal laws nibs one by_function opening file text;
   runs = meets_faults;
   paintings = no_painting_off;
 }

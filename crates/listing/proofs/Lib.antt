@@ -2,7 +2,7 @@ pub mod NameLemmas
 pub mod LineLemmas
 pub mod WalkLemmas
 pub mod TextLemmas
-pub mod JudgingLemmas
+pub mod DryRunStateLemmas
 pub mod LargestLemmas
 pub mod PathLemmas
 pub mod PaintingLemmas

@@ -3,18 +3,18 @@ use Rattle.std.proofs.Common.{◌≡◌, ℕ, suc, ◌+◌, Bool, true, false, e
 use Rattle.std.proofs.lemmas.Bool.{eqb-true}
 use Rattle.std.proofs.lemmas.List.{append_assoc}
 use Rattle.draw_ops.specs.Content.{StepValue}
-use Rattle.draw_ops.specs.Framed.{in_front}
-use Rattle.draw_ops.specs.Meaning.{Meaning, MeantValue, step_of, step_meant}
+use Rattle.draw_ops.specs.Framed.{ahead}
+use Rattle.draw_ops.specs.Meaning.{Meaning, DecodedValue, step_of, step_decoded}
 use Rattle.draw_ops.specs.Records.{Framed, Framing, Record}
 use Rattle.draw_ops.specs.Results.{result_map}
 use Rattle.draw_ops.specs.RecordOf.{record_of}
 use Rattle.listing.specs.Walk.{GivesRecord}
 use Rattle.listing.specs.WalkState.{Walk}
 use Rattle.draw_ops.specs.declared.record_fault.RecordFault.{RecordFault}
-use Rattle.listing.specs.declared.walk.PlacedRecord.{PlacedRecord}
+use Rattle.listing.specs.declared.record_walk.PlacedRecord.{PlacedRecord}
 use Rattle.meta_headers.specs.Opening.{framing_of, meaning_of}
 use Rattle.meta_headers.specs.declared.opened.FileFormat.{FileFormat}
-use Rattle.listing.specs.Judging.{Judging, behind_record, fault_in_runs}
+use Rattle.listing.specs.DryRunState.{DryRunState, after_record, fault_in_runs}
 use Rattle.listing.specs.Line.{line_of}
 use Rattle.listing.specs.Listing.{lines_of, lines_of_framed, step_in}
 use Rattle.listing.specs.Putting.{Coming, PutsLine, coming, listing_left}
@@ -22,9 +22,9 @@ use Rattle.canvas.specs.Sending.{Sending}
 use Rattle.canvas.specs.Sending.{sending_none}
 
 -- a record that doesn't end the file has the same step, whatever lies behind the end
-by_last : (b : Bool) (one other : List ℕ) (number : ℕ) (meant : Result MeantValue RecordFault) → (b ≡ true → one ≡ other) → result_map (step_meant b one number) meant ≡ result_map (step_meant b other number) meant
-by_last true one other number meant same = ap (λ (behind : List ℕ). result_map (step_meant true behind number) meant) (same refl)
-by_last false one other number (Ok meant) same = refl
+by_last : (b : Bool) (one other : List ℕ) (number : ℕ) (decoded : Result DecodedValue RecordFault) → (b ≡ true → one ≡ other) → result_map (step_decoded b one number) decoded ≡ result_map (step_decoded b other number) decoded
+by_last true one other number decoded same = ap (λ (after : List ℕ). result_map (step_decoded true after number) decoded) (same refl)
+by_last false one other number (Ok decoded) same = refl
 by_last false one other number (Err fault) same = refl
 
 same_step : (f : Framing) (meaning : Meaning) (one other : List ℕ) (number : ℕ) (r : Record) → (r.kind ≡ f.end_kind → one ≡ other) → step_of f meaning one number r ≡ step_of f meaning other number r
@@ -34,28 +34,28 @@ pub same_step_in : (format : FileFormat) (one other : List ℕ) (number : ℕ) (
 same_step_in format one other number r same = same_step (framing_of format) (meaning_of format) one other number r same
 
 -- a walk at its start: nothing was sent, and all lines are left
-pub begins : (known : Option (List ℕ)) (format : FileFormat) (judging : Option Judging) (framed : Framed) (place : ℕ) (page : List ℕ) (walk : Walk) → page ≡ [] → walk.number ≡ 0 → walk.place ≡ place → walk.framed ≡ framed → Sending known known (lines_of_framed format judging 0 place framed) (page ++ listing_left format (coming walk judging))
-begins known format judging framed place page walk p n at f = rw (p, n, at, f) (sending_none known (lines_of_framed format judging 0 place framed))
+pub begins : (known : Option (List ℕ)) (format : FileFormat) (dry_run_state : Option DryRunState) (framed : Framed) (place : ℕ) (buffer : List ℕ) (walk : Walk) → buffer ≡ [] → walk.number ≡ 0 → walk.place ≡ place → walk.framed ≡ framed → Sending known known (lines_of_framed format dry_run_state 0 place framed) (buffer ++ listing_left format (coming walk dry_run_state))
+begins known format dry_run_state framed place buffer walk p n at f = rw (p, n, at, f) (sending_none known (lines_of_framed format dry_run_state 0 place framed))
 
 module _ (format : FileFormat) (f : Framing) (is_of : framing_of format ≡ f) (old new : List ℕ) (before after : Coming) where
   -- the line of the record in front stands in front of the lines of the others
-  in_front_of : (r : Record) (meant : Result StepValue RecordFault) → before.walk.framed ≡ in_front r after.walk.framed → after.walk.number ≡ suc before.walk.number → after.walk.place ≡ before.walk.place + length r.bytes → meant ≡ step_in format after.walk.framed.behind before.walk.number r → after.judging ≡ behind_record before.judging meant → new ≡ old ++ line_of format (fault_in_runs before.judging meant) before.walk.number before.walk.place r meant → old ++ listing_left format before ≡ new ++ listing_left format after
-  in_front_of r meant front number place is judged put =
-      let here = step_in format after.walk.framed.behind before.walk.number r in
-      rw (front, number, place, put, judged, is)
-      (sym (append_assoc old (line_of format (fault_in_runs before.judging here) before.walk.number before.walk.place r here) (lines_of format (behind_record before.judging here) (suc before.walk.number) (before.walk.place + length r.bytes) after.walk.framed.behind after.walk.framed.records after.walk.framed.fault)))
+  ahead_of : (r : Record) (decoded : Result StepValue RecordFault) → before.walk.framed ≡ ahead r after.walk.framed → after.walk.number ≡ suc before.walk.number → after.walk.place ≡ before.walk.place + length r.bytes → decoded ≡ step_in format after.walk.framed.after before.walk.number r → after.dry_run_state ≡ after_record before.dry_run_state decoded → new ≡ old ++ line_of format (fault_in_runs before.dry_run_state decoded) before.walk.number before.walk.place r decoded → old ++ listing_left format before ≡ new ++ listing_left format after
+  ahead_of r decoded leading number place is judged put =
+      let here = step_in format after.walk.framed.after before.walk.number r in
+      rw (leading, number, place, put, judged, is)
+      (sym (append_assoc old (line_of format (fault_in_runs before.dry_run_state here) before.walk.number before.walk.place r here) (lines_of format (after_record before.dry_run_state here) (suc before.walk.number) (before.walk.place + length r.bytes) after.walk.framed.after after.walk.framed.records after.walk.framed.fault)))
 
-  pub one_line : (given : PlacedRecord) (meant : Result StepValue RecordFault) (run : Option RecordFault) → GivesRecord f before.walk given after.walk → step_in format given.behind.now given.number (record_of given.record) ≡ meant → run ≡ fault_in_runs before.judging meant → after.judging ≡ behind_record before.judging meant → new ≡ old ++ line_of format run given.number given.place (record_of given.record) meant → PutsLine format old before new after
-  one_line given meant run gives is found judged put =
+  pub one_line : (given : PlacedRecord) (decoded : Result StepValue RecordFault) (run : Option RecordFault) → GivesRecord f before.walk given after.walk → step_in format given.after.now given.number (record_of given.record) ≡ decoded → run ≡ fault_in_runs before.dry_run_state decoded → after.dry_run_state ≡ after_record before.dry_run_state decoded → new ≡ old ++ line_of format run given.number given.place (record_of given.record) decoded → PutsLine format old before new after
+  one_line given decoded run gives is found judged put =
       let r = record_of given.record in
-      let ends : r.kind ≡ (framing_of format).end_kind → given.behind.now ≡ after.walk.framed.behind =
-      λ last. gives.behind_the_end (last ∙ ap (λ (g : Framing). g.end_kind) is_of) ∙ ap (λ (d : Framed). d.behind) gives.front in
-      let here : meant ≡ step_in format after.walk.framed.behind before.walk.number r =
-      sym is ∙ ap (λ (n : ℕ). step_in format given.behind.now n r) gives.number ∙ same_step_in format given.behind.now after.walk.framed.behind before.walk.number r ends in
-      let line : new ≡ old ++ line_of format (fault_in_runs before.judging meant) before.walk.number before.walk.place r meant =
+      let ends : r.kind ≡ (framing_of format).end_kind → given.after.now ≡ after.walk.framed.after =
+      λ last. gives.after_the_end (last ∙ ap (λ (g : Framing). g.end_kind) is_of) ∙ ap (λ (d : Framed). d.after) gives.leading in
+      let here : decoded ≡ step_in format after.walk.framed.after before.walk.number r =
+      sym is ∙ ap (λ (n : ℕ). step_in format given.after.now n r) gives.number ∙ same_step_in format given.after.now after.walk.framed.after before.walk.number r ends in
+      let line : new ≡ old ++ line_of format (fault_in_runs before.dry_run_state decoded) before.walk.number before.walk.place r decoded =
       rw (← found, ← gives.number, ← gives.place) put in
       record {
-        put = in_front_of r meant gives.front gives.next_number gives.next_place here judged line;
-        fewer = rw gives.front (omega arith);
-        end = rw gives.front refl;
+        put = ahead_of r decoded gives.leading gives.next_number gives.next_place here judged line;
+        fewer = rw gives.leading (omega arith);
+        end = rw gives.leading refl;
       }

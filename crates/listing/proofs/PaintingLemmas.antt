@@ -18,10 +18,10 @@ use Rattle.dc_stack.specs.Path.{Path, figures_to_paint, finished_path, is_finish
 use Rattle.dc_stack.specs.State.{State}
 use Rattle.dc_stack.specs.declared.draw.Painting.{Painting}
 use Rattle.dc_stack.specs.declared.draw.Painting.TheVariants.{Fill, Stroke, StrokeAndFill}
-use Rattle.listing.specs.Judging.{PathLands, fault_met, is_painting, met_in_painting}
+use Rattle.listing.specs.DryRunState.{PathLands, fault_met, is_painting, met_in_painting}
 use Rattle.listing.specs.ListingLaws.{MeetsFaults, NoPaintingIsOffPlane}
-use Rattle.listing.proofs.PathLemmas.{lands_behind}
-use Rattle.listing.proofs.JudgingLemmas.{OnLarger, on_larger_surface}
+use Rattle.listing.proofs.PathLemmas.{lands_after}
+use Rattle.listing.proofs.DryRunStateLemmas.{OnLarger, on_larger_surface}
 
 -- where points land, none is off the plane
 by_landing : (plain nib : Option RecordFault) (lands : Bool) → lands ≡ true → option_or plain (option_or (if lands then None else Some OffPlane) nib) ≡ option_or plain nib
@@ -124,7 +124,7 @@ never_off operation state s h = cc
 
 pub no_painting_off : NoPaintingIsOffPlane
 no_painting_off None step h = λ e. cc
-no_painting_off (Some judging) step h = never_off step.operation judging.state judging.largest h
+no_painting_off (Some dry_run_state) step h = never_off step.operation dry_run_state.state dry_run_state.largest h
 
 -- in a run the fault that is met is the operation's
 by_kind : (operation : Operation) (state : State) (s : Surface) (b : Bool) → is_painting operation ≡ b → PathLands state.path s → (if b then met_in_painting operation state s else fault_of operation state s) ≡ fault_of operation state s
@@ -134,6 +134,6 @@ by_kind operation state s false h lands = refl
 pub meets_faults : MeetsFaults
 meets_faults = record {
   at_start = λ o s. refl;
-  onward = λ operation state s lands none. lands_behind s operation state lands none;
+  onward = λ operation state s lands none. lands_after s operation state lands none;
   met = λ operation state s lands. by_kind operation state s (is_painting operation) refl lands;
 }

@@ -23,7 +23,7 @@ use Rattle.dc_stack.specs.Path.{Path, after_closing, after_ending, after_lines, 
 use Rattle.dc_stack.specs.SavedStates.{after_restoring, saved_place}
 use Rattle.dc_stack.specs.State.{State}
 use Rattle.dc_stack.proofs.CornerLemmas.{of_greater, of_lesser}
-use Rattle.listing.specs.Judging.{IsLanded, PathLands}
+use Rattle.listing.specs.DryRunState.{IsLanded, PathLands}
 
 module _ (s : Surface) where
   abbrev Land : List Point → Type 0
@@ -232,15 +232,15 @@ module _ (s : Surface) where
   placed_none None nib true h = refl
   placed_none None nib false h = cc
 
-  pub lands_behind : (operation : Operation) (state : State) → PathLands state.path s → fault_of operation state s ≡ None → PathLands (next operation state).path s
-  lands_behind operation state h none =
+  pub lands_after : (operation : Operation) (state : State) → PathLands state.path s → fault_of operation state s ≡ None → PathLands (next operation state).path s
+  lands_after operation state h none =
       kept operation state h
       (placed_none (plain_fault operation state) (nib_fault (drawing_of operation state) s) (all_land_within (plane_points operation state) s) none)
 
 -- so a machine that played an operation has a path whose points land still
 pub stays_landed : (operation : Operation) (old new : MachineState) → HasStepped operation old new → GoesOn old new → IsLanded old → IsLanded new
 stays_landed operation old new stepped goes_on landed =
-    rw (stepped.state, goes_on.surface) (lands_behind old.surface operation old.state landed stepped.no_fault)
+    rw (stepped.state, goes_on.surface) (lands_after old.surface operation old.state landed stepped.no_fault)
 
 pub unchanged_landed : (old new : MachineState) → IsUnchanged old new → GoesOn old new → IsLanded old → IsLanded new
 unchanged_landed old new same goes_on landed = rw (same.state, goes_on.surface) landed

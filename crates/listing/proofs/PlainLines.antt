@@ -25,21 +25,21 @@ use Rattle.meta_headers.specs.declared.opened.FileFormat.{FileFormat}
 use Rattle.meta_headers.specs.declared.opened.FileFormat.TheVariants.{Placeable, Plain as PlainFormat, Emf}
 use Rattle.listing.specs.Asked.{asked_text, lists_text}
 use Rattle.listing.specs.EmfNames.{emf_names}
-use Rattle.listing.specs.Line.{deed_text, head_of, kind_name, kind_text, meant_text, refused_text, step_text}
+use Rattle.listing.specs.Line.{action_text, head_of, kind_name, kind_text, decoded_text, rejected_text, step_text}
 use Rattle.listing.specs.ListingLaws.{IsOneLine}
 use Rattle.listing.specs.NoteTexts.{note_text, notes_text, text_where}
 use Rattle.listing.specs.ObjectTexts.{blit_text, brush_text, extent_text, index_text, object_text, pen_text, source_text}
-use Rattle.listing.specs.Parts.{colour_text, point_text, sides_text}
+use Rattle.listing.specs.Parts.{colour_text, point_text, dimensions_text}
 use Rattle.listing.specs.WmfNames.{wmf_names}
-use Rattle.listing.proofs.PlainTexts.{Plain, colour_plain, decimal_plain, four_plain, named_plain, one_line, plain_append, plain_between, plain_either, point_plain, rect_plain, sides_plain, signed_plain}
+use Rattle.listing.proofs.PlainTexts.{Plain, colour_plain, decimal_plain, four_plain, named_plain, one_line, plain_append, plain_between, plain_either, point_plain, rect_plain, dimensions_plain, signed_plain}
 
 -- names of faults and of notes
 fault_plain : (fault : RecordFault) → Plain (fault_row (InRecord fault)).name
 fault_plain NoEnd = refl
 fault_plain fault = refl
 
-refused_plain : (fault : RecordFault) → Plain (refused_text (InRecord fault))
-refused_plain fault = fault_plain fault
+rejected_plain : (fault : RecordFault) → Plain (rejected_text (InRecord fault))
+rejected_plain fault = fault_plain fault
 
 note_name_plain : (note : Note) → Plain (note_row_of note).name
 note_name_plain Skipped = refl
@@ -53,8 +53,8 @@ note_plain : (notes : List ℕ) (note : Note) → Plain (note_text notes note)
 unfolding note_text
 note_plain notes note = where_plain (is_noted notes note) (note_row_of note).name (note_name_plain note)
 
-behind_notes : (notes before : List ℕ) (note : Note) → Plain before → Plain (before ++ note_text notes note)
-behind_notes notes before note h = plain_append before (note_text notes note) h (note_plain notes note)
+after_notes : (notes before : List ℕ) (note : Note) → Plain before → Plain (before ++ note_text notes note)
+after_notes notes before note h = plain_append before (note_text notes note) h (note_plain notes note)
 
 notes_plain : (notes : List ℕ) → Plain (notes_text notes)
 notes_plain notes =
@@ -66,11 +66,11 @@ notes_plain notes =
     let six = five ++ note_text notes WidePen in
     let seven = six ++ note_text notes Isotropic in
     let eight = seven ++ note_text notes EmfPlus in
-    let to_four = behind_notes notes three AfterEnd
-    (behind_notes notes two SizeField (behind_notes notes one PlaceableFields (note_plain notes PlaceableChecksum))) in
-    let to_eight = behind_notes notes seven EmfPlus
-    (behind_notes notes six Isotropic (behind_notes notes five WidePen (behind_notes notes four DashedPen to_four))) in
-    behind_notes notes eight Skipped to_eight
+    let to_four = after_notes notes three AfterEnd
+    (after_notes notes two SizeField (after_notes notes one PlaceableFields (note_plain notes PlaceableChecksum))) in
+    let to_eight = after_notes notes seven EmfPlus
+    (after_notes notes six Isotropic (after_notes notes five WidePen (after_notes notes four DashedPen to_four))) in
+    after_notes notes eight Skipped to_eight
 
 -- objects and blits
 pen_plain : (pen : Pen) → Plain (pen_text pen)
@@ -82,7 +82,7 @@ brush_plain (solid_brush colour) = colour_plain colour
 brush_plain null_brush = refl
 brush_plain (hatched_brush hatch colour) =
     plain_between (decimal (hatch_code hatch)) (codes " ") (colour_text colour) (decimal_plain (hatch_code hatch)) refl (colour_plain colour)
-brush_plain (tile_brush picture) = sides_plain picture.width picture.height
+brush_plain (tile_brush picture) = dimensions_plain picture.width picture.height
 
 object_plain : (object : ObjectValue) → Plain (object_text object)
 object_plain (pen_object pen) = pen_plain pen
@@ -102,8 +102,8 @@ extent_plain corner extent = plain_between (point_text corner) (codes " extent "
 source_plain : (source : Option SourceValue) → Plain (source_text source)
 source_plain None = refl
 source_plain (Some source) =
-    plain_between (sides_text source.picture.width source.picture.height) (codes " from ") (extent_text source.corner source.extent)
-    (sides_plain source.picture.width source.picture.height) refl (extent_plain source.corner source.extent)
+    plain_between (dimensions_text source.picture.width source.picture.height) (codes " from ") (extent_text source.corner source.extent)
+    (dimensions_plain source.picture.width source.picture.height) refl (extent_plain source.corner source.extent)
 
 blit_plain : (asked : BlitValue) → Plain (blit_text asked)
 blit_plain asked =
@@ -157,8 +157,8 @@ name_plain Placeable kind = named_plain wmf_names kind refl
 name_plain PlainFormat kind = named_plain wmf_names kind refl
 name_plain Emf kind = named_plain emf_names kind refl
 
-behind_fields : (before text : List ℕ) → Plain before → Plain text → Plain (before ++ text ++ codes "\t")
-behind_fields before text p q = plain_between before text (codes "\t") p q refl
+after_fields : (before text : List ℕ) → Plain before → Plain text → Plain (before ++ text ++ codes "\t")
+after_fields before text p q = plain_between before text (codes "\t") p q refl
 
 head_plain : (format : FileFormat) (number place : ℕ) (r : Record) → Plain (head_of format number place r)
 head_plain format number place r =
@@ -166,23 +166,23 @@ head_plain format number place r =
     let two = one ++ decimal place ++ codes "\t" in
     let three = two ++ decimal (length r.bytes) ++ codes "\t" in
     let four = three ++ kind_text format r.kind ++ codes "\t" in
-    let to_two = behind_fields one (decimal place) (behind_fields [] (decimal number) refl (decimal_plain number)) (decimal_plain place) in
-    let to_four = behind_fields three (kind_text format r.kind) (behind_fields two (decimal (length r.bytes)) to_two (decimal_plain (length r.bytes))) (kind_plain format r.kind) in
-    behind_fields four (kind_name format r.kind) to_four (name_plain format r.kind)
+    let to_two = after_fields one (decimal place) (after_fields [] (decimal number) refl (decimal_plain number)) (decimal_plain place) in
+    let to_four = after_fields three (kind_text format r.kind) (after_fields two (decimal (length r.bytes)) to_two (decimal_plain (length r.bytes))) (kind_plain format r.kind) in
+    after_fields four (kind_name format r.kind) to_four (name_plain format r.kind)
 
 -- what is told of a step
-deed_plain : (notes : List ℕ) → Plain (deed_text notes)
-deed_plain notes = plain_either (is_noted notes Skipped || is_noted notes EmfPlus) (codes "noted") (codes "played") refl refl
+action_plain : (notes : List ℕ) → Plain (action_text notes)
+action_plain notes = plain_either (is_noted notes Skipped || is_noted notes EmfPlus) (codes "noted") (codes "played") refl refl
 
 step_plain : (run : Option RecordFault) (step : StepValue) → Plain (step_text run step)
-step_plain (Some fault) step = refused_plain fault
+step_plain (Some fault) step = rejected_plain fault
 step_plain None step =
-    plain_append (deed_text step.notes ++ codes "\t" ++ asked_text step.operation) (notes_text step.notes)
-    (plain_between (deed_text step.notes) (codes "\t") (asked_text step.operation) (deed_plain step.notes) refl (asked_plain step.operation))
+    plain_append (action_text step.notes ++ codes "\t" ++ asked_text step.operation) (notes_text step.notes)
+    (plain_between (action_text step.notes) (codes "\t") (asked_text step.operation) (action_plain step.notes) refl (asked_plain step.operation))
     (notes_plain step.notes)
 
 -- the line of a record that has a meaning
-pub line_plain : (format : FileFormat) (run : Option RecordFault) (number place : ℕ) (r : Record) (step : StepValue) → IsOneLine (head_of format number place r ++ meant_text run (Ok step))
+pub line_plain : (format : FileFormat) (run : Option RecordFault) (number place : ℕ) (r : Record) (step : StepValue) → IsOneLine (head_of format number place r ++ decoded_text run (Ok step))
 line_plain format run number place r step =
     one_line (head_of format number place r ++ step_text run step)
     (plain_append (head_of format number place r) (step_text run step) (head_plain format number place r) (step_plain run step))

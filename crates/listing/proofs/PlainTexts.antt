@@ -11,7 +11,7 @@ use Rattle.mapping.specs.declared.geometry.Rect.{Rect}
 use Rattle.draw_ops.specs.KindTable.{row_with}
 use Rattle.listing.specs.Line.{text_or_hyphen}
 use Rattle.listing.specs.ListingLaws.{IsOneLine}
-use Rattle.listing.specs.Parts.{colour_text, digit, four_digits, point_text, rect_text, sides_text, two_digits}
+use Rattle.listing.specs.Parts.{colour_text, digit, four_digits, point_text, rect_text, dimensions_text, two_digits}
 
 -- a test for it
 abbrev pub is_plain : List ℕ → Bool
@@ -30,13 +30,13 @@ one_line [] h = All-nil (λ it. it ≢ 10)
 one_line (byte ∷ bytes) h = by_byte byte bytes (byte == 10) refl (one_line bytes) h
 
 -- one text behind another, and one of two
-by_front : (b : Bool) (one other more : Bool) → (one ≡ true → more ≡ true) → (b && one) ≡ true → (b && more) ≡ true
-by_front true one other more onward h = onward h
-by_front false one other more onward h = cc
+by_leading : (b : Bool) (one other more : Bool) → (one ≡ true → more ≡ true) → (b && one) ≡ true → (b && more) ≡ true
+by_leading true one other more onward h = onward h
+by_leading false one other more onward h = cc
 
 pub plain_append : (xs ys : List ℕ) → Plain xs → Plain ys → Plain (xs ++ ys)
 plain_append [] ys p q = q
-plain_append (x ∷ xs) ys p q = by_front (not (x == 10)) (is_plain xs) true (is_plain (xs ++ ys)) (λ h. plain_append xs ys h q) p
+plain_append (x ∷ xs) ys p q = by_leading (not (x == 10)) (is_plain xs) true (is_plain (xs ++ ys)) (λ h. plain_append xs ys h q) p
 
 pub plain_between : (xs between ys : List ℕ) → Plain xs → Plain between → Plain ys → Plain (xs ++ between ++ ys)
 plain_between xs between ys p b q = plain_append (xs ++ between) ys (plain_append xs between p b) q
@@ -56,12 +56,12 @@ glyph_high : (d : ℕ) (b : Bool) → 48 ≤ (if b then 48 + d else (if false th
 glyph_high d true = omega arith
 glyph_high d false = omega arith
 
-onto_plain : (room n : ℕ) (bytes : List ℕ) → Plain bytes → Plain (digits_onto room 10 false n bytes)
+onto_plain : (capacity n : ℕ) (bytes : List ℕ) → Plain bytes → Plain (digits_onto capacity 10 false n bytes)
 onto_plain zero n bytes h = h
-onto_plain (suc room) n bytes h =
+onto_plain (suc capacity) n bytes h =
     let more = plain_cons (digit_glyph false (n % 10)) bytes (glyph_high (n % 10) (nat_lt (n % 10) 10)) h in
-    plain_either (n / 10 == 0) (digit_glyph false (n % 10) ∷ bytes) (digits_onto room 10 false (n / 10) (digit_glyph false (n % 10) ∷ bytes)) more
-    (onto_plain room (n / 10) (digit_glyph false (n % 10) ∷ bytes) more)
+    plain_either (n / 10 == 0) (digit_glyph false (n % 10) ∷ bytes) (digits_onto capacity 10 false (n / 10) (digit_glyph false (n % 10) ∷ bytes)) more
+    (onto_plain capacity (n / 10) (digit_glyph false (n % 10) ∷ bytes) more)
 
 pub decimal_plain : (n : ℕ) → Plain (decimal n)
 unfolding digits
@@ -99,8 +99,8 @@ unfolding colour_text
 colour_plain colour =
     plain_between (two_digits colour.r) (two_digits colour.g) (two_digits colour.b) (two_plain colour.r) (two_plain colour.g) (two_plain colour.b)
 
-pub sides_plain : (width height : ℕ) → Plain (sides_text width height)
-sides_plain width height = plain_between (decimal width) (codes "x") (decimal height) (decimal_plain width) refl (decimal_plain height)
+pub dimensions_plain : (width height : ℕ) → Plain (dimensions_text width height)
+dimensions_plain width height = plain_between (decimal width) (codes "x") (decimal height) (decimal_plain width) refl (decimal_plain height)
 
 -- the names in a table
 abbrev pub are_plain : List (ℕ × List ℕ) → Bool

@@ -1,4 +1,4 @@
--- What an operation asks for, in short: counts, coordinates and colours.
+-- Short texts of operations: counts, coordinates and colours.
 use Rattle.std.specs.Prelude.{ℕ, List, ◌++◌, length, codes, decimal}
 use Rattle.std.specs.Fmt.{signed_decimal}
 use Rattle.std.specs.List.{flat_map}
@@ -10,11 +10,11 @@ use Rattle.draw_ops.specs.Settings.{background_mode_code, fill_mode_code}
 use Rattle.listing.specs.ObjectTexts.{blit_text, index_text, object_text}
 use Rattle.listing.specs.Parts.{colour_text, point_text, rect_text}
 
--- how many lists, and how many points in them together
+-- the number of lists, and the number of points in all of them
 abbrev pub lists_text : List (List Point) → List ℕ
 lists_text lists = codes "lists " ++ decimal (length lists) ++ codes ", points " ++ decimal (length (flat_map (λ list. list) lists))
 
--- what each operation asks for
+-- the text of each operation
 abbrev pub asked_text : Operation → List ℕ
 asked_text no_effect = codes "nothing"
 asked_text save = codes "save"

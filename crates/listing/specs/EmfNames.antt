@@ -41,6 +41,6 @@ emf_names =
 abbrev pub emf_name_of : ℕ → Option (List ℕ)
 emf_name_of record_type = row_with emf_names record_type
 
--- the types of the table of kinds have names, and no others
+-- the types in the table of kinds have names, and no others have
 abbrev pub EachTypeHasAName : Type 0
 EachTypeHasAName = map (λ row. row.0) emf_names ≡ emf_types

@@ -3,7 +3,7 @@ use Rattle.std.specs.Prelude.{ℕ}
 use Rattle.meta_headers.specs.declared.opened.FileFormat.{FileFormat}
 use Rattle.meta_headers.specs.declared.opened.FileFormat.TheVariants.{Placeable, Plain, Emf}
 
--- where record 0 begins
+-- the offset of record 0
 abbrev pub first_place : FileFormat → ℕ
 first_place Placeable = 40
 first_place Plain = 18

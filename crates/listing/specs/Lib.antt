@@ -2,7 +2,7 @@ pub mod Parts
 pub mod ObjectTexts
 pub mod Asked
 pub mod NoteTexts
-pub mod Judging
+pub mod DryRunState
 pub mod Line
 pub mod Listing
 pub mod FileRecords

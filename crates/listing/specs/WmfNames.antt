@@ -32,6 +32,6 @@ wmf_names =
 abbrev pub wmf_name_of : ℕ → Option (List ℕ)
 wmf_name_of function = row_with wmf_names function
 
--- the functions of the table of kinds have names, and no others
+-- the functions in the table of kinds have names, and no others have
 abbrev pub EachFunctionHasAName : Type 0
 EachFunctionHasAName = map (λ row. row.0) wmf_names ≡ wmf_functions

@@ -1,10 +1,10 @@
-//! The names of the types in the standard.
+//! The names of EMR types in the standard.
 
 ghost use Rattle.std.specs.Prelude.{◌≡◌, ◌≤◌, IfSome, length};
 ghost use Rattle.std.specs.Option.{option_map};
 ghost use Rattle.listing.specs.EmfNames.{EachTypeHasAName, emf_name_of};
 
-/// The name of a type ([MS-EMF] 2.1.1): none exactly where the standard has no such type.
+/// The name of a type ([MS-EMF] 2.1.1). `None` exactly if the standard has no such type.
 pub fn type_name(record_type: u32) -> Option<&'static str>
     ensures name { option_map (λ name. name.now) result ≡ emf_name_of record_type }
     ensures short { IfSome result (λ name. length name.now ≤ 27) }
@@ -133,7 +133,7 @@ pub fn type_name(record_type: u32) -> Option<&'static str>
     }
 }
 
-/// Each type of the table of kinds has a name, and no other has one.
+/// A law: the types in the table of kinds have names, and no others have.
 pub fn emf_names_law()
     ensures { EachTypeHasAName }
 {}

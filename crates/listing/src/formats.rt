@@ -6,7 +6,7 @@ ghost use Rattle.listing.specs.Formats.{first_place};
 
 use meta_headers::FileFormat;
 
-/// Where record 0 begins, in bytes.
+/// The offset of record 0 in bytes.
 pub fn first_place(format: FileFormat) -> usize
     ensures value { result ≡ first_place format }
     ensures few { result ≤ 40 }
@@ -18,7 +18,7 @@ pub fn first_place(format: FileFormat) -> usize
     }
 }
 
-/// The bytes of a file from record 0 on: none where the file is shorter.
+/// The bytes of a file from record 0 on. Empty if the file is shorter.
 pub fn records_in(format: FileFormat, file: &[u8]) -> &[u8]
     ensures { result.now ≡ record_bytes format file.now }
 {

@@ -1,4 +1,4 @@
-//! What a machine that plays on a small surface tells of a larger one.
+//! What a machine that plays on a small surface reveals about a larger one.
 
 ghost use Rattle.std.specs.Prelude.{◌≡◌, List, Some};
 ghost use Rattle.std.specs.Option.{option_map};
@@ -8,9 +8,9 @@ ghost use Rattle.draw_ops.specs.OperationOf.{operation_of};
 ghost use Rattle.draw_ops.specs.declared.record_fault.RecordFault.TheVariants.{NibTooWide};
 ghost use Rattle.dc_stack.specs.Drawing.{drawing_nib};
 ghost use Rattle.dc_stack.specs.Extents.{IsExtent};
-ghost use Rattle.dc_stack.specs.MachineState.{GoesOn, HasFullRoom, drawing_with};
+ghost use Rattle.dc_stack.specs.MachineState.{GoesOn, HasFullCapacity, drawing_with};
 ghost use Rattle.dc_stack.specs.OperationFault.{fault_of, nib_fault, off_plane_fault, wide_fault};
-ghost use Rattle.listing.specs.Judging.{IsFaultMet, IsLanded, IsPlaceFault, IsRunning, is_painting, without_pen};
+ghost use Rattle.listing.specs.DryRunState.{IsFaultMet, IsLanded, IsPlaceFault, IsRunning, is_painting, without_pen};
 
 use dc_stack::{Draw, Machine, fault_law, fits};
 use draw_ops::{Handle, Op, RecordFault};
@@ -21,7 +21,7 @@ use preflight_cert::need_law;
 /// The stock pen that draws nothing.
 const NO_PEN: Handle = Handle(0x8000_0008);
 
-/// `NibTooWide` where the drawing of the last step has too wide a nib on a surface.
+/// `NibTooWide` if the drawing of the last step has a nib that is too wide on a surface.
 fn wide_fault(
     machine: &Machine<'_, FileTable<'_>>,
     draw: &Draw<'_>,
@@ -49,7 +49,7 @@ fn nib_fault(
     }
 }
 
-/// `OffPlane` where points don't all land on a surface, whose least box on the plane this is.
+/// `OffPlane` if the points with this bounding box on the plane don't all land on a surface.
 fn off_plane(extent: Option<Rect>, place: Place) -> Option<RecordFault>
     ensures { (points : List Point) → IsExtent extent points → result ≡ off_plane_fault points (surface_of place) }
 {
@@ -60,7 +60,7 @@ fn off_plane(extent: Option<Rect>, place: Place) -> Option<RecordFault>
     }
 }
 
-/// The fault that the last step has on a surface by its points, or else by its nib.
+/// The fault that the last step has on a surface because of its points, or else its nib.
 fn place_fault(
     machine: &Machine<'_, FileTable<'_>>,
     drawn: &Option<Draw<'_>>,
@@ -84,8 +84,8 @@ pub(crate) fn is_painting(op: &Op<'_>) -> bool
     }
 }
 
-/// The fault that runs meet on a surface in the operation of the last step, which has none but by its place: of a path's painting the points
-/// were looked at where they were added.
+/// The fault that runs have on a surface in the operation of the last step, which has no other fault than that of its
+/// position. For the painting of a path, its points were checked when they were added.
 pub(crate) fn fault_met(
     machine: &Machine<'_, FileTable<'_>>,
     op: &Op<'_>,
@@ -103,9 +103,9 @@ pub(crate) fn fault_met(
 
 /// Selects the pen that draws nothing.
 fn select_no_pen<'a>(machine: &mut Machine<'a, FileTable<'a>>)
-    requires { HasFullRoom machine.old }
+    requires { HasFullCapacity machine.old }
     ensures state { machine.new.state ≡ without_pen machine.old.state }
-    ensures room { HasFullRoom machine.new }
+    ensures capacity { HasFullCapacity machine.new }
     ensures landed { IsLanded machine.old → IsLanded machine.new }
     ensures goes_on { GoesOn machine.old machine.new }
 {
@@ -116,8 +116,8 @@ fn select_no_pen<'a>(machine: &mut Machine<'a, FileTable<'a>>)
     }
 }
 
-/// The fault on a larger surface of an operation that has too wide a nib on the machine's: the same, or `OffPlane`. The run is at its end, so
-/// the operation is played without a pen: that tells where its points lie.
+/// The fault on a larger surface of an operation whose nib is too wide on the machine's: the same, or `OffPlane`. The
+/// run is over, so the operation is played with a null pen, which shows where its points lie.
 pub(crate) fn too_wide<'a>(
     machine: &mut Machine<'a, FileTable<'a>>,
     op: &Op<'a>,

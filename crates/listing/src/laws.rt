@@ -8,11 +8,13 @@ use mapping::nib_law;
 use meta_headers::opening_law;
 use preflight_cert::text_law;
 
-/// Wherever and by whatever fault of a record the run of a file stops, on a surface of allowed sides, and a certificate is refused for
-/// it: the line with that number in the file's listing is that of the record with this number, tells where it begins in the file, and has
-/// that fault, unless it is that of the certificate's own entry. Where the fault is too wide a nib, the line may have that of being off the
-/// plane in its place. Where the records break, the line tells that, by the place of the break. Of no path's painting a line tells that it is
-/// off the plane, since no run has that fault there: the path's points land on each surface where a run comes to it.
+/// The law of listings. Suppose that a run of the file stops in a record, on a surface of a valid size, or that a
+/// certificate is rejected there. Then the line with that number is the record's, says where the record begins, and has
+/// the same fault, unless that is in the certificate's own entry.
+///
+/// If the fault is a nib that is too wide, the line may say that the record is off the plane instead. If the records
+/// break, the line says where. No line says that the painting of a path is off the plane, since no run has that fault
+/// there: the points land on each surface where a run gets that far.
 pub fn listing_law()
     ensures { ListingLaws }
 {

@@ -5,6 +5,6 @@
 pub enum ListingEnd {
     /// With an end record.
     Ended,
-    /// With a fault of framing.
+    /// With a framing fault.
     Broken,
 }

@@ -1,38 +1,38 @@
-//! What is told of notes.
+//! The texts of notes.
 
 ghost use Rattle.std.specs.Prelude.{◌≡◌, ◌+◌, ◌≤◌, ◌++◌, length};
 ghost use Rattle.draw_ops.specs.NoteSet.{notes_in};
 ghost use Rattle.listing.specs.NoteTexts.{note_text, notes_text};
 
-use crate::page::Page;
+use crate::text_buffer::TextBuffer;
 use draw_ops::{Note, NoteSet};
 
-/// Puts a kind's name, where it is noted.
+/// Appends the name of a kind, if it is among the notes.
 #[tactic(auto, unfolding(crate::specs::NoteTexts::note_text))]
-fn put_note(page: &mut Page, notes: NoteSet, note: Note)
-    requires { length page.old + 20 ≤ 8192 }
-    ensures text { page.new ≡ page.old ++ note_text (notes_in notes) note }
-    ensures short { length page.new ≤ length page.old + 20 }
+fn put_note(buffer: &mut TextBuffer, notes: NoteSet, note: Note)
+    requires { length buffer.old + 20 ≤ 8192 }
+    ensures text { buffer.new ≡ buffer.old ++ note_text (notes_in notes) note }
+    ensures short { length buffer.new ≤ length buffer.old + 20 }
 {
     if notes.contains(note) {
-        page.put("; ");
-        page.put(note.name());
+        buffer.put("; ");
+        buffer.put(note.name());
     }
 }
 
-/// Puts the names of the kinds that are noted.
-pub(crate) fn put_notes(page: &mut Page, notes: NoteSet)
-    requires { length page.old + 180 ≤ 8192 }
-    ensures text { page.new ≡ page.old ++ notes_text (notes_in notes) }
-    ensures short { length page.new ≤ length page.old + 180 }
+/// Appends the names of the kinds of notes.
+pub(crate) fn put_notes(buffer: &mut TextBuffer, notes: NoteSet)
+    requires { length buffer.old + 180 ≤ 8192 }
+    ensures text { buffer.new ≡ buffer.old ++ notes_text (notes_in notes) }
+    ensures short { length buffer.new ≤ length buffer.old + 180 }
 {
-    put_note(page, notes, Note::PlaceableChecksum);
-    put_note(page, notes, Note::PlaceableFields);
-    put_note(page, notes, Note::SizeField);
-    put_note(page, notes, Note::AfterEnd);
-    put_note(page, notes, Note::DashedPen);
-    put_note(page, notes, Note::WidePen);
-    put_note(page, notes, Note::Isotropic);
-    put_note(page, notes, Note::EmfPlus);
-    put_note(page, notes, Note::Skipped);
+    put_note(buffer, notes, Note::PlaceableChecksum);
+    put_note(buffer, notes, Note::PlaceableFields);
+    put_note(buffer, notes, Note::SizeField);
+    put_note(buffer, notes, Note::AfterEnd);
+    put_note(buffer, notes, Note::DashedPen);
+    put_note(buffer, notes, Note::WidePen);
+    put_note(buffer, notes, Note::Isotropic);
+    put_note(buffer, notes, Note::EmfPlus);
+    put_note(buffer, notes, Note::Skipped);
 }

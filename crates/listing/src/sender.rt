@@ -1,34 +1,34 @@
-//! How pages go to a writer.
+//! Ways to send the text of a listing to a writer.
 
 ghost use Rattle.std.specs.Prelude.{ℕ, ◌+◌, ◌^◌, ◌<◌, ◌≤◌, OnErr, OnOk};
 ghost use Rattle.std.specs.Io.KnownBytes.{Appends};
-ghost use Rattle.canvas.specs.Ppm.{AppendsFront};
+ghost use Rattle.canvas.specs.Ppm.{AppendsPrefix};
 
 use canvas::{FaultCount, WriteFault, send, send_counted};
 use std::io::Write;
 
-/// A way to send bytes to a writer. What lists is one text for all of them.
+/// A way to send bytes to a writer. It lets the code that lists records be written once.
 pub(crate) trait Sender<W: Write> {
     /// How many faults a writer has counted.
     ghost faults: { W → ℕ };
 
-    /// How many a call counts where it fails: what counts has to have room for them.
+    /// How many faults a failing call counts. The counter must have room for them.
     ghost counted: { ℕ };
 
     /// Sends all of the bytes.
     fn send(out: &mut W, bytes: &[u8]) -> Result<(), WriteFault>
-        requires room { faults out.old + counted < 2 ^ 64 }
+        requires capacity { faults out.old + counted < 2 ^ 64 }
         ensures ok { OnOk result (Appends (W.contents out.old) (W.contents out.new) bytes.now) }
-        ensures err { OnErr result (AppendsFront (W.contents out.old) (W.contents out.new) bytes.now) }
+        ensures err { OnErr result (AppendsPrefix (W.contents out.old) (W.contents out.new) bytes.now) }
         ensures fault { OnErr result (faults out.old + counted ≤ faults out.new) }
-        ensures room { OnOk result (faults out.new + counted < 2 ^ 64) }
+        ensures capacity { OnOk result (faults out.new + counted < 2 ^ 64) }
         ensures count { faults out.old ≤ faults out.new };
 }
 
-/// By `write`, to any writer: no fault is counted.
+/// Sends bytes by `write` to any writer. Faults aren't counted.
 pub(crate) struct Uncounted;
 
-/// By `write_counted` alone, to a writer that counts its faults.
+/// Sends bytes by `write_counted` only, to a writer that counts its faults.
 pub(crate) struct Counted;
 
 impl<W: Write> Sender<W> for Uncounted {

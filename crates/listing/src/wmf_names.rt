@@ -1,10 +1,10 @@
-//! The names of the functions in the standard.
+//! The names of WMF functions in the standard.
 
 ghost use Rattle.std.specs.Prelude.{◌≡◌, ◌≤◌, IfSome, length};
 ghost use Rattle.std.specs.Option.{option_map};
 ghost use Rattle.listing.specs.WmfNames.{EachFunctionHasAName, wmf_name_of};
 
-/// The name of a function ([MS-WMF] 2.1.1.1): none exactly where the standard has no such function.
+/// The name of a function ([MS-WMF] 2.1.1.1). `None` exactly if the standard has no such function.
 pub fn function_name(function: u32) -> Option<&'static str>
     ensures name { option_map (λ name. name.now) result ≡ wmf_name_of function }
     ensures short { IfSome result (λ name. length name.now ≤ 27) }
@@ -84,7 +84,7 @@ pub fn function_name(function: u32) -> Option<&'static str>
     }
 }
 
-/// Each function of the table of kinds has a name, and no other has one.
+/// A law: the functions in the table of kinds have names, and no others have.
 pub fn wmf_names_law()
     ensures { EachFunctionHasAName }
 {}

@@ -57,9 +57,9 @@ lands_before (negsuc n) w side one some h =
     (λ (g : pos 0 ≤ℤ placed (negsuc n) w side). absurd (below_not n (placed (negsuc n) w side) w side some g low))
 
 -- and where l is behind it, it lands behind the surface
-pub lands_behind : (l : ℤ) (w side : ℕ) → 1 ≤ side → pos side ≤ℤ l → pos w ≤ℤ placed l w side
-lands_behind (negsuc n) w side one h = absurd (omega (arith, ints, h))
-lands_behind (pos n) w side one h =
+pub lands_after : (l : ℤ) (w side : ℕ) → 1 ≤ side → pos side ≤ℤ l → pos w ≤ℤ placed l w side
+lands_after (negsuc n) w side one h = absurd (omega (arith, ints, h))
+lands_after (pos n) w side one h =
     let le : side ≤ n = omega (arith, ints, h) in
     let product : w * side ≤ n * w = omega (arith, mul-le-mul_left w le) in
     (floor_is (pos n *ℤ pos w) side one).greatest (pos w) (omega (arith, ints, product))
@@ -75,11 +75,11 @@ none_before l r (suc w) side one h =
     count_indexes_none (lies_from_to l r (suc w) side) 0 (suc w)
     (λ x low small. false_from_ne_true _ (λ t. let high = (span_parts l r (suc w) side x t).1 in omega (arith, ints, high, before)))
 
-none_behind : (l r : ℤ) (w side : ℕ) → 1 ≤ side → pos side ≤ℤ l → count_indexes (lies_from_to l r w side) 0 w ≡ 0
-none_behind l r w side one h =
-    let behind = lands_behind l w side one h in
+none_after : (l r : ℤ) (w side : ℕ) → 1 ≤ side → pos side ≤ℤ l → count_indexes (lies_from_to l r w side) 0 w ≡ 0
+none_after l r w side one h =
+    let after = lands_after l w side one h in
     count_indexes_none (lies_from_to l r w side) 0 w
-    (λ x first small. false_from_ne_true _ (λ t. let low = (span_parts l r w side x t).0 in omega (arith, ints, low, behind, small)))
+    (λ x first small. false_from_ne_true _ (λ t. let low = (span_parts l r w side x t).0 in omega (arith, ints, low, after, small)))
 
 -- the first column is not before where l lands, or column 0
 pub first_from : (l : ℤ) (w side x : ℕ) → 1 ≤ side → placed l w side ≤ℤ pos x → count_of l * w / side ≤ x
@@ -122,15 +122,15 @@ near_few l r w side one order reaches before =
 
 -- the three ways to be away, or none
 pub by_away : {P : Type 0} (l r : ℤ) (side : ℕ) → (r <ℤ l → P) → (r <ℤ pos 0 → P) → (pos side ≤ℤ l → P) → (l ≤ℤ r → pos 0 ≤ℤ r → l <ℤ pos side → P) → P
-by_away l r side empty before behind near =
-    by_lt_z r l empty (λ (order : l ≤ℤ r). by_lt_z r (pos 0) before (λ (reaches : pos 0 ≤ℤ r). by_lt_z l (pos side) (λ (g : l <ℤ pos side). near order reaches g) behind))
+by_away l r side empty before after near =
+    by_lt_z r l empty (λ (order : l ≤ℤ r). by_lt_z r (pos 0) before (λ (reaches : pos 0 ≤ℤ r). by_lt_z l (pos side) (λ (g : l <ℤ pos side). near order reaches g) after))
 
 pub isnt_away : (l r : ℤ) (side : ℕ) → l ≤ℤ r → pos 0 ≤ℤ r → l <ℤ pos side → is_away l r side ≡ false
 isnt_away l r side a b c =
     let empty : int_lt r l ≡ false = int_lt-not r l a in
     let before : int_lt r (pos 0) ≡ false = int_lt-not r (pos 0) b in
-    let behind : int_le (pos side) l ≡ false = int_le-not (pos side) l (λ k. omega (arith, ints, k, c)) in
-    rw (empty, before, behind) refl
+    let after : int_le (pos side) l ≡ false = int_le-not (pos side) l (λ k. omega (arith, ints, k, c)) in
+    rw (empty, before, after) refl
 
 few : (l r : ℤ) (w side : ℕ) → IsFrameSide side → l ≤ℤ r → count_indexes (lies_from_to l r w side) 0 w ≤ cells l r w side
 few l r w side allowed order =
@@ -138,7 +138,7 @@ few l r w side allowed order =
     by_away l r side
     (λ (g : r <ℤ l). absurd (omega (arith, ints, g, order)))
     (λ (g : r <ℤ pos 0). let e = none_before l r w side one g in omega arith)
-    (λ (g : pos side ≤ℤ l). let e = none_behind l r w side one g in omega arith)
+    (λ (g : pos side ≤ℤ l). let e = none_after l r w side one g in omega arith)
     (λ (a : l ≤ℤ r) (b : pos 0 ≤ℤ r) (c : l <ℤ pos side). rw (isnt_away l r side a b c) (near_few l r w side one a b c))
 
 cond_most : (b : Bool) (m n : ℕ) → m ≤ n → cond b 0 m ≤ cond b 0 n

@@ -25,17 +25,17 @@ greatest (negsuc n) d (negsuc k) h =
     let above : n < suc k * suc d = omega (arith, ints, h) in let e = div_below n (suc d) (suc k) (omega arith) above in omega (arith, ints, e)
 
 -- a fraction stays as it is when both signs are turned
-turned : (q a : ℤ) (d : ℕ) → IsNotAbove q (neg_ℤ a) (pos (suc d)) → IsNotAbove q a (negsuc d)
-turned q a d h = omega (arith, ints, h)
+negated : (q a : ℤ) (d : ℕ) → IsNotAbove q (neg_ℤ a) (pos (suc d)) → IsNotAbove q a (negsuc d)
+negated q a d h = omega (arith, ints, h)
 
-turned_back : (q a : ℤ) (d : ℕ) → IsNotAbove q a (negsuc d) → IsNotAbove q (neg_ℤ a) (pos (suc d))
-turned_back q a d h = omega (arith, ints, h)
+negated_back : (q a : ℤ) (d : ℕ) → IsNotAbove q a (negsuc d) → IsNotAbove q (neg_ℤ a) (pos (suc d))
+negated_back q a d h = omega (arith, ints, h)
 
 pub floor_is_greatest : FloorDivisionIsGreatest
 floor_is_greatest a (pos zero) ne = absurd (ne refl)
 floor_is_greatest a (pos (suc d)) ne = record { not_above = low a d; greatest = greatest a d }
 floor_is_greatest a (negsuc d) ne =
-    record { not_above = turned _ a d (low (neg_ℤ a) d); greatest = λ q h. greatest (neg_ℤ a) d q (turned_back q a d h) }
+    record { not_above = negated _ a d (low (neg_ℤ a) d); greatest = λ q h. greatest (neg_ℤ a) d q (negated_back q a d h) }
 
 -- a number below 0, divided
 below : (n k : ℕ) → floor_div (neg_ℤ (pos (suc n))) (pos (suc k)) ≡ negsuc (n / suc k)
@@ -58,4 +58,4 @@ multiple (negsuc m) k =
 pub floor_of_multiple : (d v : ℤ) → v ≢ pos 0 → floor_div (d *ℤ v) v ≡ d
 floor_of_multiple d (pos zero) ne = absurd (ne refl)
 floor_of_multiple d (pos (suc k)) ne = multiple d k
-floor_of_multiple d (negsuc k) ne = let turned : neg_ℤ (d *ℤ negsuc k) ≡ d *ℤ pos (suc k) = omega (arith, ints) in rw turned (multiple d k)
+floor_of_multiple d (negsuc k) ne = let negated : neg_ℤ (d *ℤ negsuc k) ≡ d *ℤ pos (suc k) = omega (arith, ints) in rw negated (multiple d k)

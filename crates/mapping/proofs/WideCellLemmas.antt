@@ -13,7 +13,7 @@ use Rattle.mapping.specs.Cells.{cells, count_of, is_away, lies_near, rounded_up,
 use Rattle.mapping.specs.CellLaws.{WideCellLaws}
 use Rattle.mapping.specs.Nibs.{reach_after, reach_before}
 use Rattle.mapping.proofs.CountLemmas.{count_between}
-use Rattle.mapping.proofs.CellLemmas.{by_away, cells_law, counts_ordered, first_from, floors_apart, isnt_away, lands_before, lands_behind, last_to}
+use Rattle.mapping.proofs.CellLemmas.{by_away, cells_law, counts_ordered, first_from, floors_apart, isnt_away, lands_before, lands_after, last_to}
 
 -- the column lies at most so many before where l lands, and so many after where r does
 abbrev lies_within : ℤ → ℤ → ℕ → ℕ → ℕ → ℕ → ℕ → Bool
@@ -70,7 +70,7 @@ far_few l r before after (suc w) side n one order fits (inl h) =
     (λ x small t. let high = (near_parts l r before after (suc w) side x t).1 in omega (arith, ints, high, lands)) in
     omega (arith, all, few, fits)
 far_few l r before after (suc w) side n one order fits (inr h) =
-    let lands = lands_behind l (suc w) side one h in
+    let lands = lands_after l (suc w) side one h in
     let all = count_indexes_most (lies_within l r before after (suc w) side) 0 (suc w) in
     let few = count_last (lies_within l r before after (suc w) side) before (suc w)
     (λ x small t. let low = (near_parts l r before after (suc w) side x t).0 in omega (arith, ints, low, lands)) in

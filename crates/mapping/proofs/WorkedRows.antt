@@ -13,8 +13,8 @@ use Rattle.mapping.specs.Surface.{placed}
 abbrev upright : AxisNumbers
 upright = record { window_origin = pos 0; window_extent = pos 3; viewport_origin = pos 0; viewport_extent = pos 10; corner = pos 0 }
 
-abbrev turned : AxisNumbers
-turned = record { window_origin = pos 3; window_extent = negsuc 2; viewport_origin = pos 0; viewport_extent = pos 10; corner = pos 0 }
+abbrev negated : AxisNumbers
+negated = record { window_origin = pos 3; window_extent = negsuc 2; viewport_origin = pos 0; viewport_extent = pos 10; corner = pos 0 }
 
 upright_at_2 : plane_coordinate upright (pos 2) ≡ pos 6
 upright_at_2 = refl
@@ -22,14 +22,14 @@ upright_at_2 = refl
 upright_before_0 : plane_coordinate upright (negsuc 0) ≡ negsuc 3
 upright_before_0 = refl
 
-turned_at_3 : plane_coordinate turned (pos 3) ≡ pos 0
-turned_at_3 = refl
+negated_at_3 : plane_coordinate negated (pos 3) ≡ pos 0
+negated_at_3 = refl
 
-turned_at_1 : plane_coordinate turned (pos 1) ≡ pos 6
-turned_at_1 = refl
+negated_at_1 : plane_coordinate negated (pos 1) ≡ pos 6
+negated_at_1 = refl
 
-turned_at_0 : plane_coordinate turned (pos 0) ≡ pos 10
-turned_at_0 = refl
+negated_at_0 : plane_coordinate negated (pos 0) ≡ pos 10
+negated_at_0 = refl
 
 -- a surface of half the frame's size, rounded down on both sides of 0
 half_of_3 : placed (pos 3) 2 4 ≡ pos 1
@@ -52,7 +52,7 @@ scaled = with_viewport_extent (at (pos 10) (pos 10)) (with_window_extent (at (po
 scaled_x : scaled.x ≡ upright
 scaled_x = refl
 
-scaled_y : scaled.y ≡ turned
+scaled_y : scaled.y ≡ negated
 scaled_y = refl
 
 scaled_at_2_3 : plane_point scaled (pos 2) (pos 3) ≡ at (pos 6) (pos 0)
@@ -141,8 +141,8 @@ one_of_four = refl
 one_of_eight : cells (pos 3) (pos 4) 2 8 ≡ 2
 one_of_eight = refl
 
-behind_four : cells (pos 4) (pos 9) 4 4 ≡ 0
-behind_four = refl
+after_four : cells (pos 4) (pos 9) 4 4 ≡ 0
+after_four = refl
 
 none_of_four : cells (pos 0) (negsuc 0) 4 4 ≡ 0
 none_of_four = refl

@@ -1,4 +1,4 @@
--- What page maps and places do to boxes around points.
+-- How page maps and places map the bounding boxes of points.
 use Rattle.std.specs.Prelude.{◌≡◌, ◌≢◌, ◌&&◌, ◌++◌, ℕ, ℤ, pos, List, [], ◌∷◌, map}
 use Rattle.std.specs.List.{list_all}
 use Rattle.mapping.specs.Boxes.{IsBoxOver, IsTight, KeepsBetween, point_box, right_bottom_of, mapped_box_by, mapped_by, left_top_of}
@@ -9,8 +9,10 @@ use Rattle.mapping.specs.Surface.{Surface, lands_within_limits, placed}
 use Rattle.mapping.specs.declared.geometry.Point.{Point}
 use Rattle.mapping.specs.declared.geometry.Rect.{Rect}
 
--- The box around the least boxes of two lists of points is the least of both, also where one is a single point. A page map and a place keep what lies between two coordinates, on each axis. Where each axis is mapped so, the least box around points is
--- mapped to the least box around their images; and the images all land within the limits exactly where those of two of its corners do.
+-- The bounding box of two lists of points is the bounding box of the two lists' boxes; so is that of a list and one
+-- more point. A page map and a place map what lies between two coordinates to what lies between their images, on each
+-- axis. If each axis is mapped so, the bounding box of points is mapped to the bounding box of their images, and the
+-- images all land within the limits exactly if those of two corners do.
 pub record BoxLaws : Type 0 where
   pub single : (point : Point) → IsTight (point_box point) (point ∷ [])
   pub joins :

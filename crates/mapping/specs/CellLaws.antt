@@ -4,9 +4,9 @@ use Rattle.mapping.specs.Cells.{cells, lies_from_to, lies_near, wide_cells}
 use Rattle.mapping.specs.Limits.{IsFrameSide}
 use Rattle.mapping.specs.Pixels.{count_indexes, count_pixels}
 
--- Where l isn't behind r, at most so many columns lie from where l lands to where r does, and no fewer on a longer side; no fewer also from
--- what lies no later than l, to what lies no earlier than r. Pixels that lie in certain columns and in certain rows are at most as many as
--- those columns times those rows.
+-- If l isn't greater than r, at most `cells` columns lie from where l lands to where r lands. That number doesn't
+-- decrease if the surface grows or if the interval is extended. Pixels that lie in some columns and some rows are at
+-- most as many as the columns times the rows.
 pub record CellLaws : Type 0 where
   pub few : (l r : ℤ) (w side : ℕ) → IsFrameSide side → l ≤ℤ r → count_indexes (lies_from_to l r w side) 0 w ≤ cells l r w side
   pub grows : (l r : ℤ) (w longer side : ℕ) → IsFrameSide side → w ≤ longer → cells l r w side ≤ cells l r longer side
@@ -16,7 +16,9 @@ pub record CellLaws : Type 0 where
       → ((x y : ℕ) → test x y ≡ true → (column x ≡ true) × (row y ≡ true))
       → count_pixels test w 0 n ≤ count_indexes row 0 n * count_indexes column 0 w
 
--- The same for a nib of n columns or rows: a longer side, a wider interval and a wider nib have no fewer, and a nib of one has as many as `cells`.
+-- For a nib of n columns or rows: at most `wide_cells` of the surface's columns lie within its reach as it moves from
+-- where l lands to where r lands. A larger surface, a longer interval or a wider nib never decreases that number, and
+-- for a nib of one it equals `cells`.
 pub record WideCellLaws : Type 0 where
   pub few :
       (l r : ℤ) (w side n : ℕ) → IsFrameSide side → l ≤ℤ r

@@ -1,20 +1,20 @@
--- What is changed and what is counted index by index: of one list behind another, from another index on, and of rows laid together.
+-- Changing and counting by index: for a list after another, from another index on, and for consecutive rows.
 use Rattle.std.specs.Prelude.{◌≡◌, ◌<◌, ◌≤◌, ℕ, zero, suc, ◌+◌, ◌*◌, ◌/◌, ◌%◌, Bool, true, false, cond, List, [], ◌∷◌, ◌++◌, length}
 use Rattle.std.proofs.Common.{refl, sym, ap, subst, ◌∙◌}
 use Rattle.std.proofs.Math.Nat.{add_assoc, add-mul, add-suc, add-zero, le-add_right, le-suc, le_of_suc-le, le_refl, le_trans, lt-suc_self, lt_of_lt_of_le, mul-add-div_right, mul-add-mod_self_right, suc-add, suc-le-suc_iff, zero-add}
 use Rattle.mapping.specs.declared.geometry.Colour.{Colour}
 use Rattle.mapping.specs.Pixels.{count_indexes, count_pixels, map_indexed, repainted}
 
--- a list stays as long as it is
+-- the length doesn't change
 pub length-map_indexed : (f : ℕ → Colour → Colour) (k : ℕ) (cs : List Colour) → length (map_indexed f k cs) ≡ length cs
 length-map_indexed f k [] = refl
 length-map_indexed f k (c ∷ cs) = ap suc (length-map_indexed f (suc k) cs)
 
--- the index behind the first, and behind those after it
+-- the next index, and the indexes after it
 next : (k m : ℕ) → suc k + m ≡ k + suc m
 next k m = suc-add k m ∙ sym (add-suc k m)
 
--- of one list, or so many indexes, behind another
+-- for one list, or range of indexes, after another
 pub map_indexed-append : (f : ℕ → Colour → Colour) (k : ℕ) (xs ys : List Colour) → map_indexed f k (xs ++ ys) ≡ map_indexed f k xs ++ map_indexed f (k + length xs) ys
 map_indexed-append f k [] ys = ap (λ (i : ℕ). map_indexed f i ys) (sym (add-zero k))
 map_indexed-append f k (x ∷ xs) ys =
@@ -29,7 +29,7 @@ count_indexes-append p k (suc m) n =
     ∙ ap (λ (rest : ℕ). here + rest) (count_indexes-append p (suc k) m n ∙ ap (λ (i : ℕ). count_indexes p (suc k) m + count_indexes p i n) (next k m))
     ∙ sym (add_assoc here (count_indexes p (suc k) m) (count_indexes p (k + suc m) n))
 
--- from another index on, where as much is done, or the test answers the same, so far behind
+-- from another index on, if the change or the test is the same at that distance
 pub map_indexed_moved :
     (f g : ℕ → Colour → Colour) (m k : ℕ) (cs : List Colour) → ((i : ℕ) (c : Colour) → f (m + i) c ≡ g i c) → map_indexed f (m + k) cs ≡ map_indexed g k cs
 map_indexed_moved f g m k [] same = refl
@@ -43,7 +43,8 @@ count_indexes_moved p q m k (suc n) same =
     ap (λ (b : Bool). cond b 1 0 + count_indexes p (suc (m + k)) n) (same k)
     ∙ ap (λ (rest : ℕ). cond (q k) 1 0 + rest) (ap (λ (i : ℕ). count_indexes p i n) (sym (add-suc m k)) ∙ count_indexes_moved p q m (suc k) n same)
 
--- where each element stays, the list does; no index is counted where the test fails at each, and none twice
+-- if every element is unchanged, so is the list; no index is counted if the test fails at each, and none is counted
+-- twice
 first_below : (k n : ℕ) → k < k + suc n
 first_below k n = lt_of_lt_of_le (lt-suc_self k) (subst (λ (m : ℕ). suc k ≤ m) (next k n) (le-add_right (suc k) n))
 
@@ -72,7 +73,7 @@ pub count_indexes_most : (p : ℕ → Bool) (k n : ℕ) → count_indexes p k n 
 count_indexes_most p k zero = le_refl zero
 count_indexes_most p k (suc n) = one_more (p k) _ n (count_indexes_most p (suc k) n)
 
--- rows so wide, laid together: the pixel at an index behind so many of them
+-- consecutive rows of this width: the pixel at an index after them
 module _ (width first rows : ℕ) (wide : 1 ≤ width) where
   column : (i : ℕ) → (rows * width + i) % width ≡ i % width
   column i = mul-add-mod_self_right rows width i
@@ -81,8 +82,8 @@ module _ (width first rows : ℕ) (wide : 1 ≤ width) where
   row i = ap (λ (q : ℕ). first + q) (mul-add-div_right wide rows i) ∙ sym (add_assoc first rows (i / width))
 
   -- the index where they end
-  behind : {A : Type 0} (at : ℕ → A) → at (0 + rows * width) ≡ at (rows * width + 0)
-  behind at = ap at (zero-add (rows * width) ∙ sym (add-zero (rows * width)))
+  after : {A : Type 0} (at : ℕ → A) → at (0 + rows * width) ≡ at (rows * width + 0)
+  after at = ap at (zero-add (rows * width) ∙ sym (add-zero (rows * width)))
 
   pub count_pixels_laid :
       (test : ℕ → ℕ → Bool) (more : ℕ) → count_pixels test width first (rows + more) ≡ count_pixels test width first rows + count_pixels test width (first + rows) more
@@ -92,7 +93,7 @@ module _ (width first rows : ℕ) (wide : 1 ≤ width) where
       ap (count_indexes p 0) (add-mul rows more width)
       ∙ count_indexes-append p 0 (rows * width) (more * width)
       ∙ ap (λ (n : ℕ). count_indexes p 0 (rows * width) + n)
-      (behind (λ (k : ℕ). count_indexes p k (more * width))
+      (after (λ (k : ℕ). count_indexes p k (more * width))
       ∙ count_indexes_moved p q (rows * width) 0 (more * width)
       (λ i. ap (λ (x : ℕ). test x (first + (rows * width + i) / width)) (column i) ∙ ap (λ (y : ℕ). test (i % width) y) (row i)))
 
@@ -106,6 +107,6 @@ module _ (width first rows : ℕ) (wide : 1 ≤ width) where
       map_indexed-append p 0 upper lower
       ∙ ap (λ (rest : List Colour). map_indexed p 0 upper ++ rest)
       (ap (λ (n : ℕ). map_indexed p (0 + n) lower) long
-      ∙ behind (λ (k : ℕ). map_indexed p k lower)
+      ∙ after (λ (k : ℕ). map_indexed p k lower)
       ∙ map_indexed_moved p q (rows * width) 0 lower
       (λ i old. ap (λ (x : ℕ). pixel x (first + (rows * width + i) / width) old) (column i) ∙ ap (λ (y : ℕ). pixel (i % width) y old) (row i)))

@@ -7,7 +7,7 @@ use Rattle.mapping.specs.Surface.{LandsWithinLimits, Surface, lands_within_limit
 use Rattle.mapping.specs.Nibs.{IsNib, is_nib}
 use Rattle.mapping.specs.declared.nib.Nib.{Nib}
 
--- each test of a limit holds exactly where the fact does
+-- each test of a limit is true exactly if the limit holds
 pub record TestsAreLimits : Type 0 where
   pub within : (limit : ℕ) (v : ℤ) → IsTrue (is_within limit v) ↔ IsWithin limit v
   pub on_plane : (point : Point) → IsTrue (is_on_plane point) ↔ IsOnPlane point

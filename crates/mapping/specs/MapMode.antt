@@ -9,6 +9,6 @@ map_mode_code Text = 1
 map_mode_code Isotropic = 7
 map_mode_code Anisotropic = 8
 
--- the map mode with this number, of those that are played
+-- the supported map mode with this number
 abbrev pub map_mode_of : ℕ → Option MapMode
 map_mode_of code = find (λ mode. map_mode_code mode == code) (Text ∷ Isotropic ∷ Anisotropic ∷ [])

@@ -7,21 +7,21 @@ use Rattle.mapping.specs.PlacingLaws.{IsNoLarger, ShowsFrame}
 use Rattle.mapping.specs.Surface.{Surface}
 use Rattle.mapping.specs.declared.nib.Nib.{Nib}
 
--- the longest side of a nib, in pixels
+-- the greatest width or height of a nib, in pixels
 abbrev pub nib_limit : ℕ
 nib_limit = 4096
 
--- a nib may have this side
+-- a nib may have this width or height
 pub record IsNibSide (n : ℕ) : Type 0 where
   pub not_empty : 1 ≤ n
   pub within : n ≤ nib_limit
 
--- a nib may have these sides
+-- a nib may have this size
 pub record IsNib (nib : Nib) : Type 0 where
   pub x : IsNibSide nib.x
   pub y : IsNibSide nib.y
 
--- the same, as tests
+-- whether a nib may have this width or height, or this size
 abbrev pub is_nib_side : ℕ → Bool
 is_nib_side n = nat_le 1 n && nat_le n nib_limit
 
@@ -42,20 +42,20 @@ nib_true nib test =
 pub nib_from : (nib : Nib) → IsNib nib → is_nib nib ≡ true
 nib_from nib h = and_from (is_nib_side nib.x) (is_nib_side nib.y) (nib_side_from nib.x h.x) (nib_side_from nib.y h.y)
 
--- Of the n columns of a nib, so many lie before the column that it is led along; rows alike.
+-- of the n columns, or rows, of a nib, how many lie before the one that follows the line
 abbrev pub reach_before : ℕ → ℕ
 reach_before n = (n - 1) / 2
 
--- And so many lie after it.
+-- of the n columns, or rows, of a nib, how many lie after the one that follows the line
 abbrev pub reach_after : ℕ → ℕ
 reach_after n = n - 1 - reach_before n
 
--- a width of the page scaled to a surface's side and rounded down
+-- a width in page units, scaled to a surface and rounded down
 abbrev pub scaled_width : ℕ → AxisNumbers → ℕ → ℕ → ℕ
 scaled_width width axis surface_side frame_side =
     width * unsigned_abs axis.viewport_extent * surface_side / (unsigned_abs axis.window_extent * frame_side)
 
--- A pen of this width covers so many pixels of the side, and at least one.
+-- how many columns, or rows, of the surface a pen of this width covers: at least one
 abbrev pub nib_side : ℕ → AxisNumbers → ℕ → ℕ → ℕ
 nib_side width axis surface_side frame_side = max 1 (scaled_width width axis surface_side frame_side)
 

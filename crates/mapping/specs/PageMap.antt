@@ -1,4 +1,4 @@
--- The numbers of a page map, as its definitions read them.
+-- The numbers of a page map.
 use Rattle.std.specs.Prelude.{ℤ, pos, unsigned_abs}
 use Rattle.mapping.specs.Plane.{AxisNumbers, MapNumbers, plane_coordinate}
 use Rattle.mapping.specs.declared.geometry.Point.{Point}
@@ -20,11 +20,12 @@ axis_numbers a = record {
 abbrev pub axis_coordinate : PageAxis → ℤ → ℤ
 axis_coordinate a v = plane_coordinate (axis_numbers a) v
 
--- the numbers of a map, and its mode
+-- the numbers of a map, with its mode
 abbrev pub map_numbers : PageMap → MapNumbers
 map_numbers map = record { mode = map.mode; x = axis_numbers map.x; y = axis_numbers map.y }
 
--- A placeable file's start: the window is its box, and the viewport the frame, which has the box's size and the corner 0.
+-- an initial axis of a placeable file: the window is its box, and the viewport is the frame, which has the box's size
+-- and the corner 0
 abbrev pub placeable_axis : ℤ → ℤ → AxisNumbers
 placeable_axis origin extent = record {
   window_origin = origin;
@@ -34,19 +35,20 @@ placeable_axis origin extent = record {
   corner = pos 0;
 }
 
--- the map of a placeable file whose box has this corner and these sides: each axis is scaled by itself
+-- the initial map of a placeable file whose box has this corner and this size, scaled separately on each axis
 abbrev pub placeable_map : Point → Point → MapNumbers
-placeable_map corner sides = record {
+placeable_map corner dimensions = record {
   mode = Anisotropic;
-  x = placeable_axis corner.x sides.x;
-  y = placeable_axis corner.y sides.y;
+  x = placeable_axis corner.x dimensions.x;
+  y = placeable_axis corner.y dimensions.y;
 }
 
--- the map of a plain WMF file whose window has these sides: that of a placeable file whose box has its corner at 0
+-- the initial map of a plain WMF file whose window has this size: that of a placeable file whose box has its corner at
+-- 0
 abbrev pub plain_map : Point → MapNumbers
-plain_map sides = placeable_map (record { x = pos 0; y = pos 0 }) sides
+plain_map dimensions = placeable_map (record { x = pos 0; y = pos 0 }) dimensions
 
--- an axis that scales nothing: a page coordinate is one of the device, seen from the frame's corner
+-- an axis without scaling: page coordinates are device coordinates, relative to the frame's corner
 abbrev pub unscaled_axis : ℤ → AxisNumbers
 unscaled_axis corner = record {
   window_origin = pos 0;
@@ -56,6 +58,6 @@ unscaled_axis corner = record {
   corner = corner;
 }
 
--- the map of an EMF file whose bounds have this corner
+-- the initial map of an EMF file whose bounds have this corner
 abbrev pub unscaled_map : Point → MapNumbers
 unscaled_map corner = record { mode = Text; x = unscaled_axis corner.x; y = unscaled_axis corner.y }

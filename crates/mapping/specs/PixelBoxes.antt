@@ -5,19 +5,19 @@ use Rattle.mapping.specs.Boxes.{HasPoint}
 use Rattle.mapping.specs.TestLaws.{int_le-from, int_le-true, int_lt-from, int_lt-true}
 use Rattle.mapping.specs.declared.geometry.Rect.{Rect}
 
--- a box of a surface has the pixel in this column and row, its right and bottom included
+-- a box of a surface contains the pixel in this column and row; right and bottom are inclusive
 abbrev pub BoxHasPixel : Rect → ℕ → ℕ → Type 0
 BoxHasPixel box x y = HasPoint box (record { x = pos x; y = pos y })
 
--- the number is at or past the first, and before the second
+-- the number is at or after the first and before the second
 abbrev pub is_from_to : ℤ → ℤ → ℕ → Bool
 is_from_to from to n = int_le from (pos n) && int_lt (pos n) to
 
--- a box of a surface has the pixel: from its left and top on, up to before its right and bottom
+-- a box of a surface contains the pixel; right and bottom are exclusive
 abbrev pub in_box : Rect → ℕ → ℕ → Bool
 in_box box x y = is_from_to box.l box.r x && is_from_to box.t box.b y
 
--- what the test of a number tells, and when it passes
+-- what follows from the test of a number, and when it is true
 pub from_to_true : (from to : ℤ) (n : ℕ) → is_from_to from to n ≡ true → (from ≤ℤ pos n) × (pos n <ℤ to)
 from_to_true from to n test =
     let parts = and_parts (int_le from (pos n)) (int_lt (pos n) to) test in

@@ -14,31 +14,32 @@ pub record AxisNumbers : Type 0 where
   pub viewport_extent : ℤ
   pub corner : ℤ
 
--- the numbers of a page map, and its mode
+-- the numbers of a page map, with its mode
 pub record MapNumbers : Type 0 where
   pub mode : MapMode
   pub x : AxisNumbers
   pub y : AxisNumbers
 
--- The distance from the window's origin, scaled from the window's extent to the viewport's and rounded down,
--- from the viewport's origin on. The frame's corner is the plane's origin.
+-- The plane coordinate of a page coordinate: its distance from the window's origin is scaled from the window's extent
+-- to the viewport's and rounded down, and the viewport's origin is added. The frame's corner is the origin of the
+-- plane.
 abbrev pub plane_coordinate : AxisNumbers → ℤ → ℤ
 plane_coordinate n v = floor_div ((v -ℤ n.window_origin) *ℤ n.viewport_extent) n.window_extent +ℤ n.viewport_origin -ℤ n.corner
 
--- the plane point of a page point, each axis by itself
+-- the plane point of a page point, computed separately on each axis
 abbrev pub plane_point : MapNumbers → ℤ → ℤ → Point
 plane_point map x y = record { x = plane_coordinate map.x x; y = plane_coordinate map.y y }
 
--- the coordinate is one of the plane
+-- the coordinate lies on the plane
 abbrev pub IsPlaneCoordinate : ℤ → Type 0
 IsPlaneCoordinate v = IsWithin plane_limit v
 
--- the point is one of the plane
+-- the point lies on the plane
 pub record IsOnPlane (point : Point) : Type 0 where
   pub x : IsPlaneCoordinate point.x
   pub y : IsPlaneCoordinate point.y
 
--- the same, as a test
+-- whether the point lies on the plane
 abbrev pub is_on_plane : Point → Bool
 is_on_plane point = is_within plane_limit point.x && is_within plane_limit point.y
 

@@ -1,4 +1,4 @@
-//! How many columns or rows of a surface a part of the plane meets at most.
+//! The greatest number of columns or rows of a surface that a part of the plane can meet.
 
 ghost use Rattle.std.specs.Prelude.{◌≡◌, ◌≤◌, ◌+◌, ◌-◌, ◌*◌, min, int_lt, if◌then◌else◌};
 ghost use Rattle.mapping.specs.CellLaws.{CellLaws, WideCellLaws};
@@ -8,8 +8,9 @@ ghost use Rattle.mapping.specs.Limits.{IsFrameSide, IsSurfaceSide, surface_side_
 use crate::divisor::Divisor;
 use crate::place::Place;
 
-/// How many columns, or rows, of a surface with this side the plane from `l` to `r`, both included, meets at most: none where `r` is
-/// before `l`, or the frame's side lies beside them. A surface's side is from 1 to 8,192 pixels, a frame's from 1 to 2^28 plane units.
+/// The greatest number of columns, or rows, of a surface that the plane from `l` to `r`, inclusive, can meet. It is 0
+/// if `r` is less than `l`, or if the frame lies outside that part. A surface has a width or height of 1 to 8,192
+/// pixels, a frame one of 1 to 2^28 plane units.
 pub fn cells(l: i32, r: i32, surface_side: u32, frame_side: u32) -> u32
     requires surface { IsSurfaceSide surface_side }
     requires frame { IsFrameSide frame_side }
@@ -20,7 +21,7 @@ pub fn cells(l: i32, r: i32, surface_side: u32, frame_side: u32) -> u32
 }
 
 impl Place {
-    /// How many columns of the surface the plane from `l` to `r`, both included, meets at most.
+    /// The greatest number of columns of the surface that the plane from `l` to `r`, inclusive, can meet.
     pub fn columns(&self, l: i32, r: i32) -> u32
         ensures cells { result ≡ cells l r self.now.width self.now.frame.width }
         ensures few { result ≤ self.now.width }
@@ -28,7 +29,7 @@ impl Place {
         cells_by(l, r, self.width, self.by_width)
     }
 
-    /// How many rows of the surface the plane from `t` to `b`, both included, meets at most.
+    /// The greatest number of rows of the surface that the plane from `t` to `b`, inclusive, can meet.
     pub fn rows(&self, t: i32, b: i32) -> u32
         ensures cells { result ≡ cells t b self.now.height self.now.frame.height }
         ensures few { result ≤ self.now.height }
@@ -36,7 +37,8 @@ impl Place {
         cells_by(t, b, self.height, self.by_height)
     }
 
-    /// How many columns of the surface a nib of `nib_side` columns covers at most that is led over the plane from `l` to `r`, both included.
+    /// The greatest number of columns of the surface that a nib of `nib_side` columns can cover as it moves over the
+    /// plane from `l` to `r`, inclusive.
     pub fn wide_columns(&self, l: i32, r: i32, nib_side: u16) -> u32
         ensures cells { result ≡ wide_cells l r self.now.width self.now.frame.width nib_side }
         ensures few { result ≤ self.now.width }
@@ -44,7 +46,8 @@ impl Place {
         widened(l, r, self.width, nib_side, self.columns(l, r))
     }
 
-    /// How many rows of the surface a nib of `nib_side` rows covers at most that is led over the plane from `t` to `b`, both included.
+    /// The greatest number of rows of the surface that a nib of `nib_side` rows can cover as it moves over the plane
+    /// from `t` to `b`, inclusive.
     pub fn wide_rows(&self, t: i32, b: i32, nib_side: u16) -> u32
         ensures cells { result ≡ wide_cells t b self.now.height self.now.frame.height nib_side }
         ensures few { result ≤ self.now.height }
@@ -53,8 +56,8 @@ impl Place {
     }
 }
 
-/// How many columns, or rows, of a surface with this side a nib of `nib_side` of them covers at most that is led over the plane from `l`
-/// to `r`, both included: none where `r` is before `l`.
+/// The greatest number of columns, or rows, of a surface that a nib of `nib_side` columns, or rows, can cover as it
+/// moves over the plane from `l` to `r`, inclusive. It is 0 if `r` is less than `l`.
 pub fn wide_cells(l: i32, r: i32, surface_side: u32, frame_side: u32, nib_side: u16) -> u32
     requires surface { IsSurfaceSide surface_side }
     requires frame { IsFrameSide frame_side }
@@ -70,7 +73,7 @@ pub fn wide_cells(l: i32, r: i32, surface_side: u32, frame_side: u32, nib_side: 
     )
 }
 
-/// The same, where a nib of one covers so many.
+/// The same, from the number that a nib of one can cover.
 fn widened(l: i32, r: i32, surface_side: u32, nib_side: u16, cells: u32) -> u32
     requires side { surface_side ≤ surface_side_limit }
     requires few { cells ≤ surface_side }
@@ -83,7 +86,7 @@ fn widened(l: i32, r: i32, surface_side: u32, nib_side: u16, cells: u32) -> u32
     surface_side.min(cells + u32::from(nib_side.saturating_sub(1)))
 }
 
-/// How many columns, or rows, the plane meets at most, by the frame's side as a divisor.
+/// The number of columns, or rows, with the width or height of the frame as a divisor.
 #[tactic(auto, using(crate::proofs::MetLemmas::ordered))]
 fn cells_by(l: i32, r: i32, surface_side: u32, frame_side: Divisor) -> u32
     requires surface { IsSurfaceSide surface_side }
@@ -102,21 +105,21 @@ fn cells_by(l: i32, r: i32, surface_side: u32, frame_side: Divisor) -> u32
     )
 }
 
-/// Whether the plane from `l` to `r` has nothing, or lies before the frame's side or behind it.
+/// Whether the plane from `l` to `r` is empty, or lies before or after the frame.
 fn is_away(l: i32, r: i32, frame_side: u32) -> bool
     ensures { result ≡ is_away l r frame_side }
 {
     r < l || (r < 0 || i64::from(frame_side) <= i64::from(l))
 }
 
-/// A coordinate as a count, and 0 where it is below 0.
+/// A coordinate as a count; 0 if it is negative.
 fn count_of(v: i32) -> u32
     ensures { result ≡ count_of v }
 {
     v.max(0) as u32
 }
 
-/// How many columns, or rows, lie between two coordinates within the frame's side at most.
+/// The greatest number of columns, or rows, between two coordinates within the frame.
 fn met(from: u32, to: u32, surface_side: u32, frame_side: Divisor) -> u32
     requires surface { IsSurfaceSide surface_side }
     requires frame { IsFrameSide frame_side.number }
@@ -130,15 +133,15 @@ fn met(from: u32, to: u32, surface_side: u32, frame_side: Divisor) -> u32
     u64::from(surface_side).min(met) as u32
 }
 
-/// The law of cells: where one coordinate isn't behind another, at most so many columns lie from where it lands to where the other
-/// does, no fewer on a longer side or from an earlier coordinate to a later one; and pixels in certain columns and rows are at most
-/// as many as those columns times those rows.
+/// The law of cells. From where one coordinate lands to where a later one lands there are at most `cells` columns. That
+/// number doesn't decrease if the surface grows or if the interval is extended. And the number of pixels that lie in
+/// some columns and some rows is at most the number of these columns times the number of these rows.
 pub fn cell_law()
     ensures { CellLaws }
 {}
 
-/// The law of wide cells: so many columns, or rows, lie at most within reach of a nib that is led over a part of the plane. They are no
-/// fewer for a longer side, a wider part or a wider nib, and for a nib of one as many as without it.
+/// The law of wide cells. A nib that moves over a part of the plane covers at most `wide_cells` columns, or rows. That
+/// number doesn't decrease if the surface, the part or the nib grows, and for a nib of one it equals `cells`.
 pub fn wide_cell_law()
     ensures { WideCellLaws }
 {}

@@ -1,13 +1,13 @@
-//! Division by a number that stays, by multiplication.
+//! Division by a fixed number, done by multiplication.
 
 ghost use Rattle.std.specs.Prelude.{◌≡◌, ◌≤◌, ◌<◌, ◌+◌, ◌-◌, ◌*◌, ◌/◌, ◌^◌, pos};
 ghost use Rattle.mapping.specs.Floor.{floor_div};
 
-/// A number that many numbers are divided by. What is divided is multiplied by its reciprocal, which takes half the time.
+/// A number that divides many others. A dividend is multiplied by its reciprocal, which takes half the time.
 ///
 /// # Guarantees
 ///
-/// - The number is above 0, and its reciprocal is the greatest that, so many times, is below 2^64.
+/// - The number is above 0, and the reciprocal is the greatest number whose product with it is below 2^64.
 #[derive(Clone, Copy, Debug, PartialEq, Eq)]
 pub struct Divisor {
     pub number: u32,
@@ -17,7 +17,7 @@ pub struct Divisor {
 }
 
 impl Divisor {
-    /// A divisor from 1 on.
+    /// A divisor of at least 1.
     pub fn new(number: u32) -> Divisor
         requires { 1 ≤ number }
         ensures { result.number ≡ number }
@@ -28,7 +28,7 @@ impl Divisor {
         }
     }
 
-    /// How often the number goes into another.
+    /// The quotient of a number.
     pub fn quotient(self, dividend: u64) -> u64
         ensures { result ≡ dividend / self.number }
     {
@@ -38,7 +38,7 @@ impl Divisor {
         if rest < number { near } else { near + 1 }
     }
 
-    /// The greatest whole number that isn't above the fraction.
+    /// The floor of the fraction.
     pub fn floor(self, dividend: i64) -> i64
         ensures { result ≡ floor_div dividend (pos self.number) }
     {
@@ -50,7 +50,7 @@ impl Divisor {
     }
 }
 
-/// How often 2^64 goes into a product.
+/// The quotient of a product by 2^64.
 fn high_product(one: u64, other: u64) -> u64
     ensures { result ≡ one * other / 2 ^ 64 }
 {

@@ -1,9 +1,9 @@
-//! Floor division of whole numbers, which rounds towards the lesser number for every sign.
+//! Floor division of integers, which rounds down for every sign.
 
 ghost use Rattle.std.specs.Prelude.{◌≡◌, ◌≢◌, ◌<◌, ◌≤◌, ◌^◌, pos, unsigned_abs};
 ghost use Rattle.mapping.specs.Floor.{floor_div, FloorDivisionIsGreatest};
 
-/// The greatest whole number not above `dividend / divisor`. Neither is the type's least number, so both negations fit.
+/// The floor of `dividend / divisor`. Neither is the least number of its type, so both can be negated.
 pub(crate) fn floor_quotient(dividend: i64, divisor: i64) -> i64
     requires not_zero { divisor ≢ pos 0 }
     requires dividend_fits { unsigned_abs dividend < 2 ^ 63 }
@@ -17,7 +17,7 @@ pub(crate) fn floor_quotient(dividend: i64, divisor: i64) -> i64
     }
 }
 
-/// The same for numbers of more than 64 bits, which are far from the type's ends.
+/// The same for numbers of more than 64 bits, which are far from the limits of their type.
 pub(crate) fn wide_floor_quotient(dividend: i128, divisor: i128) -> i128
     requires not_zero { divisor ≢ pos 0 }
     requires dividend_fits { unsigned_abs dividend < 2 ^ 100 }
@@ -32,8 +32,8 @@ pub(crate) fn wide_floor_quotient(dividend: i128, divisor: i128) -> i128
     }
 }
 
-/// The law that gives floor division its meaning: the quotient is not above the fraction, and
-/// every whole number that isn't above the fraction is at most the quotient.
+/// The law that says what floor division means: the quotient isn't above the fraction, and every integer that isn't
+/// above the fraction is at most the quotient.
 pub fn floor_division_law()
     ensures { FloorDivisionIsGreatest }
 {}

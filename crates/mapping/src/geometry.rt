@@ -1,4 +1,4 @@
-//! Points, boxes, colours and frames: plain values that every layer passes on.
+//! Points, boxes, colours and frames: plain values that all crates use.
 
 ghost use Rattle.std.specs.Prelude.{◌≡◌, ◌↔◌, IsTrue, IsSome, IfSome};
 ghost use Rattle.std.specs.Int.{int_max, int_min};
@@ -7,25 +7,25 @@ ghost use Rattle.mapping.specs.PixelBoxes.{is_from_to};
 
 use crate::limits::MAX_FRAME_SIDE;
 
-/// A point, or two sides, of the page, of the plane or of a surface. On the plane and on a surface `x`
-/// grows to the right and `y` downwards.
+/// A point, or a width and a height, of the page, the plane or a surface. On the plane and on a surface, `x` grows to
+/// the right and `y` downwards.
 #[derive(Clone, Copy, Debug, PartialEq, Eq)]
 pub struct Point {
     pub x: i32,
     pub y: i32,
 }
 
-/// A box of the page, of the plane or of a surface, by its four sides. Each use says whether the right and
-/// the bottom belong to the box, and whether the sides are in order.
+/// A box of the page, the plane or a surface. Each use says whether the right and bottom edges belong to the box, and
+/// whether the edges are in order.
 #[derive(Clone, Copy, Debug, PartialEq, Eq)]
 pub struct Rect {
-    /// The left side: the first column of the box.
+    /// The left edge: the first column of the box.
     pub l: i32,
-    /// The top: the first row of the box.
+    /// The top edge: the first row of the box.
     pub t: i32,
-    /// The right side: the last column of the box, or the first one after it.
+    /// The right edge: the last column of the box, or the first one after it.
     pub r: i32,
-    /// The bottom: the last row of the box, or the first one after it.
+    /// The bottom edge: the last row of the box, or the first one after it.
     pub b: i32,
 }
 
@@ -33,7 +33,7 @@ impl Rect {
     ghost use Rattle.mapping.specs.Boxes.{IsBoxOver, box_between, common_box, has_box, has_part, left_top_of, point_box, right_bottom_of};
     ghost use Rattle.mapping.specs.PixelBoxes.{in_box, is_from_to};
 
-    /// The box around no point.
+    /// The bounding box of no points.
     pub const NONE: Rect = Rect {
         l: 0,
         t: 0,
@@ -41,7 +41,7 @@ impl Rect {
         b: -1,
     };
 
-    /// The box around a point, which is its right and bottom too.
+    /// The bounding box of one point.
     pub fn around(point: Point) -> Rect
         ensures { result ≡ point_box point }
     {
@@ -53,14 +53,14 @@ impl Rect {
         }
     }
 
-    /// The box around this box and a point, the right and the bottom included.
+    /// The bounding box of this box and a point. Right and bottom are inclusive.
     pub fn with(self, point: Point) -> Rect
         ensures { IsBoxOver self (point_box point) result }
     {
         self.joined(Rect::around(point))
     }
 
-    /// The box around this box and another, the right and the bottom included.
+    /// The bounding box of this box and another. Right and bottom are inclusive.
     pub fn joined(self, other: Rect) -> Rect
         ensures { IsBoxOver self other result }
     {
@@ -69,14 +69,14 @@ impl Rect {
         Rect::by_corners(left_top, right_bottom)
     }
 
-    /// The box between two points, whichever of them comes first, the right and the bottom included.
+    /// The box between two points in any order. Right and bottom are inclusive.
     pub fn between(first: Point, second: Point) -> Rect
         ensures { result ≡ box_between first second }
     {
         Rect::by_corners(least(first, second), most(first, second))
     }
 
-    /// The corner at the left and the top.
+    /// The top left corner.
     pub fn left_top(self) -> Point
         ensures { result ≡ left_top_of self }
     {
@@ -86,7 +86,7 @@ impl Rect {
         }
     }
 
-    /// The corner at the right and the bottom.
+    /// The bottom right corner.
     pub fn right_bottom(self) -> Point
         ensures { result ≡ right_bottom_of self }
     {
@@ -96,7 +96,7 @@ impl Rect {
         }
     }
 
-    /// What this box and another have in common.
+    /// The intersection of this box and another.
     pub fn common(self, other: Rect) -> Rect
         ensures { result ≡ common_box self other }
     {
@@ -105,7 +105,7 @@ impl Rect {
         Rect::by_corners(left_top, right_bottom)
     }
 
-    /// Whether another box lies inside this one, the right and the bottom of both included.
+    /// Whether another box lies inside this one. Right and bottom are inclusive for both.
     pub fn contains(self, other: Rect) -> bool
         ensures { result ≡ has_box self other }
     {
@@ -125,28 +125,28 @@ impl Rect {
         }
     }
 
-    /// Whether each column of another box is one of this one, the right of both included.
+    /// Whether each column of another box is a column of this one. The right edges are inclusive.
     fn has_columns_of(self, other: Rect) -> bool
         ensures { result ≡ has_part self.l self.r other.l other.r }
     {
         self.l <= other.l && other.r <= self.r
     }
 
-    /// Whether each row of another box is one of this one, the bottom of both included.
+    /// Whether each row of another box is a row of this one. The bottom edges are inclusive.
     fn has_rows_of(self, other: Rect) -> bool
         ensures { result ≡ has_part self.t self.b other.t other.b }
     {
         self.t <= other.t && other.b <= self.b
     }
 
-    /// Whether the box has the pixel `(x, y)` of a surface, its right and bottom excluded.
+    /// Whether the box contains the pixel `(x, y)` of a surface. Right and bottom are exclusive.
     pub fn has_pixel(self, x: u32, y: u32) -> bool
         ensures { result ≡ in_box self x y }
     {
         is_from_to(self.l, self.r, x) && self.has_row(y)
     }
 
-    /// Whether the box has the row `y` of a surface, its bottom excluded.
+    /// Whether the box contains the row `y` of a surface. The bottom is exclusive.
     pub fn has_row(self, y: u32) -> bool
         ensures { result ≡ is_from_to self.t self.b y }
     {
@@ -154,7 +154,7 @@ impl Rect {
     }
 }
 
-/// A colour of a pixel, each part from 0 (none) to 255 (full).
+/// The colour of a pixel, with components from 0 (none) to 255 (full).
 #[derive(Clone, Copy, Debug, PartialEq, Eq)]
 pub struct Colour {
     pub r: u8,
@@ -163,7 +163,7 @@ pub struct Colour {
 }
 
 impl Colour {
-    /// The colour of paper: what a file is played on.
+    /// The colour of paper, on which a file is played.
     pub const WHITE: Colour = Colour {
         r: 255,
         g: 255,
@@ -171,12 +171,12 @@ impl Colour {
     };
 }
 
-/// The part of the plane that a surface shows, by its two sides in plane units. Its corner is the
-/// plane's origin.
+/// The part of the plane that a surface shows, by its width and height in plane units. Its corner is the origin of the
+/// plane.
 ///
 /// # Guarantees
 ///
-/// - Each side is from 1 to 2^28.
+/// - The width and the height are from 1 to 2^28.
 #[derive(Clone, Copy, Debug, PartialEq, Eq)]
 pub struct Frame {
     pub width: u32,
@@ -186,9 +186,9 @@ pub struct Frame {
 }
 
 impl Frame {
-    /// The frame of these sides: none exactly where one of them is 0 or above 2^28.
+    /// The frame of this size. `None` exactly if the width or the height is 0 or above 2^28.
     pub fn new(width: u32, height: u32) -> Option<Frame>
-        ensures sides { IsSome result ↔ (IsFrameSide width × IsFrameSide height) }
+        ensures dimensions { IsSome result ↔ (IsFrameSide width × IsFrameSide height) }
         ensures width { IfSome result (λ frame. frame.width ≡ width) }
         ensures height { IfSome result (λ frame. frame.height ≡ height) }
     {
@@ -200,14 +200,14 @@ impl Frame {
     }
 }
 
-/// Whether a frame may have this side.
+/// Whether a frame may have this width or height.
 fn is_side(side: u32) -> bool
     ensures { IsTrue result ↔ IsFrameSide side }
 {
     1 <= side && side <= MAX_FRAME_SIDE
 }
 
-/// The point that has the lesser of two points' coordinates on each axis.
+/// The point with the smaller of two points' coordinates on each axis.
 fn least(first: Point, second: Point) -> Point
     ensures x { result.x ≡ int_min first.x second.x }
     ensures y { result.y ≡ int_min first.y second.y }
@@ -218,7 +218,7 @@ fn least(first: Point, second: Point) -> Point
     }
 }
 
-/// The point that has the greater of two points' coordinates on each axis.
+/// The point with the greater of two points' coordinates on each axis.
 fn most(first: Point, second: Point) -> Point
     ensures x { result.x ≡ int_max first.x second.x }
     ensures y { result.y ≡ int_max first.y second.y }
@@ -229,7 +229,7 @@ fn most(first: Point, second: Point) -> Point
     }
 }
 
-/// Whether a column or a row lies from one number on, up to before another.
+/// Whether a column or row is at or after one number and before another.
 fn is_from_to(from: i32, to: i32, at: u32) -> bool
     ensures { result ≡ is_from_to from to at }
 {

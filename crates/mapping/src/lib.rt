@@ -1,39 +1,39 @@
-//! Where a page coordinate lands: first on the plane, then on a surface.
+//! Where page coordinates land: first on the plane, then on a surface.
 //!
 //! # What is promised
 //!
-//! - No sum, product or quotient here wraps or divides by 0, for any page coordinate and any map
-//!   (each function is proved safe for all its inputs).
-//! - A plane coordinate is the floor of the exact fraction, also for negative extents
-//!   (`PageMap::plane`, by `plane_coordinate`; `floor_division_law` says what floor means).
-//! - A point leaves the plane, or doesn't fit a surface, exactly where a limit says so
-//!   (`PageMap::plane`, `Place::fits`).
-//! - The maps at the start of a placeable, a plain WMF and an EMF file are those that their headers define
+//! - No sum, product or quotient wraps or divides by 0, for any page coordinate and any map (each function is proved
+//!   safe for all its inputs).
+//! - A plane coordinate is the floor of the exact fraction, for negative extents too (`PageMap::plane`, by
+//!   `plane_coordinate`; `floor_division_law` says what floor means).
+//! - A point leaves the plane, or doesn't fit a surface, exactly if a limit says so (`PageMap::plane`, `Place::fits`).
+//! - The initial maps of a placeable WMF, a plain WMF and an EMF file are those that their headers define
 //!   (`PageMap::placeable`, `plain`, `unscaled`).
-//! - A record that sets the mode, an origin or an extent, or moves an origin, leaves the map that its rule
-//!   says, and the very same map where it is refused (`PageMap::set_mode`, `set_window_origin`,
-//!   `set_viewport_origin`, `set_window_extent`, `set_viewport_extent`, `offset_window_origin`,
-//!   `offset_viewport_origin`).
-//! - An extent is refused exactly where it is to be set and is 0 on an axis, and a moved origin exactly where
-//!   a coordinate of it isn't a number of 32 bits (the clauses `test` of the same).
-//! - Each test of a limit holds exactly where the limit does (`limits_law`).
-//! - Placing keeps the order of coordinates, and a point that lands within the limits on a surface does so on
-//!   each that is no larger and shows a frame of the same sides (`placing_law`).
-//! - The least box around points grows by a point (`Rect::around`, `Rect::with`), and page maps and places map it to the
-//!   least box around what the points are mapped to, by two of its corners, which tell whether all land (`box_law`).
-//! - A box has the corners, the pixels and the rows that its sides say, shares with another what lies in both, and contains another
-//!   where its sides do (`Rect::left_top`, `right_bottom`, `has_pixel`, `has_row`, `common`, `contains`).
-//! - A part of the plane meets at most so many columns, or rows, of a surface (`cells`), no fewer of a larger one, and a larger part
-//!   no fewer (`cell_law`).
-//! - A pen's nib has the sides that its width has on the surface, rounded down and at least 1, and there is none exactly where a side
-//!   would be above 4,096 (`Place::nib`). On a larger surface it is at least as large (`nib_law`).
-//! - A nib that is led over a part of the plane covers at most so many columns, or rows, of a surface (`wide_cells`), no fewer of a
-//!   larger one, and a larger nib no fewer (`wide_cell_law`).
-//! - A mix keeps, drops and flips the bits of a colour that it says, and no other (`Mix::apply`, by
-//!   `mixed_by`), and one of them makes a given colour of every colour (`Mix::copy`).
+//! - A record that sets the mode, an origin or an extent, or moves an origin, changes the map by its rule, and leaves
+//!   it unchanged if the record is rejected (`PageMap::set_mode`, `set_window_origin`, `set_viewport_origin`,
+//!   `set_window_extent`, `set_viewport_extent`, `offset_window_origin`, `offset_viewport_origin`).
+//! - An extent is rejected exactly if the mode lets it be set and it is 0 on an axis. A moved origin is rejected
+//!   exactly if one of its coordinates doesn't fit 32 bits (the clauses `test` of the same functions).
+//! - Each test of a limit is true exactly if the limit holds (`limits_law`).
+//! - Placing preserves the order of coordinates. A point that lands within the limits on a surface also does so on each
+//!   surface that is no larger and shows a frame of the same size (`placing_law`).
+//! - A bounding box can be extended point by point (`Rect::around`, `Rect::with`). Page maps and places map the
+//!   bounding box of points to the bounding box of their images, by two of its corners, which decide whether all of the
+//!   points land (`box_law`).
+//! - A box has the corners, pixels and rows that its edges define. Its intersection with another box is what both
+//!   contain, and it contains another box if its edges do (`Rect::left_top`, `right_bottom`, `has_pixel`, `has_row`,
+//!   `common`, `contains`).
+//! - `cells` bounds the number of columns, or rows, of a surface that a part of the plane meets. It doesn't decrease if
+//!   the surface or the part grows (`cell_law`).
+//! - A pen's nib has the size of the pen's width on the surface, rounded down and at least 1. There is no nib exactly
+//!   if its width or height would exceed 4,096 (`Place::nib`). On a larger surface it is at least as large (`nib_law`).
+//! - `wide_cells` bounds the number of columns, or rows, of a surface that a nib covers as it moves over a part of the
+//!   plane. It doesn't decrease if the surface or the nib grows (`wide_cell_law`).
+//! - A mix keeps, drops and flips the given bits of a colour and no others (`Mix::apply`, by `mixed_by`). One mix turns
+//!   every colour into a given one (`Mix::copy`).
 //!
-//! Nothing here is made for memory to be taken: the values are numbers. No contract says so, and a test
-//! over the built program counts its calls for memory.
+//! Nothing here allocates memory: the values are numbers. No contract says so, but a test counts the allocations of the
+//! built program.
 #![tactic(auto)]
 
 mod cell_count;

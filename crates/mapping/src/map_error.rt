@@ -1,9 +1,9 @@
-//! What a change of a page map can be refused for.
+//! Why a change of a page map is rejected.
 
 use std::error::Error;
 use std::fmt;
 
-/// An extent of 0 was to be set: nothing could be scaled by it.
+/// A record tried to set an extent of 0, by which nothing can be scaled.
 #[derive(Clone, Copy, Debug, PartialEq, Eq)]
 pub struct ZeroExtent;
 
@@ -20,7 +20,7 @@ impl fmt::Display for ZeroExtent {
 
 impl Error for ZeroExtent {}
 
-/// An origin was to be moved to where a coordinate isn't a number of 32 bits.
+/// A record tried to move an origin so far that a coordinate doesn't fit 32 bits.
 #[derive(Clone, Copy, Debug, PartialEq, Eq)]
 pub struct OffPlane;
 

@@ -3,19 +3,19 @@
 ghost use Rattle.std.specs.Prelude.{◌≡◌};
 ghost use Rattle.mapping.specs.MapMode.{map_mode_code, map_mode_of};
 
-/// How page coordinates are mapped ([MS-WMF] 2.1.1.16). The metric modes, 2 to 6, are not played.
+/// How page coordinates are mapped ([MS-WMF] 2.1.1.16). The metric modes, 2 to 6, aren't supported.
 #[derive(Clone, Copy, Debug, PartialEq, Eq)]
 pub enum MapMode {
     /// A unit is a pixel of the device.
     Text,
-    /// The standard scales both axes by one factor. It is played as `Anisotropic`, and noted.
+    /// The standard scales both axes by the same factor. It is played like `Anisotropic`, with a note.
     Isotropic,
-    /// The window is scaled to the viewport, each axis by itself.
+    /// The window is scaled to the viewport, separately on each axis.
     Anisotropic,
 }
 
 impl MapMode {
-    /// The mode with this number: none exactly where no mode that is played has it.
+    /// The mode with this number. `None` exactly if no supported mode has it.
     pub fn from_code(code: u32) -> Option<MapMode>
         ensures { result ≡ map_mode_of code }
     {

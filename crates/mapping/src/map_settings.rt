@@ -1,4 +1,4 @@
-//! What records change in a page map: its mode, and the origins and extents of its window and its viewport.
+//! How records change a page map: its mode, and the origins and extents of its window and its viewport.
 
 ghost use Rattle.std.specs.Prelude.{◌≡◌, ◌≢◌, ◌+ℤ◌, ◌||◌, pos, IfSome, OnErr, OnOk, is_err, is_ok, is_some};
 ghost use Rattle.std.specs.Ordering.{int_eq};
@@ -15,8 +15,8 @@ impl PageMap {
     ghost use Rattle.mapping.specs.MapSettings.{with_mode, with_viewport_extent, with_viewport_origin, with_window_extent, with_window_origin};
     ghost use Rattle.mapping.specs.MapSettings.{with_offset_viewport_origin, with_offset_window_origin};
 
-    /// Sets the mode ([MS-WMF] 2.3.5.17). The mode of text sets all four extents to 1, and they stay so
-    /// in a later mode until they are set.
+    /// Sets the mode ([MS-WMF] 2.3.5.17). Text mode sets all four extents to 1, and they stay so in a later mode until
+    /// they are set.
     pub fn set_mode(&mut self, mode: MapMode)
         ensures { map_numbers self.new ≡ with_mode mode (map_numbers self.old) }
     {
@@ -30,7 +30,7 @@ impl PageMap {
         self.mode = mode;
     }
 
-    /// Sets the window's origin ([MS-WMF] 2.3.5.31): the page point that lands on the viewport's.
+    /// Sets the window's origin ([MS-WMF] 2.3.5.31): the page point that lands on the viewport's origin.
     pub fn set_window_origin(&mut self, origin: Point)
         ensures { map_numbers self.new ≡ with_window_origin origin (map_numbers self.old) }
     {
@@ -38,8 +38,8 @@ impl PageMap {
         self.y = self.y.with_window(origin.y, self.y.window_extent);
     }
 
-    /// Sets the viewport's origin ([MS-WMF] 2.3.5.29): where the window's lands, before the frame's
-    /// corner is taken off.
+    /// Sets the viewport's origin ([MS-WMF] 2.3.5.29): where the window's origin lands, before the frame's corner is
+    /// subtracted.
     pub fn set_viewport_origin(&mut self, origin: Point)
         ensures { map_numbers self.new ≡ with_viewport_origin origin (map_numbers self.old) }
     {
@@ -47,8 +47,7 @@ impl PageMap {
         self.y = self.y.with_viewport(origin.y, self.y.viewport_extent);
     }
 
-    /// Sets the window's extent ([MS-WMF] 2.3.5.30) where the mode lets it be set, unless a side of it
-    /// is 0.
+    /// Sets the window's extent ([MS-WMF] 2.3.5.30) if the mode allows it. Fails if the extent is 0 on an axis.
     pub fn set_window_extent(&mut self, extent: Point) -> Result<(), ZeroExtent>
         ensures test { is_err result ≡ sets_zero_extent extent (map_numbers self.old) }
         ensures map { OnOk result (map_numbers self.new ≡ with_window_extent extent (map_numbers self.old)) }
@@ -65,8 +64,7 @@ impl PageMap {
         Ok(())
     }
 
-    /// Sets the viewport's extent ([MS-WMF] 2.3.5.28) where the mode lets it be set, unless a side of it
-    /// is 0.
+    /// Sets the viewport's extent ([MS-WMF] 2.3.5.28) if the mode allows it. Fails if the extent is 0 on an axis.
     pub fn set_viewport_extent(&mut self, extent: Point) -> Result<(), ZeroExtent>
         ensures test { is_err result ≡ sets_zero_extent extent (map_numbers self.old) }
         ensures map { OnOk result (map_numbers self.new ≡ with_viewport_extent extent (map_numbers self.old)) }
@@ -83,8 +81,7 @@ impl PageMap {
         Ok(())
     }
 
-    /// Moves the window's origin ([MS-WMF] 2.3.5.7), unless a coordinate would then not be a number of
-    /// 32 bits.
+    /// Moves the window's origin ([MS-WMF] 2.3.5.7). Fails if a coordinate would no longer fit 32 bits.
     pub fn offset_window_origin(&mut self, offset: Point) -> Result<(), OffPlane>
         ensures test { is_ok result ≡ is_page_point (offset_by offset (window_origin_of (map_numbers self.old))) }
         ensures map { OnOk result (map_numbers self.new ≡ with_offset_window_origin offset (map_numbers self.old)) }
@@ -100,8 +97,7 @@ impl PageMap {
         Ok(())
     }
 
-    /// Moves the viewport's origin ([MS-WMF] 2.3.5.6), unless a coordinate would then not be a number of
-    /// 32 bits.
+    /// Moves the viewport's origin ([MS-WMF] 2.3.5.6). Fails if a coordinate would no longer fit 32 bits.
     pub fn offset_viewport_origin(&mut self, offset: Point) -> Result<(), OffPlane>
         ensures test { is_ok result ≡ is_page_point (offset_by offset (viewport_origin_of (map_numbers self.old))) }
         ensures map { OnOk result (map_numbers self.new ≡ with_offset_viewport_origin offset (map_numbers self.old)) }
@@ -163,7 +159,7 @@ impl PageAxis {
     }
 }
 
-/// Whether records change the extents in this mode.
+/// Whether records can change the extents in this mode.
 fn may_set_extents(mode: MapMode) -> bool
     ensures { result ≡ may_set_extents mode }
 {
@@ -180,7 +176,7 @@ fn has_zero(extent: Point) -> bool
     extent.x == 0 || extent.y == 0
 }
 
-/// A coordinate moved by an offset: none exactly where the sum isn't a number of 32 bits.
+/// A coordinate moved by an offset. `None` exactly if the sum doesn't fit 32 bits.
 fn sum(coordinate: i32, offset: i32) -> Option<i32>
     ensures value { IfSome result (λ there. there ≡ coordinate +ℤ offset) }
     ensures test { is_some result ≡ is_page_coordinate (coordinate +ℤ offset) }

@@ -1,4 +1,4 @@
-//! How a colour is changed, bit by bit.
+//! Changes to a colour, bit by bit.
 
 ghost use Rattle.std.specs.Prelude.{◌≡◌, ◌↔◌, IfSome, IsSome};
 ghost use Rattle.mapping.specs.Colours.{black_colour};
@@ -7,8 +7,8 @@ ghost use Rattle.mapping.specs.Mixes.{mixed_by, mixed_part_by};
 
 use crate::geometry::Colour;
 
-/// How a colour is changed, bit by bit: each bit is kept where `keep` has a 1 and dropped to 0 where it has
-/// a 0, and then flipped where `flip` has a 1.
+/// A change to a colour, bit by bit: a bit is kept if `keep` has a 1 and dropped to 0 if it has a 0, and then flipped
+/// if `flip` has a 1.
 #[derive(Clone, Copy, Debug, PartialEq, Eq)]
 pub struct Mix {
     pub keep: Colour,
@@ -16,7 +16,7 @@ pub struct Mix {
 }
 
 impl Mix {
-    /// The mix that makes this colour of every colour.
+    /// The mix that turns every colour into this one.
     pub fn copy(colour: Colour) -> Mix
         ensures { (old : Colour) → mixed_by result old ≡ colour }
     {
@@ -26,7 +26,7 @@ impl Mix {
         }
     }
 
-    /// The colour that the mix makes of every colour, where it keeps nothing.
+    /// The colour that the mix turns every colour into, if it keeps no bits.
     pub fn constant(self) -> Option<Colour>
         ensures kept { IsSome result ↔ (self.keep ≡ black_colour) }
         ensures colour { IfSome result (λ colour. (old : Colour) → mixed_by self old ≡ colour) }
@@ -38,7 +38,7 @@ impl Mix {
         }
     }
 
-    /// What the mix makes of a colour.
+    /// The result of the mix on a colour.
     pub fn apply(self, old: Colour) -> Colour
         ensures { result ≡ mixed_by self old }
     {
@@ -50,7 +50,7 @@ impl Mix {
     }
 }
 
-/// The same for one part of a colour.
+/// The result for one component of a colour.
 fn mixed_part(keep: u8, flip: u8, old: u8) -> u8
     ensures { result ≡ mixed_part_by keep flip old }
 {

@@ -10,7 +10,7 @@ use crate::limits::limits_law;
 use crate::page_map::{PageAxis, PageMap};
 use crate::place::Place;
 
-/// The longest side of a nib, in pixels.
+/// The greatest width or height of a nib, in pixels.
 pub const MAX_NIB_SIDE: u16 = 4096;
 
 /// The pixels that a pen covers at once: a box of `x` columns by `y` rows.
@@ -26,7 +26,7 @@ impl Nib {
     /// The nib of one pixel.
     pub const ONE: Nib = Nib { x: 1, y: 1 };
 
-    /// Whether both sides are from 1 to 4,096 pixels.
+    /// Whether the width and the height are from 1 to 4,096 pixels.
     pub fn is_allowed(self) -> bool
         ensures limits { IsTrue result ↔ IsNib self }
         ensures test { result ≡ is_nib self }
@@ -37,7 +37,8 @@ impl Nib {
 }
 
 impl Place {
-    /// The nib of a pen of this width, in page units, under a page map: none exactly where a side would be above 4,096 pixels.
+    /// The nib of a pen of this width, in page units, under a page map. `None` exactly if its width or height would
+    /// exceed 4,096 pixels.
     pub fn nib(&self, width: u32, map: &PageMap) -> Option<Nib>
         ensures nib { let nib = nib_of width (map_numbers map.now) (surface_of self.now) in SomeIff result (IsNib nib) nib }
         ensures test { is_some result ≡ is_nib (nib_of width (map_numbers map.now) (surface_of self.now)) }
@@ -53,8 +54,8 @@ impl Place {
 }
 
 impl PageAxis {
-    /// How many pixels of a surface's side a pen of this width covers, or none where that is above 4,096. A map whose extents have the same
-    /// length on the axis scales nothing, and then the frame's side alone divides.
+    /// The width or height in pixels of the nib of a pen of this width. `None` if it exceeds 4,096. If the extents on
+    /// the axis have the same length, the map doesn't scale, and the only divisor is that of the frame.
     fn nib_side(&self, width: u32, surface_side: u32, frame_side: Divisor) -> Option<u16>
         ensures side { let side = nib_side width (axis_numbers self.now) surface_side frame_side.number in SomeIff result (IsNibSide side) side }
         ensures test { is_some result ≡ is_nib_side (nib_side width (axis_numbers self.now) surface_side frame_side.number) }
@@ -70,14 +71,14 @@ impl PageAxis {
         ))
     }
 
-    /// The length of the viewport, whichever way it extends.
+    /// The length of the viewport's extent, in either direction.
     fn viewport_length(&self) -> u32
         ensures { result ≡ unsigned_abs self.now.viewport_extent }
     {
         self.viewport_extent.unsigned_abs()
     }
 
-    /// The length of the window, whichever way it extends.
+    /// The length of the window's extent, in either direction.
     fn window_length(&self) -> u32
         ensures length { result ≡ unsigned_abs self.now.window_extent }
         ensures some { 1 ≤ result }
@@ -86,14 +87,14 @@ impl PageAxis {
     }
 }
 
-/// The product of two numbers, in twice their bits.
+/// The product of two numbers, with twice their bits.
 fn times(one: u32, other: u32) -> u64
     ensures { result ≡ one * other }
 {
     u64::from(one) * u64::from(other)
 }
 
-/// A length times a surface's side, divided: in 64 bits where the product fits.
+/// A length times the surface's width or height, divided. Done in 64 bits if the product fits.
 fn scaled(length: u64, surface_side: u32, whole: u64) -> u128
     requires { 1 ≤ whole }
     ensures { result ≡ length * surface_side / whole }
@@ -104,7 +105,8 @@ fn scaled(length: u64, surface_side: u32, whole: u64) -> u128
     }
 }
 
-/// The side of a nib that is so many parts of a frame's side wide. Most pens cover one pixel, which a comparison tells.
+/// The size of a nib that is `part` divided by the width or height of the frame. Most pens cover one pixel, which a
+/// comparison detects.
 fn unscaled_side(part: u64, frame_side: Divisor) -> Option<u16>
     ensures side { let side = max 1 (part / frame_side.number) in SomeIff result (IsNibSide side) side }
     ensures test { is_some result ≡ is_nib_side (max 1 (part / frame_side.number)) }
@@ -115,7 +117,7 @@ fn unscaled_side(part: u64, frame_side: Divisor) -> Option<u16>
     allowed_side(u128::from(frame_side.quotient(part)))
 }
 
-/// The side of a nib that covers at least one pixel, or none where that is above 4,096.
+/// The size of a nib, at least one pixel. `None` if it exceeds 4,096.
 fn allowed_side(pixels: u128) -> Option<u16>
     ensures side { let side = max 1 pixels in SomeIff result (IsNibSide side) side }
     ensures test { is_some result ≡ is_nib_side (max 1 pixels) }
@@ -128,7 +130,7 @@ fn allowed_side(pixels: u128) -> Option<u16>
     }
 }
 
-/// How many columns, or rows, of a nib with this side lie before the one that it is led along.
+/// For a nib of this width or height, how many of its columns, or rows, lie before the one that follows the line.
 pub fn reach_before(side: u16) -> i32
     requires { IsNibSide side }
     ensures reach { result ≡ pos (reach_before side) }
@@ -137,7 +139,7 @@ pub fn reach_before(side: u16) -> i32
     i32::from((side - 1) / 2)
 }
 
-/// How many lie after it.
+/// How many of them lie after it.
 pub fn reach_after(side: u16) -> i32
     requires { IsNibSide side }
     ensures reach { result ≡ pos (reach_after side) }
@@ -146,7 +148,7 @@ pub fn reach_after(side: u16) -> i32
     i32::from(side - 1 - (side - 1) / 2)
 }
 
-/// The law of nibs: on a longer side of a surface a pen covers at least as many pixels, and a pen of width 0 covers one.
+/// The law of nibs: on a wider or higher surface a pen covers at least as many pixels, and a pen of width 0 covers one.
 pub fn nib_law()
     ensures { NibLaws }
 {}

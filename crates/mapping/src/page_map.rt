@@ -1,4 +1,4 @@
-//! The page map: where a page coordinate lands on the plane.
+//! Page maps: where page coordinates land on the plane.
 
 ghost use Rattle.std.specs.Prelude.{◌≡◌, ◌≢◌, ◌^◌, ◌<◌, ◌≤◌, pos, ◌+ℤ◌, ◌-ℤ◌, ◌*ℤ◌, unsigned_abs, SomeIff, is_some};
 ghost use Rattle.mapping.specs.Floor.{floor_div};
@@ -10,19 +10,19 @@ use crate::geometry::Point;
 use crate::limits::PLANE_LIMIT;
 use crate::map_mode::MapMode;
 
-/// A page map on one axis ([MS-WMF] 2.3.5, [MS-EMF] 2.3.11: window and viewport, each with an
-/// origin and an extent), and the frame's corner on that axis.
+/// One axis of a page map ([MS-WMF] 2.3.5, [MS-EMF] 2.3.11: window and viewport, each with an origin and an extent),
+/// with the frame's corner on that axis.
 ///
 /// # Guarantees
 ///
-/// - The window's extent isn't 0, so a coordinate can be scaled by it.
+/// - The window's extent isn't 0, so coordinates can be scaled by it.
 #[derive(Clone, Copy, Debug, PartialEq, Eq)]
 pub struct PageAxis {
     pub window_origin: i32,
     pub window_extent: i32,
     pub viewport_origin: i32,
     pub viewport_extent: i32,
-    /// The frame's corner, which is the plane's origin.
+    /// The frame's corner, which is the origin of the plane.
     pub corner: i32,
     pub ghost window_has_extent: { window_extent ≢ pos 0 },
 }
@@ -30,11 +30,10 @@ pub struct PageAxis {
 impl PageAxis {
     ghost use Rattle.mapping.specs.PageMap.{axis_coordinate, axis_numbers, placeable_axis, unscaled_axis};
 
-    /// The axis on which a placeable file starts: its box's side is the window, and the frame's
-    /// side the viewport.
+    /// An initial axis of a placeable file: the box's width or height is the window, and the frame's is the viewport.
     fn placeable(origin: i32, extent: i32) -> PageAxis
         requires has_extent { extent ≢ pos 0 }
-        requires can_be_turned { unsigned_abs extent < 2 ^ 31 }
+        requires can_be_negated { unsigned_abs extent < 2 ^ 31 }
         ensures { axis_numbers result ≡ placeable_axis origin extent }
     {
         PageAxis {
@@ -46,7 +45,7 @@ impl PageAxis {
         }
     }
 
-    /// An axis on which a page coordinate is one of the device, seen from the frame's corner.
+    /// An axis on which page coordinates are device coordinates, relative to the frame's corner.
     fn unscaled(corner: i32) -> PageAxis
         ensures { axis_numbers result ≡ unscaled_axis corner }
     {
@@ -59,7 +58,7 @@ impl PageAxis {
         }
     }
 
-    /// The plane coordinate of a page coordinate, or none where it would leave the plane.
+    /// The plane coordinate of a page coordinate. `None` if it would leave the plane.
     fn plane(&self, coordinate: i64) -> Option<i32>
         ensures value { let there = axis_coordinate self.now coordinate in SomeIff result (IsPlaneCoordinate there) there }
         ensures test { is_some result ≡ is_within plane_limit (axis_coordinate self.now coordinate) }
@@ -70,7 +69,7 @@ impl PageAxis {
         }
     }
 
-    /// The same of a coordinate that may have more than 32 bits, as the far corner of a blit.
+    /// The same for a coordinate that may have more than 32 bits, such as the far corner of a blit.
     fn wide_plane(&self, coordinate: i64) -> Option<i32>
         ensures value { let there = axis_coordinate self.now coordinate in SomeIff result (IsPlaneCoordinate there) there }
         ensures test { is_some result ≡ is_within plane_limit (axis_coordinate self.now coordinate) }
@@ -86,9 +85,9 @@ impl PageAxis {
         plane_number(self.scaled(coordinate), self.shift())
     }
 
-    /// A coordinate's distance from the window's origin, scaled from the window's extent to the viewport's and rounded down: of
-    /// a coordinate of 32 bits in 64. A map whose extents are the same on the axis, as at the start of every file that isn't turned,
-    /// scales nothing, and then nothing is divided.
+    /// The distance of a coordinate from the window's origin, scaled from the window's extent to the viewport's and
+    /// rounded down, for a coordinate of 32 bits. If both extents are the same, as initially in every file that isn't
+    /// mirrored, nothing is scaled or divided.
     fn scaled(&self, coordinate: i32) -> i64
         ensures { result ≡ floor_div ((coordinate -ℤ self.now.window_origin) *ℤ self.now.viewport_extent) self.now.window_extent }
     {
@@ -100,7 +99,7 @@ impl PageAxis {
         floor_quotient(product, i64::from(self.window_extent))
     }
 
-    /// The same of a coordinate that may have more than 32 bits, in 128.
+    /// The same for a coordinate that may have more than 32 bits, computed in 128 bits.
     fn wide_scaled(&self, coordinate: i64) -> i128
         ensures { result ≡ floor_div ((coordinate -ℤ self.now.window_origin) *ℤ self.now.viewport_extent) self.now.window_extent }
     {
@@ -109,7 +108,7 @@ impl PageAxis {
         wide_floor_quotient(product, i128::from(self.window_extent))
     }
 
-    /// How far what is scaled moves on: to the viewport's origin, seen from the frame's corner.
+    /// The shift after scaling: the viewport's origin, relative to the frame's corner.
     fn shift(&self) -> i64
         ensures value { result ≡ self.now.viewport_origin -ℤ self.now.corner }
         ensures bound { unsigned_abs result < 2 ^ 32 }
@@ -118,7 +117,7 @@ impl PageAxis {
     }
 }
 
-/// How far a page coordinate is from the window's origin.
+/// The distance of a page coordinate from the window's origin.
 fn distance(coordinate: i32, origin: i32) -> i64
     ensures value { result ≡ coordinate -ℤ origin }
     ensures bound { unsigned_abs result < 2 ^ 32 }
@@ -136,7 +135,7 @@ fn product(distance: i64, extent: i64) -> i64
     distance * extent
 }
 
-/// How far a page coordinate of more than 32 bits is from the window's origin.
+/// The distance of a page coordinate of more than 32 bits from the window's origin.
 fn wide_distance(coordinate: i64, origin: i32) -> i128
     ensures value { result ≡ coordinate -ℤ origin }
     ensures bound { unsigned_abs result ≤ 2 ^ 65 }
@@ -154,7 +153,7 @@ fn wide_product(distance: i128, extent: i128) -> i128
     distance * extent
 }
 
-/// The number of a plane coordinate, which is a scaled distance and a shift.
+/// The plane coordinate from a scaled distance and a shift.
 #[tactic(auto, unfolding(crate::specs::Limits::plane_limit))]
 fn plane_number(scaled: i64, shift: i64) -> i32
     requires there { IsPlaneCoordinate (scaled +ℤ shift) }
@@ -163,7 +162,7 @@ fn plane_number(scaled: i64, shift: i64) -> i32
     (scaled + shift) as i32
 }
 
-/// The number of a scaled distance and a shift as a plane coordinate, or none where it is outside the plane.
+/// The plane coordinate from a scaled distance and a shift. `None` if it lies outside the plane.
 #[tactic(auto, unfolding(crate::specs::Limits::plane_limit))]
 fn on_plane(scaled: i64, shift: i64) -> Option<i32>
     ensures value { SomeIff result (IsPlaneCoordinate (scaled +ℤ shift)) (scaled +ℤ shift) }
@@ -177,7 +176,7 @@ fn on_plane(scaled: i64, shift: i64) -> Option<i32>
     }
 }
 
-/// The same of a distance that may have more than 64 bits, which lies outside the plane then.
+/// The same for a distance that may have more than 64 bits, and then lies outside the plane.
 #[tactic(auto, unfolding(crate::specs::Limits::plane_limit))]
 fn wide_on_plane(scaled: i128, shift: i64) -> Option<i32>
     requires { unsigned_abs shift < 2 ^ 32 }
@@ -187,8 +186,8 @@ fn wide_on_plane(scaled: i128, shift: i64) -> Option<i32>
     on_plane(i64::try_from(scaled).ok()?, shift)
 }
 
-/// Where page coordinates land on the plane, each axis by itself. The mode says which records may change
-/// the extents.
+/// Where page coordinates land on the plane, separately on each axis. The mode decides whether records can change the
+/// extents.
 #[derive(Clone, Copy, Debug, PartialEq, Eq)]
 pub struct PageMap {
     pub mode: MapMode,
@@ -200,36 +199,36 @@ impl PageMap {
     ghost use Rattle.mapping.specs.Plane.{IsOnPlane, is_on_plane, plane_point};
     ghost use Rattle.mapping.specs.PageMap.{map_numbers, placeable_map, plain_map, unscaled_map};
 
-    /// The map on which a placeable file starts ([MS-WMF] 2.3.2.3), whose box has this corner and
-    /// these sides, negative where the right or the bottom comes first.
-    pub fn placeable(corner: Point, sides: Point) -> PageMap
-        requires wide { sides.x ≢ pos 0 }
-        requires width_can_be_turned { unsigned_abs sides.x < 2 ^ 31 }
-        requires high { sides.y ≢ pos 0 }
-        requires height_can_be_turned { unsigned_abs sides.y < 2 ^ 31 }
-        ensures { map_numbers result ≡ placeable_map corner sides }
+    /// The initial map of a placeable file ([MS-WMF] 2.3.2.3) whose box has this corner and this size. A negative size
+    /// means that the right or the bottom comes first.
+    pub fn placeable(corner: Point, dimensions: Point) -> PageMap
+        requires wide { dimensions.x ≢ pos 0 }
+        requires width_can_be_negated { unsigned_abs dimensions.x < 2 ^ 31 }
+        requires high { dimensions.y ≢ pos 0 }
+        requires height_can_be_negated { unsigned_abs dimensions.y < 2 ^ 31 }
+        ensures { map_numbers result ≡ placeable_map corner dimensions }
     {
         PageMap {
             mode: MapMode::Anisotropic,
-            x: PageAxis::placeable(corner.x, sides.x),
-            y: PageAxis::placeable(corner.y, sides.y),
+            x: PageAxis::placeable(corner.x, dimensions.x),
+            y: PageAxis::placeable(corner.y, dimensions.y),
         }
     }
 
-    /// The map on which a plain WMF file starts whose window has these sides ([MS-WMF] 2.3.5.30),
-    /// negative where x grows to the left or y upwards.
-    pub fn plain(sides: Point) -> PageMap
-        requires wide { sides.x ≢ pos 0 }
-        requires width_can_be_turned { unsigned_abs sides.x < 2 ^ 31 }
-        requires high { sides.y ≢ pos 0 }
-        requires height_can_be_turned { unsigned_abs sides.y < 2 ^ 31 }
-        ensures { map_numbers result ≡ plain_map sides }
+    /// The initial map of a plain WMF file whose window has this size ([MS-WMF] 2.3.5.30). A negative size means that x
+    /// grows to the left or y upwards.
+    pub fn plain(dimensions: Point) -> PageMap
+        requires wide { dimensions.x ≢ pos 0 }
+        requires width_can_be_negated { unsigned_abs dimensions.x < 2 ^ 31 }
+        requires high { dimensions.y ≢ pos 0 }
+        requires height_can_be_negated { unsigned_abs dimensions.y < 2 ^ 31 }
+        ensures { map_numbers result ≡ plain_map dimensions }
     {
-        PageMap::placeable(Point { x: 0, y: 0 }, sides)
+        PageMap::placeable(Point { x: 0, y: 0 }, dimensions)
     }
 
-    /// The map on which an EMF file starts ([MS-EMF] 2.2.9) whose bounds have this corner: a page
-    /// coordinate is one of the device.
+    /// The initial map of an EMF file ([MS-EMF] 2.2.9) whose bounds have this corner. Page coordinates are device
+    /// coordinates.
     pub fn unscaled(corner: Point) -> PageMap
         ensures { map_numbers result ≡ unscaled_map corner }
     {
@@ -240,8 +239,7 @@ impl PageMap {
         }
     }
 
-    /// The plane point of a page point: none exactly where a coordinate of it would be farther
-    /// than 2^30 from 0.
+    /// The plane point of a page point. `None` exactly if one of its coordinates would be more than 2^30 from 0.
     pub fn plane(&self, x: i64, y: i64) -> Option<Point>
         ensures point { let there = plane_point (map_numbers self.now) x y in SomeIff result (IsOnPlane there) there }
         ensures test { is_some result ≡ is_on_plane (plane_point (map_numbers self.now) x y) }

@@ -1,4 +1,4 @@
-//! The place: where a plane point lands on a surface.
+//! Places: where plane points land on a surface.
 
 ghost use Rattle.std.specs.Prelude.{◌≡◌, ◌≤◌, ◌↔◌, ◌^◌, ◌*ℤ◌, pos, unsigned_abs, IsTrue, SomeIff, is_some};
 ghost use Rattle.mapping.specs.Limits.{IsFrameSide, IsSurfaceSide, is_within, place_limit, surface_side_limit};
@@ -10,15 +10,15 @@ use crate::divisor::Divisor;
 use crate::geometry::{Frame, Point};
 use crate::limits::{PLACE_LIMIT, limits_law};
 
-/// A frame shown on a surface.
+/// A surface that shows a frame.
 ///
 /// # Guarantees
 ///
-/// - Each side of the surface is from 1 to 8,192 pixels.
+/// - The width and the height of the surface are from 1 to 8,192 pixels.
 #[derive(Clone, Copy, Debug, PartialEq, Eq)]
 pub struct Place {
     pub frame: Frame,
-    /// The surface's sides in pixels.
+    /// The width of the surface in pixels.
     pub width: u32,
     pub height: u32,
     pub(crate) by_width: Divisor,
@@ -58,7 +58,7 @@ impl Place {
             && axis_fits(point.y, self.height, self.frame.height)
     }
 
-    /// Where a plane point lands, or none where it doesn't fit.
+    /// Where a plane point lands. `None` if it doesn't fit.
     pub fn place(self, point: Point) -> Option<Point>
         ensures point { let there = placed_point point (surface_of self) in SomeIff result (FitsPlace there) there }
         ensures test { is_some result ≡ fits_place (placed_point point (surface_of self)) }
@@ -84,7 +84,7 @@ impl Place {
     }
 }
 
-/// A plane coordinate scaled from the frame's side to the surface's.
+/// A plane coordinate, scaled from the frame's width or height to the surface's.
 fn scaled(coordinate: i32, surface_side: u32, frame_side: Divisor) -> i64
     requires surface { surface_side ≤ surface_side_limit }
     ensures { result ≡ placed coordinate surface_side frame_side.number }
@@ -92,7 +92,7 @@ fn scaled(coordinate: i32, surface_side: u32, frame_side: Divisor) -> i64
     frame_side.floor(product(coordinate, surface_side))
 }
 
-/// A plane coordinate times the surface's side.
+/// A plane coordinate times the surface's width or height.
 fn product(coordinate: i32, surface_side: u32) -> i64
     requires surface { surface_side ≤ surface_side_limit }
     ensures { result ≡ coordinate *ℤ pos surface_side }
@@ -100,7 +100,7 @@ fn product(coordinate: i32, surface_side: u32) -> i64
     i64::from(coordinate) * i64::from(surface_side)
 }
 
-/// The placed coordinate, or none where it is outside its limit.
+/// The placed coordinate. `None` if it exceeds its limit.
 #[tactic(auto, unfolding(crate::specs::Limits::place_limit))]
 fn axis_place(coordinate: i32, surface_side: u32, frame_side: Divisor) -> Option<i32>
     requires surface { surface_side ≤ surface_side_limit }
@@ -115,8 +115,8 @@ fn axis_place(coordinate: i32, surface_side: u32, frame_side: Divisor) -> Option
     }
 }
 
-/// Whether the placed coordinate is within its limit, without a division: it is where the coordinate times the surface's side lies
-/// from the lower limit times the frame's side on, and before the number behind the upper limit times that.
+/// Whether the placed coordinate is within its limit, without a division. The coordinate times the surface's width or
+/// height must be at least the lower limit times the frame's, and less than the upper limit plus 1 times the frame's.
 fn axis_fits(coordinate: i32, surface_side: u32, frame_side: u32) -> bool
     requires surface { surface_side ≤ surface_side_limit }
     requires frame { IsFrameSide frame_side }
@@ -126,7 +126,7 @@ fn axis_fits(coordinate: i32, surface_side: u32, frame_side: u32) -> bool
     limit_on(-PLACE_LIMIT, frame_side) <= part && part < limit_on(PLACE_LIMIT + 1, frame_side)
 }
 
-/// A limit of placed coordinates times a frame's side.
+/// A limit of placed coordinates times the frame's width or height.
 fn limit_on(limit: i64, frame_side: u32) -> i64
     requires near { unsigned_abs limit ≤ 2 ^ 29 }
     requires frame { IsFrameSide frame_side }
@@ -135,7 +135,7 @@ fn limit_on(limit: i64, frame_side: u32) -> i64
     limit * i64::from(frame_side)
 }
 
-/// The placed coordinate, where it is within its limit.
+/// The placed coordinate, which must be within its limit.
 #[tactic(auto, unfolding(crate::specs::Limits::place_limit))]
 fn axis_at(coordinate: i32, surface_side: u32, frame_side: Divisor) -> i32
     requires surface { surface_side ≤ surface_side_limit }
@@ -145,14 +145,14 @@ fn axis_at(coordinate: i32, surface_side: u32, frame_side: Divisor) -> i32
     scaled(coordinate, surface_side, frame_side) as i32
 }
 
-/// The law of places: placing keeps the order of coordinates, and a point that lands within the
-/// limits on a surface does so on each that is no larger and shows a frame of the same sides.
+/// The law of places: placing preserves the order of coordinates, and a point that lands within the limits on a surface
+/// does so on each surface that is no larger and shows a frame of the same size.
 pub fn placing_law()
     ensures { PlacingLaws }
 {}
 
-/// The law of boxes: a page map and a place keep what lies between two coordinates on each axis, and so map the least
-/// box around points to the least box around where they land.
+/// The law of boxes: page maps and places map what lies between two coordinates to what lies between their images. So
+/// they map the bounding box of points to the bounding box of their images.
 pub fn box_law()
     ensures { BoxLaws }
 {}

@@ -14,7 +14,7 @@ use Rattle.meta_headers.specs.EmfHeader.{bounds_height, bounds_width, emf_file, 
 use Rattle.meta_headers.specs.OpeningLaws.{OpeningLaws}
 use Rattle.meta_headers.specs.Headers.{OpenedValue, has_version, is_header, is_too_long}
 use Rattle.meta_headers.specs.Opening.{opened}
-use Rattle.meta_headers.specs.PlaceableHeader.{box_sides, boxed_file, is_placeable, opened_placeable, placeable_file}
+use Rattle.meta_headers.specs.PlaceableHeader.{box_dimensions, boxed_file, is_placeable, opened_placeable, placeable_file}
 use Rattle.meta_headers.specs.PlainHeader.{is_plain, opened_plain, plain_file, plain_with}
 use Rattle.point_views.specs.Numbers.{i16_at, number_at}
 use Rattle.wmf_records.specs.FirstExtent.{extent_in, first_extent, first_extent_in, has_extent}
@@ -66,7 +66,7 @@ module _ (holds : OpenedValue → Type 0) where
       (λ e. is_it (opened_emf file) (f (is_true _ e))))))
 
 -- sides of an opened file's frame
-record HasSides (o : OpenedValue) : Type 0 where
+record HasDimensions (o : OpenedValue) : Type 0 where
   wide : IsFrameSide o.frame_width
   high : IsFrameSide o.frame_height
 
@@ -98,13 +98,13 @@ side_between last first few most some = record { not_empty = some; within = omeg
 side_of : (extent : ℤ) → unsigned_abs extent ≤ 32768 → 1 ≤ unsigned_abs extent → IsFrameSide (unsigned_abs extent)
 side_of extent few some = record { not_empty = some; within = omega (arith, few) }
 
-boxed : (file : List ℕ) → HoldsIfOk HasSides (boxed_file file)
+boxed : (file : List ℕ) → HoldsIfOk HasDimensions (boxed_file file)
 boxed file =
-    let sides = box_sides file in
-    by_test HasSides (unsigned_abs sides.x == 0 || unsigned_abs sides.y == 0) _ _ (λ e. no_fault HasSides _)
+    let dimensions = box_dimensions file in
+    by_test HasDimensions (unsigned_abs dimensions.x == 0 || unsigned_abs dimensions.y == 0) _ _ (λ e. no_fault HasDimensions _)
     (λ e.
     let some = neither _ _ e in
-    is_it HasSides (opened_placeable file) (record {
+    is_it HasDimensions (opened_placeable file) (record {
       wide = side_between (i16_at file 10) (i16_at file 6) (small_at file 10) (small_at file 6) (not_zero _ some.0);
       high = side_between (i16_at file 12) (i16_at file 8) (small_at file 12) (small_at file 8) (not_zero _ some.1);
     }))
@@ -135,15 +135,15 @@ first_in : (records : List Record) (extent : ℤ × ℤ) → first_extent_in rec
 first_in [] extent h = absurd (cc)
 first_in (r ∷ rs) extent h = first_or (extent_in r) (first_extent_in rs) (extent_of r (has_extent r) refl) (first_in rs) extent h
 
-with_extent : (file : List ℕ) (found : Option (ℤ × ℤ)) → ((extent : ℤ × ℤ) → found ≡ Some extent → IsExtent extent) → HoldsIfOk HasSides (plain_with file found)
-with_extent file None f = no_fault HasSides _
-with_extent file (Some extent) f = is_it HasSides (opened_plain file extent) (let it = f extent refl in record { wide = it.wide; high = it.high })
+with_extent : (file : List ℕ) (found : Option (ℤ × ℤ)) → ((extent : ℤ × ℤ) → found ≡ Some extent → IsExtent extent) → HoldsIfOk HasDimensions (plain_with file found)
+with_extent file None f = no_fault HasDimensions _
+with_extent file (Some extent) f = is_it HasDimensions (opened_plain file extent) (let it = f extent refl in record { wide = it.wide; high = it.high })
 
-frame : (file : List ℕ) → HoldsIfOk HasSides (opened file)
+frame : (file : List ℕ) → HoldsIfOk HasDimensions (opened file)
 frame file =
-    by_format HasSides file (by_placeable HasSides file (boxed file))
-    (by_emf HasSides file (λ e. let both = and_parts _ _ e in record { wide = frame_side_true _ both.0; high = frame_side_true _ both.1 }))
-    (by_plain HasSides file (with_extent file (first_extent (drop 18 file)) (first_in (framed_of wmf_framing (drop 18 file)).records)))
+    by_format HasDimensions file (by_placeable HasDimensions file (boxed file))
+    (by_emf HasDimensions file (λ e. let both = and_parts _ _ e in record { wide = frame_side_true _ both.0; high = frame_side_true _ both.1 }))
+    (by_plain HasDimensions file (with_extent file (first_extent (drop 18 file)) (first_in (framed_of wmf_framing (drop 18 file)).records)))
 
 -- how many object indexes an opened file may use, where the format says so
 abbrev HasShortHandles : OpenedValue → Type 0
@@ -176,12 +176,12 @@ handles : (file : List ℕ) → AreBytes file → HoldsIfOk HasShortHandles (ope
 handles file all =
     by_format HasShortHandles file
     (by_placeable HasShortHandles file
-    (by_test HasShortHandles (unsigned_abs (box_sides file).x == 0 || unsigned_abs (box_sides file).y == 0) _ _ (λ e. no_fault HasShortHandles _) (λ e. is_it HasShortHandles (opened_placeable file) tt)))
+    (by_test HasShortHandles (unsigned_abs (box_dimensions file).x == 0 || unsigned_abs (box_dimensions file).y == 0) _ _ (λ e. no_fault HasShortHandles _) (λ e. is_it HasShortHandles (opened_placeable file) tt)))
     (by_emf HasShortHandles file (λ e. short_handles file all))
     (by_plain HasShortHandles file (no_handles file (first_extent (drop 18 file))))
 
 pub opening_laws : OpeningLaws
 opening_laws = record {
-  frame = λ file o width height opens. let sides = frame file o opens in record { wide = sides.wide; high = sides.high };
+  frame = λ file o width height opens. let dimensions = frame file o opens in record { wide = dimensions.wide; high = dimensions.high };
   handles = λ file o all opens. handles file all o opens;
 }

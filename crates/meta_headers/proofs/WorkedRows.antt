@@ -6,7 +6,7 @@ use Rattle.draw_ops.specs.NoteKinds.{noted}
 use Rattle.draw_ops.specs.declared.fault.Fault.TheVariants.{NoFrame, NotMetafile, ShortHeader}
 use Rattle.draw_ops.specs.declared.note.Note.TheVariants.{PlaceableChecksum, SizeField}
 use Rattle.meta_headers.specs.EmfHeader.{bounds_side, emf_file, has_other_bytes}
-use Rattle.meta_headers.specs.Headers.{file_limit, tells_other_size}
+use Rattle.meta_headers.specs.Headers.{file_limit, reports_other_size}
 use Rattle.meta_headers.specs.Opening.{opened}
 use Rattle.meta_headers.specs.PlaceableHeader.{has_other_fields, placeable_file}
 use Rattle.meta_headers.specs.PlainHeader.{plain_with}
@@ -49,7 +49,7 @@ no_side : placeable_file (placeable (0 ∷ 0 ∷ 4 ∷ 0 ∷ 4 ∷ 0 ∷ 4 ∷ 0
 no_side = refl
 
 -- an extent that is turned, and none
-turned_extent : plain_with [] (Some (negsuc 3, pos 3)) ≡ Ok (record {
+flipped_extent : plain_with [] (Some (negsuc 3, pos 3)) ≡ Ok (record {
   format = Plain;
   frame_width = 4;
   frame_height = 3;
@@ -57,7 +57,7 @@ turned_extent : plain_with [] (Some (negsuc 3, pos 3)) ≡ Ok (record {
   handles = None;
   notes = no_notes;
 })
-turned_extent = refl
+flipped_extent = refl
 
 no_extent : plain_with [] None ≡ Err NoFrame
 no_extent = refl
@@ -66,8 +66,8 @@ no_extent = refl
 one_pixel : bounds_side (pos 5) (pos 5) ≡ 1
 one_pixel = refl
 
-turned_bounds : bounds_side (pos 0) (negsuc 0) ≡ 1
-turned_bounds = refl
+flipped_bounds : bounds_side (pos 0) (negsuc 0) ≡ 1
+flipped_bounds = refl
 
 widest_bounds : bounds_side (negsuc 2147483647) (pos 2147483647) ≡ 4294967296
 widest_bounds = refl
@@ -102,10 +102,10 @@ key_alone = refl
 abbrev plain_header : ℕ → List ℕ
 plain_header words = 1 ∷ 0 ∷ 9 ∷ 0 ∷ 0 ∷ 3 ∷ words ∷ 0 ∷ 0 ∷ 0 ∷ 0 ∷ 0 ∷ 0 ∷ 0 ∷ 0 ∷ 0 ∷ 0 ∷ 0 ∷ 3 ∷ 0 ∷ 0 ∷ 0 ∷ 0 ∷ 0 ∷ []
 
-same_size : tells_other_size (plain_header 12) 0 ≡ false
+same_size : reports_other_size (plain_header 12) 0 ≡ false
 same_size = refl
 
-other_size : tells_other_size (plain_header 24) 0 ≡ true
+other_size : reports_other_size (plain_header 24) 0 ≡ true
 other_size = refl
 
 -- the smallest EMF file has its size, and not with a byte more

@@ -11,25 +11,25 @@ use Rattle.draw_ops.specs.declared.note.Note.TheVariants.{SizeField}
 use Rattle.meta_headers.specs.Headers.{OpenedValue, noted_where}
 use Rattle.meta_headers.specs.declared.opened.FileFormat.TheVariants.{Emf}
 
--- the file begins with EMR_HEADER's type, and has its signature
+-- the file begins with EMR_HEADER's type and has its signature
 abbrev pub is_emf : List ℕ → Bool
 is_emf file = nat_le 44 (length file) && number_at file 0 4 == 1 && number_at file 40 4 == 0x464d4520
 
--- a number, or 1 where it is below that
+-- a number, or 1 if it is less than 1
 abbrev pub at_least_1 : ℤ → ℕ
 at_least_1 (pos zero) = 1
 at_least_1 (pos (suc n)) = suc n
 at_least_1 (negsuc n) = 1
 
--- the frame's side between two edges of the bounds, of which both belong to it
+-- the width or height of the frame between two edges of the bounds, both inclusive
 abbrev pub bounds_side : ℤ → ℤ → ℕ
 bounds_side first last = at_least_1 (last -ℤ first +ℤ pos 1)
 
--- the frame's width, by the bounds, which have left, top, right and bottom: from left to right
+-- the frame's width, from the left to the right of the bounds, which are stored as left, top, right and bottom
 abbrev pub bounds_width : List ℕ → ℕ
 bounds_width file = bounds_side (i32_at file 8) (i32_at file 16)
 
--- and its height, from top to bottom
+-- the frame's height, from the top to the bottom of the bounds
 abbrev pub bounds_height : List ℕ → ℕ
 bounds_height file = bounds_side (i32_at file 12) (i32_at file 20)
 
@@ -37,7 +37,7 @@ bounds_height file = bounds_side (i32_at file 12) (i32_at file 20)
 abbrev pub has_other_bytes : List ℕ → Bool
 has_other_bytes file = not (number_at file 48 4 == length file)
 
--- the frame is that of the bounds, whose left and top are the plane's origin
+-- an opened EMF file: the frame is that of the bounds, whose left and top are the origin of the plane
 abbrev pub opened_emf : List ℕ → OpenedValue
 opened_emf file = record {
   format = Emf;
@@ -52,7 +52,8 @@ opened_emf file = record {
 abbrev pub is_emf_header_size : ℕ → Bool
 is_emf_header_size size = nat_le 88 size && size % 4 == 0
 
--- the fields whole, a good size, the header whole, and a frame that isn't too large
+-- the result of opening an EMF file: its fields must be complete, its header must have a valid size and be complete,
+-- and its frame must not be too large
 abbrev pub emf_file : List ℕ → Result OpenedValue Fault
 emf_file file =
     if nat_lt (length file) 88 then Err ShortHeader

@@ -1,4 +1,4 @@
--- A file that opens, with the content of its records.
+-- Files that open, with the content of their records.
 use Rattle.std.specs.Prelude.{◌≡◌, ℕ, List, Ok}
 use Rattle.draw_ops.specs.Content.{Content}
 use Rattle.draw_ops.specs.ExactlyOne.{ExactlyOne}
@@ -7,17 +7,17 @@ use Rattle.meta_headers.specs.Opening.{HasContentOf, opened, record_bytes}
 use Rattle.meta_headers.specs.OpenedOf.{opened_of}
 use Rattle.meta_headers.specs.declared.opened.Opened.{Opened}
 
--- A file opens so, and its records have this content.
+-- The file opens with these headers, and its records have this content.
 pub record IsFile (file : List ℕ) (headers : OpenedValue) (content : Content) : Type 0 where
   pub opens : opened file ≡ Ok headers
   pub records : HasContentOf headers.format (record_bytes headers.format file) content
 
--- an opened file of the code is opened from these bytes
+-- an opened file was opened from these bytes
 pub record IsOpenedFrom (file : List ℕ) (o : Opened) : Type 0 where
   pub opens : opened file ≡ Ok (opened_of o)
   pub records : o.records.now ≡ record_bytes o.format file
 
--- a file that opens does so in one way, and its records have one content
+-- a file opens in only one way, and its records have only one content
 abbrev pub FileIsOne : Type 0
 FileIsOne =
     (file : List ℕ) (headers : OpenedValue) → opened file ≡ Ok headers

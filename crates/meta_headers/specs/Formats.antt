@@ -1,4 +1,4 @@
--- The formats of metafiles: how a file begins, and their names.
+-- The formats of metafiles: how files begin, and the formats' names.
 use Rattle.std.specs.Prelude.{ℕ, if◌then◌else◌, List, Option, Some, None, codes}
 use Rattle.meta_headers.specs.EmfHeader.{is_emf}
 use Rattle.meta_headers.specs.PlaceableHeader.{is_placeable}
@@ -6,7 +6,7 @@ use Rattle.meta_headers.specs.PlainHeader.{is_plain}
 use Rattle.meta_headers.specs.declared.opened.FileFormat.{FileFormat}
 use Rattle.meta_headers.specs.declared.opened.FileFormat.TheVariants.{Placeable, Plain, Emf}
 
--- the format of a file by how it begins, whatever its headers say
+-- the format of a file by its first bytes, whatever its headers say
 abbrev pub format_of : List ℕ → Option FileFormat
 format_of file =
     if is_placeable file then Some Placeable

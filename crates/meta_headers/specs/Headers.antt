@@ -6,8 +6,8 @@ use Rattle.draw_ops.specs.NoteKinds.{noted}
 use Rattle.draw_ops.specs.declared.note.Note.{Note}
 use Rattle.meta_headers.specs.declared.opened.FileFormat.{FileFormat}
 
--- an opened file: its frame's sides, the map at its start, how many object indexes it may use, where the format says so, and what is
--- noted of its headers
+-- an opened file: its frame's size, its initial map, the number of object indexes that it may use, if the format gives
+-- one, and the notes of its headers
 pub record OpenedValue : Type 0 where
   pub format : FileFormat
   pub frame_width : ℕ
@@ -20,27 +20,27 @@ pub record OpenedValue : Type 0 where
 unfoldable pub file_limit : ℕ
 file_limit = 67108864
 
--- the file is longer than that
+-- the file is longer than the limit
 abbrev pub is_too_long : List ℕ → Bool
 is_too_long file = nat_lt file_limit (length file)
 
--- META_HEADER begins at a place, [MS-WMF] 2.3.2.2: a type of 1 or 2, and a size of 9 words
+-- META_HEADER begins at an offset, [MS-WMF] 2.3.2.2: a type of 1 or 2, and a size of 9 words
 abbrev pub begins_header : List ℕ → ℕ → Bool
 begins_header file place = (number_at file place 2 == 1 || number_at file place 2 == 2) && number_at file (place + 2) 2 == 9
 
--- its version is one of the two
+-- the version of META_HEADER is one of the two
 abbrev pub has_version : List ℕ → ℕ → Bool
 has_version file place = number_at file (place + 4) 2 == 0x0100 || number_at file (place + 4) 2 == 0x0300
 
--- META_HEADER stands at a place
+-- there is a META_HEADER at an offset
 abbrev pub is_header : List ℕ → ℕ → Bool
 is_header file place = begins_header file place && has_version file place
 
--- its size, in words, isn't that of the bytes from it on
-abbrev pub tells_other_size : List ℕ → ℕ → Bool
-tells_other_size file place = not (2 * number_at file (place + 6) 4 == length (drop place file))
+-- the size of META_HEADER, in words, isn't that of the bytes from there on
+abbrev pub reports_other_size : List ℕ → ℕ → Bool
+reports_other_size file place = not (2 * number_at file (place + 6) 4 == length (drop place file))
 
--- a kind of note where something holds
+-- the notes, with one more kind if a condition holds
 abbrev pub noted_where : Bool → List ℕ → Note → List ℕ
 noted_where false notes note = notes
 noted_where true notes note = noted notes note

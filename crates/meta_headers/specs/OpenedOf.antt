@@ -1,10 +1,10 @@
--- The value of an opened file of the code.
+-- The value of an opened file.
 use Rattle.mapping.specs.PageMap.{map_numbers}
 use Rattle.draw_ops.specs.NoteSet.{notes_in}
 use Rattle.meta_headers.specs.Headers.{OpenedValue}
 use Rattle.meta_headers.specs.declared.opened.Opened.{Opened}
 
--- its parts, each by its value
+-- the value of an opened file, part by part
 abbrev pub opened_of : Opened → OpenedValue
 opened_of o = record {
   format = o.format;

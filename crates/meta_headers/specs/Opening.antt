@@ -1,4 +1,4 @@
--- Opening a file: its format, frame, start map and handle count, or the first fault.
+-- Opening a file: its format, frame, initial map and handle count, or the first fault.
 use Rattle.std.specs.Prelude.{ℕ, if◌then◌else◌, List, drop, Result, Err}
 use Rattle.mapping.specs.Surface.{Surface}
 use Rattle.draw_ops.specs.Content.{Content}
@@ -18,7 +18,8 @@ use Rattle.meta_headers.specs.declared.opened.FileFormat.TheVariants.{Placeable,
 use Rattle.wmf_records.specs.Framing.{wmf_framing}
 use Rattle.wmf_records.specs.Wmf.{wmf_meaning}
 
--- a file that is too long, one of the three formats by how it begins, or none
+-- the result of opening a file: a fault if it is too long or has none of the three formats, otherwise the result for
+-- its format
 unfoldable pub opened : List ℕ → Result OpenedValue Fault
 opened file =
     if is_too_long file then Err TooLong
@@ -26,19 +27,19 @@ opened file =
     else (if is_emf file then emf_file file
     else (if is_plain file then plain_file file else Err NotMetafile)))
 
--- how the records of a format are framed
+-- the framing of a format's records
 abbrev pub framing_of : FileFormat → Framing
 framing_of Placeable = wmf_framing
 framing_of Plain = wmf_framing
 framing_of Emf = emf_framing
 
--- and what each record of a format means
+-- what each record of a format means
 abbrev pub meaning_of : FileFormat → Meaning
 meaning_of Placeable = wmf_meaning
 meaning_of Plain = wmf_meaning
 meaning_of Emf = emf_meaning
 
--- the bytes from record 0 on: behind the headers, which in EMF are that record
+-- the bytes from record 0 on: those after the headers; in EMF the header is record 0
 abbrev pub record_bytes : FileFormat → List ℕ → List ℕ
 record_bytes Placeable file = drop 40 file
 record_bytes Plain file = drop 18 file
@@ -48,6 +49,6 @@ record_bytes Emf file = file
 abbrev pub HasContentOf : FileFormat → List ℕ → Content → Type 0
 HasContentOf format records content = IsContent (framing_of format) (meaning_of format) records content
 
--- the surface of these sides that shows an opened file's frame
+-- the surface of this size that shows an opened file's frame
 abbrev pub surface_for : OpenedValue → ℕ → ℕ → Surface
 surface_for o width height = record { width = width; height = height; frame_width = o.frame_width; frame_height = o.frame_height }

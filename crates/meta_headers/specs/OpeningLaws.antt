@@ -5,7 +5,8 @@ use Rattle.mapping.specs.PlacingLaws.{ShowsFrame}
 use Rattle.meta_headers.specs.Headers.{OpenedValue}
 use Rattle.meta_headers.specs.Opening.{opened, surface_for}
 
--- A file that opens has a frame whose sides are within their limits; and where it is a list of bytes, a handle count of 16 bits, if any.
+-- A file that opens has a frame whose size is within the limits. If the file is a list of bytes, its handle count, if
+-- any, has 16 bits.
 pub record OpeningLaws : Type 0 where
   pub frame : (file : List ℕ) (o : OpenedValue) (width height : ℕ) → opened file ≡ Ok o → ShowsFrame (surface_for o width height)
   pub handles :

@@ -6,14 +6,15 @@ use Rattle.draw_ops.specs.declared.fault.Fault.{Fault}
 use Rattle.draw_ops.specs.declared.fault.Fault.TheVariants.{ShortHeader, BadHeader, NoFrame}
 use Rattle.draw_ops.specs.declared.note.Note.TheVariants.{SizeField}
 use Rattle.wmf_records.specs.FirstExtent.{first_extent}
-use Rattle.meta_headers.specs.Headers.{OpenedValue, begins_header, has_version, tells_other_size, noted_where}
+use Rattle.meta_headers.specs.Headers.{OpenedValue, begins_header, has_version, reports_other_size, noted_where}
 use Rattle.meta_headers.specs.declared.opened.FileFormat.TheVariants.{Plain}
 
 -- the file begins with META_HEADER's type and size
 abbrev pub is_plain : List ℕ → Bool
 is_plain file = nat_le 4 (length file) && begins_header file 0
 
--- the frame is as large as the first usable extent of its records, which is the window's at the start
+-- an opened plain file: the frame is as large as the first usable extent in its records, which is also the initial
+-- window's
 abbrev pub opened_plain : List ℕ → ℤ × ℤ → OpenedValue
 opened_plain file extent = record {
   format = Plain;
@@ -21,15 +22,16 @@ opened_plain file extent = record {
   frame_height = unsigned_abs extent.1;
   map = plain_map (record { x = extent.0; y = extent.1 });
   handles = None;
-  notes = noted_where (tells_other_size file 0) no_notes SizeField;
+  notes = noted_where (reports_other_size file 0) no_notes SizeField;
 }
 
--- without a usable extent the file's size isn't known
+-- without a usable extent, the file's size isn't known
 abbrev pub plain_with : List ℕ → Option (ℤ × ℤ) → Result OpenedValue Fault
 plain_with file None = Err NoFrame
 plain_with file (Some extent) = Ok (opened_plain file extent)
 
--- the header whole and of one of its versions, and an extent behind it
+-- the result of opening a plain file: its header must be complete and have one of the versions, and a usable extent
+-- must follow
 abbrev pub plain_file : List ℕ → Result OpenedValue Fault
 plain_file file =
     if nat_lt (length file) 18 then Err ShortHeader

@@ -1,5 +1,5 @@
-//! EMR_HEADER ([MS-EMF] 2.3.4.2): Type, Size, Bounds, Frame, RecordSignature, Version, Bytes, Records,
-//! Handles, and fields that aren't read. Frame, Version and Records aren't read either.
+//! EMR_HEADER ([MS-EMF] 2.3.4.2): Type, Size, Bounds, Frame, RecordSignature, Version, Bytes, Records, Handles, and
+//! fields that are ignored. Frame, Version and Records are ignored too.
 
 ghost use Rattle.std.specs.Prelude.{◌≡◌, ◌≤◌, ◌^◌, ◌&&◌, is_some, IfOk, IfErr, IfSome, length};
 ghost use Rattle.draw_ops.specs.Fault.{IsInRecord};
@@ -20,17 +20,17 @@ const EMR_HEADER: u32 = 1;
 /// The bytes ` EMF`, as a number.
 const SIGNATURE: u32 = 0x464d4520;
 
-/// The bytes of the fields that each header has.
+/// The number of bytes in the fields that every header has.
 const LEAST_HEADER: usize = 88;
 
-/// Whether the file begins with the type of EMR_HEADER, and has its signature.
+/// Whether the file begins with the type of EMR_HEADER and has its signature.
 pub(crate) fn is_emf(file: &[u8]) -> bool
     ensures { result ≡ is_emf file.now }
 {
     file.len() >= 44 && u32_at(file, 0) == EMR_HEADER && u32_at(file, 40) == SIGNATURE
 }
 
-/// Opens an EMF file, or tells the first fault of its header.
+/// Opens an EMF file, or returns the first fault of its header.
 pub(crate) fn open_emf(file: &[u8]) -> Result<Opened<'_>, Fault>
     ensures opened { emf_file file.entry.now ≡ result_map opened_of result }
     ensures format { IfOk result (λ o. o.format ≡ FileFormat.Emf) }
@@ -68,7 +68,7 @@ fn is_header_size(size: usize) -> bool
     LEAST_HEADER <= size && size % 4 == 0
 }
 
-/// The frame of the bounds, or none where a side is too long.
+/// The frame of the bounds. `None` if its width or height is too large.
 fn frame_of(file: &[u8]) -> Option<Frame>
     requires { 88 ≤ length file.now }
     ensures some { is_some result ≡ (is_frame_side (bounds_width file.now) && is_frame_side (bounds_height file.now)) }
@@ -80,7 +80,7 @@ fn frame_of(file: &[u8]) -> Option<Frame>
     framed(width, height)
 }
 
-/// The frame of two sides, or none where one is too long.
+/// The frame with this width and height. `None` if one of them is too large.
 fn framed(width: u64, height: u64) -> Option<Frame>
     ensures some { is_some result ≡ (is_frame_side width && is_frame_side height) }
     ensures width { IfSome result (λ frame. frame.width ≡ width) }
@@ -95,7 +95,7 @@ fn framed(width: u64, height: u64) -> Option<Frame>
     Frame::new(width, height)
 }
 
-/// The frame's side between two edges of the bounds, of which both belong to it.
+/// The width or height of the frame between two edges of the bounds, both inclusive.
 fn bounds_side(first: i32, last: i32) -> u64
     ensures { result ≡ bounds_side first last }
 {
@@ -103,7 +103,7 @@ fn bounds_side(first: i32, last: i32) -> u64
     if side < 1 { 1 } else { side as u64 }
 }
 
-/// Whether the header gives another size in bytes than the file has.
+/// Whether the size in bytes in the header differs from the file's.
 fn has_other_bytes(file: &[u8]) -> bool
     requires { 88 ≤ length file.now }
     ensures { result ≡ has_other_bytes file.now }

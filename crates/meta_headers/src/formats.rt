@@ -1,4 +1,4 @@
-//! The formats of metafiles: how a file begins, and their names.
+//! The formats of metafiles: how files begin, and the formats' names.
 
 ghost use Rattle.std.specs.Prelude.{◌≡◌};
 ghost use Rattle.meta_headers.specs.Formats.{format_name, format_of};
@@ -9,7 +9,7 @@ use crate::placeable_header::is_placeable;
 use crate::plain_header::is_plain;
 
 impl FileFormat {
-    /// The format of a file by how it begins, whatever its headers say: none where no metafile begins so.
+    /// The format of a file by its first bytes, whatever its headers say. `None` if no metafile begins so.
     pub fn of(file: &[u8]) -> Option<FileFormat>
         ensures { result ≡ format_of file.now }
     {
@@ -26,7 +26,7 @@ impl FileFormat {
         }
     }
 
-    /// Its name in reports: `placeable`, `wmf` or `emf`.
+    /// The format's name in reports: `placeable`, `wmf` or `emf`.
     pub fn name(self) -> &'static str
         ensures { result.now ≡ format_name self }
     {

@@ -1,15 +1,15 @@
-//! Opening a metafile: its format, its frame, its start, and its records.
+//! Opening a metafile: its format, its frame, its initial state, and its records.
 //!
 //! # What is promised
 //!
-//! - A file is opened as its first bytes say, or refused by the first fault of its headers (`open_file`, by
+//! - A file is opened as its first bytes say, or rejected with the first fault of its headers (`open_file`, by
 //!   `opened`).
-//! - An opened file's source has what its records mean, from record 0 on (`Opened::source`, by
-//!   `HasContentOf`).
-//! - A file that opens does so in one way, and its records have one content (`file_law`). The sides of its frame and its handle count are within their limits
-//!   (`opening_law`).
-//! - A file's format is told by how it begins, and each format has a name (`FileFormat::of`, `FileFormat::name`).
-//! - No call is handed an allocator: the records are a part of the file.
+//! - An opened file's source has what its records mean, from record 0 on (`Opened::source`, by `HasContentOf`).
+//! - A file opens in only one way, and its records have only one content (`file_law`). The size of its frame and its
+//!   handle count are within their limits (`opening_law`).
+//! - A file's format is determined by its first bytes, and each format has a name (`FileFormat::of`,
+//!   `FileFormat::name`).
+//! - No call gets an allocator: the records are a part of the file.
 #![tactic(auto)]
 
 mod emf_header;

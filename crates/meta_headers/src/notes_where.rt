@@ -1,4 +1,4 @@
-//! Notes on a condition.
+//! Notes under a condition.
 
 ghost use Rattle.std.specs.Prelude.{◌≡◌};
 ghost use Rattle.draw_ops.specs.NoteSet.{notes_in};
@@ -6,7 +6,7 @@ ghost use Rattle.meta_headers.specs.Headers.{noted_where};
 
 use draw_ops::{Note, NoteSet};
 
-/// The notes, and one kind more where something holds.
+/// The notes, with one more kind if a condition holds.
 pub(crate) fn noted_where(holds: bool, notes: NoteSet, note: Note) -> NoteSet
     ensures { notes_in result ≡ noted_where holds (notes_in notes) note }
 {

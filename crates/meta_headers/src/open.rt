@@ -1,4 +1,4 @@
-//! Opening a file by how it begins.
+//! Opening a file by its first bytes.
 
 ghost use Rattle.std.specs.Prelude.{◌≡◌, IfOk, IfErr};
 ghost use Rattle.draw_ops.specs.Fault.{IsInRecord};
@@ -16,8 +16,8 @@ use draw_ops::Fault;
 /// The longest file, in bytes.
 const FILE_LIMIT: usize = 67108864;
 
-/// Opens a file, or tells the first fault of its headers: `TooLong`, `NotMetafile`, `ShortHeader`,
-/// `BadHeader` or `NoFrame`.
+/// Opens a file, or returns the first fault of its headers: `TooLong`, `NotMetafile`, `ShortHeader`, `BadHeader` or
+/// `NoFrame`.
 #[tactic(auto, unfolding(crate::specs::Opening::opened))]
 pub fn open_file(file: &[u8]) -> Result<Opened<'_>, Fault>
     ensures opened { opened file.entry.now ≡ result_map opened_of result }

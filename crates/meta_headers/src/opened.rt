@@ -1,4 +1,4 @@
-//! An opened file.
+//! Opened files.
 
 ghost use Rattle.std.specs.Prelude.{◌≤◌, length};
 ghost use Rattle.draw_ops.specs.Records.{record_limit};
@@ -12,7 +12,7 @@ use wmf_records::WmfOps;
 /// The formats of metafiles.
 #[derive(Clone, Copy, Debug, PartialEq, Eq)]
 pub enum FileFormat {
-    /// WMF behind META_PLACEABLE ([MS-WMF] 2.3.2.3).
+    /// WMF with a META_PLACEABLE ([MS-WMF] 2.3.2.3) before its header.
     Placeable,
     /// WMF that begins with META_HEADER ([MS-WMF] 2.3.2.2).
     Plain,
@@ -28,9 +28,9 @@ pub struct Opened<'a> {
     pub frame: Frame,
     /// The page map before the first record.
     pub start_map: PageMap,
-    /// In EMF, how many object indexes the file may use, the unused index 0 among them.
+    /// For EMF, the number of object indexes that the file may use, including the unused index 0.
     pub handles: Option<u16>,
-    /// What is to be noted of the headers.
+    /// The notes of the headers.
     pub notes: NoteSet,
     /// The bytes from record 0 on.
     pub records: &'a [u8],

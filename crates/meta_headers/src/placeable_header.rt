@@ -1,5 +1,4 @@
-//! META_PLACEABLE ([MS-WMF] 2.3.2.3): Key, HWmf, BoundingBox, Inch, Reserved, Checksum. META_HEADER stands
-//! behind it.
+//! META_PLACEABLE ([MS-WMF] 2.3.2.3): Key, HWmf, BoundingBox, Inch, Reserved, Checksum. META_HEADER follows it.
 
 ghost use Rattle.std.specs.Prelude.{◌≡◌, ◌-ℤ◌, ◌+◌, ◌≤◌, ◌==◌, ◌||◌, unsigned_abs, is_none, IfSome, IfOk, IfErr, length, drop};
 ghost use Rattle.draw_ops.specs.Fault.{IsInRecord};
@@ -19,10 +18,10 @@ use point_views::{i16_at, u16_at, u32_at};
 /// The key, the first four bytes, as a number.
 const PLACEABLE_KEY: u32 = 0x9ac6cdd7;
 
-/// Where META_HEADER begins.
+/// The offset of META_HEADER.
 const HEADER_PLACE: usize = 22;
 
-/// The bytes of both headers.
+/// The number of bytes in both headers.
 const HEADERS: usize = 40;
 
 /// Whether the file begins with the key.
@@ -32,7 +31,7 @@ pub(crate) fn is_placeable(file: &[u8]) -> bool
     file.len() >= 4 && u32_at(file, 0) == PLACEABLE_KEY
 }
 
-/// Opens a placeable file, or tells the first fault of its headers.
+/// Opens a placeable file, or returns the first fault of its headers.
 pub(crate) fn open_placeable(file: &[u8]) -> Result<Opened<'_>, Fault>
     ensures opened { placeable_file file.entry.now ≡ result_map opened_of result }
     ensures format { IfOk result (λ o. o.format ≡ FileFormat.Placeable) }
@@ -49,7 +48,7 @@ pub(crate) fn open_placeable(file: &[u8]) -> Result<Opened<'_>, Fault>
     open_boxed(file)
 }
 
-/// Opens a placeable file whose headers are whole and good, or tells that its box has no side.
+/// Opens a placeable file whose headers are complete and valid. Fails if the width or height of its box is 0.
 fn open_boxed(file: &[u8]) -> Result<Opened<'_>, Fault>
     requires { 40 ≤ length file.now }
     ensures opened { boxed_file file.entry.now ≡ result_map opened_of result }
@@ -62,18 +61,18 @@ fn open_boxed(file: &[u8]) -> Result<Opened<'_>, Fault>
         x: coordinate(file, 6),
         y: coordinate(file, 8),
     };
-    let sides = Point {
+    let dimensions = Point {
         x: side(file, 6, 10),
         y: side(file, 8, 12),
     };
-    let Some(frame) = frame_of(sides) else {
+    let Some(frame) = frame_of(dimensions) else {
         return Err(Fault::NoFrame);
     };
     let (_, records) = file.split_at(HEADERS);
     Ok(Opened {
         format: FileFormat::Placeable,
         frame,
-        start_map: PageMap::placeable(corner, sides),
+        start_map: PageMap::placeable(corner, dimensions),
         handles: None,
         notes: notes(file),
         records,
@@ -88,7 +87,7 @@ fn coordinate(file: &[u8], place: usize) -> i32
     i32::from(i16_at(file, place))
 }
 
-/// A side of the box, from one coordinate to another.
+/// The width or height of the box, from one coordinate to another.
 fn side(file: &[u8], from: usize, to: usize) -> i32
     requires from { from + 2 ≤ length file.now }
     requires to { to + 2 ≤ length file.now }
@@ -98,18 +97,18 @@ fn side(file: &[u8], from: usize, to: usize) -> i32
     i32::from(i16_at(file, to)) - i32::from(i16_at(file, from))
 }
 
-/// The frame of a box with these sides, or none where one of them is 0.
-fn frame_of(sides: Point) -> Option<Frame>
-    requires wide { unsigned_abs sides.x ≤ 65535 }
-    requires high { unsigned_abs sides.y ≤ 65535 }
-    ensures none { is_none result ≡ (unsigned_abs sides.x == 0 || unsigned_abs sides.y == 0) }
-    ensures width { IfSome result (λ frame. frame.width ≡ unsigned_abs sides.x) }
-    ensures height { IfSome result (λ frame. frame.height ≡ unsigned_abs sides.y) }
+/// The frame of a box of this size. `None` if the width or height is 0.
+fn frame_of(dimensions: Point) -> Option<Frame>
+    requires wide { unsigned_abs dimensions.x ≤ 65535 }
+    requires high { unsigned_abs dimensions.y ≤ 65535 }
+    ensures none { is_none result ≡ (unsigned_abs dimensions.x == 0 || unsigned_abs dimensions.y == 0) }
+    ensures width { IfSome result (λ frame. frame.width ≡ unsigned_abs dimensions.x) }
+    ensures height { IfSome result (λ frame. frame.height ≡ unsigned_abs dimensions.y) }
 {
-    Frame::new(sides.x.unsigned_abs(), sides.y.unsigned_abs())
+    Frame::new(dimensions.x.unsigned_abs(), dimensions.y.unsigned_abs())
 }
 
-/// What is to be noted of both headers.
+/// The notes of both headers.
 fn notes(file: &[u8]) -> NoteSet
     requires { 40 ≤ length file.now }
     ensures { notes_in result ≡ placeable_notes file.now }
@@ -131,7 +130,7 @@ fn has_other_checksum(file: &[u8]) -> bool
     u16_at(file, 20) != xor_of_words(file, 10)
 }
 
-/// The exclusive or of the first so many words.
+/// The exclusive or of the first words.
 fn xor_of_words(file: &[u8], words: usize) -> u16
     requires { words + words ≤ length file.now }
     ensures { result ≡ xor_of_words file.now words }

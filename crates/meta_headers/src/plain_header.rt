@@ -1,4 +1,4 @@
-//! Opening a plain WMF file, whose size its records tell.
+//! Opening a plain WMF file, whose size is given by its records.
 
 ghost use Rattle.std.specs.Prelude.{◌≡◌, ◌≢◌, ◌≤◌, pos, unsigned_abs, IfOk, IfErr, IfSome, length, drop};
 ghost use Rattle.draw_ops.specs.Fault.{IsInRecord};
@@ -20,7 +20,7 @@ pub(crate) fn is_plain(file: &[u8]) -> bool
     file.len() >= 4 && begins_header(file, 0)
 }
 
-/// Opens a plain WMF file, or tells the first fault of its header.
+/// Opens a plain WMF file, or returns the first fault of its header.
 pub(crate) fn open_plain(file: &[u8]) -> Result<Opened<'_>, Fault>
     ensures opened { plain_file file.entry.now ≡ result_map opened_of result }
     ensures format { IfOk result (λ o. o.format ≡ FileFormat.Plain) }
@@ -38,17 +38,17 @@ pub(crate) fn open_plain(file: &[u8]) -> Result<Opened<'_>, Fault>
     let Some((x, y)) = first_extent(records) else {
         return Err(Fault::NoFrame);
     };
-    let sides = Point {
+    let dimensions = Point {
         x: i32::from(x),
         y: i32::from(y),
     };
-    let Some(frame) = Frame::new(sides.x.unsigned_abs(), sides.y.unsigned_abs()) else {
+    let Some(frame) = Frame::new(dimensions.x.unsigned_abs(), dimensions.y.unsigned_abs()) else {
         return Err(Fault::NoFrame);
     };
     Ok(Opened {
         format: FileFormat::Plain,
         frame,
-        start_map: PageMap::plain(sides),
+        start_map: PageMap::plain(dimensions),
         handles: None,
         notes: noted_where(has_other_size(file, 0), NoteSet::none(), Note::SizeField),
         records,

@@ -1,4 +1,4 @@
-//! The source of an opened file's steps, whatever its format.
+//! The source of an opened file's steps, in any format.
 
 use draw_ops::{HasContent, OpSource, RecordFault, Step};
 use emf_records::EmfOps;
@@ -7,9 +7,9 @@ use wmf_records::WmfOps;
 /// A source over the records of a file.
 #[derive(Debug, Drop)]
 pub enum Source<'a> {
-    /// Those of a placeable or a plain WMF file.
+    /// For a placeable or a plain WMF file.
     Wmf(WmfOps<'a>),
-    /// Those of an EMF file.
+    /// For an EMF file.
     Emf(EmfOps<'a>),
 }
 
@@ -27,7 +27,7 @@ impl<'a> OpSource<'a> for Source<'a> {
         }
     }
 
-    /// The next record's step, none behind the end record, or the fault at which the records break.
+    /// The next record's step, `None` after the end record, or the fault at which the records break.
     fn next_op(&mut self) -> Result<Option<Step<'a>>, RecordFault> {
         match self {
             Source::Wmf(ops) => ops.next_op(),

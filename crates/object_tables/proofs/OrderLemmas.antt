@@ -10,9 +10,9 @@ with_one : (k index : ℕ) (object : ObjectValue) (slots : Slots) → k ≤ inde
 with_one k index object [] b h = (b, tt)
 with_one k index object (slot ∷ slots) b h = elim (cases_lt index slot.0) [
   | inl before ↦ rw (lt-ltb index slot.0 before) (b, (before, h.1))
-  | inr behind ↦ elim (cases_eq index slot.0) [
-    | inl same ↦ rw (le-ltb index slot.0 behind, eq-eqb index slot.0 same) h
-    | inr other ↦ rw (le-ltb index slot.0 behind, ne_eqb index slot.0 other) (h.0, with_one (suc slot.0) index object slots (omega (arith, behind, other)) h.1)
+  | inr after ↦ elim (cases_eq index slot.0) [
+    | inl same ↦ rw (le-ltb index slot.0 after, eq-eqb index slot.0 same) h
+    | inr other ↦ rw (le-ltb index slot.0 after, ne_eqb index slot.0 other) (h.0, with_one (suc slot.0) index object slots (omega (arith, after, other)) h.1)
   ]
 ]
 

@@ -34,14 +34,14 @@ nothing_is_found : object_at 1 third_left ≡ None
 nothing_is_found = refl
 
 -- with a count of 3 the indexes 1 and 2 may be given, each once
-zero_is_refused : create_fault (by_given_index 3) (Some 0) [] ≡ Some NoSuchHandle
-zero_is_refused = refl
+zero_is_rejected : create_fault (by_given_index 3) (Some 0) [] ≡ Some NoSuchHandle
+zero_is_rejected = refl
 
 last_is_free : create_fault (by_given_index 3) (Some 2) [] ≡ None
 last_is_free = refl
 
-past_the_last_is_refused : create_fault (by_given_index 3) (Some 3) [] ≡ Some NoSuchHandle
-past_the_last_is_refused = refl
+past_the_last_is_rejected : create_fault (by_given_index 3) (Some 3) [] ≡ Some NoSuchHandle
+past_the_last_is_rejected = refl
 
-taken_is_refused : create_fault (by_given_index 3) (Some 2) third_left ≡ Some HandleTaken
-taken_is_refused = refl
+taken_is_rejected : create_fault (by_given_index 3) (Some 2) third_left ≡ Some HandleTaken
+taken_is_rejected = refl

@@ -8,16 +8,16 @@ use Rattle.draw_ops.specs.Objects.{ObjectValue}
 use Rattle.draw_ops.specs.declared.record_fault.RecordFault.{RecordFault}
 use Rattle.draw_ops.specs.declared.record_fault.RecordFault.TheVariants.{NoSuchHandle}
 
--- the objects with their indexes, in the order of these, and each index once
+-- the objects with their indexes, sorted by index, each index once
 abbrev pub Slots : Type 0
 Slots = List (ℕ × ObjectValue)
 
--- the indexes are in order, each once, and none is below k
+-- the indexes are sorted, each occurs once, and none is below k
 abbrev pub IsInOrderFrom : ℕ → Slots → Type 0
 IsInOrderFrom k [] = ⊤
 IsInOrderFrom k (slot ∷ slots) = (k ≤ slot.0) × IsInOrderFrom (suc slot.0) slots
 
--- the indexes are in order, each once
+-- the indexes are sorted, and each occurs once
 abbrev pub IsInOrder : Slots → Type 0
 IsInOrder slots = IsInOrderFrom 0 slots
 
@@ -25,7 +25,7 @@ IsInOrder slots = IsInOrderFrom 0 slots
 abbrev pub object_at : ℕ → Slots → Option ObjectValue
 object_at index slots = lookup (λ k. index == k) slots
 
--- the object at an index, or the fault that there is none
+-- the object at an index, or the fault if there is none
 abbrev pub object_or_fault : ℕ → Slots → Result ObjectValue RecordFault
 object_or_fault index slots = ok_or (object_at index slots) NoSuchHandle
 
@@ -33,7 +33,7 @@ object_or_fault index slots = ok_or (object_at index slots) NoSuchHandle
 abbrev pub is_taken : ℕ → Slots → Bool
 is_taken index slots = is_some (object_at index slots)
 
--- with this object at an index that was free
+-- with this object added at a free index
 abbrev pub with_object : ℕ → ObjectValue → Slots → Slots
 with_object index object slots = insert_entry nat_cmp slots index object
 
@@ -41,16 +41,16 @@ with_object index object slots = insert_entry nat_cmp slots index object
 abbrev pub without_object : ℕ → Slots → Slots
 without_object index slots = remove_entry (λ k. index == k) slots
 
--- the least number, from k on, that the indexes leave out: they are in order, and none is below k
+-- the lowest number, from k on, that isn't an index; the indexes are sorted, and none is below k
 abbrev pub left_out_from : ℕ → Slots → ℕ
 left_out_from k [] = k
 left_out_from k (slot ∷ slots) = if slot.0 == k then left_out_from (suc k) slots else k
 
--- the least index that is free
+-- the lowest free index
 abbrev pub lowest_free : Slots → ℕ
 lowest_free slots = left_out_from 0 slots
 
--- the index is free, and each below it is taken
+-- the index is free, and each one below it is in use
 pub record IsLowestFree (index : ℕ) (slots : Slots) : Type 0 where
   pub free : object_at index slots ≡ None
   pub taken_below : (other : ℕ) → other < index → IsSome (object_at other slots)

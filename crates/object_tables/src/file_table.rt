@@ -1,4 +1,4 @@
-//! The table of a file's objects, of its format's kind.
+//! The table of a file's objects, of the kind of its format.
 
 ghost use Rattle.std.specs.Prelude.{◌≡◌, []};
 ghost use Rattle.object_tables.specs.FileTable.{state_of};
@@ -10,7 +10,8 @@ use crate::table::{Contents, Table};
 use draw_ops::{Fault, Handle, Object, RecordFault};
 use std::alloc::Global;
 
-/// The objects of a file. One type for all formats lets what reads and plays a record be compiled as one.
+/// The objects of a file. Having one type for all formats lets the compiler generate the code for reading and playing
+/// records only once.
 #[derive(Debug, Drop)]
 pub enum FileTable<'a> {
     LowestFree(LowestFree<'a>),
@@ -18,11 +19,11 @@ pub enum FileTable<'a> {
 }
 
 impl<'a> FileTable<'a> {
-    /// The table of a file that may use so many indexes, if it says so.
+    /// The table for a file that may use this many indexes, if it gives a number.
     pub fn new(alloc: Global, handles: Option<u16>) -> FileTable<'a>
         ensures slots { (state_of result).slots ≡ [] }
         ensures kind { (state_of result).kind ≡ table_kind_of handles }
-        ensures room { (state_of result).room ≡ 0 }
+        ensures capacity { (state_of result).capacity ≡ 0 }
     {
         match handles {
             None => FileTable::LowestFree(LowestFree::new(alloc)),
@@ -31,7 +32,7 @@ impl<'a> FileTable<'a> {
     }
 }
 
-/// For how many objects a file with so many indexes may ask.
+/// The most objects of a file with this many indexes.
 pub fn full_slots(handles: Option<u16>) -> usize
     ensures { result ≡ index_bound (table_kind_of handles) }
 {

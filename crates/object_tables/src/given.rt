@@ -1,4 +1,4 @@
-//! The table of EMF: an object gets the index that its record gives.
+//! The table of EMF: an object gets the index that its record names.
 
 ghost use Rattle.std.specs.Prelude.{◌≡◌, []};
 ghost use Rattle.object_tables.specs.Table.{by_given_index};
@@ -9,8 +9,8 @@ use draw_ops::{Fault, Handle, Object, RecordFault};
 use std::alloc::Global;
 use std::marker::Model;
 
-/// A table in which a new object gets the index that its record gives ([MS-EMF] 3.1.1.1), from 1 up to
-/// below the count of indexes that the file's header gives.
+/// A table in which a new object gets the index that its record names ([MS-EMF] 3.1.1.1), from 1 to below the number of
+/// indexes in the file's header.
 #[derive(Debug, Drop)]
 pub struct Given<'a> {
     store: Store<'a>,
@@ -22,15 +22,15 @@ impl<'a> Model for Given<'a> {
 
     ghost Value = { TableState };
 
-    ghost view = { λ table. record { slots = table.store.slots; kind = by_given_index table.handles; room = table.store.room } };
+    ghost view = { λ table. record { slots = table.store.slots; kind = by_given_index table.handles; capacity = table.store.capacity } };
 }
 
 impl<'a> Given<'a> {
-    /// A table without objects, whose indexes are below `handles`. No memory is taken.
+    /// A table without objects, whose indexes are below `handles`. Allocates no memory.
     pub fn new(alloc: Global, handles: u16) -> Given<'a>
         ensures slots { result.slots ≡ [] }
         ensures kind { result.kind ≡ by_given_index handles }
-        ensures room { result.room ≡ 0 }
+        ensures capacity { result.capacity ≡ 0 }
     {
         Given {
             store: Store::new(alloc),

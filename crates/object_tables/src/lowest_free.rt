@@ -1,4 +1,4 @@
-//! The table of WMF: an object gets the least free index.
+//! The table of WMF: an object gets the lowest free index.
 
 ghost use Rattle.std.specs.Prelude.{◌≡◌, []};
 ghost use Rattle.object_tables.specs.Table.{by_lowest_free};
@@ -9,11 +9,11 @@ use draw_ops::{Fault, Handle, Object, RecordFault};
 use std::alloc::Global;
 use std::marker::Model;
 
-/// How many objects a WMF file has at most at a time.
+/// The most objects that a WMF file has at a time.
 pub const MAX_SLOTS: usize = 1024;
 
-/// A table in which a new object gets the least free index ([MS-WMF] 3.1.4.1), whatever its record
-/// says: at most 1,024 objects at a time.
+/// A table in which a new object gets the lowest free index ([MS-WMF] 3.1.4.1), whatever its record says. It has at
+/// most 1,024 objects at a time.
 #[derive(Debug, Drop)]
 pub struct LowestFree<'a> {
     store: Store<'a>,
@@ -25,17 +25,17 @@ impl<'a> Model for LowestFree<'a> {
 
     ghost Value = { TableState };
 
-    ghost view = { λ table. record { slots = table.store.slots; kind = by_lowest_free; room = table.store.room } };
+    ghost view = { λ table. record { slots = table.store.slots; kind = by_lowest_free; capacity = table.store.capacity } };
 
     ghost invariant = { λ table. table.store.places ≤ lowest_free_limit };
 }
 
 impl<'a> LowestFree<'a> {
-    /// A table without objects. No memory is taken.
+    /// A table without objects. Allocates no memory.
     pub fn new(alloc: Global) -> LowestFree<'a>
         ensures slots { result.slots ≡ [] }
         ensures kind { result.kind ≡ by_lowest_free }
-        ensures room { result.room ≡ 0 }
+        ensures capacity { result.capacity ≡ 0 }
     {
         LowestFree {
             store: Store::new(alloc),

@@ -1,4 +1,4 @@
-//! Objects in a list, each at the place of its index.
+//! Objects in a list, each at its index.
 
 ghost use Rattle.std.specs.Prelude.{◌≡◌, ◌≤◌, ◌<◌, ◌+◌, [], None, length, max, OnOk, OnErr, IfErr, IfOk, IsSome, IsTrue};
 ghost use Rattle.std.specs.List.{position};
@@ -15,8 +15,7 @@ use draw_ops::{Fault, Handle, Object, RecordFault};
 use std::alloc::Global;
 use std::marker::Model;
 
-/// Objects by their indexes, each in a list at the place of its index. What memory it takes goes by
-/// the greatest index.
+/// Objects in a list, each at its index. The memory depends on the greatest index.
 #[derive(Debug, Drop)]
 pub(crate) struct Store<'a> {
     places: Vec<Option<Object<'a>>>,
@@ -28,22 +27,22 @@ impl<'a> Model for Store<'a> {
 
     ghost Value = { StoreState };
 
-    ghost view = { λ s. record { slots = slots_from 0 s.places.items; places = length s.places.items; room = vec_capacity s.places } };
+    ghost view = { λ s. record { slots = slots_from 0 s.places.items; places = length s.places.items; capacity = vec_capacity s.places } };
 }
 
 impl<'a> Store<'a> {
-    /// A store without objects. No memory is taken.
+    /// A store without objects. Allocates no memory.
     pub(crate) fn new(alloc: Global) -> Store<'a>
         ensures slots { result.slots ≡ [] }
         ensures places { result.places ≡ 0 }
-        ensures room { result.room ≡ 0 }
+        ensures capacity { result.capacity ≡ 0 }
     {
         Store {
             places: Vec::new(alloc),
         }
     }
 
-    /// What stands at the place of an index, if the list is so long.
+    /// The object at an index, if the list is long enough and there is one.
     fn at(&self, index: u32) -> Option<Object<'a>>
         ensures object { option_map object_value_of result ≡ object_at index self.now.slots }
         ensures place { IsSome result → index < self.now.places }
@@ -56,7 +55,7 @@ impl<'a> Store<'a> {
         }
     }
 
-    /// The object at an index, or `NoSuchHandle` where there is none.
+    /// The object at an index, or `NoSuchHandle` if there is none.
     pub(crate) fn get(&self, handle: Handle) -> Result<Object<'a>, RecordFault>
         ensures object { result_map object_value_of result ≡ object_or_fault handle.0 self.now.slots }
         ensures in_order { IsInOrder self.now.slots }
@@ -84,22 +83,22 @@ impl<'a> Store<'a> {
         ensures kept { OnErr result (self.new.slots ≡ self.old.slots) }
         ensures same_places { OnErr result (self.new.places ≡ self.old.places) }
         ensures memory { IfErr result (λ fault. fault ≡ OutOfMemory) }
-        ensures full { OnErr result (self.old.room ≤ index) }
-        ensures room { self.old.room ≤ self.new.room }
+        ensures full { OnErr result (self.old.capacity ≤ index) }
+        ensures capacity { self.old.capacity ≤ self.new.capacity }
     {
         self.reach(index)?;
         self.places[index as usize] = Some(object);
         Ok(Handle(index))
     }
 
-    /// Gives each index up to this one a place.
+    /// Extends the list so that it has a slot at this index.
     fn reach(&mut self, index: u32) -> Result<(), Fault>
         ensures places { OnOk result (self.new.places ≡ max (index + 1) self.old.places) }
         ensures same_places { OnErr result (self.new.places ≡ self.old.places) }
         ensures slots { self.new.slots ≡ self.old.slots }
         ensures memory { IfErr result (λ fault. fault ≡ OutOfMemory) }
-        ensures full { OnErr result (self.old.room ≤ index) }
-        ensures room { self.old.room ≤ self.new.room }
+        ensures full { OnErr result (self.old.capacity ≤ index) }
+        ensures capacity { self.old.capacity ≤ self.new.capacity }
     {
         let place = index as usize;
         if place < self.places.len() {
@@ -111,13 +110,13 @@ impl<'a> Store<'a> {
         }
     }
 
-    /// Takes the object at an index out, or answers `NoSuchHandle` where there is none.
+    /// Removes the object at an index. Fails with `NoSuchHandle` if there is none.
     pub(crate) fn remove(&mut self, handle: Handle) -> Result<(), RecordFault>
         ensures fault { result_err result ≡ remove_fault handle.0 self.old.slots }
         ensures removed { OnOk result (self.new.slots ≡ without_object handle.0 self.old.slots) }
         ensures kept { OnErr result (self.new.slots ≡ self.old.slots) }
         ensures places { self.new.places ≡ self.old.places }
-        ensures room { self.new.room ≡ self.old.room }
+        ensures capacity { self.new.capacity ≡ self.old.capacity }
     {
         if !self.is_taken(handle) {
             return Err(RecordFault::NoSuchHandle);
@@ -126,7 +125,7 @@ impl<'a> Store<'a> {
         Ok(())
     }
 
-    /// The least index that is free.
+    /// The lowest free index.
     pub(crate) fn lowest_free(&self) -> usize
         ensures value { result ≡ lowest_free self.now.slots }
         ensures free { object_at result self.now.slots ≡ None }
@@ -137,23 +136,23 @@ impl<'a> Store<'a> {
         first_free_or_end(self.places.as_slice())
     }
 
-    /// Takes all objects out, and keeps the room.
+    /// Removes all objects, and keeps the capacity.
     pub(crate) fn clear(&mut self)
         ensures slots { self.new.slots ≡ [] }
         ensures places { self.new.places ≡ 0 }
-        ensures room { self.new.room ≡ self.old.room }
+        ensures capacity { self.new.capacity ≡ self.old.capacity }
     {
         self.places.clear();
     }
 
-    /// Makes room for the indexes below this one: `OutOfMemory` where it was refused.
+    /// Allocates memory for the indexes below this one. Fails with `OutOfMemory` if the allocation fails.
     pub(crate) fn reserve(&mut self, places: usize) -> Result<(), Fault>
-        ensures ok { OnOk result (places ≤ self.new.room) }
-        ensures full { OnErr result (self.old.room < places) }
+        ensures ok { OnOk result (places ≤ self.new.capacity) }
+        ensures full { OnErr result (self.old.capacity < places) }
         ensures memory { IfErr result (λ fault. fault ≡ OutOfMemory) }
         ensures slots { self.new.slots ≡ self.old.slots }
         ensures places { self.new.places ≡ self.old.places }
-        ensures room { self.old.room ≤ self.new.room }
+        ensures capacity { self.old.capacity ≤ self.new.capacity }
     {
         if places <= self.places.capacity() {
             return Ok(());
@@ -165,14 +164,14 @@ impl<'a> Store<'a> {
     }
 }
 
-/// The first place that is free, if one is.
+/// The first free slot, if there is one.
 fn first_free(places: &[Option<Object<'_>>]) -> Option<usize>
     ensures { result ≡ position (λ place. is_none place) places.now }
 {
     places.iter().position(|place| place.is_none())
 }
 
-/// The first place that is free, or the end.
+/// The first free slot, or the end.
 fn first_free_or_end(places: &[Option<Object<'_>>]) -> usize
     ensures { result ≡ places_taken places.now }
 {

@@ -31,12 +31,12 @@ use Rattle.painting.specs.Blits.{blit_colour, blit_made, blit_paints}
 use Rattle.preflight_cert.specs.Layer.{blit_layer, blit_paint, brushed_now}
 use Rattle.preflight_cert.specs.Mixing.{ternary}
 use Rattle.preflight_cert.specs.Paint.{paint_at, solid}
-use Rattle.painting.specs.Brushings.{brushing_paint, colour_of, colour_seen}
+use Rattle.painting.specs.FillStyles.{fill_style_paint, colour_of, colour_seen}
 use Rattle.painting.specs.Painted.{PaintsShape, paints}
 use Rattle.painting.specs.Drawn.{DrawsLayers, HoldsRows}
 use Rattle.painting.specs.Joined.{joined_if}
 use Rattle.preflight_cert.specs.Writes.{writes_pixel}
-use Rattle.painting.specs.declared.brushing.Brushing.{Brushing}
+use Rattle.painting.specs.declared.fill_style.FillStyle.{FillStyle}
 use Rattle.painting.proofs.DrawingLemmas.{layer_drawn}
 
 -- the brush's colour if the operation depends on the pattern, otherwise a substitute
@@ -51,11 +51,11 @@ joined_alike op seen source (Some p) old same = same p
 
 -- What the paint of a blit does to its box is what the blit does to it.
 pub blit_painted :
-    WritingLaws → (s : Surface) (paint : Brushing) (dc : Dc) (blit : PlaneBlit) (box : Rect) (old new : CanvasState) → IsWhole old
+    WritingLaws → (s : Surface) (paint : FillStyle) (dc : Dc) (blit : PlaneBlit) (box : Rect) (old new : CanvasState) → IsWhole old
     → paint.brush ≡ cond (uses_pattern blit.operation.table) dc.selected.brush (Solid black_colour) → paint.modes ≡ dc.modes → paint.operation.op ≡ blit.operation → paint.clip.now ≡ dc.clip
     → box ≡ box_between (placed_point blit.first s) (placed_point blit.second s)
     → ((x y : ℕ) (p c : Colour) → ternary_colour blit.operation.table p (colour_seen paint.source x y) c ≡ ternary_colour blit.operation.table p (source_colour (source_of blit.source) (placed_point blit.first s) (placed_point blit.second s) x y) c)
-    → PaintsShape (brushing_paint paint) (in_box box) old new
+    → PaintsShape (fill_style_paint paint) (in_box box) old new
     → Repaints (blit_paints blit s dc) (blit_made blit s dc) old new
 blit_painted laws s paint dc blit box old new whole brush modes operation clip inside same r =
     let op = blit.operation in
@@ -66,7 +66,7 @@ blit_painted laws s paint dc blit box old new whole brush modes operation clip i
     λ x y. ap (λ (b : Brush). brush_paint (brush_value_of b) paint.modes.background_mode paint.modes.background_colour x y) brush
     ∙ ap (λ (m : Modes). brush_paint (brush_value_of (cond (uses_pattern op.table) dc.selected.brush (Solid black_colour))) m.background_mode m.background_colour x y) modes
     ∙ chosen_colour (uses_pattern op.table) dc.selected.brush dc.modes.background_mode dc.modes.background_colour x y in
-    laws.same (paints (brushing_paint paint) (in_box box)) (blit_paints blit s dc) (brushing_paint paint).makes (blit_made blit s dc) old new whole
+    laws.same (paints (fill_style_paint paint) (in_box box)) (blit_paints blit s dc) (fill_style_paint paint).makes (blit_made blit s dc) old new whole
     (λ x y held.
     ap (λ (k : Clip). in_boxes (placed_value k) x y && in_box box x y && is_some (colour_of paint x y)) clip
     ∙ ap (λ (b : Rect). in_boxes (placed_value dc.clip) x y && in_box b x y && is_some (colour_of paint x y)) inside

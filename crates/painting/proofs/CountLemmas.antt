@@ -13,7 +13,7 @@ use Rattle.dc_stack.specs.declared.projection.Projection.{Projection}
 use Rattle.painting.specs.LinesToCome.{lines_if_on}
 use Rattle.preflight_cert.specs.Outlines.{closed_lines, lines_after, lines_round, open_lines, open_lines_of}
 use Rattle.painting.specs.PlacedLines.{lines_of_lists, projected_list}
-use Rattle.painting.specs.declared.list_lines.Traced.{Traced}
+use Rattle.painting.specs.declared.list_lines.Cursor.{Cursor}
 use Rattle.painting.specs.declared.list_lines.Ends.{Ends}
 use Rattle.painting.specs.declared.list_lines.Ends.TheVariants.{Open, Closed}
 
@@ -85,11 +85,11 @@ none_left count all whole e h =
     let k : count + length (open_lines_of []) ≡ all + length (points_of_lists []) = rw e at h in omega arith
 
 -- the remaining lines of a list
-pub length-open_course : (ends : Ends) (on : Option Traced) (course : Traced) (ps : List Point) → on ≡ Some course → ends ≡ Open → length (lines_if_on ends on ps) ≡ length ps
-length-open_course ends on course ps e f = rw (e, f) (length-lines_after course.last ps)
+pub length-open_cursor : (ends : Ends) (on : Option Cursor) (cursor : Cursor) (ps : List Point) → on ≡ Some cursor → ends ≡ Open → length (lines_if_on ends on ps) ≡ length ps
+length-open_cursor ends on cursor ps e f = rw (e, f) (length-lines_after cursor.last ps)
 
-pub length-closed_course : (ends : Ends) (on : Option Traced) (course : Traced) (ps : List Point) → on ≡ Some course → ends ≡ Closed → length (lines_if_on ends on ps) ≡ suc (length ps)
-length-closed_course ends on course ps e f = rw (e, f) (length-lines_round course.first course.last ps)
+pub length-closed_cursor : (ends : Ends) (on : Option Cursor) (cursor : Cursor) (ps : List Point) → on ≡ Some cursor → ends ≡ Closed → length (lines_if_on ends on ps) ≡ suc (length ps)
+length-closed_cursor ends on cursor ps e f = rw (e, f) (length-lines_round cursor.first cursor.last ps)
 
 module _ (by : Projection) where
   pub length-projected_list : (ps : List Point) → length (projected_list by ps) ≡ length ps

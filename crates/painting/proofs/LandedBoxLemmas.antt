@@ -5,7 +5,7 @@ use Rattle.std.proofs.lemmas.Int.{ints}
 use Rattle.std.proofs.lemmas.List.Elements.{All-nil}
 use Rattle.std.specs.Int.{int_max, int_min}
 use Rattle.std.specs.List.{All, list_all}
-use Rattle.mapping.specs.Boxes.{HasPoint, IsLeastBox, IsTight, box_between, right_bottom_of, mapped_by, left_top_of, no_box}
+use Rattle.mapping.specs.Boxes.{HasPoint, IsBoundingBox, IsTight, box_between, right_bottom_of, mapped_by, left_top_of, no_box}
 use Rattle.mapping.specs.BoxLaws.{BoxLaws}
 use Rattle.mapping.specs.Nibs.{reach_after, reach_before}
 use Rattle.mapping.specs.PixelBoxes.{from_to_true, from_to_from, in_box, is_from_to}
@@ -79,7 +79,7 @@ module _ (laws : BoxLaws) (place : Place) (bounds : Rect) where
   -- if a corner doesn't land within the limits, nothing is reached
   pub none_reached :
       (nib : Nib) → (FitsPlace (placed_point (left_top_of bounds) s) → FitsPlace (placed_point (right_bottom_of bounds) s) → ⊥)
-      → (points : List Point) → IsLeastBox bounds points → list_all (λ point. lands_within_limits point s) points ≡ true → (x y : ℕ) → Reaches nib bounds s x y → ⊥
+      → (points : List Point) → IsBoundingBox bounds points → list_all (λ point. lands_within_limits point s) points ≡ true → (x y : ℕ) → Reaches nib bounds s x y → ⊥
   none_reached nib off [] least within x y reached = empty (rw least at reached.wide)
     where
       empty : pos 0 ≤ℤ negsuc 0 → ⊥
@@ -117,18 +117,18 @@ between_reached laws nib s shown bounds wide high x y h =
     }
 
 -- the bounding box of points contains them
-pub has_all : (bounds : Rect) (points : List Point) → IsLeastBox bounds points → All (HasPoint bounds) points
+pub has_all : (bounds : Rect) (points : List Point) → IsBoundingBox bounds points → All (HasPoint bounds) points
 has_all bounds [] least = All-nil (HasPoint bounds)
 has_all bounds (p ∷ ps) least = least.all
 
 -- a shape with this bounding box lies in the box that contains what it reaches
 pub shape_landed :
     DrawingBoxLaws → (nib : Nib) (place : Place) (s : Surface) → surface_of place ≡ s → (bounds box : Rect) → HasLanded nib (surface_of place) bounds box
-    → (points : List Point) → IsLeastBox bounds points → list_all (λ point. lands_within_limits point s) points ≡ true
+    → (points : List Point) → IsBoundingBox bounds points → list_all (λ point. lands_within_limits point s) points ≡ true
     → (shape : Shape) → shape_nib shape s ≡ nib → IsClosedShape shape → shape_points shape ≡ points → (x y : ℕ) → in_shape shape s x y ≡ true → in_box box x y ≡ true
-shape_landed laws nib place s e bounds box landed points least within shape drawn closed told x y h =
+shape_landed laws nib place s e bounds box landed points least within shape drawn closed reported x y h =
     let here : ShowsFrame s = subst ShowsFrame e (shows place) in
     let there : HasLanded nib s bounds box = subst (λ (r : Surface). HasLanded nib r bounds box) e landed in
-    let all : All (HasPoint bounds) (shape_points shape) = subst (All (HasPoint bounds)) (sym told) (has_all bounds points least) in
+    let all : All (HasPoint bounds) (shape_points shape) = subst (All (HasPoint bounds)) (sym reported) (has_all bounds points least) in
     let reached : Reaches nib bounds s x y = subst (λ (n : Nib). Reaches n bounds s x y) drawn (laws.shape shape bounds s x y here closed all h) in
     there.all points least within x y reached

@@ -2,8 +2,8 @@ pub mod MixLemmas
 pub mod StripLemmas
 pub mod LinePixelLemmas
 pub mod LineStepLemmas
-pub mod StampLemmas
-pub mod StampingLemmas
+pub mod VisitedMaskLemmas
+pub mod VisitingLemmas
 pub mod VisibleLemmas
 pub mod FilterLemmas
 pub mod TakenLemmas

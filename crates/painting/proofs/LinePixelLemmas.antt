@@ -94,11 +94,11 @@ module _ (law : OnePixelForEachStep) (old new : StepsState) (pixel : PixelAt) (o
       let to = p.to in
       let there : step_at new.line (pos x) (pos y) ≡ step_at old.line (pos x) (pos y) = ap (λ l. step_at l (pos x) (pos y)) line in
       elim (cases_le old.next (step_at old.line (pos x) (pos y)) p.from) [
-        | inl behind ↦
+        | inl after ↦
             parts_from new x y (record {
               on = rw line p.on;
               inside = rw region p.inside;
-              from = omega (arith, behind, there, next);
+              from = omega (arith, after, there, next);
               to = omega (arith, to, there, end);
             })
         | inr now ↦

@@ -2,7 +2,7 @@
 use Rattle.std.proofs.Common.{◌≡◌, ◌≢◌, ◌↔◌, ◌⊎◌, inl, inr, ℕ, ◌+◌, Bool, true, false, not, IsTrue, ap, ◌∙◌, ◌≤◌, ℤ, pos, ◌*ℤ◌, ◌≤ℤ◌, ◌<ℤ◌, int_lt, arith, subst, sym}
 use Rattle.std.proofs.lemmas.Bool.{true≢false}
 use Rattle.std.proofs.lemmas.Int.{by_lt_z, ints}
-use Rattle.mapping.specs.Boxes.{IsLeastBox}
+use Rattle.mapping.specs.Boxes.{IsBoundingBox}
 use Rattle.mapping.specs.Floor.{FloorDivisionIsGreatest, floor_div}
 use Rattle.mapping.specs.PlacingLaws.{ShowsFrame}
 use Rattle.mapping.specs.Surface.{Surface}
@@ -15,7 +15,7 @@ use Rattle.dc_stack.specs.Clip.{placed_box}
 use Rattle.dc_stack.specs.Drawing.{Drawing, drawing_nib, drawing_points}
 use Rattle.span_fill.specs.WideStrokes.{widened}
 use Rattle.preflight_cert.specs.Layer.{layers_of}
-use Rattle.preflight_cert.specs.MissedRowsLaws.{LiesBeside, MissedRowsLaws}
+use Rattle.preflight_cert.specs.MissedRowsLaws.{LiesOutside, MissedRowsLaws}
 use Rattle.painting.specs.Drawn.{DrawsLayers, HoldsRows}
 use Rattle.painting.proofs.LandedBoxLemmas.{has_all}
 
@@ -46,8 +46,8 @@ module _ (law : FloorDivisionIsGreatest) (a count : ℤ) (side : ℕ) (some : 1 
       (λ t. int_lt-from a (count *ℤ pos side) (before_back (int_lt-true quotient (count) t)))
 
 -- what doesn't end above some rows lies outside them unless it begins above their end
-pub beside_else : (bottom top : ℤ) (first rows : ℕ) → int_lt bottom (pos first) ≡ false → IsTrue (not (int_lt top (pos (first + rows)))) ↔ ((bottom <ℤ pos first) ⊎ (pos (first + rows) ≤ℤ top))
-beside_else bottom top first rows not_above = (
+pub outside_else : (bottom top : ℤ) (first rows : ℕ) → int_lt bottom (pos first) ≡ false → IsTrue (not (int_lt top (pos (first + rows)))) ↔ ((bottom <ℤ pos first) ⊎ (pos (first + rows) ≤ℤ top))
+outside_else bottom top first rows not_above = (
   λ h. by_lt_z top (pos (first + rows)) (λ g. absurd (not_both (int_lt top (pos (first + rows))) (int_lt-from top (pos (first + rows)) g) h)) (λ g. inr g),
   λ beside. elim beside [
     | inl above ↦ absurd (true≢false (sym (int_lt-from bottom (pos first) above) ∙ not_above))
@@ -62,7 +62,7 @@ beside_else bottom top first rows not_above = (
 -- a drawing has nothing on rows that it misses
 pub missed_drawn :
     MissedRowsLaws → (s : Surface) (drawing : Drawing) (bounds : Rect) (canvas : CanvasState) → ShowsFrame s → IsWhole canvas → HoldsRows canvas s
-    → IsLeastBox bounds (drawing_points drawing) → LiesBeside (widened (drawing_nib drawing s) (placed_box s bounds)) canvas.first canvas.rows
+    → IsBoundingBox bounds (drawing_points drawing) → LiesOutside (widened (drawing_nib drawing s) (placed_box s bounds)) canvas.first canvas.rows
     → DrawsLayers (layers_of drawing) s canvas canvas
 missed_drawn laws s drawing bounds canvas shown there held least beside =
     let all = has_all bounds (drawing_points drawing) least in

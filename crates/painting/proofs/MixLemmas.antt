@@ -115,9 +115,9 @@ one_cell_more laws keeps flips cells y from x mix start now new whole same h r c
     λ column row. false_from_ne_true _ (λ t.
     let both = and_parts (in_cells y from x cells column row) (in_cells y x (x + 1) cells column row) t in
     let before = span_parts y from x column row (and_parts (in_row_span y from x column row) (is_cell cells column) both.0).0 in
-    let behind = span_parts y x (x + 1) column row (and_parts (in_row_span y x (x + 1) column row) (is_cell cells column) both.1).0 in
+    let after = span_parts y x (x + 1) column row (and_parts (in_row_span y x (x + 1) column row) (is_cell cells column) both.1).0 in
     let high = before.2 in
-    let low = behind.1 in
+    let low = after.1 in
     omega (arith, high, low)) in
     let both = laws.both _ _ f start now new whole (λ column row held. apart column row) h.painted here in
     record {

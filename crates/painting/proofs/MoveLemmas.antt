@@ -11,8 +11,8 @@ use Rattle.dc_stack.specs.Figures.{Figure, Figures, all_figures, figure_of, no_f
 use Rattle.dc_stack.specs.Pieces.{figures_of, gone_on, plane_lists, with_end, with_lists, with_piece, with_pieces}
 use Rattle.dc_stack.specs.declared.piece.FigureEnd.{FigureEnd}
 use Rattle.dc_stack.specs.declared.piece.FigureEnd.TheVariants.{Open as LeftOpen, Ended, Closed as Joined}
-use Rattle.dc_stack.specs.declared.piece.Joining.{Joining}
-use Rattle.dc_stack.specs.declared.piece.Joining.TheVariants.{GoesOn, Polylines, Polygons}
+use Rattle.dc_stack.specs.declared.piece.Verb.{Verb}
+use Rattle.dc_stack.specs.declared.piece.Verb.TheVariants.{GoesOn, Polylines, Polygons}
 use Rattle.dc_stack.specs.declared.piece.Piece.{Piece}
 use Rattle.span_fill.specs.declared.line.Line.{Line}
 use Rattle.painting.specs.FigureEnds.{lines_of_figure, lines_of_figures}
@@ -63,7 +63,7 @@ polygon [] f = refl
 polygon (p ∷ ps) f = then_end (p ∷ ps) Joined (with_current_done false f)
 
 -- the moves of several lists do what the lists do
-with_lists_moves : (joining : Joining) (ls : List (List Point)) (f : Figures) → with_moves (moves_of_lists joining ls) f ≡ with_lists joining ls f
+with_lists_moves : (verb : Verb) (ls : List (List Point)) (f : Figures) → with_moves (moves_of_lists verb ls) f ≡ with_lists verb ls f
 with_lists_moves GoesOn [] f = ap (figures_with f.done) (sym (append-nil f.current))
 with_lists_moves GoesOn (l ∷ ls) f =
     one_after_another (moves_of_list GoesOn l) (moves_of_lists GoesOn ls) f
@@ -97,18 +97,18 @@ module _ (s : Surface) where
   placed_to [] = refl
   placed_to (p ∷ ps) = ap (λ (rest : List Move). To (placed_point p s) ∷ rest) (placed_to ps)
 
-  placed_list_moves : (joining : Joining) (ps : List Point) → placed_moves (moves_of_list joining ps) ≡ moves_of_list joining (placed_list s ps)
-  placed_list_moves joining [] = refl
+  placed_list_moves : (verb : Verb) (ps : List Point) → placed_moves (moves_of_list verb ps) ≡ moves_of_list verb (placed_list s ps)
+  placed_list_moves verb [] = refl
   placed_list_moves GoesOn (p ∷ ps) = ap (λ (rest : List Move). End LeftOpen ∷ rest) (map-append placed_move (map To (p ∷ ps)) (End LeftOpen ∷ []) ∙ ap (λ (rest : List Move). rest ++ End LeftOpen ∷ []) (placed_to (p ∷ ps)))
   placed_list_moves Polylines (p ∷ ps) = ap (λ (rest : List Move). End Ended ∷ rest) (map-append placed_move (map To (p ∷ ps)) (End LeftOpen ∷ []) ∙ ap (λ (rest : List Move). rest ++ End LeftOpen ∷ []) (placed_to (p ∷ ps)))
   placed_list_moves Polygons (p ∷ ps) = ap (λ (rest : List Move). End Ended ∷ rest) (map-append placed_move (map To (p ∷ ps)) (End Joined ∷ []) ∙ ap (λ (rest : List Move). rest ++ End Joined ∷ []) (placed_to (p ∷ ps)))
 
-  placed_lists_moves : (joining : Joining) (ls : List (List Point)) → placed_moves (moves_of_lists joining ls) ≡ moves_of_lists joining (placed_lists s ls)
-  placed_lists_moves joining [] = refl
-  placed_lists_moves joining (l ∷ ls) =
-      map-append placed_move (moves_of_list joining l) (moves_of_lists joining ls)
-      ∙ ap (λ (rest : List Move). rest ++ placed_moves (moves_of_lists joining ls)) (placed_list_moves joining l)
-      ∙ ap (λ (rest : List Move). moves_of_list joining (placed_list s l) ++ rest) (placed_lists_moves joining ls)
+  placed_lists_moves : (verb : Verb) (ls : List (List Point)) → placed_moves (moves_of_lists verb ls) ≡ moves_of_lists verb (placed_lists s ls)
+  placed_lists_moves verb [] = refl
+  placed_lists_moves verb (l ∷ ls) =
+      map-append placed_move (moves_of_list verb l) (moves_of_lists verb ls)
+      ∙ ap (λ (rest : List Move). rest ++ placed_moves (moves_of_lists verb ls)) (placed_list_moves verb l)
+      ∙ ap (λ (rest : List Move). moves_of_list verb (placed_list s l) ++ rest) (placed_lists_moves verb ls)
 
   placed_figure_of : (is_closed : Bool) (ps : List Point) → placed_figures s (figure_of is_closed ps) ≡ figure_of is_closed (placed_list s ps)
   placed_figure_of is_closed [] = refl
@@ -134,12 +134,12 @@ module _ (s : Surface) where
   piece_placed : (piece : Piece) (f : Figures) → with_moves (moves_of_piece s piece) (placed f) ≡ placed (with_piece piece f)
   piece_placed piece f =
       let lists = plane_lists (map_numbers piece.map) piece.points in
-      let moves = moves_of_lists piece.joining lists in
-      one_after_another (moves_of_lists piece.joining (placed_lists s lists)) (End piece.end ∷ []) (placed f)
-      ∙ ap (λ (there : List Move). with_end piece.end (with_moves there (placed f))) (sym (placed_lists_moves piece.joining lists))
+      let moves = moves_of_lists piece.verb lists in
+      one_after_another (moves_of_lists piece.verb (placed_lists s lists)) (End piece.end ∷ []) (placed f)
+      ∙ ap (λ (there : List Move). with_end piece.end (with_moves there (placed f))) (sym (placed_lists_moves piece.verb lists))
       ∙ ap (with_end piece.end) (moves_placed moves f)
       ∙ move_placed (End piece.end) (with_moves moves f)
-      ∙ ap (λ (g : Figures). placed (with_end piece.end g)) (with_lists_moves piece.joining lists f)
+      ∙ ap (λ (g : Figures). placed (with_end piece.end g)) (with_lists_moves piece.verb lists f)
 
   pieces_placed : (pieces : List Piece) (f : Figures) → with_moves (moves_of_pieces s pieces) (placed f) ≡ placed (with_pieces pieces f)
   pieces_placed [] f = refl
@@ -153,9 +153,9 @@ abbrev last_of : Point → List Point → Point
 last_of p [] = p
 last_of p (q ∷ qs) = last_of q qs
 
-last_behind : (p : Point) (ps : List Point) (q : Point) → last_of p (ps ++ q ∷ []) ≡ q
-last_behind p [] q = refl
-last_behind p (r ∷ rs) q = last_behind r rs q
+last_after : (p : Point) (ps : List Point) (q : Point) → last_of p (ps ++ q ∷ []) ≡ q
+last_after p [] q = refl
+last_after p (r ∷ rs) q = last_after r rs q
 
 -- the open figure of the points
 abbrev drawn_through : List Point → Drawn
@@ -201,7 +201,7 @@ module _ (ends : Ends) where
   point_more [] p moves = refl
   point_more (q ∷ qs) p moves =
       ap (λ (lines : List Line). lines ++ lines_of_moves ends (drawn q (last_of q (qs ++ p ∷ []))) moves) (after_more q qs p)
-      ∙ ap (λ (last : Point). (lines_after q qs ++ line_from (last_of q qs) p ∷ []) ++ lines_of_moves ends (drawn q last) moves) (last_behind q qs p)
+      ∙ ap (λ (last : Point). (lines_after q qs ++ line_from (last_of q qs) p ∷ []) ++ lines_of_moves ends (drawn q last) moves) (last_after q qs p)
       ∙ append_assoc (lines_after q qs) (line_from (last_of q qs) p ∷ []) (lines_of_moves ends (drawn q p) moves)
 
   -- moves draw the lines of the figures that they add

@@ -54,9 +54,9 @@ abbrev pub stroked_outline : Ends → List Figure → Outline
 stroked_outline Open figures = along figures
 stroked_outline Closed figures = along (all_closed figures)
 
-pub stroke_told : (ends : Ends) (figures : List Figure) → outline_points (stroked_outline ends figures) ≡ points_of_figures figures
-stroke_told Open figures = refl
-stroke_told Closed figures = points_closed figures
+pub stroke_reported : (ends : Ends) (figures : List Figure) → outline_points (stroked_outline ends figures) ≡ points_of_figures figures
+stroke_reported Open figures = refl
+stroke_reported Closed figures = points_closed figures
 
 pub strokes_figures : (painting : Painting) (ends : Ends) (figures : List Figure) (tools : Tools) → stroked_ends painting ≡ Some ends → figures_stroked painting figures tools ≡ stroked (stroked_outline ends figures) tools
 strokes_figures Fill ends figures tools h = cc

@@ -25,7 +25,7 @@ use Rattle.dc_stack.specs.Figures.{box_corners}
 use Rattle.dc_stack.specs.Mapped.{mapped_list, mapped_lists, mapped_point}
 use Rattle.dc_stack.specs.Pieces.{AllLandOn, LandsOn, page_lists, page_points, plane_lists}
 use Rattle.dc_stack.specs.Projected.{is_projected, projected}
-use Rattle.dc_stack.specs.declared.piece.Joining.{Joining}
+use Rattle.dc_stack.specs.declared.piece.Verb.{Verb}
 use Rattle.dc_stack.specs.declared.piece.Piece.{Piece}
 use Rattle.dc_stack.specs.declared.piece.PiecePoints.{PiecePoints}
 use Rattle.dc_stack.specs.declared.piece.PiecePoints.TheVariants.{Point as OnePoint, List as OneList, Lists, Corners}
@@ -111,17 +111,17 @@ module _ (by : Projection) where
       (All-head P first (second ∷ []) both, All-head P second [] (All-tail P first (second ∷ []) both))
 
   -- the moves through a piece are those through the part that is placed at once and through the lists
-  pub in_parts : PlacingLaws → (joining : Joining) (points : PiecePoints) (behind : List Move) → moves_of_list joining (placed_part by points) ++ (moves_of_lists joining (map (projected_list by) (page_part points)) ++ behind) ≡ moves_of_lists joining (placed_lists (surface_of by.place) (plane_lists (map_numbers by.map) points)) ++ behind
-  in_parts laws joining (OnePoint point) behind = ap (λ (moves : List Move). moves ++ behind) (sym (append-nil (moves_of_list joining (projected by point ∷ []))))
-  in_parts laws joining (OneList points) behind =
-      ap (λ (lists : List (List Point)). moves_of_lists joining lists ++ behind) (sym (lists_placed (points_of points ∷ [])))
-  in_parts laws joining (Lists parted) behind =
-      ap (λ (lists : List (List Point)). moves_of_lists joining lists ++ behind) (sym (lists_placed (parts_of parted)))
-  in_parts laws joining (Corners corners) behind =
+  pub in_parts : PlacingLaws → (verb : Verb) (points : PiecePoints) (after : List Move) → moves_of_list verb (placed_part by points) ++ (moves_of_lists verb (map (projected_list by) (page_part points)) ++ after) ≡ moves_of_lists verb (placed_lists (surface_of by.place) (plane_lists (map_numbers by.map) points)) ++ after
+  in_parts laws verb (OnePoint point) after = ap (λ (moves : List Move). moves ++ after) (sym (append-nil (moves_of_list verb (projected by point ∷ []))))
+  in_parts laws verb (OneList points) after =
+      ap (λ (lists : List (List Point)). moves_of_lists verb lists ++ after) (sym (lists_placed (points_of points ∷ [])))
+  in_parts laws verb (Lists parted) after =
+      ap (λ (lists : List (List Point)). moves_of_lists verb lists ++ after) (sym (lists_placed (parts_of parted)))
+  in_parts laws verb (Corners corners) after =
       let m = map_numbers by.map in
       let shows : ShowsFrame (surface_of by.place) = record { wide = by.place.frame.wide; high = by.place.frame.high } in
       let there = placed_corners laws (surface_of by.place) shows (mapped_point m (left_top_of corners)) (mapped_point m (right_bottom_of corners)) in
-      ap (λ (moves : List Move). moves ++ behind) (ap (moves_of_list joining) (sym there) ∙ sym (append-nil (moves_of_list joining (placed_list (surface_of by.place) (box_corners (box_between (mapped_point m (left_top_of corners)) (mapped_point m (right_bottom_of corners))))))))
+      ap (λ (moves : List Move). moves ++ after) (ap (moves_of_list verb) (sym there) ∙ sym (append-nil (moves_of_list verb (placed_list (surface_of by.place) (box_corners (box_between (mapped_point m (left_top_of corners)) (mapped_point m (right_bottom_of corners))))))))
 
 -- the lists of a piece that lands
 pub piece_lands : (by : Projection) (piece : Piece) → by.map ≡ piece.map → LandsOn (surface_of by.place) piece → AllListsLand by (page_lists piece.points)

@@ -13,11 +13,11 @@ use Rattle.span_fill.specs.declared.span.Region.{Region}
 use Rattle.span_fill.specs.declared.span.Span.{Span}
 use Rattle.painting.specs.Painted.{PaintValue, PaintsShape}
 use Rattle.painting.specs.Regions.{HasVisible}
-use Rattle.painting.specs.RowInks.{inked}
-use Rattle.painting.specs.RowsPainted.{IsInk}
+use Rattle.painting.specs.RowOps.{inked}
+use Rattle.painting.specs.RowsPainted.{IsRowOp}
 use Rattle.painting.specs.Strips.{is_painted, is_uncut}
-use Rattle.painting.specs.declared.row_ink.RowInk.{RowInk}
-use Rattle.painting.proofs.RowLemmas.{HasRowsPainted, before_first, behind_last, nothing_painted, one_row_more, pixel_held, seen, seen_in_rows}
+use Rattle.painting.specs.declared.row_op.RowOp.{RowOp}
+use Rattle.painting.proofs.RowLemmas.{HasRowsPainted, before_first, after_last, nothing_painted, one_row_more, pixel_held, seen, seen_in_rows}
 use Rattle.painting.proofs.TestLemmas.{column_from, column_true}
 
 module _
@@ -54,25 +54,25 @@ module _
 
   -- one more row
   pub row_added :
-      (now new : CanvasState) (y : ℕ) (ink : RowInk) (written : ℕ → Bool) (columns : Span)
+      (now new : CanvasState) (y : ℕ) (row_op : RowOp) (written : ℕ → Bool) (columns : Span)
       → ((x : ℕ) → written x ≡ (in_span region.columns x && shape x y))
-      → IsInk paint columns y ink
+      → IsRowOp paint columns y row_op
       → ((x : ℕ) → written x ≡ true → is_uncut paint.clip.cuts x y ≡ true → in_span columns x ≡ true)
       → region.rows.from ≤ y → y < region.rows.to → HasRow canvas y
       → HasRowsPainted paint shape y canvas now
-      → Repaints (is_painted ink paint.clip.cuts y written) (λ column row old. inked ink column old) now new
+      → Repaints (is_painted row_op paint.clip.cuts y written) (λ column row old. inked row_op column old) now new
       → HasRowsPainted paint shape (y + 1) canvas new
-  row_added now new y ink written columns same inks within low high held so_far row =
-      one_row_more paint shape laws canvas whole now new y ink written inks.test
+  row_added now new y row_op written columns same row_ops within low high held so_far row =
+      one_row_more paint shape laws canvas whole now new y row_op written row_ops.test
       (λ x old there uncut i.
       let at = column_true columns.from columns.to x (within x there uncut) in
-      inks.colour x old at.0 at.1 i)
+      row_ops.colour x old at.0 at.1 i)
       (λ x column. same x ∙ row_kept x y low high held column)
       so_far row
 
   -- after the last row everything is painted
   pub rows_done : (now : CanvasState) (y : ℕ) → region.rows.to ≤ y → HasRowsPainted paint shape y canvas now → PaintsShape paint shape canvas now
-  rows_done now y end so_far = behind_last paint shape laws canvas whole now y
+  rows_done now y end so_far = after_last paint shape laws canvas whole now y
       (λ x r held h. let last = (seen_in_rows paint shape canvas region visible x r held h).1 in omega (arith, last, end))
       so_far
 

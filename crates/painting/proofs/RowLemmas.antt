@@ -13,10 +13,10 @@ use Rattle.span_fill.specs.declared.span.Region.{Region}
 use Rattle.span_fill.specs.declared.span.Span.{Span}
 use Rattle.painting.specs.Painted.{PaintValue, paints}
 use Rattle.painting.specs.Regions.{HasVisible}
-use Rattle.painting.specs.RowInks.{inked, is_inked}
+use Rattle.painting.specs.RowOps.{inked, is_inked}
 use Rattle.painting.specs.RowsPainted.{paints_above, paints_row}
 use Rattle.painting.specs.Strips.{is_painted, is_uncut}
-use Rattle.painting.specs.declared.row_ink.RowInk.{RowInk}
+use Rattle.painting.specs.declared.row_op.RowOp.{RowOp}
 use Rattle.painting.proofs.TestLemmas.{column_from, column_true}
 
 -- separate spans between two numbers have no other numbers
@@ -52,9 +52,9 @@ apart_within first last lower upper (span ∷ spans) h k apart =
     (omega (arith, low, h), apart.1, omega (arith, high, k), apart_within (suc span.to) last (suc span.to) upper spans (omega arith) k apart.3)
 
 -- what holds for a painted pixel
-painted_parts : (ink : RowInk) (cuts : List Rect) (y : ℕ) (columns : ℕ → Bool) (column row : ℕ) → is_painted ink cuts y columns column row ≡ true → ((row == y) ≡ true) × (columns column ≡ true) × (is_uncut cuts column row ≡ true) × (is_inked ink column ≡ true)
-painted_parts ink cuts y columns column row h =
-    let a = and_parts ((row == y && columns column) && is_uncut cuts column row) (is_inked ink column) h in
+painted_parts : (row_op : RowOp) (cuts : List Rect) (y : ℕ) (columns : ℕ → Bool) (column row : ℕ) → is_painted row_op cuts y columns column row ≡ true → ((row == y) ≡ true) × (columns column ≡ true) × (is_uncut cuts column row ≡ true) × (is_inked row_op column ≡ true)
+painted_parts row_op cuts y columns column row h =
+    let a = and_parts ((row == y && columns column) && is_uncut cuts column row) (is_inked row_op column) h in
     let b = and_parts (row == y && columns column) (is_uncut cuts column row) a.0 in
     let c = and_parts (row == y) (columns column) b.0 in
     (c.0, c.1, b.1, a.1)
@@ -93,12 +93,12 @@ module _ (paint : PaintValue) (shape : ℕ → ℕ → Bool) where
       let here = eqb-true row y (and_parts (paints paint shape column row) _ p.1).1 in absurd (omega (arith, above, here)))
       (λ e. cc)
 
-  module _ (ink : RowInk) (columns : ℕ → Bool) (y column : ℕ) (test : is_inked ink column ≡ paint.has column y) (same : columns column ≡ (in_kept paint.clip.kept column y && shape column y)) where
+  module _ (row_op : RowOp) (columns : ℕ → Bool) (y column : ℕ) (test : is_inked row_op column ≡ paint.has column y) (same : columns column ≡ (in_kept paint.clip.kept column y && shape column y)) where
     -- what the row operation writes of the row is what the paint writes there
-    ink_paints : (row : ℕ) → is_painted ink paint.clip.cuts y columns column row ≡ true → paints_row paint shape y column row ≡ true
-    ink_paints row h =
+    row_op_paints : (row : ℕ) → is_painted row_op paint.clip.cuts y columns column row ≡ true → paints_row paint shape y column row ≡ true
+    row_op_paints row h =
         let clip = paint.clip in
-        let a = painted_parts ink clip.cuts y columns column row h in
+        let a = painted_parts row_op clip.cuts y columns column row h in
         let here = eqb-true row y a.0 in
         let d = and_parts (in_kept clip.kept column y) (shape column y) (sym same ∙ a.1) in
         let uncut : is_uncut clip.cuts column y ≡ true = subst (λ (r : ℕ). is_uncut clip.cuts column r ≡ true) here a.2 in
@@ -106,8 +106,8 @@ module _ (paint : PaintValue) (shape : ℕ → ℕ → Bool) where
         let painted : paints paint shape column y ≡ true = and_from (in_boxes clip column y && shape column y) (paint.has column y) (and_from (in_boxes clip column y) (shape column y) clipped d.1) (sym test ∙ a.3) in
         and_from (paints paint shape column row) (row == y) (subst (λ (r : ℕ). paints paint shape column r ≡ true) (sym here) painted) a.0
 
-    paints_ink : (row : ℕ) → paints_row paint shape y column row ≡ true → is_painted ink paint.clip.cuts y columns column row ≡ true
-    paints_ink row h =
+    paints_row_op : (row : ℕ) → paints_row paint shape y column row ≡ true → is_painted row_op paint.clip.cuts y columns column row ≡ true
+    paints_row_op row h =
         let clip = paint.clip in
         let a = and_parts (paints paint shape column row) (row == y) h in
         let here = eqb-true row y a.1 in
@@ -116,10 +116,10 @@ module _ (paint : PaintValue) (shape : ℕ → ℕ → Bool) where
         let c = and_parts (in_kept clip.kept column y) (is_uncut clip.cuts column y) b.0 in
         let uncut : is_uncut clip.cuts column row ≡ true = subst (λ (r : ℕ). is_uncut clip.cuts column r ≡ true) (sym here) c.1 in
         let within : columns column ≡ true = same ∙ and_from (in_kept clip.kept column y) (shape column y) c.0 b.1 in
-        and_from ((row == y && columns column) && is_uncut clip.cuts column row) (is_inked ink column) (and_from (row == y && columns column) (is_uncut clip.cuts column row) (and_from (row == y) (columns column) a.1 within) uncut) (test ∙ b.2)
+        and_from ((row == y && columns column) && is_uncut clip.cuts column row) (is_inked row_op column) (and_from (row == y && columns column) (is_uncut clip.cuts column row) (and_from (row == y) (columns column) a.1 within) uncut) (test ∙ b.2)
 
-    pub row_painted : (row : ℕ) → is_painted ink paint.clip.cuts y columns column row ≡ paints_row paint shape y column row
-    row_painted row = same_test _ _ (ink_paints row) (paints_ink row)
+    pub row_painted : (row : ℕ) → is_painted row_op paint.clip.cuts y columns column row ≡ paints_row paint shape y column row
+    row_painted row = same_test _ _ (row_op_paints row) (paints_row_op row)
 
   -- the rows before this one are painted
   pub record HasRowsPainted (y : ℕ) (start now : CanvasState) : Type 0 where
@@ -140,16 +140,16 @@ module _ (paint : PaintValue) (shape : ℕ → ℕ → Bool) where
     }
 
     -- one more row
-    pub one_row_more : (now new : CanvasState) (y : ℕ) (ink : RowInk) (columns : ℕ → Bool) → ((x : ℕ) → is_inked ink x ≡ paint.has x y) → ((x : ℕ) (old : Colour) → columns x ≡ true → is_uncut paint.clip.cuts x y ≡ true → is_inked ink x ≡ true → inked ink x old ≡ paint.makes x y old) → ((x : ℕ) → x < start.width → columns x ≡ (in_kept paint.clip.kept x y && shape x y)) → HasRowsPainted y start now → Repaints (is_painted ink paint.clip.cuts y columns) (λ column row old. inked ink column old) now new → HasRowsPainted (y + 1) start new
-    one_row_more now new y ink columns test colour same so_far row =
+    pub one_row_more : (now new : CanvasState) (y : ℕ) (row_op : RowOp) (columns : ℕ → Bool) → ((x : ℕ) → is_inked row_op x ≡ paint.has x y) → ((x : ℕ) (old : Colour) → columns x ≡ true → is_uncut paint.clip.cuts x y ≡ true → is_inked row_op x ≡ true → inked row_op x old ≡ paint.makes x y old) → ((x : ℕ) → x < start.width → columns x ≡ (in_kept paint.clip.kept x y && shape x y)) → HasRowsPainted y start now → Repaints (is_painted row_op paint.clip.cuts y columns) (λ column row old. inked row_op column old) now new → HasRowsPainted (y + 1) start new
+    one_row_more now new y row_op columns test colour same so_far row =
         let clip = paint.clip in
         let width = so_far.painted.width in
-        let here = laws.same (is_painted ink clip.cuts y columns) (paints_row paint shape y) (λ column r old. inked ink column old) paint.makes now new so_far.whole
-        (λ x r held. let column = held.column in row_painted ink columns y x (test x) (same x (omega (arith, column, width))) r)
+        let here = laws.same (is_painted row_op clip.cuts y columns) (paints_row paint shape y) (λ column r old. inked row_op column old) paint.makes now new so_far.whole
+        (λ x r held. let column = held.column in row_painted row_op columns y x (test x) (same x (omega (arith, column, width))) r)
         (λ x r old held painted.
-        let a = painted_parts ink clip.cuts y columns x r painted in
+        let a = painted_parts row_op clip.cuts y columns x r painted in
         let at = eqb-true r y a.0 in
-        subst (λ (q : ℕ). inked ink x old ≡ paint.makes x q old) (sym at) (colour x old a.1 (subst (λ (q : ℕ). is_uncut clip.cuts x q ≡ true) at a.2) a.3))
+        subst (λ (q : ℕ). inked row_op x old ≡ paint.makes x q old) (sym at) (colour x old a.1 (subst (λ (q : ℕ). is_uncut clip.cuts x q ≡ true) at a.2) a.3))
         row in
         let next : suc y ≡ y + 1 = omega arith in
         let both = laws.both (paints_above paint shape y) (paints_row paint shape y) paint.makes start now new whole (λ x r held. above_not_row y x r) so_far.painted here in
@@ -159,8 +159,8 @@ module _ (paint : PaintValue) (shape : ℕ → ℕ → Bool) where
         }
 
     -- all rows are painted, if there is nothing from the last one on
-    pub behind_last : (now : CanvasState) (end : ℕ) → ((x y : ℕ) → HasPixel start x y → paints paint shape x y ≡ true → y < end) → HasRowsPainted end start now → Repaints (paints paint shape) paint.makes start now
-    behind_last now end within so_far =
+    pub after_last : (now : CanvasState) (end : ℕ) → ((x y : ℕ) → HasPixel start x y → paints paint shape x y ≡ true → y < end) → HasRowsPainted end start now → Repaints (paints paint shape) paint.makes start now
+    after_last now end within so_far =
         laws.same (paints_above paint shape end) (paints paint shape) paint.makes paint.makes start now whole
         (λ x y held. same_test _ _ (λ h. (and_parts (paints paint shape x y) (nat_lt y end) h).0) (λ h. and_from (paints paint shape x y) (nat_lt y end) h (lt-ltb y end (within x y held h))))
         (λ x y old held t. refl) so_far.painted

@@ -18,11 +18,11 @@ use Rattle.raster_ops.specs.declared.sources.SourceReader.{SourceReader}
 use Rattle.span_fill.specs.Spans.{in_region, in_span}
 use Rattle.span_fill.specs.declared.span.Region.{Region}
 use Rattle.span_fill.specs.declared.span.Span.{Span}
-use Rattle.painting.specs.Brushings.{colour_seen}
+use Rattle.painting.specs.FillStyles.{colour_seen}
 use Rattle.painting.specs.RowPainters.{HoldsRead, ReadsNothing}
 use Rattle.painting.specs.SourceRows.{HoldsRow, ReadsBox, ReadsRow}
-use Rattle.painting.specs.declared.row_painter.Inks.{Inks}
-use Rattle.painting.specs.declared.row_painter.Inks.TheVariants.{EachRow, Same}
+use Rattle.painting.specs.declared.row_painter.RowOps.{RowOps}
+use Rattle.painting.specs.declared.row_painter.RowOps.TheVariants.{EachRow, Same}
 use Rattle.painting.proofs.TestLemmas.{column_from}
 
 -- the maximum of two ends is as far after the minimum as they are apart
@@ -99,6 +99,6 @@ narrowed (Some r) columns part y first last h =
     let right = h.right in
     record { left = omega (arith, ints, left, first); right = omega (arith, ints, right, last); top = h.top; bottom = h.bottom }
 
-pub nothing_read : (inks : Inks) (columns : Span) (y : ℕ) (sources : List Colour) → ReadsNothing inks → HoldsRead inks columns y sources
-nothing_read (Same ink) columns y sources alone = tt
+pub nothing_read : (row_ops : RowOps) (columns : Span) (y : ℕ) (sources : List Colour) → ReadsNothing row_ops → HoldsRead row_ops columns y sources
+nothing_read (Same row_op) columns y sources alone = tt
 nothing_read (EachRow paint) columns y sources alone = rw alone tt

@@ -25,8 +25,8 @@ or_none true s e = refl
 or_none false s e = sym e
 
 module _ (old now taken later : ℕ → ℕ → Bool) (before after : ℕ) (pixel : PixelAt) (given : GivesOne old now before after pixel) (takes : (x y : ℕ) → later x y ≡ (taken x y || is_at pixel.x pixel.y x y)) where
-  pub taken_beside : (x y : ℕ) → (not (later x y) && not (is_at pixel.x pixel.y x y)) ≡ (not (taken x y) && not (is_at pixel.x pixel.y x y))
-  taken_beside x y = rw (takes x y) (beside (taken x y) (is_at pixel.x pixel.y x y))
+  pub taken_outside : (x y : ℕ) → (not (later x y) && not (is_at pixel.x pixel.y x y)) ≡ (not (taken x y) && not (is_at pixel.x pixel.y x y))
+  taken_outside x y = rw (takes x y) (beside (taken x y) (is_at pixel.x pixel.y x y))
 
   -- a pixel that is marked or remains stays so
   pub still_all : (x y : ℕ) → (later x y || now x y) ≡ (taken x y || old x y)

@@ -16,7 +16,7 @@ use Rattle.span_fill.specs.Spans.{in_region}
 use Rattle.span_fill.specs.declared.span.Region.{Region}
 use Rattle.painting.specs.Painted.{PaintValue, PaintsShape, SamePaint, mixing_paint, paints}
 use Rattle.painting.specs.Regions.{HasRegion, HasVisible}
-use Rattle.painting.proofs.StampLemmas.{inside_of}
+use Rattle.painting.proofs.VisitedMaskLemmas.{inside_of}
 
 -- a canvas that contains a region has its pixels
 pub region_pixel : (canvas : CanvasState) (region : Region) → HasRegion canvas region → (x y : ℕ) → in_region region x y ≡ true → HasPixel canvas x y

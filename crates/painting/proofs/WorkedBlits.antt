@@ -11,7 +11,7 @@ use Rattle.draw_ops.specs.Operation.{Operation, blit, intersect_clip, rectangle,
 use Rattle.draw_ops.specs.declared.hatch.Hatch.TheVariants.{Vertical}
 use Rattle.draw_ops.specs.declared.operation.RectangleEdges.TheVariants.{HalfOpen}
 use Rattle.draw_ops.specs.declared.settings.BackgroundMode.TheVariants.{Transparent}
-use Rattle.painting.proofs.WorkedLayers.{at, blue, box, brushed, drawn, four, green, penless_brushed, picture, red, sides}
+use Rattle.painting.proofs.WorkedLayers.{at, blue, box, brushed, drawn, four, green, penless_brushed, picture, red, dimensions}
 
 -- two rows of two: blue and white above, red and green below
 abbrev quarters : Picture
@@ -70,7 +70,7 @@ mirrored_twice :
 mirrored_twice = refl
 
 -- three columns into seven, by the centres of the seven, and two rows of two into one pixel
-three_into_seven : drawn (sides 7 1) (block 0xcc (at 0 0) (at 7 1) (from top sixths (at 0 0) (at 3 1)) ∷ []) ≡ (picture (codes "rrgggbb"), 7)
+three_into_seven : drawn (dimensions 7 1) (block 0xcc (at 0 0) (at 7 1) (from top sixths (at 0 0) (at 3 1)) ∷ []) ≡ (picture (codes "rrgggbb"), 7)
 three_into_seven = refl
 
 squeezed : drawn four (block 0xcc (at 1 1) (at 1 1) (all_of top quarters) ∷ []) ≡ (picture (codes "..../.g../..../...."), 1)
@@ -109,7 +109,7 @@ copied_without_brush : drawn four (brushed null_brush (copied_whole (all_of top 
 copied_without_brush = refl
 
 -- an operation of all three: the brush where the source is 1, and the old colour elsewhere
-all_three : drawn (sides 2 2) (brushed (solid_brush black_colour) (block 0xe2 (at 0 0) (at 2 2) (all_of top chequers) ∷ [])) ≡ (picture (codes ".#/#."), 4)
+all_three : drawn (dimensions 2 2) (brushed (solid_brush black_colour) (block 0xe2 (at 0 0) (at 2 2) (all_of top chequers) ∷ [])) ≡ (picture (codes ".#/#."), 4)
 all_three = refl
 
 -- a rectangle filled with a bitmap

@@ -9,8 +9,8 @@ use Rattle.dc_stack.specs.Figures.{Figure, all_figures}
 use Rattle.dc_stack.specs.Pieces.{figures_of}
 use Rattle.dc_stack.specs.declared.piece.FigureEnd.{FigureEnd}
 use Rattle.dc_stack.specs.declared.piece.FigureEnd.TheVariants.{Open as LeftOpen, Ended, Closed as Joined}
-use Rattle.dc_stack.specs.declared.piece.Joining.{Joining}
-use Rattle.dc_stack.specs.declared.piece.Joining.TheVariants.{GoesOn, Polygons}
+use Rattle.dc_stack.specs.declared.piece.Verb.{Verb}
+use Rattle.dc_stack.specs.declared.piece.Verb.TheVariants.{GoesOn, Polygons}
 use Rattle.dc_stack.specs.declared.piece.Piece.{Piece}
 use Rattle.dc_stack.specs.declared.piece.PiecePoints.{PiecePoints}
 use Rattle.dc_stack.specs.declared.piece.PiecePoints.TheVariants.{Point as OnePoint, Corners}
@@ -77,8 +77,8 @@ axis origin = record {
 abbrev map_at : ℤ → PageMap
 map_at column = record { mode = Text; x = axis column; y = axis (pos 0) }
 
-abbrev piece : PiecePoints → ℤ → Joining → FigureEnd → Piece
-piece points column joining end = record { points = points; map = map_at column; joining = joining; end = end }
+abbrev piece : PiecePoints → ℤ → Verb → FigureEnd → Piece
+piece points column verb end = record { points = points; map = map_at column; verb = verb; end = end }
 
 abbrev lines_of : Ends → List Piece → List Line
 lines_of ends pieces = lines_of_figures ends (placed_figures whole (all_figures (figures_of pieces)))

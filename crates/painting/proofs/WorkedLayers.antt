@@ -45,11 +45,11 @@ picture [] = []
 picture (sign ∷ signs) = colours_of_sign sign ++ picture signs
 
 -- a surface of this size that shows a frame of as many units
-abbrev pub sides : ℕ → ℕ → Surface
-sides width height = record { width = width; height = height; frame_width = width; frame_height = height }
+abbrev pub dimensions : ℕ → ℕ → Surface
+dimensions width height = record { width = width; height = height; frame_width = width; frame_height = height }
 
 abbrev pub four : Surface
-four = sides 4 4
+four = dimensions 4 4
 
 -- a surface of 2 by 2 that shows a frame of 4 by 4
 abbrev pub half : Surface
@@ -98,8 +98,8 @@ square = at 0 0 ∷ at 3 0 ∷ at 3 3 ∷ at 0 3 ∷ []
 abbrev second : List Point
 second = at 1 1 ∷ at 4 1 ∷ at 4 4 ∷ at 1 4 ∷ []
 
-abbrev second_turned : List Point
-second_turned = at 1 1 ∷ at 1 4 ∷ at 4 4 ∷ at 4 1 ∷ []
+abbrev second_flipped : List Point
+second_flipped = at 1 1 ∷ at 1 4 ∷ at 4 4 ∷ at 4 1 ∷ []
 
 -- the stroke is drawn over the fill: of 3, 2 and 1 pixels in the rows inside, one stays visible; 6 and 10 are written
 stroked_triangle : drawn four (brushed (solid_brush red) (triangle ∷ [])) ≡ (picture (codes "####/#r.#/#.#./##.."), 16)
@@ -128,7 +128,7 @@ squares_by_turns : drawn four (penless_brushed (solid_brush black_colour) (set_f
 squares_by_turns = refl
 
 -- as many run up as down, if one square runs in the other direction
-squares_against : drawn four (penless_brushed (solid_brush black_colour) (set_fill_mode Winding ∷ polygon (square ∷ second_turned ∷ []) ∷ [])) ≡ (picture (codes "###./#..#/#..#/.###"), 10)
+squares_against : drawn four (penless_brushed (solid_brush black_colour) (set_fill_mode Winding ∷ polygon (square ∷ second_flipped ∷ []) ∷ [])) ≡ (picture (codes "###./#..#/#..#/.###"), 10)
 squares_against = refl
 
 -- a polygon of two points has no inside, but both its ends, since it runs there and back; with one point or none it has
@@ -140,19 +140,19 @@ few_points : drawn four (polygon ((at 1 1 ∷ []) ∷ [] ∷ []) ∷ polyline ((
 few_points = refl
 
 -- a line has its first point and not its last; of two rows that are equally near it has the lower one
-flat : drawn (sides 5 3) (move_to (at 0 0) ∷ line_to (at 4 2) ∷ []) ≡ (picture (codes "#..../.##../...#."), 4)
+flat : drawn (dimensions 5 3) (move_to (at 0 0) ∷ line_to (at 4 2) ∷ []) ≡ (picture (codes "#..../.##../...#."), 4)
 flat = refl
 
 -- from its other end it has the lower one too
-flat_back : drawn (sides 5 3) (move_to (at 4 2) ∷ line_to (at 0 0) ∷ []) ≡ (picture (codes "...../.##../...##"), 4)
+flat_back : drawn (dimensions 5 3) (move_to (at 4 2) ∷ line_to (at 0 0) ∷ []) ≡ (picture (codes "...../.##../...##"), 4)
 flat_back = refl
 
 -- the same for a y-major line
-steep : drawn (sides 2 4) (move_to (at 1 0) ∷ line_to (at 0 3) ∷ []) ≡ (picture (codes ".#/.#/#./.."), 3)
-steep = refl
+y_major : drawn (dimensions 2 4) (move_to (at 1 0) ∷ line_to (at 0 3) ∷ []) ≡ (picture (codes ".#/.#/#./.."), 3)
+y_major = refl
 
-steep_back : drawn (sides 2 4) (move_to (at 0 3) ∷ line_to (at 1 0) ∷ []) ≡ (picture (codes "../.#/#./#."), 3)
-steep_back = refl
+y_major_back : drawn (dimensions 2 4) (move_to (at 0 3) ∷ line_to (at 1 0) ∷ []) ≡ (picture (codes "../.#/#./#."), 3)
+y_major_back = refl
 
 -- a line of length 0 has no pixel, and one of length 1 has its first
 no_line : drawn four (move_to (at 1 1) ∷ line_to (at 1 1) ∷ []) ≡ (picture (codes "..../..../..../...."), 0)
@@ -162,22 +162,22 @@ short_line : drawn four (move_to (at 1 1) ∷ line_to (at 2 1) ∷ []) ≡ (pict
 short_line = refl
 
 -- the next line continues where the one before ended, and has the point that was left out
-corner : drawn (sides 3 3) (move_to (at 0 0) ∷ polyline_to (at 2 0 ∷ at 2 2 ∷ []) ∷ line_to (at 0 2) ∷ []) ≡ (picture (codes "###/..#/.##"), 6)
+corner : drawn (dimensions 3 3) (move_to (at 0 0) ∷ polyline_to (at 2 0 ∷ at 2 2 ∷ []) ∷ line_to (at 0 2) ∷ []) ≡ (picture (codes "###/..#/.##"), 6)
 corner = refl
 
 -- with inversion, there and back in one record, each pixel is inverted once
-there_and_back : drawn (sides 6 2) (set_raster_op Not ∷ polyline ((at 0 0 ∷ at 4 0 ∷ at 0 0 ∷ []) ∷ []) ∷ []) ≡ (picture (codes "#####./......"), 5)
+there_and_back : drawn (dimensions 6 2) (set_raster_op Not ∷ polyline ((at 0 0 ∷ at 4 0 ∷ at 0 0 ∷ []) ∷ []) ∷ []) ≡ (picture (codes "#####./......"), 5)
 there_and_back = refl
 
 -- with two records, the pixels of both lines are inverted twice
-there_then_back : drawn (sides 6 2) (set_raster_op Not ∷ move_to (at 0 0) ∷ line_to (at 4 0) ∷ line_to (at 0 0) ∷ []) ≡ (picture (codes "#...#./......"), 8)
+there_then_back : drawn (dimensions 6 2) (set_raster_op Not ∷ move_to (at 0 0) ∷ line_to (at 4 0) ∷ line_to (at 0 0) ∷ []) ≡ (picture (codes "#...#./......"), 8)
 there_then_back = refl
 
 -- the same with two lists in one record, and with two records
-crossed_lists : drawn (sides 3 3) (set_raster_op Not ∷ polyline ((at 0 1 ∷ at 3 1 ∷ []) ∷ (at 1 0 ∷ at 1 3 ∷ []) ∷ []) ∷ []) ≡ (picture (codes ".#./###/.#."), 5)
+crossed_lists : drawn (dimensions 3 3) (set_raster_op Not ∷ polyline ((at 0 1 ∷ at 3 1 ∷ []) ∷ (at 1 0 ∷ at 1 3 ∷ []) ∷ []) ∷ []) ≡ (picture (codes ".#./###/.#."), 5)
 crossed_lists = refl
 
-crossed_records : drawn (sides 3 3) (set_raster_op Not ∷ polyline ((at 0 1 ∷ at 3 1 ∷ []) ∷ []) ∷ polyline ((at 1 0 ∷ at 1 3 ∷ []) ∷ []) ∷ []) ≡ (picture (codes ".#./#.#/.#."), 6)
+crossed_records : drawn (dimensions 3 3) (set_raster_op Not ∷ polyline ((at 0 1 ∷ at 3 1 ∷ []) ∷ []) ∷ polyline ((at 1 0 ∷ at 1 3 ∷ []) ∷ []) ∷ []) ≡ (picture (codes ".#./#.#/.#."), 6)
 crossed_records = refl
 
 -- a fill and a stroke are two layers: the pixels of both are inverted twice
@@ -189,7 +189,7 @@ left_as_it_is : drawn four (set_raster_op Nop ∷ rectangle (box 0 0 3 3) HalfOp
 left_as_it_is = refl
 
 -- a pixel has its own colour, whatever the raster operation
-pixel_as_it_is : drawn (sides 2 2) (set_raster_op Not ∷ pixel (at 1 0) red ∷ []) ≡ (picture (codes ".r/.."), 1)
+pixel_as_it_is : drawn (dimensions 2 2) (set_raster_op Not ∷ pixel (at 1 0) red ∷ []) ≡ (picture (codes ".r/.."), 1)
 pixel_as_it_is = refl
 
 -- a rectangle without its right and bottom edges: with width or height 0 it has nothing
@@ -211,8 +211,8 @@ half_open_2_by_2 : drawn four (brushed (solid_brush red) (rectangle (box 1 1 3 3
 half_open_2_by_2 = refl
 
 -- its corners may come in any order
-half_open_turned : drawn four (brushed (solid_brush red) (rectangle (box 3 0 0 3) HalfOpen ∷ [])) ≡ (picture (codes "###./#r#./###./...."), 17)
-half_open_turned = refl
+half_open_flipped : drawn four (brushed (solid_brush red) (rectangle (box 3 0 0 3) HalfOpen ∷ [])) ≡ (picture (codes "###./#r#./###./...."), 17)
+half_open_flipped = refl
 
 -- a rectangle with its right and bottom edges: between a point and itself it has one pixel
 inclusive_0_by_0 : drawn four (brushed (solid_brush red) (rectangle (box 1 1 1 1) Inclusive ∷ [])) ≡ (picture (codes "..../.r../..../...."), 1)
@@ -252,11 +252,11 @@ line_from_the_left : drawn four (move_to (left_of 2 0) ∷ line_to (at 4 3) ∷ 
 line_from_the_left = refl
 
 -- the gaps of a hatch are left unchanged, and not counted
-gaps_left : drawn (sides 6 6) (penless_brushed (hatched_brush Cross red) (set_background_mode Transparent ∷ rectangle (box 0 0 6 6) HalfOpen ∷ [])) ≡ (picture (codes "rrrrrr/r...../r...../r...../r...../r....."), 11)
+gaps_left : drawn (dimensions 6 6) (penless_brushed (hatched_brush Cross red) (set_background_mode Transparent ∷ rectangle (box 0 0 6 6) HalfOpen ∷ [])) ≡ (picture (codes "rrrrrr/r...../r...../r...../r...../r....."), 11)
 gaps_left = refl
 
 -- or they are painted in the background colour
-gaps_painted : drawn (sides 6 6) (penless_brushed (hatched_brush Cross red) (set_background_colour blue ∷ rectangle (box 0 0 6 6) HalfOpen ∷ [])) ≡ (picture (codes "rrrrrr/rbbbbb/rbbbbb/rbbbbb/rbbbbb/rbbbbb"), 36)
+gaps_painted : drawn (dimensions 6 6) (penless_brushed (hatched_brush Cross red) (set_background_colour blue ∷ rectangle (box 0 0 6 6) HalfOpen ∷ [])) ≡ (picture (codes "rrrrrr/rbbbbb/rbbbbb/rbbbbb/rbbbbb/rbbbbb"), 36)
 gaps_painted = refl
 
 -- a hatch begins at the corner of the surface, not of the shape
@@ -267,7 +267,7 @@ hatch_over_blue : drawn four (penless_brushed (hatched_brush DiagonalCross red) 
 hatch_over_blue = refl
 
 -- it repeats after eight columns
-hatch_repeats : drawn (sides 10 1) (penless_brushed (hatched_brush Vertical red) (set_background_mode Transparent ∷ rectangle (box 0 0 10 1) HalfOpen ∷ [])) ≡ (picture (codes "r.......r."), 2)
+hatch_repeats : drawn (dimensions 10 1) (penless_brushed (hatched_brush Vertical red) (set_background_mode Transparent ∷ rectangle (box 0 0 10 1) HalfOpen ∷ [])) ≡ (picture (codes "r.......r."), 2)
 hatch_repeats = refl
 
 -- the pen strokes without gaps, whatever the background mode: 4 and 12 pixels

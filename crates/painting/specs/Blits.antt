@@ -19,7 +19,7 @@ use Rattle.mapping.specs.Surface.{Surface, placed_point}
 use Rattle.dc_stack.specs.Values.{placed_value}
 use Rattle.dc_stack.specs.declared.dc.Dc.{Dc}
 use Rattle.dc_stack.specs.declared.draw.PlaneBlit.{PlaneBlit}
-use Rattle.painting.specs.Brushings.{colour_seen}
+use Rattle.painting.specs.FillStyles.{colour_seen}
 use Rattle.painting.specs.Joined.{joined_if}
 
 -- the brush's colour at a pixel, if any; black if the operation doesn't depend on the pattern

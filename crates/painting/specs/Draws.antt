@@ -9,15 +9,15 @@ use Rattle.dc_stack.specs.declared.draw.Draw.{Draw}
 use Rattle.preflight_cert.specs.Layer.{Layer, fills_of, layers_of, strokes_of}
 use Rattle.painting.specs.Counts.{CountsLayer}
 use Rattle.painting.specs.Drawn.{DrawsLayers, HoldsRows, SameRows}
-use Rattle.painting.specs.declared.room.DrawingRoom.{DrawingRoom}
+use Rattle.painting.specs.declared.scratch.DrawingScratch.{DrawingScratch}
 
 -- a drawing may be painted: the canvas has rows of the machine's surface, the drawing lands within the limits, and the
 -- row buffer can take its lines
-pub record MayDraw (drawn : Draw) (machine : MachineState) (room : DrawingRoom) (canvas : CanvasState) : Type 0 where
+pub record MayDraw (drawn : Draw) (machine : MachineState) (scratch : DrawingScratch) (canvas : CanvasState) : Type 0 where
   pub held : HoldsRows canvas machine.surface
   pub placed : IsPlacedDraw machine.surface machine.painted drawn
   pub nib : HasNib machine.surface machine drawn
-  pub lines : mark_edges (mark_of machine.painted drawn) ≤ room.rows.room
+  pub lines : mark_edges (mark_of machine.painted drawn) ≤ scratch.rows.capacity
 
 -- layers that write each pixel at most once were drawn, and the canvas has the same rows as before
 pub record DrawsLayer (layers : List Layer) (s : Surface) (old new : CanvasState) : Type 0 where

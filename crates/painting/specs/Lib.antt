@@ -10,11 +10,11 @@ pub mod FiguresToCome
 pub mod PlacedLines
 pub mod LinesToCome
 pub mod FigureOutlines
-pub mod RowInks
+pub mod RowOps
 pub mod RowJoins
 pub mod Joined
 pub mod Painted
-pub mod Brushings
+pub mod FillStyles
 pub mod PenStrokes
 pub mod PaintsOfLayers
 pub mod SourceRows
@@ -22,9 +22,9 @@ pub mod Blits
 pub mod Strips
 pub mod StrokedLines
 pub mod LinePixels
-pub mod Stamps
-pub mod StampsInside
-pub mod Stamping
+pub mod VisitedMask
+pub mod VisitedMaskInside
+pub mod Visiting
 pub mod RowsPainted
 pub mod RowPainters
 pub mod UntakenPixels

@@ -7,8 +7,8 @@ use Rattle.mapping.specs.declared.geometry.Point.{Point}
 use Rattle.dc_stack.specs.Pieces.{plane_lists}
 use Rattle.dc_stack.specs.declared.piece.FigureEnd.{FigureEnd}
 use Rattle.dc_stack.specs.declared.piece.FigureEnd.TheVariants.{Open as LeftOpen, Ended, Closed as Joined}
-use Rattle.dc_stack.specs.declared.piece.Joining.{Joining}
-use Rattle.dc_stack.specs.declared.piece.Joining.TheVariants.{GoesOn, Polylines, Polygons}
+use Rattle.dc_stack.specs.declared.piece.Verb.{Verb}
+use Rattle.dc_stack.specs.declared.piece.Verb.TheVariants.{GoesOn, Polylines, Polygons}
 use Rattle.dc_stack.specs.declared.piece.Piece.{Piece}
 use Rattle.span_fill.specs.Lines.{IsNearPoint}
 use Rattle.span_fill.specs.declared.line.Line.{Line}
@@ -25,28 +25,28 @@ IsNearMove (To point) = IsNearPoint point
 IsNearMove (End end) = Unit {0}
 
 -- how the open figure ends before a list of points, and after it
-abbrev pub end_before : Joining → FigureEnd
+abbrev pub end_before : Verb → FigureEnd
 end_before GoesOn = LeftOpen
 end_before Polylines = Ended
 end_before Polygons = Ended
 
-abbrev pub end_behind : Joining → FigureEnd
-end_behind GoesOn = LeftOpen
-end_behind Polylines = LeftOpen
-end_behind Polygons = Joined
+abbrev pub end_after : Verb → FigureEnd
+end_after GoesOn = LeftOpen
+end_after Polylines = LeftOpen
+end_after Polygons = Joined
 
 -- the moves through the points of a list; there are none if it has no point
-abbrev pub moves_of_list : Joining → List Point → List Move
-moves_of_list joining [] = []
-moves_of_list joining (p ∷ ps) = End (end_before joining) ∷ (map To (p ∷ ps) ++ End (end_behind joining) ∷ [])
+abbrev pub moves_of_list : Verb → List Point → List Move
+moves_of_list verb [] = []
+moves_of_list verb (p ∷ ps) = End (end_before verb) ∷ (map To (p ∷ ps) ++ End (end_after verb) ∷ [])
 
 -- the moves through several lists, one list after another
-abbrev pub moves_of_lists : Joining → List (List Point) → List Move
-moves_of_lists joining lists = flat_map (moves_of_list joining) lists
+abbrev pub moves_of_lists : Verb → List (List Point) → List Move
+moves_of_lists verb lists = flat_map (moves_of_list verb) lists
 
 -- the moves through the points of a piece
 abbrev pub moves_of_piece : Surface → Piece → List Move
-moves_of_piece s piece = moves_of_lists piece.joining (placed_lists s (plane_lists (map_numbers piece.map) piece.points)) ++ End piece.end ∷ []
+moves_of_piece s piece = moves_of_lists piece.verb (placed_lists s (plane_lists (map_numbers piece.map) piece.points)) ++ End piece.end ∷ []
 
 -- the moves through the points of several pieces
 abbrev pub moves_of_pieces : Surface → List Piece → List Move

@@ -9,7 +9,7 @@ use Rattle.span_fill.specs.declared.line.Line.{Line}
 use Rattle.painting.specs.FewPoints.{few_points}
 use Rattle.painting.specs.Moves.{Drawn, drawn, lines_of_moves, moves_of_lists, moves_of_pieces, nothing}
 use Rattle.painting.specs.PlacedLines.{projected_list}
-use Rattle.painting.specs.declared.list_lines.Traced.{Traced}
+use Rattle.painting.specs.declared.list_lines.Cursor.{Cursor}
 use Rattle.painting.specs.declared.moves.ListMoves.{ListMoves}
 use Rattle.painting.specs.declared.moves.ListPoints.{ListPoints}
 use Rattle.painting.specs.declared.moves.ListPoints.TheVariants.{Page, Placed}
@@ -41,12 +41,12 @@ end_left (Some end) = End end ∷ []
 
 -- the remaining moves through a list
 abbrev pub list_moves_left : ListMoves → List Move
-list_moves_left list = end_left list.before ++ (map To (points_left list.points) ++ end_left list.behind)
+list_moves_left list = end_left list.before ++ (map To (points_left list.points) ++ end_left list.after)
 
 -- the remaining moves through a piece
 abbrev pub piece_moves_left : PieceMoves → List Move
 piece_moves_left piece =
-    list_moves_left piece.list ++ (moves_of_lists piece.joining (map (projected_list piece.by) (lists_of piece.lists)) ++ end_left piece.end)
+    list_moves_left piece.list ++ (moves_of_lists piece.verb (map (projected_list piece.by) (lists_of piece.lists)) ++ end_left piece.end)
 
 -- the remaining moves through the current piece, if there is one
 abbrev pub moves_of_current : Option PieceMoves → List Move
@@ -58,10 +58,10 @@ abbrev pub path_moves_left : PathMoves → List Move
 path_moves_left path = moves_of_current path.current ++ moves_of_pieces (surface_of path.place) path.pieces.now
 
 -- the open figure
-abbrev pub drawn_of : Option Traced → Drawn
+abbrev pub drawn_of : Option Cursor → Drawn
 drawn_of None = nothing
-drawn_of (Some course) = drawn course.first course.last
+drawn_of (Some cursor) = drawn cursor.first cursor.last
 
 -- the remaining lines of figures
 abbrev pub figure_lines_left : FigureLines → List Line
-figure_lines_left lines = lines_of_moves lines.ends (drawn_of lines.course) (path_moves_left lines.moves)
+figure_lines_left lines = lines_of_moves lines.ends (drawn_of lines.cursor) (path_moves_left lines.moves)

@@ -10,10 +10,10 @@ use Rattle.preflight_cert.specs.Layer.{brushed_now}
 use Rattle.preflight_cert.specs.Mixing.{binary}
 use Rattle.draw_ops.specs.declared.objects.Pen.TheVariants.{Solid}
 use Rattle.preflight_cert.specs.Paint.{Paint, paint_at, solid}
-use Rattle.painting.specs.Brushings.{brushing_paint}
+use Rattle.painting.specs.FillStyles.{fill_style_paint}
 use Rattle.painting.specs.Painted.{PaintValue}
 use Rattle.painting.specs.PenStrokes.{stroke_paint}
-use Rattle.painting.specs.declared.brushing.Brushing.{Brushing}
+use Rattle.painting.specs.declared.fill_style.FillStyle.{FillStyle}
 use Rattle.painting.specs.declared.stroke.Stroke.{Stroke}
 
 -- a paint writes these colours on a surface, by the raster operation and the clip of the tools
@@ -32,5 +32,5 @@ pub record IsPenOf (tools : Tools) (s : Surface) (stroke : Stroke) : Type 0 wher
   pub paint : IsPaintOf (solid colour) tools s (stroke_paint stroke)
 
 -- a fill style is that of a brush with the tools on a surface
-abbrev pub IsBrushingOf : BrushValue → Tools → Surface → Brushing → Type 0
-IsBrushingOf brush tools s paint = IsPaintOf (brushed_now brush tools) tools s (brushing_paint paint)
+abbrev pub IsFillStyleOf : BrushValue → Tools → Surface → FillStyle → Type 0
+IsFillStyleOf brush tools s paint = IsPaintOf (brushed_now brush tools) tools s (fill_style_paint paint)

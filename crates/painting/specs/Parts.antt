@@ -9,8 +9,8 @@ use Rattle.span_fill.specs.WideStrokes.{in_wide_stroke}
 use Rattle.span_fill.specs.declared.line.Line.{Line}
 use Rattle.span_fill.specs.declared.span.Span.{Span}
 use Rattle.painting.specs.Regions.{HasVisible}
-use Rattle.painting.specs.declared.parts.Part.{Part}
-use Rattle.painting.specs.declared.parts.Part.TheVariants.{Inside, Lines}
+use Rattle.painting.specs.declared.outline_rows.Part.{Part}
+use Rattle.painting.specs.declared.outline_rows.Part.TheVariants.{Inside, Lines}
 
 -- the part of an outline with these lines contains the pixel
 abbrev pub part_has : Part → List Line → ℕ → ℕ → Bool

@@ -1,7 +1,7 @@
 -- Columns and rows of surfaces, and the boxes of drawings there.
 use Rattle.std.specs.Prelude.{◌≡◌, ℕ, ◌+◌, ◌≤◌, ◌≤ℤ◌, Bool, true, List, IsTrue}
 use Rattle.std.specs.List.{list_all}
-use Rattle.mapping.specs.Boxes.{IsLeastBox}
+use Rattle.mapping.specs.Boxes.{IsBoundingBox}
 use Rattle.mapping.specs.Nibs.{IsNib}
 use Rattle.mapping.specs.PlaceOf.{surface_of}
 use Rattle.mapping.specs.Surface.{Surface, lands_within_limits}
@@ -41,7 +41,7 @@ pub record HasVisible (clip : ClipValue) (shape : ℕ → ℕ → Bool) (canvas 
 -- of the points land within the limits. It contains no other pixel, if there is a point.
 pub record HasLanded (nib : Nib) (s : Surface) (bounds box : Rect) : Type 0 where
   pub all :
-      (points : List Point) → IsLeastBox bounds points → IsTrue (list_all (λ point. lands_within_limits point s) points)
+      (points : List Point) → IsBoundingBox bounds points → IsTrue (list_all (λ point. lands_within_limits point s) points)
       → (x y : ℕ) → Reaches nib bounds s x y → in_box box x y ≡ true
   pub no_other :
       bounds.l ≤ℤ bounds.r → bounds.t ≤ℤ bounds.b

@@ -8,8 +8,8 @@ use Rattle.raster_ops.specs.TernaryOps.{ternary_colour}
 use Rattle.raster_ops.specs.declared.rows.BrushRow.{BrushRow}
 use Rattle.span_fill.specs.declared.span.Span.{Span}
 use Rattle.painting.specs.Joined.{joined_if}
-use Rattle.painting.specs.RowInks.{mixed_at}
-use Rattle.painting.specs.declared.ink_room.MixRoom.{MixRoom}
+use Rattle.painting.specs.RowOps.{mixed_at}
+use Rattle.painting.specs.declared.row_op_scratch.MixScratch.{MixScratch}
 
 -- in these columns, if a column passes the test, the new colour is the wanted one
 abbrev pub AreMade : Span → (ℕ → Bool) → (made wanted : ℕ → Colour → Colour) → Type 0
@@ -32,5 +32,5 @@ abbrev pub joined_patterns : TernaryOp → List Colour → ℕ → Colour → Co
 joined_patterns op patterns x old = ternary_colour op.table (colours_at patterns x) black_colour old
 
 -- the result of the mix at a column of the scratch buffers
-abbrev pub mixed_in : MixRoom → ℕ → Colour → Colour
-mixed_in room x old = mixed_at room.keeps.value room.flips.value x old
+abbrev pub mixed_in : MixScratch → ℕ → Colour → Colour
+mixed_in scratch x old = mixed_at scratch.keeps.value scratch.flips.value x old

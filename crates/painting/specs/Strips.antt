@@ -12,10 +12,10 @@ use Rattle.mapping.specs.PixelBoxes.{in_box}
 use Rattle.mapping.specs.declared.mix.Mix.{Mix}
 use Rattle.dc_stack.specs.declared.clip.ClipBox.{ClipBox}
 use Rattle.span_fill.specs.declared.span.Span.{Span}
-use Rattle.painting.specs.RowInks.{inked, is_inked}
-use Rattle.painting.specs.declared.row_ink.RowInk.{RowInk}
+use Rattle.painting.specs.RowOps.{inked, is_inked}
+use Rattle.painting.specs.declared.row_op.RowOp.{RowOp}
 
--- columns of a row may be painted: the canvas has them, and its count can take two writes of each
+-- columns of a row may be painted: the canvas has them, and its count can grow by two writes of each without overflow
 pub record MayPaint (canvas : CanvasState) (y : ℕ) (columns : Span) : Type 0 where
   pub whole : IsWhole canvas
   pub order : columns.from ≤ columns.to
@@ -36,16 +36,16 @@ abbrev pub is_uncut : List Rect → ℕ → ℕ → Bool
 is_uncut cuts x y = not (list_any (λ box. in_box box x y) cuts)
 
 -- the pixel lies in row y and in one of the columns, no box cuts it out, and the row operation writes it
-abbrev pub is_painted : RowInk → List Rect → ℕ → (ℕ → Bool) → ℕ → ℕ → Bool
-is_painted ink cuts y columns column row = row == y && columns column && is_uncut cuts column row && is_inked ink column
+abbrev pub is_painted : RowOp → List Rect → ℕ → (ℕ → Bool) → ℕ → ℕ → Bool
+is_painted row_op cuts y columns column row = row == y && columns column && is_uncut cuts column row && is_inked row_op column
 
 -- the boxes that a clip cuts out, on the surface
 abbrev pub placed_boxes : List ClipBox → List Rect
 placed_boxes cuts = map (λ (b : ClipBox). b.placed) cuts
 
 -- a row operation was applied to these columns of row y, except where a box cuts them out
-abbrev pub PutsInk : RowInk → List Rect → ℕ → (ℕ → Bool) → CanvasState → CanvasState → Type 0
-PutsInk ink cuts y columns old new = Repaints (is_painted ink cuts y columns) (λ column row c. inked ink column c) old new
+abbrev pub PutsRowOp : RowOp → List Rect → ℕ → (ℕ → Bool) → CanvasState → CanvasState → Type 0
+PutsRowOp row_op cuts y columns old new = Repaints (is_painted row_op cuts y columns) (λ column row c. inked row_op column c) old new
 
 -- these columns of row y were changed by f
 abbrev pub MakesColumns : ℕ → Span → (ℕ → Colour → Colour) → CanvasState → CanvasState → Type 0

@@ -9,14 +9,14 @@ ghost use Rattle.draw_ops.specs.Blits.{source_of};
 ghost use Rattle.raster_ops.specs.Sources.{is_readable};
 ghost use Rattle.raster_ops.specs.TernaryOps.{uses_source};
 ghost use Rattle.painting.specs.Blits.{PaintsBlit, SeesAs};
-ghost use Rattle.painting.specs.Counts.{CountsLayer, HasRoomForLayer};
+ghost use Rattle.painting.specs.Counts.{CountsLayer, HasCapacityForLayer};
 ghost use Rattle.painting.specs.SourceRows.{ReadsBox};
 
-use crate::brushing::Brushing;
+use crate::fill_style::FillStyle;
 use crate::filling::fill_box;
-use crate::ink_room::InkRoom;
 use crate::rectangles::between;
 use crate::regions::whole_law;
+use crate::row_op_scratch::RowOpScratch;
 use canvas::{Canvas, writing_law};
 use dc_stack::{Dc, PlaneBlit};
 use mapping::{Place, Point};
@@ -28,10 +28,10 @@ pub(crate) fn blit(
     asked: &PlaneBlit<'_>,
     place: Place,
     dc: &Dc<'_>,
-    room: &mut InkRoom,
+    scratch: &mut RowOpScratch,
     canvas: &mut Canvas,
 )
-    requires countable { HasRoomForLayer canvas.old }
+    requires countable { HasCapacityForLayer canvas.old }
     requires near { FitsPlace (placed_point asked.now.first (surface_of place)) }
     requires far { FitsPlace (placed_point asked.now.second (surface_of place)) }
     requires readable { uses_source asked.now.operation.table ≡ true → is_readable (source_of asked.now.source) ≡ true }
@@ -42,8 +42,8 @@ pub(crate) fn blit(
     whole_law(canvas);
     let (first, second) = (place.at(asked.first), place.at(asked.second));
     let reader = reader_of(asked, first, second);
-    let paint = Brushing::of_blit(asked.operation, reader, dc);
-    fill_box(canvas, between(first, second), &paint, room);
+    let paint = FillStyle::of_blit(asked.operation, reader, dc);
+    fill_box(canvas, between(first, second), &paint, scratch);
 }
 
 /// A reader for the blit's source, which is stretched between the two corners on the surface, if the operation depends

@@ -5,21 +5,21 @@ ghost use Rattle.std.specs.Option.{option_map};
 ghost use Rattle.dc_stack.specs.Draws.{IsPlacedDraw};
 ghost use Rattle.dc_stack.specs.Drawing.{drawing_edges, tools_of};
 ghost use Rattle.dc_stack.specs.MachineState.{HasNib, drawing_with};
-ghost use Rattle.painting.specs.Counts.{CountsDrawing, HasRoomForDrawing, HasRoomForLayer};
+ghost use Rattle.painting.specs.Counts.{CountsDrawing, HasCapacityForDrawing, HasCapacityForLayer};
 ghost use Rattle.painting.specs.Drawn.{DrawsDrawing, HoldsRows, SameRows};
 ghost use Rattle.painting.specs.Draws.{Draws, Fills, MayDraw, Strokes};
 ghost use Rattle.painting.specs.PaintsOfLayers.{IsPenOf};
 
 use crate::blits::blit;
-use crate::brushing::Brushing;
 use crate::dots::put;
 use crate::figure_outline::{FigureOutline, stroked_ends};
+use crate::fill_style::FillStyle;
 use crate::filling::{fill_box, fill_inside};
 use crate::list_lines::Ends;
 use crate::lone_line::LoneLine;
 use crate::rectangles::placed_box;
 use crate::regions::{Bounds, landed_box, misses_rows, whole_law};
-use crate::room::DrawingRoom;
+use crate::scratch::DrawingScratch;
 use crate::stroke::Stroke;
 use crate::stroking::{StrokedLines, stroke_box, stroke_lines};
 use canvas::{Canvas, writing_law};
@@ -38,18 +38,18 @@ use preflight_cert::{drawing_box_law, missed_rows_law};
 pub fn draw<'a, T: Table<'a>>(
     step: Option<Draw<'a>>,
     machine: &Machine<'a, T>,
-    room: &mut DrawingRoom,
+    scratch: &mut DrawingScratch,
     canvas: &mut Canvas,
 )
     requires held { HoldsRows canvas.old machine.now.surface }
-    requires countable { HasRoomForDrawing canvas.old }
+    requires countable { HasCapacityForDrawing canvas.old }
     requires placed { IfSome step (IsPlacedDraw machine.now.surface machine.now.painted) }
     requires nib { IfSome step (HasNib machine.now.surface machine.now) }
-    requires lines { drawing_edges (option_map (drawing_with machine.now) step) ≤ room.old.rows.room }
+    requires lines { drawing_edges (option_map (drawing_with machine.now) step) ≤ scratch.old.rows.capacity }
     ensures drawn { DrawsDrawing (option_map (drawing_with machine.now) step.entry) machine.now.surface canvas.old canvas.new }
     ensures rows { SameRows canvas.old canvas.new }
     ensures few { CountsDrawing canvas.old canvas.new }
-    ensures room { room.new.rows.room ≡ room.old.rows.room }
+    ensures capacity { scratch.new.rows.capacity ≡ scratch.old.rows.capacity }
 {
     missed_rows_law();
     whole_law(canvas);
@@ -59,7 +59,7 @@ pub fn draw<'a, T: Table<'a>>(
     if misses_rows(canvas, machine.place(), drawn.bounds, drawn.nib) {
         return;
     }
-    paint(drawn, machine, room, canvas);
+    paint(drawn, machine, scratch, canvas);
 }
 
 /// Paints one drawing. A dot writes one pixel in its own colour and a blit paints a box. Everything else is filled,
@@ -67,15 +67,15 @@ pub fn draw<'a, T: Table<'a>>(
 fn paint<'a, T: Table<'a>>(
     drawn: Draw<'a>,
     machine: &Machine<'a, T>,
-    room: &mut DrawingRoom,
+    scratch: &mut DrawingScratch,
     canvas: &mut Canvas,
 )
-    requires may { MayDraw drawn machine.now room.old canvas.old }
-    requires countable { HasRoomForDrawing canvas.old }
+    requires may { MayDraw drawn machine.now scratch.old canvas.old }
+    requires countable { HasCapacityForDrawing canvas.old }
     ensures drawn { Draws drawn.entry machine.now canvas.old canvas.new }
     ensures rows { SameRows canvas.old canvas.new }
     ensures few { CountsDrawing canvas.old canvas.new }
-    ensures room { room.new.rows.room ≡ room.old.rows.room }
+    ensures capacity { scratch.new.rows.capacity ≡ scratch.old.rows.capacity }
 {
     writing_law();
     whole_law(canvas);
@@ -83,10 +83,10 @@ fn paint<'a, T: Table<'a>>(
     let place = machine.place();
     match drawn.mark {
         Mark::Dot { at, colour } => put(place.at(at), colour, &dc.clip, canvas),
-        Mark::Blit(asked) => blit(&asked, place, dc, &mut room.inks, canvas),
+        Mark::Blit(asked) => blit(&asked, place, dc, &mut scratch.row_ops, canvas),
         Mark::Line { .. } | Mark::Figures { .. } | Mark::Rectangle { .. } => {
-            fill(drawn, machine, room, canvas);
-            stroke(drawn, machine, room, canvas);
+            fill(drawn, machine, scratch, canvas);
+            stroke(drawn, machine, scratch, canvas);
         }
     }
 }
@@ -95,13 +95,13 @@ fn paint<'a, T: Table<'a>>(
 fn fill<'a, T: Table<'a>>(
     drawn: Draw<'a>,
     machine: &Machine<'a, T>,
-    room: &mut DrawingRoom,
+    scratch: &mut DrawingScratch,
     canvas: &mut Canvas,
 )
-    requires may { MayDraw drawn machine.now room.old canvas.old }
-    requires countable { HasRoomForLayer canvas.old }
+    requires may { MayDraw drawn machine.now scratch.old canvas.old }
+    requires countable { HasCapacityForLayer canvas.old }
     ensures drawn { Fills drawn.entry machine.now canvas.old canvas.new }
-    ensures room { room.new.rows.room ≡ room.old.rows.room }
+    ensures capacity { scratch.new.rows.capacity ≡ scratch.old.rows.capacity }
 {
     writing_law();
     whole_law(canvas);
@@ -111,7 +111,7 @@ fn fill<'a, T: Table<'a>>(
         return;
     }
     let place = machine.place();
-    let paint = Brushing::with(brush, machine);
+    let paint = FillStyle::with(brush, machine);
     match drawn.mark {
         Mark::Dot { .. } | Mark::Line { .. } | Mark::Blit(_) => {}
         Mark::Figures { painting, points } => {
@@ -121,7 +121,7 @@ fn fill<'a, T: Table<'a>>(
             let outline = FigureOutline::new(points, Ends::Closed, machine);
             fill_inside(
                 canvas,
-                room,
+                scratch,
                 outline,
                 landed_box(place, drawn.bounds, Nib::ONE),
                 &paint,
@@ -133,7 +133,7 @@ fn fill<'a, T: Table<'a>>(
             edges,
         } => {
             let inside = placed_box(place, first, second, edges);
-            fill_box(canvas, inside, &paint, &mut room.inks);
+            fill_box(canvas, inside, &paint, &mut scratch.row_ops);
         }
     }
 }
@@ -142,20 +142,20 @@ fn fill<'a, T: Table<'a>>(
 fn stroke<'a, T: Table<'a>>(
     drawn: Draw<'a>,
     machine: &Machine<'a, T>,
-    room: &mut DrawingRoom,
+    scratch: &mut DrawingScratch,
     canvas: &mut Canvas,
 )
-    requires may { MayDraw drawn machine.now room.old canvas.old }
-    requires countable { HasRoomForLayer canvas.old }
+    requires may { MayDraw drawn machine.now scratch.old canvas.old }
+    requires countable { HasCapacityForLayer canvas.old }
     ensures drawn { Strokes drawn.entry machine.now canvas.old canvas.new }
-    ensures room { room.new.rows.room ≡ room.old.rows.room }
+    ensures capacity { scratch.new.rows.capacity ≡ scratch.old.rows.capacity }
 {
     whole_law(canvas);
     let Pen::Solid { colour, .. } = machine.dc().selected.pen else {
         return;
     };
     let stroke = Stroke::with(colour, drawn.nib, machine);
-    stroke_outline(drawn, &stroke, machine, room, canvas);
+    stroke_outline(drawn, &stroke, machine, scratch, canvas);
 }
 
 /// Strokes the outline of a drawing, if it has one, with the pen's stroke.
@@ -163,15 +163,15 @@ fn stroke_outline<'a, T: Table<'a>>(
     drawn: Draw<'a>,
     stroke: &Stroke<'_>,
     machine: &Machine<'a, T>,
-    room: &mut DrawingRoom,
+    scratch: &mut DrawingScratch,
     canvas: &mut Canvas,
 )
-    requires may { MayDraw drawn machine.now room.old canvas.old }
-    requires countable { HasRoomForLayer canvas.old }
+    requires may { MayDraw drawn machine.now scratch.old canvas.old }
+    requires countable { HasCapacityForLayer canvas.old }
     requires pen { IsPenOf (tools_of machine.now.state.dc) machine.now.surface stroke.now }
     requires nib { stroke.now.nib ≡ drawn.nib }
     ensures drawn { Strokes drawn.entry machine.now canvas.old canvas.new }
-    ensures room { room.new.rows.room ≡ room.old.rows.room }
+    ensures capacity { scratch.new.rows.capacity ≡ scratch.old.rows.capacity }
 {
     writing_law();
     whole_law(canvas);
@@ -185,7 +185,7 @@ fn stroke_outline<'a, T: Table<'a>>(
                 bounds: Bounds::Plane(place, drawn.bounds, drawn.nib),
                 points: drawn.edges,
             };
-            stroke_lines(canvas, room, lines, stroke);
+            stroke_lines(canvas, scratch, lines, stroke);
         }
         Mark::Figures { painting, points } => {
             if let Some(ends) = stroked_ends(painting) {
@@ -194,7 +194,7 @@ fn stroke_outline<'a, T: Table<'a>>(
                     bounds: Bounds::Plane(place, drawn.bounds, drawn.nib),
                     points: drawn.edges,
                 };
-                stroke_lines(canvas, room, lines, stroke);
+                stroke_lines(canvas, scratch, lines, stroke);
             }
         }
         Mark::Rectangle {
@@ -203,7 +203,7 @@ fn stroke_outline<'a, T: Table<'a>>(
             edges,
         } => stroke_box(
             canvas,
-            room,
+            scratch,
             placed_box(place, first, second, edges),
             stroke,
         ),

@@ -1,7 +1,7 @@
 //! The lines of painted figures, on the surface.
 
 ghost use Rattle.std.specs.Prelude.{◌≡◌, ◌<◌, ◌^◌, length};
-ghost use Rattle.dc_stack.specs.Draws.{LendsLanded, figures_drawn};
+ghost use Rattle.dc_stack.specs.Draws.{BorrowsLanded, figures_drawn};
 ghost use Rattle.dc_stack.specs.Figures.{points_of_figures};
 ghost use Rattle.painting.specs.FigureEnds.{FiguresLand, landed_lines, stroked_ends};
 
@@ -31,7 +31,7 @@ impl<'p, 'a> FigureOutline<'p, 'a> {
         ends: Ends,
         machine: &'p Machine<'a, T>,
     ) -> FigureOutline<'p, 'a>
-        requires lent { LendsLanded machine.now.surface machine.now.painted points }
+        requires borrowed { BorrowsLanded machine.now.surface machine.now.painted points }
         requires land { FiguresLand machine.now.surface (figures_drawn machine.now.painted points) }
         requires few { length (points_of_figures (figures_drawn machine.now.painted points)) < 2 ^ 64 }
         ensures { outline_left result ≡ landed_lines machine.now.surface ends (figures_drawn machine.now.painted points.entry) }

@@ -2,16 +2,16 @@
 
 ghost use Rattle.std.specs.Prelude.{◌≡◌, ◌≤◌, ℕ, None, true, length, IfSome};
 ghost use Rattle.mapping.specs.PixelBoxes.{in_box};
-ghost use Rattle.painting.specs.Brushings.{brushing_paint, in_inside};
-ghost use Rattle.painting.specs.Counts.{CountsLayer, HasRoomForLayer};
+ghost use Rattle.painting.specs.FillStyles.{fill_style_paint, in_inside};
+ghost use Rattle.painting.specs.Counts.{CountsLayer, HasCapacityForLayer};
 ghost use Rattle.painting.specs.Painted.{PaintsShape};
 ghost use Rattle.painting.specs.SourceRows.{ReadsBox};
 
-use crate::brushing::Brushing;
-use crate::ink_room::InkRoom;
-use crate::parts::{Part, paint_rows, rule_of};
+use crate::fill_style::FillStyle;
+use crate::outline_rows::{Part, paint_rows, rule_of};
 use crate::regions::{visible_in, whole_law};
-use crate::room::DrawingRoom;
+use crate::row_op_scratch::RowOpScratch;
+use crate::scratch::DrawingScratch;
 use crate::seen_columns::uncut_part;
 use crate::source_rows::read_row;
 use canvas::{Canvas, writing_law};
@@ -21,18 +21,18 @@ use span_fill::Outline;
 /// Fills the inside of an outline, which lies within a box, by the current fill mode. The style has no source.
 pub(crate) fn fill_inside<O: Outline + Copy>(
     canvas: &mut Canvas,
-    room: &mut DrawingRoom,
+    scratch: &mut DrawingScratch,
     outline: O,
     bounds: Rect,
-    paint: &Brushing<'_, '_>,
+    paint: &FillStyle<'_, '_>,
 )
-    requires countable { HasRoomForLayer canvas.old }
+    requires countable { HasCapacityForLayer canvas.old }
     requires alone { paint.now.source ≡ None }
-    requires room { length (O.lines outline) ≤ room.old.rows.room }
+    requires capacity { length (O.lines outline) ≤ scratch.old.rows.capacity }
     requires within { (x y : ℕ) → in_inside paint.now (O.lines outline) x y ≡ true → in_box bounds x y ≡ true }
-    ensures pixels { PaintsShape (brushing_paint paint.now) (in_inside paint.now (O.lines outline)) canvas.old canvas.new }
+    ensures pixels { PaintsShape (fill_style_paint paint.now) (in_inside paint.now (O.lines outline)) canvas.old canvas.new }
     ensures few { CountsLayer canvas.old canvas.new }
-    ensures room { room.new.rows.room ≡ room.old.rows.room }
+    ensures capacity { scratch.new.rows.capacity ≡ scratch.old.rows.capacity }
 {
     writing_law();
     whole_law(canvas);
@@ -42,9 +42,9 @@ pub(crate) fn fill_inside<O: Outline + Copy>(
     }
     let rule = rule_of(paint.modes.fill_mode);
     let mut lines = outline;
-    room.rows.begin_fill(&mut lines, rule, drawn.rows.from);
+    scratch.rows.begin_fill(&mut lines, rule, drawn.rows.from);
     let painter = paint.painter(drawn.columns);
-    paint_rows(canvas, room, Part::Inside(rule), drawn.rows, &painter);
+    paint_rows(canvas, scratch, Part::Inside(rule), drawn.rows, &painter);
 }
 
 /// Fills a box. If the style has a source, the box is the one that the source is stretched to. A row of source colours
@@ -52,12 +52,12 @@ pub(crate) fn fill_inside<O: Outline + Copy>(
 pub(crate) fn fill_box(
     canvas: &mut Canvas,
     inside: Rect,
-    paint: &Brushing<'_, '_>,
-    room: &mut InkRoom,
+    paint: &FillStyle<'_, '_>,
+    scratch: &mut RowOpScratch,
 )
-    requires countable { HasRoomForLayer canvas.old }
+    requires countable { HasCapacityForLayer canvas.old }
     requires reads { IfSome paint.now.source (λ reader. ReadsBox reader inside) }
-    ensures pixels { PaintsShape (brushing_paint paint.now) (in_box inside) canvas.old canvas.new }
+    ensures pixels { PaintsShape (fill_style_paint paint.now) (in_box inside) canvas.old canvas.new }
     ensures few { CountsLayer canvas.old canvas.new }
 {
     writing_law();
@@ -71,7 +71,13 @@ pub(crate) fn fill_box(
     let mut kept = None;
     for y in drawn.rows.from..drawn.rows.to {
         painter.columns = uncut_part(columns, y, painter.clip.cut_boxes());
-        kept = read_row(&paint.source, painter.columns, y, kept, &mut *room.sources);
-        painter.put_row(canvas, &[columns], y, room);
+        kept = read_row(
+            &paint.source,
+            painter.columns,
+            y,
+            kept,
+            &mut *scratch.sources,
+        );
+        painter.put_row(canvas, &[columns], y, scratch);
     }
 }

@@ -4,7 +4,7 @@ ghost use Rattle.std.specs.Prelude.{◌≡◌, ◌+◌, ◌*◌, ◌<◌, ◌^�
 ghost use Rattle.canvas.specs.CanvasState.{HasPixel};
 ghost use Rattle.span_fill.specs.Lines.{HasNearEnds};
 ghost use Rattle.span_fill.specs.Strokes.{on_line};
-ghost use Rattle.painting.specs.Counts.{HasRoomForLayer};
+ghost use Rattle.painting.specs.Counts.{HasCapacityForLayer};
 ghost use Rattle.painting.specs.Painted.{PaintsShape};
 ghost use Rattle.painting.specs.PenStrokes.{MixesUncut, is_uncut_step, stroke_paint};
 
@@ -19,7 +19,7 @@ use span_fill::{Line, LineSteps};
 #[inline(never)]
 pub(crate) fn step_line(canvas: &mut Canvas, line: Line, stroke: &Stroke<'_>)
     requires near { HasNearEnds line }
-    requires countable { HasRoomForLayer canvas.old }
+    requires countable { HasCapacityForLayer canvas.old }
     ensures { PaintsShape (stroke_paint stroke.now) (λ x y. on_line line (pos x) (pos y)) canvas.old canvas.new }
 {
     writing_law();

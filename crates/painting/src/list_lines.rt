@@ -20,7 +20,7 @@ pub(crate) enum Ends {
 
 /// A cursor in a list of points: the first point and the latest one, on the surface.
 #[derive(Clone, Copy, Debug)]
-pub(crate) struct Traced {
+pub(crate) struct Cursor {
     pub(crate) first: Point,
     pub(crate) last: Point,
     pub(crate) ghost first_near: { IsNearPoint first },
@@ -33,7 +33,7 @@ pub(crate) struct ListLines<'a> {
     pub(crate) by: Projection,
     pub(crate) ends: Ends,
     /// The position in the list. `None` after the last line, or if there is no line.
-    pub(crate) course: Option<Traced>,
+    pub(crate) cursor: Option<Cursor>,
     /// The remaining page points.
     pub(crate) points: Points<'a>,
     pub(crate) ghost land: { AllLand by (points_of points) },
@@ -50,12 +50,12 @@ impl<'a> ListLines<'a> {
         ensures ends { self.new.ends ≡ self.old.ends }
     {
         let Some((first, rest)) = points.split_first() else {
-            self.course = None;
+            self.cursor = None;
             self.points = points;
             return;
         };
         let first = self.by.at(first);
-        self.course = Some(Traced { first, last: first });
+        self.cursor = Some(Cursor { first, last: first });
         self.points = rest;
     }
 
@@ -65,7 +65,7 @@ impl<'a> ListLines<'a> {
         ensures few { result ≤ 2 ^ 62 }
     {
         let count = count_points(self.points);
-        match (self.course, self.ends) {
+        match (self.cursor, self.ends) {
             (None, _) => 0,
             (Some(_), Ends::Open) => count,
             (Some(_), Ends::Closed) => count + 1,
@@ -79,27 +79,27 @@ impl<'a> ListLines<'a> {
         ensures by { self.new.by ≡ self.old.by }
         ensures ends { self.new.ends ≡ self.old.ends }
     {
-        let Some(course) = self.course else {
+        let Some(cursor) = self.cursor else {
             return None;
         };
         let Some((point, rest)) = self.points.split_first() else {
-            self.course = None;
+            self.cursor = None;
             return match self.ends {
                 Ends::Open => None,
                 Ends::Closed => Some(Line {
-                    from: course.last,
-                    to: course.first,
+                    from: cursor.last,
+                    to: cursor.first,
                 }),
             };
         };
         let last = self.by.at(point);
         self.points = rest;
-        self.course = Some(Traced {
-            first: course.first,
+        self.cursor = Some(Cursor {
+            first: cursor.first,
             last,
         });
         Some(Line {
-            from: course.last,
+            from: cursor.last,
             to: last,
         })
     }

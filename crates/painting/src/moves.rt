@@ -5,10 +5,10 @@ ghost use Rattle.std.specs.List.{All};
 ghost use Rattle.point_views.specs.Points.{points_of};
 ghost use Rattle.span_fill.specs.Lines.{GivesFirst, IsNearPoint};
 ghost use Rattle.painting.specs.FewPoints.{few_points};
-ghost use Rattle.painting.specs.Moves.{IsNearMove, end_before, end_behind, moves_of_list};
+ghost use Rattle.painting.specs.Moves.{IsNearMove, end_before, end_after, moves_of_list};
 ghost use Rattle.painting.specs.PlacedLines.{AllLand};
 
-use dc_stack::{FigureEnd, Joining, Projection};
+use dc_stack::{FigureEnd, Projection, Verb};
 use mapping::Point;
 use point_views::Points;
 
@@ -60,7 +60,7 @@ pub(crate) struct ListMoves<'a> {
     pub(crate) before: Option<FigureEnd>,
     pub(crate) points: ListPoints<'a>,
     /// The end of the open figure after the list. `None` once it has been returned.
-    pub(crate) behind: Option<FigureEnd>,
+    pub(crate) after: Option<FigureEnd>,
 }
 
 impl FewPoints {
@@ -136,22 +136,22 @@ impl<'a> ListPoints<'a> {
 }
 
 /// How the open figure ends before a list.
-fn end_before_list(joining: Joining) -> FigureEnd
-    ensures { result ≡ end_before joining }
+fn end_before_list(verb: Verb) -> FigureEnd
+    ensures { result ≡ end_before verb }
 {
-    match joining {
-        Joining::GoesOn => FigureEnd::Open,
-        Joining::Polylines | Joining::Polygons => FigureEnd::Ended,
+    match verb {
+        Verb::GoesOn => FigureEnd::Open,
+        Verb::Polylines | Verb::Polygons => FigureEnd::Ended,
     }
 }
 
 /// How the open figure ends after a list.
-fn end_behind_list(joining: Joining) -> FigureEnd
-    ensures { result ≡ end_behind joining }
+fn end_after_list(verb: Verb) -> FigureEnd
+    ensures { result ≡ end_after verb }
 {
-    match joining {
-        Joining::GoesOn | Joining::Polylines => FigureEnd::Open,
-        Joining::Polygons => FigureEnd::Closed,
+    match verb {
+        Verb::GoesOn | Verb::Polylines => FigureEnd::Open,
+        Verb::Polygons => FigureEnd::Closed,
     }
 }
 
@@ -159,20 +159,20 @@ impl<'a> ListMoves<'a> {
     ghost use Rattle.painting.specs.MovesToCome.{list_moves_left, points_left};
 
     /// The moves through a list.
-    pub(crate) fn new(joining: Joining, points: ListPoints<'a>) -> ListMoves<'a>
-        ensures { list_moves_left result ≡ moves_of_list joining (points_left points.entry) }
+    pub(crate) fn new(verb: Verb, points: ListPoints<'a>) -> ListMoves<'a>
+        ensures { list_moves_left result ≡ moves_of_list verb (points_left points.entry) }
     {
         if points.is_empty() {
             return ListMoves {
                 before: None,
                 points,
-                behind: None,
+                after: None,
             };
         }
         ListMoves {
-            before: Some(end_before_list(joining)),
+            before: Some(end_before_list(verb)),
             points,
-            behind: Some(end_behind_list(joining)),
+            after: Some(end_after_list(verb)),
         }
     }
 
@@ -188,8 +188,8 @@ impl<'a> ListMoves<'a> {
         if let Some(point) = self.points.next_point() {
             return Some(Move::To(point));
         }
-        let end = self.behind?;
-        self.behind = None;
+        let end = self.after?;
+        self.after = None;
         Some(Move::End(end))
     }
 }

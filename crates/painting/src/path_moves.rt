@@ -15,7 +15,7 @@ ghost use Rattle.painting.specs.PlacedLines.{AllListsLand};
 
 use crate::moves::{FewPoints, ListMoves, ListPoints, Move, PagePoints, PlacedPoints};
 use crate::rectangles::between;
-use dc_stack::{FigureEnd, Joining, Piece, PiecePoints, Projection};
+use dc_stack::{FigureEnd, Piece, PiecePoints, Projection, Verb};
 use mapping::{Place, Point, Rect, placing_law};
 use point_views::Polys;
 
@@ -23,7 +23,7 @@ use point_views::Polys;
 #[derive(Clone, Copy, Debug)]
 pub(crate) struct PieceMoves<'a> {
     pub(crate) by: Projection,
-    pub(crate) joining: Joining,
+    pub(crate) verb: Verb,
     /// The moves through the current list.
     pub(crate) list: ListMoves<'a>,
     /// The lists after it.
@@ -129,8 +129,8 @@ impl<'a> PieceMoves<'a> {
         let first = place_part(by, piece.points);
         PieceMoves {
             by,
-            joining: piece.joining,
-            list: ListMoves::new(piece.joining, ListPoints::Placed(first)),
+            verb: piece.verb,
+            list: ListMoves::new(piece.verb, ListPoints::Placed(first)),
             lists: lists_to_place(piece.points),
             end: Some(piece.end),
         }
@@ -155,7 +155,7 @@ impl<'a> PieceMoves<'a> {
                 by: self.by,
                 points,
             };
-            self.list = ListMoves::new(self.joining, ListPoints::Page(points));
+            self.list = ListMoves::new(self.verb, ListPoints::Page(points));
             self.lists = rest;
         }
     }

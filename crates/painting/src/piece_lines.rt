@@ -10,7 +10,7 @@ ghost use Rattle.painting.specs.Moves.{IsNearMove, after_move, lines_at_end, lin
 ghost use Rattle.painting.specs.MovesToCome.{drawn_of, figure_lines_left};
 ghost use Rattle.painting.specs.declared.moves.Move.TheVariants.{To, End};
 
-use crate::list_lines::{Ends, Traced};
+use crate::list_lines::{Cursor, Ends};
 use crate::moves::Move;
 use crate::path_moves::PathMoves;
 use dc_stack::{FigureEnd, Piece};
@@ -22,7 +22,7 @@ use span_fill::{Line, Outline};
 pub(crate) struct FigureLines<'p, 'a> {
     pub(crate) ends: Ends,
     /// The open figure, if there is one.
-    pub(crate) course: Option<Traced>,
+    pub(crate) cursor: Option<Cursor>,
     pub(crate) moves: PathMoves<'p, 'a>,
 }
 
@@ -34,20 +34,20 @@ pub(crate) struct PieceLines<'p, 'a> {
 }
 
 /// Extends the open figure by a line to a point, or starts a figure there.
-fn go_to(course: &mut Option<Traced>, ends: Ends, point: Point) -> Option<Line>
+fn go_to(cursor: &mut Option<Cursor>, ends: Ends, point: Point) -> Option<Line>
     requires { IsNearPoint point }
-    ensures line { GivesFirst (lines_of_move ends (To point) (drawn_of course.old)) result [] }
+    ensures line { GivesFirst (lines_of_move ends (To point) (drawn_of cursor.old)) result [] }
     ensures near { IfSome result HasNearEnds }
-    ensures figure { drawn_of course.new ≡ after_move (To point) (drawn_of course.old) }
+    ensures figure { drawn_of cursor.new ≡ after_move (To point) (drawn_of cursor.old) }
 {
-    let Some(figure) = *course else {
-        *course = Some(Traced {
+    let Some(figure) = *cursor else {
+        *cursor = Some(Cursor {
             first: point,
             last: point,
         });
         return None;
     };
-    *course = Some(Traced {
+    *cursor = Some(Cursor {
         first: figure.first,
         last: point,
     });
@@ -58,20 +58,20 @@ fn go_to(course: &mut Option<Traced>, ends: Ends, point: Point) -> Option<Line>
 }
 
 /// Ends the open figure. Returns the line back to its first point, if the figure has one.
-fn end_figure(course: &mut Option<Traced>, ends: Ends, end: FigureEnd) -> Option<Line>
-    ensures line { GivesFirst (lines_at_end ends end (drawn_of course.old)) result [] }
+fn end_figure(cursor: &mut Option<Cursor>, ends: Ends, end: FigureEnd) -> Option<Line>
+    ensures line { GivesFirst (lines_at_end ends end (drawn_of cursor.old)) result [] }
     ensures near { IfSome result HasNearEnds }
-    ensures figure { drawn_of course.new ≡ after_move (End end) (drawn_of course.old) }
+    ensures figure { drawn_of cursor.new ≡ after_move (End end) (drawn_of cursor.old) }
 {
-    let figure = (*course)?;
+    let figure = (*cursor)?;
     match (end, ends) {
         (FigureEnd::Open, _) => None,
         (FigureEnd::Ended, Ends::Open) => {
-            *course = None;
+            *cursor = None;
             None
         }
         (FigureEnd::Ended, Ends::Closed) | (FigureEnd::Closed, _) => {
-            *course = None;
+            *cursor = None;
             Some(Line {
                 from: figure.last,
                 to: figure.first,
@@ -84,15 +84,15 @@ impl<'p, 'a> FigureLines<'p, 'a> {
     /// The line that a move draws, if it draws one.
     fn follow(&mut self, step: Move) -> Option<Line>
         requires { IsNearMove step }
-        ensures line { GivesFirst (lines_of_move self.old.ends step (drawn_of self.old.course)) result [] }
+        ensures line { GivesFirst (lines_of_move self.old.ends step (drawn_of self.old.cursor)) result [] }
         ensures near { IfSome result HasNearEnds }
-        ensures figure { drawn_of self.new.course ≡ after_move step (drawn_of self.old.course) }
+        ensures figure { drawn_of self.new.cursor ≡ after_move step (drawn_of self.old.cursor) }
         ensures moves { self.new.moves ≡ self.old.moves }
         ensures ends { self.new.ends ≡ self.old.ends }
     {
         match step {
-            Move::To(point) => go_to(&mut self.course, self.ends, point),
-            Move::End(end) => end_figure(&mut self.course, self.ends, end),
+            Move::To(point) => go_to(&mut self.cursor, self.ends, point),
+            Move::End(end) => end_figure(&mut self.cursor, self.ends, end),
         }
     }
 
@@ -123,7 +123,7 @@ impl<'p, 'a> PieceLines<'p, 'a> {
         PieceLines {
             lines: FigureLines {
                 ends,
-                course: None,
+                cursor: None,
                 moves: PathMoves::new(place, pieces),
             },
         }

@@ -8,7 +8,7 @@ ghost use Rattle.span_fill.specs.Lines.{IsNearPoint};
 ghost use Rattle.preflight_cert.specs.Outlines.{open_lines_of};
 ghost use Rattle.painting.specs.PlacedLines.{AllLand, AllListsLand, lines_between, lines_of_lists, projected_list};
 
-use crate::list_lines::{Ends, ListLines, Traced, count_points};
+use crate::list_lines::{Cursor, Ends, ListLines, count_points};
 use dc_stack::Projection;
 use mapping::Point;
 use point_views::{Points, Polys};
@@ -36,7 +36,7 @@ impl<'a> PlacedLines<'a> {
             current: ListLines {
                 by,
                 ends,
-                course: None,
+                cursor: None,
                 points: lists.points().part(0, 0),
             },
             lists,
@@ -58,7 +58,7 @@ impl<'a> PlacedLines<'a> {
             current: ListLines {
                 by,
                 ends,
-                course: Some(Traced {
+                cursor: Some(Cursor {
                     first: start,
                     last: start,
                 }),

@@ -8,7 +8,7 @@ ghost use Rattle.dc_stack.specs.Clip.{in_kept, placed_box};
 ghost use Rattle.dc_stack.specs.Values.{placed_value};
 ghost use Rattle.mapping.specs.PlaceOf.{surface_of};
 ghost use Rattle.mapping.specs.Surface.{placed};
-ghost use Rattle.preflight_cert.specs.MissedRowsLaws.{LiesBeside};
+ghost use Rattle.preflight_cert.specs.MissedRowsLaws.{LiesOutside};
 ghost use Rattle.mapping.specs.Nibs.{IsNib, IsNibSide, reach_after, reach_before};
 ghost use Rattle.span_fill.specs.WideStrokes.{widened};
 ghost use Rattle.painting.specs.Regions.{HasLanded, HasNarrowNib, HasRegion, HasShape, HasVisible, HoldShape, IsOfSide};
@@ -146,7 +146,7 @@ impl Bounds {
 /// them or begins below them. Such a drawing needn't be painted there.
 pub(crate) fn misses_rows(canvas: &Canvas, place: Place, bounds: Rect, nib: Nib) -> bool
     requires { IsNib nib }
-    ensures { IsTrue result ↔ LiesBeside (widened nib (placed_box (surface_of place) bounds)) canvas.now.first canvas.now.rows }
+    ensures { IsTrue result ↔ LiesOutside (widened nib (placed_box (surface_of place) bounds)) canvas.now.first canvas.now.rows }
 {
     let held = rows_held(canvas);
     ends_above(place, bounds.b, nib.y, held.from) || !begins_above(place, bounds.t, nib.y, held.to)

@@ -6,9 +6,9 @@ ghost use Rattle.canvas.specs.WritingLaws.{IsWhole};
 ghost use Rattle.span_fill.specs.Spans.{AreApart};
 ghost use Rattle.painting.specs.RowsPainted.{PaintsSpans};
 
-use crate::brushing::Brushing;
-use crate::ink_room::InkRoom;
-use crate::row_ink::RowInk;
+use crate::fill_style::FillStyle;
+use crate::row_op::RowOp;
+use crate::row_op_scratch::RowOpScratch;
 use crate::strips::put_spans;
 use canvas::Canvas;
 use dc_stack::Clip;
@@ -16,11 +16,11 @@ use span_fill::Span;
 
 /// The row operations for the rows of a shape.
 #[derive(Clone, Copy, Debug)]
-pub(crate) enum Inks<'p, 'd, 'a> {
+pub(crate) enum RowOps<'p, 'd, 'a> {
     /// The same for all rows. It isn't copied for each row.
-    Same(RowInk<'static>),
+    Same(RowOp<'static>),
     /// One for each row, computed from a fill style.
-    EachRow(&'p Brushing<'d, 'a>),
+    EachRow(&'p FillStyle<'d, 'a>),
 }
 
 /// Paints some columns of a shape's rows, under a clip.
@@ -28,31 +28,37 @@ pub(crate) enum Inks<'p, 'd, 'a> {
 pub(crate) struct RowPainter<'p, 'd, 'a> {
     pub(crate) clip: &'d Clip,
     pub(crate) columns: Span,
-    pub(crate) inks: Inks<'p, 'd, 'a>,
+    pub(crate) row_ops: RowOps<'p, 'd, 'a>,
 }
 
 impl<'p, 'd, 'a> RowPainter<'p, 'd, 'a> {
     ghost use Rattle.painting.specs.RowPainters.{HoldsRead, painter_paint};
 
     /// Paints the pixels in the spans of a row. Source colours for this row must have been gathered.
-    pub(crate) fn put_row(&self, canvas: &mut Canvas, spans: &[Span], y: u32, room: &mut InkRoom)
+    pub(crate) fn put_row(
+        &self,
+        canvas: &mut Canvas,
+        spans: &[Span],
+        y: u32,
+        scratch: &mut RowOpScratch,
+    )
         requires whole { IsWhole canvas.old }
         requires spans { AreApart 0 canvas.old.width spans.now }
         requires row { HasRow canvas.old y }
         requires countable { canvas.old.writes + 2 * canvas.old.width < 2 ^ 64 }
-        requires read { HoldsRead self.now.inks self.now.columns y room.old.sources.value }
+        requires read { HoldsRead self.now.row_ops self.now.columns y scratch.old.sources.value }
         requires order { self.now.columns.from ≤ self.now.columns.to }
         requires end { self.now.columns.to ≤ 8192 }
         ensures painted { PaintsSpans (painter_paint self.now) self.now.columns y spans.now canvas.old canvas.new }
         ensures few { canvas.new.writes ≤ canvas.old.writes + canvas.old.width }
-        ensures sources { room.new.sources ≡ room.old.sources }
+        ensures sources { scratch.new.sources ≡ scratch.old.sources }
     {
         let cuts = self.clip.cut_boxes();
-        match &self.inks {
-            Inks::Same(ink) => put_spans(canvas, ink, y, spans, cuts),
-            Inks::EachRow(paint) => {
-                let ink = paint.new_row(y, self.columns, &*room.sources, &mut room.mixes);
-                put_spans(canvas, &ink, y, spans, cuts);
+        match &self.row_ops {
+            RowOps::Same(row_op) => put_spans(canvas, row_op, y, spans, cuts),
+            RowOps::EachRow(paint) => {
+                let row_op = paint.new_row(y, self.columns, &*scratch.sources, &mut scratch.mixes);
+                put_spans(canvas, &row_op, y, spans, cuts);
             }
         }
     }

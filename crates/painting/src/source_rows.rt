@@ -5,7 +5,7 @@ ghost use Rattle.dib_views.specs.PictureOf.{picture_of};
 ghost use Rattle.raster_ops.specs.Readers.{row_read};
 ghost use Rattle.painting.specs.SourceRows.{HoldsRow, ReadsRow};
 
-use crate::ink_room::MAX_SIDE;
+use crate::row_op_scratch::MAX_SIDE;
 use mapping::Colour;
 use raster_ops::SourceReader;
 use span_fill::Span;

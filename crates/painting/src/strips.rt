@@ -6,14 +6,14 @@ ghost use Rattle.mapping.specs.PixelBoxes.{in_box};
 ghost use Rattle.canvas.specs.CanvasState.{HasRow};
 ghost use Rattle.canvas.specs.WritingLaws.{IsWhole};
 ghost use Rattle.span_fill.specs.Spans.{AreApart, in_span, in_spans};
-ghost use Rattle.painting.specs.RowInks.{mixed_at};
-ghost use Rattle.painting.specs.Strips.{CountsOnce, MakesCells, MakesColumns, MayPaint, PutsInk, mixed_cells, placed_boxes};
-ghost use Rattle.painting.specs.declared.row_ink.RowInk.TheVariants.{Full};
+ghost use Rattle.painting.specs.RowOps.{mixed_at};
+ghost use Rattle.painting.specs.Strips.{CountsOnce, MakesCells, MakesColumns, MayPaint, PutsRowOp, mixed_cells, placed_boxes};
+ghost use Rattle.painting.specs.declared.row_op.RowOp.TheVariants.{Full};
 
-use crate::ink_room::MAX_SIDE;
 use crate::regions::whole_law;
-use crate::row_ink::RowInk;
-use canvas::{Canvas, Swatch, writing_law};
+use crate::row_op::RowOp;
+use crate::row_op_scratch::MAX_SIDE;
+use canvas::{Canvas, Splat, writing_law};
 use dc_stack::ClipBox;
 use mapping::{Colour, Mix, Rect};
 use span_fill::Span;
@@ -26,30 +26,30 @@ struct RowPart {
 }
 
 /// Applies a row operation to some columns of a row.
-fn put_ink(canvas: &mut Canvas, ink: &RowInk<'_>, y: u32, columns: Span)
+fn put_row_op(canvas: &mut Canvas, row_op: &RowOp<'_>, y: u32, columns: Span)
     requires { MayPaint canvas.old y columns }
-    ensures pixels { PutsInk ink.now [] y (in_span columns) canvas.old canvas.new }
+    ensures pixels { PutsRowOp row_op.now [] y (in_span columns) canvas.old canvas.new }
     ensures count { CountsOnce columns canvas.old canvas.new }
 {
     writing_law();
-    match ink {
-        RowInk::Nothing => {}
-        RowInk::Full(swatch) => canvas.put_swatch(columns.from, columns.to, y, swatch),
-        RowInk::Pattern(pattern) => canvas.put_pattern(columns.from, columns.to, y, pattern),
-        RowInk::Mixed(mix) => canvas.mix_span(columns.from, columns.to, y, *mix),
-        RowInk::Cells {
+    match row_op {
+        RowOp::Nothing => {}
+        RowOp::Full(splat) => canvas.put_swatch(columns.from, columns.to, y, splat),
+        RowOp::Pattern(pattern) => canvas.put_pattern(columns.from, columns.to, y, pattern),
+        RowOp::Mixed(mix) => canvas.mix_span(columns.from, columns.to, y, *mix),
+        RowOp::Cells {
             cells,
             mix,
             gaps: None,
         } => canvas.mix_cells(columns.from, columns.to, y, *cells, *mix),
-        RowInk::Cells {
+        RowOp::Cells {
             cells,
             mix,
             gaps: Some(gaps),
         } => put_both(canvas, *cells, *mix, *gaps, RowPart { y, columns }),
-        RowInk::Row(colours) => put_colours(canvas, colours, y, columns),
-        RowInk::MixRow { keeps, flips } => put_mixes(canvas, keeps, flips, y, columns),
-        RowInk::MixCells {
+        RowOp::Row(colours) => put_colours(canvas, colours, y, columns),
+        RowOp::MixRow { keeps, flips } => put_mixes(canvas, keeps, flips, y, columns),
+        RowOp::MixCells {
             cells,
             keeps,
             flips,
@@ -137,9 +137,9 @@ pub(crate) fn hidden(cut: Rect, y: u32, columns: Span) -> Span
 }
 
 /// Applies a row operation to those columns of a row that no box cuts out.
-fn put_uncut(canvas: &mut Canvas, ink: &RowInk<'_>, y: u32, columns: Span, cuts: &[ClipBox])
+fn put_uncut(canvas: &mut Canvas, row_op: &RowOp<'_>, y: u32, columns: Span, cuts: &[ClipBox])
     requires { MayPaint canvas.old y columns }
-    ensures pixels { PutsInk ink.now (placed_boxes cuts.now) y (in_span columns) canvas.old canvas.new }
+    ensures pixels { PutsRowOp row_op.now (placed_boxes cuts.now) y (in_span columns) canvas.old canvas.new }
     ensures count { CountsOnce columns canvas.old canvas.new }
 {
     writing_law();
@@ -148,19 +148,19 @@ fn put_uncut(canvas: &mut Canvas, ink: &RowInk<'_>, y: u32, columns: Span, cuts:
         return;
     }
     let Some((first, rest)) = cuts.split_first() else {
-        put_ink(canvas, ink, y, columns);
+        put_row_op(canvas, row_op, y, columns);
         return;
     };
     let hidden = hidden(first.placed, y, columns);
-    let (before, behind) = (hidden.from, hidden.to);
-    put_uncut(canvas, ink, y, Span { from, to: before }, rest);
-    put_uncut(canvas, ink, y, Span { from: behind, to }, rest);
+    let (before, after) = (hidden.from, hidden.to);
+    put_uncut(canvas, row_op, y, Span { from, to: before }, rest);
+    put_uncut(canvas, row_op, y, Span { from: after, to }, rest);
 }
 
 /// Applies a row operation to the pixels in the spans of a row, except those that a box cuts out.
 pub(crate) fn put_spans(
     canvas: &mut Canvas,
-    ink: &RowInk<'_>,
+    row_op: &RowOp<'_>,
     y: u32,
     spans: &[Span],
     cuts: &[ClipBox],
@@ -169,33 +169,33 @@ pub(crate) fn put_spans(
     requires spans { AreApart 0 canvas.old.width spans.now }
     requires row { HasRow canvas.old y }
     requires countable { canvas.old.writes + 2 * canvas.old.width < 2 ^ 64 }
-    ensures pixels { PutsInk ink.now (placed_boxes cuts.now) y (in_spans spans.now) canvas.old canvas.new }
+    ensures pixels { PutsRowOp row_op.now (placed_boxes cuts.now) y (in_spans spans.now) canvas.old canvas.new }
     ensures count { canvas.new.writes ≤ canvas.old.writes + canvas.old.width }
 {
     writing_law();
     // (borrowed rather than copied: every row would wait for the copy)
     if cuts.is_empty() {
-        if let RowInk::Full(swatch) = ink {
-            put_full(canvas, swatch, y, spans);
+        if let RowOp::Full(splat) = row_op {
+            put_full(canvas, splat, y, spans);
             return;
         }
     }
     for span in spans {
-        put_uncut(canvas, ink, y, *span, cuts);
+        put_uncut(canvas, row_op, y, *span, cuts);
     }
 }
 
 /// Sets the pixels in the spans of a row to one colour.
-fn put_full(canvas: &mut Canvas, swatch: &Swatch, y: u32, spans: &[Span])
+fn put_full(canvas: &mut Canvas, splat: &Splat, y: u32, spans: &[Span])
     requires whole { IsWhole canvas.old }
     requires spans { AreApart 0 canvas.old.width spans.now }
     requires row { HasRow canvas.old y }
     requires countable { canvas.old.writes + 2 * canvas.old.width < 2 ^ 64 }
-    ensures pixels { PutsInk (Full swatch.now) [] y (in_spans spans.now) canvas.old canvas.new }
+    ensures pixels { PutsRowOp (Full splat.now) [] y (in_spans spans.now) canvas.old canvas.new }
     ensures count { canvas.new.writes ≤ canvas.old.writes + canvas.old.width }
 {
     writing_law();
     for span in spans {
-        canvas.put_swatch(span.from, span.to, y, swatch);
+        canvas.put_swatch(span.from, span.to, y, splat);
     }
 }

@@ -5,7 +5,7 @@ ghost use Rattle.dc_stack.specs.Drawing.{tools_of};
 ghost use Rattle.preflight_cert.specs.Paint.{solid};
 ghost use Rattle.painting.specs.PaintsOfLayers.{IsPaintOf};
 
-use crate::ink_room::BLACK;
+use crate::row_op_scratch::BLACK;
 use dc_stack::{Clip, Machine};
 use mapping::{Colour, Mix, Nib};
 use object_tables::Table;

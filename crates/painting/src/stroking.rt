@@ -7,26 +7,26 @@ ghost use Rattle.preflight_cert.specs.Rectangles.{rectangle_lines};
 ghost use Rattle.mapping.specs.Nibs.{IsNib};
 ghost use Rattle.span_fill.specs.Lines.{HasNearEnds};
 ghost use Rattle.span_fill.specs.WideStrokes.{in_wide_stroke, one_pixel};
-ghost use Rattle.painting.specs.Counts.{CountsLayer, HasRoomForLayer};
+ghost use Rattle.painting.specs.Counts.{CountsLayer, HasCapacityForLayer};
 ghost use Rattle.painting.specs.Parts.{HasPart};
 ghost use Rattle.painting.specs.RectangleBoxes.{IsNearBox};
 ghost use Rattle.painting.specs.Regions.{HasNarrowNib, HoldShape, IsOfSide};
-ghost use Rattle.painting.specs.Stamps.{is_taken};
+ghost use Rattle.painting.specs.VisitedMask.{is_taken};
 ghost use Rattle.painting.specs.StrokedLines.{HasStroke, StrokesLines};
-ghost use Rattle.painting.specs.declared.parts.Part.TheVariants.{Lines};
+ghost use Rattle.painting.specs.declared.outline_rows.Part.TheVariants.{Lines};
 
 use crate::line_steps::step_line;
 use crate::lone_line::lone_line;
-use crate::mark_costs::{are_copied, copy_lines, marks_pay};
-use crate::parts::{Part, paint_rows};
+use crate::outline_rows::{Part, paint_rows};
 use crate::rectangles::{LineList, box_lines, has_inside};
 use crate::regions::{Bounds, visible_in, whole_law};
-use crate::room::DrawingRoom;
-use crate::row_ink::full;
-use crate::row_painter::{Inks, RowPainter};
-use crate::stamping::{begin_stamps, stamp_lines};
-use crate::stamps::Stamps;
+use crate::row_op::full;
+use crate::row_painter::{RowOps, RowPainter};
+use crate::scratch::DrawingScratch;
 use crate::stroke::Stroke;
+use crate::visited_mask::VisitedMask;
+use crate::visited_mask_costs::{are_copied, copy_lines, visited_mask_pays};
+use crate::visiting::{begin_visited_mask, visit_lines};
 use crate::wide_stroking::stroke_wide_lines;
 use crate::widening::widened;
 use canvas::{Canvas, writing_law};
@@ -46,24 +46,24 @@ pub(crate) struct StrokedLines<O> {
 /// Strokes the lines of an outline, which lie within the bounds. No other function knows how strokes are painted.
 pub(crate) fn stroke_lines<O: Outline + Copy>(
     canvas: &mut Canvas,
-    room: &mut DrawingRoom,
+    scratch: &mut DrawingScratch,
     lines: StrokedLines<O>,
     stroke: &Stroke<'_>,
 )
-    requires countable { HasRoomForLayer canvas.old }
-    requires room { length (O.lines lines.outline) ≤ room.old.rows.room }
+    requires countable { HasCapacityForLayer canvas.old }
+    requires capacity { length (O.lines lines.outline) ≤ scratch.old.rows.capacity }
     requires nib { IsNib stroke.now.nib }
     requires bounded { HasNarrowNib lines.bounds }
     requires within { HoldShape lines.bounds (in_wide_stroke stroke.now.nib (O.lines lines.outline)) }
     ensures pixels { StrokesLines stroke.now.nib stroke.now (O.lines lines.outline) canvas.old canvas.new }
     ensures few { CountsLayer canvas.old canvas.new }
-    ensures room { room.new.rows.room ≡ room.old.rows.room }
+    ensures capacity { scratch.new.rows.capacity ≡ scratch.old.rows.capacity }
 {
     if stroke.nib == Nib::ONE {
-        stroke_thin_lines(canvas, room, lines, stroke);
+        stroke_thin_lines(canvas, scratch, lines, stroke);
         return;
     }
-    stroke_wide_lines(canvas, room, lines, stroke);
+    stroke_wide_lines(canvas, scratch, lines, stroke);
 }
 
 /// Strokes lines by a nib of one pixel. A lone line is painted step by step. Several lines go through the visited mask
@@ -71,18 +71,18 @@ pub(crate) fn stroke_lines<O: Outline + Copy>(
 /// an estimate, they are copied first, so that each is placed once.
 fn stroke_thin_lines<O: Outline + Copy>(
     canvas: &mut Canvas,
-    room: &mut DrawingRoom,
+    scratch: &mut DrawingScratch,
     lines: StrokedLines<O>,
     stroke: &Stroke<'_>,
 )
-    requires countable { HasRoomForLayer canvas.old }
-    requires room { length (O.lines lines.outline) ≤ room.old.rows.room }
+    requires countable { HasCapacityForLayer canvas.old }
+    requires capacity { length (O.lines lines.outline) ≤ scratch.old.rows.capacity }
     requires nib { stroke.now.nib ≡ one_pixel }
     requires bounded { HasNarrowNib lines.bounds }
     requires within { HoldShape lines.bounds (in_wide_stroke one_pixel (O.lines lines.outline)) }
     ensures pixels { StrokesLines one_pixel stroke.now (O.lines lines.outline) canvas.old canvas.new }
     ensures few { CountsLayer canvas.old canvas.new }
-    ensures room { room.new.rows.room ≡ room.old.rows.room }
+    ensures capacity { scratch.new.rows.capacity ≡ scratch.old.rows.capacity }
 {
     writing_law();
     wide_stroke_law();
@@ -94,95 +94,96 @@ fn stroke_thin_lines<O: Outline + Copy>(
     }
     let drawn = visible_in(canvas, stroke.clip, lines.bounds.on_surface());
     if are_copied(lines.points, drawn, stroke.clip) {
-        if let Some(pays) = copy_lines(outline, &mut room.copies, drawn) {
-            stroke_copies(canvas, room, pays, drawn, stroke);
+        if let Some(pays) = copy_lines(outline, &mut scratch.copies, drawn) {
+            stroke_copies(canvas, scratch, pays, drawn, stroke);
             return;
         }
     }
-    if marks_pay(outline, drawn, stroke.clip) {
-        if let Some(stamps) = &mut room.marks {
-            if begin_stamps(stamps, stroke.clip, drawn) {
-                stroke_by_marks(canvas, stamps, outline, stroke);
+    if visited_mask_pays(outline, drawn, stroke.clip) {
+        if let Some(visited) = &mut scratch.visited {
+            if begin_visited_mask(visited, stroke.clip, drawn) {
+                stroke_by_visited_mask(canvas, visited, outline, stroke);
                 return;
             }
         }
     }
-    stroke_rows(canvas, room, outline, drawn, stroke);
+    stroke_rows(canvas, scratch, outline, drawn, stroke);
 }
 
 /// Strokes the copied lines in a region that contains everything visible of them: through the visited mask if that
 /// costs less, or else by rows of spans.
 fn stroke_copies(
     canvas: &mut Canvas,
-    room: &mut DrawingRoom,
+    scratch: &mut DrawingScratch,
     pays: bool,
     drawn: Region,
     stroke: &Stroke<'_>,
 )
-    requires countable { HasRoomForLayer canvas.old }
-    requires room { length room.old.copies.items ≤ room.old.rows.room }
-    requires near { All HasNearEnds room.old.copies.items }
+    requires countable { HasCapacityForLayer canvas.old }
+    requires capacity { length scratch.old.copies.items ≤ scratch.old.rows.capacity }
+    requires near { All HasNearEnds scratch.old.copies.items }
     requires nib { stroke.now.nib ≡ one_pixel }
-    requires visible { HasStroke one_pixel stroke.now room.old.copies.items canvas.old drawn }
+    requires visible { HasStroke one_pixel stroke.now scratch.old.copies.items canvas.old drawn }
     requires columns { IsOfSide drawn.columns }
     requires rows { IsOfSide drawn.rows }
-    ensures pixels { StrokesLines one_pixel stroke.now room.old.copies.items canvas.old canvas.new }
+    ensures pixels { StrokesLines one_pixel stroke.now scratch.old.copies.items canvas.old canvas.new }
     ensures few { CountsLayer canvas.old canvas.new }
-    ensures room { room.new.rows.room ≡ room.old.rows.room }
+    ensures capacity { scratch.new.rows.capacity ≡ scratch.old.rows.capacity }
 {
     let mut outline = LineList {
-        rest: room.copies.as_slice(),
+        rest: scratch.copies.as_slice(),
     };
     if pays {
-        if let Some(stamps) = &mut room.marks {
-            if begin_stamps(stamps, stroke.clip, drawn) {
-                stroke_by_marks(canvas, stamps, outline, stroke);
+        if let Some(visited) = &mut scratch.visited {
+            if begin_visited_mask(visited, stroke.clip, drawn) {
+                stroke_by_visited_mask(canvas, visited, outline, stroke);
                 return;
             }
         }
     }
-    room.rows
+    scratch
+        .rows
         .begin_stroke(&mut outline, stroke.nib, drawn.rows.from);
-    paint_begun(canvas, room, drawn, stroke);
+    paint_begun(canvas, scratch, drawn, stroke);
 }
 
 /// Strokes the lines of an outline through the visited mask of a region that contains everything visible of them. No
 /// pixel may be marked as visited yet.
-fn stroke_by_marks<O: Outline + Copy>(
+fn stroke_by_visited_mask<O: Outline + Copy>(
     canvas: &mut Canvas,
-    stamps: &mut Stamps,
+    visited: &mut VisitedMask,
     outline: O,
     stroke: &Stroke<'_>,
 )
-    requires countable { HasRoomForLayer canvas.old }
+    requires countable { HasCapacityForLayer canvas.old }
     requires uncut { (placed_value stroke.now.clip.now).cuts ≡ [] }
-    requires none { (x y : ℕ) → is_taken stamps.old x y ≡ false }
-    requires visible { HasStroke one_pixel stroke.now (O.lines outline) canvas.old stamps.old.region }
+    requires none { (x y : ℕ) → is_taken visited.old x y ≡ false }
+    requires visible { HasStroke one_pixel stroke.now (O.lines outline) canvas.old visited.old.region }
     ensures pixels { StrokesLines one_pixel stroke.now (O.lines outline) canvas.old canvas.new }
     ensures few { CountsLayer canvas.old canvas.new }
 {
     writing_law();
     wide_stroke_law();
     whole_law(canvas);
-    stamp_lines(canvas, stamps, outline, stroke.mix);
+    visit_lines(canvas, visited, outline, stroke.mix);
 }
 
 /// Strokes the lines of an outline by rows of spans, in a region that contains everything visible of them.
 pub(crate) fn stroke_rows<O: Outline + Copy>(
     canvas: &mut Canvas,
-    room: &mut DrawingRoom,
+    scratch: &mut DrawingScratch,
     outline: O,
     drawn: Region,
     stroke: &Stroke<'_>,
 )
-    requires countable { HasRoomForLayer canvas.old }
-    requires room { length (O.lines outline) ≤ room.old.rows.room }
+    requires countable { HasCapacityForLayer canvas.old }
+    requires capacity { length (O.lines outline) ≤ scratch.old.rows.capacity }
     requires nib { IsNib stroke.now.nib }
     requires visible { HasStroke stroke.now.nib stroke.now (O.lines outline) canvas.old drawn }
     requires rows { IsOfSide drawn.rows }
     ensures pixels { StrokesLines stroke.now.nib stroke.now (O.lines outline) canvas.old canvas.new }
     ensures few { CountsLayer canvas.old canvas.new }
-    ensures room { room.new.rows.room ≡ room.old.rows.room }
+    ensures capacity { scratch.new.rows.capacity ≡ scratch.old.rows.capacity }
 {
     writing_law();
     whole_law(canvas);
@@ -190,44 +191,56 @@ pub(crate) fn stroke_rows<O: Outline + Copy>(
         return;
     }
     let mut lines = outline;
-    room.rows
+    scratch
+        .rows
         .begin_stroke(&mut lines, stroke.nib, drawn.rows.from);
-    paint_begun(canvas, room, drawn, stroke);
+    paint_begun(canvas, scratch, drawn, stroke);
 }
 
 /// Paints the rows of a stroke. The row buffer has begun with it at the first row of the region, which contains
 /// everything visible of it.
-fn paint_begun(canvas: &mut Canvas, room: &mut DrawingRoom, drawn: Region, stroke: &Stroke<'_>)
-    requires countable { HasRoomForLayer canvas.old }
-    requires begun { HasPart (Lines stroke.now.nib) drawn.rows stroke.now.clip.now drawn.columns room.old.rows canvas.old }
-    ensures pixels { StrokesLines stroke.now.nib stroke.now room.old.rows.lines canvas.old canvas.new }
+fn paint_begun(
+    canvas: &mut Canvas,
+    scratch: &mut DrawingScratch,
+    drawn: Region,
+    stroke: &Stroke<'_>,
+)
+    requires countable { HasCapacityForLayer canvas.old }
+    requires begun { HasPart (Lines stroke.now.nib) drawn.rows stroke.now.clip.now drawn.columns scratch.old.rows canvas.old }
+    ensures pixels { StrokesLines stroke.now.nib stroke.now scratch.old.rows.lines canvas.old canvas.new }
     ensures few { CountsLayer canvas.old canvas.new }
-    ensures room { room.new.rows.room ≡ room.old.rows.room }
+    ensures capacity { scratch.new.rows.capacity ≡ scratch.old.rows.capacity }
 {
     writing_law();
     whole_law(canvas);
     let painter = RowPainter {
         clip: stroke.clip,
         columns: drawn.columns,
-        inks: Inks::Same(full(stroke.mix)),
+        row_ops: RowOps::Same(full(stroke.mix)),
     };
-    paint_rows(canvas, room, Part::Lines(stroke.nib), drawn.rows, &painter);
+    paint_rows(
+        canvas,
+        scratch,
+        Part::Lines(stroke.nib),
+        drawn.rows,
+        &painter,
+    );
 }
 
 /// Strokes the outermost pixels of a box, if it has any.
 pub(crate) fn stroke_box(
     canvas: &mut Canvas,
-    room: &mut DrawingRoom,
+    scratch: &mut DrawingScratch,
     inside: Rect,
     stroke: &Stroke<'_>,
 )
-    requires countable { HasRoomForLayer canvas.old }
-    requires room { 4 ≤ room.old.rows.room }
+    requires countable { HasCapacityForLayer canvas.old }
+    requires capacity { 4 ≤ scratch.old.rows.capacity }
     requires near { IsNearBox inside }
     requires nib { IsNib stroke.now.nib }
     ensures pixels { StrokesLines stroke.now.nib stroke.now (rectangle_lines inside) canvas.old canvas.new }
     ensures few { CountsLayer canvas.old canvas.new }
-    ensures room { room.new.rows.room ≡ room.old.rows.room }
+    ensures capacity { scratch.new.rows.capacity ≡ scratch.old.rows.capacity }
 {
     writing_law();
     whole_law(canvas);
@@ -241,5 +254,5 @@ pub(crate) fn stroke_box(
         bounds: Bounds::Placed(widened(inside, stroke.nib)),
         points: 4,
     };
-    stroke_lines(canvas, room, lines, stroke);
+    stroke_lines(canvas, scratch, lines, stroke);
 }

@@ -3,10 +3,10 @@
 ghost use Rattle.std.specs.Prelude.{◌≡◌, ◌-◌, ◌&&◌, ℕ, not, true};
 ghost use Rattle.span_fill.specs.Spans.{in_region};
 ghost use Rattle.painting.specs.LinePixels.{is_to_step};
-ghost use Rattle.painting.specs.Stamps.{is_taken};
+ghost use Rattle.painting.specs.VisitedMask.{is_taken};
 
 use crate::line_pixels::LinePixels;
-use crate::stamps::Stamps;
+use crate::visited_mask::VisitedMask;
 use canvas::{PixelAt, PixelSource};
 
 /// The pixels of a line's remaining steps that aren't marked as visited. A pixel is marked when it is returned.
@@ -17,14 +17,14 @@ use canvas::{PixelAt, PixelSource};
 #[derive(Drop)]
 pub(crate) struct UntakenPixels<'s> {
     pub(crate) pixels: LinePixels,
-    pub(crate) stamps: &'s mut Stamps,
-    pub(crate) ghost boxed: { (x y : ℕ) → is_to_step pixels.steps x y ≡ true → in_region stamps.now.region x y ≡ true },
+    pub(crate) visited: &'s mut VisitedMask,
+    pub(crate) ghost boxed: { (x y : ℕ) → is_to_step pixels.steps x y ≡ true → in_region visited.now.region x y ≡ true },
 }
 
 impl<'s> PixelSource for UntakenPixels<'s> {
     ghost use Rattle.painting.specs.UntakenPixels.{TakesAll};
 
-    ghost to_come = { λ untaken x y. is_to_step untaken.pixels.steps x y && not (is_taken untaken.stamps.now x y) };
+    ghost to_come = { λ untaken x y. is_to_step untaken.pixels.steps x y && not (is_taken untaken.visited.now x y) };
 
     ghost measure = { λ untaken. untaken.pixels.steps.end - untaken.pixels.steps.next };
 
@@ -32,7 +32,7 @@ impl<'s> PixelSource for UntakenPixels<'s> {
 
     fn next_pixel(&mut self) -> Option<PixelAt> {
         while let Some(pixel) = self.pixels.next_pixel() {
-            if self.stamps.take(pixel.x, pixel.y) {
+            if self.visited.take(pixel.x, pixel.y) {
                 return Some(pixel);
             }
         }

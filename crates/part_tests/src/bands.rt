@@ -99,7 +99,7 @@ fn the_longest_header(rt: HostRuntime) -> Result<(), Fail> {
 }
 
 #[test]
-fn a_full_writer_has_a_front_of_the_rows(rt: HostRuntime) -> Result<(), Fail> {
+fn a_full_writer_has_a_prefix_of_the_rows(rt: HostRuntime) -> Result<(), Fail> {
     let band = Canvas::band(rt.alloc(), 2, 1, 1, GREY)?;
     for most in 0..6 {
         let mut full = Full {
@@ -124,9 +124,9 @@ fn a_full_writer_has_a_front_of_the_rows(rt: HostRuntime) -> Result<(), Fail> {
     Ok(())
 }
 
-// tests/refused_growth_test.py runs this once more for each allocation that can fail.
+// tests/rejected_growth_test.py runs this once more for each allocation that can fail.
 #[test]
-fn a_band_under_refused_growth(rt: HostRuntime) -> Result<(), Fail> {
+fn a_band_under_failed_growth(rt: HostRuntime) -> Result<(), Fail> {
     match Canvas::band(rt.alloc(), 2, 3, 2, GREY) {
         Ok(mut band) => {
             assert!(rt; band.most_rows() == 2);

@@ -36,11 +36,11 @@ impl Write for Slow {
         if self.rested {
             return Err(io::Error::from(ErrorKind::Interrupted));
         }
-        let room = self.most.saturating_sub(self.taken.len());
-        if room == 0 {
+        let capacity = self.most.saturating_sub(self.taken.len());
+        if capacity == 0 {
             return Err(io::Error::from(ErrorKind::StorageFull));
         }
-        let count = buf.len().min(self.a_call).min(room);
+        let count = buf.len().min(self.a_call).min(capacity);
         self.taken.extend_from_slice(&buf[..count])?;
         Ok(count)
     }
@@ -142,7 +142,7 @@ fn a_slow_writer_gets_the_same_text(rt: HostRuntime) -> Result<(), Fail> {
 }
 
 #[test]
-fn a_writer_that_fails_has_a_front_of_the_text(rt: HostRuntime) -> Result<(), Fail> {
+fn a_writer_that_fails_has_a_prefix_of_the_text(rt: HostRuntime) -> Result<(), Fail> {
     let canvas = Canvas::new(rt.alloc(), 2, 2, RED)?;
     let mut whole = Vec::new(rt.alloc());
     canvas.write_ppm(&mut whole)?;
@@ -242,9 +242,9 @@ fn a_large_piece_goes_out_byte_by_byte(rt: HostRuntime) -> Result<(), Fail> {
     Ok(())
 }
 
-// tests/refused_growth_test.py runs this once more for each allocation that can fail.
+// tests/rejected_growth_test.py runs this once more for each allocation that can fail.
 #[test]
-fn a_canvas_under_refused_growth(rt: HostRuntime) -> Result<(), Fail> {
+fn a_canvas_under_failed_growth(rt: HostRuntime) -> Result<(), Fail> {
     match Canvas::new(rt.alloc(), 2, 3, RED) {
         Ok(canvas) => {
             for (x, y) in [(0, 0), (1, 0), (0, 1), (1, 1), (0, 2), (1, 2)] {

@@ -43,7 +43,7 @@ fn passes_over_nothing_but_zeros(rt: HostRuntime) -> Result<(), Fail> {
 }
 
 #[test]
-fn keeps_zeros_behind_other_counts(rt: HostRuntime) -> Result<(), Fail> {
+fn keeps_zeros_after_other_counts(rt: HostRuntime) -> Result<(), Fail> {
     let short = Counts::new16(&[0, 0, 0, 1, 0, 0, 2, 0, 0, 0], 5).ok_or("short counts")?;
     let rest = short.after_zeros();
     same(&rt, rest.len(), 4);

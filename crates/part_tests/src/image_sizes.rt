@@ -55,7 +55,7 @@ fn an_image_has_a_comment_of_each_length(rt: HostRuntime) -> Result<(), AllocErr
 }
 
 #[test]
-fn an_image_has_each_count_of_bytes_behind_it(rt: HostRuntime) -> Result<(), AllocError> {
+fn an_image_has_each_count_of_bytes_after_it(rt: HostRuntime) -> Result<(), AllocError> {
     let mut text = text_of(rt.alloc(), 2, 3, 0)?;
     for count in 0..4100 {
         assert!(rt;

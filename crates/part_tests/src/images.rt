@@ -7,7 +7,7 @@ use std::alloc::Global;
 use std::test::Fail;
 
 /// The width and height that a text is read with, or the error.
-fn sides(alloc: Global, text: &[u8]) -> Result<(u32, u32), ImageError> {
+fn dimensions(alloc: Global, text: &[u8]) -> Result<(u32, u32), ImageError> {
     let canvas = Canvas::from_ppm(alloc, text)?;
     Ok((canvas.width(), canvas.rows()))
 }
@@ -81,13 +81,13 @@ fn comments_stand_in_every_gap(rt: HostRuntime) -> Result<(), Fail> {
         b"P6# 7 7 255\n#\n\t1#\n #\r 1 \r\n#1#\n255 abc".as_slice(),
         b"P6\t\r\n 0001 01 0255\tabc".as_slice(),
     ] {
-        same(&rt, sides(rt.alloc(), text), Ok((1, 1)));
+        same(&rt, dimensions(rt.alloc(), text), Ok((1, 1)));
     }
     Ok(())
 }
 
 #[test]
-fn one_white_byte_stands_behind_the_greatest_value(rt: HostRuntime) -> Result<(), Fail> {
+fn one_white_byte_stands_after_the_greatest_value(rt: HostRuntime) -> Result<(), Fail> {
     let canvas = Canvas::from_ppm(rt.alloc(), b"P6 1 1 255\n#\n ".as_slice())?;
     assert!(rt; canvas.has_pixel(0, 0));
     same(
@@ -100,7 +100,7 @@ fn one_white_byte_stands_behind_the_greatest_value(rt: HostRuntime) -> Result<()
         },
     );
     for text in [b"P6 1 1 255abc".as_slice(), b"P6 1 1 255#\nabc".as_slice()] {
-        same(&rt, sides(rt.alloc(), text), Err(ImageError::BadImage));
+        same(&rt, dimensions(rt.alloc(), text), Err(ImageError::BadImage));
     }
     Ok(())
 }
@@ -132,43 +132,43 @@ fn texts_without_an_image(rt: HostRuntime) -> Result<(), Fail> {
         b"P6 1 1 255 ab".as_slice(),
         b"P6 2 1 255 abcde".as_slice(),
     ] {
-        same(&rt, sides(rt.alloc(), text), Err(ImageError::BadImage));
+        same(&rt, dimensions(rt.alloc(), text), Err(ImageError::BadImage));
     }
     Ok(())
 }
 
 #[test]
-fn bytes_behind_the_raster_are_not_looked_at(rt: HostRuntime) -> Result<(), Fail> {
+fn bytes_after_the_raster_are_not_looked_at(rt: HostRuntime) -> Result<(), Fail> {
     same(
         &rt,
-        sides(rt.alloc(), b"P6 1 1 255 abcd".as_slice()),
+        dimensions(rt.alloc(), b"P6 1 1 255 abcd".as_slice()),
         Ok((1, 1)),
     );
     same(
         &rt,
-        sides(rt.alloc(), b"P6 1 1 255 abcP6 2 2 255 ".as_slice()),
+        dimensions(rt.alloc(), b"P6 1 1 255 abcP6 2 2 255 ".as_slice()),
         Ok((1, 1)),
     );
     Ok(())
 }
 
 #[test]
-fn the_longest_sides(rt: HostRuntime) -> Result<(), Fail> {
+fn the_longest_dimensions(rt: HostRuntime) -> Result<(), Fail> {
     let wide = with_zeros(rt.alloc(), b"P6 8192 1 255 ".as_slice(), 24_576)?;
-    same(&rt, sides(rt.alloc(), wide.as_slice()), Ok((8_192, 1)));
+    same(&rt, dimensions(rt.alloc(), wide.as_slice()), Ok((8_192, 1)));
     let short = with_zeros(rt.alloc(), b"P6 8192 1 255 ".as_slice(), 24_575)?;
     same(
         &rt,
-        sides(rt.alloc(), short.as_slice()),
+        dimensions(rt.alloc(), short.as_slice()),
         Err(ImageError::BadImage),
     );
     let high = with_zeros(rt.alloc(), b"P6 1 8192 255 ".as_slice(), 24_576)?;
-    same(&rt, sides(rt.alloc(), high.as_slice()), Ok((1, 8_192)));
+    same(&rt, dimensions(rt.alloc(), high.as_slice()), Ok((1, 8_192)));
     for head in [b"P6 8193 1 255 ".as_slice(), b"P6 1 8193 255 ".as_slice()] {
         let long = with_zeros(rt.alloc(), head, 24_579)?;
         same(
             &rt,
-            sides(rt.alloc(), long.as_slice()),
+            dimensions(rt.alloc(), long.as_slice()),
             Err(ImageError::BadImage),
         );
     }
@@ -229,9 +229,9 @@ fn errors_display_their_names(rt: HostRuntime) -> Result<(), Fail> {
     Ok(())
 }
 
-// tests/refused_growth_test.py runs this once more for each allocation that can fail.
+// tests/rejected_growth_test.py runs this once more for each allocation that can fail.
 #[test]
-fn an_image_under_refused_growth(rt: HostRuntime) -> Result<(), Fail> {
+fn an_image_under_failed_growth(rt: HostRuntime) -> Result<(), Fail> {
     match Canvas::from_ppm(rt.alloc(), b"P6 1 2 255 abcdef".as_slice()) {
         Ok(canvas) => {
             assert!(rt; canvas.has_pixel(0, 0) && canvas.has_pixel(0, 1));

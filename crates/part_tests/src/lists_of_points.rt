@@ -66,7 +66,7 @@ fn reads_long_points(rt: HostRuntime) -> Result<(), Fail> {
 }
 
 #[test]
-fn refuses_points_that_are_not_there(rt: HostRuntime) -> Result<(), Fail> {
+fn rejects_points_that_are_not_there(rt: HostRuntime) -> Result<(), Fail> {
     assert!(rt; Points::new16(&SHORT[1..], 3).is_none());
     assert!(rt; Points::new32(&LONG[..23], 3).is_none());
     // 4 or 8 times these counts is 2^64 or more
@@ -116,7 +116,7 @@ fn reads_counts_without_a_sign(rt: HostRuntime) -> Result<(), Fail> {
 }
 
 #[test]
-fn refuses_counts_that_do_not_add_up(rt: HostRuntime) -> Result<(), Fail> {
+fn rejects_counts_that_do_not_add_up(rt: HostRuntime) -> Result<(), Fail> {
     let row = Points::new16(&ROW, 5).ok_or("five points")?;
     for (counts, fits) in [
         ([2, 0, 3, 0], true),
@@ -190,7 +190,7 @@ fn numbers_begin_with_their_lowest_byte(rt: HostRuntime) {
 }
 
 #[test]
-fn has_the_least_box(rt: HostRuntime) -> Result<(), Fail> {
+fn has_the_bounding_box(rt: HostRuntime) -> Result<(), Fail> {
     let short = Points::new16(&SHORT, 3).ok_or("three points")?;
     let around_short = Rect {
         l: -32768,

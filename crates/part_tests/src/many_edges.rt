@@ -92,7 +92,7 @@ fn check_fill(
     requires begun { rows.old.work ≡ filling rule }
     requires next { rows.old.next ≡ 0 }
     requires interval { interval.to ≤ 8192 }
-    ensures { rows.new.room ≡ rows.old.room }
+    ensures { rows.new.capacity ≡ rows.old.capacity }
 {
     check_rows(rt, rows, interval, wanted[0]);
     check_rows(rt, rows, interval, wanted[1]);
@@ -101,8 +101,8 @@ fn check_fill(
 
 /// A pixel is inside if an odd number of lines is to its left.
 fn even_odd(rt: &impl Abort, rows: &mut RowBuf, list: LineList)
-    requires { length list.rest.now ≤ rows.old.room }
-    ensures { rows.new.room ≡ rows.old.room }
+    requires { length list.rest.now ≤ rows.old.capacity }
+    ensures { rows.new.capacity ≡ rows.old.capacity }
 {
     let (mut first, mut second) = (list, list);
     let early = [span(0, 1), span(2, 4), span(5, 6), span(7, 8)];
@@ -132,8 +132,8 @@ fn even_odd(rt: &impl Abort, rows: &mut RowBuf, list: LineList)
 /// A pixel is inside if the number of lines to its left that run downwards differs from the number of those that run
 /// upwards.
 fn non_zero(rt: &impl Abort, rows: &mut RowBuf, list: LineList)
-    requires { length list.rest.now ≤ rows.old.room }
-    ensures { rows.new.room ≡ rows.old.room }
+    requires { length list.rest.now ≤ rows.old.capacity }
+    ensures { rows.new.capacity ≡ rows.old.capacity }
 {
     let (mut first, mut second) = (list, list);
     let early = [span(0, 1), span(2, 8)];

@@ -89,7 +89,7 @@ fn a_placeable_box_lands_on_its_frame(rt: HostRuntime) -> Result<(), Fail> {
 }
 
 #[test]
-fn a_frame_has_sides_from_1_to_its_limit(rt: HostRuntime) {
+fn a_frame_has_dimensions_from_1_to_its_limit(rt: HostRuntime) {
     let limit = 268435456;
     for (width, height, is_frame) in [
         (1, 1, true),

@@ -44,7 +44,7 @@ fn each_record_is_a_step_with_its_number(rt: HostRuntime) -> Result<(), Fail> {
 }
 
 #[test]
-fn bytes_behind_the_end_are_noted_with_the_end(rt: HostRuntime) -> Result<(), Fail> {
+fn bytes_after_the_end_are_noted_with_the_end(rt: HostRuntime) -> Result<(), Fail> {
     let mut file = Vec::from_slice(rt.alloc(), &PIXEL_AND_END)?;
     file.push(0)?;
     let mut source = WmfOps::new(file.as_slice());
@@ -57,8 +57,8 @@ fn bytes_behind_the_end_are_noted_with_the_end(rt: HostRuntime) -> Result<(), Fa
 
 #[test]
 fn a_fault_comes_again_at_each_call(rt: HostRuntime) -> Result<(), Fail> {
-    let front = PIXEL_AND_END.get(..19).ok_or("a front")?;
-    let mut source = WmfOps::new(front);
+    let prefix = PIXEL_AND_END.get(..19).ok_or("a front")?;
+    let mut source = WmfOps::new(prefix);
     assert!(rt; source.next_op()? == Some(pixel()));
     same(&rt, source.next_op().err(), Some(RecordFault::NoEnd));
     same(&rt, source.next_op().err(), Some(RecordFault::NoEnd));

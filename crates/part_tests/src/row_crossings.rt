@@ -90,9 +90,9 @@ fn check_whole(
     interval: Span,
     wanted: [Row<'_>; 6],
 )
-    requires count { length list.rest.now ≤ rows.old.room }
+    requires count { length list.rest.now ≤ rows.old.capacity }
     requires interval { interval.to ≤ 8192 }
-    ensures { rows.new.room ≡ rows.old.room }
+    ensures { rows.new.capacity ≡ rows.old.capacity }
 {
     let mut outline = list;
     rows.begin_fill(&mut outline, FillRule::EvenOdd, 0);
@@ -105,15 +105,15 @@ fn check_whole(
 }
 
 /// The same from row 8,191 on, and then for the row after it, which is on no surface.
-fn check_last(rt: &impl Abort, rows: &mut RowBuf, list: LineList, last: Row<'_>, behind: Row<'_>)
-    requires { length list.rest.now ≤ rows.old.room }
-    ensures { rows.new.room ≡ rows.old.room }
+fn check_last(rt: &impl Abort, rows: &mut RowBuf, list: LineList, last: Row<'_>, after: Row<'_>)
+    requires { length list.rest.now ≤ rows.old.capacity }
+    ensures { rows.new.capacity ≡ rows.old.capacity }
 {
     let mut outline = list;
     rows.begin_fill(&mut outline, FillRule::NonZero, 8191);
     check_row(rt, rows, &[], Span { from: 0, to: 8192 }, last);
     rows.find_crossings();
-    check_crossings(rt, rows.crossings(), behind.crossings);
+    check_crossings(rt, rows.crossings(), after.crossings);
     same(rt, rows.spans(), last.spans);
 }
 
@@ -189,7 +189,7 @@ fn lines_that_lie_on_each_other_are_each_crossed_once(rt: HostRuntime) -> Result
 }
 
 #[test]
-fn the_row_behind_the_last_of_a_surface_has_crossings(rt: HostRuntime) -> Result<(), Fail> {
+fn the_row_after_the_last_of_a_surface_has_crossings(rt: HostRuntime) -> Result<(), Fail> {
     // Row y is crossed half a column to the right of column y - 8,190.
     let mut lines = Vec::new(rt.alloc());
     put_lines(&mut lines, 1, line(point(0, 8190), point(4, 8194)))?;

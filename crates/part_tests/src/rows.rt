@@ -4,10 +4,10 @@ use crate::comparing::same;
 use span_fill::{OutOfMemory, RowBuf};
 use std::test::Fail;
 
-// tests/refused_growth_test.py runs this once more for each allocation that can fail. After a failure the buffer is
+// tests/rejected_growth_test.py runs this once more for each allocation that can fail. After a failure the buffer is
 // unchanged, and a second call allocates the memory.
 #[test]
-fn room_is_made_under_refused_growth(rt: HostRuntime) -> Result<(), Fail> {
+fn capacity_is_reserved_under_failed_growth(rt: HostRuntime) -> Result<(), Fail> {
     let mut rows = RowBuf::new(rt.alloc());
     same(&rt, rows.reserve(0), Ok(()));
     if rows.reserve(4) == Err(OutOfMemory) {

@@ -40,7 +40,7 @@ fn taking(most: usize) -> Taker {
 }
 
 /// Widths and heights up to the largest number of 32 bits: powers of ten and of two, and their neighbours.
-const GREAT_SIDES: [u32; 15] = [
+const GREAT_DIMENSIONS: [u32; 15] = [
     65535,
     65536,
     65537,
@@ -61,11 +61,11 @@ const GREAT_SIDES: [u32; 15] = [
 /// Whether this many bytes of a text are sent in full to a writer that accepts at most `most` bytes per call. Each byte
 /// is 1.
 fn is_sent(text: &[u8], length: usize, most: usize) -> bool {
-    let Some(front) = text.get(..length) else {
+    let Some(prefix) = text.get(..length) else {
         return false;
     };
     let mut out = taking(most);
-    send(&mut out, front).is_ok() && out.bytes == length && out.sum == length as u64
+    send(&mut out, prefix).is_ok() && out.bytes == length && out.sum == length as u64
 }
 
 /// Whether a header for this size is written as ppm(5) requires.
@@ -113,7 +113,7 @@ fn a_header_has_each_side(rt: HostRuntime) -> Result<(), AllocError> {
         assert!(rt; is_header(rt.alloc(), 1, side)?, "1 by {side}");
         assert!(rt; is_header(rt.alloc(), side, side)?, "{side} by {side}");
     }
-    for side in GREAT_SIDES {
+    for side in GREAT_DIMENSIONS {
         assert!(rt; is_header(rt.alloc(), side, 1)?, "{side} by 1");
         assert!(rt; is_header(rt.alloc(), 1, side)?, "1 by {side}");
     }

@@ -7,7 +7,7 @@ use span_fill::{OutOfMemory, RowBuf};
 use std::alloc::Global;
 
 /// Powers of two above the counts that are tried one by one, and their neighbours. No count of lines exceeds 2^20.
-const BESIDE_POWERS: [usize; 14] = [
+const OUTSIDE_POWERS: [usize; 14] = [
     65535, 65536, 65537, 131071, 131072, 131073, 262143, 262144, 262145, 524287, 524288, 524289,
     1048575, 1048576,
 ];
@@ -58,7 +58,7 @@ fn a_canvas_has_each_width_and_each_height(rt: HostRuntime) {
 }
 
 #[test]
-fn a_canvas_has_each_two_small_sides(rt: HostRuntime) {
+fn a_canvas_has_each_two_small_dimensions(rt: HostRuntime) {
     for area in 0..10_000 {
         let width = area % 100 + 1;
         let height = area / 100 + 1;
@@ -67,7 +67,7 @@ fn a_canvas_has_each_two_small_sides(rt: HostRuntime) {
 }
 
 #[test]
-fn rows_have_room_for_each_count_of_lines(rt: HostRuntime) {
+fn rows_have_capacity_for_each_count_of_lines(rt: HostRuntime) {
     for lines in 0..40_001 {
         assert!(rt; has_rows(rt.alloc(), lines), "{lines}");
     }
@@ -75,20 +75,20 @@ fn rows_have_room_for_each_count_of_lines(rt: HostRuntime) {
         assert!(rt; has_rows(rt.alloc(), 1023 * part), "{part}");
         assert!(rt; has_rows(rt.alloc(), 1000 * part), "{part}");
     }
-    for lines in BESIDE_POWERS {
+    for lines in OUTSIDE_POWERS {
         assert!(rt; has_rows(rt.alloc(), lines), "{lines}");
     }
 }
 
 #[test]
-fn tables_have_room_for_each_count_of_objects(rt: HostRuntime) {
+fn tables_have_capacity_for_each_count_of_objects(rt: HostRuntime) {
     for slots in 0..65_537 {
         assert!(rt; has_tables(rt.alloc(), slots), "{slots}");
     }
 }
 
 #[test]
-fn rows_that_have_room_get_more(rt: HostRuntime) -> Result<(), OutOfMemory> {
+fn rows_that_have_capacity_get_more(rt: HostRuntime) -> Result<(), OutOfMemory> {
     let mut rows = RowBuf::new(rt.alloc());
     for lines in 0..10_001 {
         rows.reserve(lines)?;

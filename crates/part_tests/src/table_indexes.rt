@@ -8,7 +8,7 @@ use std::alloc::Global;
 const FONT: Object<'static> = Object::Font;
 
 /// Powers of two above the indexes that are tried one by one, and their neighbours.
-const BESIDE_POWERS: [u32; 9] = [
+const OUTSIDE_POWERS: [u32; 9] = [
     16383, 16384, 16385, 32767, 32768, 32769, 65532, 65533, 65534,
 ];
 
@@ -37,8 +37,8 @@ fn is_put(table: &mut Given<'static>, index: u32) -> bool {
 fn is_last(alloc: Global, index: u32) -> bool {
     let handles = u16::try_from(index.wrapping_add(1)).unwrap_or(0);
     let mut table = Given::new(alloc, handles);
-    let behind = Some(Handle(index.wrapping_add(1)));
-    table.create(behind, FONT) == Err(Fault::Record(RecordFault::NoSuchHandle))
+    let after = Some(Handle(index.wrapping_add(1)));
+    table.create(after, FONT) == Err(Fault::Record(RecordFault::NoSuchHandle))
         && is_put(&mut table, index)
 }
 
@@ -78,9 +78,9 @@ fn an_object_is_put_at_each_index_in_order(rt: HostRuntime) {
         assert!(rt; is_put(&mut table, index), "{index}");
     }
     for index in 65535..66_000 {
-        let refused = Err(Fault::Record(RecordFault::NoSuchHandle));
+        let rejected = Err(Fault::Record(RecordFault::NoSuchHandle));
         assert!(rt;
-            table.create(Some(Handle(index)), FONT) == refused,
+            table.create(Some(Handle(index)), FONT) == rejected,
             "{index}"
         );
     }
@@ -91,7 +91,7 @@ fn the_first_object_is_put_at_each_index(rt: HostRuntime) {
     for index in 1..8194 {
         assert!(rt; is_last(rt.alloc(), index), "{index}");
     }
-    for index in BESIDE_POWERS {
+    for index in OUTSIDE_POWERS {
         assert!(rt; is_last(rt.alloc(), index), "{index}");
     }
 }

@@ -69,9 +69,9 @@ fn an_index_is_given_once(rt: HostRuntime) -> Result<(), Fail> {
     Ok(())
 }
 
-// tests/refused_growth_test.py runs this once more for each allocation that can fail.
+// tests/rejected_growth_test.py runs this once more for each allocation that can fail.
 #[test]
-fn a_create_under_refused_growth(rt: HostRuntime) -> Result<(), Fail> {
+fn a_create_under_failed_growth(rt: HostRuntime) -> Result<(), Fail> {
     let mut table = LowestFree::new(rt.alloc());
     for index in 0..100 {
         let mut made = table.create(None, FONT);
@@ -91,9 +91,9 @@ fn a_create_under_refused_growth(rt: HostRuntime) -> Result<(), Fail> {
     Ok(())
 }
 
-// tests/refused_growth_test.py runs this once more for each allocation that can fail.
+// tests/rejected_growth_test.py runs this once more for each allocation that can fail.
 #[test]
-fn a_given_index_under_refused_growth(rt: HostRuntime) -> Result<(), Fail> {
+fn a_given_index_under_failed_growth(rt: HostRuntime) -> Result<(), Fail> {
     let mut table = Given::new(rt.alloc(), 1000);
     for index in [2, 900, 1, 999] {
         let at = Handle(index);
@@ -108,9 +108,9 @@ fn a_given_index_under_refused_growth(rt: HostRuntime) -> Result<(), Fail> {
     Ok(())
 }
 
-// tests/refused_growth_test.py runs this once more for each allocation that can fail.
+// tests/rejected_growth_test.py runs this once more for each allocation that can fail.
 #[test]
-fn a_reserve_under_refused_growth(rt: HostRuntime) -> Result<(), Fail> {
+fn a_reserve_under_failed_growth(rt: HostRuntime) -> Result<(), Fail> {
     let mut table = Given::new(rt.alloc(), 500);
     if let Err(fault) = table.reserve(500) {
         same(&rt, fault, Fault::OutOfMemory);

@@ -51,7 +51,7 @@ fn is_text(alloc: Global, width: u32, height: u32) -> bool {
 }
 
 /// The width and height of a surface with this many pixels, one of them small. None for a prime.
-fn sides_of(pixels: u32) -> Option<(u32, u32)> {
+fn dimensions_of(pixels: u32) -> Option<(u32, u32)> {
     for width in 2..111 {
         if pixels % width == 0 {
             return Some((width, pixels / width));
@@ -72,7 +72,7 @@ fn a_text_has_each_count_of_pixels_in_one_row_or_column(rt: HostRuntime) {
 fn a_text_has_each_count_of_pixels_of_three_pieces(rt: HostRuntime) {
     // A piece has 4,096 pixels.
     for pixels in 8193..12290 {
-        if let Some((width, height)) = sides_of(pixels) {
+        if let Some((width, height)) = dimensions_of(pixels) {
             assert!(rt; is_text(rt.alloc(), width, height), "{width} by {height}");
         }
     }

@@ -2,8 +2,8 @@
 
 use crate::certificates::{CERTIFICATE, POLYGON};
 use crate::files::framed;
-use crate::playing::colour;
 use crate::runs::{BLACK, Shape, run};
+use crate::worked_files::colour;
 use mapping::Colour;
 use player::play_bands;
 use preflight_cert::check;

@@ -3,7 +3,7 @@
 use crate::certificates::{CERTIFICATE, POLYGON};
 use crate::comparing::same;
 use crate::files::placeable;
-use crate::playing::BLUE;
+use crate::worked_files::BLUE;
 use canvas::{Counting, FaultCount};
 use draw_ops::Fault;
 use mapping::Colour;
@@ -229,17 +229,17 @@ fn a_surface_above_the_bound_has_no_text(rt: HostRuntime) -> Result<(), Fail> {
 }
 
 #[test]
-fn an_output_that_is_full_has_a_front_of_the_text(rt: HostRuntime) -> Result<(), Fail> {
+fn an_output_that_is_full_has_a_prefix_of_the_text(rt: HostRuntime) -> Result<(), Fail> {
     let cleared = check(rt.alloc(), &POLYGON, &CERTIFICATE)?;
     // The header has 11 bytes, and each row has 12: the output is full in the header, and in each band.
-    for room in 0..59usize {
+    for capacity in 0..59usize {
         for rows in [1, 3] {
             let mut out = [0xa5u8; 64];
-            let mut front = &mut out[..room];
-            let played = play_bands(rt.alloc(), &cleared, 4, 4, BLUE, rows, &mut front);
-            same(&rt, (room, played), (room, Err(Fault::WriteFault)));
-            same(&rt, &out[..room], &TEXT[..room]);
-            same(&rt, out[room], 0xa5);
+            let mut prefix = &mut out[..capacity];
+            let played = play_bands(rt.alloc(), &cleared, 4, 4, BLUE, rows, &mut prefix);
+            same(&rt, (capacity, played), (capacity, Err(Fault::WriteFault)));
+            same(&rt, &out[..capacity], &TEXT[..capacity]);
+            same(&rt, out[capacity], 0xa5);
         }
     }
     Ok(())
@@ -266,9 +266,9 @@ fn a_writer_that_counts_has_one_fault_where_it_is_full(rt: HostRuntime) -> Resul
     Ok(())
 }
 
-// tests/refused_growth_test.py runs this once more for each allocation that can fail.
+// tests/rejected_growth_test.py runs this once more for each allocation that can fail.
 #[test]
-fn bands_under_refused_growth(rt: HostRuntime) -> Result<(), Fail> {
+fn bands_under_failed_growth(rt: HostRuntime) -> Result<(), Fail> {
     let Ok(cleared) = check(rt.alloc(), &POLYGON, &CERTIFICATE) else {
         return Ok(());
     };

@@ -2,14 +2,14 @@
 //! and as brushes.
 
 use crate::bitmap_files::{Bitmap, DEPTHS, blit, tiles};
-use crate::playing::{BLUE, colour};
 use crate::runs::{Shape, run};
+use crate::worked_files::{BLUE, colour};
 use mapping::Colour;
 use part_tests::RED;
 use std::alloc::{AllocError, Global};
 
 /// Sides beside powers of two, up to the largest of a surface.
-const GREAT_SIDES: [u16; 14] = [
+const GREAT_DIMENSIONS: [u16; 14] = [
     127, 128, 129, 255, 256, 257, 1023, 1024, 1025, 4095, 4096, 4097, 8191, 8192,
 ];
 
@@ -94,7 +94,7 @@ fn a_bitmap_has_each_small_size(rt: HostRuntime) -> Result<(), AllocError> {
 
 #[test]
 fn a_bitmap_has_greater_sizes(rt: HostRuntime) -> Result<(), AllocError> {
-    for side in GREAT_SIDES {
+    for side in GREAT_DIMENSIONS {
         assert!(rt; is_painted(rt.alloc(), side, 1)?, "{side} by 1");
         assert!(rt; is_painted(rt.alloc(), 3, side)?, "3 by {side}");
     }

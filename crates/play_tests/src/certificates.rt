@@ -58,8 +58,8 @@ fn prepares(
 
 /// A file has no certificate for a bound, because of this fault in this record.
 fn stops(rt: &impl Abort, alloc: Global, file: &[u8], side: u32, number: u32, fault: RecordFault) {
-    let refused = prepare(alloc, file, side, side).err();
-    same(rt, refused, Some(Refusal::at(number, fault)));
+    let rejected = prepare(alloc, file, side, side).err();
+    same(rt, rejected, Some(Refusal::at(number, fault)));
 }
 
 #[test]
@@ -197,14 +197,14 @@ fn each_number_of_a_certificate_is_looked_at(rt: HostRuntime) -> Result<(), Fail
         (56, 3, Some(small)),
     ] {
         let text = with_byte(rt.alloc(), place, byte)?;
-        let refused = check(rt.alloc(), &POLYGON, text.as_slice()).err();
-        same(&rt, (place, byte, refused), (place, byte, refusal));
+        let rejected = check(rt.alloc(), &POLYGON, text.as_slice()).err();
+        same(&rt, (place, byte, rejected), (place, byte, refusal));
     }
     Ok(())
 }
 
 #[test]
-fn the_first_of_two_faults_is_told(rt: HostRuntime) -> Result<(), Fail> {
+fn the_first_of_two_faults_is_reported(rt: HostRuntime) -> Result<(), Fail> {
     // The box lacks a point and the writes are too few; then the writes and a need are too small.
     for (longs, refusal) in [
         (
@@ -225,8 +225,8 @@ fn the_first_of_two_faults_is_told(rt: HostRuntime) -> Result<(), Fail> {
         ),
     ] {
         let text = certificate(rt.alloc(), &longs)?;
-        let refused = check(rt.alloc(), &POLYGON, text.as_slice()).err();
-        same(&rt, refused, Some(refusal));
+        let rejected = check(rt.alloc(), &POLYGON, text.as_slice()).err();
+        same(&rt, rejected, Some(refusal));
     }
     Ok(())
 }
@@ -265,8 +265,8 @@ fn entries_stand_in_the_order_of_their_drawings(rt: HostRuntime) -> Result<(), F
             longs.extend_from_slice(&entry)?;
         }
         let text = certificate(rt.alloc(), longs.as_slice())?;
-        let refused = check(rt.alloc(), &file, text.as_slice()).err();
-        same(&rt, (count, refused), (count, refusal));
+        let rejected = check(rt.alloc(), &file, text.as_slice()).err();
+        same(&rt, (count, rejected), (count, refusal));
     }
     for (count, refusal) in [
         (1, Some(Refusal::at(1, RecordFault::WrongEntry))),
@@ -278,21 +278,21 @@ fn entries_stand_in_the_order_of_their_drawings(rt: HostRuntime) -> Result<(), F
             longs.extend_from_slice(&second)?;
         }
         let text = certificate(rt.alloc(), longs.as_slice())?;
-        let refused = check(rt.alloc(), &file, text.as_slice()).err();
-        same(&rt, (count, refused), (count, refusal));
+        let rejected = check(rt.alloc(), &file, text.as_slice()).err();
+        same(&rt, (count, rejected), (count, refusal));
     }
     Ok(())
 }
 
 #[test]
-fn an_entry_that_is_left_over_is_refused_at_the_end_record(rt: HostRuntime) -> Result<(), Fail> {
+fn an_entry_that_is_left_over_is_rejected_at_the_end_record(rt: HostRuntime) -> Result<(), Fail> {
     let mut text = Vec::from_slice(rt.alloc(), &CERTIFICATE)?;
     if let Some(count) = text.get_mut(36) {
         *count = 2;
     }
     text.extend_from_slice(&CERTIFICATE[40..])?;
-    let refused = check(rt.alloc(), &POLYGON, text.as_slice()).err();
-    same(&rt, refused, Some(Refusal::at(1, RecordFault::WrongEntry)));
+    let rejected = check(rt.alloc(), &POLYGON, text.as_slice()).err();
+    same(&rt, rejected, Some(Refusal::at(1, RecordFault::WrongEntry)));
     Ok(())
 }
 
@@ -307,13 +307,13 @@ fn what_is_off_at_the_bound_may_be_on_at_less(rt: HostRuntime) -> Result<(), Fai
         rt.alloc(),
         &[8192, 1, 8192, 0, 0, 0, 2, 0, 1, 1, 0, 0, 32_769, 0],
     )?;
-    let refused = check(rt.alloc(), &file, wide.as_slice()).err();
-    same(&rt, refused, Some(Refusal::at(1, RecordFault::OffPlane)));
+    let rejected = check(rt.alloc(), &file, wide.as_slice()).err();
+    same(&rt, rejected, Some(Refusal::at(1, RecordFault::OffPlane)));
     Ok(())
 }
 
 #[test]
-fn a_bound_and_a_file_are_refused(rt: HostRuntime) -> Result<(), Fail> {
+fn a_bound_and_a_file_are_rejected(rt: HostRuntime) -> Result<(), Fail> {
     let bad = Refusal::of_file(Fault::BadBound);
     for (width, height) in [(0, 4), (4, 0), (8193, 4), (4, 8193)] {
         same(

@@ -2,7 +2,7 @@
 
 use crate::certificates::{CERTIFICATE, POLYGON};
 use crate::comparing::same;
-use crate::playing::{BLUE, colour};
+use crate::worked_files::{BLUE, colour};
 use canvas::Canvas;
 use draw_ops::Fault;
 use mapping::Colour;
@@ -51,8 +51,8 @@ fn a_surface_above_the_bound_is_left_as_it_is(rt: HostRuntime) -> Result<(), Fai
     let cleared = check(rt.alloc(), &POLYGON, &CERTIFICATE)?;
     for (width, height) in [(5, 4), (4, 5), (8192, 1)] {
         let mut canvas = Canvas::new(rt.alloc(), width, height, BLUE)?;
-        let refused = Err(Fault::SurfaceTooLarge);
-        same(&rt, play(rt.alloc(), &cleared, &mut canvas), refused);
+        let rejected = Err(Fault::SurfaceTooLarge);
+        same(&rt, play(rt.alloc(), &cleared, &mut canvas), rejected);
         same(&rt, canvas.writes(), 0);
         same(&rt, colour(&canvas, 0, 0), Some(BLUE));
     }

@@ -32,8 +32,6 @@ mod paths;
 #[cfg(test)]
 mod pen_widths;
 #[cfg(test)]
-mod playing;
-#[cfg(test)]
 mod playing_over;
 #[cfg(test)]
 mod point_counts;
@@ -49,3 +47,5 @@ mod sizes;
 mod state_depths;
 #[cfg(test)]
 mod stepping;
+#[cfg(test)]
+mod worked_files;

@@ -18,7 +18,7 @@ fn has_machine(alloc: Global, depth: usize, slots: usize, pieces: usize) -> bool
 }
 
 #[test]
-fn a_machine_has_room_for_each_depth(rt: HostRuntime) {
+fn a_machine_has_capacity_for_each_depth(rt: HostRuntime) {
     for depth in 0..257 {
         assert!(rt; has_machine(rt.alloc(), depth, 0, 0), "{depth}");
         assert!(rt; has_machine(rt.alloc(), depth, 1024, MAX_PIECES), "{depth}");
@@ -26,7 +26,7 @@ fn a_machine_has_room_for_each_depth(rt: HostRuntime) {
 }
 
 #[test]
-fn a_machine_has_room_for_each_count_of_objects(rt: HostRuntime) {
+fn a_machine_has_capacity_for_each_count_of_objects(rt: HostRuntime) {
     for slots in 0..65_537 {
         assert!(rt; has_machine(rt.alloc(), 0, slots, 0), "{slots}");
     }
@@ -36,7 +36,7 @@ fn a_machine_has_room_for_each_count_of_objects(rt: HostRuntime) {
 }
 
 #[test]
-fn a_machine_has_room_for_each_count_of_pieces(rt: HostRuntime) {
+fn a_machine_has_capacity_for_each_count_of_pieces(rt: HostRuntime) {
     for pieces in 0..65_537 {
         assert!(rt; has_machine(rt.alloc(), 0, 0, pieces), "{pieces}");
     }

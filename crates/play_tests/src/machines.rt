@@ -91,10 +91,10 @@ fn needs_are_the_greatest_since_the_start(rt: HostRuntime) -> Result<(), Fail> {
     Ok(())
 }
 
-// tests/refused_growth_test.py runs this once more for each allocation that can fail. After a failure, the machine is
+// tests/rejected_growth_test.py runs this once more for each allocation that can fail. After a failure, the machine is
 // as it was before the step.
 #[test]
-fn steps_under_refused_growth(rt: HostRuntime) -> Result<(), Fail> {
+fn steps_under_failed_growth(rt: HostRuntime) -> Result<(), Fail> {
     let opened = open_file(&DOT)?;
     let mut machine = machine(rt.alloc(), &opened);
     for count in 1..100 {
@@ -112,9 +112,9 @@ fn steps_under_refused_growth(rt: HostRuntime) -> Result<(), Fail> {
     Ok(())
 }
 
-// tests/refused_growth_test.py runs this once more for each allocation that can fail.
+// tests/rejected_growth_test.py runs this once more for each allocation that can fail.
 #[test]
-fn reserved_steps_under_refused_growth(rt: HostRuntime) -> Result<(), Fail> {
+fn reserved_steps_under_failed_growth(rt: HostRuntime) -> Result<(), Fail> {
     let opened = open_file(&DOT)?;
     let mut machine = machine(rt.alloc(), &opened);
     if let Err(fault) = machine.reserve(100, 100, 0) {

@@ -1,8 +1,8 @@
 //! Files with each count of saved states, of objects, of pieces of a path, of cuts and of drawings, played whole and in bands.
 
 use crate::files::{bounded, framed, placeable};
-use crate::playing::colour;
 use crate::runs::{BLACK, Shape, has_certificate, run};
+use crate::worked_files::colour;
 use part_tests::RED;
 use std::alloc::{AllocError, Global};
 

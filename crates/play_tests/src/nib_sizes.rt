@@ -1,8 +1,8 @@
 //! Nibs of each count of columns and of each count of rows, where a unit of the page is a whole side of the surface.
 
 use crate::files::framed;
-use crate::playing::colour;
 use crate::runs::{BLACK, Shape, run};
+use crate::worked_files::colour;
 use draw_ops::{Fault, RecordFault};
 use preflight_cert::{Refusal, prepare};
 use std::alloc::{AllocError, Global};
@@ -112,7 +112,7 @@ fn is_too_wide(alloc: Global, file: &[u8], width: u32, height: u32) -> bool {
 }
 
 #[test]
-fn a_wider_nib_is_refused(rt: HostRuntime) -> Result<(), AllocError> {
+fn a_wider_nib_is_rejected(rt: HostRuntime) -> Result<(), AllocError> {
     let line = page(rt.alloc(), true, &LINE)?;
     let column = page(rt.alloc(), false, &COLUMN)?;
     for side in 4097..8193 {

@@ -2,8 +2,8 @@
 
 use crate::certificates::POLYGON;
 use crate::files::framed;
-use crate::playing::{BLUE, colour};
 use crate::runs::{BLACK, Shape, has_certificate, run};
+use crate::worked_files::{BLUE, colour};
 use mapping::Colour;
 use part_tests::RED;
 use std::alloc::{AllocError, Global};
@@ -11,7 +11,7 @@ use std::alloc::{AllocError, Global};
 const GREEN: Colour = Colour { r: 0, g: 255, b: 0 };
 
 /// Sides beside powers of two, and the last two.
-const SOME_SIDES: [u16; 20] = [
+const SOME_DIMENSIONS: [u16; 20] = [
     1, 2, 7, 8, 9, 63, 64, 65, 255, 256, 257, 1023, 1024, 1025, 2049, 4095, 4096, 4097, 8191, 8192,
 ];
 
@@ -91,7 +91,7 @@ fn a_page_has_many_heights(rt: HostRuntime) -> Result<(), AllocError> {
 }
 
 #[test]
-fn a_page_has_each_two_small_sides(rt: HostRuntime) -> Result<(), AllocError> {
+fn a_page_has_each_two_small_dimensions(rt: HostRuntime) -> Result<(), AllocError> {
     for area in 0..1600u16 {
         let (width, height) = (area % 40 + 1, area / 40 + 1);
         assert!(rt;
@@ -99,7 +99,7 @@ fn a_page_has_each_two_small_sides(rt: HostRuntime) -> Result<(), AllocError> {
             "{width} by {height}"
         );
     }
-    for width in SOME_SIDES {
+    for width in SOME_DIMENSIONS {
         for height in [1, 2, 3, 33, 129] {
             assert!(rt;
                 is_page(rt.alloc(), width, height, 10)?,
@@ -172,7 +172,7 @@ fn a_polygon_has_many_heights(rt: HostRuntime) {
     for part in 410..1638u32 {
         assert!(rt; is_edge(rt.alloc(), 1, 5 * part), "part {part}");
     }
-    for height in SOME_SIDES {
+    for height in SOME_DIMENSIONS {
         assert!(rt; is_edge(rt.alloc(), 1, u32::from(height)), "1 by {height}");
     }
 }

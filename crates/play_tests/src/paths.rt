@@ -18,10 +18,10 @@ const FAR: Point = Point {
 };
 
 #[test]
-fn pieces_are_lent_until_the_next_accepted_step(rt: HostRuntime) -> Result<(), Fail> {
+fn pieces_are_borrowed_until_the_next_accepted_step(rt: HostRuntime) -> Result<(), Fail> {
     let opened = open_file(&DOT)?;
     let mut machine = machine(rt.alloc(), &opened);
-    for (op, answer, lent) in [
+    for (op, answer, borrowed) in [
         (Op::BeginPath, Ok(false), 0),
         (LINE, Ok(false), 0),
         (Op::EndPath, Ok(false), 0),
@@ -30,7 +30,7 @@ fn pieces_are_lent_until_the_next_accepted_step(rt: HostRuntime) -> Result<(), F
         (Op::NoEffect, Ok(false), 0),
     ] {
         same(&rt, step(&mut machine, op), answer);
-        same(&rt, machine.painted().len(), lent);
+        same(&rt, machine.painted().len(), borrowed);
     }
     Ok(())
 }
@@ -51,7 +51,7 @@ fn a_new_start_has_no_path(rt: HostRuntime) -> Result<(), Fail> {
 }
 
 #[test]
-fn a_refused_line_begins_no_figure(rt: HostRuntime) -> Result<(), Fail> {
+fn a_rejected_line_begins_no_figure(rt: HostRuntime) -> Result<(), Fail> {
     let opened = open_file(&DOT)?;
     let mut machine = machine(rt.alloc(), &opened);
     for (op, answer, pieces) in [
@@ -75,9 +75,9 @@ fn a_refused_line_begins_no_figure(rt: HostRuntime) -> Result<(), Fail> {
     Ok(())
 }
 
-// tests/refused_growth_test.py runs this once more for each allocation that can fail.
+// tests/rejected_growth_test.py runs this once more for each allocation that can fail.
 #[test]
-fn path_steps_under_refused_growth(rt: HostRuntime) -> Result<(), Fail> {
+fn path_steps_under_failed_growth(rt: HostRuntime) -> Result<(), Fail> {
     let opened = open_file(&DOT)?;
     let mut machine = machine(rt.alloc(), &opened);
     same(&rt, step(&mut machine, Op::BeginPath), Ok(false));
@@ -93,9 +93,9 @@ fn path_steps_under_refused_growth(rt: HostRuntime) -> Result<(), Fail> {
     Ok(())
 }
 
-// tests/refused_growth_test.py runs this once more for each allocation that can fail.
+// tests/rejected_growth_test.py runs this once more for each allocation that can fail.
 #[test]
-fn reserved_path_steps_under_refused_growth(rt: HostRuntime) -> Result<(), Fail> {
+fn reserved_path_steps_under_failed_growth(rt: HostRuntime) -> Result<(), Fail> {
     let opened = open_file(&DOT)?;
     let mut machine = machine(rt.alloc(), &opened);
     if let Err(fault) = machine.reserve(0, 0, MAX_PIECES) {

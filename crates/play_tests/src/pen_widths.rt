@@ -1,8 +1,8 @@
 //! Pens of each width and nibs of each size, along one line and along several: the writes and some pixels by hand.
 
 use crate::files::{bounded, framed, placeable};
-use crate::playing::colour;
 use crate::runs::{BLACK, Shape, run};
+use crate::worked_files::colour;
 use draw_ops::{Fault, RecordFault};
 use mapping::Colour;
 use preflight_cert::{Refusal, prepare};

@@ -1,7 +1,7 @@
 //! Playing files over an image on a canvas.
 
 use crate::comparing::same;
-use crate::playing::{BLUE, colour};
+use crate::worked_files::{BLUE, colour};
 use canvas::Canvas;
 use draw_ops::{Fault, RecordFault};
 use part_tests::{DOT, RED, changed};

@@ -1,8 +1,8 @@
 //! Lines and polygons of each count of points, and drawings of each count of lists: the writes by hand.
 
 use crate::files::bounded;
-use crate::playing::colour;
 use crate::runs::{BLACK, Shape, run};
+use crate::worked_files::colour;
 use std::alloc::{AllocError, Global};
 
 /// Counts beside powers of two, above those that are tried one by one, up to the most points of a drawing.

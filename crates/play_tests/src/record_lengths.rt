@@ -1,8 +1,8 @@
 //! Comments of each length before a drawing, and bytes of each count behind the end: the drawing is played all the same.
 
 use crate::files::{bounded, enhanced};
-use crate::playing::colour;
 use crate::runs::{Shape, run};
+use crate::worked_files::colour;
 use part_tests::{DOT, RED};
 use std::alloc::{AllocError, Global};
 

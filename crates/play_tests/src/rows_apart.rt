@@ -2,14 +2,14 @@
 
 use crate::comparing::same;
 use crate::files::placeable;
-use crate::playing::{BLUE, colour};
+use crate::worked_files::{BLUE, colour};
 use canvas::Canvas;
 use dc_stack::Machine;
 use draw_ops::OpSource;
 use mapping::{Colour, Place};
 use meta_headers::open_file;
 use object_tables::LowestFree;
-use painting::{DrawingRoom, draw};
+use painting::{DrawingScratch, draw};
 use std::alloc::Global;
 use std::test::Fail;
 
@@ -31,8 +31,8 @@ fn draw_part(alloc: Global, file: &[u8], canvas: &mut Canvas) -> Result<u64, Fai
         Some(drawn) => drawn.edges,
         None => 0,
     };
-    let mut room = DrawingRoom::for_lines(alloc, lines, true)?;
-    draw(drawn, &machine, &mut room, canvas);
+    let mut capacity = DrawingScratch::for_lines(alloc, lines, true)?;
+    draw(drawn, &machine, &mut capacity, canvas);
     Ok(canvas.writes())
 }
 

@@ -1,7 +1,7 @@
 //! Surfaces of every width and height, files with many different numbers of pixels, and faults in many different
 //! records: each gives its result, and no allocation fails.
 
-use crate::playing::{colour, play_white};
+use crate::worked_files::{colour, play_white};
 use draw_ops::{Fault, RecordFault};
 use part_tests::{DOT, RED};
 use preflight_cert::Refusal;
@@ -61,7 +61,7 @@ fn a_dot_lands_on_each_height(rt: HostRuntime) {
 
 /// Whether a file that ends after this many skipped records is rejected there for its missing end.
 fn has_no_end(alloc: Global, skipped: &[u8], number: usize) -> bool {
-    let (Some(front), Ok(place)) = (
+    let (Some(prefix), Ok(place)) = (
         skipped.get(..40usize.wrapping_add(number.wrapping_mul(6))),
         u32::try_from(number),
     ) else {
@@ -71,11 +71,11 @@ fn has_no_end(alloc: Global, skipped: &[u8], number: usize) -> bool {
         number: Some(place),
         fault: Fault::Record(RecordFault::NoEnd),
     };
-    play_white(alloc, front, 1, 1).err() == Some(refusal)
+    play_white(alloc, prefix, 1, 1).err() == Some(refusal)
 }
 
 #[test]
-fn a_fault_in_each_record_is_told_with_its_number(rt: HostRuntime) -> Result<(), Fail> {
+fn a_fault_in_each_record_is_reported_with_its_number(rt: HostRuntime) -> Result<(), Fail> {
     let file = repeated(rt.alloc(), &SKIPPED, 100_001)?;
     for number in 0..3001 {
         assert!(rt; has_no_end(rt.alloc(), file.as_slice(), number), "{number}");

@@ -52,10 +52,10 @@ fn leaves<'a>(machine: &mut Machine<'a, LowestFree<'a>>, place: i32, left: usize
     } else {
         back
     };
-    let room = MAX_SAVED_STATES.saturating_sub(left);
+    let capacity = MAX_SAVED_STATES.saturating_sub(left);
     step(machine, back) == Ok(false)
         && step(machine, again) == NO_STATE
-        && taken(machine, Op::Save, RecordFault::DepthLimit) == Some(room)
+        && taken(machine, Op::Save, RecordFault::DepthLimit) == Some(capacity)
 }
 
 #[test]

@@ -11,34 +11,34 @@ use Rattle.dc_stack.specs.State.{State}
 use Rattle.dc_stack.specs.declared.draw.Draw.{Draw}
 use Rattle.dc_stack.specs.declared.needs.Needs.{Needs}
 use Rattle.mapping.specs.Surface.{Surface}
-use Rattle.player.specs.After.{HasLines, HasRoomForSteps}
+use Rattle.player.specs.After.{HasLines, HasCapacityForSteps}
 use Rattle.preflight_cert.specs.After.{needs_after}
-use Rattle.preflight_cert.specs.NeedLaws.{HasRoomFor, NeedLaws}
+use Rattle.preflight_cert.specs.NeedLaws.{HasCapacityFor, NeedLaws}
 
 -- memory for a step and the rest is memory for the rest, on the machine after the step
-pub room_behind : (content rest : Content) (step : StepValue) (old new : MachineState) → content ≡ with_step step rest → HasStepped step.operation old new → GoesOn old new → HasRoomForSteps content old → HasRoomForSteps rest new
-room_behind content rest step old new is stepped on room =
-    let whole : HasRoomFor (needs_after (step ∷ rest.steps) old.state old.needs) old = rw is at room in
+pub capacity_after : (content rest : Content) (step : StepValue) (old new : MachineState) → content ≡ with_step step rest → HasStepped step.operation old new → GoesOn old new → HasCapacityForSteps content old → HasCapacityForSteps rest new
+capacity_after content rest step old new is stepped on capacity =
+    let whole : HasCapacityFor (needs_after (step ∷ rest.steps) old.state old.needs) old = rw is at capacity in
     let depth = whole.depth in
     let slots = whole.slots in
     let pieces = whole.pieces in
     let more_depth = on.depth in
     let more_slots = on.slots in
     let more_pieces = on.pieces in
-    let left : HasRoomFor (needs_after rest.steps (next step.operation old.state) (greater_needs old.needs (needs_of step.operation old.state))) new = record {
+    let left : HasCapacityFor (needs_after rest.steps (next step.operation old.state) (greater_needs old.needs (needs_of step.operation old.state))) new = record {
       depth = omega (arith, depth, more_depth);
       slots = omega (arith, slots, more_slots);
       pieces = omega (arith, pieces, more_pieces);
     } in
     let same : needs_after rest.steps new.state new.needs ≡ needs_after rest.steps (next step.operation old.state) (greater_needs old.needs (needs_of step.operation old.state)) = rw (stepped.state, stepped.needs) refl in
-    subst (λ (needs : Needs). HasRoomFor needs new) (sym same) left
+    subst (λ (needs : Needs). HasCapacityFor needs new) (sym same) left
 
 -- the same for lines
-pub lines_behind : (room : ℕ) (content rest : Content) (step : StepValue) (old new : MachineState) → content ≡ with_step step rest → HasStepped step.operation old new → HasLines room content old → HasLines room rest new
-lines_behind room content rest step old new is stepped has = elim has [
+pub lines_after : (capacity : ℕ) (content rest : Content) (step : StepValue) (old new : MachineState) → content ≡ with_step step rest → HasStepped step.operation old new → HasLines capacity content old → HasLines capacity rest new
+lines_after capacity content rest step old new is stepped has = elim has [
   | inl any ↦ inl any
   | inr enough ↦
-      let whole : (needs_after (step ∷ rest.steps) old.state old.needs).edges ≤ room = rw is at enough in
+      let whole : (needs_after (step ∷ rest.steps) old.state old.needs).edges ≤ capacity = rw is at enough in
       inr (rw (stepped.state, stepped.needs) whole)
 ]
 
@@ -61,10 +61,10 @@ few_edges s new None placed = omega arith
 few_edges s new (Some draw) placed = placed.few
 
 -- the row buffer can take the lines of the step
-pub lines_for_first : NeedLaws → (room : ℕ) (content rest : Content) (step : StepValue) (old new : MachineState) (draw : Option Draw) → content ≡ with_step step rest → IsDrawingOf step.operation old new draw → IfSome draw (IsPlacedDraw old.surface new.painted) → HasLines room content old → drawing_edges (option_map (drawing_with new) draw) ≤ room
-lines_for_first laws room content rest step old new draw is drawn placed has = elim has [
+pub lines_for_first : NeedLaws → (capacity : ℕ) (content rest : Content) (step : StepValue) (old new : MachineState) (draw : Option Draw) → content ≡ with_step step rest → IsDrawingOf step.operation old new draw → IfSome draw (IsPlacedDraw old.surface new.painted) → HasLines capacity content old → drawing_edges (option_map (drawing_with new) draw) ≤ capacity
+lines_for_first laws capacity content rest step old new draw is drawn placed has = elim has [
   | inl any ↦ let few = few_edges old.surface new draw placed in omega (arith, few, any)
   | inr enough ↦
-      let whole : (needs_after (step ∷ rest.steps) old.state old.needs).edges ≤ room = rw is at enough in
-      rw drawn (enough_for_step laws rest.steps step old.state old.needs room whole)
+      let whole : (needs_after (step ∷ rest.steps) old.state old.needs).edges ≤ capacity = rw is at enough in
+      rw drawn (enough_for_step laws rest.steps step old.state old.needs capacity whole)
 ]

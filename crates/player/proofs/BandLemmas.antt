@@ -42,7 +42,7 @@ module _ (laws : RowsLaws) (drawings : List NumberedDrawing) (s : Surface) (star
   -- no rows have no samples
   pub no_raster : raster (after 0 0).colours ≡ []
   no_raster =
-      let kept = laws.sides drawings s 0 (blank s.width 0 start) in
+      let kept = laws.dimensions drawings s 0 (blank s.width 0 start) in
       let long = (kept.whole (whole_blank s.width 0 start wide)).whole in
       let none : length (after 0 0).colours ≡ 0 = long ∙ ap (λ (n : ℕ). n * (after 0 0).width) kept.height ∙ no_product (after 0 0).width in
       ap raster (nil_from_length (after 0 0).colours none)

@@ -9,7 +9,7 @@ use Rattle.mapping.specs.declared.geometry.Colour.{Colour}
 use Rattle.draw_ops.specs.Content.{Content}
 use Rattle.draw_ops.specs.RecordContent.{ContentIsOne}
 use Rattle.canvas.specs.CanvasState.{CanvasState, image_of}
-use Rattle.canvas.specs.Ppm.{AppendsFront, header, ppm_text, raster}
+use Rattle.canvas.specs.Ppm.{AppendsPrefix, header, ppm_text, raster}
 use Rattle.meta_headers.specs.Headers.{OpenedValue}
 use Rattle.meta_headers.specs.Opening.{HasContentOf, framing_of, meaning_of}
 use Rattle.dc_stack.specs.MachineState.{GoesOn, MachineState}
@@ -19,7 +19,7 @@ use Rattle.preflight_cert.specs.RowsLaws.{RowsLaws}
 use Rattle.preflight_cert.specs.Apply.{rows_after}
 use Rattle.preflight_cert.specs.Writes.{writes_of_drawings}
 use Rattle.preflight_cert.specs.declared.cleared.Cleared.{Cleared}
-use Rattle.player.specs.Bands.{HasCountedRows, HasWrittenFront, HasWrittenRows, PlaysBand, row_writes, rows_played}
+use Rattle.player.specs.Bands.{HasCountedRows, HasWrittenPrefix, HasWrittenRows, PlaysBand, row_writes, rows_played}
 use Rattle.player.specs.Plays.{PlaysRecords}
 use Rattle.player.specs.Ready.{IsReadyToPlay}
 use Rattle.player.proofs.BandLemmas.{no_raster, no_writes, raster_laid}
@@ -53,7 +53,7 @@ module _ (laws : RowsLaws) (o : OpenedValue) (records : List ℕ) (s : Surface) 
   pub whole_text : (content : Content) → ppm_text (rows_played o content s start 0 s.height) ≡ header s.width s.height ++ raster (rows_played o content s start 0 s.height).colours
   whole_text content =
       let image = rows_played o content s start 0 s.height in
-      let kept = laws.sides (drawings_of content.steps (start_of o)) s 0 (blank s.width s.height start) in
+      let kept = laws.dimensions (drawings_of content.steps (start_of o)) s 0 (blank s.width s.height start) in
       ap (λ (w : ℕ). header w image.height ++ raster image.colours) kept.width ∙ ap (λ (n : ℕ). header s.width n ++ raster image.colours) kept.height
 
   -- after the header no row has been written
@@ -91,8 +91,8 @@ module _ (laws : RowsLaws) (o : OpenedValue) (records : List ℕ) (s : Surface) 
         omega (arith, counted, above, here, there)
 
     -- if writing a band fails, a prefix of the text was written
-    pub front_written : (old mid new : Option (List ℕ)) → first + rows ≤ s.height → HasWrittenRows o records s start first old mid → AppendsFront mid new (raster after.colours) → HasWrittenFront o records s start old new
-    front_written old mid new within so_far front content h =
+    pub prefix_written : (old mid new : Option (List ℕ)) → first + rows ≤ s.height → HasWrittenRows o records s start first old mid → AppendsPrefix mid new (raster after.colours) → HasWrittenPrefix o records s start old new
+    prefix_written old mid new within so_far prefix content h =
         let text = header s.width s.height in
         let upper = text ++ raster (rows_played o content s start 0 first).colours in
         let rest : ℕ = s.height - (first + rows) in
@@ -103,40 +103,40 @@ module _ (laws : RowsLaws) (o : OpenedValue) (records : List ℕ) (s : Surface) 
         let whole : ppm_text (rows_played o content s start 0 s.height) ≡ (upper ++ raster after.colours) ++ lower =
         whole_text content ∙ ap (λ (t : List ℕ). text ++ t) samples ∙ sym (append_assoc text _ lower) ∙ ap (λ (t : List ℕ). t ++ lower) (band_text content h) in
         record {
-          sent = upper ++ front.sent;
-          unsent = front.unsent ++ lower;
-          front = whole ∙ ap (λ (t : List ℕ). (upper ++ t) ++ lower) front.front ∙ regrouped upper front.sent front.unsent lower;
-          appended = Appends-trans old mid new upper front.sent (so_far content h) front.appended;
+          sent = upper ++ prefix.sent;
+          unsent = prefix.unsent ++ lower;
+          prefix = whole ∙ ap (λ (t : List ℕ). (upper ++ t) ++ lower) prefix.prefix ∙ regrouped upper prefix.sent prefix.unsent lower;
+          appended = Appends-trans old mid new upper prefix.sent (so_far content h) prefix.appended;
         }
       where
         regrouped : (a b c d : List ℕ) → (a ++ (b ++ c)) ++ d ≡ (a ++ b) ++ (c ++ d)
         regrouped a b c d = ap (λ (t : List ℕ). t ++ d) (sym (append_assoc a b c)) ∙ append_assoc (a ++ b) c d
 
   -- the same if writing the header fails
-  pub front_of_header : (old new : Option (List ℕ)) → AppendsFront old new (header s.width s.height) → HasWrittenFront o records s start old new
-  front_of_header old new front content h =
+  pub prefix_of_header : (old new : Option (List ℕ)) → AppendsPrefix old new (header s.width s.height) → HasWrittenPrefix o records s start old new
+  prefix_of_header old new prefix content h =
       let samples = raster (rows_played o content s start 0 s.height).colours in
       record {
-        sent = front.sent;
-        unsent = front.unsent ++ samples;
-        front = whole_text content ∙ ap (λ (t : List ℕ). t ++ samples) front.front ∙ append_assoc front.sent front.unsent samples;
-        appended = front.appended;
+        sent = prefix.sent;
+        unsent = prefix.unsent ++ samples;
+        prefix = whole_text content ∙ ap (λ (t : List ℕ). t ++ samples) prefix.prefix ∙ append_assoc prefix.sent prefix.unsent samples;
+        appended = prefix.appended;
       }
 
 -- the machine is ready again for the next band
 pub ready_again : (cleared : Cleared) (lines new_lines : ℕ) (m n : MachineState) → GoesOn m n → new_lines ≡ lines → IsReadyToPlay cleared lines m → IsReadyToPlay cleared new_lines n
 ready_again cleared lines new_lines m n on same ready =
-    let room = ready.room in
-    let depth = room.depth in
-    let slots = room.slots in
-    let pieces = room.pieces in
+    let capacity = ready.capacity in
+    let depth = capacity.depth in
+    let slots = capacity.slots in
+    let pieces = capacity.pieces in
     let more_depth = on.depth in
     let more_slots = on.slots in
     let more_pieces = on.pieces in
     record {
       kind = on.kind ∙ ready.kind;
       within = rw on.surface ready.within;
-      room = record { depth = omega (arith, depth, more_depth); slots = omega (arith, slots, more_slots); pieces = omega (arith, pieces, more_pieces) };
+      capacity = record { depth = omega (arith, depth, more_depth); slots = omega (arith, slots, more_slots); pieces = omega (arith, pieces, more_pieces) };
       lines = rw same ready.lines;
     }
 

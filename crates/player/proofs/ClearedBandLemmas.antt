@@ -18,15 +18,15 @@ use Rattle.preflight_cert.specs.CertificateReading.{CertificateValue}
 use Rattle.preflight_cert.specs.RowsLaws.{RowsLaws}
 use Rattle.preflight_cert.specs.SizeLaws.{SizeLaws}
 use Rattle.preflight_cert.specs.declared.cleared.Cleared.{Cleared}
-use Rattle.player.specs.Bands.{HasCountedRows, HasWrittenFront, HasWrittenRows, IsClearedText, WritesRun, WritesRunFront, plan_surface, rows_played}
+use Rattle.player.specs.Bands.{HasCountedRows, HasWrittenPrefix, HasWrittenRows, IsClearedText, WritesRun, WritesRunPrefix, plan_surface, rows_played}
 use Rattle.player.specs.ClearedPlay.{AreClearedWrites}
 use Rattle.player.specs.ReadyBands.{IsReadyForBands}
 use Rattle.player.specs.declared.band_plan.BandPlan.{BandPlan}
-use Rattle.player.specs.declared.band_room.BandRoom.{BandRoom}
+use Rattle.player.specs.declared.band_scratch.BandScratch.{BandScratch}
 use Rattle.player.proofs.BandTextLemmas.{whole_text}
 use Rattle.player.proofs.ClearedLemmas.{few_written, fits}
 
-module _ (answers : AnswerLaws) (sizes : SizeLaws) (contents : ContentIsOne) (cleared : Cleared) (plan : BandPlan) (room : BandRoom) (ready : IsReadyForBands cleared plan room) where
+module _ (answers : AnswerLaws) (sizes : SizeLaws) (contents : ContentIsOne) (cleared : Cleared) (plan : BandPlan) (scratch : BandScratch) (ready : IsReadyForBands cleared plan scratch) where
   abbrev o : OpenedValue
   o = opened_of cleared.opened
 
@@ -75,8 +75,8 @@ module _ (answers : AnswerLaws) (sizes : SizeLaws) (contents : ContentIsOne) (cl
     appended = subst (Appends old new) (sym (whole_text laws o records s plan.start plan.wide content)) (sent content one.holds);
   }
 
-  pub run_front : (old new : Option (List ℕ)) → HasWrittenFront o records s plan.start old new → WritesRunFront cleared plan.width plan.height plan.start old new
-  run_front old new front = record { text = ppm_text (rows_played o content s plan.start 0 plan.height); of_run = of_run; appended = front content one.holds }
+  pub run_prefix : (old new : Option (List ℕ)) → HasWrittenPrefix o records s plan.start old new → WritesRunPrefix cleared plan.width plan.height plan.start old new
+  run_prefix old new prefix = record { text = ppm_text (rows_played o content s plan.start 0 plan.height); of_run = of_run; appended = prefix content one.holds }
 
   pub run_counted : (writes : ℕ) → HasCountedRows o records s plan.height writes → AreClearedWrites cleared plan.width plan.height writes
   run_counted writes counted file from = record {

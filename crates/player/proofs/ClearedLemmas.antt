@@ -14,11 +14,11 @@ use Rattle.preflight_cert.specs.After.{file_needs, needs_after}
 use Rattle.preflight_cert.specs.Answer.{AnswerLaws, Fits, IsCleared, bound_of}
 use Rattle.preflight_cert.specs.CertificateReading.{CertificateValue}
 use Rattle.preflight_cert.specs.Drawings.{drawings_of}
-use Rattle.preflight_cert.specs.NeedLaws.{HasRoomFor}
+use Rattle.preflight_cert.specs.NeedLaws.{HasCapacityFor}
 use Rattle.preflight_cert.specs.SizeLaws.{SizeLaws}
 use Rattle.preflight_cert.specs.Stop.{stop_of}
 use Rattle.preflight_cert.specs.Writes.{writes_after}
-use Rattle.player.specs.After.{HasLines, HasRoomForSteps}
+use Rattle.player.specs.After.{HasLines, HasCapacityForSteps}
 
 module _ (answers : AnswerLaws) (o : OpenedValue) (records : List ℕ) (c : CertificateValue) (cleared : IsCleared o records c) where
   pub fits : (content : Content) → HasContentOf o.format records content → Fits c o content
@@ -26,14 +26,14 @@ module _ (answers : AnswerLaws) (o : OpenedValue) (records : List ℕ) (c : Cert
 
   -- memory for the certificate's needs is memory for the whole file
   module _ (content : Content) (holds : HasContentOf o.format records content) (m : MachineState) (state : m.state ≡ start_of o) (needs : m.needs ≡ no_needs) where
-    pub room_for_file : HasRoomFor c.needs m → HasRoomForSteps content m
-    room_for_file room =
+    pub capacity_for_file : HasCapacityFor c.needs m → HasCapacityForSteps content m
+    capacity_for_file capacity =
         let within = (fits content holds).needs in
         let depth = within.depth in let slots = within.slots in let pieces = within.pieces in
-        let deep = room.depth in let many = room.slots in let long = room.pieces in
-        let enough : HasRoomFor (file_needs content o) m = record { depth = omega (arith, depth, deep); slots = omega (arith, slots, many); pieces = omega (arith, pieces, long) } in
+        let deep = capacity.depth in let many = capacity.slots in let long = capacity.pieces in
+        let enough : HasCapacityFor (file_needs content o) m = record { depth = omega (arith, depth, deep); slots = omega (arith, slots, many); pieces = omega (arith, pieces, long) } in
         let same : needs_after content.steps m.state m.needs ≡ file_needs content o = rw (state, needs) refl in
-        subst (λ (n : Needs). HasRoomFor n m) (sym same) enough
+        subst (λ (n : Needs). HasCapacityFor n m) (sym same) enough
 
     pub lines_for_file : (count : ℕ) → (edge_limit ≤ count ⊎ c.needs.edges ≤ count) → HasLines count content m
     lines_for_file count lines = elim lines [

@@ -7,9 +7,9 @@ use Rattle.player.specs.Bands.{IsWriteFault}
 use Rattle.player.specs.Bounds.{IsBandFault}
 
 -- a write fault is one of the faults of bands
-pub refused_by_writer : (result : Result ℕ Fault) → IfErr result (λ fault. fault ≡ WriteFault) → IfErr result IsBandFault
-refused_by_writer (Ok writes) h = h
-refused_by_writer (Err fault) h = inr (inr h)
+pub rejected_by_writer : (result : Result ℕ Fault) → IfErr result (λ fault. fault ≡ WriteFault) → IfErr result IsBandFault
+rejected_by_writer (Ok writes) h = h
+rejected_by_writer (Err fault) h = inr (inr h)
 
 -- it is no other fault of bands
 pub unless_written : (Kept : Type 0) (result : Result ℕ Fault) → IfErr result (λ fault. fault ≡ WriteFault) → (IsWriteFault result → ⊥) → OnErr result Kept

@@ -8,7 +8,7 @@ use Rattle.draw_ops.specs.Content.{Content}
 use Rattle.draw_ops.specs.declared.fault.Fault.{Fault}
 use Rattle.draw_ops.specs.declared.fault.Fault.TheVariants.{WriteFault}
 use Rattle.canvas.specs.CanvasState.{CanvasState, image_of}
-use Rattle.canvas.specs.Ppm.{AppendsFront, header, ppm_text, raster}
+use Rattle.canvas.specs.Ppm.{AppendsPrefix, header, ppm_text, raster}
 use Rattle.meta_headers.specs.File.{IsOpenedFrom}
 use Rattle.meta_headers.specs.Headers.{OpenedValue}
 use Rattle.meta_headers.specs.OpenedOf.{opened_of}
@@ -40,18 +40,18 @@ pub record WritesRun (cleared : Cleared) (width height : ℕ) (start : Colour) (
   pub appended : Appends old new text
 
 -- a prefix of the text of the run was written
-pub record WritesRunFront (cleared : Cleared) (width height : ℕ) (start : Colour) (old new : Option (List ℕ)) : Type 0 where
+pub record WritesRunPrefix (cleared : Cleared) (width height : ℕ) (start : Colour) (old new : Option (List ℕ)) : Type 0 where
   pub text : List ℕ
   pub of_run : IsClearedText cleared width height start text
-  pub appended : AppendsFront old new text
+  pub appended : AppendsPrefix old new text
 
 -- the writer failed
 abbrev pub IsWriteFault : Result ℕ Fault → Type 0
 IsWriteFault result = result ≡ Err WriteFault
 
 -- a prefix of the text of the run was written to a writer with these contents
-abbrev pub WritesFrontTo : {W : Type 0} → Cleared → ℕ → ℕ → Colour → (W → Option (List ℕ)) → W → W → Type 0
-WritesFrontTo cleared width height start contents old new = WritesRunFront cleared width height start (contents old) (contents new)
+abbrev pub WritesPrefixTo : {W : Type 0} → Cleared → ℕ → ℕ → Colour → (W → Option (List ℕ)) → W → W → Type 0
+WritesPrefixTo cleared width height start contents old new = WritesRunPrefix cleared width height start (contents old) (contents new)
 
 -- the image that the drawings of records make on some rows, over one colour
 abbrev pub rows_played : OpenedValue → Content → Surface → Colour → ℕ → ℕ → Image
@@ -73,10 +73,10 @@ HasWrittenRows o records s start rows old new =
     → Appends old new (header s.width s.height ++ raster (rows_played o content s start 0 rows).colours)
 
 -- a prefix of the text of all rows was written
-abbrev pub HasWrittenFront : OpenedValue → List ℕ → Surface → Colour → Option (List ℕ) → Option (List ℕ) → Type 0
-HasWrittenFront o records s start old new =
+abbrev pub HasWrittenPrefix : OpenedValue → List ℕ → Surface → Colour → Option (List ℕ) → Option (List ℕ) → Type 0
+HasWrittenPrefix o records s start old new =
     (content : Content) → HasContentOf o.format records content
-    → AppendsFront old new (ppm_text (rows_played o content s start 0 s.height))
+    → AppendsPrefix old new (ppm_text (rows_played o content s start 0 s.height))
 
 -- the number is that of the pixels written on these rows
 abbrev pub HasCountedRows : OpenedValue → List ℕ → Surface → ℕ → ℕ → Type 0
@@ -99,13 +99,13 @@ module _ {W : Type 0} where
   abbrev pub WritesPlan : Cleared → BandPlan → (W → Option (List ℕ)) → W → W → Type 0
   WritesPlan cleared plan contents old new = WritesRun cleared plan.width plan.height plan.start (contents old) (contents new)
 
-  abbrev pub WritesPlanFront : Cleared → BandPlan → (W → Option (List ℕ)) → W → W → Type 0
-  WritesPlanFront cleared plan contents old new = WritesFrontTo cleared plan.width plan.height plan.start contents old new
+  abbrev pub WritesPlanPrefix : Cleared → BandPlan → (W → Option (List ℕ)) → W → W → Type 0
+  WritesPlanPrefix cleared plan contents old new = WritesPrefixTo cleared plan.width plan.height plan.start contents old new
 
   abbrev pub WritesRows : Cleared → BandPlan → ℕ → (W → Option (List ℕ)) → W → W → Type 0
   WritesRows cleared plan rows contents old new =
       HasWrittenRows (opened_of cleared.opened) cleared.opened.records.now (plan_surface cleared plan) plan.start rows (contents old) (contents new)
 
-  abbrev pub WritesRowsFront : Cleared → BandPlan → (W → Option (List ℕ)) → W → W → Type 0
-  WritesRowsFront cleared plan contents old new =
-      HasWrittenFront (opened_of cleared.opened) cleared.opened.records.now (plan_surface cleared plan) plan.start (contents old) (contents new)
+  abbrev pub WritesRowsPrefix : Cleared → BandPlan → (W → Option (List ℕ)) → W → W → Type 0
+  WritesRowsPrefix cleared plan contents old new =
+      HasWrittenPrefix (opened_of cleared.opened) cleared.opened.records.now (plan_surface cleared plan) plan.start (contents old) (contents new)

@@ -14,8 +14,8 @@ abbrev pub IsAboveBound : ℕ → ℕ → Certificate → Type 0
 IsAboveBound width height c = c.max_width < width ⊎ c.max_height < height
 
 -- the result is `SurfaceTooLarge` exactly if the surface exceeds the certificate's bound
-abbrev pub TellsTooLarge : {A : Type 0} → Result A Fault → ℕ → ℕ → Certificate → Type 0
-TellsTooLarge result width height c = (result ≡ Err SurfaceTooLarge) ↔ IsAboveBound width height c
+abbrev pub ReportsTooLarge : {A : Type 0} → Result A Fault → ℕ → ℕ → Certificate → Type 0
+ReportsTooLarge result width height c = (result ≡ Err SurfaceTooLarge) ↔ IsAboveBound width height c
 
 -- a reason not to play a cleared file: the surface exceeds the bound, or an allocation failed
 abbrev pub IsPlayFault : Fault → Type 0

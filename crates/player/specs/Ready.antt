@@ -10,7 +10,7 @@ use Rattle.dc_stack.specs.Needs.{no_needs}
 use Rattle.dc_stack.specs.State.{start_of}
 use Rattle.preflight_cert.specs.Answer.{bound_of}
 use Rattle.preflight_cert.specs.CertificateOf.{certificate_of}
-use Rattle.preflight_cert.specs.NeedLaws.{HasRoomFor}
+use Rattle.preflight_cert.specs.NeedLaws.{HasCapacityFor}
 use Rattle.preflight_cert.specs.declared.cleared.Cleared.{Cleared}
 
 -- the surface of this size that shows the file
@@ -22,7 +22,7 @@ surface_of_file cleared width height = surface_for (opened_of cleared.opened) wi
 pub record IsReadyToPlay (cleared : Cleared) (count : ℕ) (m : MachineState) : Type 0 where
   pub kind : m.state.table_kind ≡ (start_of (opened_of cleared.opened)).table_kind
   pub within : IsNoLarger m.surface (bound_of (opened_of cleared.opened) (certificate_of cleared.certificate))
-  pub room : HasRoomFor cleared.certificate.needs m
+  pub capacity : HasCapacityFor cleared.certificate.needs m
   pub lines : edge_limit ≤ count ⊎ cleared.certificate.needs.edges ≤ count
 
 -- the machine is at the file's start

@@ -4,11 +4,11 @@ use Rattle.preflight_cert.specs.declared.cleared.Cleared.{Cleared}
 use Rattle.player.specs.Bands.{plan_surface}
 use Rattle.player.specs.Ready.{IsReadyToPlay}
 use Rattle.player.specs.declared.band_plan.BandPlan.{BandPlan}
-use Rattle.player.specs.declared.band_room.BandRoom.{BandRoom}
+use Rattle.player.specs.declared.band_scratch.BandScratch.{BandScratch}
 
 -- the machine plays the file on the plan's surface, and the canvas has memory for at least one of its rows
-pub record IsReadyForBands (cleared : Cleared) (plan : BandPlan) (room : BandRoom) : Type 0 where
-  pub ready : IsReadyToPlay cleared room.drawings.rows.room room.machine
-  pub surface : room.machine.surface ≡ plan_surface cleared plan
-  pub width : room.canvas.width ≡ plan.width
-  pub some : 1 ≤ room.canvas.most
+pub record IsReadyForBands (cleared : Cleared) (plan : BandPlan) (scratch : BandScratch) : Type 0 where
+  pub ready : IsReadyToPlay cleared scratch.drawings.rows.capacity scratch.machine
+  pub surface : scratch.machine.surface ≡ plan_surface cleared plan
+  pub width : scratch.canvas.width ≡ plan.width
+  pub some : 1 ≤ scratch.canvas.most

@@ -2,14 +2,14 @@
 
 ghost use Rattle.std.specs.Prelude.{◌≡◌, ◌+◌, ◌-◌, ◌<◌, ◌≤◌, ◌^◌, Err, IfErr, IfOk, OnErr, OnOk};
 ghost use Rattle.std.specs.Io.KnownBytes.{Keeps};
-ghost use Rattle.player.specs.Bands.{CountsRows, IsWriteFault, WritesFrontTo, WritesPlan, WritesPlanFront};
-ghost use Rattle.player.specs.Bands.{WritesRows, WritesRowsFront, WritesRun};
-ghost use Rattle.player.specs.Bounds.{IsBandFault, TellsTooLarge};
+ghost use Rattle.player.specs.Bands.{CountsRows, IsWriteFault, WritesPrefixTo, WritesPlan, WritesPlanPrefix};
+ghost use Rattle.player.specs.Bands.{WritesRows, WritesRowsPrefix, WritesRun};
+ghost use Rattle.player.specs.Bounds.{IsBandFault, ReportsTooLarge};
 ghost use Rattle.player.specs.ClearedPlay.{AreClearedWrites};
 ghost use Rattle.player.specs.ReadyBands.{IsReadyForBands};
 
 use crate::band_plan::BandPlan;
-use crate::band_room::{BandRoom, band_room, show_band};
+use crate::band_scratch::{BandScratch, band_scratch, show_band};
 use crate::part_writer::{Counted, PartWriter, Uncounted};
 use canvas::{FaultCount, WriteFault};
 use draw_ops::{Fault, content_law};
@@ -44,10 +44,10 @@ pub fn play_bands<W: Write>(
     ensures text { OnOk result (WritesRun cleared.now width height start (W.contents out.old) (W.contents out.new)) }
     ensures writes { IfOk result (AreClearedWrites cleared.now width height) }
     ensures few { IfOk result (λ writes. writes ≤ cleared.now.certificate.writes) }
-    ensures too_large { TellsTooLarge result width height cleared.now.certificate }
+    ensures too_large { ReportsTooLarge result width height cleared.now.certificate }
     ensures refusal { IfErr result IsBandFault }
     ensures unwritten { (IsWriteFault result → ⊥) → OnErr result (Keeps (W.contents out.old) (W.contents out.new)) }
-    ensures front { IsWriteFault result → WritesFrontTo cleared.now width height start W.contents out.old out.new }
+    ensures prefix { IsWriteFault result → WritesPrefixTo cleared.now width height start W.contents out.old out.new }
 {
     let plan = BandPlan {
         width,
@@ -55,8 +55,8 @@ pub fn play_bands<W: Write>(
         start,
         rows,
     };
-    match band_room(alloc, cleared, plan) {
-        Ok(mut room) => write_image::<W, Uncounted>(cleared, &mut room, plan, out),
+    match band_scratch(alloc, cleared, plan) {
+        Ok(mut scratch) => write_image::<W, Uncounted>(cleared, &mut scratch, plan, out),
         Err(fault) => Err(fault),
     }
 }
@@ -75,16 +75,16 @@ pub fn play_bands_to<W: FaultCount>(
     requires wide { 1 ≤ width }
     requires high { 1 ≤ height }
     requires rows { 1 ≤ rows }
-    requires room { W.fault_count out.old < 2 ^ 64 - 1 }
+    requires capacity { W.fault_count out.old < 2 ^ 64 - 1 }
     ensures text { OnOk result (WritesRun cleared.now width height start (W.contents out.old) (W.contents out.new)) }
     ensures writes { IfOk result (AreClearedWrites cleared.now width height) }
     ensures few { IfOk result (λ writes. writes ≤ cleared.now.certificate.writes) }
-    ensures too_large { TellsTooLarge result width height cleared.now.certificate }
+    ensures too_large { ReportsTooLarge result width height cleared.now.certificate }
     ensures refusal { IfErr result IsBandFault }
     ensures unwritten { (IsWriteFault result → ⊥) → OnErr result (Keeps (W.contents out.old) (W.contents out.new)) }
-    ensures front { IsWriteFault result → WritesFrontTo cleared.now width height start W.contents out.old out.new }
+    ensures prefix { IsWriteFault result → WritesPrefixTo cleared.now width height start W.contents out.old out.new }
     ensures fault { result ≡ Err Fault.WriteFault → W.fault_count out.old < W.fault_count out.new }
-    ensures room { OnOk result (W.fault_count out.new < 2 ^ 64 - 1) }
+    ensures capacity { OnOk result (W.fault_count out.new < 2 ^ 64 - 1) }
     ensures count { W.fault_count out.old ≤ W.fault_count out.new }
 {
     let plan = BandPlan {
@@ -93,8 +93,8 @@ pub fn play_bands_to<W: FaultCount>(
         start,
         rows,
     };
-    match band_room(alloc, cleared, plan) {
-        Ok(mut room) => write_image::<W, Counted>(cleared, &mut room, plan, out),
+    match band_scratch(alloc, cleared, plan) {
+        Ok(mut scratch) => write_image::<W, Counted>(cleared, &mut scratch, plan, out),
         Err(fault) => Err(fault),
     }
 }
@@ -102,28 +102,28 @@ pub fn play_bands_to<W: FaultCount>(
 /// Plays and writes the image with memory that has been allocated, by any way to write. Only the writer can fail.
 fn write_image<'a, W: Write, P: PartWriter<W>>(
     cleared: &Cleared<'a>,
-    room: &mut BandRoom<'a>,
+    scratch: &mut BandScratch<'a>,
     plan: BandPlan,
     out: &mut W,
 ) -> Result<u64, Fault>
-    requires ready { IsReadyForBands cleared.now plan room.old }
-    requires unwritten { room.old.canvas.writes ≡ 0 }
-    requires room { P.faults out.old + P.counted < 2 ^ 64 }
+    requires ready { IsReadyForBands cleared.now plan scratch.old }
+    requires unwritten { scratch.old.canvas.writes ≡ 0 }
+    requires capacity { P.faults out.old + P.counted < 2 ^ 64 }
     ensures text { OnOk result (WritesPlan cleared.now plan W.contents out.old out.new) }
     ensures writes { IfOk result (AreClearedWrites cleared.now plan.width plan.height) }
     ensures few { IfOk result (λ writes. writes ≤ cleared.now.certificate.writes) }
     ensures refusal { IfErr result (λ fault. fault ≡ Fault.WriteFault) }
-    ensures front { OnErr result (WritesPlanFront cleared.now plan W.contents out.old out.new) }
+    ensures prefix { OnErr result (WritesPlanPrefix cleared.now plan W.contents out.old out.new) }
     ensures fault { OnErr result (P.faults out.old + P.counted ≤ P.faults out.new) }
-    ensures room { OnOk result (P.faults out.new + P.counted < 2 ^ 64) }
+    ensures capacity { OnOk result (P.faults out.new + P.counted < 2 ^ 64) }
     ensures count { P.faults out.old ≤ P.faults out.new }
 {
     answer_law();
     size_law();
     content_law();
     rows_law();
-    match write_bands::<W, P>(cleared, room, plan, out) {
-        Ok(()) => Ok(room.canvas.writes()),
+    match write_bands::<W, P>(cleared, scratch, plan, out) {
+        Ok(()) => Ok(scratch.canvas.writes()),
         Err(_) => Err(Fault::WriteFault),
     }
 }
@@ -131,26 +131,26 @@ fn write_image<'a, W: Write, P: PartWriter<W>>(
 /// Plays the bands and writes each one.
 fn write_bands<'a, W: Write, P: PartWriter<W>>(
     cleared: &Cleared<'a>,
-    room: &mut BandRoom<'a>,
+    scratch: &mut BandScratch<'a>,
     plan: BandPlan,
     out: &mut W,
 ) -> Result<(), WriteFault>
-    requires ready { IsReadyForBands cleared.now plan room.old }
-    requires unwritten { room.old.canvas.writes ≡ 0 }
-    requires room { P.faults out.old + P.counted < 2 ^ 64 }
+    requires ready { IsReadyForBands cleared.now plan scratch.old }
+    requires unwritten { scratch.old.canvas.writes ≡ 0 }
+    requires capacity { P.faults out.old + P.counted < 2 ^ 64 }
     ensures text { OnOk result (WritesRows cleared.now plan plan.height W.contents out.old out.new) }
-    ensures counted { OnOk result (CountsRows cleared.now plan plan.height room.new.canvas.writes) }
-    ensures front { OnErr result (WritesRowsFront cleared.now plan W.contents out.old out.new) }
+    ensures counted { OnOk result (CountsRows cleared.now plan plan.height scratch.new.canvas.writes) }
+    ensures prefix { OnErr result (WritesRowsPrefix cleared.now plan W.contents out.old out.new) }
     ensures fault { OnErr result (P.faults out.old + P.counted ≤ P.faults out.new) }
-    ensures room { OnOk result (P.faults out.new + P.counted < 2 ^ 64) }
+    ensures capacity { OnOk result (P.faults out.new + P.counted < 2 ^ 64) }
     ensures count { P.faults out.old ≤ P.faults out.new }
 {
     rows_law();
     P::write_header(out, plan.width, plan.height)?;
     let mut first: u32 = 0;
     while first < plan.height {
-        let rows = show_band(cleared, room, plan, first);
-        P::write_rows(out, &room.canvas)?;
+        let rows = show_band(cleared, scratch, plan, first);
+        P::write_rows(out, &scratch.canvas)?;
         first += rows;
     }
     Ok(())

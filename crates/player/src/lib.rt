@@ -12,11 +12,11 @@
 #![tactic(auto)]
 
 mod band_plan;
-mod band_room;
+mod band_scratch;
 mod bands;
 mod cleared_play;
 mod part_writer;
-mod play_room;
+mod play_scratch;
 mod playing;
 
 pub use band_plan::BandPlan;

@@ -2,7 +2,7 @@
 
 ghost use Rattle.std.specs.Prelude.{ℕ, ◌+◌, ◌^◌, ◌<◌, ◌≤◌, OnErr, OnOk};
 ghost use Rattle.canvas.specs.Ppm.{header, raster};
-ghost use Rattle.player.specs.PartsWritten.{SendsFront, SendsText};
+ghost use Rattle.player.specs.PartsWritten.{SendsPrefix, SendsText};
 
 use canvas::{Canvas, FaultCount, WriteFault, write_header, write_header_to};
 use std::io::Write;
@@ -17,20 +17,20 @@ pub(crate) trait PartWriter<W: Write> {
 
     /// Writes the header.
     fn write_header(out: &mut W, width: u32, height: u32) -> Result<(), WriteFault>
-        requires room { faults out.old + counted < 2 ^ 64 }
+        requires capacity { faults out.old + counted < 2 ^ 64 }
         ensures ok { OnOk result (SendsText W.contents out.old out.new (header width height)) }
-        ensures err { OnErr result (SendsFront W.contents out.old out.new (header width height)) }
+        ensures err { OnErr result (SendsPrefix W.contents out.old out.new (header width height)) }
         ensures fault { OnErr result (faults out.old + counted ≤ faults out.new) }
-        ensures room { OnOk result (faults out.new + counted < 2 ^ 64) }
+        ensures capacity { OnOk result (faults out.new + counted < 2 ^ 64) }
         ensures count { faults out.old ≤ faults out.new };
 
     /// Writes the samples of a canvas's rows.
     fn write_rows(out: &mut W, canvas: &Canvas) -> Result<(), WriteFault>
-        requires room { faults out.old + counted < 2 ^ 64 }
+        requires capacity { faults out.old + counted < 2 ^ 64 }
         ensures ok { OnOk result (SendsText W.contents out.old out.new (raster canvas.now.colours)) }
-        ensures err { OnErr result (SendsFront W.contents out.old out.new (raster canvas.now.colours)) }
+        ensures err { OnErr result (SendsPrefix W.contents out.old out.new (raster canvas.now.colours)) }
         ensures fault { OnErr result (faults out.old + counted ≤ faults out.new) }
-        ensures room { OnOk result (faults out.new + counted < 2 ^ 64) }
+        ensures capacity { OnOk result (faults out.new + counted < 2 ^ 64) }
         ensures count { faults out.old ≤ faults out.new };
 }
 

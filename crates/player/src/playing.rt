@@ -4,8 +4,8 @@ ghost use Rattle.std.specs.Prelude.{◌≡◌, ◌+◌, ◌≤◌, OnErr, OnOk, 
 ghost use Rattle.draw_ops.specs.Records.{record_limit};
 ghost use Rattle.dc_stack.specs.MachineState.{GoesOn};
 ghost use Rattle.painting.specs.Drawn.{HoldsRows, SameRows};
-ghost use Rattle.player.specs.After.{HasLines, HasRoomForSteps};
-ghost use Rattle.player.specs.Counts.{CountsFile, HasRoomForFile};
+ghost use Rattle.player.specs.After.{HasLines, HasCapacityForSteps};
+ghost use Rattle.player.specs.Counts.{CountsFile, HasCapacityForFile};
 ghost use Rattle.player.specs.Plays.{PlaysContent, PlaysFile, Stops};
 ghost use Rattle.player.specs.Ready.{IsAtStart, IsReadyToPlay};
 
@@ -13,7 +13,7 @@ use canvas::Canvas;
 use dc_stack::{Draw, Machine};
 use draw_ops::{Fault, OpSource, Step};
 use object_tables::Table;
-use painting::{DrawingRoom, draw};
+use painting::{DrawingScratch, draw};
 use preflight_cert::{Cleared, answer_law, need_law, size_law};
 
 /// Plays a whole cleared file on a canvas with some rows of a surface, and returns the number of pixels written. The
@@ -22,19 +22,19 @@ use preflight_cert::{Cleared, answer_law, need_law, size_law};
 pub(crate) fn play_rows<'a, T: Table<'a>>(
     cleared: &Cleared<'a>,
     machine: &mut Machine<'a, T>,
-    drawings: &mut DrawingRoom,
+    drawings: &mut DrawingScratch,
     canvas: &mut Canvas,
 ) -> u64
     requires held { HoldsRows canvas.old machine.old.surface }
-    requires countable { HasRoomForFile canvas.old }
-    requires ready { IsReadyToPlay cleared.now drawings.old.rows.room machine.old }
+    requires countable { HasCapacityForFile canvas.old }
+    requires ready { IsReadyToPlay cleared.now drawings.old.rows.capacity machine.old }
     requires start { IsAtStart cleared.now machine.old }
     ensures played { PlaysFile cleared.now.opened machine.old canvas.old canvas.new }
     ensures count { canvas.new.writes ≡ canvas.old.writes + result }
     ensures bounded { CountsFile canvas.old canvas.new }
     ensures rows { SameRows canvas.old canvas.new }
     ensures goes_on { GoesOn machine.old machine.new }
-    ensures lines { drawings.new.rows.room ≡ drawings.old.rows.room }
+    ensures lines { drawings.new.rows.capacity ≡ drawings.old.rows.capacity }
 {
     answer_law();
     size_law();
@@ -50,20 +50,20 @@ pub(crate) fn play_rows<'a, T: Table<'a>>(
 fn play_steps<'a, S: OpSource<'a>, T: Table<'a>>(
     source: &mut S,
     machine: &mut Machine<'a, T>,
-    drawings: &mut DrawingRoom,
+    drawings: &mut DrawingScratch,
     canvas: &mut Canvas,
 ) -> Result<(), Fault>
     requires short { length (S.content source.old).steps ≤ record_limit }
     requires held { HoldsRows canvas.old machine.old.surface }
-    requires room { HasRoomForSteps (S.content source.old) machine.old }
-    requires lines { HasLines drawings.old.rows.room (S.content source.old) machine.old }
-    requires countable { HasRoomForFile canvas.old }
+    requires capacity { HasCapacityForSteps (S.content source.old) machine.old }
+    requires lines { HasLines drawings.old.rows.capacity (S.content source.old) machine.old }
+    requires countable { HasCapacityForFile canvas.old }
     ensures played { OnOk result (PlaysContent (S.content source.old) machine.old canvas.old canvas.new) }
     ensures refusal { OnErr result (Stops (S.content source.old) machine.old) }
     ensures bounded { CountsFile canvas.old canvas.new }
     ensures rows { SameRows canvas.old canvas.new }
     ensures goes_on { GoesOn machine.old machine.new }
-    ensures lines { drawings.new.rows.room ≡ drawings.old.rows.room }
+    ensures lines { drawings.new.rows.capacity ≡ drawings.old.rows.capacity }
 {
     need_law();
     let mut step: Step<'a> = Step::without_effect();

@@ -1,6 +1,6 @@
 pub mod ItemLemmas
 pub mod NumberLemmas
-pub mod FrontLemmas
+pub mod PrefixLemmas
 pub mod PointLemmas
 pub mod CountLemmas
 pub mod SplitLemmas

@@ -44,8 +44,8 @@ points_in-taken width n end bytes ends within =
 pub points_in-part : (width : NumberWidth) (n from to start end : ℕ) (bytes : List ℕ) → from ≤ to → to ≤ n → start ≡ point_size width * from → end ≡ point_size width * to → end ≤ length bytes → points_in width (length (slice_range bytes start end) / point_size width) (slice_range bytes start end) ≡ slice_range (points_in width n bytes) from to
 points_in-part width n from to start end bytes order within starts ends inside =
     let part : end - start ≡ point_size width * (to - from) = rw (starts, ends, mul-sub (point_size width) to from) refl in
-    let room : end - start ≤ length (drop start bytes) = simp length-drop (omega arith) in
-    let count = items_taken (point_size width) (to - from) (end - start) (drop start bytes) (some_size width) part room in
+    let enough : end - start ≤ length (drop start bytes) = simp length-drop (omega arith) in
+    let count = items_taken (point_size width) (to - from) (end - start) (drop start bytes) (some_size width) part enough in
     rw count (points_in-slice_range width n from to start end bytes order within starts ends)
 
 -- what the tactics take to a view's length and its point at an index

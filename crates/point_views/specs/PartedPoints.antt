@@ -1,4 +1,4 @@
--- The lists into which points are cut.
+-- The lists into which points are divided.
 use Rattle.std.specs.Prelude.{List}
 use Rattle.mapping.specs.declared.geometry.Point.{Point}
 use Rattle.point_views.specs.Points.{all_points_in}
@@ -6,6 +6,6 @@ use Rattle.point_views.specs.Counts.{all_counts_in}
 use Rattle.point_views.specs.Split.{split_by}
 use Rattle.point_views.specs.declared.parted_points.PartedPoints.{PartedPoints}
 
--- as many points in each list as its count says
+-- the lists, each with as many points as its count says
 abbrev pub parts_of : PartedPoints → List (List Point)
 parts_of parted = split_by (all_counts_in parted.count_width parted.count_bytes.now) (all_points_in parted.point_width parted.point_bytes.now)

@@ -1,4 +1,4 @@
-//! The least box around the points of a list.
+//! The bounding box of the points in a list.
 
 ghost use Rattle.std.specs.Prelude.{◌≡◌, ◌↔◌, [], IsNone, IfSome};
 ghost use Rattle.mapping.specs.Boxes.{IsTight};
@@ -8,7 +8,7 @@ use crate::points::Points;
 use mapping::{Rect, box_law};
 
 impl<'a> Points<'a> {
-    /// The least box around the points, its right and bottom included: none exactly where there is no point.
+    /// The bounding box of the points; right and bottom are inclusive. `None` exactly if there is no point.
     pub fn bounds(self) -> Option<Rect>
         ensures none { IsNone result ↔ (points_of self.entry ≡ []) }
         ensures tight { IfSome result (λ bounds. IsTight bounds (points_of self.entry)) }

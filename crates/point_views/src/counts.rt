@@ -1,4 +1,4 @@
-//! Lists of counts, read in place: how many points each of several lists has.
+//! Lists of counts, read in place: the number of points in each of several lists.
 
 ghost use Rattle.std.specs.Prelude.{◌≡◌, ◌+◌, ◌*◌, ◌%◌, ◌^◌, ◌<◌, ◌≤◌, ◌↔◌, [], length, take, drop, sum, IsTrue, IsSome, IfSome, Some, SomeIff, slice_get};
 ghost use Rattle.point_views.specs.Numbers.{number_size};
@@ -6,17 +6,17 @@ ghost use Rattle.point_views.specs.Numbers.{number_size};
 use crate::numbers::{NumberWidth, unsigned_at};
 use crate::zeros::zeros;
 
-/// Counts, one after another in a file's bytes, each a number without a sign.
+/// Counts, one after another in a file's bytes. They are unsigned.
 ///
 /// # Guarantees
 ///
-/// - `bytes` holds the counts and nothing else, so two views of one width are equal exactly where
-///   their bytes are.
+/// - `bytes` contains the counts and nothing else, so two views with the same width are equal exactly if their bytes
+///   are.
 #[derive(Clone, Copy, Debug, PartialEq, Eq)]
 pub struct Counts<'a> {
     /// The counts' bytes.
     pub bytes: &'a [u8],
-    /// How wide each count is.
+    /// The width of each count.
     pub width: NumberWidth,
     pub ghost whole: { length bytes.now % number_size width ≡ 0 },
 }
@@ -26,10 +26,10 @@ impl<'a> Counts<'a> {
     ghost use Rattle.point_views.specs.Counts.{counts_in, counts_of};
     ghost use Rattle.point_views.specs.PassedOver.{after_zeros};
 
-    /// The first `n` counts in the bytes, each in 16 bits: none exactly where fewer than `2 * n`
-    /// bytes are there. Bytes after the counts don't matter.
+    /// The first `n` counts in the bytes, of 16 bits each. `None` exactly if there are fewer than `2 * n` bytes. Bytes
+    /// after the counts don't matter.
     pub fn new16(bytes: &'a [u8], n: usize) -> Option<Counts<'a>>
-        ensures room { IsSome result ↔ (2 * n ≤ length bytes.now) }
+        ensures enough { IsSome result ↔ (2 * n ≤ length bytes.now) }
         ensures counts { IfSome result (λ counts. counts_of counts ≡ counts_in NumberWidth.Short n bytes.now) }
     {
         if bytes.len() / 2 < n {
@@ -41,10 +41,10 @@ impl<'a> Counts<'a> {
         })
     }
 
-    /// The first `n` counts in the bytes, each in 32 bits: none exactly where fewer than `4 * n`
-    /// bytes are there. Bytes after the counts don't matter.
+    /// The first `n` counts in the bytes, of 32 bits each. `None` exactly if there are fewer than `4 * n` bytes. Bytes
+    /// after the counts don't matter.
     pub fn new32(bytes: &'a [u8], n: usize) -> Option<Counts<'a>>
-        ensures room { IsSome result ↔ (4 * n ≤ length bytes.now) }
+        ensures enough { IsSome result ↔ (4 * n ≤ length bytes.now) }
         ensures counts { IfSome result (λ counts. counts_of counts ≡ counts_in NumberWidth.Long n bytes.now) }
     {
         if bytes.len() / 4 < n {
@@ -56,7 +56,7 @@ impl<'a> Counts<'a> {
         })
     }
 
-    /// No count.
+    /// No counts.
     pub(crate) fn empty() -> Counts<'a>
         ensures { counts_of result ≡ [] }
     {
@@ -66,7 +66,7 @@ impl<'a> Counts<'a> {
         }
     }
 
-    /// How many counts.
+    /// The number of counts.
     pub fn len(self) -> usize
         ensures { result ≡ length (counts_of self.entry) }
     {
@@ -102,7 +102,7 @@ impl<'a> Counts<'a> {
         }
     }
 
-    /// The counts from the first one that isn't 0 on. Zeros are passed over several at a time.
+    /// The counts from the first non-zero one on. Several zeros are skipped at a time.
     pub fn after_zeros(self) -> Counts<'a>
         ensures { counts_of result ≡ after_zeros (counts_of self.entry) }
     {
@@ -113,8 +113,7 @@ impl<'a> Counts<'a> {
         }
     }
 
-    /// The sum of the counts: none exactly where it is above `most`. It stops at the first count that
-    /// goes past it.
+    /// The sum of the counts. `None` exactly if it is above `most`. Stops at the first count that exceeds it.
     pub fn sum_within(self, most: usize) -> Option<usize>
         ensures { SomeIff result (sum (counts_of self.entry) ≤ most) (sum (counts_of self.entry)) }
     {
@@ -142,12 +141,12 @@ impl<'a> Counts<'a> {
         before
     }
 
-    /// The place of a count's first byte, or the end of the bytes.
+    /// The offset of a count's first byte, or the end of the bytes.
     fn place(self, i: usize) -> usize
         requires { i ≤ length (counts_of self) }
         ensures place { result ≡ number_size self.entry.width * i }
         ensures within { result ≤ length self.entry.bytes.now }
-        ensures room { i < length (counts_of self.entry)
+        ensures enough { i < length (counts_of self.entry)
             → result + number_size self.entry.width ≤ length self.entry.bytes.now }
     {
         match self.width {

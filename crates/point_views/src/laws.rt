@@ -1,8 +1,8 @@
-//! A law of how numbers stand in bytes.
+//! A law of numbers in bytes.
 
-ghost use Rattle.point_views.specs.NumberLaws.{ReadsWithinFront};
+ghost use Rattle.point_views.specs.NumberLaws.{ReadsWithinPrefix};
 
-/// A number that lies in a front of some bytes is read there as in the whole.
+/// A number that lies in a prefix of some bytes reads the same there as in all of them.
 pub fn number_law()
-    ensures { ReadsWithinFront }
+    ensures { ReadsWithinPrefix }
 {}

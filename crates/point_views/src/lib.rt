@@ -2,21 +2,20 @@
 //!
 //! # What is promised
 //!
-//! - No read here is outside the bytes, and no sum or product wraps, whatever the bytes are and
-//!   whatever number of points a file claims (each function is proved safe for all its inputs).
-//! - A number that lies in a front of some bytes is read there as in the whole (`number_law`).
-//! - A view is a list: `Points::get` gives the i-th pair of numbers in the bytes, `part` a part of
-//!   the list, and `len` its length.
-//! - `Points::bounds` is the least box around the points.
-//! - `Polys::new` cuts points into lists that are as long as the counts say and that, one after
-//!   another, are all the points. `get`, `split_first` and `lists` give those lists in order.
-//! - A view is refused exactly where bytes are missing (`Points::new16`, `Points::new32`,
-//!   `Counts::new16`, `Counts::new32`), or where the counts don't add up to the number of points
-//!   (`Polys::new`).
-//! - `Counts::sum_within` is the counts' sum, and none exactly where it is above a limit.
+//! - No read is outside the bytes, and no sum or product wraps, whatever the bytes are and whatever number of points a
+//!   file claims (each function is proved safe for all its inputs).
+//! - A number that lies in a prefix of some bytes reads the same there as in all of them (`number_law`).
+//! - A view is a list: `Points::get` returns the i-th pair of numbers in the bytes, `part` a part of the list, and
+//!   `len` its length.
+//! - `Points::bounds` is the bounding box of the points.
+//! - `Polys::new` divides points into consecutive lists with the lengths that the counts give, and the lists together
+//!   are all of the points. `get`, `split_first` and `lists` return these lists in order.
+//! - A view is rejected exactly if bytes are missing (`Points::new16`, `Points::new32`, `Counts::new16`,
+//!   `Counts::new32`), or if the counts don't add up to the number of points (`Polys::new`).
+//! - `Counts::sum_within` is the sum of the counts; it returns nothing exactly if that exceeds a limit.
 //!
-//! A view is a slice of the file and a few numbers, so no point is copied and no memory is taken; no
-//! contract says so.
+//! A view is a slice of the file and a few numbers, so no point is copied and no memory is allocated. No contract says
+//! so.
 #![tactic(auto)]
 
 mod bounds;

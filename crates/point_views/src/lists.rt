@@ -1,4 +1,4 @@
-//! Going through lists of points in order.
+//! Iterating over lists of points.
 
 ghost use Rattle.std.specs.Iterator.{YieldsFirstBy, item_count};
 ghost use Rattle.point_views.specs.Points.{points_of};
@@ -7,7 +7,7 @@ ghost use Rattle.point_views.specs.Polys.{lists_of};
 use crate::points::Points;
 use crate::polys::Polys;
 
-/// The lists that are still to come, in order.
+/// The remaining lists, in order.
 #[derive(Clone, Copy, Debug, PartialEq, Eq)]
 pub struct Lists<'a> {
     pub rest: Polys<'a>,

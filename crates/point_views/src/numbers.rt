@@ -1,11 +1,11 @@
-//! How numbers stand in a file: the one place where bytes become numbers.
+//! Numbers in a file: the one place where bytes become numbers.
 
 ghost use Rattle.std.specs.Prelude.{◌≡◌, ◌+◌, ◌/◌, ◌≤◌, length, drop};
 ghost use Rattle.point_views.specs.Numbers.{i8_at, i16_at, i32_at, number_at, number_size, signed_number, unsigned_number};
 
 use byteorder::{ByteOrder, LittleEndian};
 
-/// The number of one byte at a place.
+/// The unsigned number of one byte at an offset.
 pub fn u8_at(bytes: &[u8], place: usize) -> u8
     requires { place + 1 ≤ length bytes.now }
     ensures { result ≡ number_at bytes.now place 1 }
@@ -13,7 +13,7 @@ pub fn u8_at(bytes: &[u8], place: usize) -> u8
     bytes[place]
 }
 
-/// The number of two bytes at a place, without a sign.
+/// The unsigned number of two bytes at an offset.
 pub fn u16_at(bytes: &[u8], place: usize) -> u16
     requires { place + 2 ≤ length bytes.now }
     ensures { result ≡ number_at bytes.now place 2 }
@@ -21,7 +21,7 @@ pub fn u16_at(bytes: &[u8], place: usize) -> u16
     LittleEndian::read_u16(&bytes[place..])
 }
 
-/// The number of four bytes at a place, without a sign.
+/// The unsigned number of four bytes at an offset.
 pub fn u32_at(bytes: &[u8], place: usize) -> u32
     requires { place + 4 ≤ length bytes.now }
     ensures { result ≡ number_at bytes.now place 4 }
@@ -29,7 +29,7 @@ pub fn u32_at(bytes: &[u8], place: usize) -> u32
     LittleEndian::read_u32(&bytes[place..])
 }
 
-/// The number of one byte at a place, in two's complement.
+/// The signed number of one byte at an offset.
 pub fn i8_at(bytes: &[u8], place: usize) -> i8
     requires { place + 1 ≤ length bytes.now }
     ensures { result ≡ i8_at bytes.now place }
@@ -37,7 +37,7 @@ pub fn i8_at(bytes: &[u8], place: usize) -> i8
     u8_at(bytes, place).cast_signed()
 }
 
-/// The number of two bytes at a place, in two's complement.
+/// The signed number of two bytes at an offset.
 pub fn i16_at(bytes: &[u8], place: usize) -> i16
     requires { place + 2 ≤ length bytes.now }
     ensures { result ≡ i16_at bytes.now place }
@@ -45,7 +45,7 @@ pub fn i16_at(bytes: &[u8], place: usize) -> i16
     LittleEndian::read_i16(&bytes[place..])
 }
 
-/// The number of four bytes at a place, in two's complement.
+/// The signed number of four bytes at an offset.
 pub fn i32_at(bytes: &[u8], place: usize) -> i32
     requires { place + 4 ≤ length bytes.now }
     ensures { result ≡ i32_at bytes.now place }
@@ -53,7 +53,7 @@ pub fn i32_at(bytes: &[u8], place: usize) -> i32
     LittleEndian::read_i32(&bytes[place..])
 }
 
-/// How wide the numbers of a list are. All are little-endian.
+/// The width of the numbers in a list. All are little-endian.
 #[derive(Clone, Copy, Debug, PartialEq, Eq)]
 pub enum NumberWidth {
     /// 16 bits, 2 bytes.
@@ -63,7 +63,7 @@ pub enum NumberWidth {
 }
 
 impl NumberWidth {
-    /// How many bytes a number takes.
+    /// The number of bytes of a number.
     pub(crate) fn size(self) -> usize
         ensures { result ≡ number_size self }
     {
@@ -73,7 +73,7 @@ impl NumberWidth {
         }
     }
 
-    /// How many numbers so many bytes hold.
+    /// How many numbers this many bytes contain.
     pub(crate) fn held_in(self, bytes: usize) -> usize
         ensures { result ≡ bytes / number_size self }
     {
@@ -84,7 +84,7 @@ impl NumberWidth {
     }
 }
 
-/// The signed number at a place, two's complement.
+/// The signed number at an offset.
 pub(crate) fn signed_at(bytes: &[u8], place: usize, width: NumberWidth) -> i32
     requires { place + number_size width ≤ length bytes.now }
     ensures { result ≡ signed_number width (drop place bytes.now) }
@@ -95,7 +95,7 @@ pub(crate) fn signed_at(bytes: &[u8], place: usize, width: NumberWidth) -> i32
     }
 }
 
-/// The number at a place, without a sign.
+/// The unsigned number at an offset.
 pub(crate) fn unsigned_at(bytes: &[u8], place: usize, width: NumberWidth) -> u32
     requires { place + number_size width ≤ length bytes.now }
     ensures { result ≡ unsigned_number width (drop place bytes.now) }

@@ -1,4 +1,4 @@
-//! Points cut into lists.
+//! Points divided into lists.
 
 ghost use Rattle.std.specs.Prelude.{◌≡◌, ◌%◌, ◌<◌, ◌↔◌, [], ◌∷◌, length, sum, IsTrue, Some, slice_get};
 ghost use Rattle.point_views.specs.Numbers.{number_size, point_size};
@@ -9,13 +9,12 @@ use crate::counts::Counts;
 use crate::numbers::NumberWidth;
 use crate::points::Points;
 
-/// Points cut into lists, one after another, as many points in each as its count says. It keeps the
-/// fields of a `Counts` and a `Points` rather than the two of them, since each would pad its width
-/// to a whole word.
+/// Points divided into consecutive lists, each with as many points as its count says. The fields of a `Counts` and a
+/// `Points` are stored separately, because each of these would pad its width to a whole word.
 ///
 /// # Guarantees
 ///
-/// - `count_bytes` holds the counts and nothing else, and `point_bytes` the points.
+/// - `count_bytes` contains the counts and nothing else, and `point_bytes` the points.
 /// - The counts add up to the number of points.
 #[derive(Clone, Copy, Debug, PartialEq, Eq)]
 pub struct PartedPoints<'a> {
@@ -23,9 +22,9 @@ pub struct PartedPoints<'a> {
     pub count_bytes: &'a [u8],
     /// The points' bytes.
     pub point_bytes: &'a [u8],
-    /// How wide each count is.
+    /// The width of each count.
     pub count_width: NumberWidth,
-    /// How wide each coordinate is.
+    /// The width of each coordinate.
     pub point_width: NumberWidth,
     pub ghost whole_counts: { length count_bytes.now % number_size count_width ≡ 0 },
     pub ghost whole_points: { length point_bytes.now % point_size point_width ≡ 0 },
@@ -38,7 +37,7 @@ impl<'a> PartedPoints<'a> {
     ghost use Rattle.point_views.specs.PassedOver.{after_empty};
     ghost use Rattle.point_views.specs.Split.{split_by};
 
-    /// The points cut as the counts say.
+    /// The points, divided as the counts say.
     pub(crate) fn new(counts: Counts<'a>, points: Points<'a>) -> PartedPoints<'a>
         requires complete { sum (counts_of counts) ≡ length (points_of points) }
         ensures { parts_of result ≡ split_by (counts_of counts.entry) (points_of points.entry) }
@@ -51,14 +50,14 @@ impl<'a> PartedPoints<'a> {
         }
     }
 
-    /// No points, cut into no lists.
+    /// No points, divided into no lists.
     pub(crate) fn empty() -> PartedPoints<'a>
         ensures { parts_of result ≡ [] }
     {
         PartedPoints::new(Counts::empty(), Points::empty())
     }
 
-    /// How many points each list has.
+    /// The number of points in each list.
     pub fn counts(self) -> Counts<'a>
         ensures { counts_of result ≡ all_counts_in self.entry.count_width self.entry.count_bytes.now }
     {
@@ -68,7 +67,7 @@ impl<'a> PartedPoints<'a> {
         }
     }
 
-    /// All points, one list's after another's.
+    /// All points, list after list.
     pub fn points(self) -> Points<'a>
         ensures { points_of result ≡ all_points_in self.entry.point_width self.entry.point_bytes.now }
     {
@@ -78,7 +77,7 @@ impl<'a> PartedPoints<'a> {
         }
     }
 
-    /// How many lists.
+    /// The number of lists.
     pub(crate) fn len(self) -> usize
         ensures { result ≡ length (parts_of self.entry) }
     {
@@ -115,7 +114,7 @@ impl<'a> PartedPoints<'a> {
         (points.part(0, end), rest)
     }
 
-    /// The lists from the first one with points on.
+    /// The lists from the first non-empty one on.
     pub(crate) fn after_empty(self) -> PartedPoints<'a>
         ensures { parts_of result ≡ after_empty (parts_of self.entry) }
     {
@@ -123,5 +122,5 @@ impl<'a> PartedPoints<'a> {
     }
 }
 
-// A piece of a path keeps one beside a page map.
+// A piece of a path has one of these and a page map.
 const _: () = prove!(size_of::<PartedPoints<'static>>() <= 40);

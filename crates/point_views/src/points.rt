@@ -6,19 +6,19 @@ ghost use Rattle.point_views.specs.Numbers.{point_size, first_point};
 use crate::numbers::{NumberWidth, signed_at};
 use mapping::Point;
 
-/// Points, one after another in a file's bytes: of each x, and then y, as a PointS ([MS-WMF]
-/// 2.2.2.16) has them in 16 bits and a PointL ([MS-WMF] 2.2.2.15) in 32. A view is a slice of the
-/// file and a width, and `get` reads a point from it.
+/// Points, one after another in a file's bytes. Each has an x and a y, in 16 bits as in a PointS ([MS-WMF] 2.2.2.16) or
+/// in 32 bits as in a PointL ([MS-WMF] 2.2.2.15). A view is a slice of the file and a width, and `get` reads a point
+/// from it.
 ///
 /// # Guarantees
 ///
-/// - `bytes` holds the points and nothing else, so two views of one width are equal exactly where
-///   their bytes are.
+/// - `bytes` contains the points and nothing else, so two views with the same width are equal exactly if their bytes
+///   are.
 #[derive(Clone, Copy, Debug, PartialEq, Eq)]
 pub struct Points<'a> {
     /// The points' bytes.
     pub bytes: &'a [u8],
-    /// How wide each coordinate is.
+    /// The width of each coordinate.
     pub width: NumberWidth,
     pub ghost whole: { length bytes.now % point_size width ≡ 0 },
 }
@@ -27,10 +27,10 @@ pub struct Points<'a> {
 impl<'a> Points<'a> {
     ghost use Rattle.point_views.specs.Points.{points_in, points_of};
 
-    /// The first `n` points in the bytes, each coordinate in 16 bits: none exactly where fewer than
-    /// `4 * n` bytes are there. Bytes after the points don't matter.
+    /// The first `n` points in the bytes, with coordinates of 16 bits. `None` exactly if there are fewer than `4 * n`
+    /// bytes. Bytes after the points don't matter.
     pub fn new16(bytes: &'a [u8], n: usize) -> Option<Points<'a>>
-        ensures room { IsSome result ↔ (4 * n ≤ length bytes.now) }
+        ensures enough { IsSome result ↔ (4 * n ≤ length bytes.now) }
         ensures points { IfSome result (λ points. points_of points ≡ points_in NumberWidth.Short n bytes.now) }
     {
         if bytes.len() / 4 < n {
@@ -42,10 +42,10 @@ impl<'a> Points<'a> {
         })
     }
 
-    /// The first `n` points in the bytes, each coordinate in 32 bits: none exactly where fewer than
-    /// `8 * n` bytes are there. Bytes after the points don't matter.
+    /// The first `n` points in the bytes, with coordinates of 32 bits. `None` exactly if there are fewer than `8 * n`
+    /// bytes. Bytes after the points don't matter.
     pub fn new32(bytes: &'a [u8], n: usize) -> Option<Points<'a>>
-        ensures room { IsSome result ↔ (8 * n ≤ length bytes.now) }
+        ensures enough { IsSome result ↔ (8 * n ≤ length bytes.now) }
         ensures points { IfSome result (λ points. points_of points ≡ points_in NumberWidth.Long n bytes.now) }
     {
         if bytes.len() / 8 < n {
@@ -57,7 +57,7 @@ impl<'a> Points<'a> {
         })
     }
 
-    /// No point.
+    /// No points.
     pub(crate) fn empty() -> Points<'a>
         ensures { points_of result ≡ [] }
     {
@@ -67,7 +67,7 @@ impl<'a> Points<'a> {
         }
     }
 
-    /// How many points.
+    /// The number of points.
     pub fn len(self) -> usize
         ensures { result ≡ length (points_of self.entry) }
     {
@@ -92,7 +92,7 @@ impl<'a> Points<'a> {
         point_at(self.bytes, self.place(i), self.width)
     }
 
-    /// The points from index `from` up to before index `to`.
+    /// The points from index `from` to before index `to`.
     pub fn part(self, from: usize, to: usize) -> Points<'a>
         requires order { from ≤ to }
         requires within { to ≤ length (points_of self) }
@@ -104,7 +104,7 @@ impl<'a> Points<'a> {
         }
     }
 
-    /// The first point, and the points after it: none exactly where there is no point.
+    /// The first point, and the points after it. `None` exactly if there is no point.
     pub fn split_first(self) -> Option<(Point, Points<'a>)>
         ensures none { IsNone result ↔ (points_of self.entry ≡ []) }
         ensures points { IfSome result (λ split. points_of self.entry ≡ split.0 ∷ points_of split.1) }
@@ -115,12 +115,12 @@ impl<'a> Points<'a> {
         Some((self.get(0), self.part(1, self.len())))
     }
 
-    /// The place of a point's first byte, or the end of the bytes.
+    /// The offset of a point's first byte, or the end of the bytes.
     fn place(self, i: usize) -> usize
         requires { i ≤ length (points_of self) }
         ensures place { result ≡ point_size self.entry.width * i }
         ensures within { result ≤ length self.entry.bytes.now }
-        ensures room { i < length (points_of self.entry)
+        ensures enough { i < length (points_of self.entry)
             → result + point_size self.entry.width ≤ length self.entry.bytes.now }
     {
         match self.width {
@@ -130,7 +130,7 @@ impl<'a> Points<'a> {
     }
 }
 
-/// The point whose first byte is at a place.
+/// The point whose first byte is at an offset.
 fn point_at(bytes: &[u8], place: usize, width: NumberWidth) -> Point
     requires { place + point_size width ≤ length bytes.now }
     ensures { result ≡ first_point width (drop place bytes.now) }

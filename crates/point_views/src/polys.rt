@@ -1,4 +1,4 @@
-//! Lists of points: one, or several one after another.
+//! Lists of points: one, or several consecutive ones.
 
 ghost use Rattle.std.specs.Prelude.{◌≡◌, ◌<◌, ◌↔◌, [], ◌∷◌, length, map, sum, IsTrue, IsSome, IsNone, IfSome, Some, slice_get};
 ghost use Rattle.std.specs.List.{flat_map};
@@ -12,8 +12,8 @@ use crate::lists::Lists;
 use crate::parted_points::PartedPoints;
 use crate::points::Points;
 
-/// Lists of points, as one record draws them: the one list of META_POLYGON or EMR_POLYGON, or the
-/// lists of META_POLYPOLYGON or EMR_POLYPOLYGON.
+/// Lists of points, as one record draws them: the single list of META_POLYGON or EMR_POLYGON, or the lists of
+/// META_POLYPOLYGON or EMR_POLYPOLYGON.
 #[derive(Clone, Copy, Debug, PartialEq, Eq)]
 pub enum Polys<'a> {
     /// One list.
@@ -25,7 +25,7 @@ pub enum Polys<'a> {
 impl<'a> Polys<'a> {
     ghost use Rattle.point_views.specs.Polys.{lists_of};
 
-    /// No list.
+    /// No lists.
     pub fn empty() -> Polys<'a>
         ensures { lists_of result ≡ [] }
     {
@@ -39,14 +39,14 @@ impl<'a> Polys<'a> {
         Polys::One(points)
     }
 
-    /// The points cut into lists, one after another, as many points in each as its count says: none
-    /// exactly where the counts don't add up to the number of points.
+    /// The points divided into consecutive lists, each with as many points as its count says. `None` exactly if the
+    /// counts don't add up to the number of points.
     #[tactic(auto, using(crate::proofs::SplitLemmas::wholes))]
     pub fn new(counts: Counts<'a>, points: Points<'a>) -> Option<Polys<'a>>
         ensures complete { IsSome result ↔ (sum (counts_of counts.entry) ≡ length (points_of points.entry)) }
         ensures lists { IfSome result (λ polys. lists_of polys ≡ split_by (counts_of counts.entry) (points_of points.entry)) }
 
-        // which says of the lists as a whole:
+        // so, for the lists as a whole:
         ensures lengths { IfSome result (λ polys. map length (lists_of polys) ≡ counts_of counts.entry) }
         ensures joined { IfSome result (λ polys. flat_map (λ list. list) (lists_of polys) ≡ points_of points.entry) }
     {
@@ -56,7 +56,7 @@ impl<'a> Polys<'a> {
         Some(Polys::Parted(PartedPoints::new(counts, points)))
     }
 
-    /// How many lists.
+    /// The number of lists.
     pub fn len(self) -> usize
         ensures { result ≡ length (lists_of self.entry) }
     {
@@ -76,7 +76,7 @@ impl<'a> Polys<'a> {
         }
     }
 
-    /// All points, one list's after another's.
+    /// All points, list after list.
     #[tactic(auto, using(crate::proofs::SplitLemmas::wholes))]
     pub fn points(self) -> Points<'a>
         ensures { points_of result ≡ flat_map (λ list. list) (lists_of self.entry) }
@@ -87,8 +87,8 @@ impl<'a> Polys<'a> {
         }
     }
 
-    /// The list at an index. It adds up the counts before that one: to go through the lists in order,
-    /// use `lists` or `split_first`.
+    /// The list at an index. This adds up the counts before it: to go through the lists in order, use `lists` or
+    /// `split_first`.
     pub fn get(self, k: usize) -> Points<'a>
         requires { k < length (lists_of self) }
         ensures { slice_get (lists_of self.entry) k ≡ Some (points_of result) }
@@ -99,7 +99,7 @@ impl<'a> Polys<'a> {
         }
     }
 
-    /// The first list, and the lists after it: none exactly where there is no list.
+    /// The first list, and the lists after it. `None` exactly if there is no list.
     pub fn split_first(self) -> Option<(Points<'a>, Polys<'a>)>
         ensures none { IsNone result ↔ (lists_of self.entry ≡ []) }
         ensures lists { IfSome result (λ split. lists_of self.entry ≡ points_of split.0 ∷ lists_of split.1) }
@@ -116,8 +116,8 @@ impl<'a> Polys<'a> {
         }
     }
 
-    /// The lists from the first one with points on. Empty lists are passed over several at a time, where `split_first` gives one after
-    /// another.
+    /// The lists from the first non-empty one on. Several empty lists are skipped at a time, while `split_first`
+    /// returns them one by one.
     pub fn after_empty(self) -> Polys<'a>
         ensures { lists_of result ≡ after_empty (lists_of self.entry) }
     {
@@ -132,7 +132,7 @@ impl<'a> Polys<'a> {
         }
     }
 
-    /// The lists in order. Going through all of them reads each count once more.
+    /// An iterator over the lists. Going through all of them reads each count once more.
     pub fn lists(self) -> Lists<'a>
         ensures { lists_of result.rest ≡ lists_of self.entry }
     {
@@ -140,5 +140,5 @@ impl<'a> Polys<'a> {
     }
 }
 
-// An operation that draws holds one.
+// An operation that draws has one of these.
 const _: () = prove!(size_of::<Polys<'static>>() <= 48);

@@ -1,13 +1,13 @@
-//! Zeros at the front of bytes.
+//! Leading zeros of bytes.
 
 ghost use Rattle.std.specs.Prelude.{◌≡◌, ◌≢◌, ℕ, ◌<◌, ◌≤◌, length, slice_index};
 
 use byteorder::{ByteOrder, LittleEndian};
 
-/// How many bytes are looked at together.
+/// The number of bytes that are examined at once.
 const WORD: usize = 8;
 
-/// How many zeros the bytes begin with.
+/// The number of leading zeros of the bytes.
 pub(crate) fn zeros(bytes: &[u8]) -> usize
     ensures within { result ≤ length bytes.now }
     ensures zeros { (k : ℕ) → k < result → slice_index bytes.now k ≡ 0 }
@@ -20,7 +20,7 @@ pub(crate) fn zeros(bytes: &[u8]) -> usize
     count
 }
 
-/// How many bytes the words of zeros have that the bytes begin with: a word at a time, since a file may have millions of them.
+/// The number of bytes in the leading words of zeros. Words are used because a file may have millions of zeros.
 fn zero_words(bytes: &[u8]) -> usize
     ensures within { result ≤ length bytes.now }
     ensures zeros { (k : ℕ) → k < result → slice_index bytes.now k ≡ 0 }

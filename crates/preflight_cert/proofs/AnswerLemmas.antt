@@ -23,31 +23,31 @@ use Rattle.dc_stack.specs.OperationFault.{fault_of}
 use Rattle.dc_stack.specs.State.{State, start_of}
 use Rattle.dc_stack.specs.declared.needs.Needs.{Needs}
 use Rattle.preflight_cert.specs.After.{file_needs}
-use Rattle.preflight_cert.specs.Answer.{Answer, AnswerLaws, AnswersOpened, AnswersRead, Fits, RecordsAnswer, Sound, accepted, answer_from, answer_to, are_within, bound_of, file_budget, refuses}
+use Rattle.preflight_cert.specs.Answer.{Answer, AnswerLaws, AnswersOpened, AnswersRead, Fits, RecordsAnswer, Sound, accepted, answer_from, answer_to, are_within, bound_of, file_budget, rejects}
 use Rattle.preflight_cert.specs.Apply.{image_after}
 use Rattle.preflight_cert.specs.CertificateReading.{CertificateValue, read_certificate}
 use Rattle.preflight_cert.specs.Checked.{checked, left_over}
 use Rattle.preflight_cert.specs.Drawings.{NumberedDrawing, drawing_then, drawings_of}
 use Rattle.meta_headers.specs.OpeningLaws.{OpeningLaws}
-use Rattle.preflight_cert.specs.Entries.{AreCovered, Covers, covers, covers_nib, entries_behind, entry_fault, extent_fault}
+use Rattle.preflight_cert.specs.Entries.{AreCovered, Covers, covers, covers_nib, entries_after, entry_fault, extent_fault}
 use Rattle.preflight_cert.specs.NeedLaws.{AreWithin}
-use Rattle.preflight_cert.specs.Run.{Refused, ShowsImage, StopsInRecord, RunWrites}
+use Rattle.preflight_cert.specs.Run.{Rejected, ShowsImage, StopsInRecord, RunWrites}
 use Rattle.preflight_cert.specs.SizeLaws.{SizeLaws}
-use Rattle.preflight_cert.specs.Stop.{Stop, broken_behind, stop_at, stop_of, stopped}
+use Rattle.preflight_cert.specs.Stop.{Stop, broken_after, stop_at, stop_of, stopped}
 use Rattle.preflight_cert.specs.Writes.{writes_after}
-use Rattle.preflight_cert.specs.declared.entry.Entry.{Entry}
+use Rattle.preflight_cert.specs.declared.certificate_entry.Entry.{Entry}
 use Rattle.preflight_cert.proofs.CoverLemmas.{points_in, points_of}
 use Rattle.preflight_cert.proofs.RunLemmas.{opens_or_not}
 use Rattle.preflight_cert.proofs.StopLemmas.{none_first, none_here, none_later, none_second}
 
 -- behind the last step
-none_at_end : (behind : Option Stop) (count : ℕ) (entries : List Entry) → option_or behind (left_over count entries) ≡ None → behind ≡ None
+none_at_end : (after : Option Stop) (count : ℕ) (entries : List Entry) → option_or after (left_over count entries) ≡ None → after ≡ None
 none_at_end None count entries h = refl
 none_at_end (Some stop) count entries h = absurd (cc)
 
 -- an entry that is in order covers its drawing, and the other way round
 module _ (s : Surface) where
-  covered_end : (behind : Option Stop) (count : ℕ) (entries : List Entry) → option_or behind (left_over count entries) ≡ None → AreCovered [] entries s
+  covered_end : (after : Option Stop) (count : ℕ) (entries : List Entry) → option_or after (left_over count entries) ≡ None → AreCovered [] entries s
   covered_end None count [] h = tt
   covered_end None count (entry ∷ entries) h = absurd (cc)
   covered_end (Some stop) count entries h = absurd (cc)
@@ -75,7 +75,7 @@ module _ (s : Surface) where
   numbered number drawing entry false t h = absurd (cc)
 
   covered_then : (number : ℕ) (drawing : Option Drawing) (later : List NumberedDrawing) (entries : List Entry) → entry_fault number drawing entries s ≡ None
-      → AreCovered later (entries_behind drawing entries) s → AreCovered (drawing_then number drawing later) entries s
+      → AreCovered later (entries_after drawing entries) s → AreCovered (drawing_then number drawing later) entries s
   covered_then number None later entries h rest = rest
   covered_then number (Some drawing) later [] h rest = absurd (cc)
   covered_then number (Some drawing) later (entry ∷ entries) h rest = (numbered number drawing entry (entry.number == number) refl h, rest)
@@ -88,37 +88,37 @@ module _ (s : Surface) where
       let has_points = points_of entry.bounds (drawing_points drawing) h.0.box in
       let has_nib = widens entry.nib (drawing_nib drawing s) h.0.nib in rw (right, has_points, has_nib) refl
 
-  covered_behind : (number : ℕ) (drawing : Option Drawing) (later : List NumberedDrawing) (entries : List Entry) → AreCovered (drawing_then number drawing later) entries s → AreCovered later (entries_behind drawing entries) s
-  covered_behind number None later entries h = h
-  covered_behind number (Some drawing) later [] h = absurd h
-  covered_behind number (Some drawing) later (entry ∷ entries) h = h.1
+  covered_after : (number : ℕ) (drawing : Option Drawing) (later : List NumberedDrawing) (entries : List Entry) → AreCovered (drawing_then number drawing later) entries s → AreCovered later (entries_after drawing entries) s
+  covered_after number None later entries h = h
+  covered_after number (Some drawing) later [] h = absurd h
+  covered_after number (Some drawing) later (entry ∷ entries) h = h.1
 
-module _ (s : Surface) (behind : Option Stop) (count : ℕ) where
-  unstopped_of : (steps : List StepValue) (state : State) (entries : List Entry) → checked steps behind count state s entries ≡ None → stopped steps behind state s ≡ None
-  unstopped_of [] state entries h = none_at_end behind count entries h
+module _ (s : Surface) (after : Option Stop) (count : ℕ) where
+  unstopped_of : (steps : List StepValue) (state : State) (entries : List Entry) → checked steps after count state s entries ≡ None → stopped steps after state s ≡ None
+  unstopped_of [] state entries h = none_at_end after count entries h
   unstopped_of (step ∷ steps) state entries h =
       let here : fault_of step.operation state s ≡ None = none_first (fault_of step.operation state s) (entry_fault step.number (drawing_of step.operation state) entries s) (none_here _ _ _ h) in
-      let rest = unstopped_of steps (next step.operation state) (entries_behind (drawing_of step.operation state) entries) (none_later _ _ _ h) in
+      let rest = unstopped_of steps (next step.operation state) (entries_after (drawing_of step.operation state) entries) (none_later _ _ _ h) in
       rw (here, rest) refl
 
-  covered_of : (steps : List StepValue) (state : State) (entries : List Entry) → checked steps behind count state s entries ≡ None → AreCovered (drawings_of steps state) entries s
-  covered_of [] state entries h = covered_end s behind count entries h
+  covered_of : (steps : List StepValue) (state : State) (entries : List Entry) → checked steps after count state s entries ≡ None → AreCovered (drawings_of steps state) entries s
+  covered_of [] state entries h = covered_end s after count entries h
   covered_of (step ∷ steps) state entries h =
       let fits = none_second (fault_of step.operation state s) (entry_fault step.number (drawing_of step.operation state) entries s) (none_here _ _ _ h) in
       covered_then s step.number (drawing_of step.operation state) (drawings_of steps (next step.operation state)) entries fits
-      (covered_of steps (next step.operation state) (entries_behind (drawing_of step.operation state) entries) (none_later _ _ _ h))
+      (covered_of steps (next step.operation state) (entries_after (drawing_of step.operation state) entries) (none_later _ _ _ h))
 
-  checked_at_end : (entries : List Entry) → behind ≡ None → AreCovered [] entries s → option_or behind (left_over count entries) ≡ None
+  checked_at_end : (entries : List Entry) → after ≡ None → AreCovered [] entries s → option_or after (left_over count entries) ≡ None
   checked_at_end [] h covered = rw h refl
   checked_at_end (entry ∷ entries) h covered = absurd covered
 
-  checked_from : (steps : List StepValue) (state : State) (entries : List Entry) → stopped steps behind state s ≡ None → AreCovered (drawings_of steps state) entries s → checked steps behind count state s entries ≡ None
+  checked_from : (steps : List StepValue) (state : State) (entries : List Entry) → stopped steps after state s ≡ None → AreCovered (drawings_of steps state) entries s → checked steps after count state s entries ≡ None
   checked_from [] state entries h covered = checked_at_end entries h covered
   checked_from (step ∷ steps) state entries h covered =
       let here : fault_of step.operation state s ≡ None = none_here step.number (fault_of step.operation state s) _ h in
       let fits = faultless s step.number (drawing_of step.operation state) (drawings_of steps (next step.operation state)) entries covered in
-      let behind_it = covered_behind s step.number (drawing_of step.operation state) (drawings_of steps (next step.operation state)) entries covered in
-      let rest = checked_from steps (next step.operation state) (entries_behind (drawing_of step.operation state) entries) (none_later _ _ _ h) behind_it in
+      let after_it = covered_after s step.number (drawing_of step.operation state) (drawings_of steps (next step.operation state)) entries covered in
+      let rest = checked_from steps (next step.operation state) (entries_after (drawing_of step.operation state) entries) (none_later _ _ _ h) after_it in
       rw (here, fits, rest) refl
 
 -- needs within others, as a test and as a fact
@@ -150,15 +150,15 @@ fits_of content o c h =
     let none = both_none _ _ h in
     let pair = both_true (are_within (file_needs content o) c.needs) (nat_le (file_budget content o c) c.writes) none.1 in
     record {
-      unstopped = unstopped_of (bound_of o c) (broken_behind (length content.steps) content.fault) (length content.steps) content.steps (start_of o) c.entries none.0;
-      covered = covered_of (bound_of o c) (broken_behind (length content.steps) content.fault) (length content.steps) content.steps (start_of o) c.entries none.0;
+      unstopped = unstopped_of (bound_of o c) (broken_after (length content.steps) content.fault) (length content.steps) content.steps (start_of o) c.entries none.0;
+      covered = covered_of (bound_of o c) (broken_after (length content.steps) content.fault) (length content.steps) content.steps (start_of o) c.entries none.0;
       needs = within_of (file_needs content o) c.needs pair.0;
       budget = leb-true _ _ pair.1;
     }
 
 accepted_of : (content : Content) (o : OpenedValue) (c : CertificateValue) → Fits c o content → accepted ≡ answer_to content o c
 accepted_of content o c fits =
-    let order = checked_from (bound_of o c) (broken_behind (length content.steps) content.fault) (length content.steps) content.steps (start_of o) c.entries fits.unstopped fits.covered in
+    let order = checked_from (bound_of o c) (broken_after (length content.steps) content.fault) (length content.steps) content.steps (start_of o) c.entries fits.unstopped fits.covered in
     let within = within_from (file_needs content o) c.needs fits.needs in
     let few = le-leb _ _ fits.budget in
     rw (order, within, few) refl
@@ -167,7 +167,7 @@ one_of : (answer : Answer) → ExactlyOne (λ (other : Answer). other ≡ answer
 one_of answer = record { value = answer; holds = refl; only = λ other h. h }
 
 one_read : ContentIsOne → (read : Result CertificateValue Fault) (o : OpenedValue) (file : List ℕ) → ExactlyOne (AnswersRead read o (record_bytes o.format file))
-one_read one (Err fault) o file = one_of (refuses None fault)
+one_read one (Err fault) o file = one_of (rejects None fault)
 one_read one (Ok c) o file =
     let content = one (framing_of o.format) (meaning_of o.format) (record_bytes o.format file) in
     record {
@@ -177,7 +177,7 @@ one_read one (Ok c) o file =
     }
 
 one_opened : ContentIsOne → (o : Result OpenedValue Fault) (file certificate : List ℕ) → ExactlyOne (AnswersOpened o file certificate)
-one_opened one (Err fault) file certificate = one_of (refuses None fault)
+one_opened one (Err fault) file certificate = one_of (rejects None fault)
 one_opened one (Ok o) file certificate = one_read one (read_certificate certificate) o file
 
 some_none : (stop : Option Stop) (at : Stop) → stop ≡ Some at → stop ≡ None → ⊥
@@ -209,9 +209,9 @@ module _ (one : FileIsOne) (laws : SizeLaws) (file : List ℕ) (o : OpenedValue)
       let none = unstopped width height w h in
       let some = k.stops in some_none _ (stop_at number k.here) some (e ∙ none)
 
-  never_refused : (width height : ℕ) (number : Option ℕ) (fault : Fault) → width ≤ c.max_width → height ≤ c.max_height → Refused file width height number fault → ⊥
-  never_refused width height None fault w h k = opens_or_not (opened file) o fault opens k
-  never_refused width height (Some number) fault w h k = never_stops width height number fault w h k
+  never_rejected : (width height : ℕ) (number : Option ℕ) (fault : Fault) → width ≤ c.max_width → height ≤ c.max_height → Rejected file width height number fault → ⊥
+  never_rejected width height None fault w h k = opens_or_not (opened file) o fault opens k
+  never_rejected width height (Some number) fault w h k = never_stops width height number fault w h k
 
   few_written : (width height writes : ℕ) → width ≤ c.max_width → height ≤ c.max_height → RunWrites file width height writes → writes ≤ c.writes
   few_written width height writes w h k =
@@ -231,7 +231,7 @@ sound_of one opening laws file o c e answer =
     let frame = opening.frame file o c.max_width c.max_height e in
     record {
       shows = λ width height image w k. record { after = _; ends = shows_image one laws file o e c frame answer width height image w k };
-      faultless = λ width height image number fault w k r. never_refused one laws file o e c frame answer width height number fault w k r;
+      faultless = λ width height image number fault w k r. never_rejected one laws file o e c frame answer width height number fault w k r;
       few = λ width height writes w k r. few_written one laws file o e c frame answer width height writes w k r;
     }
 

@@ -129,9 +129,9 @@ marked_by n false false version f g e = cc
 is_marked : (n : ℕ) (version : Version) → version_of n ≡ Some version → n ≡ mark_of version
 is_marked n version e = marked_by n (n == mark_of Mpc1) (n == mark_of Mpc2) version (eqb-true n (mark_of Mpc1)) (eqb-true n (mark_of Mpc2)) e
 
-marked_front : (version : Version) (bytes rest : List ℕ) → number_at bytes 0 4 ≡ mark_of version → number_text (number_at bytes 0 4) ++ rest ≡ bytes
+marked_prefix : (version : Version) (bytes rest : List ℕ) → number_at bytes 0 4 ≡ mark_of version → number_text (number_at bytes 0 4) ++ rest ≡ bytes
     → mark_text version ++ rest ≡ bytes
-marked_front version bytes rest marked e =
+marked_prefix version bytes rest marked e =
     ap (λ (text : List ℕ). text ++ rest) (sym (number_is_mark version)) ∙ ap (λ (n : ℕ). number_text n ++ rest) (sym marked) ∙ e
 
 -- what was found of bytes that are read
@@ -170,14 +170,14 @@ module _ (bytes : List ℕ) (c : CertificateValue) (all : AreBytes bytes) (h : I
   abbrev version : Version
   version = h.version
 
-  behind : length (drop 40 bytes) ≡ entry_size version * count_in bytes
-  behind = let len = length-drop 40 bytes in let whole = h.whole in omega (arith, len, whole)
+  after : length (drop 40 bytes) ≡ entry_size version * count_in bytes
+  after = let len = length-drop 40 bytes in let whole = h.whole in omega (arith, len, whole)
 
   -- the numbers in front of the entries
-  front_again : (rest : List ℕ) → rest ≡ drop 40 bytes → text_with version (head_of (value_in version bytes)) (count_in bytes) rest ≡ bytes
-  front_again rest e =
+  prefix_again : (rest : List ℕ) → rest ≡ drop 40 bytes → text_with version (head_of (value_in version bytes)) (count_in bytes) rest ≡ bytes
+  prefix_again rest e =
       let head = h.head in
-      marked_front version bytes _ (is_marked (number_at bytes 0 4) version h.marked)
+      marked_prefix version bytes _ (is_marked (number_at bytes 0 4) version h.marked)
       (number_again 0 bytes all _ (omega (arith, head))
       (number_again 4 bytes all _ (omega (arith, head))
       (number_again 8 bytes all _ (omega (arith, head))
@@ -188,34 +188,34 @@ module _ (bytes : List ℕ) (c : CertificateValue) (all : AreBytes bytes) (h : I
       (number_again 32 bytes all _ (omega (arith, head))
       (number_again 36 bytes all rest (omega (arith, head)) e)))))))))
 
-  behind_bytes : AreBytes (drop 40 bytes)
-  behind_bytes = All-drop (λ byte. byte < 2 ^ 8) 40 bytes all
+  after_bytes : AreBytes (drop 40 bytes)
+  after_bytes = All-drop (λ byte. byte < 2 ^ 8) 40 bytes all
 
   pub value_text : certificate_text (value_in version bytes) ≡ bytes
   value_text =
       ap (λ (n : ℕ). text_with version (head_of (value_in version bytes)) n (flat_map (entry_text version) (value_in version bytes).entries))
       (length-entries_in version (count_in bytes) (drop 40 bytes))
-      ∙ front_again _ (entries_again version (count_in bytes) (drop 40 bytes) behind_bytes behind)
+      ∙ prefix_again _ (entries_again version (count_in bytes) (drop 40 bytes) after_bytes after)
 
   value_is_certificate : IsCertificate (value_in version bytes)
   value_is_certificate =
       let head = h.head in
       let count = and_parts (is_surface_side (number_at bytes 4 4) && is_surface_side (number_at bytes 8 4) && are_bounded_needs (needs_in bytes)) (nat_le (count_in bytes) entry_limit) h.bounded in
       let needs = and_parts (is_surface_side (number_at bytes 4 4) && is_surface_side (number_at bytes 8 4)) (are_bounded_needs (needs_in bytes)) count.0 in
-      let sides = and_parts (is_surface_side (number_at bytes 4 4)) (is_surface_side (number_at bytes 8 4)) needs.0 in
+      let dimensions = and_parts (is_surface_side (number_at bytes 4 4)) (is_surface_side (number_at bytes 8 4)) needs.0 in
       let pieces = and_parts (nat_le (number_at bytes 20 4) 256 && nat_le (number_at bytes 24 4) 65535 && nat_le (number_at bytes 28 4) edge_limit) (nat_le (number_at bytes 32 4) piece_limit) needs.1 in
       let edges = and_parts (nat_le (number_at bytes 20 4) 256 && nat_le (number_at bytes 24 4) 65535) (nat_le (number_at bytes 28 4) edge_limit) pieces.0 in
       let depth = and_parts (nat_le (number_at bytes 20 4) 256) (nat_le (number_at bytes 24 4) 65535) edges.0 in
       record {
-        wide = (tests_are_limits.surface_side (number_at bytes 4 4)).0 sides.0;
-        high = (tests_are_limits.surface_side (number_at bytes 8 4)).0 sides.1;
+        wide = (tests_are_limits.surface_side (number_at bytes 4 4)).0 dimensions.0;
+        high = (tests_are_limits.surface_side (number_at bytes 8 4)).0 dimensions.1;
         writes = long_small 12 bytes all (omega (arith, head));
         depth = leb-true _ _ depth.0;
         slots = leb-true _ _ depth.1;
         edges = leb-true _ _ edges.1;
         pieces = leb-true _ _ pieces.1;
         few = subst (λ (n : ℕ). n ≤ entry_limit) (sym (length-entries_in version (count_in bytes) (drop 40 bytes))) (leb-true _ _ count.1);
-        entries = entries_read version (count_in bytes) (drop 40 bytes) behind_bytes behind h.nibs;
+        entries = entries_read version (count_in bytes) (drop 40 bytes) after_bytes after h.nibs;
       }
 
 pub is_text : (bytes : List ℕ) (c : CertificateValue) → AreBytes bytes → read_certificate bytes ≡ Ok c → bytes ≡ certificate_text c

@@ -18,7 +18,7 @@ use Rattle.dc_stack.specs.Path.{piece_limit}
 use Rattle.preflight_cert.specs.CertificateReading.{CertificateValue, are_bounded_needs, count_in, entries_in, entry_limit, entry_size, first_entry, have_nibs, is_bounded, mark_of, needs_in, nib_in, read_certificate, read_version, read_whole, value_in, version_of, whole_size, with_nibs}
 use Rattle.preflight_cert.specs.CertificateText.{certificate_text, entry_text, needs_text, nib_text, number_text}
 use Rattle.preflight_cert.specs.TextLaws.{HasNibOf, IsCertificate, IsEntry}
-use Rattle.preflight_cert.specs.declared.entry.Entry.{Entry}
+use Rattle.preflight_cert.specs.declared.certificate_entry.Entry.{Entry}
 use Rattle.preflight_cert.specs.declared.version.Version.{Version}
 use Rattle.preflight_cert.specs.declared.version.Version.TheVariants.{Mpc1, Mpc2}
 use Rattle.preflight_cert.proofs.EntryLemmas.{ends_with_entries}
@@ -59,9 +59,9 @@ nib_passes Mpc1 nib h = ap is_nib h
 nib_passes Mpc2 nib h = nib_from nib h
 
 -- an entry's bytes are as many as its version has
-behind_entry : (version : Version) (entry : Entry) (rest : List ℕ) → drop (entry_size version) (entry_text version entry ++ rest) ≡ rest
-behind_entry Mpc1 entry rest = refl
-behind_entry Mpc2 entry rest = refl
+after_entry : (version : Version) (entry : Entry) (rest : List ℕ) → drop (entry_size version) (entry_text version entry ++ rest) ≡ rest
+after_entry Mpc1 entry rest = refl
+after_entry Mpc2 entry rest = refl
 
 length-entry : (version : Version) (entry : Entry) (rest : List ℕ) → length (entry_text version entry ++ rest) ≡ entry_size version + length rest
 length-entry Mpc1 entry rest = omega arith
@@ -85,7 +85,7 @@ module _ (version : Version) where
   entries_back [] all = refl
   entries_back (entry ∷ entries) all =
       same_list (entry_back entry (written entries) (All-head (IsEntry version) entry entries all))
-      (ap (λ (bytes : List ℕ). entries_in version (length entries) bytes) (behind_entry version entry (written entries))
+      (ap (λ (bytes : List ℕ). entries_in version (length entries) bytes) (after_entry version entry (written entries))
       ∙ entries_back entries (All-tail (IsEntry version) entry entries all))
 
   nibs_pass : (entries : List Entry) → All (IsEntry version) entries → have_nibs entries ≡ true

@@ -11,13 +11,13 @@ use Rattle.dc_stack.specs.MachineState.{MachineState}
 use Rattle.dc_stack.specs.State.{State, start_of}
 use Rattle.dc_stack.specs.declared.needs.Needs.{Needs}
 use Rattle.preflight_cert.specs.After.{file_notes, needs_after, notes_after}
-use Rattle.preflight_cert.specs.Answer.{Answer, AnswersRead, CountsRecords, IsAnswer, IsCleared, RecordsAnswer, accepted, answer_from, answer_to, bound_of, refuses, total_fault}
+use Rattle.preflight_cert.specs.Answer.{Answer, AnswersRead, CountsRecords, IsAnswer, IsCleared, RecordsAnswer, accepted, answer_from, answer_to, bound_of, rejects, total_fault}
 use Rattle.preflight_cert.specs.CertificateReading.{CertificateValue, read_certificate}
 use Rattle.preflight_cert.specs.Checked.{check_of}
 use Rattle.preflight_cert.specs.Checks.{Checks}
 use Rattle.preflight_cert.specs.Drawings.{drawings_of}
 use Rattle.preflight_cert.specs.Entries.{budget_of}
-use Rattle.preflight_cert.specs.declared.walk.Totals.{Totals}
+use Rattle.preflight_cert.specs.declared.entry_check.Totals.{Totals}
 use Rattle.preflight_cert.proofs.StartLemmas.{IsAtStart}
 
 -- the answer from a state on, on a surface, beside needs from before
@@ -70,7 +70,7 @@ cleared_if_read one read o records answer c e = cleared one o records c (subst (
 -- an answer that accepts
 is_accepted : Answer → Bool
 is_accepted accepted = true
-is_accepted (refuses number fault) = false
+is_accepted (rejects number fault) = false
 
 -- and read it is
 pub accepted_reads : (read : Result CertificateValue Fault) (o : OpenedValue) (records : List ℕ) → AnswersRead read o records accepted → IsOk read

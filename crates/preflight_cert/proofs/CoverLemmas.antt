@@ -4,7 +4,7 @@ use Rattle.std.specs.List.{All, Any, list_all}
 use Rattle.std.proofs.lemmas.Bool.{and_from, and_parts}
 use Rattle.std.proofs.lemmas.Int.{ints}
 use Rattle.std.proofs.lemmas.List.Elements.{All-cons, All-head, All-nil, All-tail}
-use Rattle.mapping.specs.Boxes.{HasPoint, IsLeastBox, IsTight, has_box, has_part}
+use Rattle.mapping.specs.Boxes.{HasPoint, IsBoundingBox, IsTight, has_box, has_part}
 use Rattle.mapping.specs.TestLaws.{int_le-from, int_le-true, same_test}
 use Rattle.mapping.specs.declared.geometry.Point.{Point}
 use Rattle.mapping.specs.declared.geometry.Rect.{Rect}
@@ -76,7 +76,7 @@ from_test box least t =
     let c = and_parts (int_le box.t least.t) (int_le least.b box.b) a.1 in
     record { left = int_le-true box.l least.l b.0; top = int_le-true box.t least.t c.0; right = int_le-true least.r box.r b.1; bottom = int_le-true least.b box.b c.1 }
 
-pub corners_cover : (box least : Rect) (ps : List Point) → least.l ≤ℤ least.r → IsLeastBox least ps →
+pub corners_cover : (box least : Rect) (ps : List Point) → least.l ≤ℤ least.r → IsBoundingBox least ps →
     has_box box least ≡ covers box ps
 corners_cover box least [] order is = absurd (let a = ap (λ (r : Rect). r.l) is in let b = ap (λ (r : Rect). r.r) is in omega (arith, ints, order, a, b))
 corners_cover box least (p ∷ ps) order tight =
@@ -84,7 +84,7 @@ corners_cover box least (p ∷ ps) order tight =
     (λ t. points_of box (p ∷ ps) (all_within box least (p ∷ ps) (from_test box least t) tight.all))
     (λ t. test_of box least (corners box least (p ∷ ps) tight (points_in box (p ∷ ps) t)))
 
-pub none_covered : (box least : Rect) (ps : List Point) → least.r <ℤ least.l → IsLeastBox least ps → covers box ps ≡ true
+pub none_covered : (box least : Rect) (ps : List Point) → least.r <ℤ least.l → IsBoundingBox least ps → covers box ps ≡ true
 none_covered box least [] order is = refl
 none_covered box least (p ∷ ps) order tight =
     let h = All-head (HasPoint least) p ps tight.all in

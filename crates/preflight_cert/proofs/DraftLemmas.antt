@@ -13,7 +13,7 @@ use Rattle.preflight_cert.specs.DraftOf.{Adds, Holds, StandIn}
 use Rattle.preflight_cert.specs.Preparation.{have_single_pixels, version_for}
 use Rattle.preflight_cert.specs.TextParts.{bound_text, head_text}
 use Rattle.preflight_cert.specs.declared.draft.Draft.{Draft}
-use Rattle.preflight_cert.specs.declared.entry.Entry.{Entry}
+use Rattle.preflight_cert.specs.declared.certificate_entry.Entry.{Entry}
 use Rattle.preflight_cert.specs.declared.version.Version.{Version}
 use Rattle.preflight_cert.specs.declared.version.Version.TheVariants.{Mpc1, Mpc2}
 use Rattle.preflight_cert.proofs.CertificateTextLemmas.{length-entries}
@@ -64,12 +64,12 @@ wide_then entries entry e = ap version_by (singles_then entries entry false e �
 pub stand_then : (version : Version) (old new : List ℕ) (entries : List Entry) (entry : Entry) → StandIn version old entries
     → new ≡ old ++ entry_text version entry → StandIn version new (entries ++ (entry ∷ []))
 stand_then version old new entries entry h e =
-    let room = h.room in
+    let capacity = h.capacity in
     let size : length new ≡ length old + length (entry_text version entry) = ap length e ∙ length-append old (entry_text version entry) in
     record {
-      room = omega (arith, room, size);
-      behind = ap (λ (bytes : List ℕ). drop 40 bytes) e ∙ drop-append-le 40 old (entry_text version entry) room
-          ∙ ap (λ (bytes : List ℕ). bytes ++ entry_text version entry) h.behind ∙ flat_map_more (entry_text version) [] entries entry;
+      capacity = omega (arith, capacity, size);
+      after = ap (λ (bytes : List ℕ). drop 40 bytes) e ∙ drop-append-le 40 old (entry_text version entry) capacity
+          ∙ ap (λ (bytes : List ℕ). bytes ++ entry_text version entry) h.after ∙ flat_map_more (entry_text version) [] entries entry;
     }
 
 -- entries in a row of additions
@@ -107,18 +107,18 @@ abbrev wide_text : List Entry → List ℕ
 wide_text entries = flat_map (entry_text Mpc2) entries
 
 -- the bytes from the entry at an index on
-from_entry : (index : ℕ) (entries : List Entry) (behind : List ℕ) → index ≤ length entries
-    → drop (20 * index) (plain_text entries ++ behind) ≡ plain_text (drop index entries) ++ behind
-from_entry zero entries behind h = refl
-from_entry (suc index) [] behind h = absurd (omega (arith, h))
-from_entry (suc index) (entry ∷ entries) behind h =
+from_entry : (index : ℕ) (entries : List Entry) (after : List ℕ) → index ≤ length entries
+    → drop (20 * index) (plain_text entries ++ after) ≡ plain_text (drop index entries) ++ after
+from_entry zero entries after h = refl
+from_entry (suc index) [] after h = absurd (omega (arith, h))
+from_entry (suc index) (entry ∷ entries) after h =
     let e : 20 * suc index ≡ 20 + 20 * index = omega arith in
-    ap (λ (n : ℕ). drop n (plain_text (entry ∷ entries) ++ behind)) e
-    ∙ sym (drop-drop (20 * index) 20 (plain_text (entry ∷ entries) ++ behind))
-    ∙ from_entry index entries behind (omega (arith, h))
+    ap (λ (n : ℕ). drop n (plain_text (entry ∷ entries) ++ after)) e
+    ∙ sym (drop-drop (20 * index) 20 (plain_text (entry ∷ entries) ++ after))
+    ∙ from_entry index entries after (omega (arith, h))
 
-first_entry_text : (entry : Entry) (rest behind : List ℕ) → take 20 ((entry_text Mpc1 entry ++ rest) ++ behind) ≡ entry_text Mpc1 entry
-first_entry_text entry rest behind = refl
+first_entry_text : (entry : Entry) (rest after : List ℕ) → take 20 ((entry_text Mpc1 entry ++ rest) ++ after) ≡ entry_text Mpc1 entry
+first_entry_text entry rest after = refl
 
 with_nib : (entry : Entry) (rest : List ℕ) → entry.nib ≡ one_pixel → entry_text Mpc1 entry ++ (nib_text Mpc2 one_pixel ++ rest) ≡ entry_text Mpc2 entry ++ rest
 with_nib entry rest e = ap (λ (nib : Nib). entry_text Mpc1 entry ++ (nib_text Mpc2 nib ++ rest)) (sym e)
@@ -128,71 +128,71 @@ piece_at : (n : ℕ) (start old : List ℕ) → take (n + 20) old ≡ take (n + 
 piece_at n start old e = sym (drop-take n 20 old) ∙ ap (λ (bytes : List ℕ). drop n bytes) e ∙ drop-take n 20 start
 
 -- one entry more has been moved
-pub moved : (index : ℕ) (start old new : List ℕ) (entries : List Entry) (behind : List ℕ) → index < length entries → have_single_pixels entries ≡ true
-    → start ≡ plain_text entries ++ behind → take (20 * index + 20) old ≡ take (20 * index + 20) start
+pub moved : (index : ℕ) (start old new : List ℕ) (entries : List Entry) (after : List ℕ) → index < length entries → have_single_pixels entries ≡ true
+    → start ≡ plain_text entries ++ after → take (20 * index + 20) old ≡ take (20 * index + 20) start
     → drop (24 * index) new ≡ take 20 (drop (20 * index) old) ++ (nib_text Mpc2 one_pixel ++ drop (24 * index + 24) old)
     → drop (24 * index + 24) old ≡ wide_text (drop (suc index) entries) → drop (24 * index) new ≡ wide_text (drop index entries)
-moved index start old new entries behind inside single whole same put later =
+moved index start old new entries after inside single whole same put later =
     let one = at index entries inside in
     let here : take 20 (drop (20 * index) start) ≡ entry_text Mpc1 one.entry =
     ap (λ (bytes : List ℕ). take 20 (drop (20 * index) bytes)) whole
-    ∙ ap (λ (bytes : List ℕ). take 20 bytes) (from_entry index entries behind (omega (arith, inside)))
-    ∙ ap (λ (left : List Entry). take 20 (plain_text left ++ behind)) one.first in
+    ∙ ap (λ (bytes : List ℕ). take 20 bytes) (from_entry index entries after (omega (arith, inside)))
+    ∙ ap (λ (left : List Entry). take 20 (plain_text left ++ after)) one.first in
     put ∙ ap (λ (bytes : List ℕ). bytes ++ (nib_text Mpc2 one_pixel ++ drop (24 * index + 24) old)) (piece_at (20 * index) start old same ∙ here)
     ∙ ap (λ (bytes : List ℕ). entry_text Mpc1 one.entry ++ (nib_text Mpc2 one_pixel ++ bytes)) later
     ∙ with_nib one.entry (wide_text (drop (suc index) entries)) (one.plain single)
     ∙ ap wide_text (sym one.first)
 
 -- the same, where so many are left that one less is the index
-pub front_less : (m n : ℕ) (old start : List ℕ) → m ≤ n → take n old ≡ take n start → take m old ≡ take m start
-front_less m n old start h e = sym (take-take m n old h) ∙ ap (λ (bytes : List ℕ). take m bytes) e ∙ take-take m n start h
+pub prefix_less : (m n : ℕ) (old start : List ℕ) → m ≤ n → take n old ≡ take n start → take m old ≡ take m start
+prefix_less m n old start h e = sym (take-take m n old h) ∙ ap (λ (bytes : List ℕ). take m bytes) e ∙ take-take m n start h
 
-pub moved_next : (left : ℕ) (start old new : List ℕ) (entries : List Entry) (behind : List ℕ) → 0 < left → left ≤ length entries
-    → have_single_pixels entries ≡ true → start ≡ plain_text entries ++ behind → take (20 * left) old ≡ take (20 * left) start
+pub moved_next : (left : ℕ) (start old new : List ℕ) (entries : List Entry) (after : List ℕ) → 0 < left → left ≤ length entries
+    → have_single_pixels entries ≡ true → start ≡ plain_text entries ++ after → take (20 * left) old ≡ take (20 * left) start
     → drop (24 * (left - 1)) new ≡ take 20 (drop (20 * (left - 1)) old) ++ (nib_text Mpc2 one_pixel ++ drop (24 * (left - 1) + 24) old)
     → drop (24 * left) old ≡ wide_text (drop left entries) → drop (24 * (left - 1)) new ≡ wide_text (drop (left - 1) entries)
-moved_next left start old new entries behind some few single whole same put later =
+moved_next left start old new entries after some few single whole same put later =
     let place : 20 * left ≡ 20 * (left - 1) + 20 = omega (arith, some) in
     let wide : 24 * left ≡ 24 * (left - 1) + 24 = omega (arith, some) in
     let next : left ≡ suc (left - 1) = omega (arith, some) in
-    moved (left - 1) start old new entries behind (omega (arith, some, few)) single whole
+    moved (left - 1) start old new entries after (omega (arith, some, few)) single whole
     (subst (λ (n : ℕ). take n old ≡ take n start) place same) put
     (subst (λ (n : ℕ). drop n old ≡ wide_text (drop (suc (left - 1)) entries)) wide
     (subst (λ (n : ℕ). drop (24 * left) old ≡ wide_text (drop n entries)) next later))
 
 -- what stands behind a head, in bytes that were put there
-pub put_behind : (now bytes : List ℕ) → 40 ≤ length now → length bytes ≡ length now - 40
+pub put_after : (now bytes : List ℕ) → 40 ≤ length now → length bytes ≡ length now - 40
     → drop 40 (put_mid 40 (length now - 40) now bytes) ≡ bytes
-put_behind now bytes room size =
+put_after now bytes capacity size =
     let none : post_of 40 (length now - 40) now ≡ [] = drop_all (length now - 40) (drop 40 now) (let e = length-drop 40 now in omega (arith, e)) in
-    drop_at (take 40 now) (bytes ++ post_of 40 (length now - 40) now) 40 (length-take-le 40 now room)
+    drop_at (take 40 now) (bytes ++ post_of 40 (length now - 40) now) 40 (length-take-le 40 now capacity)
     ∙ ap (λ (rest : List ℕ). bytes ++ rest) none ∙ append-nil bytes
 
 pub length_put : (now bytes : List ℕ) → 40 ≤ length now → length bytes ≡ length now - 40
     → length (put_mid 40 (length now - 40) now bytes) ≡ length now
-length_put now bytes room size =
+length_put now bytes capacity size =
     let none : post_of 40 (length now - 40) now ≡ [] = drop_all (length now - 40) (drop 40 now) (let e = length-drop 40 now in omega (arith, e)) in
-    let front = length-take-le 40 now room in
+    let prefix = length-take-le 40 now capacity in
     let all = length-append (take 40 now) (bytes ++ post_of 40 (length now - 40) now) in
     let most = ap (λ (rest : List ℕ). length (bytes ++ rest)) none ∙ ap length (append-nil bytes) in
-    omega (arith, front, all, most, room, size)
+    omega (arith, prefix, all, most, capacity, size)
 
 -- what was made longer by noughts
 pub longer : (bytes : List ℕ) (entries : List Entry) (n more : ℕ) → StandIn Mpc1 bytes entries → length bytes ≤ n
     → drop 40 (take n bytes ++ replicate more 0) ≡ plain_text entries ++ replicate more 0
 longer bytes entries n more h long =
     ap (λ (kept : List ℕ). drop 40 (kept ++ replicate more 0)) (take_all n bytes long)
-    ∙ drop-append-le 40 bytes (replicate more 0) h.room ∙ ap (λ (kept : List ℕ). kept ++ replicate more 0) h.behind
+    ∙ drop-append-le 40 bytes (replicate more 0) h.capacity ∙ ap (λ (kept : List ℕ). kept ++ replicate more 0) h.after
 
 pub nibs_stand : (now bytes : List ℕ) (entries : List Entry) → 40 ≤ length now → length bytes ≡ length now - 40 → bytes ≡ wide_text entries
     → StandIn Mpc2 (put_mid 40 (length now - 40) now bytes) entries
-nibs_stand now bytes entries room size e =
-    let all = length_put now bytes room size in
-    record { room = omega (arith, all, room); behind = put_behind now bytes room size ∙ e }
+nibs_stand now bytes entries capacity size e =
+    let all = length_put now bytes capacity size in
+    record { capacity = omega (arith, all, capacity); after = put_after now bytes capacity size ∙ e }
 
 -- how many entries stand in bytes
 pub sized : (version : Version) (bytes : List ℕ) (entries : List Entry) → StandIn version bytes entries → length bytes - 40 ≡ entry_size version * length entries
-sized version bytes entries h = sym (length-drop 40 bytes) ∙ ap length h.behind ∙ length-entries version entries
+sized version bytes entries h = sym (length-drop 40 bytes) ∙ ap length h.after ∙ length-entries version entries
 
 pub counted : (version : Version) (bytes : List ℕ) (entries : List Entry) → StandIn version bytes entries
     → (length bytes - 40) / entry_size version ≡ length entries
@@ -206,14 +206,14 @@ short_text Mpc1 bytes entries h few = let size = sized Mpc1 bytes entries h in o
 short_text Mpc2 bytes entries h few = let size = sized Mpc2 bytes entries h in omega (arith, size, few)
 
 -- the head in front of the entries
-pub finished : (version : Version) (head : HeadValue) (count : ℕ) (bytes front : List ℕ) (entries : List Entry) → StandIn version bytes entries
-    → front ≡ head_text version head count → count ≡ length entries
-    → front ++ drop 40 bytes ≡ text_with version head (length entries) (flat_map (entry_text version) entries)
-finished version head count bytes front entries h e same =
+pub finished : (version : Version) (head : HeadValue) (count : ℕ) (bytes prefix : List ℕ) (entries : List Entry) → StandIn version bytes entries
+    → prefix ≡ head_text version head count → count ≡ length entries
+    → prefix ++ drop 40 bytes ≡ text_with version head (length entries) (flat_map (entry_text version) entries)
+finished version head count bytes prefix entries h e same =
     parts_with version head (length entries) (flat_map (entry_text version) entries) (bound_text version head.max_width head.max_height)
-    (head_text version head (length entries)) (front ++ drop 40 bytes) refl refl
+    (head_text version head (length entries)) (prefix ++ drop 40 bytes) refl refl
     (ap (λ (first : List ℕ). first ++ drop 40 bytes) (e ∙ ap (head_text version head) same)
-    ∙ ap (λ (bytes : List ℕ). head_text version head (length entries) ++ bytes) h.behind)
+    ∙ ap (λ (bytes : List ℕ). head_text version head (length entries) ++ bytes) h.after)
 
 -- and it takes the room that there was
 pub length-head : (version : Version) (head : HeadValue) (count : ℕ) → length (head_text version head count) ≡ 40

@@ -8,7 +8,7 @@ use Rattle.std.proofs.lemmas.List.{drop-drop, length-drop, take_all}
 use Rattle.draw_ops.specs.declared.fault.Fault.TheVariants.{BadBound}
 use Rattle.point_views.specs.Numbers.{number_at}
 use Rattle.preflight_cert.specs.CertificateReading.{CertificateValue, count_in, entries_in, entry_size, first_entry, have_nibs, needs_in, read_whole, value_in, whole_size, with_nibs}
-use Rattle.preflight_cert.specs.declared.entry.Entry.{Entry}
+use Rattle.preflight_cert.specs.declared.certificate_entry.Entry.{Entry}
 use Rattle.preflight_cert.specs.declared.version.Version.{Version}
 use Rattle.preflight_cert.specs.declared.version.Version.TheVariants.{Mpc1, Mpc2}
 
@@ -111,20 +111,20 @@ module _ (version : Version) (bytes : List ℕ) (whole : length bytes ≡ whole_
       let a : nat_lt (length bytes) (whole_size version bytes) ≡ false = le-ltb (length bytes) (whole_size version bytes) (omega (arith, whole)) in
       let b : nat_lt (whole_size version bytes) (length bytes) ≡ false = le-ltb (whole_size version bytes) (length bytes) (omega (arith, whole)) in rw (a, b) refl
 
-  behind_head : length (drop 40 bytes) ≡ entry_size version * count_in bytes
-  behind_head = let e = length-drop 40 bytes in omega (arith, e, whole)
+  after_head : length (drop 40 bytes) ≡ entry_size version * count_in bytes
+  after_head = let e = length-drop 40 bytes in omega (arith, e, whole)
 
   -- it holds whole entries
   pub entries_whole : length (take (length bytes - 40) (drop 40 bytes)) % entry_size version ≡ 0
-  entries_whole = rw (whole_rest 40 bytes, behind_head) (mul-mod_right (entry_size version) (count_in bytes))
+  entries_whole = rw (whole_rest 40 bytes, after_head) (mul-mod_right (entry_size version) (count_in bytes))
 
   -- and so many as it says
   entries_counted : length (drop 40 bytes) / entry_size version ≡ count_in bytes
-  entries_counted = rw behind_head (mul-div_cancel_left (count_in bytes) (some version))
+  entries_counted = rw after_head (mul-div_cancel_left (count_in bytes) (some version))
 
   -- the same, with the entries by the view that is made of them
-  abbrev behind_view : List ℕ
-  behind_view = take (length bytes - 40) (drop 40 bytes)
+  abbrev after_view : List ℕ
+  after_view = take (length bytes - 40) (drop 40 bytes)
 
   abbrev by_view : CertificateValue
   by_view = record {
@@ -133,15 +133,15 @@ module _ (version : Version) (bytes : List ℕ) (whole : length bytes ≡ whole_
     max_height = number_at bytes 8 4;
     writes = number_at bytes 12 8;
     needs = needs_in bytes;
-    entries = all_in version behind_view;
+    entries = all_in version after_view;
   }
 
   is_by_view : read_whole version bytes ≡ with_nibs by_view
   is_by_view = rw (whole_rest 40 bytes, entries_counted) ends_with_entries
 
   -- it is read where its nibs are within their limits, and refused else
-  pub is_read_whole : have_nibs (all_in version behind_view) ≡ true → read_whole version bytes ≡ Ok by_view
+  pub is_read_whole : have_nibs (all_in version after_view) ≡ true → read_whole version bytes ≡ Ok by_view
   is_read_whole e = is_by_view ∙ ap (λ (passed : Bool). if passed then Ok by_view else Err BadBound) e
 
-  pub is_refused : have_nibs (all_in version behind_view) ≡ false → read_whole version bytes ≡ Err BadBound
-  is_refused e = is_by_view ∙ ap (λ (passed : Bool). if passed then Ok by_view else Err BadBound) e
+  pub is_rejected : have_nibs (all_in version after_view) ≡ false → read_whole version bytes ≡ Err BadBound
+  is_rejected e = is_by_view ∙ ap (λ (passed : Bool). if passed then Ok by_view else Err BadBound) e

@@ -19,7 +19,7 @@ use Rattle.dc_stack.specs.Next.{next}
 use Rattle.dc_stack.specs.OperationFault.{all_land_within, fault_of, nib_fault, off_plane_fault, place_fault, plain_fault, plane_points, points_drawn}
 use Rattle.dc_stack.specs.State.{State}
 use Rattle.preflight_cert.specs.Drawings.{NumberedDrawing, drawing_then, drawings_of}
-use Rattle.preflight_cert.specs.Gathered.{box_around, box_over, least_box, least_entries, least_entry}
+use Rattle.preflight_cert.specs.Gathered.{box_around, box_over, bounding_box, least_entries, least_entry}
 use Rattle.preflight_cert.specs.Stop.{Stop, stopped}
 use Rattle.preflight_cert.specs.TextLaws.{IsEntry}
 use Rattle.preflight_cert.specs.declared.version.Version.TheVariants.{Mpc2}
@@ -71,7 +71,7 @@ module _ (s : Surface) where
       let parts = and_parts (lands point) (list_all lands points) all in
       around (box_over box (point_box point)) points (over box (point_box point) h (of_point point parts.0)) parts.1
 
-  least : (points : List Point) → list_all lands points ≡ true → IsOfPlane (least_box points)
+  least : (points : List Point) → list_all lands points ≡ true → IsOfPlane (bounding_box points)
   least [] all = record { left = nothing _ (omega (arith, ints)) (omega (arith, ints)); top = nothing _ (omega (arith, ints)) (omega (arith, ints)); right = nothing _ (omega (arith, ints)) (omega (arith, ints)); bottom = nothing _ (omega (arith, ints)) (omega (arith, ints)) }
   least (point ∷ points) all = let parts = and_parts (lands point) (list_all lands points) all in around (point_box point) points (of_point point parts.0) parts.1
 
@@ -88,9 +88,9 @@ module _ (s : Surface) where
         nib = nib_true (drawing_nib drawing s) nib;
       }
 
-  later_land : (front points : List Point) → list_all lands (front ++ points) ≡ true → list_all lands points ≡ true
+  later_land : (prefix points : List Point) → list_all lands (prefix ++ points) ≡ true → list_all lands points ≡ true
   later_land [] points all = all
-  later_land (point ∷ front) points all = later_land front points (and_parts (lands point) (list_all lands (front ++ points)) all).1
+  later_land (point ∷ prefix) points all = later_land prefix points (and_parts (lands point) (list_all lands (prefix ++ points)) all).1
 
   -- the entry of one operation in front of those of later ones
   drawn_fit : (number : ℕ) (drawing : Option Drawing) (later : List NumberedDrawing) → number < 2 ^ 32 → list_all lands (points_drawn drawing) ≡ true → nib_fault drawing s ≡ None
@@ -100,16 +100,16 @@ module _ (s : Surface) where
       All-cons (IsEntry Mpc2) (least_entry (record { number = number; drawing = drawing }) s) (least_entries later s)
       (entry_fits number drawing few all (passed (is_nib (drawing_nib drawing s)) NibTooWide nib)) rest
 
-  pub entries_fit : (steps : List StepValue) (behind : Option Stop) (state : State) (number : ℕ) → stopped steps behind state s ≡ None → AreNumberedFrom number steps → number + length steps < 2 ^ 32
+  pub entries_fit : (steps : List StepValue) (after : Option Stop) (state : State) (number : ℕ) → stopped steps after state s ≡ None → AreNumberedFrom number steps → number + length steps < 2 ^ 32
       → All (IsEntry Mpc2) (least_entries (drawings_of steps state) s)
-  entries_fit [] behind state number h numbers few = All-nil (IsEntry Mpc2)
-  entries_fit (step ∷ steps) behind state number h numbers few =
+  entries_fit [] after state number h numbers few = All-nil (IsEntry Mpc2)
+  entries_fit (step ∷ steps) after state number h numbers few =
       let operation = step.operation in
       let here : fault_of operation state s ≡ None = none_here step.number (fault_of operation state s) _ h in
       let place : place_fault operation state s ≡ None = none_second (plain_fault operation state) (place_fault operation state s) here in
       let landed = passed (all_land_within (plane_points operation state) s) OffPlane (none_first (off_plane_fault (plane_points operation state) s) (nib_fault (drawing_of operation state) s) place) in
       let nib = none_second (off_plane_fault (plane_points operation state) s) (nib_fault (drawing_of operation state) s) place in
       let e = numbers.0 in
-      let rest = entries_fit steps behind (next operation state) (suc number) (none_later step.number (fault_of operation state s) _ h) numbers.1 (omega (arith, few)) in
+      let rest = entries_fit steps after (next operation state) (suc number) (none_later step.number (fault_of operation state s) _ h) numbers.1 (omega (arith, few)) in
       drawn_fit step.number (drawing_of operation state) (drawings_of steps (next operation state)) (omega (arith, e, few))
       (later_land _ (points_drawn (drawing_of operation state)) landed) nib rest

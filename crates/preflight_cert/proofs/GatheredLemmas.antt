@@ -18,25 +18,25 @@ use Rattle.dc_stack.specs.Next.{next}
 use Rattle.dc_stack.specs.State.{State}
 use Rattle.preflight_cert.specs.DraftOf.{Adds}
 use Rattle.preflight_cert.specs.Drawings.{NumberedDrawing, drawing_then, drawings_of}
-use Rattle.preflight_cert.specs.Gathered.{entry_if_drawn, least_box, least_budget, least_drawing_budget, least_entries, least_entry}
+use Rattle.preflight_cert.specs.Gathered.{entry_if_drawn, bounding_box, least_budget, least_drawing_budget, least_entries, least_entry}
 use Rattle.preflight_cert.specs.TextLaws.{IsEntry}
 use Rattle.preflight_cert.specs.declared.draft.Draft.{Draft}
-use Rattle.preflight_cert.specs.declared.entry.Entry.{Entry}
+use Rattle.preflight_cert.specs.declared.certificate_entry.Entry.{Entry}
 use Rattle.preflight_cert.specs.declared.version.Version.TheVariants.{Mpc2}
 use Rattle.preflight_cert.proofs.DraftLemmas.{adds_none, adds_then}
-use Rattle.preflight_cert.proofs.LeastBoxLemmas.{least_is}
+use Rattle.preflight_cert.proofs.BoundingBoxLemmas.{least_is}
 
 abbrev an_entry : ℕ → Rect → Nib → Entry
 an_entry number bounds nib = record { number = number; bounds = bounds; nib = nib }
 
 -- the entry of what is drawn has the least box around its points, and its nib
-abbrev pub told_entry : ℕ → Draw → Entry
-told_entry number draw = an_entry number draw.bounds draw.nib
+abbrev pub reported_entry : ℕ → Draw → Entry
+reported_entry number draw = an_entry number draw.bounds draw.nib
 
-pub told_is_least : BoxLaws → (number : ℕ) (m : MachineState) (draw : Draw) → IsPlacedDraw m.surface m.painted draw → HasNib m.surface m draw → told_entry number draw ≡ least_entry (record { number = number; drawing = drawing_with m draw }) m.surface
-told_is_least laws number m draw placed nib =
+pub reported_is_least : BoxLaws → (number : ℕ) (m : MachineState) (draw : Draw) → IsPlacedDraw m.surface m.painted draw → HasNib m.surface m draw → reported_entry number draw ≡ least_entry (record { number = number; drawing = drawing_with m draw }) m.surface
+reported_is_least laws number m draw placed nib =
     let least = least_is laws draw.bounds (mark_points (mark_of m.painted draw)) placed.least in
-    ap (λ (box : Rect). an_entry number box draw.nib) least ∙ ap (λ (n : Nib). an_entry number (least_box (mark_points (mark_of m.painted draw))) n) nib.is
+    ap (λ (box : Rect). an_entry number box draw.nib) least ∙ ap (λ (n : Nib). an_entry number (bounding_box (mark_points (mark_of m.painted draw))) n) nib.is
 
 pub entries_then : (number : ℕ) (drawing : Option Drawing) (later : List NumberedDrawing) (s : Surface) → least_entries (drawing_then number drawing later) s ≡ entry_if_drawn number drawing s ++ least_entries later s
 entries_then number None later s = refl

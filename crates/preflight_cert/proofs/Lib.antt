@@ -22,7 +22,7 @@ pub mod AnswerLemmas
 pub mod StartLemmas
 pub mod ClearedLemmas
 pub mod ClearedSound
-pub mod LeastBoxLemmas
+pub mod BoundingBoxLemmas
 pub mod PreparationLemmas
 pub mod DraftLemmas
 pub mod GatheredLemmas

@@ -22,7 +22,7 @@ use Rattle.span_fill.specs.LineBoxes.{LineBoxLaws}
 use Rattle.span_fill.specs.WideStrokes.{WideStrokeLaws, widened}
 use Rattle.preflight_cert.specs.Apply.{apply, apply_all, ink_of}
 use Rattle.preflight_cert.specs.Layer.{Layer, layers_of}
-use Rattle.preflight_cert.specs.MissedRowsLaws.{LiesBeside, MissedRowsLaws}
+use Rattle.preflight_cert.specs.MissedRowsLaws.{LiesOutside, MissedRowsLaws}
 use Rattle.preflight_cert.specs.RowsLaws.{IsWholeImage}
 use Rattle.preflight_cert.specs.Shape.{shape_nib}
 use Rattle.preflight_cert.specs.Writes.{writes_of_layers, writes_pixel}
@@ -37,7 +37,7 @@ after_grows n wider h =
     let some : 0 < 2 = omega arith in
     omega (arith, h, div-mul-le_self (n - 1) 2, lt-div-mul-add {a = n - 1} {b = 2} some, div-mul-le_self (wider - 1) 2, lt-div-mul-add {a = wider - 1} {b = 2} some)
 
-module _ (cell_laws : CellLaws) (wide_laws : WideCellLaws) (boxes : LineBoxLaws) (strokes : WideStrokeLaws) (placing : PlacingLaws) (box : Rect) (nib : Surface → Nib) (s : Surface) (shows : ShowsFrame s) (first rows : ℕ) (beside : LiesBeside (widened (nib s) (placed_box s box)) first rows) where
+module _ (cell_laws : CellLaws) (wide_laws : WideCellLaws) (boxes : LineBoxLaws) (strokes : WideStrokeLaws) (placing : PlacingLaws) (box : Rect) (nib : Surface → Nib) (s : Surface) (shows : ShowsFrame s) (first rows : ℕ) (beside : LiesOutside (widened (nib s) (placed_box s box)) first rows) where
   -- no pixel of the rows is written
   unwritten : (layer : Layer) (x y : ℕ) → IsLayerIn box nib layer → first ≤ y → y < first + rows → writes_pixel layer s x y ≡ false
   unwritten layer x y h low high = false_from_ne_true (writes_pixel layer s x y)

@@ -3,7 +3,7 @@ use Rattle.std.proofs.Common.{List, [], ◌∷◌, inl, inr, arith}
 use Rattle.draw_ops.specs.Content.{StepValue}
 use Rattle.draw_ops.specs.Operation.{Operation}
 use Rattle.object_tables.specs.Table.{CreatedIndexIsBelowBound}
-use Rattle.dc_stack.specs.MachineState.{HasFullRoom, MachineState, WantsRoom}
+use Rattle.dc_stack.specs.MachineState.{HasFullCapacity, MachineState, WantsCapacity}
 use Rattle.draw_ops.specs.declared.fault.Fault.{Fault}
 use Rattle.dc_stack.specs.Needs.{greater_needs, needs_of}
 use Rattle.dc_stack.specs.Next.{next}
@@ -12,28 +12,28 @@ use Rattle.dc_stack.specs.Path.{piece_limit}
 use Rattle.dc_stack.specs.State.{State}
 use Rattle.dc_stack.specs.declared.needs.Needs.{Needs}
 use Rattle.preflight_cert.specs.After.{needs_after}
-use Rattle.preflight_cert.specs.NeedLaws.{AreWithin, HasRoomFor, NeedLaws}
+use Rattle.preflight_cert.specs.NeedLaws.{AreWithin, HasCapacityFor, NeedLaws}
 use Rattle.preflight_cert.proofs.NeedLimitLemmas.{limited}
 use Rattle.preflight_cert.proofs.OperationNeeds.{added_needed, needed_edges, within}
 use Rattle.preflight_cert.proofs.StopLemmas.{none_first}
 
 -- so there is room for what an operation needs
-enough : (operation : Operation) (m : MachineState) (fault : Fault) → HasRoomFor (needs_of operation m.state) m → WantsRoom operation m fault → ⊥
-enough operation m fault room wants = elim wants.lacks [
-  | inl depth ↦ let there = rw depth.saves at room.depth in omega (arith, there, depth.full)
+enough : (operation : Operation) (m : MachineState) (fault : Fault) → HasCapacityFor (needs_of operation m.state) m → WantsCapacity operation m fault → ⊥
+enough operation m fault capacity wants = elim wants.lacks [
+  | inl depth ↦ let there = rw depth.saves at capacity.depth in omega (arith, there, depth.full)
   | inr other ↦ elim other [
-    | inl slot ↦ let there = rw slot.creates at room.slots in omega (arith, there, slot.full)
-    | inr pieces ↦ let needed = added_needed operation m.state pieces.adds in omega (arith, needed, room.pieces, pieces.full)
+    | inl slot ↦ let there = rw slot.creates at capacity.slots in omega (arith, there, slot.full)
+    | inr pieces ↦ let needed = added_needed operation m.state pieces.adds in omega (arith, needed, capacity.pieces, pieces.full)
   ]
 ]
 
 -- and full room is room for what an operation without a fault needs
-full : CreatedIndexIsBelowBound → (operation : Operation) (m : MachineState) (fault : Fault) → HasFullRoom m → WantsRoom operation m fault → ⊥
+full : CreatedIndexIsBelowBound → (operation : Operation) (m : MachineState) (fault : Fault) → HasFullCapacity m → WantsCapacity operation m fault → ⊥
 unfolding piece_limit
-full laws operation m fault room wants =
+full laws operation m fault capacity wants =
     let one = within laws operation m.state (none_first (plain_fault operation m.state) _ wants.no_fault) in
     let depth = one.depth in let slots = one.slots in let pieces = one.pieces in
-    let deep = room.depth in let many = room.slots in let long = room.pieces in
+    let deep = capacity.depth in let many = capacity.slots in let long = capacity.pieces in
     enough operation m fault (record { depth = omega (arith, depth, deep); slots = omega (arith, slots, many); pieces = omega (arith, pieces, long) }) wants
 
 -- needs are within themselves and, as each step only adds to them, within those of all steps

@@ -11,7 +11,7 @@ use Rattle.dc_stack.specs.State.{State, start_of}
 use Rattle.dc_stack.specs.declared.needs.Needs.{Needs}
 use Rattle.preflight_cert.specs.After.{file_needs, needs_after}
 use Rattle.preflight_cert.specs.NeedLaws.{AreWithin, most_needs}
-use Rattle.preflight_cert.specs.Stop.{Stop, broken_behind, stop_of, stopped}
+use Rattle.preflight_cert.specs.Stop.{Stop, broken_after, stop_of, stopped}
 use Rattle.preflight_cert.proofs.OperationNeeds.{nothing_within, same_kind, within}
 use Rattle.preflight_cert.proofs.StopLemmas.{none_first, none_here, none_later}
 
@@ -23,17 +23,17 @@ both_within first second most a b =
 
 -- and all steps
 module _ (laws : CreatedIndexIsBelowBound) (kind : TableKind) (s : Surface) where
-  all_within : (steps : List StepValue) (behind : Option Stop) (state : State) (needs : Needs) → stopped steps behind state s ≡ None → state.table_kind ≡ kind
+  all_within : (steps : List StepValue) (after : Option Stop) (state : State) (needs : Needs) → stopped steps after state s ≡ None → state.table_kind ≡ kind
       → AreWithin needs (most_needs kind) → AreWithin (needs_after steps state needs) (most_needs kind)
-  all_within [] behind state needs h e most = most
-  all_within (step ∷ steps) behind state needs h e most =
+  all_within [] after state needs h e most = most
+  all_within (step ∷ steps) after state needs h e most =
       let here : fault_of step.operation state s ≡ None = none_here step.number (fault_of step.operation state s) _ h in
       let one = within laws step.operation state (none_first (plain_fault step.operation state) _ here) in
       let same : AreWithin (needs_of step.operation state) (most_needs kind) = subst (λ (k : TableKind). AreWithin (needs_of step.operation state) (most_needs k)) e one in
-      all_within steps behind (next step.operation state) (greater_needs needs (needs_of step.operation state)) (none_later step.number _ _ h)
+      all_within steps after (next step.operation state) (greater_needs needs (needs_of step.operation state)) (none_later step.number _ _ h)
       (same_kind step.operation state ∙ e) (both_within needs (needs_of step.operation state) (most_needs kind) most same)
 
 pub limited : CreatedIndexIsBelowBound → (content : Content) (o : OpenedValue) (s : Surface) → stop_of content (start_of o) s ≡ None → AreWithin (file_needs content o) (most_needs (table_kind_of o.handles))
 limited laws content o s h =
     let kind = table_kind_of o.handles in
-    all_within laws kind s content.steps (broken_behind (length content.steps) content.fault) (start_of o) no_needs h refl (nothing_within kind)
+    all_within laws kind s content.steps (broken_after (length content.steps) content.fault) (start_of o) no_needs h refl (nothing_within kind)

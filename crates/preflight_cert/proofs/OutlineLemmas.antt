@@ -16,9 +16,9 @@ use Rattle.preflight_cert.specs.FigureLines.{all_closed, figure_lines, lines_alo
 use Rattle.preflight_cert.specs.Outlines.{closed_lines, line_from, lines_after, lines_round, open_lines}
 
 -- what holds of a list holds of its parts
-pub all_front : {X : Type 0} (P : X → Type 0) (xs ys : List X) → All P (xs ++ ys) → All P xs
-all_front P [] ys all = All-nil P
-all_front P (x ∷ xs) ys all = All-cons P x xs (All-head P x (xs ++ ys) all) (all_front P xs ys (All-tail P x (xs ++ ys) all))
+pub all_prefix : {X : Type 0} (P : X → Type 0) (xs ys : List X) → All P (xs ++ ys) → All P xs
+all_prefix P [] ys all = All-nil P
+all_prefix P (x ∷ xs) ys all = All-cons P x xs (All-head P x (xs ++ ys) all) (all_prefix P xs ys (All-tail P x (xs ++ ys) all))
 
 pub all_back : {X : Type 0} (P : X → Type 0) (xs ys : List X) → All P (xs ++ ys) → All P ys
 all_back P [] ys all = all
@@ -67,7 +67,7 @@ module _ (s : Surface) (P Q : Point → Type 0) (lands : (p : Point) → P p →
   ends_along [] all = All-nil (BothEnds Q)
   ends_along (f ∷ fs) all =
       All-append (BothEnds Q) (figure_lines (placed_figure s f)) (lines_along (placed_figures s fs))
-      (figure_ends f.is_closed (placed_list s f.points) (placed_all f.points (all_front P f.points (points_of_figures fs) all)))
+      (figure_ends f.is_closed (placed_list s f.points) (placed_all f.points (all_prefix P f.points (points_of_figures fs) all)))
       (ends_along fs (all_back P f.points (points_of_figures fs) all))
 
 -- a point is not below the middle of a row, or it is

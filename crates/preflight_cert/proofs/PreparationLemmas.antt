@@ -23,10 +23,10 @@ use Rattle.preflight_cert.specs.NeedLaws.{AreWithin}
 use Rattle.preflight_cert.specs.Preparation.{AreLeast, IsPrepared, version_for}
 use Rattle.preflight_cert.specs.PreparationLaws.{AreHeldBy, IsNoMore, PreparationLaws}
 use Rattle.preflight_cert.specs.Stop.{stop_of}
-use Rattle.preflight_cert.specs.declared.entry.Entry.{Entry}
+use Rattle.preflight_cert.specs.declared.certificate_entry.Entry.{Entry}
 use Rattle.preflight_cert.specs.declared.version.Version.{Version}
 use Rattle.preflight_cert.proofs.BudgetLemmas.{layers_grow}
-use Rattle.preflight_cert.proofs.LeastBoxLemmas.{held, least_has, one_least}
+use Rattle.preflight_cert.proofs.BoundingBoxLemmas.{held, least_has, one_least}
 use Rattle.preflight_cert.proofs.NeedLemmas.{within_same}
 
 abbrev an_entry : ℕ → Rect → Nib → Entry

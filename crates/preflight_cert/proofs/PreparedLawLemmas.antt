@@ -27,7 +27,7 @@ use Rattle.preflight_cert.specs.NeedLaws.{NeedLaws}
 use Rattle.preflight_cert.specs.Preparation.{Prepares, PreparesIfOpened, PreparesRecords, PreparesWithin, have_single_pixels, is_bound}
 use Rattle.preflight_cert.specs.PreparationLaws.{PreparationLaws}
 use Rattle.preflight_cert.specs.PreparedLaws.{AreCertificate, HasPrepared, PreparedLaws}
-use Rattle.preflight_cert.specs.Stop.{broken_behind, stop_of}
+use Rattle.preflight_cert.specs.Stop.{broken_after, stop_of}
 use Rattle.preflight_cert.specs.TextLaws.{AreBytes, IsCertificate, IsEntry, TextLaws}
 use Rattle.preflight_cert.specs.declared.version.Version.TheVariants.{Mpc2}
 use Rattle.preflight_cert.proofs.BudgetLimits.{of_drawings}
@@ -82,7 +82,7 @@ module _ (numbers : StepsAreNumbered) (needs : NeedLaws) (content : Content) (o 
 
   fit : All (IsEntry Mpc2) (least_entries drawings s)
   fit = let all = short in
-      entries_fit s content.steps (broken_behind (length content.steps) content.fault) (start_of o) 0 unstopped (numbers (framing_of o.format) (meaning_of o.format) records content of_records) (omega (arith, all))
+      entries_fit s content.steps (broken_after (length content.steps) content.fault) (start_of o) 0 unstopped (numbers (framing_of o.format) (meaning_of o.format) records content of_records) (omega (arith, all))
 
   within : IsCertificate made
   within =
@@ -128,8 +128,8 @@ module _ (boxes : BoxLaws) (numbers : StepsAreNumbered) (opening : OpeningLaws) 
   by_bound : (file bytes : List ℕ) (width height : ℕ) → AreBytes file → (test : Bool) → is_bound width height ≡ test → PreparesWithin test file width height bytes → AreCertificate bytes × IsAnswer file bytes accepted
   by_bound file bytes width height are false e p = absurd p
   by_bound file bytes width height are true e p =
-      let sides = and_parts (is_surface_side width) (is_surface_side height) e in
-      by_opened file bytes width height (surface_side_true width sides.0) (surface_side_true height sides.1) are (opened file) refl p
+      let dimensions = and_parts (is_surface_side width) (is_surface_side height) e in
+      by_opened file bytes width height (surface_side_true width dimensions.0) (surface_side_true height dimensions.1) are (opened file) refl p
 
   exists : (file : List ℕ) (width height : ℕ) (image : Image) → IsTrue (is_bound width height) → Shows file width height image → HasPrepared file width height
   exists file width height image bound shows =

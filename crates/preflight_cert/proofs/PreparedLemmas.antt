@@ -31,13 +31,13 @@ use Rattle.preflight_cert.specs.Stop.{stop_of}
 use Rattle.preflight_cert.specs.TextLaws.{IsCertificate, IsEntry, TextLaws}
 use Rattle.preflight_cert.specs.TextParts.{head_value}
 use Rattle.preflight_cert.specs.declared.draft.Draft.{Draft}
-use Rattle.preflight_cert.specs.declared.entry.Entry.{Entry}
+use Rattle.preflight_cert.specs.declared.certificate_entry.Entry.{Entry}
 use Rattle.preflight_cert.specs.declared.version.Version.{Version}
 use Rattle.preflight_cert.specs.declared.version.Version.TheVariants.{Mpc1, Mpc2}
-use Rattle.preflight_cert.specs.declared.walk.Totals.{Totals}
+use Rattle.preflight_cert.specs.declared.entry_check.Totals.{Totals}
 use Rattle.preflight_cert.specs.declared.writing.Head.{Head}
 use Rattle.preflight_cert.proofs.DraftLemmas.{one_is, short_text}
-use Rattle.preflight_cert.proofs.LeastBoxLemmas.{is_least}
+use Rattle.preflight_cert.proofs.BoundingBoxLemmas.{is_least}
 use Rattle.preflight_cert.proofs.StartLemmas.{IsAtStart}
 
 -- what a certificate says in front of its entries
@@ -135,8 +135,8 @@ module _ (content : Content) (o : OpenedValue) (records : List ℕ) (width heigh
         let size = length-map drawings (λ (one : NumberedDrawing). least_entry one (surface_for o width height)) in omega (arith, few, records, size)
 
     -- its bytes are not too many
-    pub room : 40 ≤ length after.text.items
-    room = held.standing.room
+    pub capacity : 40 ≤ length after.text.items
+    capacity = held.standing.capacity
 
     pub short : totals.records ≤ 2 ^ 20 → length after.text.items < 2 ^ 32
     short few = let count = count_is in short_text after.version after.text.items made.entries held.standing (omega (arith, count, few))

@@ -6,54 +6,54 @@ use Rattle.draw_ops.specs.Content.{Content, StepValue, broken_by, with_step}
 use Rattle.draw_ops.specs.declared.fault.Fault.{Fault}
 use Rattle.draw_ops.specs.declared.fault.Fault.TheVariants.{Record}
 use Rattle.draw_ops.specs.declared.record_fault.RecordFault.{RecordFault}
-use Rattle.dc_stack.specs.MachineState.{MachineState, RefusesStep}
+use Rattle.dc_stack.specs.MachineState.{MachineState, RejectsStep}
 use Rattle.dc_stack.specs.OperationFault.{fault_of}
 use Rattle.dc_stack.specs.State.{State}
 use Rattle.preflight_cert.specs.Checked.{checked, left_over}
-use Rattle.preflight_cert.specs.NextStep.{TellsBroken, TellsRefusedStep}
-use Rattle.preflight_cert.specs.Refusal.{IsWantOfMemory, TellsStop, number_told}
-use Rattle.preflight_cert.specs.Stop.{Stop, broken_behind, stop_at, stopped}
-use Rattle.preflight_cert.specs.declared.entry.Entry.{Entry}
+use Rattle.preflight_cert.specs.NextStep.{ReportsBroken, ReportsRejectedStep}
+use Rattle.preflight_cert.specs.Refusal.{IsWantOfMemory, ReportsStop, number_reported}
+use Rattle.preflight_cert.specs.Stop.{Stop, broken_after, stop_at, stopped}
+use Rattle.preflight_cert.specs.declared.certificate_entry.Entry.{Entry}
 use Rattle.preflight_cert.specs.declared.refusal.Refusal.{Refusal}
 
 -- the fault that was found is told, in the record with this number
-record ToldAt (found : Option RecordFault) (n : ℕ) (r : Refusal) : Type 0 where
+record ReportedAt (found : Option RecordFault) (n : ℕ) (r : Refusal) : Type 0 where
   here : RecordFault
   there : found ≡ Some here
   number : r.number ≡ Some n
   fault : r.fault ≡ Record here
 
-told_at : (found : Option RecordFault) (fault : Fault) (number : ℕ) (r : Refusal) → option_map Record found ≡ Some fault → r.number ≡ number_told number fault → r.fault ≡ fault → ToldAt found number r
-told_at None fault number r h numbered by = cc
-told_at (Some here) fault number r h numbered by =
+reported_at : (found : Option RecordFault) (fault : Fault) (number : ℕ) (r : Refusal) → option_map Record found ≡ Some fault → r.number ≡ number_reported number fault → r.fault ≡ fault → ReportedAt found number r
+reported_at None fault number r h numbered by = cc
+reported_at (Some here) fault number r h numbered by =
     let same : fault ≡ Record here = cc in record { here = here; there = refl; number = rw same at numbered; fault = by ∙ same }
 
-told_or_wanted : (step : StepValue) (m : MachineState) (fault : Fault) (r : Refusal) → RefusesStep step.operation m fault → r.number ≡ number_told step.number fault → r.fault ≡ fault
-    → ToldAt (fault_of step.operation m.state m.surface) step.number r ⊎ IsWantOfMemory r
-told_or_wanted step m fault r (inl found) numbered by = inl (told_at (fault_of step.operation m.state m.surface) fault step.number r found numbered by)
-told_or_wanted step m fault r (inr wants) numbered by = inr (record { number = rw wants.memory at numbered; fault = by ∙ wants.memory })
+reported_or_wanted : (step : StepValue) (m : MachineState) (fault : Fault) (r : Refusal) → RejectsStep step.operation m fault → r.number ≡ number_reported step.number fault → r.fault ≡ fault
+    → ReportedAt (fault_of step.operation m.state m.surface) step.number r ⊎ IsWantOfMemory r
+reported_or_wanted step m fault r (inl found) numbered by = inl (reported_at (fault_of step.operation m.state m.surface) fault step.number r found numbered by)
+reported_or_wanted step m fault r (inr wants) numbered by = inr (record { number = rw wants.memory at numbered; fault = by ∙ wants.memory })
 
 -- where entries are checked
-check_refused : (whole behind : Option Stop) (count : ℕ) (left rest : Content) (step : StepValue) (m : MachineState) (entries : List Entry) (fault : Fault) (r : Refusal)
-    → whole ≡ checked left.steps behind count m.state m.surface entries → left ≡ with_step step rest
-    → RefusesStep step.operation m fault → r.number ≡ number_told step.number fault → r.fault ≡ fault → TellsStop whole r ⊎ IsWantOfMemory r
-check_refused whole behind count left rest step m entries fault r order begins refused numbered by = elim (told_or_wanted step m fault r refused numbered by) [
-  | inl told ↦ inl (record { at = stop_at step.number told.here; stops = order ∙ rw (begins, told.there) refl; number = told.number; fault = told.fault })
+check_rejected : (whole after : Option Stop) (count : ℕ) (left rest : Content) (step : StepValue) (m : MachineState) (entries : List Entry) (fault : Fault) (r : Refusal)
+    → whole ≡ checked left.steps after count m.state m.surface entries → left ≡ with_step step rest
+    → RejectsStep step.operation m fault → r.number ≡ number_reported step.number fault → r.fault ≡ fault → ReportsStop whole r ⊎ IsWantOfMemory r
+check_rejected whole after count left rest step m entries fault r order begins rejected numbered by = elim (reported_or_wanted step m fault r rejected numbered by) [
+  | inl reported ↦ inl (record { at = stop_at step.number reported.here; stops = order ∙ rw (begins, reported.there) refl; number = reported.number; fault = reported.fault })
   | inr wants ↦ inr wants
 ]
 
 -- and where they are gathered
-gathering_refused : (whole behind : Option Stop) (left rest : Content) (step : StepValue) (m : MachineState) (fault : Fault) (r : Refusal)
-    → whole ≡ stopped left.steps behind m.state m.surface → left ≡ with_step step rest
-    → RefusesStep step.operation m fault → r.number ≡ number_told step.number fault → r.fault ≡ fault → TellsStop whole r ⊎ IsWantOfMemory r
-gathering_refused whole behind left rest step m fault r order begins refused numbered by = elim (told_or_wanted step m fault r refused numbered by) [
-  | inl told ↦ inl (record { at = stop_at step.number told.here; stops = order ∙ rw (begins, told.there) refl; number = told.number; fault = told.fault })
+gathering_rejected : (whole after : Option Stop) (left rest : Content) (step : StepValue) (m : MachineState) (fault : Fault) (r : Refusal)
+    → whole ≡ stopped left.steps after m.state m.surface → left ≡ with_step step rest
+    → RejectsStep step.operation m fault → r.number ≡ number_reported step.number fault → r.fault ≡ fault → ReportsStop whole r ⊎ IsWantOfMemory r
+gathering_rejected whole after left rest step m fault r order begins rejected numbered by = elim (reported_or_wanted step m fault r rejected numbered by) [
+  | inl reported ↦ inl (record { at = stop_at step.number reported.here; stops = order ∙ rw (begins, reported.there) refl; number = reported.number; fault = reported.fault })
   | inr wants ↦ inr wants
 ]
 
 -- where records break of which these are left, so many having come before
 broken_here : (whole left : Content) (before : ℕ) (fault : RecordFault) → left ≡ broken_by fault → before + length left.steps ≡ length whole.steps → left.fault ≡ whole.fault
-    → broken_behind (length whole.steps) whole.fault ≡ Some (stop_at before fault)
+    → broken_after (length whole.steps) whole.fault ≡ Some (stop_at before fault)
 broken_here whole left before fault is count same =
     let none : length left.steps ≡ 0 = ap (λ (c : Content). length c.steps) is in
     let all : length whole.steps ≡ before = omega (arith, none, count) in
@@ -61,22 +61,22 @@ broken_here whole left before fault is count same =
     rw (all, there) refl
 
 gathering_broken : (stop : Option Stop) (whole left : Content) (before : ℕ) (state : State) (s : Surface) (fault : RecordFault) (r : Refusal)
-    → stop ≡ stopped left.steps (broken_behind (length whole.steps) whole.fault) state s → left ≡ broken_by fault → before + length left.steps ≡ length whole.steps → left.fault ≡ whole.fault
-    → r.number ≡ Some before → r.fault ≡ Record fault → TellsStop stop r
+    → stop ≡ stopped left.steps (broken_after (length whole.steps) whole.fault) state s → left ≡ broken_by fault → before + length left.steps ≡ length whole.steps → left.fault ≡ whole.fault
+    → r.number ≡ Some before → r.fault ≡ Record fault → ReportsStop stop r
 gathering_broken stop whole left before state s fault r order is count same number by = record {
   at = stop_at before fault;
-  stops = order ∙ ap (λ (c : Content). stopped c.steps (broken_behind (length whole.steps) whole.fault) state s) is ∙ broken_here whole left before fault is count same;
+  stops = order ∙ ap (λ (c : Content). stopped c.steps (broken_after (length whole.steps) whole.fault) state s) is ∙ broken_here whole left before fault is count same;
   number = number;
   fault = by;
 }
 
 check_broken : (stop : Option Stop) (whole left : Content) (before : ℕ) (state : State) (s : Surface) (entries : List Entry) (fault : RecordFault) (r : Refusal)
-    → stop ≡ checked left.steps (broken_behind (length whole.steps) whole.fault) (length whole.steps) state s entries → left ≡ broken_by fault → before + length left.steps ≡ length whole.steps
-    → left.fault ≡ whole.fault → r.number ≡ Some before → r.fault ≡ Record fault → TellsStop stop r
+    → stop ≡ checked left.steps (broken_after (length whole.steps) whole.fault) (length whole.steps) state s entries → left ≡ broken_by fault → before + length left.steps ≡ length whole.steps
+    → left.fault ≡ whole.fault → r.number ≡ Some before → r.fault ≡ Record fault → ReportsStop stop r
 check_broken stop whole left before state s entries fault r order is count same number by = record {
   at = stop_at before fault;
   stops =
-      order ∙ ap (λ (c : Content). checked c.steps (broken_behind (length whole.steps) whole.fault) (length whole.steps) state s entries) is
+      order ∙ ap (λ (c : Content). checked c.steps (broken_after (length whole.steps) whole.fault) (length whole.steps) state s entries) is
       ∙ ap (λ (b : Option Stop). option_or b (left_over (length whole.steps) entries)) (broken_here whole left before fault is count same);
   number = number;
   fault = by;
@@ -84,15 +84,15 @@ check_broken stop whole left before state s entries fault r order is count same 
 
 -- so the refusal of what is played next tells where the whole stops
 module _ (stop : Option Stop) (whole left : Content) (before : ℕ) (m : MachineState) (r : Refusal) (count : before + length left.steps ≡ length whole.steps) (same : left.fault ≡ whole.fault)
-    (refused : TellsBroken left before r ⊎ TellsRefusedStep left m r) where
-  pub check_stops : (entries : List Entry) → stop ≡ checked left.steps (broken_behind (length whole.steps) whole.fault) (length whole.steps) m.state m.surface entries → TellsStop stop r ⊎ IsWantOfMemory r
-  check_stops entries order = elim refused [
-    | inl h ↦ inl (check_broken stop whole left before m.state m.surface entries h.fault r order h.broken count same h.number h.told)
-    | inr h ↦ check_refused stop (broken_behind (length whole.steps) whole.fault) (length whole.steps) left h.rest h.step m entries h.fault r order h.first h.refused h.number h.told
+    (rejected : ReportsBroken left before r ⊎ ReportsRejectedStep left m r) where
+  pub check_stops : (entries : List Entry) → stop ≡ checked left.steps (broken_after (length whole.steps) whole.fault) (length whole.steps) m.state m.surface entries → ReportsStop stop r ⊎ IsWantOfMemory r
+  check_stops entries order = elim rejected [
+    | inl h ↦ inl (check_broken stop whole left before m.state m.surface entries h.fault r order h.broken count same h.number h.reported)
+    | inr h ↦ check_rejected stop (broken_after (length whole.steps) whole.fault) (length whole.steps) left h.rest h.step m entries h.fault r order h.first h.rejected h.number h.reported
   ]
 
-  pub gathering_stops : stop ≡ stopped left.steps (broken_behind (length whole.steps) whole.fault) m.state m.surface → TellsStop stop r ⊎ IsWantOfMemory r
-  gathering_stops order = elim refused [
-    | inl h ↦ inl (gathering_broken stop whole left before m.state m.surface h.fault r order h.broken count same h.number h.told)
-    | inr h ↦ gathering_refused stop (broken_behind (length whole.steps) whole.fault) left h.rest h.step m h.fault r order h.first h.refused h.number h.told
+  pub gathering_stops : stop ≡ stopped left.steps (broken_after (length whole.steps) whole.fault) m.state m.surface → ReportsStop stop r ⊎ IsWantOfMemory r
+  gathering_stops order = elim rejected [
+    | inl h ↦ inl (gathering_broken stop whole left before m.state m.surface h.fault r order h.broken count same h.number h.reported)
+    | inr h ↦ gathering_rejected stop (broken_after (length whole.steps) whole.fault) left h.rest h.step m h.fault r order h.first h.rejected h.number h.reported
   ]

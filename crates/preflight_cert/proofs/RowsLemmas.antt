@@ -8,7 +8,7 @@ use Rattle.mapping.specs.declared.geometry.Colour.{Colour}
 use Rattle.preflight_cert.specs.Apply.{apply, apply_all, ink_of, rows_after}
 use Rattle.preflight_cert.specs.Drawings.{NumberedDrawing}
 use Rattle.preflight_cert.specs.Layer.{Layer, layers_of}
-use Rattle.preflight_cert.specs.RowsLaws.{HasSidesOf, IsWholeImage, RowsLaws, laid}
+use Rattle.preflight_cert.specs.RowsLaws.{HasDimensionsOf, IsWholeImage, RowsLaws, laid}
 use Rattle.preflight_cert.specs.Writes.{writes_of_drawings, writes_of_layers, writes_pixel}
 
 -- without a column nothing is counted
@@ -24,25 +24,25 @@ counted_always test zero first rows more =
 counted_always test (suc width) first rows more = count_pixels_laid (suc width) first rows (omega arith) test more
 
 -- layers and drawings keep sides
-same : (image : Image) → HasSidesOf image image
+same : (image : Image) → HasDimensionsOf image image
 same image = record { width = refl; height = refl; whole = λ h. h }
 
-then_same : (old between new : Image) → HasSidesOf old between → HasSidesOf between new → HasSidesOf old new
+then_same : (old between new : Image) → HasDimensionsOf old between → HasDimensionsOf between new → HasDimensionsOf old new
 then_same old between new a b = record { width = b.width ∙ a.width; height = b.height ∙ a.height; whole = λ h. b.whole (a.whole h) }
 
 module _ (s : Surface) (first : ℕ) where
-  layer_keeps : (layer : Layer) (image : Image) → HasSidesOf image (apply layer s first image)
+  layer_keeps : (layer : Layer) (image : Image) → HasDimensionsOf image (apply layer s first image)
   layer_keeps layer image = record {
     width = refl;
     height = refl;
     whole = λ h. record { wide = h.wide; whole = length-map_indexed _ 0 image.colours ∙ h.whole };
   }
 
-  layers_keep : (layers : List Layer) (image : Image) → HasSidesOf image (apply_all layers s first image)
+  layers_keep : (layers : List Layer) (image : Image) → HasDimensionsOf image (apply_all layers s first image)
   layers_keep [] image = same image
   layers_keep (layer ∷ layers) image = then_same image (apply layer s first image) _ (layer_keeps layer image) (layers_keep layers (apply layer s first image))
 
-  drawings_keep : (drawings : List NumberedDrawing) (image : Image) → HasSidesOf image (rows_after drawings s first image)
+  drawings_keep : (drawings : List NumberedDrawing) (image : Image) → HasDimensionsOf image (rows_after drawings s first image)
   drawings_keep [] image = same image
   drawings_keep (drawing ∷ later) image =
       let next = apply_all (layers_of drawing.drawing) s first image in
@@ -98,7 +98,7 @@ pub rows_laws : RowsLaws
 rows_laws = record {
   layers = λ layers s first upper lower whole width. layers_laid s first layers upper lower whole width;
   drawings = λ drawings s first upper lower whole width. drawings_laid s first drawings upper lower whole width;
-  sides = λ drawings s first image. drawings_keep s first drawings image;
+  dimensions = λ drawings s first image. drawings_keep s first drawings image;
   layer_writes = λ layers s first rows more. layers_counted s first rows more layers;
   writes = λ drawings s first rows more. drawings_counted s first rows more drawings;
 }

@@ -13,7 +13,7 @@ use Rattle.meta_headers.specs.Opening.{opened, surface_for}
 use Rattle.dc_stack.specs.State.{start_of}
 use Rattle.preflight_cert.specs.Stop.{Stop, stop_of}
 use Rattle.preflight_cert.specs.Writes.{writes_after}
-use Rattle.preflight_cert.specs.Run.{Outcome, shown, refused, Run, RunEndsInOneWay, RefusedOverAnyImage, WritesAreOne}
+use Rattle.preflight_cert.specs.Run.{Outcome, shown, rejected, Run, RunEndsInOneWay, RejectedOverAnyImage, WritesAreOne}
 
 -- opening answers one thing
 pub opens_or_not : (answer : Result OpenedValue Fault) (headers : OpenedValue) (fault : Fault) → answer ≡ Ok headers → answer ≡ Err fault → ⊥
@@ -31,13 +31,13 @@ same_stop stop at other a o = cc
 
 -- a file that doesn't open is refused by that fault alone
 module _ (file : List ℕ) (width height : ℕ) (image : Image) (fault : Fault) (e : opened file ≡ Err fault) where
-  only_opening : (other : Outcome) → Run file width height image other → other ≡ refused None fault
+  only_opening : (other : Outcome) → Run file width height image other → other ≡ rejected None fault
   only_opening (shown after) h = absurd (opens_or_not (opened file) h.headers fault h.of_file.opens e)
-  only_opening (refused None f) h = ap (refused None) (same_fault (opened file) fault f e h)
-  only_opening (refused (Some number) f) h = absurd (opens_or_not (opened file) h.headers fault h.of_file.opens e)
+  only_opening (rejected None f) h = ap (rejected None) (same_fault (opened file) fault f e h)
+  only_opening (rejected (Some number) f) h = absurd (opens_or_not (opened file) h.headers fault h.of_file.opens e)
 
   by_fault : ExactlyOne (Run file width height image)
-  by_fault = record { value = refused None fault; holds = e; only = λ other h. only_opening other h }
+  by_fault = record { value = rejected None fault; holds = e; only = λ other h. only_opening other h }
 
 -- how the records of an opened file stop, what they show, and how many pixels they write
 abbrev stop : ℕ → ℕ → OpenedValue × Content → Option Stop
@@ -56,17 +56,17 @@ module _ (one : FileIsOne) (file : List ℕ) (width height : ℕ) (image : Image
 
   only_shown : (other : Outcome) → stop width height the_one.value ≡ None → Run file width height image other → other ≡ shown (shows width height image the_one.value)
   only_shown (shown after) n h = ap shown (h.shows ∙ ap (shows width height image) (the_one.only (h.headers, h.content) h.of_file))
-  only_shown (refused None f) n h = absurd (opens_or_not (opened file) headers f e h)
-  only_shown (refused (Some number) f) n h =
+  only_shown (rejected None f) n h = absurd (opens_or_not (opened file) headers f e h)
+  only_shown (rejected (Some number) f) n h =
       absurd (none_some _ _ n (sym (ap (stop width height) (the_one.only (h.headers, h.content) h.of_file)) ∙ h.stops))
 
-  only_stopped : (other : Outcome) (at : Stop) → stop width height the_one.value ≡ Some at → Run file width height image other → other ≡ refused (Some at.number) (Record at.fault)
+  only_stopped : (other : Outcome) (at : Stop) → stop width height the_one.value ≡ Some at → Run file width height image other → other ≡ rejected (Some at.number) (Record at.fault)
   only_stopped (shown after) at s h =
       absurd (none_some _ _ (sym (ap (stop width height) (the_one.only (h.headers, h.content) h.of_file)) ∙ h.unstopped) s)
-  only_stopped (refused None f) at s h = absurd (opens_or_not (opened file) headers f e h)
-  only_stopped (refused (Some number) f) at s h =
+  only_stopped (rejected None f) at s h = absurd (opens_or_not (opened file) headers f e h)
+  only_stopped (rejected (Some number) f) at s h =
       let there = same_stop _ _ _ (sym (ap (stop width height) (the_one.only (h.headers, h.content) h.of_file)) ∙ h.stops) s in
-      rw h.in_record (ap (λ (t : Stop). refused (Some t.number) (Record t.fault)) there)
+      rw h.in_record (ap (λ (t : Stop). rejected (Some t.number) (Record t.fault)) there)
 
   by_stop : (stops : Option Stop) → stop width height the_one.value ≡ stops → ExactlyOne (Run file width height image)
   by_stop None n = record {
@@ -75,7 +75,7 @@ module _ (one : FileIsOne) (file : List ℕ) (width height : ℕ) (image : Image
     only = λ other h. only_shown other n h;
   }
   by_stop (Some at) s = record {
-    value = refused (Some at.number) (Record at.fault);
+    value = rejected (Some at.number) (Record at.fault);
     holds = record { headers = the_one.value.0; content = the_one.value.1; of_file = the_one.holds; here = at.fault; in_record = refl; stops = s };
     only = λ other h. only_stopped other at s h;
   }
@@ -88,8 +88,8 @@ pub run_ends : FileIsOne → RunEndsInOneWay
 run_ends one file width height image = by_opening one file width height image (opened file) refl
 
 -- a refusal doesn't depend on the image
-pub refused_over_any : RefusedOverAnyImage
-refused_over_any file width height image other number fault h = h
+pub rejected_over_any : RejectedOverAnyImage
+rejected_over_any file width height image other number fault h = h
 
 pub writes_are_one : FileIsOne → WritesAreOne
 writes_are_one one file width height image after h =

@@ -10,18 +10,18 @@ use Rattle.preflight_cert.specs.DrawingBoxLaws.{DrawingBoxLaws}
 use Rattle.preflight_cert.specs.Drawings.{NumberedDrawing}
 use Rattle.preflight_cert.specs.Entries.{AreCovered, budget_of}
 use Rattle.preflight_cert.specs.SizeLaws.{SizeLaws}
-use Rattle.preflight_cert.specs.Stop.{Stop, broken_behind, stopped}
+use Rattle.preflight_cert.specs.Stop.{Stop, broken_after, stopped}
 use Rattle.preflight_cert.specs.Writes.{writes_after}
-use Rattle.preflight_cert.specs.declared.entry.Entry.{Entry}
+use Rattle.preflight_cert.specs.declared.certificate_entry.Entry.{Entry}
 use Rattle.preflight_cert.proofs.StopLemmas.{none_here, none_later}
 
 -- faults and budgets from the larger surface to the smaller
 module _ (faults : FaultLaws) (boxes : DrawingBoxLaws) (smaller larger : Surface) (shows : ShowsFrame larger) (no_larger : IsNoLarger smaller larger) where
-  unstopped : (steps : List StepValue) (behind : Option Stop) (state : State) → stopped steps behind state larger ≡ None → stopped steps behind state smaller ≡ None
-  unstopped [] behind state h = h
-  unstopped (step ∷ steps) behind state h =
+  unstopped : (steps : List StepValue) (after : Option Stop) (state : State) → stopped steps after state larger ≡ None → stopped steps after state smaller ≡ None
+  unstopped [] after state h = h
+  unstopped (step ∷ steps) after state h =
       let here = faults.none_on_smaller step.operation state smaller larger shows no_larger (none_here _ _ _ h) in
-      let rest = unstopped steps behind (next step.operation state) (none_later _ _ _ h) in
+      let rest = unstopped steps after (next step.operation state) (none_later _ _ _ h) in
       rw (here, rest) refl
 
   few : (drawings : List NumberedDrawing) (entries : List Entry) → AreCovered drawings entries larger → writes_after drawings smaller ≤ budget_of drawings entries larger
@@ -33,6 +33,6 @@ module _ (faults : FaultLaws) (boxes : DrawingBoxLaws) (smaller larger : Surface
 
 pub size_laws : FaultLaws → DrawingBoxLaws → SizeLaws
 size_laws faults boxes = record {
-  unstopped = λ content state smaller larger shows no_larger h. unstopped faults boxes smaller larger shows no_larger content.steps (broken_behind (length content.steps) content.fault) state h;
+  unstopped = λ content state smaller larger shows no_larger h. unstopped faults boxes smaller larger shows no_larger content.steps (broken_after (length content.steps) content.fault) state h;
   few = λ drawings entries smaller larger shows no_larger covered. few faults boxes smaller larger shows no_larger drawings entries covered;
 }

@@ -17,10 +17,10 @@ by_limit number other false e h = leb-false record_limit number e
 below : (f : Framing) (number : ℕ) (bytes : List ℕ) → framing_fault f number bytes ≡ None → number < record_limit
 below f number bytes h = by_limit number _ (nat_le record_limit number) refl h
 
-few_spelled : (f : Framing) (number : ℕ) (bytes : List ℕ) (records : List Record) (behind : List ℕ) → Spells f number bytes records behind → number + length records ≤ record_limit
-few_spelled f number bytes [] behind h = absurd h
-few_spelled f number bytes (r ∷ []) behind h = let one = below f number bytes h.good in omega (arith, one)
-few_spelled f number bytes (r ∷ s ∷ rs) behind h = let rest = few_spelled f (suc number) (rest_of f bytes) (s ∷ rs) behind h.onward in omega (arith, rest)
+few_spelled : (f : Framing) (number : ℕ) (bytes : List ℕ) (records : List Record) (after : List ℕ) → Spells f number bytes records after → number + length records ≤ record_limit
+few_spelled f number bytes [] after h = absurd h
+few_spelled f number bytes (r ∷ []) after h = let one = below f number bytes h.good in omega (arith, one)
+few_spelled f number bytes (r ∷ s ∷ rs) after h = let rest = few_spelled f (suc number) (rest_of f bytes) (s ∷ rs) after h.onward in omega (arith, rest)
 
 few_broken : (f : Framing) (number : ℕ) (bytes : List ℕ) (records : List Record) (fault : RecordFault) → number ≤ record_limit → Broken f number bytes records fault → number + length records ≤ record_limit
 few_broken f number bytes [] fault start h = omega (arith, start)
@@ -28,24 +28,24 @@ few_broken f number bytes (r ∷ rs) fault start h =
     let one = below f number bytes h.good in
     let rest = few_broken f (suc number) (rest_of f bytes) rs fault (omega (arith, one)) h.onward in omega (arith, rest)
 
-few_records : (f : Framing) (bytes : List ℕ) (records : List Record) (fault : Option RecordFault) (behind : List ℕ) → IsSpelledOrBroken f 0 bytes records fault behind → length records ≤ record_limit
-few_records f bytes records None behind h = let few = few_spelled f 0 bytes records behind h in omega (arith, few)
-few_records f bytes records (Some fault) behind h = let few = few_broken f 0 bytes records fault (omega arith) h.broken in omega (arith, few)
+few_records : (f : Framing) (bytes : List ℕ) (records : List Record) (fault : Option RecordFault) (after : List ℕ) → IsSpelledOrBroken f 0 bytes records fault after → length records ≤ record_limit
+few_records f bytes records None after h = let few = few_spelled f 0 bytes records after h in omega (arith, few)
+few_records f bytes records (Some fault) after h = let few = few_broken f 0 bytes records fault (omega arith) h.broken in omega (arith, few)
 
 -- each record has at most one step
 one_more : (first : Result StepValue RecordFault) (rest : Content) (n : ℕ) → length rest.steps ≤ n → length (followed first rest).steps ≤ suc n
 one_more (Ok step) rest n h = omega (arith, h)
 one_more (Err fault) rest n h = omega arith
 
-fewer : (f : Framing) (meaning : Meaning) (behind : List ℕ) (number : ℕ) (records : List Record) (fault : Option RecordFault) → length (steps_from f meaning behind number records fault).steps ≤ length records
-fewer f meaning behind number [] fault = omega arith
-fewer f meaning behind number (r ∷ rs) fault =
-    one_more (step_of f meaning behind number r) (steps_from f meaning behind (suc number) rs fault) (length rs) (fewer f meaning behind (suc number) rs fault)
+fewer : (f : Framing) (meaning : Meaning) (after : List ℕ) (number : ℕ) (records : List Record) (fault : Option RecordFault) → length (steps_from f meaning after number records fault).steps ≤ length records
+fewer f meaning after number [] fault = omega arith
+fewer f meaning after number (r ∷ rs) fault =
+    one_more (step_of f meaning after number r) (steps_from f meaning after (suc number) rs fault) (length rs) (fewer f meaning after (suc number) rs fault)
 
 pub few_steps : (f : Framing) (meaning : Meaning) (bytes : List ℕ) (content : Content) → IsContent f meaning bytes content → length content.steps ≤ record_limit
 few_steps f meaning bytes content h =
     let k = h.framed in
-    let size : length content.steps ≡ length (steps_from f meaning k.behind 0 k.records k.fault).steps = ap (λ (it : Content). length it.steps) h.meant in
-    let steps = fewer f meaning k.behind 0 k.records k.fault in
-    let records = few_records f bytes k.records k.fault k.behind h.is_framed in
+    let size : length content.steps ≡ length (steps_from f meaning k.after 0 k.records k.fault).steps = ap (λ (it : Content). length it.steps) h.decoded in
+    let steps = fewer f meaning k.after 0 k.records k.fault in
+    let records = few_records f bytes k.records k.fault k.after h.is_framed in
     omega (arith, size, steps, records)

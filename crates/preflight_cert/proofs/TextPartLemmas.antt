@@ -13,10 +13,10 @@ unfolding mark_of
 number_is_mark Mpc1 = refl
 number_is_mark Mpc2 = refl
 
-parts_are : (version : Version) (head : HeadValue) (count : ℕ) (behind : List ℕ)
-    → bound_text version head.max_width head.max_height ++ (totals_text head.writes head.needs count ++ behind) ≡ text_with version head count behind
-parts_are version head count behind =
-    ap (λ (mark : List ℕ). mark ++ (number_text head.max_width ++ (number_text head.max_height ++ (totals_text head.writes head.needs count ++ behind)))) (number_is_mark version)
+parts_are : (version : Version) (head : HeadValue) (count : ℕ) (after : List ℕ)
+    → bound_text version head.max_width head.max_height ++ (totals_text head.writes head.needs count ++ after) ≡ text_with version head count after
+parts_are version head count after =
+    ap (λ (mark : List ℕ). mark ++ (number_text head.max_width ++ (number_text head.max_height ++ (totals_text head.writes head.needs count ++ after)))) (number_is_mark version)
 
 -- three parts, each put behind the text
 three_parts : (start first second third : List ℕ) (middle next : List ℕ) → middle ≡ start ++ first → next ≡ middle ++ second
@@ -24,9 +24,9 @@ three_parts : (start first second third : List ℕ) (middle next : List ℕ) →
 three_parts start first second third middle next e f = rw (f, e) (append_assoc (start ++ first) second third ∙ append_assoc start first (second ++ third))
 
 -- the parts of a certificate's text, each put behind the others
-pub parts_with : (version : Version) (head : HeadValue) (count : ℕ) (behind : List ℕ) (first second whole : List ℕ)
-    → first ≡ bound_text version head.max_width head.max_height → second ≡ first ++ totals_text head.writes head.needs count → whole ≡ second ++ behind
-    → whole ≡ text_with version head count behind
-parts_with version head count behind first second whole e f g =
-    g ∙ three_parts [] (bound_text version head.max_width head.max_height) (totals_text head.writes head.needs count) behind first second e f
-    ∙ parts_are version head count behind
+pub parts_with : (version : Version) (head : HeadValue) (count : ℕ) (after : List ℕ) (first second whole : List ℕ)
+    → first ≡ bound_text version head.max_width head.max_height → second ≡ first ++ totals_text head.writes head.needs count → whole ≡ second ++ after
+    → whole ≡ text_with version head count after
+parts_with version head count after first second whole e f g =
+    g ∙ three_parts [] (bound_text version head.max_width head.max_height) (totals_text head.writes head.needs count) after first second e f
+    ∙ parts_are version head count after

@@ -27,14 +27,14 @@ abbrev small : ℕ → List ℕ
 small n = n ∷ 0 ∷ 0 ∷ 0 ∷ []
 
 -- the writes, needs, count and entry
-abbrev behind_sides : List ℕ
-behind_sides =
+abbrev after_dimensions : List ℕ
+after_dimensions =
     32 ∷ 0 ∷ 0 ∷ 0 ∷ 0 ∷ 0 ∷ 0 ∷ 0 ∷ small 0 ++ small 0 ++ small 3 ++ small 0 ++ small 1
     ++ small 0 ++ small 0 ++ small 0 ++ small 4 ++ small 4
 
 -- the whole, with this mark and this height
 abbrev bytes_with : List ℕ → ℕ → List ℕ
-bytes_with marked height = marked ++ small 4 ++ small height ++ behind_sides
+bytes_with marked height = marked ++ small 4 ++ small height ++ after_dimensions
 
 abbrev bytes : List ℕ
 bytes = bytes_with (0x4d ∷ 0x50 ∷ 0x43 ∷ 0x31 ∷ []) 4

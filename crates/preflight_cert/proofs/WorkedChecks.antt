@@ -19,7 +19,7 @@ use Rattle.dc_stack.specs.State.{State, start_state}
 use Rattle.span_fill.specs.WideStrokes.{one_pixel}
 use Rattle.preflight_cert.specs.Checked.{check_of}
 use Rattle.preflight_cert.specs.Stop.{Stop, stop_at}
-use Rattle.preflight_cert.specs.declared.entry.Entry.{Entry}
+use Rattle.preflight_cert.specs.declared.certificate_entry.Entry.{Entry}
 
 abbrev four : Surface
 four = record { width = 4; height = 4; frame_width = 4; frame_height = 4 }
@@ -47,37 +47,37 @@ abbrev line_entry : Entry
 line_entry = entry 1 (pos 0) (pos 0) (pos 3) (pos 0)
 
 -- where these steps and then this fault stop, beside these entries
-abbrev stop_beside : Option RecordFault → List Entry → Option Stop
-stop_beside fault entries = check_of (record { steps = steps; fault = fault }) start four entries
+abbrev stop_outside : Option RecordFault → List Entry → Option Stop
+stop_outside fault entries = check_of (record { steps = steps; fault = fault }) start four entries
 
-each_has_its_own : stop_beside None (dot_entry ∷ line_entry ∷ []) ≡ None
+each_has_its_own : stop_outside None (dot_entry ∷ line_entry ∷ []) ≡ None
 unfolding plane_limit place_limit edge_limit piece_limit
 each_has_its_own = refl
 
 -- exchanged, left out, one left over behind the end
-exchanged : stop_beside None (line_entry ∷ dot_entry ∷ []) ≡ Some (stop_at 0 WrongEntry)
+exchanged : stop_outside None (line_entry ∷ dot_entry ∷ []) ≡ Some (stop_at 0 WrongEntry)
 unfolding plane_limit place_limit edge_limit piece_limit
 exchanged = refl
 
-left_out : stop_beside None (dot_entry ∷ []) ≡ Some (stop_at 1 WrongEntry)
+left_out : stop_outside None (dot_entry ∷ []) ≡ Some (stop_at 1 WrongEntry)
 unfolding plane_limit place_limit edge_limit piece_limit
 left_out = refl
 
-left_over : stop_beside None (dot_entry ∷ line_entry ∷ line_entry ∷ []) ≡ Some (stop_at 2 WrongEntry)
+left_over : stop_outside None (dot_entry ∷ line_entry ∷ line_entry ∷ []) ≡ Some (stop_at 2 WrongEntry)
 unfolding plane_limit place_limit edge_limit piece_limit
 left_over = refl
 
 -- a box that lacks the line's right end
-short_box : stop_beside None (dot_entry ∷ entry 1 (pos 0) (pos 0) (pos 2) (pos 0) ∷ []) ≡ Some (stop_at 1 BoxTooSmall)
+short_box : stop_outside None (dot_entry ∷ entry 1 (pos 0) (pos 0) (pos 2) (pos 0) ∷ []) ≡ Some (stop_at 1 BoxTooSmall)
 unfolding plane_limit place_limit edge_limit piece_limit
 short_box = refl
 
 -- the fault of an earlier entry comes before that of a later record, and a record's own before its entry's
-entry_before_end : stop_beside (Some NoEnd) (dot_entry ∷ []) ≡ Some (stop_at 1 WrongEntry)
+entry_before_end : stop_outside (Some NoEnd) (dot_entry ∷ []) ≡ Some (stop_at 1 WrongEntry)
 unfolding plane_limit place_limit edge_limit piece_limit
 entry_before_end = refl
 
-end_of_file : stop_beside (Some NoEnd) (dot_entry ∷ line_entry ∷ []) ≡ Some (stop_at 3 NoEnd)
+end_of_file : stop_outside (Some NoEnd) (dot_entry ∷ line_entry ∷ []) ≡ Some (stop_at 3 NoEnd)
 unfolding plane_limit place_limit edge_limit piece_limit
 end_of_file = refl
 

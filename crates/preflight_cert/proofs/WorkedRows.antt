@@ -42,17 +42,17 @@ abbrev red_step : StepValue
 red_step = record { number = 0; operation = pixel (record { x = pos 2; y = pos 1 }) red; notes = no_notes }
 
 -- the steps of a file of a pixel and an end, with a byte behind the end
-dot_with_a_byte_behind : content_of wmf_framing wmf_meaning 0 (record { records = red_pixel ∷ end_record ∷ []; fault = None; behind = 0 ∷ [] }) ≡ record { steps = red_step ∷ record { number = 1; operation = no_effect; notes = noted no_notes AfterEnd } ∷ []; fault = None }
+dot_with_a_byte_after : content_of wmf_framing wmf_meaning 0 (record { records = red_pixel ∷ end_record ∷ []; fault = None; after = 0 ∷ [] }) ≡ record { steps = red_step ∷ record { number = 1; operation = no_effect; notes = noted no_notes AfterEnd } ∷ []; fault = None }
 unfolding wmf_record
-dot_with_a_byte_behind = refl
+dot_with_a_byte_after = refl
 
 -- without one nothing is noted
-dot_alone : content_of wmf_framing wmf_meaning 0 (record { records = red_pixel ∷ end_record ∷ []; fault = None; behind = [] }) ≡ record { steps = red_step ∷ record { number = 1; operation = no_effect; notes = no_notes } ∷ []; fault = None }
+dot_alone : content_of wmf_framing wmf_meaning 0 (record { records = red_pixel ∷ end_record ∷ []; fault = None; after = [] }) ≡ record { steps = red_step ∷ record { number = 1; operation = no_effect; notes = no_notes } ∷ []; fault = None }
 unfolding wmf_record
 dot_alone = refl
 
 -- a record with a fault ends the steps
-palette_dot : content_of wmf_framing wmf_meaning 0 (record { records = palette_pixel ∷ end_record ∷ []; fault = None; behind = [] }) ≡ record { steps = []; fault = Some PaletteColour }
+palette_dot : content_of wmf_framing wmf_meaning 0 (record { records = palette_pixel ∷ end_record ∷ []; fault = None; after = [] }) ≡ record { steps = []; fault = Some PaletteColour }
 unfolding wmf_record
 palette_dot = refl
 
@@ -71,8 +71,8 @@ dot_writes_once : writes_after (drawings_of (red_step ∷ []) start) two_by_two 
 dot_writes_once = refl
 
 -- a fault behind one step lies in record 1
-stops_behind_a_step : stop_of (record { steps = record { number = 0; operation = no_effect; notes = no_notes } ∷ []; fault = Some PaletteColour }) start two_by_two ≡ Some (stop_at 1 PaletteColour)
-stops_behind_a_step = refl
+stops_after_a_step : stop_of (record { steps = record { number = 0; operation = no_effect; notes = no_notes } ∷ []; fault = Some PaletteColour }) start two_by_two ≡ Some (stop_at 1 PaletteColour)
+stops_after_a_step = refl
 
 -- a kept box of the left half and a cut of its upper half, at 2 by 2
 abbrev left_below : ClipValue

@@ -1,4 +1,4 @@
--- What steps leave behind them, whatever the surface: the state, the greatest needs, and how often each kind is noted.
+-- The state, the greatest needs and the number of notes after some steps, on any surface.
 use Rattle.std.specs.Prelude.{ℕ, List, [], ◌∷◌}
 use Rattle.draw_ops.specs.Content.{Content, StepValue}
 use Rattle.draw_ops.specs.NoteCounts.{added_notes}
@@ -13,20 +13,20 @@ abbrev pub state_after : List StepValue → State → State
 state_after [] state = state
 state_after (step ∷ steps) state = state_after steps (next step.operation state)
 
--- the greatest needs of the steps, and of what came before them
+-- the greatest needs of the steps and of what came before them
 abbrev pub needs_after : List StepValue → State → Needs → Needs
 needs_after [] state needs = needs
 needs_after (step ∷ steps) state needs = needs_after steps (next step.operation state) (greater_needs needs (needs_of step.operation state))
 
--- how often each kind is noted of the steps, and of what came before them
+-- the number of notes of each kind, of the steps and of what came before them
 abbrev pub notes_after : List StepValue → List ℕ → List ℕ
 notes_after [] counts = counts
 notes_after (step ∷ steps) counts = notes_after steps (added_notes counts step.notes)
 
--- the needs of a file's records, from their start on
+-- the needs of a file's records, from the file's start on
 abbrev pub file_needs : Content → OpenedValue → Needs
 file_needs content o = needs_after content.steps (start_of o) no_needs
 
--- how often each kind is noted of a file: of its headers, and of its records
+-- the number of notes of each kind, of a file's headers and records
 abbrev pub file_notes : Content → OpenedValue → List ℕ
 file_notes content o = notes_after content.steps o.notes

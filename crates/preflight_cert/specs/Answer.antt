@@ -1,4 +1,4 @@
--- What a check answers, and what an accepted certificate promises.
+-- The answer of a check, and what an accepted certificate promises.
 use Rattle.std.specs.Prelude.{◌≡◌, ◌≤◌, ◌↔◌, ℕ, Bool, ◌&&◌, nat_le, if◌then◌else◌, List, length, Option, Some, None, Result, Ok, Err}
 use Rattle.mapping.specs.Image.{Image}
 use Rattle.mapping.specs.Surface.{Surface}
@@ -16,7 +16,7 @@ use Rattle.preflight_cert.specs.Checked.{check_of}
 use Rattle.preflight_cert.specs.Drawings.{drawings_of}
 use Rattle.preflight_cert.specs.Entries.{AreCovered, budget_of}
 use Rattle.preflight_cert.specs.NeedLaws.{AreWithin}
-use Rattle.preflight_cert.specs.Run.{Run, RunWrites, refused, shown}
+use Rattle.preflight_cert.specs.Run.{Run, RunWrites, rejected, shown}
 use Rattle.preflight_cert.specs.Stop.{Stop, stop_of}
 use Rattle.preflight_cert.specs.declared.refusal.Refusal.{Refusal}
 
@@ -24,37 +24,37 @@ use Rattle.preflight_cert.specs.declared.refusal.Refusal.{Refusal}
 abbrev pub bound_of : OpenedValue → CertificateValue → Surface
 bound_of o c = surface_for o c.max_width c.max_height
 
--- how many pixels the drawings of a file's records write at most, by a certificate's entries at its bound
+-- the most pixels that the drawings of a file's records write, by a certificate's entries at its bound
 abbrev pub file_budget : Content → OpenedValue → CertificateValue → ℕ
 file_budget content o c = budget_of (drawings_of content.steps (start_of o)) c.entries (bound_of o c)
 
--- A certificate fits a file's records: they have no fault at the bound, its entries cover their drawings one for one, and its needs and writes
--- are at least theirs.
+-- A certificate fits a file's records: they have no fault at the bound, its entries cover their drawings one by one,
+-- and its needs and writes are at least theirs.
 pub record Fits (c : CertificateValue) (o : OpenedValue) (content : Content) : Type 0 where
   pub unstopped : stop_of content (start_of o) (bound_of o c) ≡ None
   pub covered : AreCovered (drawings_of content.steps (start_of o)) c.entries (bound_of o c)
   pub needs : AreWithin (file_needs content o) c.needs
   pub budget : file_budget content o c ≤ c.writes
 
--- accepted, or refused by a fault, in a record or in none
+-- an answer: accepted, or rejected by a fault, in a record or in none
 pub data Answer : Type 0 where
   accepted : Answer
-  refuses : Option ℕ → Fault → Answer
+  rejects : Option ℕ → Fault → Answer
 
--- needs are at most others, as a test
+-- whether needs are at most others
 abbrev pub are_within : Needs → Needs → Bool
 are_within needs others =
     nat_le needs.depth others.depth && nat_le needs.slots others.slots && nat_le needs.edges others.edges && nat_le needs.pieces others.pieces
 
--- the fault of the numbers that are told of the whole: a need, or else the writes
+-- the fault of a certificate's totals: a need, or else the writes
 abbrev pub total_fault : Needs → ℕ → CertificateValue → Option Fault
 total_fault needs budget c =
     if are_within needs c.needs then (if nat_le budget c.writes then None else Some BudgetTooSmall) else Some NeedTooSmall
 
--- where the steps and entries stop, or else the fault of the whole
+-- the answer from where the steps and entries stop, or else from the fault of the totals
 abbrev pub answer_from : Option Stop → Option Fault → Answer
-answer_from (Some stop) total = refuses (Some stop.number) (Record stop.fault)
-answer_from None (Some fault) = refuses None fault
+answer_from (Some stop) total = rejects (Some stop.number) (Record stop.fault)
+answer_from None (Some fault) = rejects None fault
 answer_from None None = accepted
 
 -- the answer to a certificate for a file's records
@@ -63,35 +63,36 @@ answer_to content o c =
     answer_from (check_of content (start_of o) (bound_of o c) c.entries)
     (total_fault (file_needs content o) (file_budget content o c) c)
 
--- records of an opened file have a content that is answered so
+-- the records of an opened file have a content with this answer
 pub record RecordsAnswer (o : OpenedValue) (records : List ℕ) (c : CertificateValue) (answer : Answer) : Type 0 where
   pub content : Content
   pub of_records : HasContentOf o.format records content
   pub answers : answer ≡ answer_to content o c
 
--- the certificate's own fault comes first
+-- the answer to the bytes of a certificate: its own fault comes first
 abbrev pub AnswersRead : Result CertificateValue Fault → OpenedValue → List ℕ → Answer → Type 0
-AnswersRead (Err fault) o records answer = answer ≡ refuses None fault
+AnswersRead (Err fault) o records answer = answer ≡ rejects None fault
 AnswersRead (Ok c) o records answer = RecordsAnswer o records c answer
 
--- and opening's before it
+-- the answer to a file and the bytes of a certificate: a fault of opening comes first
 abbrev pub AnswersOpened : Result OpenedValue Fault → List ℕ → List ℕ → Answer → Type 0
-AnswersOpened (Err fault) file certificate answer = answer ≡ refuses None fault
+AnswersOpened (Err fault) file certificate answer = answer ≡ rejects None fault
 AnswersOpened (Ok o) file certificate answer = AnswersRead (read_certificate certificate) o (record_bytes o.format file) answer
 
--- The answer to a file and a certificate.
+-- this is the answer to a file and a certificate
 abbrev pub IsAnswer : List ℕ → List ℕ → Answer → Type 0
 IsAnswer file certificate answer = AnswersOpened (opened file) file certificate answer
 
--- It is this refusal.
-abbrev pub IsRefusedWith : List ℕ → List ℕ → Refusal → Type 0
-IsRefusedWith file certificate r = IsAnswer file certificate (refuses r.number r.fault)
+-- the answer to a file and a certificate is this rejection
+abbrev pub IsRejectedWith : List ℕ → List ℕ → Refusal → Type 0
+IsRejectedWith file certificate r = IsAnswer file certificate (rejects r.number r.fault)
 
--- the certificate is accepted for whatever content records of an opened file have
+-- the certificate is accepted for any content that the records of an opened file have
 abbrev pub IsCleared : OpenedValue → List ℕ → CertificateValue → Type 0
 IsCleared o records c = (content : Content) → HasContentOf o.format records content → accepted ≡ answer_to content o c
 
--- so many records do an opened file's have, whatever content that is, and so often is each kind noted of the file
+-- for any content that the records of an opened file have, these are the number of records and the number of notes of
+-- each kind
 pub record CountsRecords (o : OpenedValue) (records : List ℕ) (count : ℕ) (noted : List ℕ) : Type 0 where
   pub all : (content : Content) → HasContentOf o.format records content → count ≡ length content.steps
   pub notes : (content : Content) → HasContentOf o.format records content → noted ≡ file_notes content o
@@ -101,15 +102,17 @@ pub record Shows (file : List ℕ) (width height : ℕ) (image : Image) : Type 0
   pub after : Image
   pub ends : Run file width height image (shown after)
 
--- On each surface up to these sides, and over each image, the run of a file has no fault, and it writes at most so many pixels.
+-- On each surface of at most this size, and over each image, the run of a file has no fault, and it writes at most this
+-- number of pixels.
 pub record Sound (file : List ℕ) (max_width max_height most : ℕ) : Type 0 where
   pub shows : (width height : ℕ) (image : Image) → width ≤ max_width → height ≤ max_height → Shows file width height image
   pub faultless :
       (width height : ℕ) (image : Image) (number : Option ℕ) (fault : Fault) → width ≤ max_width → height ≤ max_height
-      → Run file width height image (refused number fault) → ⊥
+      → Run file width height image (rejected number fault) → ⊥
   pub few : (width height writes : ℕ) → width ≤ max_width → height ≤ max_height → RunWrites file width height writes → writes ≤ most
 
--- There is one answer. Records are accepted exactly where the certificate fits them, and then the file is sound within its bound and writes.
+-- There is exactly one answer. Records are accepted exactly if the certificate fits them, and then the file is sound
+-- within its bound and writes.
 pub record AnswerLaws : Type 0 where
   pub one : (file certificate : List ℕ) → ExactlyOne (IsAnswer file certificate)
   pub fits : (content : Content) (o : OpenedValue) (c : CertificateValue) → (accepted ≡ answer_to content o c) ↔ Fits c o content

@@ -1,9 +1,9 @@
--- The value of a certificate of the code.
+-- The value of a certificate.
 use Rattle.preflight_cert.specs.CertificateReading.{CertificateValue}
 use Rattle.preflight_cert.specs.EntriesOf.{entries_of}
 use Rattle.preflight_cert.specs.declared.certificate.Certificate.{Certificate}
 
--- its parts, each by its value
+-- the value of a certificate, part by part
 abbrev pub certificate_of : Certificate → CertificateValue
 certificate_of c = record {
   version = c.entries.version;

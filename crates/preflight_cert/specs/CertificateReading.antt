@@ -1,4 +1,4 @@
--- The bytes of a certificate, and what they say.
+-- The bytes of a certificate, and their meaning.
 use Rattle.std.specs.Prelude.{ℕ, zero, suc, ◌+◌, ◌*◌, Bool, ◌&&◌, ◌==◌, not, nat_le, nat_lt, if◌then◌else◌, List, [], ◌∷◌, length, drop, codes, Option, Some, None, Result, Ok, Err}
 use Rattle.std.specs.List.{list_all}
 use Rattle.mapping.specs.Limits.{is_surface_side}
@@ -12,11 +12,12 @@ use Rattle.dc_stack.specs.Path.{piece_limit}
 use Rattle.dc_stack.specs.SavedStates.{depth_limit}
 use Rattle.dc_stack.specs.declared.needs.Needs.{Needs}
 use Rattle.span_fill.specs.WideStrokes.{one_pixel}
-use Rattle.preflight_cert.specs.declared.entry.Entry.{Entry}
+use Rattle.preflight_cert.specs.declared.certificate_entry.Entry.{Entry}
 use Rattle.preflight_cert.specs.declared.version.Version.{Version}
 use Rattle.preflight_cert.specs.declared.version.Version.TheVariants.{Mpc1, Mpc2}
 
--- a certificate: its version, the longest sides of a surface, the most pixels written, what is needed, and an entry for each drawing
+-- a certificate: its version, the greatest width and height of a surface, the most pixels written, the needs, and an
+-- entry for each drawing
 pub record CertificateValue : Type 0 where
   pub version : Version
   pub max_width : ℕ
@@ -34,28 +35,28 @@ mark_of Mpc2 = number_at (codes "MPC2") 0 4
 abbrev pub version_of : ℕ → Option Version
 version_of n = if n == mark_of Mpc1 then Some Mpc1 else (if n == mark_of Mpc2 then Some Mpc2 else None)
 
--- the most slots of objects that a certificate may tell
+-- the most slots of objects in a certificate
 abbrev pub slot_limit : ℕ
 slot_limit = 65535
 
--- the most entries that it may have
+-- the most entries of a certificate
 unfoldable pub entry_limit : ℕ
 entry_limit = 1048576
 
--- how many bytes stand in front of the entries
+-- the number of bytes before the entries
 abbrev pub head_size : ℕ
 head_size = 40
 
--- how many bytes an entry takes: a number and a box, and in the later version a nib
+-- the number of bytes in an entry: a number and a box, and in the later version a nib
 abbrev pub entry_size : Version → ℕ
 entry_size Mpc1 = 20
 entry_size Mpc2 = 24
 
--- how many entries there are to be
+-- the number of entries that the head gives
 abbrev pub count_in : List ℕ → ℕ
 count_in bytes = number_at bytes 36 4
 
--- what is needed
+-- the needs
 abbrev pub needs_in : List ℕ → Needs
 needs_in bytes = record {
   depth = number_at bytes 20 4;
@@ -64,7 +65,7 @@ needs_in bytes = record {
   pieces = number_at bytes 32 4;
 }
 
--- the nib in an entry's bytes: one pixel where they have none
+-- the nib in an entry's bytes; one pixel if they have none
 abbrev pub nib_in : Version → List ℕ → Nib
 nib_in Mpc1 bytes = one_pixel
 nib_in Mpc2 bytes = record { x = number_at bytes 20 2; y = number_at bytes 22 2 }
@@ -77,12 +78,12 @@ first_entry version bytes = record {
   nib = nib_in version bytes;
 }
 
--- so many entries, one after another
+-- consecutive entries
 abbrev pub entries_in : Version → ℕ → List ℕ → List Entry
 entries_in version zero bytes = []
 entries_in version (suc n) bytes = first_entry version bytes ∷ entries_in version n (drop (entry_size version) bytes)
 
--- the nib of each entry has no more columns and rows than it may
+-- the nib of each entry is within the limits of nibs
 abbrev pub have_nibs : List Entry → Bool
 have_nibs entries = list_all (λ (entry : Entry). is_nib entry.nib) entries
 
@@ -92,13 +93,13 @@ are_bounded_needs needs =
     nat_le needs.depth depth_limit && nat_le needs.slots slot_limit
     && nat_le needs.edges edge_limit && nat_le needs.pieces piece_limit
 
--- the sides, the needs and the number of entries are within their limits
+-- the size, the needs and the number of entries are within their limits
 abbrev pub is_bounded : List ℕ → Bool
 is_bounded bytes =
     is_surface_side (number_at bytes 4 4) && is_surface_side (number_at bytes 8 4) && are_bounded_needs (needs_in bytes)
     && nat_le (count_in bytes) entry_limit
 
--- what the bytes of a whole certificate say
+-- the contents of a complete certificate
 abbrev pub value_in : Version → List ℕ → CertificateValue
 value_in version bytes = record {
   version = version;
@@ -109,27 +110,27 @@ value_in version bytes = record {
   entries = entries_in version (count_in bytes) (drop head_size bytes);
 }
 
--- how many bytes a certificate has with the entries that it tells
+-- the number of bytes of a certificate with the entries that its head gives
 abbrev pub whole_size : Version → List ℕ → ℕ
 whole_size version bytes = head_size + entry_size version * count_in bytes
 
--- what a certificate says whose entries' nibs are within their limits
+-- the contents of a certificate, if the nibs of its entries are within their limits
 abbrev pub with_nibs : CertificateValue → Result CertificateValue Fault
 with_nibs c = if have_nibs c.entries then Ok c else Err BadBound
 
--- what the bytes say, if they end where the entries do
+-- the contents of the bytes, if they end where the entries do
 abbrev pub read_whole : Version → List ℕ → Result CertificateValue Fault
 read_whole version bytes =
     if nat_lt (length bytes) (whole_size version bytes) then Err ShortCertificate
     else (if nat_lt (whole_size version bytes) (length bytes) then Err TrailingBytes else with_nibs (value_in version bytes))
 
--- the first fault of bytes behind the first four, or what they say
+-- the first fault of the bytes after the version, or their contents
 abbrev pub read_version : Option Version → List ℕ → Result CertificateValue Fault
 read_version None bytes = Err NotCertificate
 read_version (Some version) bytes =
     if nat_lt (length bytes) head_size then Err ShortCertificate
     else (if not (is_bounded bytes) then Err BadBound else read_whole version bytes)
 
--- the first fault of a certificate's bytes, or what they say
+-- the first fault of a certificate's bytes, or their contents
 abbrev pub read_certificate : List ℕ → Result CertificateValue Fault
 read_certificate bytes = if nat_lt (length bytes) 4 then Err NotCertificate else read_version (version_of (number_at bytes 0 4)) bytes

@@ -6,21 +6,21 @@ use Rattle.mapping.specs.declared.geometry.Rect.{Rect}
 use Rattle.mapping.specs.declared.nib.Nib.{Nib}
 use Rattle.dc_stack.specs.declared.needs.Needs.{Needs}
 use Rattle.preflight_cert.specs.CertificateReading.{CertificateValue}
-use Rattle.preflight_cert.specs.declared.entry.Entry.{Entry}
+use Rattle.preflight_cert.specs.declared.certificate_entry.Entry.{Entry}
 use Rattle.preflight_cert.specs.declared.version.Version.{Version}
 use Rattle.preflight_cert.specs.declared.version.Version.TheVariants.{Mpc1, Mpc2}
 
--- a number in four bytes, the lowest first
+-- a number in four bytes, little-endian
 abbrev pub number_text : ℕ → List ℕ
 number_text n = to_le_bytes w32 n
 
--- a box: its left, top, right and bottom, each in two's complement
+-- a box: its left, top, right and bottom, as signed numbers
 abbrev pub box_text : Rect → List ℕ
 box_text box =
     number_text (cast_unsigned w32 box.l) ++ (number_text (cast_unsigned w32 box.t)
     ++ (number_text (cast_unsigned w32 box.r) ++ number_text (cast_unsigned w32 box.b)))
 
--- a nib: its columns and its rows, each in two bytes, where entries have one
+-- a nib: its columns and its rows, in two bytes each, if entries have one
 abbrev pub nib_text : Version → Nib → List ℕ
 nib_text Mpc1 nib = []
 nib_text Mpc2 nib = to_le_bytes w16 nib.x ++ to_le_bytes w16 nib.y
@@ -34,20 +34,20 @@ abbrev pub mark_text : Version → List ℕ
 mark_text Mpc1 = codes "MPC1"
 mark_text Mpc2 = codes "MPC2"
 
--- the numbers of needs, in front of what follows
+-- the numbers of needs, followed by other bytes
 abbrev pub needs_text : Needs → List ℕ → List ℕ
-needs_text needs behind =
+needs_text needs after =
     number_text needs.depth ++ (number_text needs.slots
-    ++ (number_text needs.edges ++ (number_text needs.pieces ++ behind)))
+    ++ (number_text needs.edges ++ (number_text needs.pieces ++ after)))
 
--- the numbers of a certificate but its version and its entries
+-- the numbers of a certificate, without its version and its entries
 pub record HeadValue : Type 0 where
   pub max_width : ℕ
   pub max_height : ℕ
   pub writes : ℕ
   pub needs : Needs
 
--- the mark, the sides, the most pixels written, the needs and the number of entries, in front of the entries' bytes
+-- the signature, the size, the most pixels written, the needs and the number of entries, followed by the entries' bytes
 abbrev pub text_with : Version → HeadValue → ℕ → List ℕ → List ℕ
 text_with version head count entries =
     mark_text version ++ (number_text head.max_width ++ (number_text head.max_height

@@ -1,11 +1,11 @@
--- What is told of a file and a certificate that were checked.
+-- What holds for a file and a certificate that was accepted for it.
 use Rattle.std.specs.Prelude.{ℕ, List}
 use Rattle.meta_headers.specs.File.{IsOpenedFrom}
 use Rattle.meta_headers.specs.OpenedOf.{opened_of}
 use Rattle.preflight_cert.specs.Answer.{CountsRecords, Sound}
 use Rattle.preflight_cert.specs.declared.cleared.Cleared.{Cleared}
 
--- its records are counted, and how often each kind is noted of the file
+-- the counts of a cleared file are those of its records and of its notes of each kind
 abbrev pub CountsItsRecords : Cleared → Type 0
 CountsItsRecords c = CountsRecords (opened_of c.opened) c.opened.records.now c.records c.notes.counts
 
@@ -13,10 +13,10 @@ CountsItsRecords c = CountsRecords (opened_of c.opened) c.opened.records.now c.r
 abbrev pub IsSoundFor : List ℕ → Cleared → Type 0
 IsSoundFor file c = Sound file c.certificate.max_width c.certificate.max_height c.certificate.writes
 
--- whichever file it was opened from is so
+-- a cleared file is sound in this way, for any file that it was opened from
 abbrev pub IsSoundWhereOpened : Cleared → Type 0
 IsSoundWhereOpened c = (file : List ℕ) → IsOpenedFrom file c.opened → IsSoundFor file c
 
--- each file and certificate that were checked are so
+-- every cleared file is sound in this way, for any file that it was opened from
 abbrev pub ClearedIsSound : Type 0
 ClearedIsSound = (c : Cleared) → IsSoundWhereOpened c

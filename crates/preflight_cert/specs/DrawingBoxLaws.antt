@@ -1,4 +1,4 @@
--- What a box of the plane that has a drawing's points says of its pixels.
+-- What a box of the plane that contains a drawing's points says about its pixels.
 use Rattle.std.specs.Prelude.{◌≡◌, ◌≤◌, ℕ, ◌≤ℤ◌, true, List, [], ◌∷◌}
 use Rattle.std.specs.List.{All}
 use Rattle.mapping.specs.Boxes.{HasPoint}
@@ -19,7 +19,7 @@ use Rattle.preflight_cert.specs.StrokedOutline.{outline_points}
 use Rattle.span_fill.specs.WideStrokes.{widened}
 use Rattle.preflight_cert.specs.Writes.{writes_of_layers}
 
--- the points of the plane by which a shape is told
+-- the points of the plane that define a shape
 abbrev pub shape_points : Shape → List Point
 shape_points (pixel_under point) = point ∷ []
 shape_points (inside_figures mode figures) = points_of_figures figures
@@ -30,21 +30,22 @@ shape_points (stroke_of width map outline) = outline_points outline
 abbrev pub IsClosedFigure : Figure → Type 0
 IsClosedFigure figure = figure.is_closed ≡ true
 
--- a shape that is the inside of figures is that of closed ones, as each layer's is
+-- a shape that is the inside of figures is that of closed ones, as for each layer
 abbrev pub IsClosedShape : Shape → Type 0
 IsClosedShape (pixel_under point) = Unit
 IsClosedShape (inside_figures mode figures) = All IsClosedFigure figures
 IsClosedShape (inside_rectangle p q edges) = Unit
 IsClosedShape (stroke_of width map outline) = Unit
 
--- a box of the plane has a point, and where it lands, widened by a nib, it has the pixel
+-- a box of the plane isn't empty, and the box, placed on the surface and widened by a nib, contains the pixel
 pub record Reaches (nib : Nib) (box : Rect) (s : Surface) (x y : ℕ) : Type 0 where
   pub wide : box.l ≤ℤ box.r
   pub high : box.t ≤ℤ box.b
   pub pixel : BoxHasPixel (widened nib (placed_box s box)) x y
 
--- A shape that isn't the inside of open figures has pixels only where a box that has its points lands, widened by the shape's nib. So a drawing
--- writes at most its layers' budget by such a box and by a nib that isn't smaller than the drawing's, on this surface and on each that is no
+-- Take a box of the plane that contains the points of a shape. Unless the shape is the inside of open figures, all its
+-- pixels lie in that box, placed on the surface and widened by the shape's nib. So a drawing writes at most the budget
+-- of its layers, by such a box and by a nib at least as large as the drawing's, on this surface and on each that is no
 -- larger.
 pub record DrawingBoxLaws : Type 0 where
   pub shape :

@@ -1,4 +1,4 @@
--- The drawings of a run, a list that knows no surface.
+-- The drawings of a run, a list that doesn't depend on a surface.
 use Rattle.std.specs.Prelude.{ℕ, List, [], ◌∷◌, Option, Some, None}
 use Rattle.std.specs.Option.{option_map}
 use Rattle.draw_ops.specs.Content.{StepValue}
@@ -8,16 +8,16 @@ use Rattle.dc_stack.specs.Next.{next}
 use Rattle.dc_stack.specs.State.{State}
 use Rattle.dc_stack.specs.declared.draw.Draw.{Draw}
 
--- a drawing, and the number of the record that draws it
+-- a drawing, and the number of its record
 pub record NumberedDrawing : Type 0 where
   pub number : ℕ
   pub drawing : Drawing
 
--- the drawing that a machine draws by a step, if it draws, with the tools of the moment
+-- the drawing of a machine's step, if it draws, with the current tools
 abbrev pub drawn_by : MachineState → Option Draw → Option Drawing
 drawn_by m draw = option_map (drawing_with m) draw
 
--- the drawing of the record with this number, if there is one, and the later ones
+-- the drawing of the record with this number, if there is one, followed by the later ones
 abbrev pub drawing_then : ℕ → Option Drawing → List NumberedDrawing → List NumberedDrawing
 drawing_then number None later = later
 drawing_then number (Some drawing) later = record { number = number; drawing = drawing } ∷ later

@@ -1,4 +1,4 @@
--- What is gathered of records for a certificate, record by record.
+-- What is gathered from records for a certificate, record by record.
 use Rattle.std.specs.Prelude.{◌≡◌, ℕ, List, [], ◌∷◌, length, map, Option, Some, None}
 use Rattle.std.specs.Int.{int_max, int_min}
 use Rattle.std.specs.List.{All}
@@ -14,16 +14,16 @@ use Rattle.preflight_cert.specs.Budget.{drawing_cells}
 use Rattle.preflight_cert.specs.DraftOf.{Adds}
 use Rattle.preflight_cert.specs.Drawings.{NumberedDrawing, drawings_of}
 use Rattle.preflight_cert.specs.Entries.{budget_of}
-use Rattle.preflight_cert.specs.Refusal.{TellsStop}
+use Rattle.preflight_cert.specs.Refusal.{ReportsStop}
 use Rattle.preflight_cert.specs.Stop.{stop_of}
 use Rattle.preflight_cert.specs.TextLaws.{IsEntry}
 use Rattle.preflight_cert.specs.declared.draft.Draft.{Draft}
-use Rattle.preflight_cert.specs.declared.entry.Entry.{Entry}
+use Rattle.preflight_cert.specs.declared.certificate_entry.Entry.{Entry}
 use Rattle.preflight_cert.specs.declared.refusal.Refusal.{Refusal}
 use Rattle.preflight_cert.specs.declared.version.Version.TheVariants.{Mpc2}
-use Rattle.preflight_cert.specs.declared.walk.Totals.{Totals}
+use Rattle.preflight_cert.specs.declared.entry_check.Totals.{Totals}
 
--- the box around two others
+-- the bounding box of two boxes
 abbrev pub box_over : Rect → Rect → Rect
 box_over first second = record {
   l = int_min first.l second.l;
@@ -32,25 +32,25 @@ box_over first second = record {
   b = int_max first.b second.b;
 }
 
--- the box around a box and points
+-- the bounding box of a box and points
 abbrev pub box_around : Rect → List Point → Rect
 box_around box [] = box
 box_around box (point ∷ points) = box_around (box_over box (point_box point)) points
 
--- the least box around points
-abbrev pub least_box : List Point → Rect
-least_box [] = no_box
-least_box (point ∷ points) = box_around (point_box point) points
+-- the bounding box of points
+abbrev pub bounding_box : List Point → Rect
+bounding_box [] = no_box
+bounding_box (point ∷ points) = box_around (point_box point) points
 
--- the entry of a drawing on a surface, with the least box around its points, and its nib
+-- the entry for a drawing on a surface, with its bounding box and its nib
 abbrev pub least_entry : NumberedDrawing → Surface → Entry
-least_entry one s = record { number = one.number; bounds = least_box (drawing_points one.drawing); nib = drawing_nib one.drawing s }
+least_entry one s = record { number = one.number; bounds = bounding_box (drawing_points one.drawing); nib = drawing_nib one.drawing s }
 
--- the entries of drawings
+-- the entries for drawings
 abbrev pub least_entries : List NumberedDrawing → Surface → List Entry
 least_entries drawings s = map (λ (one : NumberedDrawing). least_entry one s) drawings
 
--- and how many pixels they let a run write at most
+-- the most pixels that a run writes, by these entries
 abbrev pub least_budget : List NumberedDrawing → Surface → ℕ
 least_budget drawings s = budget_of drawings (least_entries drawings s) s
 
@@ -58,17 +58,18 @@ least_budget drawings s = budget_of drawings (least_entries drawings s) s
 abbrev numbered : ℕ → Drawing → NumberedDrawing
 numbered number drawing = record { number = number; drawing = drawing }
 
--- the entry, if a record draws
+-- the entry for a record, if it draws
 abbrev pub entry_if_drawn : ℕ → Option Drawing → Surface → List Entry
 entry_if_drawn number None s = []
 entry_if_drawn number (Some drawing) s = least_entry (numbered number drawing) s ∷ []
 
--- and how many pixels it lets a run write at most
+-- the most pixels that a run writes for a record, by its entry
 abbrev pub least_drawing_budget : Option Drawing → Surface → ℕ
 least_drawing_budget None s = 0
-least_drawing_budget (Some drawing) s = drawing_cells drawing (drawing_nib drawing s) (least_box (drawing_points drawing)) s
+least_drawing_budget (Some drawing) s = drawing_cells drawing (drawing_nib drawing s) (bounding_box (drawing_points drawing)) s
 
--- the entries of all steps were appended, none of which stops, and the needs and the totals are theirs, beside notes from before
+-- no step stops, the entries for all of them were appended, and the needs and the totals are theirs, added to earlier
+-- notes
 pub record Gathers (content : Content) (old : MachineState) (before : Draft) (noted : List ℕ) (totals : Totals) (new : MachineState) (after : Draft) : Type 0 where
   pub unstopped : stop_of content old.state old.surface ≡ None
   pub entries : Adds before after (least_entries (drawings_of content.steps old.state) old.surface)
@@ -78,6 +79,6 @@ pub record Gathers (content : Content) (old : MachineState) (before : Draft) (no
   pub notes : totals.notes.counts ≡ notes_after content.steps noted
   pub needs : new.needs ≡ needs_after content.steps old.state old.needs
 
--- the content stops, and the refusal tells where
+-- the content stops, and the error says where
 abbrev pub StopsGathering : Content → MachineState → Refusal → Type 0
-StopsGathering content old r = TellsStop (stop_of content old.state old.surface) r
+StopsGathering content old r = ReportsStop (stop_of content old.state old.surface) r

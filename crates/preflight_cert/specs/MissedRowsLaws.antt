@@ -14,15 +14,16 @@ use Rattle.preflight_cert.specs.Layer.{layers_of}
 use Rattle.preflight_cert.specs.RowsLaws.{IsWholeImage}
 use Rattle.preflight_cert.specs.Writes.{writes_of_layers}
 
--- a box of a surface, its bottom included, ends above so many rows, or begins below them
-abbrev pub LiesBeside : Rect → ℕ → ℕ → Type 0
-LiesBeside box first rows = box.b <ℤ pos first ⊎ pos (first + rows) ≤ℤ box.t
+-- a box of a surface, including its bottom, ends above these rows or begins below them
+abbrev pub LiesOutside : Rect → ℕ → ℕ → Type 0
+LiesOutside box first rows = box.b <ℤ pos first ⊎ pos (first + rows) ≤ℤ box.t
 
--- A drawing leaves rows as they are, and writes no pixel of them, beside which a box lands that has its points, widened by the drawing's nib.
+-- Take a box of the plane that contains a drawing's points. If that box, placed on the surface and widened by the
+-- drawing's nib, lies outside some rows, the drawing leaves these rows unchanged and writes none of their pixels.
 pub record MissedRowsLaws : Type 0 where
   pub image :
       (drawing : Drawing) (box : Rect) (s : Surface) (first : ℕ) (image : Image) → ShowsFrame s → All (HasPoint box) (drawing_points drawing)
-      → IsWholeImage image → LiesBeside (widened (drawing_nib drawing s) (placed_box s box)) first image.height → apply_all (layers_of drawing) s first image ≡ image
+      → IsWholeImage image → LiesOutside (widened (drawing_nib drawing s) (placed_box s box)) first image.height → apply_all (layers_of drawing) s first image ≡ image
   pub writes :
       (drawing : Drawing) (box : Rect) (s : Surface) (first rows : ℕ) → ShowsFrame s → All (HasPoint box) (drawing_points drawing)
-      → 1 ≤ s.width → LiesBeside (widened (drawing_nib drawing s) (placed_box s box)) first rows → writes_of_layers (layers_of drawing) s first rows ≡ 0
+      → 1 ≤ s.width → LiesOutside (widened (drawing_nib drawing s) (placed_box s box)) first rows → writes_of_layers (layers_of drawing) s first rows ≡ 0

@@ -1,8 +1,8 @@
--- What is told of the records of an opened file.
+-- What holds for the records of an opened file.
 use Rattle.std.specs.Prelude.{ℕ, List}
 use Rattle.meta_headers.specs.OpenedOf.{opened_of}
 use Rattle.meta_headers.specs.declared.opened.Opened.{Opened}
-use Rattle.preflight_cert.specs.Answer.{Answer, AnswersRead, CountsRecords, RecordsAnswer, refuses}
+use Rattle.preflight_cert.specs.Answer.{Answer, AnswersRead, CountsRecords, RecordsAnswer, rejects}
 use Rattle.preflight_cert.specs.CertificateOf.{certificate_of}
 use Rattle.preflight_cert.specs.CertificateReading.{read_certificate}
 use Rattle.preflight_cert.specs.Preparation.{PreparesRecords}
@@ -10,26 +10,26 @@ use Rattle.preflight_cert.specs.StoppedRecords.{StopsOpened}
 use Rattle.preflight_cert.specs.declared.certificate.Certificate.{Certificate}
 use Rattle.preflight_cert.specs.declared.refusal.Refusal.{Refusal}
 
--- there are so many, and so often is each kind noted of the file
+-- these are the number of records, and the number of notes of each kind of the file
 abbrev pub CountsRecordsOf : Opened → ℕ → List ℕ → Type 0
 CountsRecordsOf opened count noted = CountsRecords (opened_of opened) opened.records.now count noted
 
--- they are answered so, with a certificate
+-- the answer to the records and a certificate
 abbrev pub AnswersRecordsOf : Opened → Certificate → Answer → Type 0
 AnswersRecordsOf opened certificate answer = RecordsAnswer (opened_of opened) opened.records.now (certificate_of certificate) answer
 
--- they are refused so
-abbrev pub RefusesRecordsOf : Opened → Certificate → Refusal → Type 0
-RefusesRecordsOf opened certificate r = AnswersRecordsOf opened certificate (refuses r.number r.fault)
+-- the records and a certificate are rejected in this way
+abbrev pub RejectsRecordsOf : Opened → Certificate → Refusal → Type 0
+RejectsRecordsOf opened certificate r = AnswersRecordsOf opened certificate (rejects r.number r.fault)
 
--- they are answered so with a certificate of these bytes
+-- the answer to the records and the certificate with these bytes
 abbrev pub AnswersBytesOf : Opened → List ℕ → Answer → Type 0
 AnswersBytesOf opened bytes answer = AnswersRead (read_certificate bytes) (opened_of opened) opened.records.now answer
 
--- the bytes are the certificate that is prepared for them at a bound
+-- the bytes are the certificate that is prepared for the records at a bound
 abbrev pub PreparesRecordsOf : Opened → ℕ → ℕ → List ℕ → Type 0
 PreparesRecordsOf opened width height bytes = PreparesRecords (opened_of opened) opened.records.now width height bytes
 
--- they stop on a surface of these sides, and the refusal tells where
+-- the records stop on a surface of this size, and the error says where
 abbrev pub StopsRecordsOf : Opened → ℕ → ℕ → Refusal → Type 0
 StopsRecordsOf opened width height r = StopsOpened (opened_of opened) opened.records.now width height r

@@ -1,6 +1,6 @@
 -- The certificate that is prepared for a file at a bound.
 use Rattle.std.specs.Prelude.{◌≡◌, ℕ, Bool, true, false, ◌&&◌, ◌==◌, if◌then◌else◌, List, [], ◌∷◌, Option, None, Result, Ok, Err}
-use Rattle.mapping.specs.Boxes.{IsLeastBox}
+use Rattle.mapping.specs.Boxes.{IsBoundingBox}
 use Rattle.std.specs.List.{list_all}
 use Rattle.mapping.specs.Limits.{is_surface_side}
 use Rattle.mapping.specs.Surface.{Surface}
@@ -16,20 +16,20 @@ use Rattle.preflight_cert.specs.Answer.{file_budget}
 use Rattle.preflight_cert.specs.CertificateReading.{CertificateValue}
 use Rattle.preflight_cert.specs.CertificateText.{certificate_text}
 use Rattle.preflight_cert.specs.Drawings.{NumberedDrawing, drawings_of}
-use Rattle.preflight_cert.specs.Run.{Refused}
+use Rattle.preflight_cert.specs.Run.{Rejected}
 use Rattle.preflight_cert.specs.Stop.{stop_of}
-use Rattle.preflight_cert.specs.declared.entry.Entry.{Entry}
+use Rattle.preflight_cert.specs.declared.certificate_entry.Entry.{Entry}
 use Rattle.preflight_cert.specs.declared.refusal.Refusal.{Refusal}
 use Rattle.preflight_cert.specs.declared.version.Version.{Version}
 use Rattle.preflight_cert.specs.declared.version.Version.TheVariants.{Mpc1, Mpc2}
 
--- an entry has the number of a drawing's record, the least box around the drawing's points, and its nib on a surface
+-- an entry has the number of a drawing's record, the bounding box of the drawing's points, and its nib on a surface
 pub record IsLeastEntry (entry : Entry) (one : NumberedDrawing) (s : Surface) : Type 0 where
   pub number : entry.number ≡ one.number
-  pub box : IsLeastBox entry.bounds (drawing_points one.drawing)
+  pub box : IsBoundingBox entry.bounds (drawing_points one.drawing)
   pub nib : entry.nib ≡ drawing_nib one.drawing s
 
--- there is such an entry for each drawing, in order, and no other
+-- there is exactly one such entry for each drawing, in order
 abbrev pub AreLeast : List NumberedDrawing → List Entry → Surface → Type 0
 AreLeast [] [] s = Unit
 AreLeast [] (entry ∷ entries) s = ⊥
@@ -40,12 +40,12 @@ AreLeast (one ∷ later) (entry ∷ entries) s = IsLeastEntry entry one s × Are
 abbrev pub have_single_pixels : List Entry → Bool
 have_single_pixels entries = list_all (λ (entry : Entry). entry.nib.x == 1 && entry.nib.y == 1) entries
 
--- the version of a certificate with some entries: the first exactly where each nib is one pixel
+-- the version of a certificate with some entries: the first exactly if each nib is one pixel
 abbrev pub version_for : List Entry → Version
 version_for entries = if have_single_pixels entries then Mpc1 else Mpc2
 
--- The certificate that is prepared for a file's records at a bound: the least box and the nib of each drawing, how many pixels these let a run
--- write at most, and the records' needs.
+-- The certificate that is prepared for a file's records at a bound: the bounding box and the nib of each drawing, the
+-- most pixels that a run writes with these, and the records' needs.
 pub record IsPrepared (c : CertificateValue) (o : OpenedValue) (content : Content) (width height : ℕ) : Type 0 where
   pub wide : c.max_width ≡ width
   pub high : c.max_height ≡ height
@@ -54,7 +54,8 @@ pub record IsPrepared (c : CertificateValue) (o : OpenedValue) (content : Conten
   pub writes : c.writes ≡ file_budget content o c
   pub needs : c.needs ≡ file_needs content o
 
--- records of an opened file have a content that doesn't stop at the bound, and the bytes are the text of the certificate for it
+-- the records of an opened file have a content that doesn't stop at the bound, and the bytes are the text of the
+-- certificate for it
 pub record PreparesRecords (o : OpenedValue) (records : List ℕ) (width height : ℕ) (bytes : List ℕ) : Type 0 where
   pub content : Content
   pub of_records : HasContentOf o.format records content
@@ -63,16 +64,16 @@ pub record PreparesRecords (o : OpenedValue) (records : List ℕ) (width height 
   pub is_prepared : IsPrepared certificate o content width height
   pub is_text : bytes ≡ certificate_text certificate
 
--- only for an opened file is a certificate prepared
+-- a certificate is prepared only for a file that opens
 abbrev pub PreparesIfOpened : Result OpenedValue Fault → List ℕ → ℕ → ℕ → List ℕ → Type 0
 PreparesIfOpened (Err fault) file width height bytes = ⊥
 PreparesIfOpened (Ok o) file width height bytes = PreparesRecords o (record_bytes o.format file) width height bytes
 
--- a surface may have these sides
+-- a surface may have this size
 abbrev pub is_bound : ℕ → ℕ → Bool
 is_bound width height = is_surface_side width && is_surface_side height
 
--- and only for a bound that a surface may have
+-- a certificate is prepared only for a valid bound
 abbrev pub PreparesWithin : Bool → List ℕ → ℕ → ℕ → List ℕ → Type 0
 PreparesWithin false file width height bytes = ⊥
 PreparesWithin true file width height bytes = PreparesIfOpened (opened file) file width height bytes
@@ -81,16 +82,17 @@ PreparesWithin true file width height bytes = PreparesIfOpened (opened file) fil
 abbrev pub Prepares : List ℕ → ℕ → ℕ → List ℕ → Type 0
 Prepares file width height bytes = PreparesWithin (is_bound width height) file width height bytes
 
--- the bound lies in no record
+-- the fault of the bound, which lies in no record
 pub record IsBoundFault (number : Option ℕ) (fault : Fault) : Type 0 where
   pub in_none : number ≡ None
   pub bad : fault ≡ BadBound
 
--- a bound that no surface may have comes first
-abbrev pub RefusesWithin : Bool → List ℕ → ℕ → ℕ → Option ℕ → Fault → Type 0
-RefusesWithin false file width height number fault = IsBoundFault number fault
-RefusesWithin true file width height number fault = Refused file width height number fault
+-- the fault of an invalid bound comes first
+abbrev pub RejectsWithin : Bool → List ℕ → ℕ → ℕ → Option ℕ → Fault → Type 0
+RejectsWithin false file width height number fault = IsBoundFault number fault
+RejectsWithin true file width height number fault = Rejected file width height number fault
 
--- No certificate is prepared for a file at a bound: the bound isn't one, or the file's run there is refused by this fault.
+-- No certificate is prepared for a file at a bound: the bound is invalid, or the file's run there is rejected with this
+-- fault.
 abbrev pub StopsPreparing : List ℕ → ℕ → ℕ → Refusal → Type 0
-StopsPreparing file width height r = RefusesWithin (is_bound width height) file width height r.number r.fault
+StopsPreparing file width height r = RejectsWithin (is_bound width height) file width height r.number r.fault

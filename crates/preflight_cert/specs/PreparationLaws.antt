@@ -1,4 +1,4 @@
--- What is prepared is accepted, and it is the least that is.
+-- A prepared certificate is accepted, and it is the least that is.
 use Rattle.std.specs.Prelude.{◌≡◌, ◌≤◌, ℕ, List, [], ◌∷◌, None, Ok}
 use Rattle.mapping.specs.Boxes.{HasPoint}
 use Rattle.mapping.specs.Nibs.{CoversNib}
@@ -12,15 +12,15 @@ use Rattle.preflight_cert.specs.CertificateReading.{CertificateValue}
 use Rattle.preflight_cert.specs.NeedLaws.{AreWithin}
 use Rattle.preflight_cert.specs.Preparation.{IsPrepared}
 use Rattle.preflight_cert.specs.Stop.{stop_of}
-use Rattle.preflight_cert.specs.declared.entry.Entry.{Entry}
+use Rattle.preflight_cert.specs.declared.certificate_entry.Entry.{Entry}
 
--- an entry is of the same record as another, its box lies in the other's, and its nib is no larger
+-- an entry is for the same record as another, its box lies within the other's, and its nib is no larger
 pub record IsHeldBy (entry other : Entry) : Type 0 where
   pub number : entry.number ≡ other.number
   pub box : (point : Point) → HasPoint entry.bounds point → HasPoint other.bounds point
   pub nib : CoversNib other.nib entry.nib
 
--- so are entries, one for one
+-- entries are within others, one by one
 abbrev pub AreHeldBy : List Entry → List Entry → Type 0
 AreHeldBy [] [] = Unit
 AreHeldBy [] (other ∷ others) = ⊥
@@ -28,14 +28,15 @@ AreHeldBy (entry ∷ entries) [] = ⊥
 AreHeldBy (entry ∷ entries) (other ∷ others) =
     IsHeldBy entry other × AreHeldBy entries others
 
--- a certificate asks for no more than another: its boxes lie in the other's, and its nibs, needs and writes are at most the other's
+-- a certificate asks for no more than another: its boxes lie within the other's, and its nibs, needs and writes are at
+-- most the other's
 pub record IsNoMore (c other : CertificateValue) : Type 0 where
   pub entries : AreHeldBy c.entries other.entries
   pub needs : AreWithin c.needs other.needs
   pub writes : c.writes ≤ other.writes
 
--- The certificate that is prepared for records that don't stop at the bound fits them; there is only one, and each other one that fits
--- them at that bound asks for no less.
+-- The certificate that is prepared for records that don't stop at the bound fits them. There is only one, and each
+-- other one that fits them at that bound asks for no less.
 pub record PreparationLaws : Type 0 where
   pub fits :
       (c : CertificateValue) (o : OpenedValue) (content : Content) (width height : ℕ) → IsPrepared c o content width height

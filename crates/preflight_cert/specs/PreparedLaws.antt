@@ -18,7 +18,8 @@ pub record HasPrepared (file : List ℕ) (width height : ℕ) : Type 0 where
   pub bytes : List ℕ
   pub prepared : Prepares file width height bytes
 
--- A file that plays at a bound has a certificate there. What is prepared for bytes is a certificate, and it is accepted.
+-- A file that plays at a bound has a certificate for it. What is prepared for a file is a certificate, and it is
+-- accepted.
 pub record PreparedLaws : Type 0 where
   pub exists :
       (file : List ℕ) (width height : ℕ) (image : Image) → IsTrue (is_bound width height)

@@ -9,25 +9,25 @@ use Rattle.mapping.specs.Boxes.{box_between}
 use Rattle.span_fill.specs.declared.line.Line.{Line}
 use Rattle.preflight_cert.specs.Outlines.{closed_lines}
 
--- a box with its right and bottom raised by one where they belong to it, so that they don't any more
+-- a box with its right and bottom raised by one if they belong to it, so that they are exclusive
 abbrev pub raised : RectangleEdges → Rect → Rect
 raised HalfOpen box = box
 raised Inclusive box = record { l = box.l; t = box.t; r = box.r +ℤ pos 1; b = box.b +ℤ pos 1 }
 
--- the rectangle between two points of the plane, where they land on a surface
+-- the rectangle between two points of the plane, on a surface
 abbrev pub rectangle_on : Surface → Point → Point → RectangleEdges → Rect
 rectangle_on s p q edges = raised edges (box_between (placed_point p s) (placed_point q s))
 
--- it has a pixel
+-- a rectangle has a pixel
 abbrev pub has_inside : Rect → Bool
 has_inside box = int_lt box.l box.r && int_lt box.t box.b
 
--- the pixels in its corners, from the left top one round by the right
+-- the pixels at the corners of a rectangle, clockwise from the top left
 abbrev pub corner_pixels : Rect → List Point
 corner_pixels box =
     record { x = box.l; y = box.t } ∷ record { x = box.r -ℤ pos 1; y = box.t }
     ∷ record { x = box.r -ℤ pos 1; y = box.b -ℤ pos 1 } ∷ record { x = box.l; y = box.b -ℤ pos 1 } ∷ []
 
--- the lines around its outer pixels
+-- the lines along the outermost pixels of a rectangle
 abbrev pub rectangle_lines : Rect → List Line
 rectangle_lines box = if has_inside box then closed_lines (corner_pixels box) else []

@@ -16,7 +16,7 @@ use Rattle.dc_stack.specs.State.{start_of}
 use Rattle.preflight_cert.specs.Stop.{stop_at, stop_of}
 use Rattle.preflight_cert.specs.Writes.{writes_after}
 
--- a file that opens has records that stop by this fault, in the record with this number
+-- a file opens, and its records stop by this fault, in the record with this number
 pub record StopsInRecord (file : List ℕ) (width height number : ℕ) (fault : Fault) : Type 0 where
   pub headers : OpenedValue
   pub content : Content
@@ -25,12 +25,13 @@ pub record StopsInRecord (file : List ℕ) (width height number : ℕ) (fault : 
   pub in_record : fault ≡ Record here
   pub stops : stop_of content (start_of headers) (surface_for headers width height) ≡ Some (stop_at number here)
 
--- The run of a file at a size is refused by this fault, in the record with this number, or in none where it doesn't open, over any image.
-abbrev pub Refused : List ℕ → ℕ → ℕ → Option ℕ → Fault → Type 0
-Refused file width height None fault = opened file ≡ Err fault
-Refused file width height (Some number) fault = StopsInRecord file width height number fault
+-- The run of a file at a size is rejected with this fault, in the record with this number, or in none if the file
+-- doesn't open, over any image.
+abbrev pub Rejected : List ℕ → ℕ → ℕ → Option ℕ → Fault → Type 0
+Rejected file width height None fault = opened file ≡ Err fault
+Rejected file width height (Some number) fault = StopsInRecord file width height number fault
 
--- a file that opens has records that don't stop, and after their steps the image is this
+-- a file opens, its records don't stop, and after their steps the image is this one
 pub record ShowsImage (file : List ℕ) (width height : ℕ) (image after : Image) : Type 0 where
   pub headers : OpenedValue
   pub content : Content
@@ -38,22 +39,23 @@ pub record ShowsImage (file : List ℕ) (width height : ℕ) (image after : Imag
   pub unstopped : stop_of content (start_of headers) (surface_for headers width height) ≡ None
   pub shows : after ≡ image_after (drawings_of content.steps (start_of headers)) (surface_for headers width height) image
 
--- how a run ends: it shows an image, or is refused by a fault, in a record or in none
+-- how a run ends: it shows an image, or is rejected by a fault, in a record or in none
 pub data Outcome : Type 0 where
   shown : Image → Outcome
-  refused : Option ℕ → Fault → Outcome
+  rejected : Option ℕ → Fault → Outcome
 
--- The run of a file at a size, over an image that is meant to be of that size, ends so: it shows the image after the records' steps,
--- or opening has the first fault, or else the steps of the records have it.
+-- The run of a file at a size, over an image that should have that size, ends in this way: it shows the image after the
+-- records' steps; or opening has the first fault, or else the steps of the records have it.
 abbrev pub Run : List ℕ → ℕ → ℕ → Image → Outcome → Type 0
 Run file width height image (shown after) = ShowsImage file width height image after
-Run file width height image (refused number fault) = Refused file width height number fault
+Run file width height image (rejected number fault) = Rejected file width height number fault
 
--- the white image of these sides
+-- the white image of this size
 abbrev pub white : ℕ → ℕ → Image
 white width height = blank width height white_colour
 
--- How many pixels the run of a file at a size writes: it opens, its records don't stop, and their steps write so many.
+-- How many pixels the run of a file at a size writes: it opens, its records don't stop, and their steps write this
+-- number.
 pub record RunWrites (file : List ℕ) (width height writes : ℕ) : Type 0 where
   pub headers : OpenedValue
   pub content : Content
@@ -61,15 +63,15 @@ pub record RunWrites (file : List ℕ) (width height writes : ℕ) : Type 0 wher
   pub unstopped : stop_of content (start_of headers) (surface_for headers width height) ≡ None
   pub count : writes ≡ writes_after (drawings_of content.steps (start_of headers)) (surface_for headers width height)
 
--- a run ends in one way
+-- a run ends in only one way
 abbrev pub RunEndsInOneWay : Type 0
 RunEndsInOneWay = (file : List ℕ) (width height : ℕ) (image : Image) → ExactlyOne (Run file width height image)
 
--- a run over another image is refused where this one is, by the same fault in the same record
-abbrev pub RefusedOverAnyImage : Type 0
-RefusedOverAnyImage =
+-- a run over another image is rejected if this one is, with the same fault in the same record
+abbrev pub RejectedOverAnyImage : Type 0
+RejectedOverAnyImage =
     (file : List ℕ) (width height : ℕ) (image other : Image) (number : Option ℕ) (fault : Fault)
-    → Run file width height image (refused number fault) → Run file width height other (refused number fault)
+    → Run file width height image (rejected number fault) → Run file width height other (rejected number fault)
 
 -- a run without a fault writes one number of pixels
 abbrev pub WritesAreOne : Type 0

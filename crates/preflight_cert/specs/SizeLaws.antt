@@ -8,10 +8,10 @@ use Rattle.preflight_cert.specs.Drawings.{NumberedDrawing}
 use Rattle.preflight_cert.specs.Entries.{AreCovered, budget_of}
 use Rattle.preflight_cert.specs.Stop.{stop_of}
 use Rattle.preflight_cert.specs.Writes.{writes_after}
-use Rattle.preflight_cert.specs.declared.entry.Entry.{Entry}
+use Rattle.preflight_cert.specs.declared.certificate_entry.Entry.{Entry}
 
--- Records without a fault on a surface have none on one that is no larger, and drawings that entries cover write no more pixels there than
--- the entries' budget on the larger one.
+-- Records without a fault on a surface have none on one that is no larger, and drawings that entries cover write no
+-- more pixels there than the entries' budget on the larger one.
 pub record SizeLaws : Type 0 where
   pub unstopped :
       (content : Content) (state : State) (smaller larger : Surface) → ShowsFrame larger → IsNoLarger smaller larger

@@ -1,4 +1,4 @@
--- What a pen goes along: its points on the plane, and its lines on a surface.
+-- What a pen strokes: its points on the plane, and its lines on a surface.
 use Rattle.std.specs.Prelude.{List, [], ◌∷◌}
 use Rattle.mapping.specs.Surface.{Surface}
 use Rattle.mapping.specs.declared.geometry.Point.{Point}
@@ -8,17 +8,17 @@ use Rattle.span_fill.specs.declared.line.Line.{Line}
 use Rattle.preflight_cert.specs.FigureLines.{lines_along, placed_figures}
 use Rattle.preflight_cert.specs.Rectangles.{rectangle_lines, rectangle_on}
 
--- the lines of figures, or those round the outer pixels of the rectangle between two points
+-- an outline: the lines of figures, or those along the outermost pixels of the rectangle between two points
 pub data Outline : Type 0 where
   along : List Figure → Outline
   round : Point → Point → RectangleEdges → Outline
 
--- the points of the plane by which an outline is told
+-- the points of the plane that define an outline
 abbrev pub outline_points : Outline → List Point
 outline_points (along figures) = points_of_figures figures
 outline_points (round p q edges) = p ∷ q ∷ []
 
--- its lines, where these points land on a surface
+-- the lines of an outline, on a surface
 abbrev pub outline_lines : Outline → Surface → List Line
 outline_lines (along figures) s = lines_along (placed_figures s figures)
 outline_lines (round p q edges) s = rectangle_lines (rectangle_on s p q edges)

@@ -1,4 +1,4 @@
--- The law of a certificate's text: writing and reading undo one another.
+-- The law of a certificate's text: writing and reading are inverse to each other.
 use Rattle.std.specs.Prelude.{FitsSigned, ◌≡◌, ◌<◌, ◌≤◌, ◌^◌, ℕ, List, length, Ok}
 use Rattle.std.specs.Int.{w32}
 use Rattle.std.specs.List.{All}
@@ -11,7 +11,7 @@ use Rattle.dc_stack.specs.SavedStates.{depth_limit}
 use Rattle.preflight_cert.specs.CertificateReading.{CertificateValue, entry_limit, read_certificate, slot_limit}
 use Rattle.preflight_cert.specs.CertificateText.{certificate_text}
 use Rattle.span_fill.specs.WideStrokes.{one_pixel}
-use Rattle.preflight_cert.specs.declared.entry.Entry.{Entry}
+use Rattle.preflight_cert.specs.declared.certificate_entry.Entry.{Entry}
 use Rattle.preflight_cert.specs.declared.version.Version.{Version}
 use Rattle.preflight_cert.specs.declared.version.Version.TheVariants.{Mpc1, Mpc2}
 
@@ -19,7 +19,7 @@ use Rattle.preflight_cert.specs.declared.version.Version.TheVariants.{Mpc1, Mpc2
 abbrev pub AreBytes : List ℕ → Type 0
 AreBytes bytes = All (λ byte. byte < 2 ^ 8) bytes
 
--- an entry of a version has this nib: one pixel where it tells none
+-- an entry of a version has this nib: one pixel if it doesn't contain one
 abbrev pub HasNibOf : Version → Nib → Type 0
 HasNibOf Mpc1 nib = nib ≡ one_pixel
 HasNibOf Mpc2 nib = IsNib nib
@@ -45,7 +45,8 @@ pub record IsCertificate (c : CertificateValue) : Type 0 where
   pub few : length c.entries ≤ entry_limit
   pub entries : All (IsEntry c.version) c.entries
 
--- what is written is read as it was; bytes that are read are the text of what they say, and that is a certificate
+-- What is written is read back unchanged. Bytes that are read are the text of what they describe, and that is a
+-- certificate.
 pub record TextLaws : Type 0 where
   pub reads_back : (c : CertificateValue) → IsCertificate c → read_certificate (certificate_text c) ≡ Ok c
   pub is_text :

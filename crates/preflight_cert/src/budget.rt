@@ -1,4 +1,4 @@
-//! How many pixels a drawing writes at most, layer by layer.
+//! A bound on the number of pixels that a drawing writes, layer by layer.
 
 ghost use Rattle.std.specs.Prelude.{◌≡◌, ◌≤◌, ◌*◌, List};
 ghost use Rattle.mapping.specs.PlaceOf.{surface_of};
@@ -14,14 +14,14 @@ ghost use Rattle.preflight_cert.specs.Layer.{filled, stroked};
 ghost use Rattle.preflight_cert.specs.Shape.{inside_figures, inside_rectangle};
 ghost use Rattle.preflight_cert.specs.StrokedOutline.{Outline};
 
-use crate::entry::Entry;
+use crate::certificate_entry::Entry;
 use dc_stack::{Dc, Draw, Machine, Mark, Painting};
 use draw_ops::{Brush, Pen};
 use mapping::{Nib, Place, Rect};
 use object_tables::Table;
 
-/// How many pixels of the machine's surface a drawing writes at most, by an entry's box of the plane, which has its points, and the entry's
-/// nib: those of what is filled, of a dot or a blit, and of what is stroked.
+/// The most pixels of the machine's surface that a drawing writes, by an entry's box on the plane, which contains its
+/// points, and by the entry's nib: those of the fill, of a dot or a blit, and of the stroke.
 #[tactic(auto, using(crate::proofs::BudgetLemmas::budgets))]
 pub(crate) fn drawing_budget<'a, T: Table<'a>>(
     drawn: &Draw<'a>,
@@ -50,7 +50,7 @@ pub(crate) fn drawing_budget<'a, T: Table<'a>>(
     }
 }
 
-/// How many pixels the brush fills at most in a box of the plane: none where it paints nothing.
+/// The most pixels that the brush fills in a box of the plane: 0 if it paints nothing.
 fn fill_cells(dc: &Dc<'_>, bounds: Rect, place: Place) -> u64
     ensures figures { (mode : FillMode) (figures : List Figure) (nib : Nib)
         → result ≡ layers_budget (filled (inside_figures mode figures) (tools_of (dc_value dc.now))) nib bounds (surface_of place) }
@@ -64,7 +64,7 @@ fn fill_cells(dc: &Dc<'_>, bounds: Rect, place: Place) -> u64
     }
 }
 
-/// How many pixels the pen strokes at most by a nib that is led over a box of the plane: none where it draws nothing.
+/// The most pixels that the pen strokes as its nib moves over a box of the plane: 0 if it draws nothing.
 fn stroke_cells(dc: &Dc<'_>, bounds: Rect, nib: Nib, place: Place) -> u64
     ensures budget { (outline : Outline)
         → result ≡ layers_budget (stroked outline (tools_of (dc_value dc.now))) nib bounds (surface_of place) }
@@ -76,7 +76,7 @@ fn stroke_cells(dc: &Dc<'_>, bounds: Rect, nib: Nib, place: Place) -> u64
     }
 }
 
-/// How many pixels of a place's surface a box of the plane meets at most, its right and bottom included.
+/// The most pixels of a place's surface that a box of the plane meets. Right and bottom are inclusive.
 fn box_cells(bounds: Rect, place: Place) -> u64
     ensures cells { result ≡ box_cells bounds (surface_of place) }
     ensures few { result ≤ 67108864 }
@@ -86,7 +86,7 @@ fn box_cells(bounds: Rect, place: Place) -> u64
     product(columns, rows)
 }
 
-/// How many a nib covers at most that is led over the box.
+/// The most pixels that a nib covers as it moves over the box.
 fn wide_box_cells(bounds: Rect, nib: Nib, place: Place) -> u64
     ensures cells { result ≡ wide_box_cells nib bounds (surface_of place) }
     ensures few { result ≤ 67108864 }

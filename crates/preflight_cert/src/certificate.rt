@@ -3,19 +3,19 @@
 ghost use Rattle.std.specs.Prelude.{◌≡◌, ◌<◌, length, IfErr, Some, slice_get};
 ghost use Rattle.mapping.specs.Limits.{IsSurfaceSide};
 
+use crate::certificate_entry::{Entries, Entry};
 use crate::certificate_reading::{HEAD_SIZE, is_bounded, read_whole};
-use crate::entry::{Entries, Entry};
 use crate::version::Version;
 use dc_stack::Needs;
 use draw_ops::Fault;
 use point_views::u32_at;
 
-/// A certificate of a file: for surfaces of at most these sides, how many pixels playing it writes at most, what it
-/// needs room for, and an entry for each of its drawings.
+/// A certificate of a file, for surfaces of at most this size: the most pixels that playing it writes, the memory that
+/// it needs, and an entry for each of its drawings.
 ///
 /// # Guarantees
 ///
-/// - The sides are from 1 to 8,192.
+/// - The width and the height are from 1 to 8,192.
 #[derive(Clone, Copy, Debug, PartialEq, Eq)]
 pub struct Certificate<'a> {
     pub max_width: u32,
@@ -34,10 +34,14 @@ impl<'a> Certificate<'a> {
     ghost use Rattle.preflight_cert.specs.CertificateReading.{read_certificate};
     ghost use Rattle.preflight_cert.specs.EntriesOf.{entries_of};
 
-    /// Reads a certificate, or tells the first fault of its bytes: `NotCertificate` where they don't begin with the
-    /// mark of a version, `ShortCertificate` where numbers are missing, `BadBound` where one is above its limit or a side is 0,
-    /// `ShortCertificate` where entries are missing, `TrailingBytes` where bytes stand behind them, and `BadBound` where a side of a
-    /// nib isn't from 1 to 4,096.
+    /// Reads a certificate, or returns the first fault of its bytes:
+    ///
+    /// - `NotCertificate` if they don't begin with the signature of a version;
+    /// - `ShortCertificate` if numbers are missing;
+    /// - `BadBound` if a number exceeds its limit, or the width or height is 0;
+    /// - `ShortCertificate` if entries are missing;
+    /// - `TrailingBytes` if bytes follow the entries;
+    /// - `BadBound` if the width or height of a nib isn't from 1 to 4,096.
     pub fn read(bytes: &'a [u8]) -> Result<Certificate<'a>, Fault>
         ensures value { read_certificate bytes.now ≡ result_map certificate_of result }
         ensures in_no_record { IfErr result (λ fault. IsInRecord fault → ⊥) }
@@ -58,7 +62,7 @@ impl<'a> Certificate<'a> {
         read_whole(version, bytes)
     }
 
-    /// How many entries there are.
+    /// The number of entries.
     pub fn len(self) -> usize
         ensures { result ≡ length (entries_of self.entry.entries) }
     {

@@ -12,7 +12,7 @@ ghost use Rattle.preflight_cert.specs.EntriesOf.{entries_of};
 ghost use Rattle.preflight_cert.specs.CertificateReading.{are_bounded_needs, count_in, entry_limit, entry_size, have_nibs, head_size, is_bounded, needs_in, read_whole};
 
 use crate::certificate::Certificate;
-use crate::entry::Entries;
+use crate::certificate_entry::Entries;
 use crate::version::Version;
 use byteorder::{ByteOrder, LittleEndian};
 use dc_stack::{MAX_PIECES, MAX_SAVED_STATES, Needs};
@@ -20,19 +20,19 @@ use draw_ops::Fault;
 use mapping::MAX_SURFACE_SIDE;
 use point_views::u32_at;
 
-/// How many bytes stand in front of the entries.
+/// The number of bytes before the entries.
 pub(crate) const HEAD_SIZE: usize = 40;
 
-/// The most slots of objects that a certificate may tell.
+/// The most slots of objects in a certificate.
 const MAX_NEEDED_SLOTS: u32 = 65_535;
 
-/// The most points of one drawing that it may tell.
+/// The most points of one drawing in a certificate.
 const MAX_NEEDED_EDGES: u32 = 1_048_576;
 
-/// The most entries that it may have.
+/// The most entries of a certificate.
 const MAX_ENTRIES: u32 = 1_048_576;
 
-/// Whether the numbers in front of the entries are within their limits.
+/// Whether the numbers before the entries are within their limits.
 pub(crate) fn is_bounded(bytes: &[u8]) -> bool
     requires { head_size ≤ length bytes.now }
     ensures test { result ≡ is_bounded bytes.now }
@@ -55,21 +55,21 @@ fn are_bounded_needs(needs: Needs) -> bool
         && are_few_pieces(needs.pieces)
 }
 
-/// Whether so many points of one drawing are.
+/// Whether the number of points of one drawing is within its limit.
 fn are_few_edges(edges: u32) -> bool
     ensures { result ≡ nat_le edges edge_limit }
 {
     edges <= MAX_NEEDED_EDGES
 }
 
-/// Whether so many pieces of a path are.
+/// Whether the number of pieces of a path is within its limit.
 fn are_few_pieces(pieces: u32) -> bool
     ensures { result ≡ nat_le pieces piece_limit }
 {
     pieces as usize <= MAX_PIECES
 }
 
-/// Whether the number of entries is.
+/// Whether the number of entries is within its limit.
 #[tactic(auto, unfolding(crate::specs::CertificateReading::entry_limit))]
 fn has_few_entries(bytes: &[u8]) -> bool
     requires { head_size ≤ length bytes.now }
@@ -78,7 +78,7 @@ fn has_few_entries(bytes: &[u8]) -> bool
     u32_at(bytes, 36) <= MAX_ENTRIES
 }
 
-/// Whether a surface may have this side.
+/// Whether a surface may have this width or height.
 pub(crate) fn is_side(side: u32) -> bool
     ensures test { result ≡ is_surface_side side }
     ensures fact { IsTrue result → IsSurfaceSide side }
@@ -86,7 +86,7 @@ pub(crate) fn is_side(side: u32) -> bool
     1 <= side && side <= MAX_SURFACE_SIDE
 }
 
-/// What the bytes of a certificate say, if they end where the entries do and the entries' nibs are within their limits.
+/// The contents of a certificate, if its bytes end where the entries do and the entries' nibs are within their limits.
 pub(crate) fn read_whole(version: Version, bytes: &[u8]) -> Result<Certificate<'_>, Fault>
     requires head { head_size ≤ length bytes.now }
     requires wide { IsSurfaceSide (number_at bytes.now 4 4) }
@@ -118,7 +118,7 @@ pub(crate) fn read_whole(version: Version, bytes: &[u8]) -> Result<Certificate<'
     })
 }
 
-/// How many bytes so many entries take.
+/// The number of bytes in this many entries.
 fn entries_size(version: Version, count: u32) -> usize
     ensures product { result ≡ entry_size version * count }
     ensures few { result < 281474976710656 }
@@ -150,7 +150,7 @@ fn are_nibs(entries: Entries<'_>) -> bool
     true
 }
 
-/// What is needed.
+/// The needs.
 fn needs_in(bytes: &[u8]) -> Needs
     requires { head_size ≤ length bytes.now }
     ensures { result ≡ needs_in bytes.now }
@@ -163,7 +163,7 @@ fn needs_in(bytes: &[u8]) -> Needs
     }
 }
 
-/// The number of eight bytes at a place.
+/// The number of eight bytes at an offset.
 fn u64_at(bytes: &[u8], place: usize) -> u64
     requires { place + 8 ≤ length bytes.now }
     ensures { result ≡ number_at bytes.now place 8 }

@@ -3,19 +3,19 @@
 ghost use Rattle.std.specs.Prelude.{◌≡◌, ◌⊎◌, Ok, IfErr, IfOk, IfSome, OnOk};
 ghost use Rattle.draw_ops.specs.Fault.{IsInRecord};
 ghost use Rattle.meta_headers.specs.File.{IsOpenedFrom};
-ghost use Rattle.preflight_cert.specs.Answer.{IsAnswer, IsRefusedWith, accepted, are_within, refuses, total_fault};
+ghost use Rattle.preflight_cert.specs.Answer.{IsAnswer, IsRejectedWith, accepted, are_within, rejects, total_fault};
 ghost use Rattle.preflight_cert.specs.CertificateOf.{certificate_of};
 ghost use Rattle.preflight_cert.specs.ClearedFacts.{CountsItsRecords, IsSoundFor};
 ghost use Rattle.preflight_cert.specs.CertificateReading.{read_certificate};
-ghost use Rattle.preflight_cert.specs.OpenedRecords.{AnswersRecordsOf, CountsRecordsOf, RefusesRecordsOf};
+ghost use Rattle.preflight_cert.specs.OpenedRecords.{AnswersRecordsOf, CountsRecordsOf, RejectsRecordsOf};
 ghost use Rattle.preflight_cert.specs.Reached.{OpensBoth};
-ghost use Rattle.preflight_cert.specs.Refusal.{IsWantOfMemory, TellsNumber};
+ghost use Rattle.preflight_cert.specs.Refusal.{IsWantOfMemory, ReportsNumber};
 
 use crate::certificate::Certificate;
 use crate::cleared::Cleared;
+use crate::entry_check::check_steps;
 use crate::laws::answer_law;
 use crate::refusal::Refusal;
-use crate::walk::check_steps;
 use dc_stack::{Machine, Needs};
 use draw_ops::{Fault, Notes, content_law};
 use mapping::Place;
@@ -23,11 +23,18 @@ use meta_headers::{Opened, open_file};
 use object_tables::FileTable;
 use std::alloc::Global;
 
-/// Checks a certificate against a file, at the size of its bound. Where it is accepted, each run of the file on a surface up to
-/// that bound has no fault and writes at most the certified number of pixels. The refusal is the first, in this order: the
-/// file doesn't open; the certificate can't be read; a record has a fault at the bound, or its drawing no entry of its number
-/// (`WrongEntry`), or one whose box lacks a point (`BoxTooSmall`); an entry is left over; a need is too small, or the writes are. Memory is
-/// asked for only once both were read.
+/// Checks a certificate against a file, at the size of its bound. If it is accepted, each run of the file on a surface
+/// within that bound has no fault and writes at most the certified number of pixels. Otherwise returns the first fault,
+/// in this order:
+///
+/// - the file doesn't open;
+/// - the certificate can't be read;
+/// - a record has a fault at the bound, or its drawing has no entry (`WrongEntry`), or one whose box lacks a point
+///   (`BoxTooSmall`) or whose nib is smaller (`NibTooSmall`);
+/// - there is a surplus entry;
+/// - a need is too small, or else the number of writes is.
+///
+/// Memory is allocated only after both were read.
 pub fn check<'a>(
     alloc: Global,
     file: &'a [u8],
@@ -38,9 +45,9 @@ pub fn check<'a>(
     ensures read { IfOk result (λ c. read_certificate certificate.now ≡ Ok (certificate_of c.certificate)) }
     ensures counts { IfOk result CountsItsRecords }
     ensures sound { IfOk result (IsSoundFor file.now) }
-    ensures refusal { IfErr result (λ r. IsRefusedWith file.now certificate.now r ⊎ IsWantOfMemory r) }
+    ensures refusal { IfErr result (λ r. IsRejectedWith file.now certificate.now r ⊎ IsWantOfMemory r) }
     ensures memory { IfErr result (λ r. r.fault ≡ Fault.OutOfMemory → OpensBoth file.now certificate.now) }
-    ensures number_told { IfErr result TellsNumber }
+    ensures number_reported { IfErr result ReportsNumber }
 {
     answer_law();
     let opened = match open_file(file) {
@@ -67,8 +74,8 @@ fn check_opened<'a>(
     ensures certificate { IfOk result (λ c. c.certificate ≡ certificate.entry) }
     ensures counts { IfOk result (λ c. CountsRecordsOf opened.entry c.records c.notes.counts) }
     ensures accepted { OnOk result (AnswersRecordsOf opened.entry certificate.entry accepted) }
-    ensures refusal { IfErr result (λ r. RefusesRecordsOf opened.entry certificate.entry r ⊎ IsWantOfMemory r) }
-    ensures number_told { IfErr result TellsNumber }
+    ensures refusal { IfErr result (λ r. RejectsRecordsOf opened.entry certificate.entry r ⊎ IsWantOfMemory r) }
+    ensures number_reported { IfErr result ReportsNumber }
 {
     content_law();
     let place = Place::new(&opened.frame, certificate.max_width, certificate.max_height);
@@ -94,7 +101,7 @@ fn check_opened<'a>(
     }
 }
 
-/// The fault of what a certificate says of the whole: a need that is too small, or else too few writes.
+/// The fault of the certificate's totals: a need that is too small, or else a number of writes that is.
 fn total_fault(needs: Needs, budget: u64, certificate: &Certificate<'_>) -> Option<Fault>
     ensures fault { result ≡ total_fault needs budget (certificate_of certificate.now) }
     ensures in_no_record { IfSome result (λ fault. IsInRecord fault → ⊥) }

@@ -1,4 +1,4 @@
-//! A file and a certificate that were checked.
+//! A file and a certificate that was accepted for it.
 
 ghost use Rattle.meta_headers.specs.OpenedOf.{opened_of};
 ghost use Rattle.preflight_cert.specs.Answer.{CountsRecords, IsCleared};
@@ -8,18 +8,19 @@ use crate::certificate::Certificate;
 use draw_ops::Notes;
 use meta_headers::Opened;
 
-/// A file that opened, the certificate that was accepted for it, and what its records come to.
+/// A file that opened, the certificate that was accepted for it, and the totals of its records.
 ///
 /// # Guarantees
 ///
-/// - The certificate fits the file's records, and these are counted as they are (`cleared_law` says what follows).
+/// - The certificate fits the file's records, and the counts are those of the records (`cleared_law` says what
+///   follows).
 #[derive(Clone, Copy, Debug)]
 pub struct Cleared<'a> {
     pub opened: Opened<'a>,
     pub certificate: Certificate<'a>,
-    /// How many records the file has, the end record among them.
+    /// The number of records in the file, including the end record.
     pub records: u32,
-    /// How often each kind is noted of the file's headers and records.
+    /// The number of notes of each kind, of the file's headers and records.
     pub notes: Notes,
     pub ghost checked: { IsCleared (opened_of opened) opened.records.now (certificate_of certificate) },
     pub ghost counted: { CountsRecords (opened_of opened) opened.records.now records notes.counts },

@@ -1,14 +1,14 @@
-//! A certificate that is being written, entry by entry.
+//! Writing a certificate, entry by entry.
 
 ghost use Rattle.std.specs.Prelude.{◌≡◌, ◌≤◌, ◌<◌, ◌^◌, ◌&&◌, ◌==◌, [], ◌∷◌, ◌++◌, List, IfOk, OnOk, drop, length};
 ghost use Rattle.preflight_cert.specs.CertificateReading.{head_size};
 ghost use Rattle.preflight_cert.specs.DraftOf.{Adds, Awaits, Holds, IsFinished, Widens};
 ghost use Rattle.preflight_cert.specs.TextParts.{head_value};
-ghost use Rattle.preflight_cert.specs.declared.entry.Entry.{Entry};
+ghost use Rattle.preflight_cert.specs.declared.certificate_entry.Entry.{Entry};
 ghost use Rattle.preflight_cert.specs.declared.version.Version.TheVariants.{Mpc2};
 
+use crate::certificate_entry::Entry;
 use crate::certificate_reading::HEAD_SIZE;
-use crate::entry::Entry;
 use crate::version::Version;
 use crate::widening::put_nibs;
 use crate::writing::{Head, head_text, put_entry};
@@ -16,8 +16,8 @@ use mapping::Nib;
 use span_fill::OutOfMemory;
 use std::alloc::Global;
 
-/// A certificate that is being written. Each entry becomes its bytes as it comes, so entries are held once; in front of them is room for the head.
-/// It is an `MPC1` until a nib comes that isn't one pixel.
+/// A certificate that is being written. Each entry is encoded when it is added, so that entries are stored only once.
+/// Space for the head is reserved at the start. The version is `MPC1` until an entry has a nib other than one pixel.
 #[derive(Drop)]
 pub struct Draft {
     pub version: Version,
@@ -47,7 +47,7 @@ impl Draft {
         put_entry(&mut self.text, self.version, entry)
     }
 
-    /// Makes the draft an `MPC2` if the entry that comes has a nib that isn't one pixel.
+    /// Makes the draft an `MPC2` if the next entry has a nib other than one pixel.
     fn await_entry(&mut self, entry: Entry) -> Result<(), OutOfMemory>
         ensures { OnOk result ((entries : List Entry) → Holds self.old entries → Awaits self.new entries entry) }
     {
@@ -71,27 +71,27 @@ impl Draft {
         }
     }
 
-    /// The text of the certificate, with this head.
+    /// The text of the certificate with this head.
     pub(crate) fn finish(self, alloc: Global, head: Head) -> Result<Vec<u8>, OutOfMemory>
-        requires room { head_size ≤ length self.text.items }
+        requires capacity { head_size ≤ length self.text.items }
         requires short { length self.text.items < 2 ^ 32 }
         ensures { IfOk result (λ text. IsFinished self (head_value head) text.items) }
     {
         let Draft { version, mut text } = self;
         let count = (text.len() - HEAD_SIZE) / version.entry_size();
-        let front = head_text(alloc, version, head, count as u32)?;
-        put_front(&mut text[..], &front[..]);
+        let prefix = head_text(alloc, version, head, count as u32)?;
+        put_prefix(&mut text[..], &prefix[..]);
         Ok(text)
     }
 }
 
-/// Puts a head where there is room for it.
-fn put_front(text: &mut [u8], front: &[u8])
-    requires front { length front.now ≡ 40 }
-    requires room { 40 ≤ length text.old }
-    ensures { text.new ≡ front.now ++ drop 40 text.old }
+/// Writes a head into the space reserved for it.
+fn put_prefix(text: &mut [u8], prefix: &[u8])
+    requires prefix { length prefix.now ≡ 40 }
+    requires capacity { 40 ≤ length text.old }
+    ensures { text.new ≡ prefix.now ++ drop 40 text.old }
 {
-    text[..HEAD_SIZE].copy_from_slice(front);
+    text[..HEAD_SIZE].copy_from_slice(prefix);
 }
 
 /// Whether a nib is one pixel.

@@ -12,7 +12,7 @@ ghost use Rattle.preflight_cert.specs.ClearedFacts.{IsSoundWhereOpened};
 ghost use Rattle.preflight_cert.specs.OpenedRecords.{CountsRecordsOf};
 ghost use Rattle.preflight_cert.specs.Preparation.{Prepares, StopsPreparing, is_bound};
 ghost use Rattle.preflight_cert.specs.Reached.{OpensAt};
-ghost use Rattle.preflight_cert.specs.Refusal.{IsWantOfMemory, TellsNumber};
+ghost use Rattle.preflight_cert.specs.Refusal.{IsWantOfMemory, ReportsNumber};
 
 use crate::certificate::Certificate;
 use crate::certificate_reading::is_side;
@@ -24,19 +24,19 @@ use draw_ops::{Fault, Notes, content_law};
 use meta_headers::{Opened, open_file};
 use std::alloc::Global;
 
-/// A file that opened, the certificate that was prepared for it, and what its records come to.
+/// A file that opened, the certificate that was prepared for it, and the totals of its records.
 ///
 /// # Guarantees
 ///
-/// - The certificate is accepted for the file's records, and these are counted as they are.
+/// - The certificate is accepted for the file's records, and the counts are those of the records.
 #[derive(Drop)]
 pub struct Prepared<'a> {
     pub opened: Opened<'a>,
     /// The certificate's bytes.
     pub text: Vec<u8>,
-    /// How many records the file has, the end record among them.
+    /// The number of records in the file, including the end record.
     pub records: u32,
-    /// How often each kind is noted of the file's headers and records.
+    /// The number of notes of each kind, of the file's headers and records.
     pub notes: Notes,
     pub ghost readable: { IsOk (read_certificate text.items) },
     pub ghost cleared: { ForOk (read_certificate text.items) (IsCleared (opened_of opened) opened.records.now) },
@@ -44,7 +44,7 @@ pub struct Prepared<'a> {
 }
 
 impl<'a> Prepared<'a> {
-    /// Prepares the certificate of a file for surfaces of at most these sides, as `prepare` does, whose refusals it has.
+    /// Prepares the certificate of a file for surfaces of at most this size, as `prepare` does, with the same errors.
     pub fn new(
         alloc: Global,
         file: &'a [u8],
@@ -58,7 +58,7 @@ impl<'a> Prepared<'a> {
         ensures refusal { IfErr result (λ r. StopsPreparing file.now max_width max_height r ⊎ IsWantOfMemory r) }
         ensures bound { IfErr result (λ r. is_bound max_width max_height ≡ false → r.fault ≡ BadBound) }
         ensures memory { IfErr result (λ r. r.fault ≡ Fault.OutOfMemory → OpensAt file.now max_width max_height) }
-        ensures number_told { IfErr result TellsNumber }
+        ensures number_reported { IfErr result ReportsNumber }
     {
         if !(is_side(max_width) && is_side(max_height)) {
             return Err(Refusal::of_file(Fault::BadBound));
@@ -79,7 +79,7 @@ impl<'a> Prepared<'a> {
         }
     }
 
-    /// The file and its certificate as `check` would clear them, which isn't asked again.
+    /// The file and its certificate, as `check` would clear them. Nothing is checked again.
     pub fn clear(&self) -> Cleared<'_>
         ensures opened { result.opened ≡ self.now.opened }
         ensures read { read_certificate self.now.text.items ≡ Ok (certificate_of result.certificate) }

@@ -7,14 +7,14 @@ ghost use Rattle.preflight_cert.specs.Answer.{IsAnswer, accepted};
 ghost use Rattle.preflight_cert.specs.OpenedRecords.{AnswersBytesOf, CountsRecordsOf, PreparesRecordsOf, StopsRecordsOf};
 ghost use Rattle.preflight_cert.specs.Preparation.{Prepares, StopsPreparing, is_bound};
 ghost use Rattle.preflight_cert.specs.Reached.{OpensAt};
-ghost use Rattle.preflight_cert.specs.Refusal.{IsWantOfMemory, TellsNumber};
+ghost use Rattle.preflight_cert.specs.Refusal.{IsWantOfMemory, ReportsNumber};
 
 use crate::draft::Draft;
-use crate::gathering::gather;
+use crate::entry_check::Totals;
+use crate::entry_gathering::gather;
 use crate::laws::{answer_law, need_law, preparation_law, text_law};
 use crate::prepared::Prepared;
 use crate::refusal::Refusal;
-use crate::walk::Totals;
 use crate::writing::Head;
 use dc_stack::Machine;
 use draw_ops::{Fault, Notes, content_law};
@@ -24,9 +24,12 @@ use object_tables::FileTable;
 use span_fill::OutOfMemory;
 use std::alloc::Global;
 
-/// Prepares the certificate of a file for surfaces of at most these sides: the least box and the nib of each drawing, how many pixels these let
-/// a run write at most, and what it needs. It is an `MPC1` exactly where each nib is one pixel, and else an `MPC2`. `check` accepts it. The refusal is `BadBound` where a side isn't from 1 to 8,192, and else
-/// the first fault of the file's run at the bound. Memory is asked for only once the file opens.
+/// Prepares the certificate of a file for surfaces of at most this size: the bounding box and the nib of each drawing,
+/// the most pixels that a run writes with these, and its needs. It is an `MPC1` exactly if each nib is one pixel,
+/// otherwise an `MPC2`. `check` accepts it.
+///
+/// Fails with `BadBound` if the width or height isn't from 1 to 8,192, or else with the first fault of the file's run
+/// at the bound. Memory is allocated only after the file was opened.
 pub fn prepare(
     alloc: Global,
     file: &[u8],
@@ -38,7 +41,7 @@ pub fn prepare(
     ensures refusal { IfErr result (λ r. StopsPreparing file.now max_width max_height r ⊎ IsWantOfMemory r) }
     ensures bound { IfErr result (λ r. is_bound max_width max_height ≡ false → r.fault ≡ BadBound) }
     ensures memory { IfErr result (λ r. r.fault ≡ Fault.OutOfMemory → OpensAt file.now max_width max_height) }
-    ensures number_told { IfErr result TellsNumber }
+    ensures number_reported { IfErr result ReportsNumber }
 {
     match Prepared::new(alloc, file, max_width, max_height) {
         Ok(prepared) => {
@@ -49,7 +52,7 @@ pub fn prepare(
     }
 }
 
-/// The same for an opened file and a bound whose sides are allowed, with what the records come to.
+/// The same for an opened file and a valid bound, with the totals of its records.
 pub(crate) fn prepare_opened(
     alloc: Global,
     opened: Opened<'_>,
@@ -62,7 +65,7 @@ pub(crate) fn prepare_opened(
     ensures accepted { IfOk result (λ made. AnswersBytesOf opened.entry made.0.items accepted) }
     ensures counts { IfOk result (λ made. CountsRecordsOf opened.entry made.1.records made.1.notes.counts) }
     ensures refusal { IfErr result (λ r. StopsRecordsOf opened.entry max_width max_height r ⊎ IsWantOfMemory r) }
-    ensures number_told { IfErr result TellsNumber }
+    ensures number_reported { IfErr result ReportsNumber }
 {
     answer_law();
     box_law();

@@ -1,9 +1,9 @@
-//! Why a file isn't played, and where in it the fault lies.
+//! Why a file isn't played, and where the fault is in it.
 
 ghost use Rattle.std.specs.Prelude.{◌≡◌, Some, None};
 ghost use Rattle.draw_ops.specs.Fault.{IsInRecord};
 ghost use Rattle.draw_ops.specs.declared.fault.Fault.TheVariants.{Record};
-ghost use Rattle.preflight_cert.specs.Refusal.{TellsNumber, number_told};
+ghost use Rattle.preflight_cert.specs.Refusal.{ReportsNumber, number_reported};
 
 use draw_ops::{Fault, RecordFault};
 use std::error::Error;
@@ -21,7 +21,7 @@ impl Refusal {
     pub fn of_file(fault: Fault) -> Refusal
         ensures number { result.number ≡ None }
         ensures fault { result.fault ≡ fault }
-        ensures number_told { (IsInRecord fault → ⊥) → TellsNumber result }
+        ensures number_reported { (IsInRecord fault → ⊥) → ReportsNumber result }
     {
         Refusal {
             number: None,
@@ -33,7 +33,7 @@ impl Refusal {
     pub fn at(number: u32, fault: RecordFault) -> Refusal
         ensures number { result.number ≡ Some number }
         ensures fault { result.fault ≡ Record fault }
-        ensures number_told { TellsNumber result }
+        ensures number_reported { ReportsNumber result }
     {
         Refusal {
             number: Some(number),
@@ -41,11 +41,11 @@ impl Refusal {
         }
     }
 
-    /// What a step of the record with this number is refused by: a fault in that record, or one that lies in none.
+    /// Why a step of the record with this number is rejected: a fault in that record, or one that lies in none.
     pub fn of_step(number: u32, fault: Fault) -> Refusal
-        ensures number { result.number ≡ number_told number fault }
+        ensures number { result.number ≡ number_reported number fault }
         ensures fault { result.fault ≡ fault }
-        ensures number_told { TellsNumber result }
+        ensures number_reported { ReportsNumber result }
     {
         match fault {
             Fault::Record(fault) => Refusal::at(number, fault),
@@ -59,7 +59,7 @@ impl fmt::Display for Refusal {
 
     ghost output = { λ refusal. Some (refusal_text refusal) };
 
-    /// The fault, and ` at record` with the number, if there is one.
+    /// The fault, followed by ` at record` and the number, if there is one.
     fn fmt<W: fmt::Write>(&self, f: &mut fmt::Formatter<W>) -> fmt::Result {
         let fault = self.fault;
         match self.number {

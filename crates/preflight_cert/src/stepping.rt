@@ -2,17 +2,18 @@
 
 ghost use Rattle.std.specs.Prelude.{IfErr};
 ghost use Rattle.preflight_cert.specs.NextStep.{PlaysNext};
-ghost use Rattle.preflight_cert.specs.Refusal.{TellsNumber};
+ghost use Rattle.preflight_cert.specs.Refusal.{ReportsNumber};
 
 use crate::refusal::Refusal;
 use dc_stack::{Draw, Machine};
 use draw_ops::{OpSource, Step};
 use object_tables::Table;
 
-/// Plays the next step that is left of a source, and puts it and what it draws into their places: false where no step is left. The
-/// refusal is the first fault with its record, so many records being before what is left, or `OutOfMemory` without one.
+/// Plays the next step of a source, and writes the step and its drawing to the given variables. Returns false if no
+/// step remains. The error is the first fault with its record's number, which is `before`, or `OutOfMemory` without
+/// one.
 ///
-/// It is compiled into each loop over records, so that no answer is moved.
+/// This is compiled into each loop over records, so that no result is moved.
 #[inline(always)]
 pub(crate) fn play_next<'a, S: OpSource<'a>, T: Table<'a>>(
     source: &mut S,
@@ -22,7 +23,7 @@ pub(crate) fn play_next<'a, S: OpSource<'a>, T: Table<'a>>(
     drawn: &mut Option<Draw<'a>>,
 ) -> Result<bool, Refusal>
     ensures plays { PlaysNext (S.content source.old) (S.content source.new) machine.old machine.new before step.new drawn.new result }
-    ensures number_told { IfErr result TellsNumber }
+    ensures number_reported { IfErr result ReportsNumber }
 {
     let is_put = match source.next_into(step) {
         Ok(is_put) => is_put,

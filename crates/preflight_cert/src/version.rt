@@ -3,17 +3,17 @@
 ghost use Rattle.std.specs.Prelude.{◌≡◌};
 ghost use Rattle.preflight_cert.specs.CertificateReading.{entry_size, mark_of, version_of};
 
-/// What a certificate's entries tell. Its first four bytes say which version it is.
+/// What the entries of a certificate contain. Its first four bytes determine the version.
 #[derive(Clone, Copy, Debug, PartialEq, Eq)]
 pub enum Version {
-    /// `MPC1`: an entry takes 20 bytes, and has no nib. The nib of each drawing is one pixel.
+    /// `MPC1`: an entry takes 20 bytes and has no nib. The nib of each drawing is one pixel.
     Mpc1,
-    /// `MPC2`: an entry takes 24 bytes, of which the last four are its nib.
+    /// `MPC2`: an entry takes 24 bytes, and the last four are its nib.
     Mpc2,
 }
 
 impl Version {
-    /// The version of a certificate that begins with four bytes, read as a number.
+    /// The version of a certificate by its first four bytes, read as a number.
     #[tactic(auto, unfolding(crate::specs::CertificateReading::mark_of))]
     pub(crate) fn of_mark(mark: u32) -> Option<Version>
         ensures { result ≡ version_of mark }
@@ -38,7 +38,7 @@ impl Version {
         }
     }
 
-    /// How many bytes an entry takes.
+    /// The number of bytes in an entry.
     pub(crate) fn entry_size(self) -> usize
         ensures { result ≡ entry_size self }
     {

@@ -1,4 +1,4 @@
-//! Giving the entries of a certificate their nibs.
+//! Adding nibs to the entries of a certificate.
 
 ghost use Rattle.std.specs.Prelude.{◌≡◌, ◌+◌, ◌-◌, ◌*◌, ◌≤◌, ◌++◌, OnOk, drop, length, replicate, take};
 ghost use Rattle.span_fill.specs.WideStrokes.{one_pixel};
@@ -9,12 +9,13 @@ ghost use Rattle.preflight_cert.specs.declared.version.Version.TheVariants.{Mpc2
 use crate::certificate_reading::HEAD_SIZE;
 use span_fill::OutOfMemory;
 
-/// How many bytes an entry takes without its nib, and with it.
+/// The number of bytes in an entry without its nib, and with it.
 const PLAIN: usize = 20;
 
 const WIDE: usize = 24;
 
-/// Gives each entry behind the room for a head the nib of one pixel. It does so in place, since the entries may take many bytes.
+/// Adds the nib of one pixel to each entry after the space for the head. This is done in place, since the entries may
+/// take many bytes.
 pub(crate) fn put_nibs(text: &mut Vec<u8>) -> Result<(), OutOfMemory>
     ensures { OnOk result (PutsNibs text.old.items text.new.items) }
 {
@@ -24,7 +25,7 @@ pub(crate) fn put_nibs(text: &mut Vec<u8>) -> Result<(), OutOfMemory>
     Ok(())
 }
 
-/// Makes a text so long by noughts behind it, and asks for no more room than that.
+/// Extends a text to this length with zeros, without reserving more memory than that.
 fn lengthen(text: &mut Vec<u8>, len: usize) -> Result<(), OutOfMemory>
     ensures { OnOk result (text.new.items ≡ take len text.old.items ++ replicate (len - length text.old.items) 0) }
 {
@@ -37,7 +38,7 @@ fn lengthen(text: &mut Vec<u8>, len: usize) -> Result<(), OutOfMemory>
     }
 }
 
-/// Moves so many entries apart, and gives each its nib. It begins with the last one, which moves onto no other.
+/// Moves this many entries apart, and adds a nib to each. It begins with the last one, which overwrites no other.
 fn spread(bytes: &mut [u8], count: usize)
     requires { length bytes.old ≡ 24 * count }
     ensures len { length bytes.new ≡ length bytes.old }
@@ -50,12 +51,12 @@ fn spread(bytes: &mut [u8], count: usize)
     }
 }
 
-/// Moves the entry at an index to where it stands once all have nibs, and gives it that of one pixel.
+/// Moves the entry at an index to its position among entries with nibs, and adds the nib of one pixel.
 fn move_entry(bytes: &mut [u8], index: usize)
     requires { 24 * index + 24 ≤ length bytes.old }
     ensures len { length bytes.new ≡ length bytes.old }
-    ensures front { take (20 * index) bytes.new ≡ take (20 * index) bytes.old }
-    ensures behind { drop (24 * index) bytes.new
+    ensures prefix { take (20 * index) bytes.new ≡ take (20 * index) bytes.old }
+    ensures after { drop (24 * index) bytes.new
         ≡ take 20 (drop (20 * index) bytes.old) ++ (nib_text Mpc2 one_pixel ++ drop (24 * index + 24) bytes.old) }
 {
     let mut entry = [0; WIDE];

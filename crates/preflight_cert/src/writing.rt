@@ -5,8 +5,8 @@ ghost use Rattle.std.specs.Int.{cast_unsigned, to_le_bytes, w16, w32, w64};
 ghost use Rattle.preflight_cert.specs.CertificateText.{entry_text, needs_text, nib_text, number_text};
 ghost use Rattle.preflight_cert.specs.TextParts.{bound_text, head_text, head_value, totals_text};
 
+use crate::certificate_entry::Entry;
 use crate::certificate_reading::HEAD_SIZE;
-use crate::entry::Entry;
 use crate::version::Version;
 use byteorder::{ByteOrder, LittleEndian};
 use dc_stack::Needs;
@@ -14,8 +14,8 @@ use mapping::{Nib, Rect};
 use span_fill::OutOfMemory;
 use std::alloc::Global;
 
-/// The most bytes for which room is made at once.
-const MOST_ROOM: usize = 1 << 20;
+/// The most bytes to reserve at once.
+const MOST_CAPACITY: usize = 1 << 20;
 
 /// Appends a number in four bytes.
 pub(crate) fn put_number(text: &mut Vec<u8>, number: u32) -> Result<(), OutOfMemory>
@@ -47,7 +47,7 @@ fn put_short(text: &mut Vec<u8>, number: u16) -> Result<(), OutOfMemory>
     }
 }
 
-/// Appends a nib, where entries have one.
+/// Appends a nib, if entries have one.
 fn put_nib(text: &mut Vec<u8>, version: Version, nib: Nib) -> Result<(), OutOfMemory>
     ensures { OnOk result (text.new.items ≡ text.old.items ++ nib_text version nib) }
 {
@@ -60,7 +60,7 @@ fn put_nib(text: &mut Vec<u8>, version: Version, nib: Nib) -> Result<(), OutOfMe
     }
 }
 
-/// A record's number and the edges of its box, all as numbers from 0 on.
+/// A record's number and the edges of its box, all as unsigned numbers.
 fn numbers(number: u32, bounds: Rect) -> [u32; 5]
     ensures { result ≡ number ∷ cast_unsigned w32 bounds.l ∷ cast_unsigned w32 bounds.t ∷ cast_unsigned w32 bounds.r ∷ cast_unsigned w32 bounds.b ∷ [] }
 {
@@ -73,20 +73,21 @@ fn numbers(number: u32, bounds: Rect) -> [u32; 5]
     ]
 }
 
-/// Makes room for an entry where there is none: for as many bytes again as there are, but for at most 1 MiB, so that little of it stays empty.
-fn make_room(text: &mut Vec<u8>) -> Result<(), OutOfMemory>
+/// Reserves memory for an entry if needed: as much again as there is, but at most 1 MiB, so that little of it stays
+/// unused.
+fn ensure_capacity(text: &mut Vec<u8>) -> Result<(), OutOfMemory>
     ensures { OnOk result (text.new.items ≡ text.old.items) }
 {
     if 24 <= text.capacity() - text.len() {
         return Ok(());
     }
-    match text.reserve_exact(text.len().min(MOST_ROOM)) {
+    match text.reserve_exact(text.len().min(MOST_CAPACITY)) {
         Ok(()) => Ok(()),
         Err(_) => Err(OutOfMemory),
     }
 }
 
-/// Appends an entry: its five numbers at once, and then its nib.
+/// Appends an entry: its five numbers at once, followed by its nib.
 pub(crate) fn put_entry(
     text: &mut Vec<u8>,
     version: Version,
@@ -94,7 +95,7 @@ pub(crate) fn put_entry(
 ) -> Result<(), OutOfMemory>
     ensures { OnOk result (text.new.items ≡ text.old.items ++ entry_text version entry) }
 {
-    make_room(text)?;
+    ensure_capacity(text)?;
     let mut bytes = [0; 20];
     LittleEndian::write_u32_into(&numbers(entry.number, entry.bounds), &mut bytes);
     match text.extend_from_slice(&bytes) {
@@ -113,7 +114,7 @@ fn put_needs(text: &mut Vec<u8>, needs: Needs) -> Result<(), OutOfMemory>
     put_number(text, needs.pieces)
 }
 
-/// What a certificate says in front of its entries.
+/// The contents of a certificate before its entries.
 #[derive(Clone, Copy, Debug, PartialEq, Eq)]
 pub struct Head {
     pub max_width: u32,
@@ -122,7 +123,7 @@ pub struct Head {
     pub needs: Needs,
 }
 
-/// Appends the mark, and the sides.
+/// Appends the signature, the width and the height.
 fn put_bound(
     text: &mut Vec<u8>,
     version: Version,
@@ -152,7 +153,7 @@ fn put_totals(text: &mut Vec<u8>, writes: u64, needs: Needs, count: u32) -> Resu
     put_counts(text, needs, count)
 }
 
-/// What a certificate of this version with so many entries says in front of them.
+/// The contents of a certificate of this version with this many entries, before the entries.
 pub(crate) fn head_text(
     alloc: Global,
     version: Version,

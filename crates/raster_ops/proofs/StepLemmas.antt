@@ -11,8 +11,8 @@ module _ (count side place : ℕ) (some : 1 ≤ count) (within : place < side) w
   middle_below =
       let more : (2 * place + 1 + 1) * count ≤ (2 * side) * count = mul-le-mul_right count (omega arith) in
       let split : (2 * place + 1 + 1) * count ≡ (2 * place + 1) * count + 1 * count = add-mul (2 * place + 1) 1 count in
-      let turned : (2 * side) * count ≡ count * (2 * side) = mul_comm (2 * side) count in
-      omega (arith, more, split, turned)
+      let mirrored : (2 * side) * count ≡ count * (2 * side) = mul_comm (2 * side) count in
+      omega (arith, more, split, mirrored)
 
   pub scaled_below : scaled_place count side place < count
   scaled_below = (div-lt_iff_lt-mul {k = 2 * side} {x = (2 * place + 1) * count} {y = count} (omega arith)).1 middle_below

@@ -75,8 +75,8 @@ leftwards = source top (point (pos 3) (pos 0)) (point (negsuc 1) (pos 2))
 columns_leftwards : read_in leftwards (point (pos 5) (pos 7)) (point (pos 9) (pos 9)) (5 ∷ 6 ∷ 7 ∷ 8 ∷ []) ≡ 2 ∷ 2 ∷ 1 ∷ 1 ∷ []
 columns_leftwards = refl
 
-columns_leftwards_turned : read_in leftwards (point (pos 9) (pos 7)) (point (pos 5) (pos 9)) (5 ∷ 6 ∷ 7 ∷ 8 ∷ []) ≡ 1 ∷ 1 ∷ 2 ∷ 2 ∷ []
-columns_leftwards_turned = refl
+columns_leftwards_mirrored : read_in leftwards (point (pos 9) (pos 7)) (point (pos 5) (pos 9)) (5 ∷ 6 ∷ 7 ∷ 8 ∷ []) ≡ 1 ∷ 1 ∷ 2 ∷ 2 ∷ []
+columns_leftwards_mirrored = refl
 
 -- a box that begins before the surface
 columns_before : read_in whole (point (negsuc 1) (pos 0)) (point (pos 4) (pos 2)) (0 ∷ 1 ∷ 2 ∷ 3 ∷ []) ≡ 1 ∷ 1 ∷ 2 ∷ 2 ∷ []

@@ -9,15 +9,15 @@ use Rattle.mapping.specs.Pixels.{is_cell}
 use Rattle.raster_ops.specs.declared.rows.BrushRow.{BrushRow}
 use Rattle.raster_ops.specs.declared.rows.BrushRow.TheVariants.{Nothing, Solid, Hatched, Tiled}
 
--- the colour that a row of a picture, which is repeated, has in column x
+-- the colour of a repeated row of a bitmap in column x
 abbrev pub repeated_colour : DibRow → ℕ → Colour
 repeated_colour row x = slice_index_or (row_colours_of row) (x % row.width) black_colour
 
--- the colours of the row of a picture, which is repeated, that row y has
+-- the row of a repeated bitmap for the surface's row y
 abbrev pub repeated_row : Picture → ℕ → List Colour
 repeated_row picture y = slice_index_or picture.rows (y % picture.height) []
 
--- the colour that a row of a brush gives in column x, or nothing
+-- the colour of a brush's row in column x, if it paints there
 abbrev pub row_paint : BrushRow → ℕ → Option Colour
 row_paint Nothing x = None
 row_paint (Solid colour) x = Some colour

@@ -1,4 +1,4 @@
--- How a reader of the code reads.
+-- How readers read their sources.
 use Rattle.std.specs.Prelude.{◌≡◌, ℕ, ℤ, pos, Bool, ◌&&◌, Option, slice_index_or, unsigned_abs}
 use Rattle.mapping.specs.Colours.{black_colour}
 use Rattle.mapping.specs.declared.geometry.Colour.{Colour}
@@ -13,46 +13,46 @@ use Rattle.raster_ops.specs.Sources.{Reading, axis_read, index_read, is_axis_ins
 use Rattle.raster_ops.specs.declared.sources.AxisReading.{AxisReading}
 use Rattle.raster_ops.specs.declared.sources.SourceReader.{SourceReader}
 
--- how an axis of a reader reads
+-- how one axis of a reader reads
 abbrev pub reading_of : AxisReading → Reading
 reading_of axis =
     record { first = pos axis.first; count = axis.count; near = axis.near; side = axis.side; mirrored = axis.mirrored }
 
--- a rectangle of a picture has pixels and lies inside, where its first row is this one
+-- a source rectangle with this first row is not empty and lies inside its bitmap
 abbrev pub is_inside_from : ℤ → SourceRectangle → Bool
 is_inside_from row rectangle =
     is_axis_inside (least_end rectangle.corner.x rectangle.extent.x) rectangle.extent.x (picture_of rectangle.picture).width
     && is_axis_inside row rectangle.extent.y (picture_of rectangle.picture).height
 
--- how the columns of a rectangle read between two coordinates
+-- how the box between two coordinates reads the columns of a source rectangle
 abbrev pub columns_of : SourceRectangle → ℤ → ℤ → Reading
 columns_of rectangle p q = axis_read (least_end rectangle.corner.x rectangle.extent.x) rectangle.extent.x p q
 
--- a reader's columns are read as those of a rectangle between two corners are
+-- a reader reads columns as the box between two corners reads those of a source rectangle
 abbrev pub ReadsColumns : SourceRectangle → Point → Point → SourceReader → Type 0
 ReadsColumns rectangle p q reader = reading_of reader.columns ≡ columns_of rectangle p.x q.x
 
--- and its rows, where the rectangle's first row is this one
+-- a reader reads rows as the box between two corners reads those of a source rectangle with this first row
 abbrev pub ReadsRows : ℤ → SourceRectangle → Point → Point → SourceReader → Type 0
 ReadsRows row rectangle p q reader = reading_of reader.rows ≡ axis_read row rectangle.extent.y p.y q.y
 
--- the colour that the surface's column x reads in a row of a picture
+-- the colour that the surface's column x reads in a row of a bitmap
 abbrev pub colour_in : AxisReading → DibRow → ℕ → Colour
 colour_in axis line x = slice_index_or (row_colours_of line) (unsigned_abs (index_read (reading_of axis) x)) black_colour
 
--- the column of a reader's picture that the surface's column x reads
+-- the column of a reader's bitmap that the surface's column x reads
 abbrev pub column_read : SourceReader → ℕ → ℕ
 column_read reader x = unsigned_abs (index_read (reading_of reader.columns) x)
 
--- the row of a reader's picture that the surface's row y reads
+-- the row of a reader's bitmap that the surface's row y reads
 abbrev pub row_read : SourceReader → ℕ → ℕ
 row_read reader y = unsigned_abs (index_read (reading_of reader.rows) y)
 
--- the colour that the surface's column x reads in a row of a reader's picture
+-- the colour that the surface's column x reads in a row of a reader's bitmap
 abbrev pub column_colour : SourceReader → ℕ → ℕ → Colour
 column_colour reader row x = picture_colour (picture_of reader.picture) (column_read reader x) row
 
--- what a blit's box between two corners reads of a source is at each pixel what the reader's picture has where the reader reads
+-- the source colours of a blit's box between two corners are those that the reader reads in its bitmap
 abbrev pub ReadsSource : SourceReader → Option SourceValue → Point → Point → Type 0
 ReadsSource reader source p q =
     (x y : ℕ) → source_colour source p q x y ≡ picture_colour (picture_of reader.picture) (column_read reader x) (row_read reader y)

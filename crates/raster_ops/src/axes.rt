@@ -1,8 +1,8 @@
-//! How pixels along one axis read.
+//! Mapping surface pixels to source pixels along one axis.
 
 ghost use Rattle.std.specs.Prelude.{◌≡◌, ◌<◌, ◌≤◌, ◌+◌, ◌*◌, ◌^◌, pos, ◌+ℤ◌, ◌≤ℤ◌, ◌<ℤ◌, IfSome, is_some, unsigned_abs};
 ghost use Rattle.mapping.specs.Surface.{IsPlaceCoordinate};
-ghost use Rattle.raster_ops.specs.Sources.{axis_read, distance, index_read, is_axis_inside, is_mirrored, scaled_place, turned_place};
+ghost use Rattle.raster_ops.specs.Sources.{axis_read, distance, index_read, is_axis_inside, is_mirrored, scaled_place, mirrored_place};
 
 use crate::rectangles::is_axis_inside;
 use crate::sources::AxisReading;
@@ -10,8 +10,8 @@ use crate::sources::AxisReading;
 impl AxisReading {
     ghost use Rattle.raster_ops.specs.Readers.{reading_of};
 
-    /// How places between two placed coordinates read an extent of columns or rows of a picture with `length`
-    /// of them, from `first` on: none exactly where they don't lie inside.
+    /// How the box between two placed coordinates reads an extent of columns or rows, from `first` on, of a bitmap that
+    /// has `length` of them. `None` exactly if the extent doesn't lie inside.
     pub(crate) fn new(first: i64, extent: i32, p: i32, q: i32, length: u32) -> Option<AxisReading>
         requires p { IsPlaceCoordinate p }
         requires q { IsPlaceCoordinate q }
@@ -32,18 +32,18 @@ impl AxisReading {
         })
     }
 
-    /// The column or row of the picture that the surface's column or row `n` reads.
+    /// The column or row of the bitmap that the surface's column or row `n` reads.
     pub(crate) fn index_at(self, n: u32) -> u32
         requires from { self.near ≤ℤ pos n }
         requires to { pos n <ℤ (self.near +ℤ pos self.side) }
         ensures index { result ≡ unsigned_abs (index_read (reading_of self) n) }
         ensures within { result < self.first + self.count }
     {
-        let place = turned_place(self.mirrored, self.side, self.place(n));
+        let place = mirrored_place(self.mirrored, self.side, self.place(n));
         self.first + scaled_place(self.count, self.side, place)
     }
 
-    /// How far a column or row of the surface is from the nearest that reads.
+    /// The distance of a column or row of the surface from the first one of the box.
     pub(crate) fn place(self, n: u32) -> u32
         requires from { self.near ≤ℤ pos n }
         requires to { pos n <ℤ (self.near +ℤ pos self.side) }
@@ -54,7 +54,7 @@ impl AxisReading {
     }
 }
 
-/// How far two placed coordinates are apart.
+/// The distance between two placed coordinates.
 fn distance(p: i32, q: i32) -> u32
     requires p { IsPlaceCoordinate p }
     requires q { IsPlaceCoordinate q }
@@ -64,23 +64,23 @@ fn distance(p: i32, q: i32) -> u32
     (q - p).unsigned_abs()
 }
 
-/// Whether exactly one of the side from `p` to `q` and the extent that it reads is negative.
+/// Whether exactly one of the box's extent, from `p` to `q`, and the source's extent is negative.
 fn is_mirrored(p: i32, q: i32, extent: i32) -> bool
     ensures { result ≡ is_mirrored p q extent }
 {
     (q < p) != (extent < 0)
 }
 
-/// A place on a side, or the one as far from its other end.
-pub(crate) fn turned_place(mirrored: bool, side: u32, place: u32) -> u32
+/// A position along the box, or, if mirrored, the position at the same distance from the other end.
+pub(crate) fn mirrored_place(mirrored: bool, side: u32, place: u32) -> u32
     requires { place < side }
-    ensures place { result ≡ turned_place mirrored side place }
+    ensures place { result ≡ mirrored_place mirrored side place }
     ensures within { result < side }
 {
     if mirrored { side - 1 - place } else { place }
 }
 
-/// Of so many columns or rows the one in which the middle of a place on a side lies.
+/// Which of `count` columns or rows contains the centre of a position along the box.
 fn scaled_place(count: u32, side: u32, place: u32) -> u32
     requires some { 1 ≤ count }
     requires few { count ≤ 2 ^ 16 }
@@ -92,7 +92,7 @@ fn scaled_place(count: u32, side: u32, place: u32) -> u32
     (middle(count, place) / (2 * u64::from(side))) as u32
 }
 
-/// The middle of a place, times a count, in halves.
+/// The centre of a position, times a count, in halves.
 pub(crate) fn middle(count: u32, place: u32) -> u64
     requires few { count ≤ 2 ^ 16 }
     requires near { place < 2 ^ 29 }

@@ -1,4 +1,4 @@
-//! Binary raster operations, which are ternary ones that don't look at the source.
+//! Binary raster operations, as ternary ones that don't depend on the source.
 
 ghost use Rattle.std.specs.Prelude.{◌≡◌, false};
 ghost use Rattle.draw_ops.specs.declared.raster_op.RasterOp.{RasterOp};
@@ -9,7 +9,7 @@ use crate::ternary::rop3;
 use draw_ops::{RasterOp, TernaryOp};
 use mapping::Colour;
 
-/// What a binary raster operation makes of the paint and the colour that is there ([MS-WMF] 2.1.1.2).
+/// The result of a binary raster operation on the paint and the old colour ([MS-WMF] 2.1.1.2).
 pub fn rop2(op: RasterOp, paint: Colour, old: Colour) -> Colour
     ensures { result ≡ mixed_colour op paint old }
 {
@@ -17,7 +17,7 @@ pub fn rop2(op: RasterOp, paint: Colour, old: Colour) -> Colour
     rop3(ternary_of(op), paint, paint, old)
 }
 
-/// The ternary raster operation that a binary one is: its pattern is the paint, and it doesn't look at the source.
+/// A binary raster operation as a ternary one: the paint is its pattern, and it doesn't depend on the source.
 pub fn ternary_of(op: RasterOp) -> TernaryOp
     ensures { result.table ≡ binary_table op }
 {
@@ -27,8 +27,8 @@ pub fn ternary_of(op: RasterOp) -> TernaryOp
     }
 }
 
-/// A law: each of the sixteen binary raster operations gives for every paint and colour that is there what its
-/// ternary table gives for them, whatever the source is.
+/// A law: for every paint, old colour and source, each of the sixteen binary raster operations gives the same as its
+/// ternary table.
 pub fn binary_law()
     ensures same { BinaryIsTernary }
     ensures alone { (op : RasterOp) → uses_source (binary_table op) ≡ false }

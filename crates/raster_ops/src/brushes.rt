@@ -1,4 +1,4 @@
-//! What brushes paint, at a pixel and in a row.
+//! The colours of brushes, at a pixel and in a row.
 
 ghost use Rattle.std.specs.Prelude.{◌≡◌, ◌<◌, ◌≤◌, ℕ, ◌+◌, ◌%◌, length, slice_index_or};
 ghost use Rattle.dib_views.specs.PictureOf.{picture_of};
@@ -7,7 +7,7 @@ ghost use Rattle.draw_ops.specs.Objects.{brush_value_of};
 ghost use Rattle.mapping.specs.Colours.{black_colour};
 ghost use Rattle.mapping.specs.declared.geometry.Colour.{Colour};
 ghost use Rattle.raster_ops.specs.BrushRows.{repeated_colour, repeated_row, row_paint};
-ghost use Rattle.raster_ops.specs.Gathered.{AreAt, AreKeptBeside, ArePaintsAt, HaveBytes, HavePaintBytes};
+ghost use Rattle.raster_ops.specs.Gathered.{AreAt, AreKeptOutside, ArePaintsAt, HaveBytes, HavePaintBytes};
 ghost use Rattle.raster_ops.specs.Paints.{brush_paint, gap_paint};
 
 use crate::hatches::{has_cell, row_cells};
@@ -17,7 +17,7 @@ use dib_views::DibView;
 use draw_ops::{BackgroundMode, Brush};
 use mapping::Colour;
 
-/// The colour that a brush gives at the surface's pixel `(x, y)`, or nothing.
+/// The colour of a brush at the surface's pixel `(x, y)`, if it paints there.
 pub fn brush_at(
     brush: &Brush<'_>,
     x: u32,
@@ -65,7 +65,7 @@ pub fn brush_row<'a>(
     }
 }
 
-/// The row of a picture that a surface's row `y` has, where the picture is repeated from the surface's corner on.
+/// The row of a bitmap for the surface's row `y`. The bitmap is repeated from the surface's corner on.
 fn tile_row<'a>(view: &DibView<'a>, y: u32) -> TileRow<'a>
     ensures row { row_colours_of result.row ≡ repeated_row (picture_of view.now) y }
     ensures width { result.row.width ≡ (picture_of view.now).width }
@@ -75,14 +75,14 @@ fn tile_row<'a>(view: &DibView<'a>, y: u32) -> TileRow<'a>
     }
 }
 
-/// The colours that a brush's row gives the columns from one on up to before another, each at its column's
-/// place of `out`. At columns where it gives nothing any colour may stand. What stands at the other places stays.
+/// Writes the colours of a brush's row, from one column to before another, to `out`, each at its column. If the brush
+/// doesn't paint a column, any colour may be written there. The rest of `out` is unchanged.
 pub fn gather_pattern(row: &BrushRow<'_>, from: u32, to: u32, out: &mut [Colour])
     requires ordered { from ≤ to }
-    requires room { to ≤ length out.old }
+    requires capacity { to ≤ length out.old }
     ensures colours { ArePaintsAt (row_paint row.now) from to out.new }
     ensures parts { HavePaintBytes (row_paint row.now) from to out.new }
-    ensures others { AreKeptBeside from to out.old out.new }
+    ensures others { AreKeptOutside from to out.old out.new }
 {
     match *row {
         BrushRow::Nothing => {}
@@ -101,33 +101,33 @@ pub fn gather_pattern(row: &BrushRow<'_>, from: u32, to: u32, out: &mut [Colour]
     }
 }
 
-/// One colour, at the places from one on up to before another.
+/// Writes one colour, from one index to before another.
 fn gather_solid(colour: Colour, from: u32, to: u32, out: &mut [Colour])
     requires ordered { from ≤ to }
-    requires room { to ≤ length out.old }
+    requires capacity { to ≤ length out.old }
     ensures colours { AreAt (λ x. colour) from to out.new }
     ensures parts { HaveBytes from to out.new }
-    ensures others { AreKeptBeside from to out.old out.new }
+    ensures others { AreKeptOutside from to out.old out.new }
 {
     for x in from..to {
         out[x as usize] = colour;
     }
 }
 
-/// Eight colours that repeat, at the places from one on up to before another.
+/// Writes eight repeating colours, from one index to before another.
 fn gather_cells(colours: [Colour; 8], from: u32, to: u32, out: &mut [Colour])
     requires ordered { from ≤ to }
-    requires room { to ≤ length out.old }
+    requires capacity { to ≤ length out.old }
     ensures colours { AreAt (λ x. slice_index_or colours (x % 8) black_colour) from to out.new }
     ensures parts { HaveBytes from to out.new }
-    ensures others { AreKeptBeside from to out.old out.new }
+    ensures others { AreKeptOutside from to out.old out.new }
 {
     for x in from..to {
         out[x as usize] = repeated(&colours, x);
     }
 }
 
-/// The colour that eight colours that repeat have at a place.
+/// The colour at an index, of eight repeating ones.
 #[inline]
 fn repeated(colours: &[Colour; 8], x: u32) -> Colour
     ensures { result ≡ slice_index_or colours.now (x % 8) black_colour }
@@ -135,13 +135,13 @@ fn repeated(colours: &[Colour; 8], x: u32) -> Colour
     colours[x as usize % 8]
 }
 
-/// The colours of a row that is repeated, at the places from one on up to before another.
+/// Writes the colours of a repeated row, from one index to before another.
 fn gather_tile(tile: TileRow<'_>, from: u32, to: u32, out: &mut [Colour])
     requires ordered { from ≤ to }
-    requires room { to ≤ length out.old }
+    requires capacity { to ≤ length out.old }
     ensures colours { AreAt (repeated_colour tile.entry.row) from to out.new }
     ensures parts { HaveBytes from to out.new }
-    ensures others { AreKeptBeside from to out.old out.new }
+    ensures others { AreKeptOutside from to out.old out.new }
 {
     let width = u32::from(tile.row.width);
     let mut column = from % width;
@@ -151,7 +151,7 @@ fn gather_tile(tile: TileRow<'_>, from: u32, to: u32, out: &mut [Colour])
     }
 }
 
-/// The column behind one, which is column 0 behind the last.
+/// The next column, which is column 0 after the last one.
 #[inline]
 fn next_column(column: u32, width: u32) -> u32
     requires { column < width }
@@ -162,7 +162,7 @@ fn next_column(column: u32, width: u32) -> u32
     if next == width { 0 } else { next }
 }
 
-/// What the gaps of a hatch get ([MS-WMF] 2.1.1.20).
+/// The colour of a hatch's gaps, if they are painted ([MS-WMF] 2.1.1.20).
 fn gap(mode: BackgroundMode, background: Colour) -> Option<Colour>
     ensures { result ≡ gap_paint mode background }
 {

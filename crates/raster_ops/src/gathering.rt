@@ -1,7 +1,7 @@
-//! Reading along a row, place by place.
+//! Reading source colours along a row.
 
 ghost use Rattle.std.specs.Prelude.{◌≡◌, ◌<◌, ◌≤◌, ◌+◌, pos, ◌+ℤ◌, ◌≤ℤ◌, true, false, length};
-ghost use Rattle.raster_ops.specs.Gathered.{AreAt, AreKeptBeside, HaveBytes};
+ghost use Rattle.raster_ops.specs.Gathered.{AreAt, AreKeptOutside, HaveBytes};
 
 use crate::sources::AxisReading;
 use crate::steps::ColumnSteps;
@@ -11,39 +11,39 @@ use mapping::Colour;
 impl AxisReading {
     ghost use Rattle.raster_ops.specs.Readers.{colour_in};
 
-    /// The colours that the columns from one on up to before another read in a picture's row, each at its
-    /// column's place of `out`.
+    /// Writes the colours that the columns from one to before another read in a bitmap's row to `out`, each at its
+    /// column.
     pub(crate) fn gather(self, line: &DibRow<'_>, from: u32, to: u32, out: &mut [Colour])
         requires wide { self.first + self.count ≤ line.now.width }
         requires ordered { from ≤ to }
-        requires room { to ≤ length out.old }
+        requires capacity { to ≤ length out.old }
         requires from { self.near ≤ℤ pos from }
         requires to { pos to ≤ℤ (self.near +ℤ pos self.side) }
         ensures colours { AreAt (colour_in self line.now) from to out.new }
         ensures parts { HaveBytes from to out.new }
-        ensures others { AreKeptBeside from to out.old out.new }
+        ensures others { AreKeptOutside from to out.old out.new }
     {
         if from == to {
             return;
         }
         if self.mirrored {
-            self.gather_turned(line, from, to, out);
+            self.gather_mirrored(line, from, to, out);
         } else {
             self.gather_straight(line, from, to, out);
         }
     }
 
-    /// The same where the picture isn't mirrored.
+    /// The same, if the bitmap isn't mirrored.
     fn gather_straight(self, line: &DibRow<'_>, from: u32, to: u32, out: &mut [Colour])
         requires straight { self.mirrored ≡ false }
         requires wide { self.first + self.count ≤ line.now.width }
         requires ordered { from < to }
-        requires room { to ≤ length out.old }
+        requires capacity { to ≤ length out.old }
         requires from { self.near ≤ℤ pos from }
         requires to { pos to ≤ℤ (self.near +ℤ pos self.side) }
         ensures colours { AreAt (colour_in self line.now) from to out.new }
         ensures parts { HaveBytes from to out.new }
-        ensures others { AreKeptBeside from to out.old out.new }
+        ensures others { AreKeptOutside from to out.old out.new }
     {
         let mut steps = ColumnSteps::new(self.count, self.side, self.place(from));
         for x in from..to {
@@ -52,18 +52,18 @@ impl AxisReading {
         }
     }
 
-    /// The same where it is mirrored: the picture's columns from the first on, for the surface's from the last
-    /// on.
-    fn gather_turned(self, line: &DibRow<'_>, from: u32, to: u32, out: &mut [Colour])
-        requires turned { self.mirrored ≡ true }
+    /// The same, if it is mirrored: the bitmap's columns are read in order, for the surface's columns in descending
+    /// order.
+    fn gather_mirrored(self, line: &DibRow<'_>, from: u32, to: u32, out: &mut [Colour])
+        requires mirrored { self.mirrored ≡ true }
         requires wide { self.first + self.count ≤ line.now.width }
         requires ordered { from < to }
-        requires room { to ≤ length out.old }
+        requires capacity { to ≤ length out.old }
         requires from { self.near ≤ℤ pos from }
         requires to { pos to ≤ℤ (self.near +ℤ pos self.side) }
         ensures colours { AreAt (colour_in self line.now) from to out.new }
         ensures parts { HaveBytes from to out.new }
-        ensures others { AreKeptBeside from to out.old out.new }
+        ensures others { AreKeptOutside from to out.old out.new }
     {
         let last = to - 1;
         let mut steps = ColumnSteps::new(self.count, self.side, self.side - 1 - self.place(last));

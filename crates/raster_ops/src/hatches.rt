@@ -7,7 +7,7 @@ ghost use Rattle.raster_ops.specs.Hatches.{has_cell};
 
 use draw_ops::Hatch;
 
-/// Whether the lines of a hatch are on the surface's pixel `(x, y)` ([MS-WMF] 2.1.1.12).
+/// Whether the lines of a hatch cover the surface's pixel `(x, y)` ([MS-WMF] 2.1.1.12).
 pub(crate) fn has_cell(hatch: Hatch, x: u32, y: u32) -> bool
     ensures { result ≡ has_cell hatch x y }
 {
@@ -23,23 +23,23 @@ pub(crate) fn has_cell(hatch: Hatch, x: u32, y: u32) -> bool
     }
 }
 
-/// The cells of a hatch in row `y`: bit `x % 8` is 1 where its lines are on column `x`.
+/// The cells of a hatch in row `y`: bit `x % 8` is 1 if its lines cover column `x`.
 pub(crate) fn row_cells(hatch: Hatch, y: u32) -> u8
     ensures { (x : ℕ) → is_cell result x ≡ has_cell hatch x y }
 {
     let row = y % 8;
     match hatch {
-        Hatch::Horizontal => level(row),
+        Hatch::Horizontal => horizontal(row),
         Hatch::Vertical => 1,
         Hatch::ForwardDiagonal => forward(row),
         Hatch::BackwardDiagonal => backward(row),
-        Hatch::Cross => level(row) | 1,
+        Hatch::Cross => horizontal(row) | 1,
         Hatch::DiagonalCross => forward(row) | backward(row),
     }
 }
 
-/// The cells of the level lines.
-fn level(row: u32) -> u8
+/// The cells of the horizontal lines.
+fn horizontal(row: u32) -> u8
     ensures { (m : ℕ) → m < 8 → (bit_at result m == 1) ≡ (row == 0) }
 {
     if row == 0 { 0xff } else { 0 }

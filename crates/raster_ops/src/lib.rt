@@ -1,31 +1,31 @@
-//! What a brush paints, and how paint joins what is there.
+//! The colours of brushes and of blit sources, and the raster operations that combine them with the old colours.
 //!
 //! # What is promised
 //!
-//! - A binary raster operation makes of each bit of the paint and the bit that is there what the standard's
-//!   table says (`rop2`, by `mixed_colour`).
-//! - It is a ternary operation, too (`ternary_of`), whose pattern is the paint and which doesn't look at the source (`binary_law`).
-//! - A ternary raster operation makes of each bit of the pattern, of the source and of what is there what its
-//!   table says (`rop3`, by `ternary_colour`), and with pattern and source it is a mix (`ternary_mix`, or
-//!   along a row, into slices, of which all other places stay, `TernaryMixer::gather`).
+//! - A binary raster operation combines each bit of the paint with the old bit as the standard's table says (`rop2`, by
+//!   `mixed_colour`).
+//! - It is also a ternary operation, with the paint as its pattern (`ternary_of`), and doesn't depend on the source
+//!   (`binary_law`).
+//! - A ternary raster operation combines the bits of the pattern, the source and the old colour as its table says
+//!   (`rop3`, by `ternary_colour`). With a given pattern and source it is a mix (`ternary_mix`). `TernaryMixer::gather`
+//!   writes the mixes of a row to slices, whose other elements are unchanged.
 //! - SRCCOPY gives the source, PATCOPY the pattern, and R2_COPYPEN the pen's colour (`copy_law`).
-//! - Whether a ternary operation depends on the source and on the pattern is told exactly, and where it doesn't,
-//!   each gives the same (`uses_source`, `uses_pattern`, `dependence_law`).
-//! - A brush gives each pixel of a surface the colour, or nothing, that its kind, the background mode and the
-//!   background colour say (`brush_at`, by `brush_paint`).
-//! - A brush's row gives each column of the row what the brush gives there (`brush_row`, by `row_paint`), and so
-//!   along a row, into a slice, of which all other places stay (`gather_pattern`).
-//! - A blit has something to read exactly where there is a bitmap, and the rectangle of it that is read has
-//!   pixels and lies inside (`is_readable`, `SourceReader::new`).
-//! - Each pixel of its box reads the picture's pixel in which the middle of its place lies, mirrored where
-//!   exactly one of the side and the extent is negative (`source_at`, by `source_colour`). The row and the column
-//!   that are read are told by themselves (`SourceReader::row_at`, `SourceReader::column_at`), and the colours
-//!   along a row without a division a pixel, into a slice, of which all other places stay
-//!   (`SourceReader::gather`).
-//! - What is gathered are colours whose parts are bytes (`gather_pattern`, `SourceReader::gather`).
-//! - Eight colours that repeat are those of the cells and of the gaps (`pattern`).
+//! - It is known exactly whether a ternary operation depends on the source and on the pattern. If it doesn't, its
+//!   result is the same for all of them (`uses_source`, `uses_pattern`, `dependence_law`).
+//! - The colour of a brush at each pixel of a surface, if it paints there, depends on its kind, the background mode and
+//!   the background colour (`brush_at`, by `brush_paint`).
+//! - A row of a brush has the brush's colours of that row (`brush_row`, by `row_paint`). `gather_pattern` writes them
+//!   to a slice, whose other elements are unchanged.
+//! - A blit has a readable source exactly if there is a bitmap, and the rectangle to read is not empty and lies inside
+//!   the bitmap (`is_readable`, `SourceReader::new`).
+//! - Each pixel of a blit's box reads the bitmap's pixel that contains its centre, mirrored if exactly one of the box's
+//!   extent and the source's extent is negative (`source_at`, by `source_colour`). The row and the column to read are
+//!   returned separately (`SourceReader::row_at`, `SourceReader::column_at`). `SourceReader::gather` writes the colours
+//!   along a row to a slice, without a division per pixel, and its other elements are unchanged.
+//! - Gathered colours have components that are bytes (`gather_pattern`, `SourceReader::gather`).
+//! - Eight repeating colours are those of the cells and of the gaps (`pattern`).
 //!
-//! No call takes memory: no contract says that, and a test over the built program counts its calls for memory.
+//! No call allocates memory. No contract says that, but a test counts the allocations of the built program.
 #![tactic(auto)]
 
 mod axes;

@@ -1,4 +1,4 @@
-//! Eight colours that repeat.
+//! Eight repeating colours.
 
 ghost use Rattle.std.specs.Prelude.{◌≡◌, ◌==◌, ℕ, ◌%◌, ◌<◌, slice_index_or, if◌then◌else◌};
 ghost use Rattle.std.specs.Int.{bit_at};
@@ -7,7 +7,7 @@ ghost use Rattle.mapping.specs.declared.geometry.Colour.{Colour};
 
 use mapping::Colour;
 
-/// Eight colours: at index `i` it is `colour` where bit `i` of `cells` is 1, and else `gaps`.
+/// Eight colours: at index `i`, `colour` if bit `i` of `cells` is 1, otherwise `gaps`.
 pub fn pattern(cells: u8, colour: Colour, gaps: Colour) -> [Colour; 8]
     ensures { (x : ℕ) (old : Colour) → slice_index_or result (x % 8) old ≡ (if is_cell cells x then colour else gaps) }
 {

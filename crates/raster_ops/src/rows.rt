@@ -5,11 +5,11 @@ ghost use Rattle.std.specs.Prelude.{◌≤◌};
 use dib_views::DibRow;
 use mapping::Colour;
 
-/// One row of a picture that is repeated.
+/// One row of a repeated bitmap.
 ///
 /// # Guarantees
 ///
-/// - The row has pixels.
+/// - The row isn't empty.
 #[derive(Clone, Copy, Debug, PartialEq, Eq)]
 pub struct TileRow<'a> {
     pub row: DibRow<'a>,
@@ -19,17 +19,17 @@ pub struct TileRow<'a> {
 /// What a brush paints in one row of a surface.
 #[derive(Clone, Copy, Debug, PartialEq, Eq)]
 pub enum BrushRow<'a> {
-    /// It paints nothing.
+    /// Nothing.
     Nothing,
-    /// It paints every pixel in this colour.
+    /// Every pixel in this colour.
     Solid(Colour),
-    /// It paints the pixels whose column, modulo 8, has its bit set in `cells` in `colour`, and the others
-    /// in `gaps`, or leaves them.
+    /// The pixels whose bit, at their column modulo 8, is set in `cells` in `colour`; the others in `gaps`, if they are
+    /// painted.
     Hatched {
         cells: u8,
         colour: Colour,
         gaps: Option<Colour>,
     },
-    /// It paints the colours of this row, repeated from the surface's column 0 on.
+    /// The colours of this row, repeated from the surface's column 0 on.
     Tiled(TileRow<'a>),
 }

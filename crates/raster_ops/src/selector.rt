@@ -1,31 +1,31 @@
-//! Bits that two others choose, eight at a time.
+//! Bits that are selected by two others, eight at a time.
 
 ghost use Rattle.std.specs.Prelude.{◌≡◌, ◌<◌, ◌≤◌, ℕ, ◌+◌, length, slice_index_or};
 ghost use Rattle.std.specs.Int.{bit_at};
 ghost use Rattle.mapping.specs.declared.geometry.Colour.{Colour};
 ghost use Rattle.raster_ops.specs.Bytes.{HasBytes};
-ghost use Rattle.raster_ops.specs.Gathered.{AreAt, AreKeptBeside, HaveBytes};
+ghost use Rattle.raster_ops.specs.Gathered.{AreAt, AreKeptOutside, HaveBytes};
 
 use mapping::Colour;
 
-/// What chooses a bit by a bit of a pattern and one of a source, for eight of them at a time. Each number is all
-/// ones or all zeros.
+/// Selects a bit by a bit of a pattern and a bit of a source, for eight of them at a time. Each field is all ones or
+/// all zeros.
 #[derive(Clone, Copy, Debug, PartialEq, Eq)]
 pub(crate) struct Selector {
-    /// What two bits that are 0 choose.
+    /// The bit selected by two 0 bits.
     pub fixed: u8,
-    /// What a source's 1 flips.
+    /// What a 1 in the source flips.
     pub by_source: u8,
-    /// What a pattern's 1 flips.
+    /// What a 1 in the pattern flips.
     pub by_pattern: u8,
-    /// What a pattern's 1 and a source's 1 together flip, after what each of them flips.
+    /// What a 1 in both flips in addition to the flips by each.
     pub by_both: u8,
 }
 
 impl Selector {
     ghost use Rattle.raster_ops.specs.Selectors.{AreSelectedFrom, IsSelector, selected, selected_at, selected_colour};
 
-    /// What chooses the bits at the even places of a table.
+    /// The selector of the bits at the even positions of a table.
     #[inline]
     pub(crate) fn new(table: u8) -> Selector
         ensures { IsSelector result table }
@@ -42,7 +42,7 @@ impl Selector {
         }
     }
 
-    /// The bits that a pattern and a source choose.
+    /// The bits selected by a pattern and a source.
     #[inline]
     pub(crate) fn select(self, pattern: u8, source: u8) -> u8
         ensures { result ≡ selected self pattern source }
@@ -50,7 +50,7 @@ impl Selector {
         self.fixed ^ source & self.by_source ^ pattern & (self.by_pattern ^ source & self.by_both)
     }
 
-    /// The same of each part of a colour.
+    /// The same for each component of a colour.
     #[inline]
     pub(crate) fn select_colour(self, pattern: Colour, source: Colour) -> Colour
         ensures colour { result ≡ selected_colour self pattern source }
@@ -63,9 +63,9 @@ impl Selector {
         }
     }
 
-    /// The colours that the patterns and the sources at the places from one on up to before another choose, each
-    /// at its place. All but the last few go by eights, whose size the compiler knows: it then chooses many at
-    /// once, in a tenth of the time that a colour at a time takes.
+    /// Writes the colours selected by the patterns and sources from one index to before another, each at its index.
+    /// Most of them are handled eight at a time: the compiler knows that size and uses vector instructions. This takes
+    /// a tenth of the time of one colour at a time.
     pub(crate) fn select_row(
         self,
         patterns: &[Colour],
@@ -77,10 +77,10 @@ impl Selector {
         requires ordered { from ≤ to }
         requires patterns { to ≤ length patterns.now }
         requires sources { to ≤ length sources.now }
-        requires room { to ≤ length chosen.old }
+        requires capacity { to ≤ length chosen.old }
         ensures colours { AreAt (selected_at self patterns.now sources.now) from to chosen.new }
         ensures parts { HaveBytes from to chosen.new }
-        ensures others { AreKeptBeside from to chosen.old chosen.new }
+        ensures others { AreKeptOutside from to chosen.old chosen.new }
     {
         let done = self.select_eights(patterns, sources, from, to, chosen);
         for x in done as usize..to as usize {
@@ -88,7 +88,7 @@ impl Selector {
         }
     }
 
-    /// The same up to where whole eights end, which it tells.
+    /// The same for whole groups of eight. Returns where the last group ends.
     fn select_eights(
         self,
         patterns: &[Colour],
@@ -100,12 +100,12 @@ impl Selector {
         requires ordered { from ≤ to }
         requires patterns { to ≤ length patterns.now }
         requires sources { to ≤ length sources.now }
-        requires room { to ≤ length chosen.old }
+        requires capacity { to ≤ length chosen.old }
         ensures from { from ≤ result }
         ensures within { result ≤ to }
         ensures colours { AreAt (selected_at self patterns.now sources.now) from result chosen.new }
         ensures parts { HaveBytes from result chosen.new }
-        ensures others { AreKeptBeside from result chosen.old chosen.new }
+        ensures others { AreKeptOutside from result chosen.old chosen.new }
     {
         let mut done = from;
         while to - done >= 8 {
@@ -116,7 +116,7 @@ impl Selector {
         done
     }
 
-    /// The colours that eight patterns and sources from a place on choose.
+    /// The colours selected by eight patterns and sources, from an index on.
     #[inline]
     fn selected_eight(self, patterns: &[Colour], sources: &[Colour], at: usize) -> [Colour; 8]
         requires patterns { at + 8 ≤ length patterns.now }
@@ -132,17 +132,17 @@ impl Selector {
     }
 }
 
-/// Puts eight colours to the places from one on.
+/// Writes eight colours, from an index on.
 #[inline]
 fn put_eight(row: &mut [Colour], at: usize, colours: &[Colour; 8])
     requires { at + 8 ≤ length row.old }
     ensures here { (k : ℕ) (d : Colour) → k < 8 → slice_index_or row.new (at + k) d ≡ slice_index_or colours.now k d }
-    ensures others { AreKeptBeside at (at + 8) row.old row.new }
+    ensures others { AreKeptOutside at (at + 8) row.old row.new }
 {
     row[at..at + 8].copy_from_slice(colours);
 }
 
-/// Eight times a bit of a table.
+/// Eight copies of a bit of a table.
 #[inline]
 fn mask(table: u8, index: u32) -> u8
     requires { index < 8 }

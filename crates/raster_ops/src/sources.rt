@@ -1,4 +1,4 @@
-//! What a blit reads, at a pixel and along a row.
+//! The source colours of blits, at a pixel and along a row.
 
 ghost use Rattle.std.specs.Prelude.{◌≡◌, ◌<◌, ◌≤◌, ◌+◌, ◌^◌, pos, ◌+ℤ◌, ◌≤ℤ◌, ◌<ℤ◌, IsTrue, IfSome, is_some, length};
 ghost use Rattle.std.specs.Int.{int_min};
@@ -6,7 +6,7 @@ ghost use Rattle.dib_views.specs.PictureOf.{picture_of};
 ghost use Rattle.draw_ops.specs.Blits.{source_of};
 ghost use Rattle.mapping.specs.Surface.{FitsPlace};
 ghost use Rattle.mapping.specs.declared.geometry.Colour.{Colour};
-ghost use Rattle.raster_ops.specs.Gathered.{AreAt, AreKeptBeside, HaveBytes};
+ghost use Rattle.raster_ops.specs.Gathered.{AreAt, AreKeptOutside, HaveBytes};
 ghost use Rattle.raster_ops.specs.Sources.{distance, is_readable, source_colour};
 
 use crate::rectangles::{least_end, row_from_bottom, row_from_top};
@@ -14,7 +14,7 @@ use dib_views::DibView;
 use draw_ops::{BlitSource, SourceRectangle};
 use mapping::{Colour, Point};
 
-/// How the columns or rows of a box read those of a source rectangle, which are spread over them.
+/// How the columns or rows of a box read those of a source rectangle, which is stretched to the box.
 ///
 /// # Guarantees
 ///
@@ -23,26 +23,26 @@ use mapping::{Colour, Point};
 /// - `side` is at most 2^29.
 #[derive(Clone, Copy, Debug, PartialEq, Eq)]
 pub struct AxisReading {
-    /// The first column or row of the source rectangle in the picture.
+    /// The first column or row of the source rectangle in the bitmap.
     pub first: u32,
-    /// How many columns or rows the rectangle has. Where they are more than `side`, no pixel reads some of them.
+    /// The number of columns or rows in the rectangle. If there are more than `side`, some of them aren't read.
     pub count: u32,
     /// The box's first column or row on the surface, from the left or the top.
     pub near: i32,
-    /// How many columns or rows the box has.
+    /// The number of columns or rows in the box.
     pub side: u32,
-    /// Whether the box's first column or row reads from the rectangle's last on.
+    /// Whether the box's first column or row reads the rectangle's last one.
     pub mirrored: bool,
     pub ghost some: { 1 ≤ count },
     pub ghost few: { first + count ≤ 2 ^ 16 },
     pub ghost short: { side ≤ 2 ^ 29 },
 }
 
-/// How a blit reads its picture.
+/// How a blit reads its source bitmap.
 ///
 /// # Guarantees
 ///
-/// - The rectangle's columns and its rows are columns and rows of the picture.
+/// - The rectangle lies inside the bitmap.
 #[derive(Clone, Copy, Debug, PartialEq, Eq)]
 pub struct SourceReader<'a> {
     pub picture: DibView<'a>,
@@ -55,8 +55,8 @@ pub struct SourceReader<'a> {
 impl<'a> SourceReader<'a> {
     ghost use Rattle.raster_ops.specs.Readers.{ReadsColumns, ReadsRows, ReadsSource, column_colour, column_read, is_inside_from, row_read};
 
-    /// How a box between two placed corners reads: none exactly where there is no bitmap, or its rectangle has
-    /// no pixel or isn't inside, whatever the box is.
+    /// How the box between two placed corners reads its source. `None` exactly if there is no bitmap, or its rectangle
+    /// is empty or doesn't lie inside, whatever the box is.
     pub fn new(source: &BlitSource<'a>, first: Point, second: Point) -> Option<SourceReader<'a>>
         requires first { FitsPlace first }
         requires second { FitsPlace second }
@@ -78,7 +78,7 @@ impl<'a> SourceReader<'a> {
         }
     }
 
-    /// The same of a rectangle whose first row is `row`.
+    /// The same for a rectangle with this first row.
     fn of_rectangle(
         rectangle: &SourceRectangle<'a>,
         row: i64,
@@ -110,7 +110,7 @@ impl<'a> SourceReader<'a> {
         })
     }
 
-    /// The picture's row that row `y` of the surface reads.
+    /// The bitmap's row that row `y` of the surface reads.
     pub fn row_at(&self, y: u32) -> u32
         requires from { self.now.rows.near ≤ℤ pos y }
         requires to { pos y <ℤ (self.now.rows.near +ℤ pos self.now.rows.side) }
@@ -120,7 +120,7 @@ impl<'a> SourceReader<'a> {
         self.rows.index_at(y)
     }
 
-    /// The picture's column that column `x` of the surface reads.
+    /// The bitmap's column that column `x` of the surface reads.
     pub fn column_at(&self, x: u32) -> u32
         requires from { self.now.columns.near ≤ℤ pos x }
         requires to { pos x <ℤ (self.now.columns.near +ℤ pos self.now.columns.side) }
@@ -130,24 +130,24 @@ impl<'a> SourceReader<'a> {
         self.columns.index_at(x)
     }
 
-    /// The colours that the columns from one on up to before another read in the picture's row `row`, each at
-    /// its column's place of `out`. What stands at the other places stays.
+    /// Writes the colours that the columns from one to before another read in the bitmap's row `row` to `out`, each at
+    /// its column. The rest of `out` is unchanged.
     pub fn gather(&self, row: u32, from: u32, to: u32, out: &mut [Colour])
         requires row { row < (picture_of self.now.picture).height }
         requires ordered { from ≤ to }
-        requires room { to ≤ length out.old }
+        requires capacity { to ≤ length out.old }
         requires from { self.now.columns.near ≤ℤ pos from }
         requires to { pos to ≤ℤ (self.now.columns.near +ℤ pos self.now.columns.side) }
         ensures colours { AreAt (λ x. column_colour self.now row x) from to out.new }
         ensures parts { HaveBytes from to out.new }
-        ensures others { AreKeptBeside from to out.old out.new }
+        ensures others { AreKeptOutside from to out.old out.new }
     {
         let line = self.picture.picture_row(row);
         self.columns.gather(&line, from, to, out);
     }
 }
 
-/// The colour that the surface's pixel `(x, y)` reads, of a box between two placed corners.
+/// The source colour of the surface's pixel `(x, y)`, for a box between two placed corners.
 pub fn source_at(source: &BlitSource<'_>, first: Point, second: Point, x: u32, y: u32) -> Colour
     requires readable { IsTrue (is_readable (source_of source.now)) }
     requires first { FitsPlace first }

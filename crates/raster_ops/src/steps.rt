@@ -1,16 +1,16 @@
-//! From place to place on a side by additions.
+//! Advancing along an axis by additions.
 
 ghost use Rattle.std.specs.Prelude.{◌≡◌, ◌<◌, ◌≤◌, ◌+◌, ◌*◌, ◌^◌, if◌then◌else◌, IsTrue};
 ghost use Rattle.raster_ops.specs.Sources.{scaled_place};
 
 use crate::axes::middle;
 
-/// A place on a side, and which of `count` columns the middle of it lies in.
+/// A position along the box, and which of `count` columns contains its centre.
 ///
 /// # Guarantees
 ///
 /// - `quotient` and `rest` are those of `(2 * place + 1) * count` divided by `2 * side`.
-/// - `whole` and `part` are those of `2 * count`, by which that grows from place to place.
+/// - `whole` and `part` are those of `2 * count`, by which that number grows at each step.
 #[derive(Clone, Copy, Debug)]
 pub(crate) struct ColumnSteps {
     pub count: u32,
@@ -18,11 +18,11 @@ pub(crate) struct ColumnSteps {
     pub place: u32,
     /// The column.
     quotient: u32,
-    /// What the division leaves, below twice the side.
+    /// The remainder, which is less than `2 * side`.
     rest: u32,
     /// What a step adds to the quotient.
     whole: u32,
-    /// What a step adds to the rest.
+    /// What a step adds to the remainder.
     part: u32,
     ghost some: { 1 ≤ count },
     ghost few: { count ≤ 2 ^ 16 },
@@ -34,7 +34,7 @@ pub(crate) struct ColumnSteps {
 }
 
 impl ColumnSteps {
-    /// The steps from a place on.
+    /// The steps from a position on.
     pub(crate) fn new(count: u32, side: u32, place: u32) -> ColumnSteps
         requires some { 1 ≤ count }
         requires few { count ≤ 2 ^ 16 }
@@ -57,7 +57,7 @@ impl ColumnSteps {
         }
     }
 
-    /// The column in which the middle of the place lies.
+    /// The column that contains the centre of the position.
     #[inline]
     pub(crate) fn column(&self) -> u32
         ensures column { result ≡ scaled_place self.now.count self.now.side self.now.place }
@@ -66,7 +66,7 @@ impl ColumnSteps {
         self.quotient
     }
 
-    /// The next place.
+    /// The next position.
     #[inline]
     pub(crate) fn next(self) -> ColumnSteps
         requires { self.place < self.side }
@@ -89,7 +89,7 @@ impl ColumnSteps {
     }
 }
 
-/// One more, if so.
+/// The quotient plus 1, if the remainder overflows.
 #[inline]
 fn raised(quotient: u32, over: bool) -> u32
     requires { quotient ≤ 2 ^ 20 }
@@ -98,7 +98,7 @@ fn raised(quotient: u32, over: bool) -> u32
     quotient + u32::from(over)
 }
 
-/// Less by the divisor, if so.
+/// The remainder minus the divisor, if it overflows.
 #[inline]
 fn lowered(rest: u32, divisor: u32, over: bool) -> u32
     requires { IsTrue over → divisor ≤ rest }

@@ -1,11 +1,11 @@
-//! How a pattern and a source join what is there.
+//! Ternary raster operations.
 
 ghost use Rattle.std.specs.Prelude.{◌≡◌, ◌≤◌, ◌/◌, bit_xor, length};
 ghost use Rattle.mapping.specs.Mixes.{mixed_by};
 ghost use Rattle.mapping.specs.declared.geometry.Colour.{Colour};
 ghost use Rattle.draw_ops.specs.declared.raster_op.RasterOp.TheVariants.{CopyPen};
 ghost use Rattle.raster_ops.specs.Bytes.{HasBytes};
-ghost use Rattle.raster_ops.specs.Gathered.{AreKeptBeside, AreMixesAt};
+ghost use Rattle.raster_ops.specs.Gathered.{AreKeptOutside, AreMixesAt};
 ghost use Rattle.raster_ops.specs.RasterOps.{mixed_colour};
 ghost use Rattle.raster_ops.specs.Selectors.{IsSelector};
 ghost use Rattle.raster_ops.specs.TernaryOps.{UnusedPatternIsUnseen, UnusedSourceIsUnseen, ternary_at, ternary_colour, uses_pattern, uses_source};
@@ -14,14 +14,14 @@ use crate::selector::Selector;
 use draw_ops::TernaryOp;
 use mapping::{Colour, Mix};
 
-/// What a ternary raster operation makes of pattern, source and the colour that is there ([MS-WMF] 2.1.1.31).
+/// The result of a ternary raster operation on the pattern, the source and the old colour ([MS-WMF] 2.1.1.31).
 pub fn rop3(op: TernaryOp, pattern: Colour, source: Colour, old: Colour) -> Colour
     ensures { result ≡ ternary_colour op.table pattern source old }
 {
     ternary_mix(op, pattern, source).apply(old)
 }
 
-/// A ternary raster operation with its pattern and its source, as a mix: the same whatever is there.
+/// A ternary raster operation with its pattern and its source, as a mix, which can be applied to any old colour.
 #[inline]
 pub fn ternary_mix(op: TernaryOp, pattern: Colour, source: Colour) -> Mix
     ensures { (old : Colour) → mixed_by result old ≡ ternary_colour op.table pattern source old }
@@ -29,20 +29,20 @@ pub fn ternary_mix(op: TernaryOp, pattern: Colour, source: Colour) -> Mix
     TernaryMixer::new(op).mix(pattern, source)
 }
 
-/// A ternary raster operation made ready, for callers who apply it to many pixels.
+/// A prepared ternary raster operation, for callers that apply it to many pixels.
 #[derive(Clone, Copy, Debug, PartialEq, Eq)]
 pub struct TernaryMixer {
     pub op: TernaryOp,
-    /// The bits that are kept: of which it makes two things, of a 0 and of a 1.
+    /// Selects the bits to keep: those for which a 0 and a 1 give different results.
     keep: Selector,
-    /// The bits that are then flipped: it makes a 1 of a 0.
+    /// Selects the bits to flip afterwards: those for which a 0 gives a 1.
     flip: Selector,
     ghost keeps: { IsSelector keep (bit_xor (op.table / 2) op.table) },
     ghost flips: { IsSelector flip op.table },
 }
 
 impl TernaryMixer {
-    /// The operation made ready.
+    /// Prepares the operation.
     #[inline]
     pub fn new(op: TernaryOp) -> TernaryMixer
         ensures { result.op ≡ op }
@@ -65,8 +65,8 @@ impl TernaryMixer {
         }
     }
 
-    /// The operation with the patterns and the sources at the places from one on up to before another, as mixes:
-    /// what each keeps and what it flips, at its place. What stands at the other places stays.
+    /// Writes the operation with the patterns and sources from one index to before another as mixes: the bits that each
+    /// keeps and flips, at its index. The other elements are unchanged.
     pub fn gather(
         &self,
         patterns: &[Colour],
@@ -82,36 +82,37 @@ impl TernaryMixer {
         requires keeps { to ≤ length keeps.old }
         requires flips { to ≤ length flips.old }
         ensures mixes { AreMixesAt (ternary_at self.now.op.table patterns.now sources.now) from to keeps.new flips.new }
-        ensures other_keeps { AreKeptBeside from to keeps.old keeps.new }
-        ensures other_flips { AreKeptBeside from to flips.old flips.new }
+        ensures other_keeps { AreKeptOutside from to keeps.old keeps.new }
+        ensures other_flips { AreKeptOutside from to flips.old flips.new }
     {
         self.keep.select_row(patterns, sources, from, to, keeps);
         self.flip.select_row(patterns, sources, from, to, flips);
     }
 }
 
-/// Whether an operation depends on the source: bits of its table that lie two apart differ.
+/// Whether an operation depends on the source: some bits of its table that are two positions apart differ.
 pub fn uses_source(op: TernaryOp) -> bool
     ensures { result ≡ uses_source op.table }
 {
     (op.table ^ op.table >> 2) & 0x33 != 0
 }
 
-/// Whether an operation depends on the pattern: bits of its table that lie four apart differ.
+/// Whether an operation depends on the pattern: some bits of its table that are four positions apart differ.
 pub fn uses_pattern(op: TernaryOp) -> bool
     ensures { result ≡ uses_pattern op.table }
 {
     (op.table ^ op.table >> 4) & 0x0f != 0
 }
 
-/// A law: an operation that doesn't depend on the source gives the same with each, and so with the pattern.
+/// A law: an operation that doesn't depend on the source gives the same for every source, and similarly for the
+/// pattern.
 pub fn dependence_law()
     ensures source { UnusedSourceIsUnseen }
     ensures pattern { UnusedPatternIsUnseen }
 {}
 
-/// A law: SRCCOPY, whose table is 0xCC, gives the source, PATCOPY, whose table is 0xF0, the pattern, and R2_COPYPEN
-/// the pen's colour ([MS-WMF] 2.1.1.31, 2.1.1.2).
+/// A law: SRCCOPY, with table 0xCC, gives the source, PATCOPY, with table 0xF0, the pattern, and R2_COPYPEN the pen's
+/// colour ([MS-WMF] 2.1.1.31, 2.1.1.2).
 pub fn copy_law()
     ensures source { (p s o : Colour) → HasBytes s → ternary_colour 0xcc p s o ≡ s }
     ensures pattern { (p s o : Colour) → HasBytes p → ternary_colour 0xf0 p s o ≡ p }

@@ -5,7 +5,7 @@ use Rattle.std.specs.List.Sorted.{IsNonDecreasingBy}
 use Rattle.std.proofs.lemmas.Bool.{lt-leb, lt-ltb}
 use Rattle.std.proofs.lemmas.List.Elements.{All-from_get_or}
 use Rattle.span_fill.specs.Admitting.{NoneBegins}
-use Rattle.span_fill.specs.Edges.{active_at, begins_behind, begins_by, edge_first_row}
+use Rattle.span_fill.specs.Edges.{active_at, begins_after, begins_by, edge_first_row}
 use Rattle.span_fill.specs.declared.edge.ActiveEdge.{ActiveEdge}
 use Rattle.span_fill.specs.declared.edge.Edge.{Edge}
 use Rattle.span_fill.proofs.Reordering.{filter_all, filter_none}
@@ -20,7 +20,7 @@ later y edges next d sorted within h i below =
 pub none_begins : (y : ℕ) (edges : List Edge) (next : ℕ) (d : Edge) → IsNonDecreasingBy edge_first_row edges → next < length edges → y < edge_first_row (get_or edges next d) → NoneBegins y (drop next edges)
 none_begins y edges next d sorted within h = record {
   none = filter_none (begins_by y) (drop next edges) (All-from_get_or (λ e. begins_by y e ≡ false) (drop next edges) d (λ i below. lt-leb (edge_first_row (get_or (drop next edges) i d)) y (later y edges next d sorted within h i below)));
-  others = filter_all (begins_behind y) (drop next edges) (All-from_get_or (λ e. begins_behind y e ≡ true) (drop next edges) d (λ i below. lt-ltb y (edge_first_row (get_or (drop next edges) i d)) (later y edges next d sorted within h i below)));
+  others = filter_all (begins_after y) (drop next edges) (All-from_get_or (λ e. begins_after y e ≡ true) (drop next edges) d (λ i below. lt-ltb y (edge_first_row (get_or (drop next edges) i d)) (later y edges next d sorted within h i below)));
 }
 
 -- an edge that begins goes behind those that are there
@@ -30,5 +30,5 @@ active_step y edge before now_ total xs ys first begins now_is so =
     rw (now_is, append_assoc) old
 
 -- and doesn't wait
-pub left_step : (y : ℕ) (edge : Edge) (xs ys all : List Edge) → xs ≡ edge ∷ ys → begins_behind y edge ≡ false → filter (begins_behind y) xs ≡ filter (begins_behind y) all → filter (begins_behind y) ys ≡ filter (begins_behind y) all
+pub left_step : (y : ℕ) (edge : Edge) (xs ys all : List Edge) → xs ≡ edge ∷ ys → begins_after y edge ≡ false → filter (begins_after y) xs ≡ filter (begins_after y) all → filter (begins_after y) ys ≡ filter (begins_after y) all
 left_step y edge xs ys all first waits so = rw (first, waits) at so

@@ -9,12 +9,12 @@ use Rattle.span_fill.specs.BitRows.{BitRowsState, IsNext, JoinsRows, SetsBits, h
 use Rattle.span_fill.proofs.BitWordLemmas.{is_set, set_in_or}
 
 -- a row ends where the next begins
-row_behind : (i row stride : ℕ) → i < row → i * stride + stride ≤ row * stride
-row_behind i row stride h = let next = mul-le (i + 1) stride row stride (omega arith) (omega arith) in omega (arith, next)
+row_after : (i row stride : ℕ) → i < row → i * stride + stride ≤ row * stride
+row_after i row stride h = let next = mul-le (i + 1) stride row stride (omega arith) (omega arith) in omega (arith, next)
 
 -- the words of a column in a row
 word_in_rows : (x i rows columns stride : ℕ) → columns ≤ 64 * stride → x < columns → i < rows → i * stride + x / 64 < rows * stride
-word_in_rows x i rows columns stride fits within below = let next = row_behind i rows stride below in omega (arith, next)
+word_in_rows x i rows columns stride fits within below = let next = row_after i rows stride below in omega (arith, next)
 
 -- the number of a bit
 numbered : (state : BitRowsState) (x i : ℕ) → has_bit state x i ≡ word_bit state.words (64 * (i * state.stride) + x)
@@ -54,11 +54,11 @@ module _ (x i row from to stride : ℕ) (inside : x < 64 * stride) (within : to 
         rw (there, base) (grind (arith, nat_tests))
     | inr (inl above) ↦
         let apart : (i == row) ≡ false = ne_eqb i row (omega arith) in
-        let next = row_behind i row stride above in
+        let next = row_after i row stride above in
         rw apart (and_left (nat_le (start + from) number) (nat_lt number (start + to)) (lt-leb (start + from) number (omega (arith, next))))
     | inr (inr below) ↦
         let apart : (i == row) ≡ false = ne_eqb i row (omega arith) in
-        let next = row_behind row i stride below in
+        let next = row_after row i stride below in
         rw apart (and_right (nat_le (start + from) number) (nat_lt number (start + to)) (le-ltb number (start + to) (omega (arith, next))))
   ]
 

@@ -150,11 +150,11 @@ module _ (words : List ℕ) (from last n : ℕ) (order : from ≤ last) (within 
         → ((k : ℕ) → from / 64 + 1 ≤ k → k < last / 64 → slice_index_or filled k 0 ≡ 18446744073709551615)
         → ((k : ℕ) → last / 64 ≤ k → slice_index_or filled k 0 ≡ slice_index_or headed k 0)
         → word_bit tailed n ≡ (word_bit words n || (nat_le from n && nat_le n last))
-    several_words first between behind = elim (cases_lt (from / 64) (n / 64)) [
+    several_words first between after = elim (cases_lt (from / 64) (n / 64)) [
       | inr low ↦ in_first low (first (n / 64) (omega arith))
       | inl above ↦ elim (cases_lt (n / 64) (last / 64)) [
         | inl below ↦ in_between above below (between (n / 64) (omega arith) below)
-        | inr high ↦ in_last high (behind (n / 64) high)
+        | inr high ↦ in_last high (after (n / 64) high)
       ]
     ]
 

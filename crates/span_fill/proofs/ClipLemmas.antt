@@ -112,13 +112,13 @@ run_down_exact u0 v0 u1 v1 u v bound distance first on down is exact =
 pub between_rising : (from to low high k : ℕ) (z : ℤ) → (from ≤ k ↔ (pos low ≤ℤ z)) → (to ≤ k ↔ (pos high ≤ℤ z)) →
     ((from ≤ k) × (k < to)) ↔ ((pos low ≤ℤ z) × (z <ℤ pos high))
 between_rising from to low high k z f t = (
-  λ h. (f.0 h.0, by_lt_z z (pos high) (λ (g : z <ℤ pos high). g) (λ (g : pos high ≤ℤ z). let behind = t.1 g in absurd (omega (arith, behind, h.1)))),
+  λ h. (f.0 h.0, by_lt_z z (pos high) (λ (g : z <ℤ pos high). g) (λ (g : pos high ≤ℤ z). let after = t.1 g in absurd (omega (arith, after, h.1)))),
   λ h. (f.1 h.0, by_lt_z (pos k) (pos to) (λ (g : pos k <ℤ pos to). omega (arith, ints, g)) (λ (g : pos to ≤ℤ pos k). let over = t.0 (omega (arith, ints, g)) in absurd (omega (arith, ints, over, h.1)))),
 )
 
 pub between_falling : (from to low high k : ℕ) (z : ℤ) → (from ≤ k ↔ (z <ℤ pos high)) → (to ≤ k ↔ (z <ℤ pos low)) →
     ((from ≤ k) × (k < to)) ↔ ((pos low ≤ℤ z) × (z <ℤ pos high))
 between_falling from to low high k z f t = (
-  λ h. (by_lt_z z (pos low) (λ (g : z <ℤ pos low). let behind = t.1 g in absurd (omega (arith, behind, h.1))) (λ (g : pos low ≤ℤ z). g), f.0 h.0),
+  λ h. (by_lt_z z (pos low) (λ (g : z <ℤ pos low). let after = t.1 g in absurd (omega (arith, after, h.1))) (λ (g : pos low ≤ℤ z). g), f.0 h.0),
   λ h. (f.1 h.1, by_lt_z (pos k) (pos to) (λ (g : pos k <ℤ pos to). omega (arith, ints, g)) (λ (g : pos to ≤ℤ pos k). let under = t.0 (omega (arith, ints, g)) in absurd (omega (arith, ints, under, h.0)))),
 )

@@ -7,7 +7,7 @@ use Rattle.std.proofs.lemmas.Bool.Decides.{nat_tests}
 use Rattle.std.proofs.lemmas.Int.{ints}
 use Rattle.mapping.specs.TestLaws.{by_test, int_le-false, int_le-from, int_le-not, int_le-true, int_lt-false, int_lt-from, int_lt-true, same_test}
 use Rattle.mapping.specs.declared.geometry.Point.{Point}
-use Rattle.span_fill.specs.CrossedRows.{HasCrossedRows, HasRowsBehind, HasRowsTo, IsLastMultiple, IsRowOf, reach_of}
+use Rattle.span_fill.specs.CrossedRows.{HasCrossedRows, HasRowsAfter, HasRowsTo, IsLastMultiple, IsRowOf, reach_of}
 use Rattle.span_fill.specs.Fill.{across, crossing_dividend, down, has_row}
 use Rattle.span_fill.specs.declared.span.Span.{Span}
 use Rattle.span_fill.proofs.FloorLemmas.{floor_least, floor_low}
@@ -19,12 +19,12 @@ last_is_floor a e q h is k =
     same_test (int_le k q) (int_le (k *ℤ e) a)
     (λ t. let low = floor_low a e h in
     let order = order_mul k q e (omega (arith, ints, h)) (int_le-true k q t) in
-    let turned = mul_comm_ℤ q e in
+    let flipped = mul_comm_ℤ q e in
     let floor = ap (λ n. e *ℤ n) is in
-    int_le-from (k *ℤ e) a (omega (arith, ints, low, order, turned, floor)))
+    int_le-from (k *ℤ e) a (omega (arith, ints, low, order, flipped, floor)))
     (λ t. let below = int_le-true (k *ℤ e) a t in
-    let turned = mul_comm_ℤ k e in
-    let least = floor_least a e k h (omega (arith, ints, below, turned)) in
+    let flipped = mul_comm_ℤ k e in
+    let least = floor_least a e k h (omega (arith, ints, below, flipped)) in
     int_le-from k q (omega (arith, ints, least, is)))
 
 -- a test that holds in each row of a line adds nothing, and one that fails leaves none
@@ -54,8 +54,8 @@ within_reach upper lower x y =
     let apart = sub_mul (pos (2 * x + 1)) (pos 2 *ℤ upper.x) d in
     let one = twice_mul upper.x d in
     let other = twice_mul d upper.x in
-    let turned = mul_comm_ℤ d upper.x in
-    omega (arith, ints, apart, one, other, turned)
+    let flipped = mul_comm_ℤ d upper.x in
+    omega (arith, ints, apart, one, other, flipped)
 
 -- the way across, by whole rows below the upper end
 way_by_rows : (upper lower : Point) (y : ℕ) → (pos (2 * y + 1) -ℤ pos 2 *ℤ upper.y) *ℤ across upper lower ≡ (pos y -ℤ upper.y) *ℤ (pos 2 *ℤ across upper lower) +ℤ across upper lower
@@ -91,18 +91,18 @@ left_turn upper lower x y last turn =
     let reach = within_reach upper lower x y in
     let way = way_by_rows upper lower y in
     let whole : pos 2 *ℤ (pos 0 -ℤ v) ≡ neg_ℤ (pos 2 *ℤ v) = omega (arith, ints) in
-    let turned = ap (λ n. k *ℤ n) whole ∙ mul_neg k (pos 2 *ℤ v) in
+    let flipped = ap (λ n. k *ℤ n) whole ∙ mul_neg k (pos 2 *ℤ v) in
     let test = turn k in
     let a = k *ℤ (pos 2 *ℤ (pos 0 -ℤ v)) in
     let b = v -ℤ reach_of upper lower x -ℤ pos 1 in
     let c = crossing_dividend upper lower y in
     let d = pos (2 * x + 1) *ℤ down upper lower in
     same_test (int_lt last k) (int_le c d)
-    (λ t. let behind = int_lt-true last k t in
-    let above = int_le-false a b (sym test ∙ int_le-not k last (λ h. omega (arith, ints, h, behind))) in
-    int_le-from c d (omega (arith, ints, above, turned, reach, way)))
+    (λ t. let after = int_lt-true last k t in
+    let above = int_le-false a b (sym test ∙ int_le-not k last (λ h. omega (arith, ints, h, after))) in
+    int_le-from c d (omega (arith, ints, above, flipped, reach, way)))
     (λ t. let below = int_le-true c d t in
-    let above = int_le-false k last (test ∙ int_le-not a b (λ h. omega (arith, ints, h, below, turned, reach, way))) in
+    let above = int_le-false k last (test ∙ int_le-not a b (λ h. omega (arith, ints, h, below, flipped, reach, way))) in
     int_lt-from last k above)
 
 -- a line that runs straight down is crossed in all its rows or in none
@@ -120,10 +120,10 @@ straight upper lower x y none =
 pub crossed_right : (upper lower : Point) (x : ℕ) (last : ℤ) (rows : Span) → IsLastMultiple (reach_of upper lower x -ℤ across upper lower) (pos 2 *ℤ across upper lower) last → HasRowsTo upper lower last rows → HasCrossedRows upper lower x rows
 crossed_right upper lower x last rows turn are y h = are y h ∙ ap (λ t. has_row upper lower y && t) (right_turn upper lower x y last turn)
 
-pub crossed_left : (upper lower : Point) (x : ℕ) (last : ℤ) (rows : Span) → IsLastMultiple (across upper lower -ℤ reach_of upper lower x -ℤ pos 1) (pos 2 *ℤ (pos 0 -ℤ across upper lower)) last → HasRowsBehind upper lower last rows → HasCrossedRows upper lower x rows
+pub crossed_left : (upper lower : Point) (x : ℕ) (last : ℤ) (rows : Span) → IsLastMultiple (across upper lower -ℤ reach_of upper lower x -ℤ pos 1) (pos 2 *ℤ (pos 0 -ℤ across upper lower)) last → HasRowsAfter upper lower last rows → HasCrossedRows upper lower x rows
 crossed_left upper lower x last rows turn are y h = are y h ∙ ap (λ t. has_row upper lower y && t) (left_turn upper lower x y last turn)
 
-pub crossed_always : (upper lower : Point) (x : ℕ) (rows : Span) → across upper lower ≡ pos 0 → pos 0 ≤ℤ reach_of upper lower x → HasRowsBehind upper lower (negsuc 0) rows → HasCrossedRows upper lower x rows
+pub crossed_always : (upper lower : Point) (x : ℕ) (rows : Span) → across upper lower ≡ pos 0 → pos 0 ≤ℤ reach_of upper lower x → HasRowsAfter upper lower (negsuc 0) rows → HasCrossedRows upper lower x rows
 crossed_always upper lower x rows none reach are y h =
     let test = straight upper lower x y none ∙ int_le-from (pos 0) (reach_of upper lower x) reach in
     are y h ∙ row_test upper.y lower.y (pos y) (int_lt (negsuc 0) (pos y -ℤ upper.y)) (λ low. int_lt-from (negsuc 0) (pos y -ℤ upper.y) (omega (arith, ints, low))) ∙ ap (λ t. has_row upper lower y && t) (sym test)
@@ -172,6 +172,6 @@ rows_past u l last m y is low high =
     (λ t. let p = and_parts _ _ t in
     let q = and_parts _ _ p.0 in
     let above = int_le-true u y q.0 in
-    let behind = int_lt-true last (y -ℤ u) p.1 in
-    let under : m ≤ℤ y = reached m u (u +ℤ last +ℤ pos 1) (λ n. n ≤ℤ y) (int_lt (u +ℤ last +ℤ pos 1) u) is above (omega (arith, ints, behind)) in
+    let after = int_lt-true last (y -ℤ u) p.1 in
+    let under : m ≤ℤ y = reached m u (u +ℤ last +ℤ pos 1) (λ n. n ≤ℤ y) (int_lt (u +ℤ last +ℤ pos 1) u) is above (omega (arith, ints, after)) in
     and_from _ _ (int_le-from m y under) q.1)

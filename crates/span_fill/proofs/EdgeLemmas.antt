@@ -68,16 +68,16 @@ floor_within n a e h k =
 pub rest_bounds : (a e : ℤ) → pos 1 ≤ℤ e → (pos 0 ≤ℤ remainder_of a e) × (remainder_of a e <ℤ e)
 rest_bounds a e h =
     let is = ap (λ q. q *ℤ e) (floor_positive a e h) in
-    let turned = mul_comm_ℤ (int_div_euclid a e) e in
+    let flipped = mul_comm_ℤ (int_div_euclid a e) e in
     let low = floor_low a e h in
     let high = floor_high a e h in
-    (omega (arith, ints, is, turned, low), omega (arith, ints, is, turned, high))
+    (omega (arith, ints, is, flipped, low), omega (arith, ints, is, flipped, high))
 
 -- the floor and the rest are the only such numbers
 pub floor_and_rest : (a e q r : ℤ) → pos 1 ≤ℤ e → a ≡ q *ℤ e +ℤ r → pos 0 ≤ℤ r → r <ℤ e → (floor_div a e ≡ q) × (remainder_of a e ≡ r)
 floor_and_rest a e q r h is low high =
-    let turned = mul_comm_ℤ q e in
-    let floor : floor_div a e ≡ q = floor_positive a e h ∙ floor_one a e q h (omega (arith, ints, is, turned, low)) (omega (arith, ints, is, turned, high)) in
+    let flipped = mul_comm_ℤ q e in
+    let floor : floor_div a e ≡ q = floor_positive a e h ∙ floor_one a e q h (omega (arith, ints, is, flipped, low)) (omega (arith, ints, is, flipped, high)) in
     let times = ap (λ n. n *ℤ e) floor in
     (floor, omega (arith, ints, times, is))
 
@@ -179,9 +179,9 @@ can_move edge y h row =
     }
 
 -- a column, where a number that may lie outside of all columns is to be crossed
-column_tells : (place : ℤ) (x : ℕ) → x < 8192 → nat_le (near_column place) x ≡ int_le place (pos x)
-column_tells (pos n) x h = grind (arith, ints, nat_tests)
-column_tells (negsuc n) x h = grind (arith, ints, nat_tests)
+column_reports : (place : ℤ) (x : ℕ) → x < 8192 → nat_le (near_column place) x ≡ int_le place (pos x)
+column_reports (pos n) x h = grind (arith, ints, nat_tests)
+column_reports (negsuc n) x h = grind (arith, ints, nat_tests)
 
 odd_times : (x : ℕ) (d : ℤ) → pos (2 * x + 1) *ℤ d ≡ pos 2 *ℤ (pos x *ℤ d) +ℤ d
 odd_times x d =
@@ -196,15 +196,15 @@ same_tests : (a b c d : ℤ) → (a ≤ℤ b → c ≤ℤ d) → (c ≤ℤ d →
 same_tests a b c d there back = same_test _ _ (λ t. int_le-from c d (there (int_le-true a b t))) (λ t. int_le-from a b (back (int_le-true c d t)))
 
 -- the floor of what is half a divisor more, but for 1, is the first column that is not before
-floor_tells : (d a q r : ℤ) (x : ℕ) → pos 1 ≤ℤ d → (a +ℤ d -ℤ pos 1) ≡ q *ℤ (pos 2 *ℤ d) +ℤ r → pos 0 ≤ℤ r → r <ℤ (pos 2 *ℤ d) → int_le q (pos x) ≡ int_le a (pos (2 * x + 1) *ℤ d)
-floor_tells d a q r x positive is low high =
+floor_reports : (d a q r : ℤ) (x : ℕ) → pos 1 ≤ℤ d → (a +ℤ d -ℤ pos 1) ≡ q *ℤ (pos 2 *ℤ d) +ℤ r → pos 0 ≤ℤ r → r <ℤ (pos 2 *ℤ d) → int_le q (pos x) ≡ int_le a (pos (2 * x + 1) *ℤ d)
+floor_reports d a q r x positive is low high =
     let twice = mul_twice q d in
     let odd = odd_times x d in
-    let turned = mul_comm_ℤ q d in
-    let turned_x = mul_comm_ℤ (pos x) d in
+    let flipped = mul_comm_ℤ q d in
+    let flipped_x = mul_comm_ℤ (pos x) d in
     same_tests q (pos x) a (pos (2 * x + 1) *ℤ d)
     (λ h. let e = order_mul q (pos x) d (omega (arith, ints, positive)) h in omega (arith, ints, is, twice, odd, e, high))
-    (λ h. mul_order_back d q (pos x) positive (omega (arith, ints, is, twice, odd, h, low, turned, turned_x, positive)))
+    (λ h. mul_order_back d q (pos x) positive (omega (arith, ints, is, twice, odd, h, low, flipped, flipped_x, positive)))
 
 -- an edge's column tells where it is crossed
 pub column_crossed : (edge : Edge) (y x : ℕ) → IsEdge edge → x < 8192 → nat_le (column_of (active_at y edge)) x ≡ int_le (crossing_dividend edge.upper edge.lower y) (pos (2 * x + 1) *ℤ down edge.upper edge.lower)
@@ -212,4 +212,4 @@ column_crossed edge y x h below =
     let order = h.order in
     let rest = rest_bounds (column_dividend edge.upper edge.lower y) (crossing_divisor edge.upper edge.lower) (divisor_low edge h) in
     let parts = parts_of (column_dividend edge.upper edge.lower y) (crossing_divisor edge.upper edge.lower) in
-    column_tells _ x below ∙ floor_tells (down edge.upper edge.lower) (crossing_dividend edge.upper edge.lower y) _ _ x (omega (arith, ints, order)) parts rest.0 rest.1
+    column_reports _ x below ∙ floor_reports (down edge.upper edge.lower) (crossing_dividend edge.upper edge.lower y) _ _ x (omega (arith, ints, order)) parts rest.0 rest.1

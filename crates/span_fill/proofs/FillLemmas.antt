@@ -10,7 +10,7 @@ use Rattle.std.proofs.lemmas.List.Recursion.{is_sum_by}
 use Rattle.std.proofs.lemmas.List.Sorted.{All-permutation, IsPermutation-append, IsPermutation-map, IsPermutation-trans, sum_by-IsPermutation}
 use Rattle.mapping.specs.TestLaws.{int_le-true, int_lt-false, int_lt-true}
 use Rattle.mapping.specs.declared.geometry.Point.{Point}
-use Rattle.span_fill.specs.Edges.{EdgeCanMove, IsEdge, active_at, active_edges, begins_behind, begins_by, column_of, crosses_row, edges_from, edges_of_line, ends_behind, edge_first_row, goes_to, moved, near_row}
+use Rattle.span_fill.specs.Edges.{EdgeCanMove, IsEdge, active_at, active_edges, begins_after, begins_by, column_of, crosses_row, edges_from, edges_of_line, ends_after, edge_first_row, goes_to, moved, near_row}
 use Rattle.span_fill.specs.Fill.{crossed_downwards, crossed_upwards, has_row, in_fill, is_crossed, is_inside}
 use Rattle.span_fill.specs.Lines.{HasNearEnds}
 use Rattle.span_fill.specs.Sweep.{CrossFrom, AreSorted, downwards_at, upwards_at}
@@ -26,13 +26,13 @@ by_row : (v : ℤ) (y : ℕ) → int_le v (pos y) ≡ nat_le (near_row v) y
 by_row (pos n) y = grind (arith, ints, nat_tests)
 by_row (negsuc n) y = grind (arith, ints, nat_tests)
 
-behind_row : (v : ℤ) (y : ℕ) → int_lt (pos y) v ≡ nat_lt y (near_row v)
-behind_row (pos n) y = grind (arith, ints, nat_tests)
-behind_row (negsuc n) y = grind (arith, ints, nat_tests)
+after_row : (v : ℤ) (y : ℕ) → int_lt (pos y) v ≡ nat_lt y (near_row v)
+after_row (pos n) y = grind (arith, ints, nat_tests)
+after_row (negsuc n) y = grind (arith, ints, nat_tests)
 
 -- an edge crosses a row where it has begun and doesn't end
-crosses_is : (y : ℕ) (edge : Edge) → crosses_row y edge ≡ (begins_by y edge && ends_behind y edge)
-crosses_is y edge = ap (λ t. t && int_lt (pos y) edge.lower.y) (by_row edge.upper.y y) ∙ ap (λ t. begins_by y edge && t) (behind_row edge.lower.y y)
+crosses_is : (y : ℕ) (edge : Edge) → crosses_row y edge ≡ (begins_by y edge && ends_after y edge)
+crosses_is y edge = ap (λ t. t && int_lt (pos y) edge.lower.y) (by_row edge.upper.y y) ∙ ap (λ t. begins_by y edge && t) (after_row edge.lower.y y)
 
 -- an edge that begins below the first row ends below its first one
 row_order : (u v : ℤ) → u <ℤ v → 0 < near_row u → near_row u < near_row v
@@ -41,10 +41,10 @@ row_order (pos n) (negsuc m) h k = absurd (omega (arith, ints, h))
 row_order (negsuc n) v h k = absurd (omega (arith, k))
 
 -- of an edge that ends behind a row: it crosses the row where it has begun, and else waits
-crosses_twice : (y : ℕ) (edge : Edge) → crosses_row y edge ≡ (ends_behind y edge && begins_by y edge)
+crosses_twice : (y : ℕ) (edge : Edge) → crosses_row y edge ≡ (ends_after y edge && begins_by y edge)
 crosses_twice y edge = let e = crosses_is y edge in grind (arith, nat_tests)
 
-waits_twice : (y : ℕ) (edge : Edge) → IsEdge edge → begins_behind y edge ≡ (ends_behind y edge && begins_behind y edge)
+waits_twice : (y : ℕ) (edge : Edge) → IsEdge edge → begins_after y edge ≡ (ends_after y edge && begins_after y edge)
 waits_twice y edge h =
     elim (cases_lt y (edge_first_row edge)) [
       | inl k ↦ let order = row_order edge.upper.y edge.lower.y h.order (omega (arith, k)) in grind (arith, nat_tests)
@@ -52,26 +52,26 @@ waits_twice y edge h =
     ]
 
 -- an edge that waits still waits, or begins
-waits_next : (y z : ℕ) (edge : Edge) → z ≡ y + 1 → begins_behind z edge ≡ (begins_behind y edge && begins_behind z edge)
+waits_next : (y z : ℕ) (edge : Edge) → z ≡ y + 1 → begins_after z edge ≡ (begins_after y edge && begins_after z edge)
 waits_next y z edge e = grind (arith, nat_tests)
 
 -- an edge crosses the next row if it crossed this one and doesn't end, or if it waited and begins
-splits_next : (y z : ℕ) (edge : Edge) → z ≡ y + 1 → IsEdge edge → Splits (crosses_row z edge) (crosses_row y edge && ends_behind z edge) (begins_behind y edge && begins_by z edge)
+splits_next : (y z : ℕ) (edge : Edge) → z ≡ y + 1 → IsEdge edge → Splits (crosses_row z edge) (crosses_row y edge && ends_after z edge) (begins_after y edge && begins_by z edge)
 splits_next y z edge e h =
     let now_ = crosses_is y edge in
     let next = crosses_is z edge in
     elim (cases_lt y (edge_first_row edge)) [
       | inl k ↦ let order = row_order edge.upper.y edge.lower.y h.order (omega (arith, k)) in
-          by_second (next ∙ grind (arith, nat_tests)) (ap (λ t. t && ends_behind z edge) now_ ∙ grind (arith, nat_tests))
-      | inr k ↦ by_first (next ∙ sym (ap (λ t. t && ends_behind z edge) now_ ∙ grind (arith, nat_tests))) (grind (arith, nat_tests))
+          by_second (next ∙ grind (arith, nat_tests)) (ap (λ t. t && ends_after z edge) now_ ∙ grind (arith, nat_tests))
+      | inr k ↦ by_first (next ∙ sym (ap (λ t. t && ends_after z edge) now_ ∙ grind (arith, nat_tests))) (grind (arith, nat_tests))
     ]
 
 -- what edges still cross, of those that crossed
-goes_on : (y z : ℕ) (edges : List Edge) → filter (goes_to z) (map (active_at y) edges) ≡ map (active_at y) (filter (ends_behind z) edges)
+goes_on : (y z : ℕ) (edges : List Edge) → filter (goes_to z) (map (active_at y) edges) ≡ map (active_at y) (filter (ends_after z) edges)
 goes_on y z [] = refl
 goes_on y z (edge ∷ edges) =
     let rest = goes_on y z edges in
-    elim (cases_Bool (ends_behind z edge)) [
+    elim (cases_Bool (ends_after z edge)) [
       | inl t ↦ rw t (ap (λ es. active_at y edge ∷ es) rest)
       | inr f ↦ rw f rest
     ]
@@ -79,8 +79,8 @@ goes_on y z (edge ∷ edges) =
 moved_edges : (y z : ℕ) (edges : List Edge) → z ≡ y + 1 → All IsEdge edges → map moved (map (active_at y) edges) ≡ map (active_at z) edges
 moved_edges y z [] e h = refl
 moved_edges y z (edge ∷ edges) e h =
-    let turned : suc y ≡ z = omega (arith, e) in
-    let first = moved_is_next edge y (All-head IsEdge edge edges h) ∙ ap (λ n. active_at n edge) turned in
+    let flipped : suc y ≡ z = omega (arith, e) in
+    let first = moved_is_next edge y (All-head IsEdge edge edges h) ∙ ap (λ n. active_at n edge) flipped in
     let rest = moved_edges y z edges e (All-tail IsEdge edge edges h) in
     ap (λ e. e ∷ map moved (map (active_at y) edges)) first ∙ ap (λ es. active_at z edge ∷ es) rest
 
@@ -94,16 +94,16 @@ for_all P [] h = All-nil P
 for_all P (edge ∷ edges) h = All-cons P edge edges (h edge) (for_all P edges h)
 
 -- the edges that cross the next row: those that still do, and those that begin
-pub next_active : (y z : ℕ) (edges waiting : List Edge) (active next : List ActiveEdge) → z ≡ y + 1 → All IsEdge edges → IsPermutation (active_edges y edges) active → IsPermutation (filter (begins_behind y) edges) waiting → next ≡ map moved (filter (goes_to z) active) ++ map (active_at z) (filter (begins_by z) waiting) → IsPermutation (active_edges z edges) next
+pub next_active : (y z : ℕ) (edges waiting : List Edge) (active next : List ActiveEdge) → z ≡ y + 1 → All IsEdge edges → IsPermutation (active_edges y edges) active → IsPermutation (filter (begins_after y) edges) waiting → next ≡ map moved (filter (goes_to z) active) ++ map (active_at z) (filter (begins_by z) waiting) → IsPermutation (active_edges z edges) next
 next_active y z edges waiting active next e near so wait is =
-    let still = filter (λ e. crosses_row y e && ends_behind z e) edges in
-    let begun = filter (λ e. begins_behind y e && begins_by z e) edges in
-    let split = filter_split (crosses_row z) (λ e. crosses_row y e && ends_behind z e) (λ e. begins_behind y e && begins_by z e) edges (All-weaker IsEdge (λ e. Splits (crosses_row z e) (crosses_row y e && ends_behind z e) (begins_behind y e && begins_by z e)) (λ edge. splits_next y z edge e) edges near) in
+    let still = filter (λ e. crosses_row y e && ends_after z e) edges in
+    let begun = filter (λ e. begins_after y e && begins_by z e) edges in
+    let split = filter_split (crosses_row z) (λ e. crosses_row y e && ends_after z e) (λ e. begins_after y e && begins_by z e) edges (All-weaker IsEdge (λ e. Splits (crosses_row z e) (crosses_row y e && ends_after z e) (begins_after y e && begins_by z e)) (λ edge. splits_next y z edge e) edges near) in
     let both = IsPermutation-map (active_at z) _ _ split in
-    let goes = goes_on y z (filter (crosses_row y) edges) ∙ ap (map (active_at y)) (filter_both (crosses_row y) (ends_behind z) edges) in
-    let on = ap (map moved) goes ∙ moved_edges y z still e (All-filter (λ e. crosses_row y e && ends_behind z e) IsEdge edges near) in
+    let goes = goes_on y z (filter (crosses_row y) edges) ∙ ap (map (active_at y)) (filter_both (crosses_row y) (ends_after z) edges) in
+    let on = ap (map moved) goes ∙ moved_edges y z still e (All-filter (λ e. crosses_row y e && ends_after z e) IsEdge edges near) in
     let first = IsPermutation-map moved _ _ (IsPermutation-filter (goes_to z) _ _ so) in
-    let begin = filter_both (begins_behind y) (begins_by z) edges in
+    let begin = filter_both (begins_after y) (begins_by z) edges in
     let second = IsPermutation-map (active_at z) _ _ (IsPermutation-filter (begins_by z) _ _ wait) in
     let parts = IsPermutation-append _ _ _ _ first second in
     IsPermutation-trans _ _ _ both
@@ -111,24 +111,24 @@ next_active y z edges waiting active next e near so wait is =
     (IsPermutation-trans _ _ _ parts (IsPermutation-same _ _ (sym is))))
 
 -- and those that wait
-pub next_waiting : (y z : ℕ) (edges waiting next : List Edge) → z ≡ y + 1 → IsPermutation (filter (begins_behind y) edges) waiting → next ≡ filter (begins_behind z) waiting → IsPermutation (filter (begins_behind z) edges) next
+pub next_waiting : (y z : ℕ) (edges waiting next : List Edge) → z ≡ y + 1 → IsPermutation (filter (begins_after y) edges) waiting → next ≡ filter (begins_after z) waiting → IsPermutation (filter (begins_after z) edges) next
 next_waiting y z edges waiting next e wait is =
-    let twice = filter_twice (begins_behind y) (begins_behind z) (begins_behind z) edges (for_all _ edges (λ edge. waits_next y z edge e)) in
+    let twice = filter_twice (begins_after y) (begins_after z) (begins_after z) edges (for_all _ edges (λ edge. waits_next y z edge e)) in
     IsPermutation-trans _ _ _ (IsPermutation-same _ _ (sym twice))
-    (IsPermutation-trans _ _ _ (IsPermutation-filter (begins_behind z) _ _ wait) (IsPermutation-same _ _ (sym is)))
+    (IsPermutation-trans _ _ _ (IsPermutation-filter (begins_after z) _ _ wait) (IsPermutation-same _ _ (sym is)))
 
 -- the edges that cross the first row, of those that end behind it
-pub first_active : (y : ℕ) (edges waiting : List Edge) (active : List ActiveEdge) → IsPermutation (filter (ends_behind y) edges) waiting → active ≡ map (active_at y) (filter (begins_by y) waiting) → IsPermutation (active_edges y edges) active
+pub first_active : (y : ℕ) (edges waiting : List Edge) (active : List ActiveEdge) → IsPermutation (filter (ends_after y) edges) waiting → active ≡ map (active_at y) (filter (begins_by y) waiting) → IsPermutation (active_edges y edges) active
 first_active y edges waiting active wait is =
-    let twice = filter_twice (ends_behind y) (begins_by y) (crosses_row y) edges (for_all _ edges (crosses_twice y)) in
+    let twice = filter_twice (ends_after y) (begins_by y) (crosses_row y) edges (for_all _ edges (crosses_twice y)) in
     IsPermutation-trans _ _ _ (IsPermutation-same _ _ (ap (map (active_at y)) (sym twice)))
     (IsPermutation-trans _ _ _ (IsPermutation-map (active_at y) _ _ (IsPermutation-filter (begins_by y) _ _ wait)) (IsPermutation-same _ _ (sym is)))
 
-pub first_waiting : (y : ℕ) (edges waiting next : List Edge) → All IsEdge edges → IsPermutation (filter (ends_behind y) edges) waiting → next ≡ filter (begins_behind y) waiting → IsPermutation (filter (begins_behind y) edges) next
+pub first_waiting : (y : ℕ) (edges waiting next : List Edge) → All IsEdge edges → IsPermutation (filter (ends_after y) edges) waiting → next ≡ filter (begins_after y) waiting → IsPermutation (filter (begins_after y) edges) next
 first_waiting y edges waiting next near wait is =
-    let twice = filter_twice (ends_behind y) (begins_behind y) (begins_behind y) edges (All-weaker IsEdge (λ e. begins_behind y e ≡ (ends_behind y e && begins_behind y e)) (waits_twice y) edges near) in
+    let twice = filter_twice (ends_after y) (begins_after y) (begins_after y) edges (All-weaker IsEdge (λ e. begins_after y e ≡ (ends_after y e && begins_after y e)) (waits_twice y) edges near) in
     IsPermutation-trans _ _ _ (IsPermutation-same _ _ (sym twice))
-    (IsPermutation-trans _ _ _ (IsPermutation-filter (begins_behind y) _ _ wait) (IsPermutation-same _ _ (sym is)))
+    (IsPermutation-trans _ _ _ (IsPermutation-filter (begins_after y) _ _ wait) (IsPermutation-same _ _ (sym is)))
 
 -- the numbers of those that cross leave room for the next row
 pub all_can_move : (y : ℕ) (edges : List Edge) (active : List ActiveEdge) → All IsEdge edges → y ≤ 8192 → IsPermutation (active_edges y edges) active → All EdgeCanMove active

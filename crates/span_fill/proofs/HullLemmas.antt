@@ -48,10 +48,10 @@ fall_hull u0 v0 u1 v1 u v on falls =
     let fall : (v1 -ℤ v0) ≤ℤ pos 0 = omega (arith, ints, falls) in
     let fallen = mul_order (pos (far u0 u)) (v1 -ℤ v0) (pos 0) (omega (arith, ints)) fall in
     let opposite : pos 0 ≤ℤ (v0 -ℤ v1) = omega (arith, ints, falls) in
-    let turned : v1 -ℤ v0 ≡ neg_ℤ (v0 -ℤ v1) = omega (arith, ints) in
+    let flipped : v1 -ℤ v0 ≡ neg_ℤ (v0 -ℤ v1) = omega (arith, ints) in
     let deepest = order_mul (pos (far u0 u)) (pos (far u0 u1)) (v0 -ℤ v1) opposite (omega (arith, ints, within)) in
-    let step_sign : pos (far u0 u) *ℤ (v1 -ℤ v0) ≡ neg_ℤ (pos (far u0 u) *ℤ (v0 -ℤ v1)) = ap (λ n. pos (far u0 u) *ℤ n) turned ∙ mul_neg (pos (far u0 u)) (v0 -ℤ v1) in
-    let whole_sign : pos (far u0 u1) *ℤ (v1 -ℤ v0) ≡ neg_ℤ (pos (far u0 u1) *ℤ (v0 -ℤ v1)) = ap (λ n. pos (far u0 u1) *ℤ n) turned ∙ mul_neg (pos (far u0 u1)) (v0 -ℤ v1) in
+    let step_sign : pos (far u0 u) *ℤ (v1 -ℤ v0) ≡ neg_ℤ (pos (far u0 u) *ℤ (v0 -ℤ v1)) = ap (λ n. pos (far u0 u) *ℤ n) flipped ∙ mul_neg (pos (far u0 u)) (v0 -ℤ v1) in
+    let whole_sign : pos (far u0 u1) *ℤ (v1 -ℤ v0) ≡ neg_ℤ (pos (far u0 u1) *ℤ (v0 -ℤ v1)) = ap (λ n. pos (far u0 u1) *ℤ n) flipped ∙ mul_neg (pos (far u0 u1)) (v0 -ℤ v1) in
     let greatest = mul_order_back (pos (far u0 u1)) (v -ℤ v0) (pos 0) some (omega (arith, ints, low, fallen, some, *ℤ-zero (pos (far u0 u1)), *ℤ-zero (pos (far u0 u)))) in
     let least = mul_order_back (pos (far u0 u1)) (v1 -ℤ v0) (v -ℤ v0) some (omega (arith, ints, high, deepest, step_sign, whole_sign, some)) in
     (omega (arith, ints, least), omega (arith, ints, greatest))

@@ -4,7 +4,7 @@ use Rattle.std.specs.List.Sorted.{IsNonDecreasingBy}
 use Rattle.std.proofs.lemmas.Bool.{cases_lt, le-ltb}
 use Rattle.std.proofs.lemmas.Bool.Decides.{nat_tests}
 use Rattle.std.proofs.lemmas.List.{at_drop_more}
-use Rattle.span_fill.specs.Joining.{BeginFrom, AreInOrder, column_behind, joined}
+use Rattle.span_fill.specs.Joining.{BeginFrom, AreInOrder, column_after, joined}
 use Rattle.span_fill.specs.Spans.{AreApart, AreRow, in_span, in_spans}
 use Rattle.span_fill.specs.Sweep.{ended_spans, is_part, longer_run}
 use Rattle.span_fill.specs.declared.span.Span.{Span}
@@ -27,7 +27,7 @@ none_before column (part ∷ parts) x h l = let rest = none_before column parts 
 
 -- what a part adds behind the run
 part_adds : (part run : Span) (end x : ℕ) (others : Bool) → run.from ≤ run.to → x < end → (x < part.from → others ≡ false) →
-    ((in_span run x || (is_part true (column_behind run part.from end) (column_behind run part.to end) && (nat_le (column_behind run part.from end) x && nat_lt x (column_behind run part.to end)))) || (nat_le (longer_run true run (column_behind run part.from end) (column_behind run part.to end)).to x && others))
+    ((in_span run x || (is_part true (column_after run part.from end) (column_after run part.to end) && (nat_le (column_after run part.from end) x && nat_lt x (column_after run part.to end)))) || (nat_le (longer_run true run (column_after run part.from end) (column_after run part.to end)).to x && others))
     ≡ (in_span run x || (nat_le run.to x && (in_span part x || others)))
 part_adds part run end x others h l before =
     elim (cases_lt x part.from) [
@@ -38,8 +38,8 @@ part_adds part run end x others h l before =
 pub joined_exact : (end : ℕ) (parts : List Span) (run : Span) → AreInOrder parts → run.from ≤ run.to → run.to ≤ end → (x : ℕ) → x < end → in_spans (joined end parts run) x ≡ (in_span run x || (nat_le run.to x && in_spans parts x))
 joined_exact end [] run order h k x l = in_run run x ∙ grind (arith, nat_tests)
 joined_exact end (part ∷ parts) run order h k x l =
-    let from = column_behind run part.from end in
-    let to = column_behind run part.to end in
+    let from = column_after run part.from end in
+    let to = column_after run part.to end in
     let a = in_spans-append (ended_spans true run from to) (joined end parts (longer_run true run from to)) x in
     let run_order : (longer_run true run from to).from ≤ (longer_run true run from to).to = grind (arith, nat_tests) in
     let run_end : (longer_run true run from to).to ≤ end = grind (arith, nat_tests) in
@@ -54,12 +54,12 @@ joined_exact end (part ∷ parts) run order h k x l =
 pub joined_apart : (end : ℕ) (parts : List Span) (run : Span) → run.from ≤ run.to → run.to ≤ end → AreApart run.from end (joined end parts run)
 joined_apart end [] run h k = last_apart run end h k
 joined_apart end (part ∷ parts) run h k =
-    elim (cases_lt (column_behind run part.from end) (column_behind run part.to end)) [
+    elim (cases_lt (column_after run part.from end) (column_after run part.to end)) [
       | inl g ↦
-          let order = longer_order true run (column_behind run part.from end) (column_behind run part.to end) h (omega arith) (omega (arith, g)) in
-          part_apart true run (column_behind run part.from end) (column_behind run part.to end) end _ h (omega arith) (omega (arith, g)) (omega arith) (joined_apart end parts (longer_run true run (column_behind run part.from end) (column_behind run part.to end)) order.0 (omega (arith, order.1)))
+          let order = longer_order true run (column_after run part.from end) (column_after run part.to end) h (omega arith) (omega (arith, g)) in
+          part_apart true run (column_after run part.from end) (column_after run part.to end) end _ h (omega arith) (omega (arith, g)) (omega arith) (joined_apart end parts (longer_run true run (column_after run part.from end) (column_after run part.to end)) order.0 (omega (arith, order.1)))
       | inr g ↦
-          let t : nat_lt (column_behind run part.from end) (column_behind run part.to end) ≡ false = le-ltb (column_behind run part.from end) (column_behind run part.to end) g in
+          let t : nat_lt (column_after run part.from end) (column_after run part.to end) ≡ false = le-ltb (column_after run part.from end) (column_after run part.to end) g in
           rw t (joined_apart end parts run h k)
     ]
 
@@ -81,7 +81,7 @@ no_parts [] interval spans is none = rw is (record { apart = tt; exact = λ x h 
 no_parts (part ∷ parts) interval spans is none = absurd (omega (arith, none))
 
 -- a step over one part, as the loop makes it
-pub joined_step : (end : ℕ) (parts : List Span) (i : ℕ) (run run' : Span) (d : Span) (before now_ total : List Span) (from to : ℕ) → i < length parts → from ≡ column_behind run (get_or parts i d).from end → to ≡ column_behind run (get_or parts i d).to end → run' ≡ longer_run true run from to → now_ ≡ before ++ ended_spans true run from to → before ++ joined end (drop i parts) run ≡ total → now_ ++ joined end (drop (i + 1) parts) run' ≡ total
+pub joined_step : (end : ℕ) (parts : List Span) (i : ℕ) (run run' : Span) (d : Span) (before now_ total : List Span) (from to : ℕ) → i < length parts → from ≡ column_after run (get_or parts i d).from end → to ≡ column_after run (get_or parts i d).to end → run' ≡ longer_run true run from to → now_ ≡ before ++ ended_spans true run from to → before ++ joined end (drop i parts) run ≡ total → now_ ++ joined end (drop (i + 1) parts) run' ≡ total
 joined_step end parts i run run' d before now_ total from to h from_is to_is run_is now_is total_is =
     let step = at_drop_more (λ ps. joined end ps run) parts i d h in
     rw (now_is, run_is, from_is, to_is, append_assoc) (ap (λ xs. before ++ xs) (sym step) ∙ total_is)

@@ -7,14 +7,14 @@ use Rattle.std.proofs.lemmas.List.Elements.{All-head, All-tail, All-weaker}
 use Rattle.mapping.specs.declared.geometry.Point.{Point}
 use Rattle.mapping.specs.declared.geometry.Rect.{Rect}
 use Rattle.span_fill.specs.Fill.{crossed_downwards, crossed_upwards, crossing_dividend, down, has_row, in_fill, is_crossed, is_inside}
-use Rattle.span_fill.specs.Strokes.{in_stroke, is_along, is_steep, is_towards, on_line}
+use Rattle.span_fill.specs.Strokes.{in_stroke, is_along, is_y_major, is_towards, on_line}
 use Rattle.span_fill.specs.declared.fill_rule.FillRule.{FillRule}
 use Rattle.span_fill.specs.declared.fill_rule.FillRule.TheVariants.{EvenOdd, NonZero}
 use Rattle.span_fill.specs.declared.line.Line.{Line}
 use Rattle.span_fill.proofs.HullLemmas.{fall_hull, rise_hull}
 use Rattle.span_fill.specs.RowLaws.{LiesBetween}
 use Rattle.span_fill.proofs.RowLawLemmas.{row_law}
-use Rattle.span_fill.proofs.LineLaw.{by_axis, on_flat, on_steep}
+use Rattle.span_fill.proofs.LineLaw.{by_axis, on_x_major, on_y_major}
 use Rattle.span_fill.proofs.Products.{mul_add, mul_comm_ℤ, mul_one, mul_order, mul_sub, mul_twice, sub_mul, twice_mul}
 use Rattle.span_fill.proofs.StepLemmas.{along_parts, by_towards}
 use Rattle.mapping.specs.Boxes.{HasPoint}
@@ -59,14 +59,14 @@ in_rows box point h = record { least = h.top; most = h.bottom }
 pub on_line_has : (box : Rect) (line : Line) (x y : ℤ) → HasLine box line → on_line line x y ≡ true → HasPoint box (record { x = x; y = y })
 on_line_has box line x y h t =
     by_axis line
-    (λ (e : is_steep line ≡ true).
-    let on = sym (on_steep line x y e) ∙ t in
+    (λ (e : is_y_major line ≡ true).
+    let on = sym (on_y_major line x y e) ∙ t in
     let towards = (along_parts line.from.y line.from.x line.to.y line.to.x y x on).0 in
     let row = towards_lies box.t box.b line.from.y line.to.y y (in_rows box line.from h.from) (in_rows box line.to h.to) towards in
     let column = along_lies box.l box.r line.from.y line.from.x line.to.y line.to.x y x (in_columns box line.from h.from) (in_columns box line.to h.to) on in
     record { left = column.least; top = row.least; right = column.most; bottom = row.most })
-    (λ (e : is_steep line ≡ false).
-    let on = sym (on_flat line x y e) ∙ t in
+    (λ (e : is_y_major line ≡ false).
+    let on = sym (on_x_major line x y e) ∙ t in
     let towards = (along_parts line.from.x line.from.y line.to.x line.to.y x y on).0 in
     let column = towards_lies box.l box.r line.from.x line.to.x x (in_columns box line.from h.from) (in_columns box line.to h.to) towards in
     let row = along_lies box.t box.b line.from.x line.from.y line.to.x line.to.y x y (in_rows box line.from h.from) (in_rows box line.to h.to) on in

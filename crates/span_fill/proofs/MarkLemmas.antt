@@ -24,8 +24,8 @@ nothing_at : (frame : MaskFrame) (line : Line) (x i q : ℕ) → on_wide_line (r
 nothing_at frame line x i q none = and_right (nat_eq i (mask_row frame q)) (on_wide_line (row_of frame.nib) line (pos (x + frame.region.columns.from)) (row_at frame q)) none
 
 -- what a wide line tells of a line and a nib
-pub told : (w : WideLineState) (line : Line) (nib : Nib) (x y : ℤ) → w.line ≡ line → w.nib ≡ nib → on_wide_line w.nib w.line x y ≡ on_wide_line nib line x y
-told w line nib x y line_is nib_is = ap (λ (l : Line). on_wide_line w.nib l x y) line_is ∙ ap (λ (n : Nib). on_wide_line n line x y) nib_is
+pub reported : (w : WideLineState) (line : Line) (nib : Nib) (x y : ℤ) → w.line ≡ line → w.nib ≡ nib → on_wide_line w.nib w.line x y ≡ on_wide_line nib line x y
+reported w line nib x y line_is nib_is = ap (λ (l : Line). on_wide_line w.nib l x y) line_is ∙ ap (λ (n : Nib). on_wide_line n line x y) nib_is
 
 -- the first rows, before the first that the nib covers something of
 pub none_before :
@@ -35,24 +35,24 @@ none_before frame line w from count x i all line_is nib_is =
     any_none (λ k. marks_at frame line x i (from + k)) (rows_before frame from count w.next)
     (λ k below. nothing_at frame line x i (from + k) (false_from_ne_true _ (λ t.
     let first = all.first in
-    let here = told w line (row_of frame.nib) (pos (x + frame.region.columns.from)) (row_at frame (from + k)) line_is nib_is ∙ t in
+    let here = reported w line (row_of frame.nib) (pos (x + frame.region.columns.from)) (row_at frame (from + k)) line_is nib_is ∙ t in
     let late = (all.all (pos (x + frame.region.columns.from)) (row_at frame (from + k)) (omega (arith, ints)) (omega (arith, ints, below)) here).0 in
     omega (arith, ints, below, late, first))))
 
 -- the rows behind the last
-pub none_behind :
+pub none_after :
     (nib : Nib) (line : Line) (w : WideLineState) (from to x y : ℤ) → HasAllRows from to w → w.line ≡ line → w.nib ≡ nib → from ≤ℤ y → w.end ≤ℤ y → y <ℤ to
     → on_wide_line nib line x y ≡ false
-none_behind nib line w from to x y all line_is nib_is first behind last = false_from_ne_true _ (λ t.
-    let early = (all.all x y first last (told w line nib x y line_is nib_is ∙ t)).1 in
-    omega (arith, ints, behind, early))
+none_after nib line w from to x y all line_is nib_is first after last = false_from_ne_true _ (λ t.
+    let early = (all.all x y first last (reported w line nib x y line_is nib_is ∙ t)).1 in
+    omega (arith, ints, after, early))
 
 -- the columns of a row are what the nib covers there
-pub columns_told :
+pub columns_reported :
     (w new : WideLineState) (row : WideRow) (line : Line) (nib : Nib) (x : ℕ) (y : ℤ) → TakesRow w new row → w.line ≡ line → w.nib ≡ nib → w.next ≡ y → x < 8192
     → in_span row.columns x ≡ on_wide_line nib line (pos x) y
-columns_told w new row line nib x y takes line_is nib_is next wide =
-    span_test row.columns x (on_wide_line w.nib w.line (pos x) w.next) (takes.columns x wide) ∙ told w line nib (pos x) w.next line_is nib_is ∙ ap (λ (r : ℤ). on_wide_line nib line (pos x) r) next
+columns_reported w new row line nib x y takes line_is nib_is next wide =
+    span_test row.columns x (on_wide_line w.nib w.line (pos x) w.next) (takes.columns x wide) ∙ reported w line nib (pos x) w.next line_is nib_is ∙ ap (λ (r : ℤ). on_wide_line nib line (pos x) r) next
 
 -- one row more
 pub row_more :
@@ -71,7 +71,7 @@ row_more frame line w new row {bit} {old} start from count x i takes line_is nib
     set
     ∙ ap (λ (q : ℕ). old || (nat_eq i (mask_row frame q) && in_span row.columns (x + frame.region.columns.from))) number
     ∙ ap (λ (b : Bool). old || (nat_eq i (mask_row frame (from + unsigned_abs (w.next -ℤ row_at frame from))) && b))
-    (columns_told w new row line (row_of frame.nib) (x + frame.region.columns.from) (row_at frame (from + unsigned_abs (w.next -ℤ row_at frame from))) takes line_is nib_is place wide)
+    (columns_reported w new row line (row_of frame.nib) (x + frame.region.columns.from) (row_at frame (from + unsigned_abs (w.next -ℤ row_at frame from))) takes line_is nib_is place wide)
     ∙ ap (λ (b : Bool). b || marks_at frame line x i (from + unsigned_abs (w.next -ℤ row_at frame from))) (before ∙ ap (λ n. start || marks_in frame line from n x i) here)
     ∙ last_first start (marks_in frame line from (unsigned_abs (w.next -ℤ row_at frame from)) x i) (marks_at frame line x i (from + unsigned_abs (w.next -ℤ row_at frame from)))
     ∙ ap (λ n. start || marks_in frame line from n x i) (sym after)

@@ -10,16 +10,16 @@ use Rattle.span_fill.specs.declared.span.Span.{Span}
 use Rattle.span_fill.proofs.SpanLemmas.{in_from, is_in}
 
 -- columns of a surface cut to a region, counted from its first
-pub columns_counted : (region columns cut : Span) (from to : ℤ) (x : ℕ) → from ≡ pos columns.from → to ≡ pos columns.to → region.from ≤ cut.from → cut.from ≤ cut.to
-    → in_span cut (x + region.from) ≡ (in_span region (x + region.from) && is_from_to from to (x + region.from)) → x < region.to - region.from
-    → in_span (record { from = cut.from - region.from; to = cut.to - region.from }) x ≡ in_span columns (x + region.from)
-columns_counted region columns cut from to x first last low order same within = same_test _ _
+pub columns_counted : (region columns stepper : Span) (from to : ℤ) (x : ℕ) → from ≡ pos columns.from → to ≡ pos columns.to → region.from ≤ stepper.from → stepper.from ≤ stepper.to
+    → in_span stepper (x + region.from) ≡ (in_span region (x + region.from) && is_from_to from to (x + region.from)) → x < region.to - region.from
+    → in_span (record { from = stepper.from - region.from; to = stepper.to - region.from }) x ≡ in_span columns (x + region.from)
+columns_counted region columns stepper from to x first last low order same within = same_test _ _
     (λ test.
-    let here = is_in (record { from = cut.from - region.from; to = cut.to - region.from }) x test in
+    let here = is_in (record { from = stepper.from - region.from; to = stepper.to - region.from }) x test in
     let a = here.0 in
     let b = here.1 in
-    let there : IsIn cut (x + region.from) = (omega (arith, a, low), omega (arith, b, low, order)) in
-    let parts = and_parts (in_span region (x + region.from)) (is_from_to from to (x + region.from)) (sym same ∙ in_from cut (x + region.from) there) in
+    let there : IsIn stepper (x + region.from) = (omega (arith, a, low), omega (arith, b, low, order)) in
+    let parts = and_parts (in_span region (x + region.from)) (is_from_to from to (x + region.from)) (sym same ∙ in_from stepper (x + region.from) there) in
     let range = from_to_true from to (x + region.from) parts.1 in
     let c = range.0 in
     let d = range.1 in
@@ -29,7 +29,7 @@ columns_counted region columns cut from to x first last low order same within = 
     let a = here.0 in
     let b = here.1 in
     let inside : IsIn region (x + region.from) = (omega arith, omega (arith, within)) in
-    let there = is_in cut (x + region.from) (same ∙ and_from _ _ (in_from region (x + region.from) inside) (from_to_from from to (x + region.from) (omega (arith, ints, a, first)) (omega (arith, ints, b, last)))) in
+    let there = is_in stepper (x + region.from) (same ∙ and_from _ _ (in_from region (x + region.from) inside) (from_to_from from to (x + region.from) (omega (arith, ints, a, first)) (omega (arith, ints, b, last)))) in
     let c = there.0 in
     let d = there.1 in
-    in_from (record { from = cut.from - region.from; to = cut.to - region.from }) x (omega (arith, c), omega (arith, d)))
+    in_from (record { from = stepper.from - region.from; to = stepper.to - region.from }) x (omega (arith, c), omega (arith, d)))

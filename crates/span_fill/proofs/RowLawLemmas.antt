@@ -9,12 +9,12 @@ use Rattle.mapping.specs.TestLaws.{int_le-true, int_lt-true}
 use Rattle.mapping.specs.declared.geometry.Point.{Point}
 use Rattle.span_fill.specs.Fill.{crossed_downwards, crossed_upwards, crossing_dividend, down, has_row, in_fill, is_crossed, is_inside}
 use Rattle.span_fill.specs.RowLaws.{LiesBetween, RowLaws}
-use Rattle.span_fill.specs.Strokes.{in_stroke, is_along, is_steep, is_towards, on_line}
+use Rattle.span_fill.specs.Strokes.{in_stroke, is_along, is_y_major, is_towards, on_line}
 use Rattle.span_fill.specs.declared.fill_rule.FillRule.{FillRule}
 use Rattle.span_fill.specs.declared.fill_rule.FillRule.TheVariants.{EvenOdd, NonZero}
 use Rattle.span_fill.specs.declared.line.Line.{Line}
 use Rattle.span_fill.proofs.HullLemmas.{fall_hull, rise_hull}
-use Rattle.span_fill.proofs.LineLaw.{by_axis, on_flat, on_steep}
+use Rattle.span_fill.proofs.LineLaw.{by_axis, on_x_major, on_y_major}
 use Rattle.span_fill.proofs.StepLemmas.{along_parts, by_towards}
 
 -- a row is above the first one, or below the last one
@@ -33,9 +33,9 @@ not_crossed upper lower first last x y low high out =
     (λ t.
     let has = (and_parts (has_row upper lower y) (int_le (crossing_dividend upper lower y) (pos (2 * x + 1) *ℤ down upper lower)) t).0 in
     let ends = and_parts (int_le upper.y (pos y)) (int_lt (pos y) lower.y) has in
-    let behind = int_le-true upper.y (pos y) ends.0 in
+    let after = int_le-true upper.y (pos y) ends.0 in
     let before = int_lt-true (pos y) lower.y ends.1 in
-    not_both first last (pos y) out (omega (arith, ints, low, behind)) (omega (arith, ints, high, before)))
+    not_both first last (pos y) out (omega (arith, ints, low, after)) (omega (arith, ints, high, before)))
 
 -- so none of them is counted
 no_downwards : (lines : List Line) (first last : ℤ) (x y : ℕ) → All (LiesBetween first last) lines → IsOutside first last (pos y) → crossed_downwards lines x y ≡ 0
@@ -90,12 +90,12 @@ not_on : (line : Line) (first last x y : ℤ) → LiesBetween first last line �
 not_on line first last x y lies out =
     false_from_ne_true (on_line line x y)
     (λ t. by_axis line
-    (λ (e : is_steep line ≡ true).
-    let on = sym (on_steep line x y e) ∙ t in
+    (λ (e : is_y_major line ≡ true).
+    let on = sym (on_y_major line x y e) ∙ t in
     let towards = (along_parts line.from.y line.from.x line.to.y line.to.x y x on).0 in
     towards_not line.from.y line.to.y first last y lies.from_first lies.from_last lies.to_first lies.to_last out towards)
-    (λ (e : is_steep line ≡ false).
-    let on = sym (on_flat line x y e) ∙ t in
+    (λ (e : is_y_major line ≡ false).
+    let on = sym (on_x_major line x y e) ∙ t in
     along_not line.from.x line.from.y line.to.x line.to.y first last x y lies.from_first lies.from_last lies.to_first lies.to_last out on))
 
 no_stroke : (lines : List Line) (first last : ℤ) (x y : ℕ) → All (LiesBetween first last) lines → IsOutside first last (pos y) → in_stroke lines x y ≡ false

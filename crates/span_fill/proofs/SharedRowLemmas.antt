@@ -15,7 +15,7 @@ use Rattle.span_fill.specs.declared.mask_frame.MaskFrame.{MaskFrame}
 use Rattle.span_fill.specs.declared.wide_line.WideRow.{WideRow}
 use Rattle.span_fill.proofs.AnyLemmas.{any_same, any_three}
 use Rattle.span_fill.proofs.CoverLemmas.{any_from, any_passes, by_rows, reaches}
-use Rattle.span_fill.proofs.MarkLemmas.{columns_told, told}
+use Rattle.span_fill.proofs.MarkLemmas.{columns_reported, reported}
 
 -- they do
 shares : (frame : MaskFrame) (k : ℕ) → 1 ≤ height_of frame.region → k < spare_of frame + 1 → mask_row frame (height_of frame.region - 1 + k) ≡ height_of frame.region - 1
@@ -72,7 +72,7 @@ shared_set frame line w new row {bit} old place x i is some all takes line_is ni
     let next : w.next ≡ shared_row frame = omega (arith, ints, first, end, left) in
     set
     ∙ ap (λ (q : ℕ). old || (nat_eq i q && in_span row.columns (x + frame.region.columns.from))) last
-    ∙ ap (λ (b : Bool). old || (nat_eq i (height_of frame.region - 1) && b)) (columns_told w new row line (shared_nib frame) (x + frame.region.columns.from) (shared_row frame) takes line_is nib_is next wide)
+    ∙ ap (λ (b : Bool). old || (nat_eq i (height_of frame.region - 1) && b)) (columns_reported w new row line (shared_nib frame) (x + frame.region.columns.from) (shared_row frame) takes line_is nib_is next wide)
     ∙ ap (λ (b : Bool). old || b) (shared_marks frame line x i is some)
 
 -- and where it covers nothing
@@ -87,7 +87,7 @@ shared_nothing frame line w old x i is some all ended line_is nib_is =
     nothing : on_wide_line (shared_nib frame) line (pos (x + frame.region.columns.from)) (shared_row frame) ≡ false
     nothing = false_from_ne_true _ (λ t.
         let there = all.all (pos (x + frame.region.columns.from)) (shared_row frame) (omega (arith, ints)) (omega (arith, ints))
-        (told w line (shared_nib frame) (pos (x + frame.region.columns.from)) (shared_row frame) line_is nib_is ∙ t) in
+        (reported w line (shared_nib frame) (pos (x + frame.region.columns.from)) (shared_row frame) line_is nib_is ∙ t) in
         let a = there.0 in
         let b = there.1 in
         omega (arith, ints, a, b, ended))

@@ -17,11 +17,11 @@ pub in_from : (span : Span) (n : ℕ) → IsIn span n → in_span span n ≡ tru
 in_from span n is = and_from (nat_le span.from n) (nat_lt n span.to) (le-leb span.from n is.0) (lt-ltb n span.to is.1)
 
 -- the numbers before an end are those that lie before a number, from the least on and up to before the most
-abbrev TellsBefore : ℕ → ℕ → ℕ → ℤ → Type 0
-TellsBefore least most end number = (n : ℕ) → least ≤ n → n < most → (n < end) ↔ (pos n <ℤ number)
+abbrev ReportsBefore : ℕ → ℕ → ℕ → ℤ → Type 0
+ReportsBefore least most end number = (n : ℕ) → least ≤ n → n < most → (n < end) ↔ (pos n <ℤ number)
 
 pub between_two : (span : Span) (first last : ℕ) (from to : ℤ) (n : ℕ) → span.from ≤ first → first ≤ last → last ≤ span.to
-    → TellsBefore span.from span.to first from → TellsBefore first span.to last to
+    → ReportsBefore span.from span.to first from → ReportsBefore first span.to last to
     → in_span (record { from = first; to = last }) n ≡ (in_span span n && is_from_to from to n)
 between_two span first last from to n low order high starts ends = same_test _ _
     (λ test.

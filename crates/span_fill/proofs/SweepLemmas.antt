@@ -6,7 +6,7 @@ use Rattle.std.proofs.lemmas.Bool.Decides.{nat_tests}
 use Rattle.span_fill.specs.Edges.{column_of}
 use Rattle.span_fill.specs.Fill.{is_inside}
 use Rattle.span_fill.specs.Spans.{AreApart, AreRow, in_span, in_spans}
-use Rattle.span_fill.specs.Sweep.{CrossFrom, AreSorted, downwards_at, ended_spans, is_over_behind, is_part, longer_run, run_spans, swept, upwards_at}
+use Rattle.span_fill.specs.Sweep.{CrossFrom, AreSorted, downwards_at, ended_spans, is_over_after, is_part, longer_run, run_spans, swept, upwards_at}
 use Rattle.span_fill.specs.declared.edge.ActiveEdge.{ActiveEdge}
 use Rattle.span_fill.specs.declared.fill_rule.FillRule.{FillRule}
 use Rattle.span_fill.specs.declared.fill_rule.FillRule.TheVariants.{EvenOdd, NonZero}
@@ -38,21 +38,21 @@ regroup false q r = refl
 
 -- the columns up to a later one, and those from there on
 split_at : (inside later whole : Bool) (run : Span) (at column x : ℕ) → run.to ≤ at → at ≤ column → (x < column → at ≤ x → whole ≡ inside) → (column ≤ x → whole ≡ later) → ((in_span run x || (is_part inside at column && (nat_le at x && nat_lt x column))) || (nat_le column x && later)) ≡ (in_span run x || (nat_le at x && whole))
-split_at inside later whole run at column x k l before behind =
+split_at inside later whole run at column x k l before after =
     elim (cases_lt x column) [
       | inl h ↦ elim (cases_lt x at) [
         | inl g ↦ grind (arith, nat_tests)
         | inr g ↦ let e = before h g in grind (arith, nat_tests)
       ]
-      | inr h ↦ let e = behind h in grind (arith, nat_tests)
+      | inr h ↦ let e = after h in grind (arith, nat_tests)
     ]
 
 -- before the next edge all are inside or none is, and from there on it is as behind that edge
 next_part : (inside later whole : Bool) (run : Span) (at column x : ℕ) (others : List Span) → run.from ≤ run.to → run.to ≤ at → at ≤ column → in_spans others x ≡ (in_span (longer_run inside run at column) x || (nat_le column x && later)) → (x < column → at ≤ x → whole ≡ inside) → (column ≤ x → whole ≡ later) → in_spans (ended_spans inside run at column ++ others) x ≡ (in_span run x || (nat_le at x && whole))
-next_part inside later whole run at column x others h k l rest before behind =
+next_part inside later whole run at column x others h k l rest before after =
     let a = in_spans-append (ended_spans inside run at column) others x in
     let e = in_part inside run at column x h k in
-    a ∙ ap (λ t. in_spans (ended_spans inside run at column) x || t) rest ∙ regroup (in_spans (ended_spans inside run at column) x) (in_span (longer_run inside run at column) x) (nat_le column x && later) ∙ ap (λ t. t || (nat_le column x && later)) e ∙ split_at inside later whole run at column x k l before behind
+    a ∙ ap (λ t. in_spans (ended_spans inside run at column) x || t) rest ∙ regroup (in_spans (ended_spans inside run at column) x) (in_span (longer_run inside run at column) x) (nat_le column x && later) ∙ ap (λ t. t || (nat_le column x && later)) e ∙ split_at inside later whole run at column x k l before after
 
 -- a run stays in order, and within what is behind it
 pub longer_order : (inside : Bool) (run : Span) (from to : ℕ) → run.from ≤ run.to → run.to ≤ from → from ≤ to → ((longer_run inside run from to).from ≤ (longer_run inside run from to).to) × ((longer_run inside run from to).to ≤ to)
@@ -84,7 +84,7 @@ swept_exact rule end (edge ∷ edges) at d u run sorted h k l x below =
     let a = none_down edges (column_of edge) x sorted.0 left in
     let b = none_up edges (column_of edge) x sorted.0 left in
     same_inside rule _ _ _ _ (grind (arith, nat_tests)) (grind (arith, nat_tests)))
-    (λ behind. let right : (column_of edge) ≤ x = omega arith in
+    (λ after. let right : (column_of edge) ≤ x = omega arith in
     same_inside rule _ _ _ _ (grind (arith, nat_tests)) (grind (arith, nat_tests)))
 
 -- spans that begin later
@@ -158,7 +158,7 @@ one_crossed EvenOdd false = refl
 one_crossed NonZero true = refl
 one_crossed NonZero false = refl
 
-both_crossed : (rule : FillRule) (left right : ActiveEdge) → is_over_behind rule left right ≡ true → is_inside rule ((0 + cond left.is_down 1 0) + cond right.is_down 1 0) ((0 + cond (not left.is_down) 1 0) + cond (not right.is_down) 1 0) ≡ false
+both_crossed : (rule : FillRule) (left right : ActiveEdge) → is_over_after rule left right ≡ true → is_inside rule ((0 + cond left.is_down 1 0) + cond right.is_down 1 0) ((0 + cond (not left.is_down) 1 0) + cond (not right.is_down) 1 0) ≡ false
 both_crossed EvenOdd left right t =
     elim (cases_Bool left.is_down) [
       | inl l ↦ elim (cases_Bool right.is_down) [ inl r ↦ rw (l, r) refl | inr r ↦ rw (l, r) refl ]
@@ -171,12 +171,12 @@ both_crossed NonZero left right t =
     ]
 
 -- two edges with nothing inside behind them give the span between them
-pub swept_pair : (rule : FillRule) (end at : ℕ) (left right : ActiveEdge) → is_over_behind rule left right ≡ true → swept rule end (left ∷ right ∷ []) at 0 0 (record { from = at; to = at }) ≡ run_spans (record { from = max at (min (column_of left) end); to = max (max at (min (column_of left) end)) (min (column_of right) end) })
+pub swept_pair : (rule : FillRule) (end at : ℕ) (left right : ActiveEdge) → is_over_after rule left right ≡ true → swept rule end (left ∷ right ∷ []) at 0 0 (record { from = at; to = at }) ≡ run_spans (record { from = max at (min (column_of left) end); to = max (max at (min (column_of left) end)) (min (column_of right) end) })
 swept_pair rule end at left right t =
     rw (none_crossed rule, one_crossed rule left.is_down, both_crossed rule left right t) (one_run at (max at (min (column_of left) end)) (max (max at (min (column_of left) end)) (min (column_of right) end)))
 
 -- the same of a list of two edges
-pub swept_two : (rule : FillRule) (end at : ℕ) (edges : List ActiveEdge) (d : ActiveEdge) (from to : ℕ) (before now_ : List Span) → length edges ≡ 2 → is_over_behind rule (get_or edges 0 d) (get_or edges 1 d) ≡ true → from ≡ max at (min (column_of (get_or edges 0 d)) end) → to ≡ max from (min (column_of (get_or edges 1 d)) end) → now_ ≡ before ++ run_spans (record { from = from; to = to }) → now_ ≡ before ++ swept rule end edges at 0 0 (record { from = at; to = at })
+pub swept_two : (rule : FillRule) (end at : ℕ) (edges : List ActiveEdge) (d : ActiveEdge) (from to : ℕ) (before now_ : List Span) → length edges ≡ 2 → is_over_after rule (get_or edges 0 d) (get_or edges 1 d) ≡ true → from ≡ max at (min (column_of (get_or edges 0 d)) end) → to ≡ max from (min (column_of (get_or edges 1 d)) end) → now_ ≡ before ++ run_spans (record { from = from; to = to }) → now_ ≡ before ++ swept rule end edges at 0 0 (record { from = at; to = at })
 swept_two rule end at [] d from to before now_ two over from_is to_is is = absurd (omega (arith, two))
 swept_two rule end at (left ∷ []) d from to before now_ two over from_is to_is is = absurd (omega (arith, two))
 swept_two rule end at (left ∷ right ∷ []) d from to before now_ two over from_is to_is is =

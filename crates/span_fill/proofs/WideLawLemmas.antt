@@ -6,32 +6,32 @@ use Rattle.std.proofs.lemmas.Bool.Decides.{nat_tests}
 use Rattle.std.proofs.lemmas.Int.{ints, by_lt_z}
 use Rattle.mapping.specs.Nibs.{IsNib, reach_before, reach_after}
 use Rattle.mapping.specs.declared.nib.Nib.{Nib}
-use Rattle.span_fill.specs.Courses.{course_of, length_of, rise_of}
-use Rattle.span_fill.specs.Slants.{flat_slant, slant_of, turn_of}
-use Rattle.span_fill.specs.Strokes.{far, is_steep, on_line}
-use Rattle.span_fill.specs.Strips.{HasColumns, HasRows, IsDrawn, IsGreater, IsHull, IsLesser, IsMeet, IsRun, IsWindow, LiesNear, column_in, high_over, last_in, low_over}
+use Rattle.span_fill.specs.MajorLines.{major_of, length_of, rise_of}
+use Rattle.span_fill.specs.RowSlopes.{x_major_row_slope, row_slope_of, turn_of}
+use Rattle.span_fill.specs.Strokes.{far, is_y_major, on_line}
+use Rattle.span_fill.specs.WideEdges.{HasColumns, HasRows, IsDrawn, IsGreater, IsHull, IsLesser, IsMeet, IsRun, IsWindow, LiesNear, column_in, high_over, last_in, low_over}
 use Rattle.span_fill.specs.WideStrokes.{IsCovered, IsOneSpan, WideStrokeLaws, on_wide_line}
-use Rattle.span_fill.specs.declared.course.Course.{Course}
+use Rattle.span_fill.specs.declared.major_line.MajorLine.{MajorLine}
 use Rattle.span_fill.specs.declared.line.Line.{Line}
 use Rattle.span_fill.proofs.CoverLemmas.{by_rows, covered, covers, one_of, stroke_lies}
 use Rattle.span_fill.proofs.HullLemmas.{fall_hull, rise_hull}
-use Rattle.span_fill.proofs.LineLaw.{on_flat, on_steep}
+use Rattle.span_fill.proofs.LineLaw.{on_x_major, on_y_major}
 use Rattle.span_fill.proofs.StepLemmas.{along_parts, by_towards, towards_down, towards_up}
 use Rattle.span_fill.proofs.SeveralRows.{HasColumn, HasColumnOf, row_exact, rows_union}
 
 -- where the columns of the window begin and end, within those of the line
 abbrev pub first_column : Bool → Line → ℤ → ℤ → ℤ
-first_column steep line top last =
-    low_over (column_in (slant_of steep (course_of steep line)) line.from top) (column_in (slant_of steep (course_of steep line)) line.from last)
+first_column y_major line top last =
+    low_over (column_in (row_slope_of y_major (major_of y_major line)) line.from top) (column_in (row_slope_of y_major (major_of y_major line)) line.from last)
 
 abbrev pub last_column : Bool → Line → ℤ → ℤ → ℤ
-last_column steep line top last =
-    high_over steep (column_in (slant_of steep (course_of steep line)) line.from top) (column_in (slant_of steep (course_of steep line)) line.from last)
+last_column y_major line top last =
+    high_over y_major (column_in (row_slope_of y_major (major_of y_major line)) line.from top) (column_in (row_slope_of y_major (major_of y_major line)) line.from last)
 
 -- a column within both
-record IsWithinBoth (steep : Bool) (line : Line) (from to top last u : ℤ) : Type 0 where
-  low : first_column steep line top last ≤ℤ u
-  high : u <ℤ last_column steep line top last
+record IsWithinBoth (y_major : Bool) (line : Line) (from to top last u : ℤ) : Type 0 where
+  low : first_column y_major line top last ≤ℤ u
+  high : u <ℤ last_column y_major line top last
   from_low : from ≤ℤ u
   to_high : u <ℤ to
 
@@ -43,11 +43,11 @@ distance_within : (top bottom row : ℤ) → top ≤ℤ row → row ≤ℤ botto
 distance_within top bottom row h k = omega (arith, ints, h, k)
 
 -- what is covered lies near
-seen : (nib : Nib) (steep : Bool) (line : Line) (y from to left right top bottom low high x : ℤ) → IsDrawn steep line → HasRows steep line from to → HasColumns steep line left right
+seen : (nib : Nib) (y_major : Bool) (line : Line) (y from to left right top bottom low high x : ℤ) → IsDrawn y_major line → HasRows y_major line from to → HasColumns y_major line left right
     → IsWindow nib y from to top bottom
-    → IsMeet (first_column steep line top (last_in steep top (unsigned_abs (bottom -ℤ top)))) left (last_column steep line top (last_in steep top (unsigned_abs (bottom -ℤ top)))) right low high
+    → IsMeet (first_column y_major line top (last_in y_major top (unsigned_abs (bottom -ℤ top)))) left (last_column y_major line top (last_in y_major top (unsigned_abs (bottom -ℤ top)))) right low high
     → IsCovered nib line x y → LiesNear nib low high x
-seen nib steep line y from to left right top bottom low high x drawn rows columns window meet c =
+seen nib y_major line y from to left right top bottom low high x drawn rows columns window meet c =
     let in_row = rows.all c.u c.v c.on in
     let in_column = columns.all c.u c.v c.on in
     let above = c.above in
@@ -57,14 +57,14 @@ seen nib steep line y from to left right top bottom low high x drawn rows column
     let first : top ≤ℤ c.v = window.least c.v in_row.0 (omega (arith, ints, under)) in
     let last : c.v ≤ℤ bottom = window.most c.v in_row.1 (omega (arith, ints, above)) in
     let here = rows.inside c.v in_row.0 in_row.1 in
-    let has = ((row_exact steep line c.v c.u drawn.axis drawn.some drawn.divides here).0 c.on).1 in
+    let has = ((row_exact y_major line c.v c.u drawn.axis drawn.some drawn.divides here).0 c.on).1 in
     let k = unsigned_abs (c.v -ℤ top) in
-    let several : HasColumnOf steep (slant_of steep (course_of steep line)) line.from top c.u (unsigned_abs (bottom -ℤ top)) = record {
-      behind = k;
+    let several : HasColumnOf y_major (row_slope_of y_major (major_of y_major line)) line.from top c.u (unsigned_abs (bottom -ℤ top)) = record {
+      after = k;
       within = distance_within top bottom c.v first last;
-      has = subst (λ (r : ℤ). HasColumn steep (slant_of steep (course_of steep line)) line.from r c.u) (sym (distance top c.v first)) has;
+      has = subst (λ (r : ℤ). HasColumn y_major (row_slope_of y_major (major_of y_major line)) line.from r c.u) (sym (distance top c.v first)) has;
     } in
-    let ends = (rows_union steep (slant_of steep (course_of steep line)) line.from top c.u (unsigned_abs (bottom -ℤ top)) drawn.divides drawn.near).0 several in
+    let ends = (rows_union y_major (row_slope_of y_major (major_of y_major line)) line.from top c.u (unsigned_abs (bottom -ℤ top)) drawn.divides drawn.near).0 several in
     let least = meet.least c.u ends.0 in_column.0 in
     let most = meet.most c.u ends.1 in_column.1 in
     record { some = omega (arith, ints, least, most); left = omega (arith, ints, least, to_left); right = omega (arith, ints, most, to_right) }
@@ -96,24 +96,24 @@ near_column nib low high x h =
     })
 
 -- and what lies near is covered
-reached : (nib : Nib) (steep : Bool) (line : Line) (y from to left right top bottom low high x : ℤ) → IsDrawn steep line → HasRows steep line from to → HasColumns steep line left right
+reached : (nib : Nib) (y_major : Bool) (line : Line) (y from to left right top bottom low high x : ℤ) → IsDrawn y_major line → HasRows y_major line from to → HasColumns y_major line left right
     → IsWindow nib y from to top bottom
-    → IsMeet (first_column steep line top (last_in steep top (unsigned_abs (bottom -ℤ top)))) left (last_column steep line top (last_in steep top (unsigned_abs (bottom -ℤ top)))) right low high
+    → IsMeet (first_column y_major line top (last_in y_major top (unsigned_abs (bottom -ℤ top)))) left (last_column y_major line top (last_in y_major top (unsigned_abs (bottom -ℤ top)))) right low high
     → LiesNear nib low high x → IsCovered nib line x y
-reached nib steep line y from to left right top bottom low high x drawn rows columns window meet h =
+reached nib y_major line y from to left right top bottom low high x drawn rows columns window meet h =
     let near = near_column nib low high x h in
     let u = near.u in
     let low_end = near.is.low_end in
     let high_end = near.is.high_end in
     let a = meet.low_first in let b = meet.low_second in let c = meet.high_first in let d = meet.high_second in
-    let several = (rows_union steep (slant_of steep (course_of steep line)) line.from top u (unsigned_abs (bottom -ℤ top)) drawn.divides drawn.near).1 (omega (arith, ints, low_end, a), omega (arith, ints, high_end, c)) in
-    let row = top +ℤ pos several.behind in
+    let several = (rows_union y_major (row_slope_of y_major (major_of y_major line)) line.from top u (unsigned_abs (bottom -ℤ top)) drawn.divides drawn.near).1 (omega (arith, ints, low_end, a), omega (arith, ints, high_end, c)) in
+    let row = top +ℤ pos several.after in
     let within = several.within in
     let order = window.order in
     let top_has = window.top_has in let top_seen = window.top_seen in let bottom_has = window.bottom_has in let bottom_seen = window.bottom_seen in
     let last : row ≤ℤ bottom = omega (arith, ints, within, order) in
     let here = rows.inside row (omega (arith, ints, top_has)) (omega (arith, ints, last, bottom_has)) in
-    let on = (row_exact steep line row u drawn.axis drawn.some drawn.divides here).1 ((λ e. columns.inside e u (omega (arith, ints, low_end, b)) (omega (arith, ints, high_end, d))), several.has) in
+    let on = (row_exact y_major line row u drawn.axis drawn.some drawn.divides here).1 ((λ e. columns.inside e u (omega (arith, ints, low_end, b)) (omega (arith, ints, high_end, d))), several.has) in
     record {
       u = u;
       v = row;
@@ -124,20 +124,20 @@ reached nib steep line y from to left right top bottom low high x drawn rows col
       below = omega (arith, ints, top_seen);
     }
 
-pub wide_exact : (nib : Nib) (steep : Bool) (line : Line) (y from to left right top bottom low high x : ℤ) → IsNib nib → IsDrawn steep line → HasRows steep line from to → HasColumns steep line left right
+pub wide_exact : (nib : Nib) (y_major : Bool) (line : Line) (y from to left right top bottom low high x : ℤ) → IsNib nib → IsDrawn y_major line → HasRows y_major line from to → HasColumns y_major line left right
     → IsWindow nib y from to top bottom
-    → IsMeet (first_column steep line top (last_in steep top (unsigned_abs (bottom -ℤ top)))) left (last_column steep line top (last_in steep top (unsigned_abs (bottom -ℤ top)))) right low high
+    → IsMeet (first_column y_major line top (last_in y_major top (unsigned_abs (bottom -ℤ top)))) left (last_column y_major line top (last_in y_major top (unsigned_abs (bottom -ℤ top)))) right low high
     → IsTrue (on_wide_line nib line x y) ↔ LiesNear nib low high x
-wide_exact nib steep line y from to left right top bottom low high x is drawn rows columns window meet = (
-  λ t. seen nib steep line y from to left right top bottom low high x drawn rows columns window meet (covered nib line x y t),
-  λ h. covers nib line x y is (reached nib steep line y from to left right top bottom low high x drawn rows columns window meet h),
+wide_exact nib y_major line y from to left right top bottom low high x is drawn rows columns window meet = (
+  λ t. seen nib y_major line y from to left right top bottom low high x drawn rows columns window meet (covered nib line x y t),
+  λ h. covers nib line x y is (reached nib y_major line y from to left right top bottom low high x drawn rows columns window meet h),
 )
 
 -- a line none of whose rows the pen reaches
-pub none_reached : (nib : Nib) (steep : Bool) (line : Line) (y from to x : ℤ) → HasRows steep line from to
+pub none_reached : (nib : Nib) (y_major : Bool) (line : Line) (y from to x : ℤ) → HasRows y_major line from to
     → ((row : ℤ) → from ≤ℤ row → row <ℤ to → (y -ℤ pos (reach_after nib.y)) ≤ℤ row → row ≤ℤ (y +ℤ pos (reach_before nib.y)) → ⊥)
     → IsTrue (on_wide_line nib line x y) → ⊥
-none_reached nib steep line y from to x rows none t =
+none_reached nib y_major line y from to x rows none t =
     let c = covered nib line x y t in
     let in_row = rows.all c.u c.v c.on in
     let above = c.above in
@@ -145,53 +145,53 @@ none_reached nib steep line y from to x rows none t =
     none c.v in_row.0 in_row.1 (omega (arith, ints, under)) (omega (arith, ints, above))
 
 -- a steep line isn't level
-steep_apart : (line : Line) → is_steep line ≡ true → line.from.y ≡ line.to.y → ⊥
-steep_apart line e h = grind (arith, ints, nat_tests)
+y_major_apart : (line : Line) → is_y_major line ≡ true → line.from.y ≡ line.to.y → ⊥
+y_major_apart line e h = grind (arith, ints, nat_tests)
 
-pub steep_rows : (line : Line) (from to : ℤ) → true ≡ is_steep line → IsRun (course_of true line) from to → HasRows true line from to
-steep_rows line from to axis run = record {
-  inside = λ row h k. record { towards = λ e. (run.exact row).1 (h, k); level = λ e. absurd (steep_apart line (sym axis) e) };
-  all = λ u row t. (run.exact row).0 (along_parts line.from.y line.from.x line.to.y line.to.x row u (sym (on_steep line u row (sym axis)) ∙ t)).0;
+pub y_major_rows : (line : Line) (from to : ℤ) → true ≡ is_y_major line → IsRun (major_of true line) from to → HasRows true line from to
+y_major_rows line from to axis run = record {
+  inside = λ row h k. record { towards = λ e. (run.exact row).1 (h, k); horizontal = λ e. absurd (y_major_apart line (sym axis) e) };
+  all = λ u row t. (run.exact row).0 (along_parts line.from.y line.from.x line.to.y line.to.x row u (sym (on_y_major line u row (sym axis)) ∙ t)).0;
 }
 
-pub steep_columns : (line : Line) (from to : ℤ) → true ≡ is_steep line → IsHull (course_of true line) from to → HasColumns true line from to
-steep_columns line from to axis hull = record {
+pub y_major_columns : (line : Line) (from to : ℤ) → true ≡ is_y_major line → IsHull (major_of true line) from to → HasColumns true line from to
+y_major_columns line from to axis hull = record {
   inside = λ e u h k. absurd (true≢false e);
-  all = λ u row t. hull.within row u (sym (on_steep line u row (sym axis)) ∙ t);
+  all = λ u row t. hull.within row u (sym (on_y_major line u row (sym axis)) ∙ t);
 }
 
-pub flat_rows : (line : Line) (from to : ℤ) → false ≡ is_steep line → IsHull (course_of false line) from to → HasRows false line from to
-flat_rows line from to axis hull = record {
-  inside = λ row h k. record { towards = λ e. absurd (true≢false (sym e)); level = λ e. let ends = hull.level e in let a = ends.0 in let b = ends.1 in omega (arith, ints, h, k, a, b) };
-  all = λ u row t. hull.within u row (sym (on_flat line u row (sym axis)) ∙ t);
+pub x_major_rows : (line : Line) (from to : ℤ) → false ≡ is_y_major line → IsHull (major_of false line) from to → HasRows false line from to
+x_major_rows line from to axis hull = record {
+  inside = λ row h k. record { towards = λ e. absurd (true≢false (sym e)); horizontal = λ e. let ends = hull.horizontal e in let a = ends.0 in let b = ends.1 in omega (arith, ints, h, k, a, b) };
+  all = λ u row t. hull.within u row (sym (on_x_major line u row (sym axis)) ∙ t);
 }
 
-pub flat_columns : (line : Line) (from to : ℤ) → false ≡ is_steep line → IsRun (course_of false line) from to → HasColumns false line from to
-flat_columns line from to axis run = record {
+pub x_major_columns : (line : Line) (from to : ℤ) → false ≡ is_y_major line → IsRun (major_of false line) from to → HasColumns false line from to
+x_major_columns line from to axis run = record {
   inside = λ e u h k. (run.exact u).1 (h, k);
-  all = λ u row t. (run.exact u).0 (along_parts line.from.x line.from.y line.to.x line.to.y u row (sym (on_flat line u row (sym axis)) ∙ t)).0;
+  all = λ u row t. (run.exact u).0 (along_parts line.from.x line.from.y line.to.x line.to.y u row (sym (on_x_major line u row (sym axis)) ∙ t)).0;
 }
 
 -- the numbers of a line that has pixels
-flat_divides : (forwards : Bool) (long turn : ℤ) → pos 1 ≤ℤ (flat_slant forwards long turn).divisor
-flat_divides true long (pos zero) = omega (arith, ints)
-flat_divides false long (pos zero) = omega (arith, ints)
-flat_divides forwards long (pos (suc n)) = omega (arith, ints)
-flat_divides forwards long (negsuc n) = omega (arith, ints)
+x_major_divides : (forwards : Bool) (long turn : ℤ) → pos 1 ≤ℤ (x_major_row_slope forwards long turn).divisor
+x_major_divides true long (pos zero) = omega (arith, ints)
+x_major_divides false long (pos zero) = omega (arith, ints)
+x_major_divides forwards long (pos (suc n)) = omega (arith, ints)
+x_major_divides forwards long (negsuc n) = omega (arith, ints)
 
-pub steep_some : (line : Line) → true ≡ is_steep line → far line.from.x line.to.x < far line.from.y line.to.y
-steep_some line axis = grind (arith, nat_tests)
+pub y_major_some : (line : Line) → true ≡ is_y_major line → far line.from.x line.to.x < far line.from.y line.to.y
+y_major_some line axis = grind (arith, nat_tests)
 
-turn_small : (course : Course) → unsigned_abs (rise_of course) < length_of course → (neg_ℤ (pos (length_of course)) ≤ℤ turn_of course) × (turn_of course ≤ℤ pos (length_of course))
-turn_small course h =
-    by_lt_z course.from_u course.to_u
-    (λ up. let test : int_lt course.from_u course.to_u ≡ true = grind (arith, ints, up) in rw test (omega (arith, ints, h), omega (arith, ints, h)))
-    (λ down. let test : int_lt course.from_u course.to_u ≡ false = grind (arith, ints, down) in rw test (omega (arith, ints, h), omega (arith, ints, h)))
+turn_small : (major : MajorLine) → unsigned_abs (rise_of major) < length_of major → (neg_ℤ (pos (length_of major)) ≤ℤ turn_of major) × (turn_of major ≤ℤ pos (length_of major))
+turn_small major h =
+    by_lt_z major.from_u major.to_u
+    (λ up. let test : int_lt major.from_u major.to_u ≡ true = grind (arith, ints, up) in rw test (omega (arith, ints, h), omega (arith, ints, h)))
+    (λ down. let test : int_lt major.from_u major.to_u ≡ false = grind (arith, ints, down) in rw test (omega (arith, ints, h), omega (arith, ints, h)))
 
-pub drawn_steep : (line : Line) → true ≡ is_steep line → IsDrawn true line
-drawn_steep line axis =
-    let more = steep_some line axis in
-    let turn = turn_small (course_of true line) more in
+pub drawn_y_major : (line : Line) → true ≡ is_y_major line → IsDrawn true line
+drawn_y_major line axis =
+    let more = y_major_some line axis in
+    let turn = turn_small (major_of true line) more in
     let low = turn.0 in
     let high = turn.1 in
     record {
@@ -201,61 +201,61 @@ drawn_steep line axis =
       near = λ e. (omega (arith, ints, low), omega (arith, ints, high));
     }
 
-pub drawn_flat : (line : Line) → false ≡ is_steep line → 1 ≤ length_of (course_of false line) → IsDrawn false line
-drawn_flat line axis some = record {
+pub drawn_x_major : (line : Line) → false ≡ is_y_major line → 1 ≤ length_of (major_of false line) → IsDrawn false line
+drawn_x_major line axis some = record {
   axis = axis;
   some = some;
-  divides = flat_divides (int_lt line.from.x line.to.x) (pos (length_of (course_of false line))) (turn_of (course_of false line));
+  divides = x_major_divides (int_lt line.from.x line.to.x) (pos (length_of (major_of false line))) (turn_of (major_of false line));
   near = λ e. absurd (true≢false (sym e));
 }
 
 -- a run and a hull of each line
-record HasRun (course : Course) : Type 0 where
+record HasRun (major : MajorLine) : Type 0 where
   from : ℤ
   to : ℤ
-  is : IsRun course from to
+  is : IsRun major from to
 
-record HasHull (course : Course) : Type 0 where
+record HasHull (major : MajorLine) : Type 0 where
   from : ℤ
   to : ℤ
-  is : IsHull course from to
+  is : IsHull major from to
 
-run_of : (course : Course) → HasRun course
-run_of course =
-    by_lt_z course.from_u course.to_u
+run_of : (major : MajorLine) → HasRun major
+run_of major =
+    by_lt_z major.from_u major.to_u
     (λ up. record {
-      from = course.from_u;
-      to = course.to_u;
-      is = record { exact = λ u. ((λ t. by_towards course.from_u course.to_u u t (λ h k. (h, k)) (λ h k. absurd (omega (arith, ints, up, h, k)))), λ h. towards_up course.from_u course.to_u u h.0 h.1) };
+      from = major.from_u;
+      to = major.to_u;
+      is = record { exact = λ u. ((λ t. by_towards major.from_u major.to_u u t (λ h k. (h, k)) (λ h k. absurd (omega (arith, ints, up, h, k)))), λ h. towards_up major.from_u major.to_u u h.0 h.1) };
     })
     (λ down. record {
-      from = course.to_u +ℤ pos 1;
-      to = course.from_u +ℤ pos 1;
+      from = major.to_u +ℤ pos 1;
+      to = major.from_u +ℤ pos 1;
       is = record {
         exact = λ u. (
-          (λ t. by_towards course.from_u course.to_u u t (λ h k. absurd (omega (arith, ints, down, h, k))) (λ h k. (omega (arith, ints, h), omega (arith, ints, k)))),
-          λ h. let a = h.0 in let b = h.1 in towards_down course.from_u course.to_u u (omega (arith, ints, a)) (omega (arith, ints, b)),
+          (λ t. by_towards major.from_u major.to_u u t (λ h k. absurd (omega (arith, ints, down, h, k))) (λ h k. (omega (arith, ints, h), omega (arith, ints, k)))),
+          λ h. let a = h.0 in let b = h.1 in towards_down major.from_u major.to_u u (omega (arith, ints, a)) (omega (arith, ints, b)),
         );
       };
     })
 
-hull_of : (course : Course) → HasHull course
-hull_of course =
-    by_lt_z course.to_v course.from_v
+hull_of : (major : MajorLine) → HasHull major
+hull_of major =
+    by_lt_z major.to_v major.from_v
     (λ g. record {
-      from = course.to_v;
-      to = course.from_v +ℤ pos 1;
+      from = major.to_v;
+      to = major.from_v +ℤ pos 1;
       is = record {
-        within = λ u v t. let h = fall_hull course.from_u course.from_v course.to_u course.to_v u v t (omega (arith, ints, g)) in let b = h.1 in (h.0, omega (arith, ints, b));
-        level = λ e. absurd (omega (arith, ints, e, g));
+        within = λ u v t. let h = fall_hull major.from_u major.from_v major.to_u major.to_v u v t (omega (arith, ints, g)) in let b = h.1 in (h.0, omega (arith, ints, b));
+        horizontal = λ e. absurd (omega (arith, ints, e, g));
       };
     })
     (λ g. record {
-      from = course.from_v;
-      to = course.to_v +ℤ pos 1;
+      from = major.from_v;
+      to = major.to_v +ℤ pos 1;
       is = record {
-        within = λ u v t. let h = rise_hull course.from_u course.from_v course.to_u course.to_v u v t g in let b = h.1 in (h.0, omega (arith, ints, b));
-        level = λ e. (refl, omega (arith, ints, e));
+        within = λ u v t. let h = rise_hull major.from_u major.from_v major.to_u major.to_v u v t g in let b = h.1 in (h.0, omega (arith, ints, b));
+        horizontal = λ e. (refl, omega (arith, ints, e));
       };
     })
 
@@ -305,23 +305,23 @@ meet_from low_a low_b high_a high_b low high up down = record {
 no_span : (test : ℤ → Bool) → ((x : ℤ) → IsTrue (test x) → ⊥) → IsOneSpan test
 no_span test none = record { from = pos 0; to = pos 0; exact = λ x. ((λ t. absurd (none x t)), λ h. absurd (let a = h.0 in let b = h.1 in omega (arith, ints, a, b))) }
 
-one_span : (nib : Nib) (steep : Bool) (line : Line) (y from to left right : ℤ) → IsNib nib → IsDrawn steep line → HasRows steep line from to → HasColumns steep line left right → IsOneSpan (λ x. on_wide_line nib line x y)
-one_span nib steep line y from to left right is drawn rows columns =
+one_span : (nib : Nib) (y_major : Bool) (line : Line) (y from to left right : ℤ) → IsNib nib → IsDrawn y_major line → HasRows y_major line from to → HasColumns y_major line left right → IsOneSpan (λ x. on_wide_line nib line x y)
+one_span nib y_major line y from to left right is drawn rows columns =
     let top = greater_of (y -ℤ pos (reach_after nib.y)) from in
     let bottom = lesser_of (y +ℤ pos (reach_before nib.y)) (to -ℤ pos 1) in
     by_lt_z bottom.m top.m
     (λ (g : bottom.m <ℤ top.m).
     no_span (λ x. on_wide_line nib line x y)
-    (λ x. none_reached nib steep line y from to x rows
+    (λ x. none_reached nib y_major line y from to x rows
     (λ row h k m n.
     let a = top.is.least row m h in let b = bottom.is.most row n (omega (arith, ints, k)) in omega (arith, ints, a, b, g))))
     (λ (order : top.m ≤ℤ bottom.m).
-    let last = last_in steep top.m (unsigned_abs (bottom.m -ℤ top.m)) in
-    let low = greater_of (first_column steep line top.m last) left in
-    let high = lesser_of (last_column steep line top.m last) right in
+    let last = last_in y_major top.m (unsigned_abs (bottom.m -ℤ top.m)) in
+    let low = greater_of (first_column y_major line top.m last) left in
+    let high = lesser_of (last_column y_major line top.m last) right in
     let window = window_from nib y from to top.m bottom.m top.is bottom.is order in
-    let meet = meet_from (first_column steep line top.m last) left (last_column steep line top.m last) right low.m high.m low.is high.is in
-    let exact : (x : ℤ) → IsTrue (on_wide_line nib line x y) ↔ LiesNear nib low.m high.m x = λ x. wide_exact nib steep line y from to left right top.m bottom.m low.m high.m x is drawn rows columns window meet in
+    let meet = meet_from (first_column y_major line top.m last) left (last_column y_major line top.m last) right low.m high.m low.is high.is in
+    let exact : (x : ℤ) → IsTrue (on_wide_line nib line x y) ↔ LiesNear nib low.m high.m x = λ x. wide_exact nib y_major line y from to left right top.m bottom.m low.m high.m x is drawn rows columns window meet in
     by_lt_z low.m high.m
     (λ (some : low.m <ℤ high.m). record {
       from = low.m -ℤ pos (reach_before nib.x);
@@ -331,29 +331,29 @@ one_span nib steep line y from to left right is drawn rows columns =
     (λ (none : high.m ≤ℤ low.m). no_span (λ x. on_wide_line nib line x y) (λ x t. let h = (exact x).0 t in let a = h.some in omega (arith, ints, a, none))))
 
 -- a line without a pixel
-pub no_pixel : (line : Line) (u v : ℤ) → false ≡ is_steep line → length_of (course_of false line) ≡ 0 → on_line line u v ≡ true → ⊥
+pub no_pixel : (line : Line) (u v : ℤ) → false ≡ is_y_major line → length_of (major_of false line) ≡ 0 → on_line line u v ≡ true → ⊥
 no_pixel line u v axis none t =
-    let towards = (along_parts line.from.x line.from.y line.to.x line.to.y u v (sym (on_flat line u v (sym axis)) ∙ t)).0 in
+    let towards = (along_parts line.from.x line.from.y line.to.x line.to.y u v (sym (on_x_major line u v (sym axis)) ∙ t)).0 in
     by_towards line.from.x line.to.x u towards (λ h k. omega (arith, ints, none, h, k)) (λ h k. omega (arith, ints, none, h, k))
 
-flat_span : (nib : Nib) (line : Line) (y : ℤ) (length : ℕ) → length_of (course_of false line) ≡ length → IsNib nib → false ≡ is_steep line → IsOneSpan (λ x. on_wide_line nib line x y)
+flat_span : (nib : Nib) (line : Line) (y : ℤ) (length : ℕ) → length_of (major_of false line) ≡ length → IsNib nib → false ≡ is_y_major line → IsOneSpan (λ x. on_wide_line nib line x y)
 flat_span nib line y zero e is axis = no_span (λ x. on_wide_line nib line x y) (λ x t. let c = covered nib line x y t in no_pixel line c.u c.v axis e c.on)
 flat_span nib line y (suc length) e is axis =
-    let rows = hull_of (course_of false line) in
-    let columns = run_of (course_of false line) in
-    one_span nib false line y rows.from rows.to columns.from columns.to is (drawn_flat line axis (omega (arith, e))) (flat_rows line rows.from rows.to axis rows.is) (flat_columns line columns.from columns.to axis columns.is)
+    let rows = hull_of (major_of false line) in
+    let columns = run_of (major_of false line) in
+    one_span nib false line y rows.from rows.to columns.from columns.to is (drawn_x_major line axis (omega (arith, e))) (x_major_rows line rows.from rows.to axis rows.is) (x_major_columns line columns.from columns.to axis columns.is)
 
-row_span : (nib : Nib) (steep : Bool) (line : Line) (y : ℤ) → steep ≡ is_steep line → IsNib nib → IsOneSpan (λ x. on_wide_line nib line x y)
+row_span : (nib : Nib) (y_major : Bool) (line : Line) (y : ℤ) → y_major ≡ is_y_major line → IsNib nib → IsOneSpan (λ x. on_wide_line nib line x y)
 row_span nib true line y axis is =
-    let rows = run_of (course_of true line) in
-    let columns = hull_of (course_of true line) in
-    one_span nib true line y rows.from rows.to columns.from columns.to is (drawn_steep line axis) (steep_rows line rows.from rows.to axis rows.is) (steep_columns line columns.from columns.to axis columns.is)
-row_span nib false line y axis is = flat_span nib line y (length_of (course_of false line)) refl is axis
+    let rows = run_of (major_of true line) in
+    let columns = hull_of (major_of true line) in
+    one_span nib true line y rows.from rows.to columns.from columns.to is (drawn_y_major line axis) (y_major_rows line rows.from rows.to axis rows.is) (y_major_columns line columns.from columns.to axis columns.is)
+row_span nib false line y axis is = flat_span nib line y (length_of (major_of false line)) refl is axis
 
 pub wide_stroke_laws : WideStrokeLaws
 wide_stroke_laws = record {
   covers = λ nib line x y is. (covered nib line x y, covers nib line x y is);
-  row = λ nib line y is. row_span nib (is_steep line) line y refl is;
+  row = λ nib line y is. row_span nib (is_y_major line) line y refl is;
   rows = by_rows;
   one = one_of;
   box = stroke_lies;

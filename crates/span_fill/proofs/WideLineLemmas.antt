@@ -8,26 +8,26 @@ use Rattle.mapping.specs.Nibs.{IsNib, reach_after}
 use Rattle.mapping.specs.declared.nib.Nib.{Nib}
 use Rattle.span_fill.specs.Clips.{IsIn}
 use Rattle.span_fill.specs.StrokeRows.{HasSeen, IsActive, IsBegun, IsPassed, IsPast}
-use Rattle.span_fill.specs.Strips.{IsAtRow, IsNearRow, LiesNear, part_high, part_low}
+use Rattle.span_fill.specs.WideEdges.{IsAtRow, IsNearRow, LiesNear, part_high, part_low}
 use Rattle.span_fill.specs.WideLineInside.{IsWideLine}
 use Rattle.span_fill.specs.WideLines.{HasAllRows, TakesRow}
 use Rattle.span_fill.specs.WideStrokes.{on_wide_line}
 use Rattle.span_fill.specs.declared.bounds.CoordinateRange.{CoordinateRange}
 use Rattle.span_fill.specs.declared.line.Line.{Line}
 use Rattle.span_fill.specs.declared.span.Span.{Span}
-use Rattle.span_fill.specs.declared.strip.Strip.{Strip}
+use Rattle.span_fill.specs.declared.wide_edge.WideEdge.{WideEdge}
 use Rattle.span_fill.specs.declared.wide_line.WideLine.TheInside.{Inside}
-use Rattle.span_fill.proofs.StripSeen.{active_passed, passed_active, reaches_next}
+use Rattle.span_fill.proofs.WideEdgeSeen.{active_passed, passed_active, reaches_next}
 use Rattle.span_fill.proofs.StrokeLemmas.{part_exact}
 
 -- the rows of a strip alone
-seen_to_end : (from to : ℤ) (nib : Nib) (s : Strip) → HasSeen from to nib s → HasSeen from s.seen.to nib s
+seen_to_end : (from to : ℤ) (nib : Nib) (s : WideEdge) → HasSeen from to nib s → HasSeen from s.seen.to nib s
 seen_to_end from to nib s h =
     let within = h.within in
     record { reaches = h.reaches; all = λ x y low high t. h.all x y low (omega (arith, ints, high, within)) t; within = omega (arith, ints) }
 
 -- a strip that begins in a range stands at its first row
-pub begun_passed : (nib : Nib) (from to : ℤ) (line : Line) (s : Strip) → IsBegun nib from to line s → IsPassed nib s.seen.from s.seen.to s
+pub begun_passed : (nib : Nib) (from to : ℤ) (line : Line) (s : WideEdge) → IsBegun nib from to line s → IsPassed nib s.seen.from s.seen.to s
 begun_passed nib from to line s begun =
     let seen = seen_to_end from to nib s begun.waiting.seen in
     let begins = begun.waiting.begins in
@@ -38,7 +38,7 @@ begun_passed nib from to line s begun =
     }
 
 -- and one that nothing is seen of has no row
-pub unseen_passed : (nib : Nib) (row : ℤ) (s : Strip) → s.seen.from ≡ row → s.seen.to ≡ row → IsPassed nib row s.seen.to s
+pub unseen_passed : (nib : Nib) (row : ℤ) (s : WideEdge) → s.seen.from ≡ row → s.seen.to ≡ row → IsPassed nib row s.seen.to s
 unseen_passed nib row s from to = record {
   seen = record {
     reaches = λ y h. let a = h.0 in let b = h.1 in absurd (omega (arith, ints, a, b, from, to));
@@ -51,27 +51,27 @@ unseen_passed nib row s from to = record {
 
 -- the fields of a line that begins in a range
 pub begun_line :
-    (nib : Nib) (from to : ℤ) (line : Line) (s : Strip) → IsNib nib → negsuc 4095 ≤ℤ from → to ≤ℤ pos 12288 → IsBegun nib from to line s
-    → IsWideLine (record { nib = nib; strip = s; next = s.seen.from })
+    (nib : Nib) (from to : ℤ) (line : Line) (s : WideEdge) → IsNib nib → negsuc 4095 ≤ℤ from → to ≤ℤ pos 12288 → IsBegun nib from to line s
+    → IsWideLine (record { nib = nib; edge = s; next = s.seen.from })
 begun_line nib from to line s is low high begun =
     let first = begun.waiting.begins in
     let last = begun.waiting.seen.within in
-    record { nib = is; strip = begun_passed nib from to line s begun; low = omega (arith, ints, low, first); high = omega (arith, ints, last, high) }
+    record { nib = is; edge = begun_passed nib from to line s begun; low = omega (arith, ints, low, first); high = omega (arith, ints, last, high) }
 
 pub unseen_line :
-    (nib : Nib) (from to : ℤ) (s : Strip) → IsNib nib → negsuc 4095 ≤ℤ from → from ≤ℤ to → to ≤ℤ pos 12288 → s.seen.from ≡ from → s.seen.to ≡ from
-    → IsWideLine (record { nib = nib; strip = s; next = from })
+    (nib : Nib) (from to : ℤ) (s : WideEdge) → IsNib nib → negsuc 4095 ≤ℤ from → from ≤ℤ to → to ≤ℤ pos 12288 → s.seen.from ≡ from → s.seen.to ≡ from
+    → IsWideLine (record { nib = nib; edge = s; next = from })
 unseen_line nib from to s is low order high first last =
-    record { nib = is; strip = unseen_passed nib from s first last; low = low; high = omega (arith, ints, last, order, high) }
+    record { nib = is; edge = unseen_passed nib from s first last; low = low; high = omega (arith, ints, last, order, high) }
 
 -- all rows of the range in which the nib covers something are to come
 pub all_rows :
-    (nib : Nib) (from to : ℤ) (line : Line) (s : Strip) → IsBegun nib from to line s
+    (nib : Nib) (from to : ℤ) (line : Line) (s : WideEdge) → IsBegun nib from to line s
     → HasAllRows from to (record { line = s.line; nib = nib; next = s.seen.from; end = s.seen.to })
 all_rows nib from to line s begun = record { first = begun.waiting.begins; last = begun.waiting.seen.within; all = begun.waiting.seen.all }
 
 pub no_rows :
-    (nib : Nib) (from to : ℤ) (line : Line) (s : Strip) → s.line ≡ line → IsPast nib from to line → s.seen.to ≡ from → from ≤ℤ to
+    (nib : Nib) (from to : ℤ) (line : Line) (s : WideEdge) → s.line ≡ line → IsPast nib from to line → s.seen.to ≡ from → from ≤ℤ to
     → HasAllRows from to (record { line = s.line; nib = nib; next = from; end = s.seen.to })
 no_rows nib from to line s same past last order = record {
   first = omega (arith, ints);
@@ -80,48 +80,48 @@ no_rows nib from to line s same past last order = record {
 }
 
 -- the next row is the last one's
-pub seen_next : (nib : Nib) (row : ℤ) (old new : Strip) → new.seen ≡ old.seen → IsPassed nib (row +ℤ pos 1) old.seen.to new → IsPassed nib (row +ℤ pos 1) new.seen.to new
+pub seen_next : (nib : Nib) (row : ℤ) (old new : WideEdge) → new.seen ≡ old.seen → IsPassed nib (row +ℤ pos 1) old.seen.to new → IsPassed nib (row +ℤ pos 1) new.seen.to new
 seen_next nib row old new same passed = subst (λ (to : ℤ). IsPassed nib (row +ℤ pos 1) to new) (sym (ap (λ (r : CoordinateRange). r.to) same)) passed
 
 -- a line with a row to come is at it
-pub active_now : (a : Inside) → IsWideLine a → a.next <ℤ a.strip.seen.to → IsActive a.nib a.next a.strip.seen.to a.strip
-active_now a is more = passed_active a.nib a.next a.strip.seen.to a.strip is.strip more
+pub active_now : (a : Inside) → IsWideLine a → a.next <ℤ a.edge.seen.to → IsActive a.nib a.next a.edge.seen.to a.edge
+active_now a is more = passed_active a.nib a.next a.edge.seen.to a.edge is.edge more
 
-pub near_now : (a : Inside) → IsWideLine a → a.next <ℤ a.strip.seen.to → IsNearRow a.next
+pub near_now : (a : Inside) → IsWideLine a → a.next <ℤ a.edge.seen.to → IsNearRow a.next
 near_now a is more = let high = is.high in record { low = is.low; high = omega (arith, ints, more, high) }
 
-pub next_fits : (a : Inside) → IsWideLine a → a.next <ℤ a.strip.seen.to → FitsSigned w32 (a.next +ℤ pos 1)
+pub next_fits : (a : Inside) → IsWideLine a → a.next <ℤ a.edge.seen.to → FitsSigned w32 (a.next +ℤ pos 1)
 next_fits a is more = let low = is.low in let high = is.high in fits_signed_from_abs w32 (a.next +ℤ pos 1) (omega (arith, ints, low, more, high))
 
 -- and then at the next one
 pub line_next :
-    (a : Inside) (new : Strip) → IsWideLine a → a.next <ℤ a.strip.seen.to → new.line ≡ a.strip.line → new.rows ≡ a.strip.rows → new.seen ≡ a.strip.seen
-    → (IsAtRow a.nib a.next a.strip → IsNearRow (a.next +ℤ pos 1) → (a.next +ℤ pos 1 -ℤ pos (reach_after a.nib.y)) <ℤ a.strip.rows.to → IsAtRow a.nib (a.next +ℤ pos 1) new)
-    → IsWideLine (record { nib = a.nib; strip = new; next = a.next +ℤ pos 1 })
+    (a : Inside) (new : WideEdge) → IsWideLine a → a.next <ℤ a.edge.seen.to → new.line ≡ a.edge.line → new.rows ≡ a.edge.rows → new.seen ≡ a.edge.seen
+    → (IsAtRow a.nib a.next a.edge → IsNearRow (a.next +ℤ pos 1) → (a.next +ℤ pos 1 -ℤ pos (reach_after a.nib.y)) <ℤ a.edge.rows.to → IsAtRow a.nib (a.next +ℤ pos 1) new)
+    → IsWideLine (record { nib = a.nib; edge = new; next = a.next +ℤ pos 1 })
 line_next a new is more line rows seen at =
     let active = active_now a is more in
     let low = is.low in
     let high = is.high in
     let passed =
-    active_passed a.nib a.next a.strip.seen.to a.strip new active line rows seen
-    (λ m. at active.at (record { low = omega (arith, ints, low); high = omega (arith, ints, m, high) }) (reaches_next a.nib a.next a.strip.seen.to a.strip active m)) in
+    active_passed a.nib a.next a.edge.seen.to a.edge new active line rows seen
+    (λ m. at active.at (record { low = omega (arith, ints, low); high = omega (arith, ints, m, high) }) (reaches_next a.nib a.next a.edge.seen.to a.edge active m)) in
     record {
       nib = is.nib;
-      strip = seen_next a.nib a.next a.strip new seen passed;
+      edge = seen_next a.nib a.next a.edge new seen passed;
       low = omega (arith, ints, low);
       high = subst (λ (r : CoordinateRange). r.to ≤ℤ pos 12288) (sym seen) high;
     }
 
 -- the row is given
 pub line_taken :
-    (a : Inside) (new : Strip) (columns : Span) → IsWideLine a → a.next <ℤ a.strip.seen.to → new.line ≡ a.strip.line → new.seen ≡ a.strip.seen
-    → ((x : ℕ) → x < 8192 → IsIn columns x ↔ LiesNear a.nib (part_low a.strip) (part_high a.strip) (pos x)) → columns.to ≤ 8192
-    → TakesRow (record { line = a.strip.line; nib = a.nib; next = a.next; end = a.strip.seen.to })
+    (a : Inside) (new : WideEdge) (columns : Span) → IsWideLine a → a.next <ℤ a.edge.seen.to → new.line ≡ a.edge.line → new.seen ≡ a.edge.seen
+    → ((x : ℕ) → x < 8192 → IsIn columns x ↔ LiesNear a.nib (part_low a.edge) (part_high a.edge) (pos x)) → columns.to ≤ 8192
+    → TakesRow (record { line = a.edge.line; nib = a.nib; next = a.next; end = a.edge.seen.to })
     (record { line = new.line; nib = a.nib; next = a.next +ℤ pos 1; end = new.seen.to }) (record { y = a.next; columns = columns })
 line_taken a new columns is more line seen part within = record {
   left = more;
   row = refl;
-  columns = part_exact a.nib a.next a.strip.seen.to a.strip columns is.nib (active_now a is more) part;
+  columns = part_exact a.nib a.next a.edge.seen.to a.edge columns is.nib (active_now a is more) part;
   within = within;
   line = line;
   nib = refl;

@@ -51,7 +51,7 @@ one_span from to y by order =
       | inl above ↦ rw (le-ltb from (suc y) (omega (arith, above)), le-ltb to (suc y) (omega (arith, above, order)), lt-leb from y above) (omega (arith, ints))
       | inr below ↦ elim (cases_lt y to) [
         | inl inside ↦ rw (lt-ltb from (suc y) (omega (arith, below)), le-ltb to (suc y) (omega (arith, inside)), le-leb from y below, lt-ltb y to inside) (omega (arith, ints))
-        | inr behind ↦ rw (lt-ltb from (suc y) (omega (arith, below)), lt-ltb to (suc y) (omega (arith, behind)), le-leb from y below, le-ltb y to behind) (omega (arith, ints))
+        | inr after ↦ rw (lt-ltb from (suc y) (omega (arith, below)), lt-ltb to (suc y) (omega (arith, after)), le-leb from y below, le-ltb y to after) (omega (arith, ints))
       ]
     ]
 
@@ -91,8 +91,8 @@ winds_up line x rows old new order crossed winds y h =
     winds y
     ∙ ap (λ n. total (take (suc y) old) +ℤ n) (ap (λ t. if t then negsuc 0 else pos 0) (crossed y h) ∙ one_up _ _ (not_crossed line.from line.to x y (omega (arith, ints, order))))
 
-pub winds_level : (line : Line) (x : ℕ) (old : List ℤ) → line.to.y ≤ℤ line.from.y → line.from.y ≤ℤ line.to.y → WindsLine line x old old
-winds_level line x old one other y h =
+pub winds_horizontal : (line : Line) (x : ℕ) (old : List ℤ) → line.to.y ≤ℤ line.from.y → line.from.y ≤ℤ line.to.y → WindsLine line x old old
+winds_horizontal line x old one other y h =
     let down = not_crossed line.from line.to x y one in
     let up = not_crossed line.to line.from x y other in
     rw (down, up) (omega (arith, ints))

@@ -36,20 +36,20 @@ back_bottom : row_of (line_from 4 2 0 0) 2 ≡ false ∷ false ∷ false ∷ tru
 back_bottom = refl
 
 -- a steep line has a pixel in each row, and none in its last point's; of two columns as near it has the right one
-steep_first : row_of (line_from 0 0 2 4) 0 ≡ true ∷ false ∷ false ∷ false ∷ false ∷ []
-steep_first = refl
+y_major_first : row_of (line_from 0 0 2 4) 0 ≡ true ∷ false ∷ false ∷ false ∷ false ∷ []
+y_major_first = refl
 
-steep_second : row_of (line_from 0 0 2 4) 1 ≡ false ∷ true ∷ false ∷ false ∷ false ∷ []
-steep_second = refl
+y_major_second : row_of (line_from 0 0 2 4) 1 ≡ false ∷ true ∷ false ∷ false ∷ false ∷ []
+y_major_second = refl
 
-steep_third : row_of (line_from 0 0 2 4) 2 ≡ false ∷ true ∷ false ∷ false ∷ false ∷ []
-steep_third = refl
+y_major_third : row_of (line_from 0 0 2 4) 2 ≡ false ∷ true ∷ false ∷ false ∷ false ∷ []
+y_major_third = refl
 
-steep_fourth : row_of (line_from 0 0 2 4) 3 ≡ false ∷ false ∷ true ∷ false ∷ false ∷ []
-steep_fourth = refl
+y_major_fourth : row_of (line_from 0 0 2 4) 3 ≡ false ∷ false ∷ true ∷ false ∷ false ∷ []
+y_major_fourth = refl
 
-steep_last : row_of (line_from 0 0 2 4) 4 ≡ false ∷ false ∷ false ∷ false ∷ false ∷ []
-steep_last = refl
+y_major_last : row_of (line_from 0 0 2 4) 4 ≡ false ∷ false ∷ false ∷ false ∷ false ∷ []
+y_major_last = refl
 
 -- a line to where it begins has no pixel
 point : row_of (line_from 0 0 0 0) 0 ≡ false ∷ false ∷ false ∷ false ∷ false ∷ []

@@ -1,6 +1,6 @@
--- Edges that begin, in the order of their first rows.
+-- Edges that begin, sorted by their first rows.
 use Rattle.std.specs.Prelude.{◌≡◌, ℕ, ◌+◌, ◌<◌, true, false, List, [], ◌∷◌, drop, length, filter, map}
-use Rattle.span_fill.specs.Edges.{IsEdge, active_at, begins_behind, begins_by}
+use Rattle.span_fill.specs.Edges.{IsEdge, active_at, begins_after, begins_by}
 use Rattle.span_fill.specs.declared.edge.ActiveEdge.{ActiveEdge}
 use Rattle.span_fill.specs.declared.edge.Edge.{Edge}
 
@@ -9,14 +9,14 @@ pub record BeginsEdge (y : ℕ) (edges : List Edge) (next : ℕ) (edge : Edge) :
   pub within : next < length edges
   pub first : drop next edges ≡ edge ∷ drop (next + 1) edges
   pub begins : begins_by y edge ≡ true
-  pub waits : begins_behind y edge ≡ false
+  pub waits : begins_after y edge ≡ false
   pub is_edge : IsEdge edge
 
--- those of the edges that begin at row y or above it, where they cross it
+-- the edges that begin at row y or above it, at their crossings with it
 abbrev pub beginning_edges : ℕ → List Edge → List ActiveEdge
 beginning_edges y edges = map (active_at y) (filter (begins_by y) edges)
 
--- all of the edges begin behind row y
+-- all of the edges begin after row y
 pub record NoneBegins (y : ℕ) (edges : List Edge) : Type 0 where
   pub none : filter (begins_by y) edges ≡ []
-  pub others : filter (begins_behind y) edges ≡ edges
+  pub others : filter (begins_after y) edges ≡ edges

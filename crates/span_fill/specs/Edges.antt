@@ -9,62 +9,63 @@ use Rattle.span_fill.specs.declared.edge.ActiveEdge.{ActiveEdge}
 use Rattle.span_fill.specs.declared.edge.Edge.{Edge}
 use Rattle.span_fill.specs.declared.line.Line.{Line}
 
--- the line with this number as an edge, if it isn't horizontal
+-- a line as an edge with this number, if it isn't horizontal
 abbrev pub edges_of_line : ℕ → Line → List Edge
 edges_of_line number line =
     if int_lt line.from.y line.to.y then record { line = number; is_down = true; upper = line.from; lower = line.to } ∷ []
     else (if int_lt line.to.y line.from.y then record { line = number; is_down = false; upper = line.to; lower = line.from } ∷ [] else [])
 
--- the same of each of the lines; the first line has this number
+-- the edges of some lines; the first line has this number
 abbrev pub edges_from : ℕ → List Line → List Edge
 edges_from number [] = []
 edges_from number (line ∷ lines) = edges_of_line number line ++ edges_from (suc number) lines
 
--- an edge has its ends in order, and both near
+-- an edge has its ends in order, both within the limits of lines
 pub record IsEdge (edge : Edge) : Type 0 where
   pub upper : IsNearPoint edge.upper
   pub lower : IsNearPoint edge.lower
   pub order : edge.upper.y <ℤ edge.lower.y
 
--- the middle of row y is between its ends
+-- the centre of row y lies between the edge's ends
 abbrev pub crosses_row : ℕ → Edge → Bool
 crosses_row y edge = has_row edge.upper edge.lower y
 
--- the row of a coordinate, or row 0 if it is above that
+-- the row of a coordinate, or row 0 if it is negative
 abbrev pub near_row : ℤ → ℕ
 near_row (pos n) = n
 near_row (negsuc n) = 0
 
--- the first row that is not above the edge
+-- the first row whose centre isn't above the edge
 abbrev pub edge_first_row : Edge → ℕ
 edge_first_row edge = near_row edge.upper.y
 
--- the edge begins behind row y
-abbrev pub begins_behind : ℕ → Edge → Bool
-begins_behind y edge = nat_lt y (edge_first_row edge)
+-- the edge begins after row y
+abbrev pub begins_after : ℕ → Edge → Bool
+begins_after y edge = nat_lt y (edge_first_row edge)
 
--- it doesn't
+-- the edge begins at row y or above it
 abbrev pub begins_by : ℕ → Edge → Bool
 begins_by y edge = nat_le (edge_first_row edge) y
 
--- it ends behind row y
-abbrev pub ends_behind : ℕ → Edge → Bool
-ends_behind y edge = nat_lt y (near_row edge.lower.y)
+-- the edge ends after row y
+abbrev pub ends_after : ℕ → Edge → Bool
+ends_after y edge = nat_lt y (near_row edge.lower.y)
 
--- a column as near to this as columns go
+-- a number, limited to the range of columns
 abbrev pub near_column : ℤ → ℕ
 near_column (pos n) = min n 8192
 near_column (negsuc n) = 0
 
--- The first column whose middle isn't to the left of a line's crossing is the floor of this number by `crossing_divisor`.
+-- The first column whose centre isn't to the left of a line's crossing is the floor of this number by
+-- `crossing_divisor`.
 abbrev pub column_dividend : Point → Point → ℕ → ℤ
 column_dividend upper lower y = crossing_dividend upper lower y +ℤ down upper lower -ℤ pos 1
 
--- the floor of a fraction, and what is left
+-- the remainder of a floor division
 abbrev pub remainder_of : ℤ → ℤ → ℤ
 remainder_of dividend divisor = dividend -ℤ floor_div dividend divisor *ℤ divisor
 
--- the edge where its column is this one
+-- the active edge with this column
 abbrev pub active_with : Edge → ℤ → ℤ → ActiveEdge
 active_with edge column rest = record {
   bottom = near_row edge.lower.y;
@@ -76,32 +77,32 @@ active_with edge column rest = record {
   more = remainder_of (pos 2 *ℤ across edge.upper edge.lower) (crossing_divisor edge.upper edge.lower);
 }
 
--- the edge where it crosses row y
+-- the edge at its crossing with row y
 abbrev pub active_at : ℕ → Edge → ActiveEdge
 active_at y edge =
     active_with edge (floor_div (column_dividend edge.upper edge.lower y) (crossing_divisor edge.upper edge.lower)) (remainder_of (column_dividend edge.upper edge.lower y) (crossing_divisor edge.upper edge.lower))
 
--- those of the edges that cross row y, where they do
+-- those of the edges that cross row y, at their crossings
 abbrev pub active_edges : ℕ → List Edge → List ActiveEdge
 active_edges y edges = map (active_at y) (filter (crosses_row y) edges)
 
--- the edge's column, as near to it as columns go
+-- the edge's column, limited to the range of columns
 abbrev pub column_of : ActiveEdge → ℕ
 column_of edge = near_column edge.column
 
--- one row more takes the fraction past a whole column
+-- one more row takes the fraction past a whole column
 abbrev pub is_over : ActiveEdge → Bool
 is_over edge = int_le edge.divisor (edge.rest +ℤ edge.more)
 
--- the column one row on
+-- the column in the next row
 abbrev pub moved_column : ActiveEdge → ℤ
 moved_column edge = edge.column +ℤ edge.step +ℤ (if is_over edge then pos 1 else pos 0)
 
--- and what is left of the fraction
+-- the remainder of the fraction in the next row
 abbrev pub moved_rest : ActiveEdge → ℤ
 moved_rest edge = edge.rest +ℤ edge.more -ℤ (if is_over edge then edge.divisor else pos 0)
 
--- the edge one row on
+-- the edge in the next row
 abbrev pub moved : ActiveEdge → ActiveEdge
 moved edge = record edge { column = moved_column edge; rest = moved_rest edge }
 
@@ -109,7 +110,7 @@ moved edge = record edge { column = moved_column edge; rest = moved_rest edge }
 abbrev pub goes_to : ℕ → ActiveEdge → Bool
 goes_to y edge = nat_lt y edge.bottom
 
--- its numbers are of a fraction, and leave room for one row more
+-- the edge's numbers form a fraction, and one more row causes no overflow
 pub record EdgeCanMove (edge : ActiveEdge) : Type 0 where
   pub column : IsWithin (2 ^ 62 + 2 ^ 31) edge.column
   pub step : IsWithin (2 ^ 31) edge.step

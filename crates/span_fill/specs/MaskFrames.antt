@@ -1,4 +1,4 @@
--- Where the rows of lines lie in a mask.
+-- The rows of a mask for rows of lines.
 use Rattle.std.specs.Prelude.{◌≡◌, ℕ, ◌+◌, ◌-◌, ◌<◌, min, max, ℤ, pos, ◌+ℤ◌, ◌-ℤ◌, Bool, ◌&&◌, nat_eq}
 use Rattle.mapping.specs.Nibs.{IsNib, reach_after}
 use Rattle.mapping.specs.declared.nib.Nib.{Nib}
@@ -10,19 +10,19 @@ use Rattle.span_fill.specs.declared.mask_frame.MaskFrame.{MaskFrame}
 use Rattle.span_fill.specs.declared.span.Region.{Region}
 use Rattle.span_fill.specs.declared.span.Span.{Span}
 
--- a nib and a part of a surface
+-- a valid nib and a part of a surface
 pub record IsMaskFrame (frame : MaskFrame) : Type 0 where
   pub nib : IsNib frame.nib
   pub region : IsMaskRegion frame.region
 
--- the first row of lines from which the nib reaches the region, and the one that lies so many rows behind it
+-- the first row of lines from which the nib reaches the region, and the row this many rows after it
 abbrev pub first_row : MaskFrame → ℤ
 first_row frame = pos frame.region.rows.from -ℤ pos (reach_after frame.nib.y)
 
 abbrev pub row_at : MaskFrame → ℕ → ℤ
 row_at frame q = first_row frame +ℤ pos q
 
--- how many rows of lines the nib reaches the region from
+-- the number of rows of lines from which the nib reaches the region
 abbrev pub row_count : MaskFrame → ℕ
 row_count frame = height_of frame.region + (frame.nib.y - 1)
 
@@ -30,22 +30,24 @@ row_count frame = height_of frame.region + (frame.nib.y - 1)
 abbrev pub depth_of : MaskFrame → ℕ
 depth_of frame = min frame.nib.y (height_of frame.region)
 
--- how many rows of lines have no row of the mask of their own
+-- how many rows of lines don't have their own row in the mask
 abbrev pub spare_of : MaskFrame → ℕ
 spare_of frame = frame.nib.y - depth_of frame
 
--- The row of the mask that row q of lines has, counted from the first. Rows from which the nib reaches all of the region share one.
+-- The row of the mask for row q of lines, counted from the first one. All rows from which the nib reaches the whole
+-- region share one.
 abbrev pub mask_row : MaskFrame → ℕ → ℕ
 mask_row frame q = max (min q (height_of frame.region - 1)) (q - spare_of frame)
 
--- A nib as wide that covers at once what the nib's columns cover in the rows of lines that share one, from the row that it is led along.
+-- A nib of the same width, and the row along which it moves, which covers at once what the nib's columns cover in all
+-- rows of lines that share one.
 abbrev pub shared_nib : MaskFrame → Nib
 shared_nib frame = record { x = frame.nib.x; y = spare_of frame + 1 }
 
 abbrev pub shared_row : MaskFrame → ℤ
 shared_row frame = row_at frame (height_of frame.region - 1 + reach_after (spare_of frame + 1))
 
--- columns of a region, counted from its first, are what columns of a surface have of it
+-- these columns are the part of a surface's columns in a region, counted from the region's first column
 abbrev pub IsPartOf : Region → Span → Span → Type 0
 IsPartOf region columns part =
     (x : ℕ) → x < width_of region → in_span part x ≡ in_span columns (x + region.columns.from)
@@ -55,10 +57,10 @@ abbrev pub marks_at : MaskFrame → Line → ℕ → ℕ → ℕ → Bool
 marks_at frame line x i q =
     nat_eq i (mask_row frame q) && on_wide_line (row_of frame.nib) line (pos (x + frame.region.columns.from)) (row_at frame q)
 
--- in one of so many rows of lines from a row on they do
+-- the nib's columns cover a column in one of some rows of lines, and the row of the mask is that row's
 abbrev pub marks_in : MaskFrame → Line → ℕ → ℕ → ℕ → ℕ → Bool
 marks_in frame line from count x i = any_below (λ k. marks_at frame line x i (from + k)) count
 
--- in one of all rows they do
+-- the nib's columns cover a column in one of all rows of lines, and the row of the mask is that row's
 abbrev pub marks : MaskFrame → Line → ℕ → ℕ → Bool
 marks frame line x i = any_below (λ q. marks_at frame line x i q) (row_count frame)

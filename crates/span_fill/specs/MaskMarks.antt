@@ -1,4 +1,4 @@
--- Lines marked in rows of bits, and the rows widened.
+-- Lines marked in rows of bits, and rows widened.
 use Rattle.std.specs.Prelude.{◌≡◌, ℕ, ◌+◌, ◌*◌, ◌<◌, Bool, false, ◌&&◌, ◌||◌, nat_eq, ◌-ℤ◌, unsigned_abs, List}
 use Rattle.std.specs.List.{list_any}
 use Rattle.span_fill.specs.BitRows.{BitRowsState, HasSize, has_bit}
@@ -15,11 +15,11 @@ use Rattle.span_fill.specs.declared.wide_line.WideRow.{WideRow}
 abbrev pub HasRows : MaskFrame → BitRowsState → Type 0
 HasRows frame bits = HasSize bits (2 * height_of frame.region) (width_of frame.region)
 
--- none of these is set
+-- none of the mask's bits is set
 abbrev pub IsClear : MaskFrame → BitRowsState → Type 0
 IsClear frame bits = (x i : ℕ) → x < width_of frame.region → i < 2 * height_of frame.region → has_bit bits x i ≡ false
 
--- those that pass a test are set too, and no other changes
+-- the bits that pass a test are set too, and no others change
 abbrev pub SetsToo : MaskFrame → (ℕ → ℕ → Bool) → BitRowsState → BitRowsState → Type 0
 SetsToo frame test old new =
     (x i : ℕ) → x < width_of frame.region → i < 2 * height_of frame.region → has_bit new x i ≡ (has_bit old x i || test x i)
@@ -28,28 +28,28 @@ SetsToo frame test old new =
 abbrev pub MarksColumns : MaskFrame → Span → ℕ → BitRowsState → BitRowsState → Type 0
 MarksColumns frame columns row = SetsToo frame (λ x i. nat_eq i row && in_span columns (x + frame.region.columns.from))
 
--- what a row of a line has, in that row's row of the mask
+-- what a row of a line covers is set, in that row's row of the mask
 abbrev pub MarksRow : MaskFrame → WideRow → BitRowsState → BitRowsState → Type 0
 MarksRow frame row = MarksColumns frame row.columns (mask_row frame (unsigned_abs (row.y -ℤ first_row frame)))
 
--- what the nib's columns cover that are led along a line, in so many rows of lines from a row on
+-- what the nib's columns cover along a line, in some rows of lines, is set
 abbrev pub MarksRows : MaskFrame → Line → ℕ → ℕ → BitRowsState → BitRowsState → Type 0
 MarksRows frame line from count = SetsToo frame (λ x i. marks_in frame line from count x i)
 
--- in all of them
+-- what the nib's columns cover along a line is set
 abbrev pub MarksLine : MaskFrame → Line → BitRowsState → BitRowsState → Type 0
 MarksLine frame line = SetsToo frame (λ x i. marks frame line x i)
 
--- along some lines
+-- what the nib's columns cover along some lines is set
 abbrev pub MarksLines : MaskFrame → List Line → BitRowsState → BitRowsState → Type 0
 MarksLines frame lines = SetsToo frame (λ x i. list_any (λ line. marks frame line x i) lines)
 
--- each of the first rows has what so many rows from it on had
+-- each of the first rows has what it and the rows after it had, this many rows in all
 abbrev pub Widens : ℕ → ℕ → BitRowsState → BitRowsState → Type 0
 Widens height depth old new =
     (x i : ℕ) → x < old.columns → i < height → has_bit new x i ≡ any_below (λ d. has_bit old x (i + d)) depth
 
--- the region's bits are what the nib covers that is led along some lines
+-- the region's bits are what the nib covers along some lines
 abbrev pub HasStroke : MaskFrame → List Line → BitRowsState → Type 0
 HasStroke frame lines bits =
     (x y : ℕ) → x < width_of frame.region → y < height_of frame.region

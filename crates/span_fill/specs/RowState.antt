@@ -1,4 +1,4 @@
--- What a row buffer is to its callers.
+-- A row buffer as callers see it.
 use Rattle.std.specs.Prelude.{◌≡◌, ℕ, List, []}
 use Rattle.std.specs.List.Sorted.{IsPermutation}
 use Rattle.span_fill.specs.Crossings.{crossings_of}
@@ -11,74 +11,74 @@ use Rattle.span_fill.specs.declared.fill_rule.FillRule.{FillRule}
 use Rattle.span_fill.specs.declared.line.Line.{Line}
 use Rattle.span_fill.specs.declared.span.Span.{Span}
 
--- what a row buffer is at: nothing, the inside of its lines, or the lines themselves
+-- the work of a row buffer: nothing, the inside of its lines, or the lines themselves
 pub data RowWork : Type 0 where
   idle : RowWork
   filling : FillRule → RowWork
   stroking : Nib → RowWork
 
--- the lines, what is done with them, which row is next, the spans of the row before, the crossings that were found last, and how many lines
--- it has memory for
+-- the lines, the work, the next row, the spans of the row before, the crossings that were found last, and the number of
+-- lines for which there is memory
 pub record RowState : Type 0 where
   pub lines : List Line
   pub work : RowWork
   pub next : ℕ
   pub spans : List Span
   pub crossings : List Crossing
-  pub room : ℕ
+  pub capacity : ℕ
 
--- the inside of the lines is being filled
+-- the work is the inside of the lines
 abbrev pub IsFillingWork : RowWork → Type 0
 IsFillingWork idle = ⊥
 IsFillingWork (filling rule) = Unit {0}
 IsFillingWork (stroking nib) = ⊥
 
--- the lines themselves are being drawn
+-- the work is the lines themselves
 abbrev pub IsStrokingWork : RowWork → Type 0
 IsStrokingWork idle = ⊥
 IsStrokingWork (filling rule) = ⊥
 IsStrokingWork (stroking nib) = Unit {0}
 
--- the spans are what the row has within the interval
+-- the spans are those of the row within the interval
 abbrev pub FillsRow : RowWork → List Line → ℕ → Span → List Span → Type 0
 FillsRow idle lines y interval spans = ⊥
 FillsRow (filling rule) lines y interval spans = AreRow (λ x. in_fill rule lines x y) interval spans
 FillsRow (stroking nib) lines y interval spans = AreRow (λ x. in_wide_stroke nib lines x y) interval spans
 
--- the buffer goes on with its work
+-- the buffer continues its work
 pub record SameWork (old new : RowState) : Type 0 where
   pub lines : new.lines ≡ old.lines
   pub work : new.work ≡ old.work
-  pub room : new.room ≡ old.room
+  pub capacity : new.capacity ≡ old.capacity
 
--- the crossings of the next row were found, each once and in no order, and nothing else differs
+-- the crossings of the next row were found, each once and in no particular order, and nothing else differs
 pub record HasFoundCrossings (old new : RowState) : Type 0 where
   pub crossings : IsPermutation new.crossings (crossings_of old.lines old.next)
   pub lines : new.lines ≡ old.lines
   pub work : new.work ≡ old.work
   pub next : new.next ≡ old.next
   pub spans : new.spans ≡ old.spans
-  pub room : new.room ≡ old.room
+  pub capacity : new.capacity ≡ old.capacity
 
--- nothing but the room differs
-pub record DiffersInRoom (old new : RowState) : Type 0 where
+-- nothing differs except the capacity
+pub record DiffersInCapacity (old new : RowState) : Type 0 where
   pub lines : new.lines ≡ old.lines
   pub work : new.work ≡ old.work
   pub next : new.next ≡ old.next
   pub spans : new.spans ≡ old.spans
 
--- a fill of these lines begins at row y
+-- the fill of these lines begins at row y
 pub record BeginsFill (rule : FillRule) (given : List Line) (y size : ℕ) (new : RowState) : Type 0 where
   pub lines : new.lines ≡ given
   pub work : new.work ≡ filling rule
   pub next : new.next ≡ y
   pub spans : new.spans ≡ []
-  pub room : new.room ≡ size
+  pub capacity : new.capacity ≡ size
 
--- the drawing of these lines begins at row y
+-- the stroke of these lines begins at row y
 pub record BeginsStroke (nib : Nib) (given : List Line) (y size : ℕ) (new : RowState) : Type 0 where
   pub lines : new.lines ≡ given
   pub work : new.work ≡ stroking nib
   pub next : new.next ≡ y
   pub spans : new.spans ≡ []
-  pub room : new.room ≡ size
+  pub capacity : new.capacity ≡ size

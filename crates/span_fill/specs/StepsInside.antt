@@ -1,28 +1,28 @@
--- What is true of the fields of steps.
+-- The fields of steps.
 use Rattle.std.specs.Prelude.{◌≡◌, ℕ, ◌+◌, ◌^◌, ◌<◌, ◌≤◌, ℤ, Bool}
 use Rattle.span_fill.specs.Clips.{SpanHas}
-use Rattle.span_fill.specs.Courses.{IsOn, IsPixelOf, across_span, along_span, course_of, length_of, course_step}
-use Rattle.span_fill.specs.Strokes.{is_steep}
+use Rattle.span_fill.specs.MajorLines.{IsOn, IsPixelOf, across_span, along_span, major_of, length_of, major_step}
+use Rattle.span_fill.specs.Strokes.{is_y_major}
 use Rattle.span_fill.specs.declared.line.Line.{Line}
 use Rattle.span_fill.specs.declared.span.Region.{Region}
 use Rattle.span_fill.specs.declared.steps.LineSteps.TheInside.{Inside}
 use Rattle.span_fill.specs.declared.walk.Walk.{Walk}
 
--- the walk stands at the next step, and the pixels of the steps to come are within the region
-pub record IsUnderway (line : Line) (region : Region) (steep : Bool) (next end : ℕ) (walk : Walk) : Type 0 where
-  pub axis : steep ≡ is_steep line
-  pub short : length_of (course_of steep line) ≤ 2 ^ 29 + 2
-  pub ends : end ≤ length_of (course_of steep line)
+-- the walk is at the next step, and the pixels of the remaining steps are within the region
+pub record IsUnderway (line : Line) (region : Region) (y_major : Bool) (next end : ℕ) (walk : Walk) : Type 0 where
+  pub axis : y_major ≡ is_y_major line
+  pub short : length_of (major_of y_major line) ≤ 2 ^ 29 + 2
+  pub ends : end ≤ length_of (major_of y_major line)
   pub columns : region.columns.to ≤ 8192
   pub rows : region.rows.to ≤ 8192
-  pub stands : next < end → IsOn (course_of steep line) next walk
+  pub stands : next < end → IsOn (major_of y_major line) next walk
   pub along :
-      (u v : ℤ) → IsPixelOf (course_of steep line) u v → next ≤ course_step (course_of steep line) u → course_step (course_of steep line) u < end
-      → SpanHas (along_span steep region) u
+      (u v : ℤ) → IsPixelOf (major_of y_major line) u v → next ≤ major_step (major_of y_major line) u → major_step (major_of y_major line) u < end
+      → SpanHas (along_span y_major region) u
   pub across :
-      (u v : ℤ) → IsPixelOf (course_of steep line) u v → next ≤ course_step (course_of steep line) u → course_step (course_of steep line) u < end
-      → SpanHas (across_span steep region) v
+      (u v : ℤ) → IsPixelOf (major_of y_major line) u v → next ≤ major_step (major_of y_major line) u → major_step (major_of y_major line) u < end
+      → SpanHas (across_span y_major region) v
 
--- so it is for all steps
+-- this holds for all values of the type
 abbrev pub AreSteps : Inside → Type 0
-AreSteps steps = IsUnderway steps.line steps.region steps.steep steps.next steps.end steps.walk
+AreSteps steps = IsUnderway steps.line steps.region steps.y_major steps.next steps.end steps.walk

@@ -1,9 +1,9 @@
--- What is true of the fields of a stroke's mask.
+-- The fields of a stroke's mask.
 use Rattle.std.specs.Prelude.{◌≤◌}
 use Rattle.span_fill.specs.StrokeMasks.{IsMaskRegion, height_of, width_of}
 use Rattle.span_fill.specs.declared.stroke_mask.StrokeMask.TheInside.{Inside}
 
--- there are bits for each pixel of the region, and the place is one of its rows and columns or their end
+-- there are bits for each pixel of the region, and the position is one of its rows and columns, or their end
 pub record IsStrokeMask (a : Inside) : Type 0 where
   pub region : IsMaskRegion a.region
   pub bit_rows : height_of a.region ≤ a.bits.rows

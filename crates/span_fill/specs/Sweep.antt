@@ -1,4 +1,4 @@
--- A row's spans from the edges that cross it, in the order of the columns that they cross.
+-- The spans of a row, from the edges that cross it, sorted by the columns where they do.
 use Rattle.std.specs.Prelude.{ℕ, ◌+◌, ◌≤◌, Bool, true, false, ◌&&◌, ◌==◌, not, nat_le, nat_lt, max, min, if◌then◌else◌, List, [], ◌∷◌, ◌++◌}
 use Rattle.span_fill.specs.Edges.{column_of}
 use Rattle.span_fill.specs.Fill.{is_inside}
@@ -12,7 +12,7 @@ abbrev pub downwards_at : List ActiveEdge → ℕ → ℕ
 downwards_at [] x = 0
 downwards_at (edge ∷ edges) x = (if edge.is_down && nat_le (column_of edge) x then 1 else 0) + downwards_at edges x
 
--- the same of those that run upwards
+-- how many of the edges that run upwards cross the row at column x or before
 abbrev pub upwards_at : List ActiveEdge → ℕ → ℕ
 upwards_at [] x = 0
 upwards_at (edge ∷ edges) x = (if not edge.is_down && nat_le (column_of edge) x then 1 else 0) + upwards_at edges x
@@ -26,23 +26,23 @@ abbrev pub CrossFrom : ℕ → List ActiveEdge → Type 0
 CrossFrom column [] = Unit
 CrossFrom column (edge ∷ edges) = (column ≤ column_of edge) × CrossFrom column edges
 
--- no edge crosses before one that is in front of it
+-- the edges are sorted by their columns
 abbrev pub AreSorted : List ActiveEdge → Type 0
 AreSorted [] = Unit
 AreSorted (edge ∷ edges) = CrossFrom (column_of edge) edges × AreSorted edges
 
--- where two edges alone cross the row, no pixel behind both is inside
-abbrev pub is_over_behind : FillRule → ActiveEdge → ActiveEdge → Bool
-is_over_behind EvenOdd left right = true
-is_over_behind NonZero left right = if left.is_down then not right.is_down else right.is_down
+-- if only two edges cross the row, no pixel after both is inside
+abbrev pub is_over_after : FillRule → ActiveEdge → ActiveEdge → Bool
+is_over_after EvenOdd left right = true
+is_over_after NonZero left right = if left.is_down then not right.is_down else right.is_down
 
--- there are two edges in front, and no pixel behind both is inside
+-- there are at least two edges, and no pixel after the first two is inside
 abbrev pub has_pair : FillRule → List ActiveEdge → Bool
 has_pair rule [] = false
 has_pair rule (left ∷ []) = false
-has_pair rule (left ∷ right ∷ edges) = is_over_behind rule left right
+has_pair rule (left ∷ right ∷ edges) = is_over_after rule left right
 
--- a run that has no column yet, at a column
+-- an empty run at a column
 abbrev pub run_at : ℕ → Span
 run_at column = record { from = column; to = column }
 
@@ -54,16 +54,16 @@ run_spans run = if nat_lt run.from run.to then run ∷ [] else []
 abbrev pub is_part : Bool → ℕ → ℕ → Bool
 is_part inside from to = inside && nat_lt from to
 
--- the run, with the columns if they are inside: longer, or begun anew
+-- the run, with the columns if they are inside: extended, or a new one
 abbrev pub longer_run : Bool → Span → ℕ → ℕ → Span
 longer_run inside run from to =
     if is_part inside from to then record { from = if run.to == from then run.from else from; to = to } else run
 
--- what these columns end: the run, if they begin another
+-- the spans that these columns end: the run, if they begin another
 abbrev pub ended_spans : Bool → Span → ℕ → ℕ → List Span
 ended_spans inside run from to = if is_part inside from to && not (run.to == from) then run_spans run else []
 
--- the spans from column `at` on, where so many edges were crossed and a run isn't ended yet
+-- the spans from column `at` on, after this many edges, with a run that hasn't ended
 abbrev pub swept : FillRule → ℕ → List ActiveEdge → ℕ → ℕ → ℕ → Span → List Span
 swept rule end [] at downs ups run =
     ended_spans (is_inside rule downs ups) run at end ++ run_spans (longer_run (is_inside rule downs ups) run at end)

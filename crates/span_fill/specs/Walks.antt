@@ -4,7 +4,7 @@ use Rattle.span_fill.specs.Axis.{ahead}
 use Rattle.span_fill.specs.Strokes.{far}
 use Rattle.span_fill.specs.declared.walk.Walk.{Walk}
 
--- a step overflows nothing
+-- a step causes no overflow
 pub record IsSmall (walk : Walk) : Type 0 where
   pub u_low : negsuc (2 ^ 30) ≤ℤ walk.u
   pub u_high : walk.u ≤ℤ pos (2 ^ 30)
@@ -15,22 +15,22 @@ pub record IsSmall (walk : Walk) : Type 0 where
   pub rest : walk.rest < 2 ^ 31
   pub more : walk.more < 2 ^ 31
 
--- what a walk keeps
+-- what a walk keeps from step to step
 pub record WalksOn (old new : Walk) : Type 0 where
   pub more : new.more ≡ old.more
   pub full : new.full ≡ old.full
   pub back : new.back ≡ old.back
   pub forwards : new.forwards ≡ old.forwards
 
--- a walk is one step further: where the rest and what a step adds reach `full`, it is carried
+-- a walk is one step further: if the remainder and what a step adds reach `full`, it is carried
 pub record IsMoved (old new : Walk) : Type 0 where
   pub same : WalksOn old new
   pub u : new.u ≡ ahead old.forwards old.u 1
   pub kept : old.rest + old.more < old.full → (new.v ≡ old.v +ℤ old.back) × (new.rest ≡ old.rest + old.more)
   pub carried : old.full ≤ old.rest + old.more → (new.v ≡ old.v +ℤ old.back +ℤ pos 1) × (new.rest + old.full ≡ old.rest + old.more)
 
--- A walk from (u0, v0) towards (u1, v1), u being the longer axis, stands after `step` steps: u is the coordinate of that step, and the
--- floor of (2 * step * short + long) / (2 * long) is v - v0, with a rest.
+-- A walk from (u0, v0) towards (u1, v1), with u as the major axis, is at this step: u is the coordinate of that step,
+-- and v - v0 and the remainder are those of (2 * step * short + long) / (2 * long).
 pub record IsAt (u0 v0 u1 v1 : ℤ) (step : ℕ) (walk : Walk) : Type 0 where
   pub forwards : walk.forwards ≡ int_lt u0 u1
   pub u : walk.u ≡ ahead walk.forwards u0 step

@@ -1,4 +1,4 @@
--- What a nib covers that is led along one line, a row at a time.
+-- What a nib covers along one line, row by row.
 use Rattle.std.specs.Prelude.{◌≡◌, ℕ, ◌<◌, ◌≤◌, ◌↔◌, ℤ, pos, ◌+ℤ◌, ◌≤ℤ◌, ◌<ℤ◌, true, IsTrue, Option, Some, None}
 use Rattle.mapping.specs.declared.nib.Nib.{Nib}
 use Rattle.span_fill.specs.Clips.{IsIn}
@@ -6,20 +6,20 @@ use Rattle.span_fill.specs.WideStrokes.{on_wide_line}
 use Rattle.span_fill.specs.declared.line.Line.{Line}
 use Rattle.span_fill.specs.declared.wide_line.WideRow.{WideRow}
 
--- the line, the nib, and the rows to come: from `next` up to before `end`
+-- the line, the nib, and the remaining rows: from `next` to before `end`
 pub record WideLineState : Type 0 where
   pub line : Line
   pub nib : Nib
   pub next : ℤ
   pub end : ℤ
 
--- All rows of a range in which the nib covers something are to come, and none that isn't of the range.
+-- All rows of a range in which the nib covers something remain, and no rows outside the range.
 pub record HasAllRows (from to : ℤ) (w : WideLineState) : Type 0 where
   pub first : from ≤ℤ w.next
   pub last : w.end ≤ℤ to
   pub all : (x y : ℤ) → from ≤ℤ y → y <ℤ to → on_wide_line w.nib w.line x y ≡ true → (w.next ≤ℤ y) × (y <ℤ w.end)
 
--- the next row is given, with the columns that the nib covers there
+-- the next row is returned, with the columns that the nib covers there
 pub record TakesRow (old new : WideLineState) (given : WideRow) : Type 0 where
   pub left : old.next <ℤ old.end
   pub row : given.y ≡ old.next
@@ -30,7 +30,7 @@ pub record TakesRow (old new : WideLineState) (given : WideRow) : Type 0 where
   pub next : new.next ≡ old.next +ℤ pos 1
   pub end : new.end ≡ old.end
 
--- the next row is given, or none after the last
+-- the next row is returned, or nothing after the last one
 abbrev pub GivesRow : WideLineState → Option WideRow → WideLineState → Type 0
 GivesRow old None new = (old.end ≤ℤ old.next) × (new ≡ old)
 GivesRow old (Some row) new = TakesRow old new row

@@ -1,4 +1,4 @@
--- Which pixels a nib covers that is led along lines: a box of its columns and rows around each pixel of a line.
+-- Which pixels a nib covers along lines: a box of its columns and rows around each pixel of a line.
 use Rattle.std.specs.Prelude.{◌≡◌, ℕ, zero, suc, ℤ, pos, ◌+ℤ◌, ◌-ℤ◌, ◌≤ℤ◌, ◌<ℤ◌, Bool, true, false, ◌||◌, IsTrue, ◌↔◌, List}
 use Rattle.std.specs.List.{All, list_any}
 use Rattle.mapping.specs.Nibs.{IsNib, reach_before, reach_after}
@@ -14,16 +14,16 @@ abbrev pub any_below : (ℕ → Bool) → ℕ → Bool
 any_below test zero = false
 any_below test (suc n) = test n || any_below test n
 
--- A nib that is led along a line covers the pixel in column x of row y: it lies in the nib's box around a pixel of the line.
+-- A nib covers the pixel in column x of row y along a line: it lies in the nib's box around a pixel of the line.
 abbrev pub on_wide_line : Nib → Line → ℤ → ℤ → Bool
 on_wide_line nib line x y =
     any_below (λ i. any_below (λ j. on_line line (x +ℤ pos (reach_before nib.x) -ℤ pos i) (y +ℤ pos (reach_before nib.y) -ℤ pos j)) nib.y) nib.x
 
--- a nib that is led along some lines covers the pixel (x, y)
+-- a nib covers the pixel (x, y) along some lines
 abbrev pub in_wide_stroke : Nib → List Line → ℕ → ℕ → Bool
 in_wide_stroke nib lines x y = list_any (λ line. on_wide_line nib line (pos x) (pos y)) lines
 
--- the line has a pixel whose box has (x, y)
+-- the line has a pixel whose box contains (x, y)
 pub record IsCovered (nib : Nib) (line : Line) (x y : ℤ) : Type 0 where
   pub u : ℤ
   pub v : ℤ
@@ -33,7 +33,7 @@ pub record IsCovered (nib : Nib) (line : Line) (x y : ℤ) : Type 0 where
   pub above : (v -ℤ pos (reach_before nib.y)) ≤ℤ y
   pub below : y ≤ℤ (v +ℤ pos (reach_after nib.y))
 
--- what passes a test is an interval
+-- what passes the test is an interval
 pub record IsOneSpan (test : ℤ → Bool) : Type 0 where
   pub from : ℤ
   pub to : ℤ
@@ -43,7 +43,7 @@ pub record IsOneSpan (test : ℤ → Bool) : Type 0 where
 abbrev pub one_pixel : Nib
 one_pixel = record { x = 1; y = 1 }
 
--- a box with all that a nib covers that is led over it
+-- the box of all that a nib covers as it moves over a box
 abbrev pub widened : Nib → Rect → Rect
 widened nib box = record {
   l = box.l -ℤ pos (reach_before nib.x);
@@ -52,16 +52,17 @@ widened nib box = record {
   b = box.b +ℤ pos (reach_after nib.y);
 }
 
--- a nib's columns, in one row
+-- a nib's columns, as a nib of one row
 abbrev pub row_of : Nib → Nib
 row_of nib = record { x = nib.x; y = 1 }
 
--- in one of the rows that the nib reaches, these columns cover the one of the pixel
+-- in one of the rows that the nib reaches, its columns cover the pixel's column
 abbrev pub covers_by_rows : Nib → Line → ℤ → ℤ → Bool
 covers_by_rows nib line x y = any_below (λ j. on_wide_line (row_of nib) line x (y +ℤ pos (reach_before nib.y) -ℤ pos j)) nib.y
 
--- What a nib covers of a line is, in each row, one span; it is covered by the nib's columns from one of the rows that the nib reaches; by a nib of
--- one pixel it is the line itself; and it lies in each box that has the line, widened by the nib.
+-- What a nib covers along a line is one span in each row. It is what the nib's columns cover from the rows that the nib
+-- reaches. A nib of one pixel covers the line itself. A box that contains the line, widened by the nib, contains all
+-- that the nib covers.
 pub record WideStrokeLaws : Type 0 where
   pub covers : (nib : Nib) (line : Line) (x y : ℤ) → IsNib nib → IsTrue (on_wide_line nib line x y) ↔ IsCovered nib line x y
   pub row : (nib : Nib) (line : Line) (y : ℤ) → IsNib nib → IsOneSpan (λ x. on_wide_line nib line x y)

@@ -1,45 +1,45 @@
-//! The edges that cross a row where others end or begin: those that are left, and those that come.
+//! Updates the active edges where edges end or begin.
 
 ghost use Rattle.std.specs.Prelude.{◌≡◌, ◌+◌, ◌-◌, ◌≤◌, ◌<◌, ◌++◌, length, drop, filter, MatchOption, vec_len, vec_capacity};
 ghost use Rattle.std.specs.List.{All};
 ghost use Rattle.std.specs.List.Sorted.{IsNonDecreasingBy, IsPermutation};
 ghost use Rattle.span_fill.specs.Admitting.{BeginsEdge, NoneBegins, beginning_edges};
-ghost use Rattle.span_fill.specs.Edges.{IsEdge, active_at, begins_behind, edge_first_row, goes_to};
+ghost use Rattle.span_fill.specs.Edges.{IsEdge, active_at, begins_after, edge_first_row, goes_to};
 
 use crate::edge::{ActiveEdge, Edge};
 
-/// The edges in the order of the rows where they begin.
+/// Sorts the edges by the rows where they begin.
 pub(crate) fn sort_edges(edges: &mut Vec<Edge>)
     ensures permutation { IsPermutation edges.old.items edges.new.items }
     ensures sorted { IsNonDecreasingBy edge_first_row edges.new.items }
     ensures length { vec_len edges.new ≡ vec_len edges.old }
-    ensures room { vec_capacity edges.new ≡ vec_capacity edges.old }
+    ensures capacity { vec_capacity edges.new ≡ vec_capacity edges.old }
 {
     edges.sort_unstable_by_key(|edge| edge.first_row());
 }
 
-/// The edges that still cross the row.
+/// Removes the edges that don't cross the row.
 pub(crate) fn retire(active: &mut Vec<ActiveEdge>, row: u32)
     ensures edges { active.new.items ≡ filter (goes_to row) active.old.items }
     ensures length { vec_len active.new ≤ vec_len active.old }
-    ensures room { vec_capacity active.new ≡ vec_capacity active.old }
+    ensures capacity { vec_capacity active.new ≡ vec_capacity active.old }
 {
     active.retain(|edge| row < edge.bottom);
 }
 
-/// Those of the edges that begin at the row or above it, where they cross it, behind those that are
-/// there. The edges from `begun` on are still to begin; the result is which of them are so then.
+/// Appends the edges that begin at the row or above it, where they cross it. The edges from `begun` on have not begun
+/// before; returns where those begin that still have not.
 pub(crate) fn admit(active: &mut Vec<ActiveEdge>, edges: &[Edge], begun: usize, row: u32) -> usize
     requires edges { All IsEdge edges.now }
     requires sorted { IsNonDecreasingBy edge_first_row edges.now }
     requires begun { begun ≤ length edges.now }
     requires row { row ≤ 8192 }
-    requires room { vec_len active.old + (length edges.now - begun) ≤ vec_capacity active.old }
+    requires capacity { vec_len active.old + (length edges.now - begun) ≤ vec_capacity active.old }
     ensures active { active.new.items ≡ active.old.items ++ beginning_edges row (drop begun edges.now) }
-    ensures left { drop result edges.now ≡ filter (begins_behind row) (drop begun edges.now) }
+    ensures left { drop result edges.now ≡ filter (begins_after row) (drop begun edges.now) }
     ensures within { result ≤ length edges.now }
     ensures length { vec_len active.new + (length edges.now - result) ≤ vec_len active.old + (length edges.now - begun) }
-    ensures room { vec_capacity active.new ≡ vec_capacity active.old }
+    ensures capacity { vec_capacity active.new ≡ vec_capacity active.old }
 {
     let mut next = begun;
     while let Some(edge) = beginning(edges, next, row) {

@@ -1,39 +1,39 @@
-//! Lines and regions by a line's longer axis.
+//! Lines and regions by a line's major axis.
 
 ghost use Rattle.std.specs.Prelude.{◌≡◌, ◌≤◌, ◌<◌};
-ghost use Rattle.span_fill.specs.Courses.{AreStepsWithin, IsCourse, IsOn, across_span, along_span, course_of, length_of};
+ghost use Rattle.span_fill.specs.MajorLines.{AreStepsWithin, IsMajorLine, IsOn, across_span, along_span, major_of, length_of};
 ghost use Rattle.span_fill.specs.Lines.{HasNearEnds};
-ghost use Rattle.span_fill.specs.Strokes.{is_steep};
+ghost use Rattle.span_fill.specs.Strokes.{is_y_major};
 
 use crate::clip::clipped;
-use crate::course::Course;
 use crate::line::Line;
+use crate::major_line::MajorLine;
 use crate::span::{Region, Span};
 use crate::walk::Walk;
 
-/// Whether a line's longer axis is that of rows.
-pub(crate) fn runs_steeply(line: Line) -> bool
-    ensures { result ≡ is_steep line }
+/// Whether a line is y-major.
+pub(crate) fn runs_y_major(line: Line) -> bool
+    ensures { result ≡ is_y_major line }
 {
     line.to.x.abs_diff(line.from.x) < line.to.y.abs_diff(line.from.y)
 }
 
-/// A line by its longer axis.
-pub(crate) fn course_along(line: Line, steep: bool) -> Course
+/// A line by its major axis.
+pub(crate) fn major_along(line: Line, y_major: bool) -> MajorLine
     requires near { HasNearEnds line }
-    requires axis { steep ≡ is_steep line }
-    ensures value { result ≡ course_of steep line }
-    ensures course { IsCourse (course_of steep line) }
+    requires axis { y_major ≡ is_y_major line }
+    ensures value { result ≡ major_of y_major line }
+    ensures major { IsMajorLine (major_of y_major line) }
 {
-    if steep {
-        Course {
+    if y_major {
+        MajorLine {
             from_u: line.from.y,
             from_v: line.from.x,
             to_u: line.to.y,
             to_v: line.to.x,
         }
     } else {
-        Course {
+        MajorLine {
             from_u: line.from.x,
             from_v: line.from.y,
             to_u: line.to.x,
@@ -42,29 +42,29 @@ pub(crate) fn course_along(line: Line, steep: bool) -> Course
     }
 }
 
-/// The steps of a line whose pixels a region has.
-pub(crate) fn steps_within(course: Course, region: Region, steep: bool) -> Span
-    requires course { IsCourse course }
+/// The steps of a line whose pixels lie in a region.
+pub(crate) fn steps_within(major: MajorLine, region: Region, y_major: bool) -> Span
+    requires major { IsMajorLine major }
     requires columns { region.columns.to ≤ 8192 }
     requires rows { region.rows.to ≤ 8192 }
-    ensures exact { AreStepsWithin course (along_span steep region) (across_span steep region) result }
-    ensures bound { result.to ≤ length_of course }
+    ensures exact { AreStepsWithin major (along_span y_major region) (across_span y_major region) result }
+    ensures bound { result.to ≤ length_of major }
 {
-    if steep {
-        clipped(course, region.rows, region.columns)
+    if y_major {
+        clipped(major, region.rows, region.columns)
     } else {
-        clipped(course, region.columns, region.rows)
+        clipped(major, region.columns, region.rows)
     }
 }
 
-/// The walk along a line at the first of these steps, or some walk where there is none.
-pub(crate) fn walk_within(course: Course, steps: Span) -> Walk
-    requires course { IsCourse course }
-    requires bound { steps.to ≤ length_of course }
-    ensures { steps.from < steps.to → IsOn course steps.from result }
+/// The walk along a line at the first of these steps, or any walk if there is none.
+pub(crate) fn walk_within(major: MajorLine, steps: Span) -> Walk
+    requires major { IsMajorLine major }
+    requires bound { steps.to ≤ length_of major }
+    ensures { steps.from < steps.to → IsOn major steps.from result }
 {
     if steps.from < steps.to {
-        course.walk(steps.from)
+        major.walk(steps.from)
     } else {
         Walk::default()
     }

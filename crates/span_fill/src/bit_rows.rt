@@ -1,26 +1,26 @@
-//! Rows of bits, in which pixels are marked many at a time.
+//! Rows of bits, in which many pixels can be marked at a time.
 
 ghost use Rattle.std.specs.Prelude.{◌≡◌, ◌+◌, ◌*◌, ◌<◌, ◌≤◌, ℕ, IfOk, IsTrue, false, true};
-ghost use Rattle.span_fill.specs.BitRows.{HasSize, IsNext, JoinsRows, SetsBits, has_bit, has_room};
+ghost use Rattle.span_fill.specs.BitRows.{HasSize, IsNext, JoinsRows, SetsBits, has_bit, has_capacity};
 
 use crate::bit_words::{fill_words, join_words, next_bit, set_bits};
 use crate::row_error::OutOfMemory;
 use std::alloc::Global;
 use std::marker::Model;
 
-/// How many words there are, each of 64 bits.
+/// The number of words, each of 64 bits.
 const WORDS: usize = 32_768;
 
-/// Rows of bits, a bit for each column.
+/// Rows of bits, with a bit for each column.
 ///
 /// # Guarantees
 ///
-/// - No call but `new` wants memory, whatever the rows.
+/// - Only `new` allocates memory, whatever the rows.
 #[derive(Drop)]
 pub(crate) struct BitRows {
-    /// The bits, row by row, 64 columns a word, and behind them what earlier rows left.
+    /// The bits, row by row, with 64 columns per word, followed by remains of earlier rows.
     words: Vec<u64>,
-    /// How many words a row has.
+    /// The number of words in a row.
     stride: usize,
     rows: u32,
     columns: u32,
@@ -39,7 +39,7 @@ impl Model for BitRows {
 }
 
 impl BitRows {
-    /// No rows, with memory for 2^21 bits: 256 KiB, or `OutOfMemory` where they were refused.
+    /// Allocates memory for 2^21 bits: 256 KiB. There are no rows yet. Fails with `OutOfMemory`.
     pub(crate) fn new(alloc: Global) -> Result<BitRows, OutOfMemory>
         ensures { IfOk result (λ bits. HasSize bits 0 0) }
     {
@@ -54,16 +54,16 @@ impl BitRows {
         })
     }
 
-    /// Whether there is memory for so many rows and columns.
-    pub(crate) fn has_room(&self, rows: u32, columns: u32) -> bool
-        ensures { result ≡ has_room rows columns }
+    /// Whether the memory is enough for this many rows and columns.
+    pub(crate) fn has_capacity(&self, rows: u32, columns: u32) -> bool
+        ensures { result ≡ has_capacity rows columns }
     {
         rows as usize * (columns as usize).div_ceil(64) <= self.words.len()
     }
 
-    /// Begins with so many rows and columns, of which no bit is set.
+    /// Starts with this many rows and columns, and no bit set.
     pub(crate) fn begin(&mut self, rows: u32, columns: u32)
-        requires { IsTrue (has_room rows columns) }
+        requires { IsTrue (has_capacity rows columns) }
         ensures size { HasSize self.new rows columns }
         ensures none { (x i : ℕ) → x < columns → i < rows → has_bit self.new x i ≡ false }
     {
@@ -74,7 +74,7 @@ impl BitRows {
         fill_words(&mut self.words[..], 0, count, 0);
     }
 
-    /// Sets the bits of a row from column `from` up to before `to`.
+    /// Sets the bits of a row from column `from` to before `to`.
     pub(crate) fn set(&mut self, row: u32, from: u32, to: u32)
         requires row { row < self.old.rows }
         requires order { from ≤ to }
@@ -90,7 +90,7 @@ impl BitRows {
         );
     }
 
-    /// Joins to each of the first rows the row that lies `distance` rows ahead.
+    /// Joins to each of the first rows the row that is `distance` rows further on.
     pub(crate) fn join(&mut self, rows: u32, distance: u32)
         requires { rows + distance ≤ self.old.rows }
         ensures size { HasSize self.new self.old.rows self.old.columns }
@@ -100,7 +100,7 @@ impl BitRows {
         join_words(&mut self.words[..], count, ahead);
     }
 
-    /// The first column from `from` up to before `to` whose bit in the row is set, or `to` where there is none.
+    /// The first column from `from` to before `to` whose bit in the row is set, or `to` if there is none.
     pub(crate) fn next_set(&self, row: u32, from: u32, to: u32) -> u32
         requires row { row < self.now.rows }
         requires order { from ≤ to }
@@ -110,7 +110,7 @@ impl BitRows {
         self.next(true, row, from, to)
     }
 
-    /// The first column from `from` up to before `to` whose bit in the row isn't set, or `to` where there is none.
+    /// The first column from `from` to before `to` whose bit in the row isn't set, or `to` if there is none.
     pub(crate) fn next_clear(&self, row: u32, from: u32, to: u32) -> u32
         requires row { row < self.now.rows }
         requires order { from ≤ to }
@@ -120,7 +120,7 @@ impl BitRows {
         self.next(false, row, from, to)
     }
 
-    /// The first column from `from` up to before `to` whose bit in the row is `bit`, or `to` where there is none.
+    /// The first column from `from` to before `to` whose bit in the row is `bit`, or `to` if there is none.
     fn next(&self, bit: bool, row: u32, from: u32, to: u32) -> u32
         requires row { row < self.now.rows }
         requires order { from ≤ to }

@@ -1,10 +1,10 @@
-//! Bits of words, by their numbers: a word has 64.
+//! Bits of words, by their numbers: a word has 64 bits.
 
 ghost use Rattle.std.specs.Prelude.{◌≡◌, ◌+◌, ◌*◌, ◌^◌, ◌<◌, ◌≤◌, ◌||◌, ◌&&◌, ℕ, cond, length, nat_le, nat_lt, slice_index};
 ghost use Rattle.std.specs.Int.{bit_not, w64};
 ghost use Rattle.span_fill.specs.BitWords.{IsNextBit, joined_word, word_bit};
 
-/// Writes the value into the words from `from` up to before `to`.
+/// Writes a value to the words from `from` to before `to`.
 pub(crate) fn fill_words(words: &mut [u64], from: usize, to: usize, value: u64)
     requires order { from ≤ to }
     requires within { to ≤ length words.old }
@@ -15,7 +15,7 @@ pub(crate) fn fill_words(words: &mut [u64], from: usize, to: usize, value: u64)
     words[from..to].fill(value);
 }
 
-/// Sets the bits from number `from` up to before `to`.
+/// Sets the bits from number `from` to before `to`.
 pub(crate) fn set_bits(words: &mut [u64], from: usize, to: usize)
     requires order { from ≤ to }
     requires within { to ≤ 64 * length words.old }
@@ -25,7 +25,7 @@ pub(crate) fn set_bits(words: &mut [u64], from: usize, to: usize)
         return;
     }
     let (first, last) = (from / 64, (to - 1) / 64);
-    // Of the first word the bits from one on, of the last those up to one, and between them all.
+    // Some bits of the first word, some bits of the last one, and all bits between them.
     let head = u64::MAX << (from % 64);
     let tail = u64::MAX >> (63 - (to - 1) % 64);
     if first == last {
@@ -37,7 +37,7 @@ pub(crate) fn set_bits(words: &mut [u64], from: usize, to: usize)
     words[last] |= tail;
 }
 
-/// Joins to each of the first words the one that lies `ahead` words ahead.
+/// Joins to each of the first words the one that is `ahead` words further on.
 pub(crate) fn join_words(words: &mut [u64], count: usize, ahead: usize)
     requires { count + ahead ≤ length words.old }
     ensures joined { (k : ℕ) → k < count → slice_index words.new k ≡ joined_word words.old ahead k }
@@ -48,7 +48,7 @@ pub(crate) fn join_words(words: &mut [u64], count: usize, ahead: usize)
     }
 }
 
-/// The first number from `from` up to before `to` whose bit is `bit`, or `to` where there is none.
+/// The first number from `from` to before `to` whose bit is `bit`, or `to` if there is none.
 pub(crate) fn next_bit(words: &[u64], bit: bool, from: usize, to: usize) -> usize
     requires few { length words.now ≤ 2 ^ 32 }
     requires order { from ≤ to }

@@ -1,30 +1,29 @@
-//! Which steps of a line lie within a region.
+//! The steps of a line that lie within a region.
 
 ghost use Rattle.std.specs.Prelude.{◌≡◌, ℕ, ◌+◌, ◌*◌, ◌^◌, ◌<◌, ◌≤◌, ◌↔◌, ℤ, pos, negsuc, neg_ℤ, ◌+ℤ◌, ◌-ℤ◌, ◌*ℤ◌, ◌≤ℤ◌, ◌<ℤ◌};
 ghost use Rattle.span_fill.specs.Clips.{SpanHas, IsIn};
-ghost use Rattle.span_fill.specs.Courses.{AreStepsWithin, IsCourse, IsPixelOf, length_of, rise_of, course_step};
+ghost use Rattle.span_fill.specs.MajorLines.{AreStepsWithin, IsMajorLine, IsPixelOf, length_of, rise_of, major_step};
 
-use crate::course::Course;
 use crate::division::divide;
+use crate::major_line::MajorLine;
 use crate::product::product;
 use crate::span::Span;
 
-/// The steps of a line whose coordinates on the longer axis are within `u`, and those on the other one
-/// within `v`.
-pub(crate) fn clipped(course: Course, u: Span, v: Span) -> Span
-    requires course { IsCourse course }
+/// The steps of a line whose coordinates lie within `u` on the major axis and within `v` on the minor one.
+pub(crate) fn clipped(major: MajorLine, u: Span, v: Span) -> Span
+    requires major { IsMajorLine major }
     requires u { u.to ≤ 8192 }
     requires v { v.to ≤ 8192 }
-    ensures exact { AreStepsWithin course u v result }
-    ensures bound { result.to ≤ length_of course }
+    ensures exact { AreStepsWithin major u v result }
+    ensures bound { result.to ≤ length_of major }
 {
     common(
-        steps_along(course, ordered(u)),
-        steps_across(course, ordered(v)),
+        steps_along(major, ordered(u)),
+        steps_across(major, ordered(v)),
     )
 }
 
-/// A span that has the same, with its ends in order.
+/// The same span, with its ends in order.
 fn ordered(span: Span) -> Span
     ensures same { (z : ℤ) → (SpanHas result z ↔ SpanHas span z) }
     ensures to { result.to ≡ span.to }
@@ -36,7 +35,7 @@ fn ordered(span: Span) -> Span
     }
 }
 
-/// What two spans have.
+/// The intersection of two spans.
 fn common(a: Span, b: Span) -> Span
     ensures both { (k : ℕ) → (IsIn result k ↔ (IsIn a k × IsIn b k)) }
     ensures first { result.to ≤ a.to }
@@ -48,49 +47,49 @@ fn common(a: Span, b: Span) -> Span
     }
 }
 
-/// The steps at which the coordinate on the longer axis is within a span.
-fn steps_along(course: Course, within: Span) -> Span
-    requires course { IsCourse course }
+/// The steps at which the coordinate on the major axis is within a span.
+fn steps_along(major: MajorLine, within: Span) -> Span
+    requires major { IsMajorLine major }
     requires to { within.to ≤ 8192 }
     requires order { within.from ≤ within.to }
-    ensures exact { (u v : ℤ) → IsPixelOf course u v → (IsIn result (course_step course u) ↔ SpanHas within u) }
-    ensures bound { result.to ≤ length_of course }
+    ensures exact { (u v : ℤ) → IsPixelOf major u v → (IsIn result (major_step major u) ↔ SpanHas within u) }
+    ensures bound { result.to ≤ length_of major }
 {
-    if course.is_forwards() {
+    if major.is_forwards() {
         Span {
-            from: run_up(course, within.from),
-            to: run_up(course, within.to),
+            from: run_up(major, within.from),
+            to: run_up(major, within.to),
         }
     } else {
         Span {
-            from: run_down(course, within.to),
-            to: run_down(course, within.from),
+            from: run_down(major, within.to),
+            to: run_down(major, within.from),
         }
     }
 }
 
-/// The steps at which the coordinate on the shorter axis is within a span.
-fn steps_across(course: Course, within: Span) -> Span
-    requires course { IsCourse course }
+/// The steps at which the coordinate on the minor axis is within a span.
+fn steps_across(major: MajorLine, within: Span) -> Span
+    requires major { IsMajorLine major }
     requires to { within.to ≤ 8192 }
     requires order { within.from ≤ within.to }
-    ensures exact { (u v : ℤ) → IsPixelOf course u v → (IsIn result (course_step course u) ↔ SpanHas within v) }
-    ensures bound { result.to ≤ length_of course }
+    ensures exact { (u v : ℤ) → IsPixelOf major u v → (IsIn result (major_step major u) ↔ SpanHas within v) }
+    ensures bound { result.to ≤ length_of major }
 {
-    if course.rise() < 0 {
+    if major.rise() < 0 {
         Span {
-            from: fall(course, within.to),
-            to: fall(course, within.from),
+            from: fall(major, within.to),
+            to: fall(major, within.from),
         }
     } else {
         Span {
-            from: rise(course, within.from),
-            to: rise(course, within.to),
+            from: rise(major, within.from),
+            to: rise(major, within.to),
         }
     }
 }
 
-/// How far a row or a column is from a coordinate.
+/// The distance of a row or column from a coordinate.
 fn distance(from: i32, to: u32) -> i32
     requires low { negsuc (2 ^ 28) ≤ℤ from }
     requires high { from ≤ℤ pos (2 ^ 28 + 1) }
@@ -100,7 +99,7 @@ fn distance(from: i32, to: u32) -> i32
     to as i32 - from
 }
 
-/// How far the coordinate before a row or a column is, the other way.
+/// The distance of the coordinate before a row or column, in the other direction.
 fn distance_below(from: i32, to: u32) -> i32
     requires low { negsuc (2 ^ 28) ≤ℤ from }
     requires high { from ≤ℤ pos (2 ^ 28 + 1) }
@@ -110,31 +109,29 @@ fn distance_below(from: i32, to: u32) -> i32
     from - to as i32 + 1
 }
 
-/// The first step at which a line that goes forwards reaches a coordinate on the longer axis, or its
-/// length.
-fn run_up(course: Course, bound: u32) -> u32
-    requires course { IsCourse course }
+/// The first step at which a line that goes forwards reaches a coordinate on the major axis, or its length.
+fn run_up(major: MajorLine, bound: u32) -> u32
+    requires major { IsMajorLine major }
     requires bound { bound ≤ 8192 }
-    requires forwards { course.from_u <ℤ course.to_u }
-    ensures exact { (u v : ℤ) → IsPixelOf course u v → (result ≤ course_step course u ↔ (pos bound ≤ℤ u)) }
-    ensures within { result ≤ length_of course }
+    requires forwards { major.from_u <ℤ major.to_u }
+    ensures exact { (u v : ℤ) → IsPixelOf major u v → (result ≤ major_step major u ↔ (pos bound ≤ℤ u)) }
+    ensures within { result ≤ length_of major }
 {
-    first_from(distance(course.from_u, bound), course.length())
+    first_from(distance(major.from_u, bound), major.length())
 }
 
-/// The first step at which a line that goes backwards is before a coordinate on the longer axis, or its
-/// length.
-fn run_down(course: Course, bound: u32) -> u32
-    requires course { IsCourse course }
+/// The first step at which a line that goes backwards is before a coordinate on the major axis, or its length.
+fn run_down(major: MajorLine, bound: u32) -> u32
+    requires major { IsMajorLine major }
     requires bound { bound ≤ 8192 }
-    requires backwards { course.to_u ≤ℤ course.from_u }
-    ensures exact { (u v : ℤ) → IsPixelOf course u v → (result ≤ course_step course u ↔ (u <ℤ pos bound)) }
-    ensures within { result ≤ length_of course }
+    requires backwards { major.to_u ≤ℤ major.from_u }
+    ensures exact { (u v : ℤ) → IsPixelOf major u v → (result ≤ major_step major u ↔ (u <ℤ pos bound)) }
+    ensures within { result ≤ length_of major }
 {
-    first_from(distance_below(course.from_u, bound), course.length())
+    first_from(distance_below(major.from_u, bound), major.length())
 }
 
-/// The first of `most` counts that is at least a distance, or `most` where none is.
+/// The first of `most` counts that is at least a distance, or `most` if none is.
 fn first_from(distance: i32, most: u32) -> u32
     requires { most ≤ 2 ^ 30 }
     ensures exact { (k : ℕ) → k < most → (result ≤ k ↔ (distance ≤ℤ pos k)) }
@@ -146,74 +143,73 @@ fn first_from(distance: i32, most: u32) -> u32
     most.min(distance as u32)
 }
 
-/// The first step at which a line that doesn't fall reaches a coordinate on the shorter axis, or its
-/// length.
-fn rise(course: Course, bound: u32) -> u32
-    requires course { IsCourse course }
+/// The first step at which a line that doesn't fall reaches a coordinate on the minor axis, or its length.
+fn rise(major: MajorLine, bound: u32) -> u32
+    requires major { IsMajorLine major }
     requires bound { bound ≤ 8192 }
-    requires rises { pos 0 ≤ℤ rise_of course }
-    ensures exact { (u v : ℤ) → IsPixelOf course u v → (result ≤ course_step course u ↔ (pos bound ≤ℤ v)) }
-    ensures within { result ≤ length_of course }
+    requires rises { pos 0 ≤ℤ rise_of major }
+    ensures exact { (u v : ℤ) → IsPixelOf major u v → (result ≤ major_step major u ↔ (pos bound ≤ℤ v)) }
+    ensures within { result ≤ length_of major }
 {
-    first_reach(amount(course, bound), each(course), course.length())
+    first_reach(amount(major, bound), each(major), major.length())
 }
 
-/// The first step at which a line that falls is before a coordinate on the shorter axis, or its length.
-fn fall(course: Course, bound: u32) -> u32
-    requires course { IsCourse course }
+/// The first step at which a line that falls is before a coordinate on the minor axis, or its length.
+fn fall(major: MajorLine, bound: u32) -> u32
+    requires major { IsMajorLine major }
     requires bound { bound ≤ 8192 }
-    requires falls { rise_of course ≤ℤ pos 0 }
-    ensures exact { (u v : ℤ) → IsPixelOf course u v → (result ≤ course_step course u ↔ (v <ℤ pos bound)) }
-    ensures within { result ≤ length_of course }
+    requires falls { rise_of major ≤ℤ pos 0 }
+    ensures exact { (u v : ℤ) → IsPixelOf major u v → (result ≤ major_step major u ↔ (v <ℤ pos bound)) }
+    ensures within { result ≤ length_of major }
 {
-    first_reach(amount_below(course, bound), each(course), course.length())
+    first_reach(amount_below(major, bound), each(major), major.length())
 }
 
-/// What twice the steps' rise must reach so that a line that rises reaches a coordinate.
-fn amount(course: Course, bound: u32) -> i64
-    requires course { IsCourse course }
+/// What twice the rise of the steps must reach for a rising line to reach a coordinate.
+fn amount(major: MajorLine, bound: u32) -> i64
+    requires major { IsMajorLine major }
     requires bound { bound ≤ 8192 }
-    ensures value { result ≡ pos (length_of course) *ℤ (pos 2 *ℤ (pos bound -ℤ course.from_v) -ℤ pos 1) }
+    ensures value { result ≡ pos (length_of major) *ℤ (pos 2 *ℤ (pos bound -ℤ major.from_v) -ℤ pos 1) }
     ensures least { negsuc (2 ^ 60 + 2 ^ 30) ≤ℤ result }
     ensures most { result ≤ℤ pos (2 ^ 60 + 2 ^ 30) }
 {
-    product(course.length(), odd(course, bound))
+    product(major.length(), odd(major, bound))
 }
 
-/// What twice the steps' fall must reach so that a line that falls is before a coordinate.
-fn amount_below(course: Course, bound: u32) -> i64
-    requires course { IsCourse course }
+/// What twice the fall of the steps must reach for a falling line to be before a coordinate.
+fn amount_below(major: MajorLine, bound: u32) -> i64
+    requires major { IsMajorLine major }
     requires bound { bound ≤ 8192 }
-    ensures value { result ≡ pos 1 -ℤ pos (length_of course) *ℤ (pos 2 *ℤ (pos bound -ℤ course.from_v) -ℤ pos 1) }
+    ensures value { result ≡ pos 1 -ℤ pos (length_of major) *ℤ (pos 2 *ℤ (pos bound -ℤ major.from_v) -ℤ pos 1) }
     ensures least { negsuc (2 ^ 61) ≤ℤ result }
     ensures most { result ≤ℤ pos (2 ^ 61) }
 {
-    1 - amount(course, bound)
+    1 - amount(major, bound)
 }
 
-/// Twice how far a coordinate on the shorter axis is from the line's begin, less 1.
-fn odd(course: Course, bound: u32) -> i32
-    requires course { IsCourse course }
+/// Twice the distance of a coordinate on the minor axis from the line's start, minus 1.
+fn odd(major: MajorLine, bound: u32) -> i32
+    requires major { IsMajorLine major }
     requires bound { bound ≤ 8192 }
-    ensures value { result ≡ pos 2 *ℤ (pos bound -ℤ course.from_v) -ℤ pos 1 }
+    ensures value { result ≡ pos 2 *ℤ (pos bound -ℤ major.from_v) -ℤ pos 1 }
     ensures least { negsuc (2 ^ 30) ≤ℤ result }
     ensures most { result ≤ℤ pos (2 ^ 30) }
 {
-    2 * distance(course.from_v, bound) - 1
+    2 * distance(major.from_v, bound) - 1
 }
 
-/// Twice what a line rises or falls.
-fn each(course: Course) -> u32
-    requires { IsCourse course }
-    ensures rises { pos 0 ≤ℤ rise_of course → pos result ≡ pos 2 *ℤ rise_of course }
-    ensures falls { rise_of course ≤ℤ pos 0 → pos result ≡ neg_ℤ (pos 2 *ℤ rise_of course) }
+/// Twice the amount by which a line rises or falls.
+fn each(major: MajorLine) -> u32
+    requires { IsMajorLine major }
+    ensures rises { pos 0 ≤ℤ rise_of major → pos result ≡ pos 2 *ℤ rise_of major }
+    ensures falls { rise_of major ≤ℤ pos 0 → pos result ≡ neg_ℤ (pos 2 *ℤ rise_of major) }
     ensures bound { result ≤ 2 ^ 31 }
 {
-    2 * course.rise().unsigned_abs()
+    2 * major.rise().unsigned_abs()
 }
 
-/// The first of `most` counts whose multiple reaches an amount, or `most` where none does. Where the first
-/// one or none of them does nothing is divided.
+/// The first of `most` counts whose multiple reaches an amount, or `most` if none does. If it is the first one or none,
+/// nothing is divided.
 fn first_reach(amount: i64, each: u32, most: u32) -> u32
     requires low { negsuc (2 ^ 61) ≤ℤ amount }
     requires high { amount ≤ℤ pos (2 ^ 61) }
@@ -231,7 +227,7 @@ fn first_reach(amount: i64, each: u32, most: u32) -> u32
     divided_reach(amount, each, most)
 }
 
-/// Two counts multiplied.
+/// The product of two counts.
 fn whole(each: u32, most: u32) -> i64
     requires each { each ≤ 2 ^ 31 }
     requires most { most ≤ 2 ^ 30 }
@@ -252,7 +248,7 @@ fn divided_reach(amount: i64, each: u32, most: u32) -> u32
     count_from(divide(amount - 1, i64::from(each)).quotient)
 }
 
-/// The count behind a quotient.
+/// The count after a quotient.
 fn count_from(quotient: i64) -> u32
     requires low { pos 0 ≤ℤ quotient }
     requires high { quotient <ℤ pos (2 ^ 30) }

@@ -1,4 +1,5 @@
-//! Which pixels of a few columns are inside, in all rows: found column by column, from the rows in which each line lies to the left.
+//! A table of the pixels of a few columns that are inside, in all rows. It is computed column by column, from the rows
+//! in which each line lies to the left.
 
 ghost use Rattle.std.specs.Prelude.{◌≡◌, ◌+◌, ◌-◌, ◌*◌, ◌<◌, ◌≤◌, ◌^◌, true, false, IsTrue, List, OnOk, length, vec_len, vec_capacity};
 ghost use Rattle.std.specs.List.{All};
@@ -17,52 +18,53 @@ use crate::sweep::{put_part, put_run};
 use crate::winding::{CHANGES, clear_changes, wind_lines};
 use std::alloc::Global;
 
-/// How many rows a column has in the table: those of the largest surface.
+/// The number of rows in a column of the table: as many as the largest surface has.
 const ROWS: usize = 8192;
 
-/// An even number above each winding, so that sums from it on are not below 0.
+/// An even number greater than any winding, so that sums from it on aren't negative.
 const BASE: i32 = 1 << 21;
 
-/// How many lines have a table at least.
+/// The fewest lines for a table.
 const MANY_LINES: usize = 4096;
 
-/// How many edges cross a row at least from which on there may be a table. So many are counted in each row, if they are out of order.
+/// The fewest edges across a row for a table. Rows with this many edges are handled by counting if the edges aren't
+/// sorted.
 pub(crate) const MANY_EDGES: usize = 8256;
 
-/// How many columns a table has at most. A wider one would take more memory, and more time than to move edges.
+/// The most columns of a table. A wider one would take more memory, and more time than moving edges.
 const MOST_COLUMNS: u32 = 256;
 
-/// As long as this many moves of an edge to the next row, a line takes for one column of a table.
+/// One line in one column of a table takes as long as moving an edge to the next row this many times.
 const MOVES: u64 = 5;
 
 /// Which pixels of some columns are inside.
 ///
 /// # Guarantees
 ///
-/// - No call but `reserve` wants memory.
+/// - Only `reserve` allocates memory.
 #[derive(Debug, Drop)]
 pub(crate) struct ColumnTable {
-    /// Whether rows are taken from the flags.
+    /// Whether rows are read from the flags.
     pub(crate) is_used: bool,
-    /// Which columns have flags.
+    /// The columns of the flags.
     pub(crate) columns: Span,
     /// The flags, column by column.
     pub(crate) flags: Vec<bool>,
-    /// Room for the changes of a column.
+    /// Scratch memory for the changes of a column.
     pub(crate) changes: Vec<i32>,
-    /// How often edges were moved to another row, as long as they were many.
+    /// How often edges were moved to another row while there were many.
     pub(crate) moves: u64,
 }
 
 impl ColumnTable {
-    ghost use Rattle.span_fill.specs.ColumnTables.{AreTabled, HasColumns, HasSameTableRoom, HasTableRoom};
+    ghost use Rattle.span_fill.specs.ColumnTables.{AreTabled, HasColumns, HasSameTableCapacity, HasTableCapacity};
     ghost use Rattle.span_fill.specs.declared.fill_rule.FillRule.{FillRule as Rule};
     ghost use Rattle.span_fill.specs.declared.line.Line.{Line as TheLine};
 
-    /// A table that isn't used, and no memory.
+    /// An unused table without memory.
     pub(crate) fn new(alloc: Global) -> ColumnTable
         ensures unused { result.is_used ≡ false }
-        ensures room { HasTableRoom 0 result }
+        ensures capacity { HasTableCapacity 0 result }
     {
         ColumnTable {
             is_used: false,
@@ -73,10 +75,10 @@ impl ColumnTable {
         }
     }
 
-    /// Memory for a table, if there may be so many lines: `OutOfMemory` where it was refused.
+    /// Allocates memory for a table, if it can be used for this many lines. Fails with `OutOfMemory`.
     pub(crate) fn reserve(&mut self, lines: usize) -> Result<(), OutOfMemory>
-        ensures ok { OnOk result (HasTableRoom lines self.new) }
-        ensures kept { HasSameTableRoom self.old self.new }
+        ensures ok { OnOk result (HasTableCapacity lines self.new) }
+        ensures kept { HasSameTableCapacity self.old self.new }
         ensures used { self.new.is_used ≡ self.old.is_used }
         ensures tabled { (rule : Rule) (of : List TheLine) → AreTabled rule of self.old → AreTabled rule of self.new }
     {
@@ -88,40 +90,40 @@ impl ColumnTable {
         Ok(())
     }
 
-    /// Begins with rows that aren't taken from the flags.
+    /// Starts with rows that aren't read from the flags.
     pub(crate) fn begin(&mut self)
         ensures unused { self.new.is_used ≡ false }
-        ensures room { HasSameTableRoom self.old self.new }
+        ensures capacity { HasSameTableCapacity self.old self.new }
     {
         self.is_used = false;
         self.moves = 0;
     }
 
-    /// From now on rows are taken from flags of these columns.
+    /// Computes the flags of these columns, from which rows are read from now on.
     #[inline(never)]
     pub(crate) fn put(&mut self, rule: FillRule, lines: &[Line], columns: Span)
         requires near { All HasNearEnds lines.now }
         requires count { length lines.now ≤ 2 ^ 20 }
         requires can { CanBeTabled (length lines.now) columns }
         requires columns { columns.to ≤ 8192 }
-        requires room { HasTableRoom (length lines.now) self.old }
+        requires capacity { HasTableCapacity (length lines.now) self.old }
         ensures tabled { AreTabled rule lines.now self.new }
         ensures used { self.new.is_used ≡ true }
-        ensures room { HasSameTableRoom self.old self.new }
+        ensures capacity { HasSameTableCapacity self.old self.new }
     {
         put_table(rule, lines, columns, &mut self.changes, &mut self.flags);
         self.columns = columns;
         self.is_used = true;
     }
 
-    /// Whether the table has the interval's columns.
+    /// Whether the table has the columns of the interval.
     pub(crate) fn has_columns(&self, interval: Span) -> bool
         ensures { IsTrue result → HasColumns self.now interval }
     {
         self.columns.from <= interval.from && interval.to <= self.columns.to
     }
 
-    /// The columns of the interval that are inside in a row, as spans in place of those that are there.
+    /// Replaces the spans by those of the inside columns of a row, within the interval.
     #[inline(never)]
     pub(crate) fn put_row(&self, row: u32, interval: Span, spans: &mut RowSpans)
         requires row { row < 8192 }
@@ -129,9 +131,9 @@ impl ColumnTable {
         requires order { interval.from ≤ interval.to }
         requires end { self.now.columns.to ≤ 8192 }
         requires flags { length self.now.flags.items ≡ (self.now.columns.to - self.now.columns.from) * 8192 }
-        requires room { interval.to - interval.from + 1 ≤ spans.old.capacity }
+        requires capacity { interval.to - interval.from + 1 ≤ spans.old.capacity }
         ensures row { AreRow (λ x. flag_at self.now.flags.items self.now.columns.from x row) interval spans.new.items }
-        ensures room { spans.new.capacity ≡ spans.old.capacity }
+        ensures capacity { spans.new.capacity ≡ spans.old.capacity }
     {
         put_flagged(
             self.flags.as_slice(),
@@ -143,7 +145,7 @@ impl ColumnTable {
     }
 }
 
-/// Whether a table of the interval's columns takes less time than so many moves did.
+/// Whether a table for the columns of the interval takes less time than the moves so far.
 pub(crate) fn is_worth(moves: u64, lines: usize, interval: Span) -> bool
     requires { lines ≤ 2 ^ 20 }
     ensures { IsTrue result → CanBeTabled lines interval }
@@ -155,7 +157,7 @@ pub(crate) fn is_worth(moves: u64, lines: usize, interval: Span) -> bool
     columns <= MOST_COLUMNS && MOVES * lines as u64 * u64::from(columns) <= moves
 }
 
-/// The flags of these columns, in place of those that are there.
+/// Replaces the flags by those of these columns.
 fn put_table(
     rule: FillRule,
     lines: &[Line],
@@ -167,12 +169,12 @@ fn put_table(
     requires count { length lines.now ≤ 2 ^ 20 }
     requires order { columns.from ≤ columns.to }
     requires columns { columns.to ≤ 8192 }
-    requires changes_room { 8193 ≤ vec_capacity changes.old }
-    requires flags_room { (columns.to - columns.from) * 8192 ≤ vec_capacity flags.old }
+    requires changes_capacity { 8193 ≤ vec_capacity changes.old }
+    requires flags_capacity { (columns.to - columns.from) * 8192 ≤ vec_capacity flags.old }
     ensures flags { AreFlags rule lines.now columns flags.new.items }
     ensures length { vec_len flags.new ≡ (columns.to - columns.from) * 8192 }
-    ensures changes_room { vec_capacity changes.new ≡ vec_capacity changes.old }
-    ensures flags_room { vec_capacity flags.new ≡ vec_capacity flags.old }
+    ensures changes_capacity { vec_capacity changes.new ≡ vec_capacity changes.old }
+    ensures flags_capacity { vec_capacity flags.new ≡ vec_capacity flags.old }
 {
     flags.clear();
     for column in columns.from..columns.to {
@@ -182,13 +184,13 @@ fn put_table(
     }
 }
 
-/// The flags of a column by its changes, behind those that are there.
+/// Appends the flags of a column, from its changes.
 fn put_column(rule: FillRule, changes: &[i32], flags: &mut Vec<bool>)
     requires length { length changes.now ≡ 8193 }
     requires small { AreSmallSums changes.now }
-    requires room { vec_len flags.old + 8192 ≤ vec_capacity flags.old }
+    requires capacity { vec_len flags.old + 8192 ≤ vec_capacity flags.old }
     ensures column { AddsColumn rule changes.now flags.old.items flags.new.items }
-    ensures room { vec_capacity flags.new ≡ vec_capacity flags.old }
+    ensures capacity { vec_capacity flags.new ≡ vec_capacity flags.old }
 {
     let mut sum: i32 = 0;
     for row in 0..ROWS {
@@ -197,7 +199,7 @@ fn put_column(rule: FillRule, changes: &[i32], flags: &mut Vec<bool>)
     }
 }
 
-/// Whether a pixel is inside around which lines wind so many times.
+/// Whether a pixel is inside if lines wind around it this many times.
 fn is_wound(rule: FillRule, sum: i32) -> bool
     requires { IsWithin (2 ^ 20) sum }
     ensures { AnswersWinding rule sum result }
@@ -208,16 +210,16 @@ fn is_wound(rule: FillRule, sum: i32) -> bool
     }
 }
 
-/// The columns of the interval that are inside by the flags of a row, as spans in place of those that are there.
+/// Replaces the spans by those of the inside columns of a row, within the interval, from the row's flags.
 fn put_flagged(flags: &[bool], first: u32, row: u32, interval: Span, spans: &mut RowSpans)
     requires row { row < 8192 }
     requires first { first ≤ interval.from }
     requires order { interval.from ≤ interval.to }
     requires flags { (interval.to - first) * 8192 ≤ length flags.now }
     requires interval { interval.to ≤ 8192 }
-    requires room { interval.to - interval.from + 1 ≤ spans.old.capacity }
+    requires capacity { interval.to - interval.from + 1 ≤ spans.old.capacity }
     ensures spans { AreRow (λ x. flag_at flags.now first x row) interval spans.new.items }
-    ensures room { spans.new.capacity ≡ spans.old.capacity }
+    ensures capacity { spans.new.capacity ≡ spans.old.capacity }
 {
     spans.clear();
     let mut run = Span {

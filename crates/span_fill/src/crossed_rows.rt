@@ -1,16 +1,16 @@
-//! The rows in which an edge lies to the left of a column's pixels. Its crossing moves to one side only, so they are one interval,
-//! whose end one division finds.
+//! The rows in which an edge lies to the left of a column's pixels. The crossing of an edge moves in one direction
+//! only, so they are one interval, and one division finds its end.
 
 ghost use Rattle.std.specs.Prelude.{◌≡◌, ◌+◌, ◌*◌, ◌<◌, ◌≤◌, ◌^◌, pos, ◌+ℤ◌, ◌-ℤ◌, ◌*ℤ◌, ◌≤ℤ◌};
 ghost use Rattle.mapping.specs.Limits.{IsWithin};
-ghost use Rattle.span_fill.specs.CrossedRows.{HasCrossedRows, HasRowsBehind, HasRowsFrom, HasRowsTo, IsLastMultiple, IsRowOf, reach_of};
+ghost use Rattle.span_fill.specs.CrossedRows.{HasCrossedRows, HasRowsAfter, HasRowsFrom, HasRowsTo, IsLastMultiple, IsRowOf, reach_of};
 ghost use Rattle.span_fill.specs.Edges.{IsEdge};
 
 use crate::edge::Edge;
 use crate::edge_start::{doubled, product};
 use crate::span::Span;
 
-/// The rows in which the edge crosses at or to the left of the middle of the column.
+/// The rows in which the edge crosses at or to the left of the column's centre.
 pub(crate) fn crossed_rows(edge: Edge, column: u32) -> Span
     requires edge { IsEdge edge }
     requires column { column < 8192 }
@@ -23,15 +23,15 @@ pub(crate) fn crossed_rows(edge: Edge, column: u32) -> Span
     if across > 0 {
         rows_to(edge, last_multiple(reach - across, doubled(across)))
     } else if across < 0 {
-        rows_behind(edge, last_multiple(across - reach - 1, doubled(-across)))
+        rows_after(edge, last_multiple(across - reach - 1, doubled(-across)))
     } else if reach >= 0 {
-        rows_behind(edge, -1)
+        rows_after(edge, -1)
     } else {
         rows_to(edge, -1)
     }
 }
 
-/// By how many half columns the middle of the column lies to the right of the upper end, times the edge's height.
+/// The distance of the column's centre to the right of the upper end, in half columns, times the edge's height.
 fn reach(edge: Edge, column: u32) -> i64
     requires edge { IsEdge edge }
     requires column { column < 8192 }
@@ -41,7 +41,7 @@ fn reach(edge: Edge, column: u32) -> i64
     product(half_columns(edge, column), edge.down())
 }
 
-/// By how many half columns the middle of the column lies to the right of the upper end.
+/// The distance of the column's centre to the right of the upper end, in half columns.
 fn half_columns(edge: Edge, column: u32) -> i64
     requires edge { IsEdge edge }
     requires column { column < 8192 }
@@ -61,7 +61,7 @@ fn last_multiple(dividend: i64, divisor: i64) -> i64
     dividend.div_euclid(divisor)
 }
 
-/// The edge's rows up to the one so far below its upper end.
+/// The edge's rows up to the one this far below its upper end.
 fn rows_to(edge: Edge, last: i64) -> Span
     requires { IsWithin (2 ^ 62) last }
     ensures rows { HasRowsTo edge.upper edge.lower last result }
@@ -72,10 +72,10 @@ fn rows_to(edge: Edge, last: i64) -> Span
     rows_from(upper, i64::from(edge.lower.y).min(upper + last + 1))
 }
 
-/// The edge's rows behind the one so far below its upper end.
-fn rows_behind(edge: Edge, last: i64) -> Span
+/// The edge's rows after the one this far below its upper end.
+fn rows_after(edge: Edge, last: i64) -> Span
     requires { IsWithin (2 ^ 62) last }
-    ensures rows { HasRowsBehind edge.upper edge.lower last result }
+    ensures rows { HasRowsAfter edge.upper edge.lower last result }
     ensures order { result.from ≤ result.to }
     ensures within { result.to ≤ 8192 }
 {
@@ -83,7 +83,7 @@ fn rows_behind(edge: Edge, last: i64) -> Span
     rows_from(upper.max(upper + last + 1), i64::from(edge.lower.y))
 }
 
-/// The rows of the surface from one number up to before another.
+/// The rows of the surface from one number to before another.
 fn rows_from(from: i64, to: i64) -> Span
     ensures rows { HasRowsFrom from to result }
     ensures order { result.from ≤ result.to }
@@ -96,7 +96,7 @@ fn rows_from(from: i64, to: i64) -> Span
     }
 }
 
-/// The number as a row of the surface, or row 0 above it, or 8,192 below.
+/// The number as a row of the surface: row 0 if it is above the surface, 8,192 if it is below.
 fn surface_row(number: i64) -> u32
     ensures row { IsRowOf number result }
     ensures within { result ≤ 8192 }

@@ -1,4 +1,4 @@
-//! Edges that go on to the next row: by additions.
+//! Moving edges to the next row by additions.
 
 ghost use Rattle.std.specs.Prelude.{◌≡◌, ◌+◌, ◌≤◌, ◌^◌, pos, ◌+ℤ◌, ◌-ℤ◌, ◌*ℤ◌, ◌≤ℤ◌, ◌<ℤ◌, if◌then◌else◌, ◌&&◌, int_le, map, IsTrue, vec_len, vec_capacity};
 ghost use Rattle.std.specs.List.{All};
@@ -10,7 +10,7 @@ ghost use Rattle.span_fill.specs.Insertion.{are_in_order, lowest};
 use crate::edge::ActiveEdge;
 
 impl ActiveEdge {
-    /// One row on.
+    /// Moves to the next row.
     #[inline]
     fn move_on(&mut self)
         requires { EdgeCanMove self.old }
@@ -23,18 +23,18 @@ impl ActiveEdge {
     }
 }
 
-/// All edges one row on: if so, they are in the order of the columns where they cross it.
+/// Moves all edges to the next row. Returns whether they are sorted by the columns where they cross it.
 pub(crate) fn move_edges(active: &mut Vec<ActiveEdge>) -> bool
     requires { All EdgeCanMove active.old.items }
     ensures edges { active.new.items ≡ map moved active.old.items }
     ensures sorted { IsTrue result → IsNonDecreasingBy column_of active.new.items }
     ensures length { vec_len active.new ≡ vec_len active.old }
-    ensures room { vec_capacity active.new ≡ vec_capacity active.old }
+    ensures capacity { vec_capacity active.new ≡ vec_capacity active.old }
 {
     move_all(active.as_mut_slice())
 }
 
-/// All edges one row on: whether they still are in the order of their columns.
+/// Moves all edges to the next row. Returns whether they are sorted by their columns.
 fn move_all(active: &mut [ActiveEdge]) -> bool
     requires { All EdgeCanMove active.old }
     ensures edges { active.new ≡ map moved active.old }
@@ -50,7 +50,7 @@ fn move_all(active: &mut [ActiveEdge]) -> bool
     ordered
 }
 
-/// Whether what was in order still is, with this column behind the one before.
+/// Whether a sorted order continues with this column after the previous one.
 #[inline]
 fn goes_on(ordered: bool, before: i64, column: i64) -> bool
     ensures { result ≡ (ordered && int_le before column) }
@@ -58,7 +58,7 @@ fn goes_on(ordered: bool, before: i64, column: i64) -> bool
     ordered && before <= column
 }
 
-/// One more, if so.
+/// The column plus 1, if the remainder overflows.
 #[inline]
 fn raised(column: i64, over: bool) -> i64
     requires { IsWithin (2 ^ 62 + 2 ^ 32) column }
@@ -67,7 +67,7 @@ fn raised(column: i64, over: bool) -> i64
     column + i64::from(over)
 }
 
-/// Less by the divisor, if so.
+/// The remainder minus the divisor, if it overflows.
 #[inline]
 fn lowered(rest: i64, divisor: i64, over: bool) -> i64
     requires rest { IsWithin (2 ^ 32) rest }

@@ -1,4 +1,4 @@
-//! Where lines cross a row, each by itself.
+//! Where lines cross a row, each computed separately.
 
 ghost use Rattle.std.specs.Prelude.{◌≡◌, ◌+◌, ◌<◌, ◌≤◌, ◌^◌, [], ◌∷◌, ◌++◌, IsTrue, length, vec_len, vec_capacity};
 ghost use Rattle.std.specs.List.{All};
@@ -11,14 +11,14 @@ use crate::edge::Edge;
 use crate::line::Line;
 use mapping::Point;
 
-/// Where those of the lines cross the row that have it between their ends, in place of what is there.
-pub(crate) fn tell(crossings: &mut Vec<Crossing>, lines: &[Line], row: u32)
+/// Replaces the crossings by those of the lines that cross the row.
+pub(crate) fn put_crossings(crossings: &mut Vec<Crossing>, lines: &[Line], row: u32)
     requires near { All HasNearEnds lines.now }
     requires count { length lines.now ≤ 2 ^ 20 }
-    requires room { length lines.now ≤ vec_capacity crossings.old }
+    requires capacity { length lines.now ≤ vec_capacity crossings.old }
     requires row { row ≤ 8192 }
     ensures crossings { crossings.new.items ≡ crossings_of lines.now row }
-    ensures room { vec_capacity crossings.new ≡ vec_capacity crossings.old }
+    ensures capacity { vec_capacity crossings.new ≡ vec_capacity crossings.old }
 {
     crossings.clear();
     let mut number: u32 = 0;
@@ -28,14 +28,14 @@ pub(crate) fn tell(crossings: &mut Vec<Crossing>, lines: &[Line], row: u32)
     }
 }
 
-/// Where the line crosses the row, if it has it between its ends.
+/// Appends the line's crossing, if it crosses the row.
 fn put_crossing(crossings: &mut Vec<Crossing>, number: u32, line: Line, row: u32)
     requires near { HasNearEnds line }
-    requires room { vec_len crossings.old < vec_capacity crossings.old }
+    requires capacity { vec_len crossings.old < vec_capacity crossings.old }
     requires row { row ≤ 8192 }
     ensures crossings { crossings.new.items ≡ crossings.old.items ++ crossings_of_line number line row }
     ensures length { vec_len crossings.new ≤ vec_len crossings.old + 1 }
-    ensures room { vec_capacity crossings.new ≡ vec_capacity crossings.old }
+    ensures capacity { vec_capacity crossings.new ≡ vec_capacity crossings.old }
 {
     if has_row(line.from, line.to, row) {
         crossings.push_reserved(crossing_at(number, line.from, line.to, row));
@@ -44,7 +44,7 @@ fn put_crossing(crossings: &mut Vec<Crossing>, number: u32, line: Line, row: u32
     }
 }
 
-/// Whether the row is between the ends.
+/// Whether the row's centre lies between the ends.
 fn has_row(upper: Point, lower: Point, row: u32) -> bool
     ensures { result ≡ has_row upper lower row }
 {

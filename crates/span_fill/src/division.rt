@@ -1,8 +1,8 @@
-//! Division towards the lesser number.
+//! Floor division.
 
 ghost use Rattle.std.specs.Prelude.{◌≡◌, ◌^◌, pos, negsuc, ◌+ℤ◌, ◌*ℤ◌, ◌≤ℤ◌, ◌<ℤ◌};
 
-/// A whole number divided by one above 0: the floor of the fraction, and what is left.
+/// An integer divided by a positive one: the floor of the fraction, and the remainder.
 #[derive(Clone, Copy, Debug)]
 pub(crate) struct Divided {
     pub(crate) quotient: i64,
@@ -10,7 +10,7 @@ pub(crate) struct Divided {
     pub(crate) rest: i64,
 }
 
-/// `dividend / divisor`, rounded down, with what is left.
+/// `dividend / divisor`, rounded down, and the remainder.
 pub(crate) fn divide(dividend: i64, divisor: i64) -> Divided
     requires above_zero { pos 1 ≤ℤ divisor }
     requires divisor_fits { divisor ≤ℤ pos (2 ^ 61) }

@@ -13,21 +13,20 @@ pub(crate) struct Edge {
     pub(crate) lower: Point,
 }
 
-/// An edge that has the middle of a row between its ends, where it crosses that row, and what brings
-/// it to the next one.
+/// An edge that crosses the centre of a row, its crossing there, and what moves it to the next row.
 #[derive(Clone, Copy, Debug)]
 pub(crate) struct ActiveEdge {
-    /// The first row that isn't above the lower end.
+    /// The first row whose centre isn't above the lower end.
     pub(crate) bottom: u32,
     /// Whether the line itself runs downwards.
     pub(crate) is_down: bool,
-    /// The first column whose middle isn't to the left of the crossing, on the surface or beside it: the floor
-    /// of a fraction by `divisor`, and what is left of that.
+    /// The first column whose centre isn't to the left of the crossing, on the surface or outside it: the floor of a
+    /// fraction by `divisor`, with its remainder.
     pub(crate) column: i64,
     pub(crate) rest: i64,
     /// Twice the edge's height.
     pub(crate) divisor: i64,
-    /// What one row adds to the fraction: its floor, and what is left.
+    /// What one row adds to the fraction: its floor and its remainder.
     pub(crate) step: i64,
     pub(crate) more: i64,
 }

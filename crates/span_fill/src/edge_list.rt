@@ -1,18 +1,18 @@
 //! The edges of lines.
 
 ghost use Rattle.std.specs.Prelude.{◌≡◌, ◌+◌, ◌<◌, ◌≤◌, ◌^◌, [], ◌∷◌, ◌++◌, filter, length, vec_len, vec_capacity};
-ghost use Rattle.span_fill.specs.Edges.{edges_from, edges_of_line, ends_behind};
+ghost use Rattle.span_fill.specs.Edges.{edges_from, edges_of_line, ends_after};
 
 use crate::edge::Edge;
 use crate::line::Line;
 
-/// The edges of the lines that end behind the row, in place of those that are there.
+/// Replaces the edges by those of the lines that end after the row.
 pub(crate) fn collect_edges(edges: &mut Vec<Edge>, lines: &[Line], row: u32)
     requires count { length lines.now ≤ 2 ^ 20 }
-    requires room { length lines.now ≤ vec_capacity edges.old }
-    ensures edges { edges.new.items ≡ filter (ends_behind row) (edges_from 0 lines.now) }
+    requires capacity { length lines.now ≤ vec_capacity edges.old }
+    ensures edges { edges.new.items ≡ filter (ends_after row) (edges_from 0 lines.now) }
     ensures length { vec_len edges.new ≤ length lines.now }
-    ensures room { vec_capacity edges.new ≡ vec_capacity edges.old }
+    ensures capacity { vec_capacity edges.new ≡ vec_capacity edges.old }
 {
     edges.clear();
     let mut number: u32 = 0;
@@ -22,13 +22,13 @@ pub(crate) fn collect_edges(edges: &mut Vec<Edge>, lines: &[Line], row: u32)
     }
 }
 
-/// The line's edge, if it isn't horizontal and ends behind the row.
+/// Appends the line's edge, if it isn't horizontal and ends after the row.
 fn put_line(edges: &mut Vec<Edge>, number: u32, line: Line, row: u32)
     requires { vec_len edges.old < vec_capacity edges.old }
     ensures edges { edges.new.items
-        ≡ edges.old.items ++ filter (ends_behind row) (edges_of_line number line) }
+        ≡ edges.old.items ++ filter (ends_after row) (edges_of_line number line) }
     ensures length { vec_len edges.new ≤ vec_len edges.old + 1 }
-    ensures room { vec_capacity edges.new ≡ vec_capacity edges.old }
+    ensures capacity { vec_capacity edges.new ≡ vec_capacity edges.old }
 {
     if line.from.y < line.to.y {
         let edge = Edge {
@@ -49,12 +49,12 @@ fn put_line(edges: &mut Vec<Edge>, number: u32, line: Line, row: u32)
     }
 }
 
-/// The edge, if it ends behind the row.
+/// Appends the edge, if it ends after the row.
 fn put_edge(edges: &mut Vec<Edge>, edge: Edge, row: u32)
     requires { vec_len edges.old < vec_capacity edges.old }
-    ensures edges { edges.new.items ≡ edges.old.items ++ filter (ends_behind row) (edge ∷ []) }
+    ensures edges { edges.new.items ≡ edges.old.items ++ filter (ends_after row) (edge ∷ []) }
     ensures length { vec_len edges.new ≤ vec_len edges.old + 1 }
-    ensures room { vec_capacity edges.new ≡ vec_capacity edges.old }
+    ensures capacity { vec_capacity edges.new ≡ vec_capacity edges.old }
 {
     if row < edge.bottom() {
         edges.push_reserved(edge);

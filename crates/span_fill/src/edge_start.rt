@@ -1,4 +1,4 @@
-//! An edge at the row where it begins to count: here its crossing and its step are divided.
+//! An edge at the row where it becomes active. Its crossing and its step are divided here.
 
 ghost use Rattle.std.specs.Prelude.{◌≡◌, ◌+◌, ◌*◌, ◌≤◌, ◌^◌, pos, ◌+ℤ◌, ◌-ℤ◌, ◌*ℤ◌, ◌≤ℤ◌, ◌<ℤ◌, IsTrue};
 ghost use Rattle.mapping.specs.Floor.{floor_div};
@@ -10,7 +10,7 @@ ghost use Rattle.span_fill.specs.Fill.{across, crossing_dividend, crossing_divis
 use crate::crossing::Crossing;
 use crate::edge::{ActiveEdge, Edge};
 
-/// A fraction of whole numbers: the greatest whole number not above it, and what is left.
+/// A fraction of integers: its floor, and the remainder.
 #[derive(Clone, Copy)]
 struct Fraction {
     floor: i64,
@@ -18,7 +18,7 @@ struct Fraction {
 }
 
 impl Edge {
-    /// The edge where it crosses the row.
+    /// The edge at its crossing with the row.
     pub(crate) fn active_at(self, row: u32) -> ActiveEdge
         requires edge { IsEdge self }
         requires row { row ≤ 8192 }
@@ -52,14 +52,14 @@ impl Edge {
         }
     }
 
-    /// The first row that isn't above the edge.
+    /// The first row whose centre isn't above the edge.
     pub(crate) fn first_row(self) -> u32
         ensures { result ≡ edge_first_row self }
     {
         row_of(self.upper.y)
     }
 
-    /// The first row that isn't above the edge's lower end.
+    /// The first row whose centre isn't above the edge's lower end.
     pub(crate) fn bottom(self) -> u32
         ensures { result ≡ near_row self.lower.y }
     {
@@ -85,7 +85,7 @@ impl Edge {
         i64::from(self.lower.x) - i64::from(self.upper.x)
     }
 
-    /// By how many half rows the middle of the row lies below the upper end.
+    /// The distance of the row's centre below the upper end, in half rows.
     fn half_rows(self, row: u32) -> i64
         requires edge { IsEdge self }
         requires row { row ≤ 8192 }
@@ -95,8 +95,8 @@ impl Edge {
         i64::from(2 * row + 1) - 2 * i64::from(self.upper.y)
     }
 
-    /// The number that gives the first column whose middle isn't to the left of the crossing, by twice the
-    /// edge's height.
+    /// The dividend of the first column whose centre isn't to the left of the crossing; the divisor is twice the edge's
+    /// height.
     fn column_dividend(self, row: u32) -> i64
         requires edge { IsEdge self }
         requires row { row ≤ 8192 }
@@ -106,7 +106,7 @@ impl Edge {
         rounded_up(self.dividend(row), self.down())
     }
 
-    /// The number that gives the crossing, by twice the edge's height.
+    /// The dividend of the crossing; the divisor is twice the edge's height.
     fn dividend(self, row: u32) -> i64
         requires edge { IsEdge self }
         requires row { row ≤ 8192 }
@@ -119,7 +119,7 @@ impl Edge {
     }
 }
 
-/// The row of a coordinate, or row 0 if it is above that.
+/// The row of a coordinate, or row 0 if it is negative.
 fn row_of(y: i32) -> u32
     ensures { result ≡ near_row y }
 {
@@ -155,7 +155,7 @@ fn sum(a: i64, b: i64) -> i64
     a + b
 }
 
-/// Half a divisor more, but for 1.
+/// The dividend plus half of the divisor minus 1, for rounding up.
 fn rounded_up(dividend: i64, half: i64) -> i64
     requires dividend { IsWithin (2 ^ 62) dividend }
     requires low { pos 1 ≤ℤ half }
@@ -166,7 +166,7 @@ fn rounded_up(dividend: i64, half: i64) -> i64
     dividend + half - 1
 }
 
-/// The fraction by a divisor above 0.
+/// The fraction by a positive divisor.
 fn divided(dividend: i64, divisor: i64) -> Fraction
     requires dividend { IsWithin (2 ^ 62 + 2 ^ 31) dividend }
     requires low { pos 1 ≤ℤ divisor }

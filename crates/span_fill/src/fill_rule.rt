@@ -1,10 +1,10 @@
-//! What is inside of polygons that cross themselves or each other.
+//! What is inside polygons that cross themselves or each other.
 
-/// Which pixels are inside of some polygons, by the lines to the left of a pixel ([MS-WMF] 2.1.1.25).
+/// Which pixels are inside polygons, by the lines to the left of a pixel ([MS-WMF] 2.1.1.25).
 #[derive(Clone, Copy, Debug, PartialEq, Eq)]
 pub enum FillRule {
-    /// Those that an odd number of lines lies to the left of (ALTERNATE).
+    /// Those with an odd number of lines to the left (ALTERNATE).
     EvenOdd,
-    /// Those to the left of which not as many lines run downwards as upwards (WINDING).
+    /// Those for which the numbers of lines to the left that run downwards and upwards differ (WINDING).
     NonZero,
 }

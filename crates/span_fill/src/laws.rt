@@ -5,23 +5,26 @@ ghost use Rattle.span_fill.specs.RowLaws.{RowLaws};
 ghost use Rattle.span_fill.specs.Strokes.{OnePixelForEachStep};
 ghost use Rattle.span_fill.specs.WideStrokes.{WideStrokeLaws};
 
-/// The law of lines: a line has one pixel for each step along its longer axis, and no further one.
+/// The law of lines: a line has exactly one pixel for each step along its major axis, and no others.
 pub fn line_law()
     ensures { OnePixelForEachStep }
 {}
 
-/// The law of rows: above and below the rows in which lines lie, there is nothing of them.
+/// The law of rows: lines have no pixels above or below the rows in which they lie, and polygons have none above or
+/// below those of their lines.
 pub fn row_law()
     ensures { RowLaws }
 {}
 
-/// The law of boxes around lines: the pixels of lines lie in each box that has the lines, and so do those inside of polygons that do.
+/// The law of boxes around lines: a box that contains lines contains their pixels, and a box that contains polygons
+/// contains the pixels inside them.
 pub fn line_box_law()
     ensures { LineBoxLaws }
 {}
 
-/// The law of wide strokes: what a nib covers of a line is, in each row, one span. It is covered by the nib's columns from one of the rows
-/// that the nib reaches. By a nib of one pixel it is the line itself, and it lies in each box that has the line, widened by the nib.
+/// The law of wide strokes: what a nib covers along a line is one span in each row. It is what the nib's columns cover
+/// from the rows that the nib reaches. A nib of one pixel covers the line itself. A box that contains the line, widened
+/// by the nib, contains all that the nib covers.
 pub fn wide_stroke_law()
     ensures { WideStrokeLaws }
 {}

@@ -1,23 +1,28 @@
-//! Which pixels polygons and lines have.
+//! The pixels of polygons and lines.
 //!
 //! # What is promised
 //!
-//! - The spans of a row hold a pixel exactly where it is inside of the polygons by an inequality of whole
-//!   numbers, for that pixel alone; they are sorted, at least one pixel apart and within the interval
-//!   (`RowBuf::next_fill`, `fill_row`, by `FillsRow`).
-//! - So do those of a row of lines, where a nib covers the pixel that is led along one of them (`RowBuf::next_stroke`, `stroke_row`).
-//! - Where lines cross the next row is found as the quotient and the rest of the definition's own numbers, and nothing else changes
-//!   (`RowBuf::find_crossings`, `RowBuf::crossings`).
-//! - Within its room a row buffer wants no memory, and after a refusal it is what it was (`RowBuf::reserve`).
-//! - A line's pixels within a region are given in order, each once, and no other (`LineSteps::new`, `LineSteps::next`).
-//! - What a nib covers that is led along a line is given row by row, in each row one span (`WideLine::new`, `WideLine::next`).
-//! - So is what it covers in a region that is led along many lines: span by span, each pixel once and no other (`StrokeMask::begin`,
-//!   `StrokeMask::next_span`).
-//! - A line has one pixel for each step along its longer axis (`line_law`).
-//! - A nib covers what lies within its reach of a pixel of the line; a nib of one pixel covers the line's own (`wide_stroke_law`).
-//! - Above and below the rows in which lines lie there is nothing of them (`row_law`), and all their pixels lie in each box that
-//!   has the lines (`line_box_law`).
-//! - What a span has between two numbers is a span with these numbers alone (`Span::between`).
+//! - The spans of a row contain a pixel exactly if it is inside the polygons, by an integer inequality for that pixel
+//!   alone. They are sorted, at least one pixel apart and within the interval (`RowBuf::next_fill`, `fill_row`, by
+//!   `FillsRow`).
+//! - The spans of a row of lines contain a pixel exactly if the nib covers it as it moves along one of the lines. They
+//!   are sorted, apart and within the interval too (`RowBuf::next_stroke`, `stroke_row`).
+//! - The crossings of lines with the next row are found as a quotient and a remainder of the numbers in the definition,
+//!   and nothing else changes (`RowBuf::find_crossings`, `RowBuf::crossings`).
+//! - Within its capacity a row buffer allocates no memory, and after a failed allocation it is unchanged
+//!   (`RowBuf::reserve`).
+//! - The pixels of a line within a region are returned in order, each once, and no others (`LineSteps::new`,
+//!   `LineSteps::next`).
+//! - What a nib covers as it moves along a line is returned row by row, as one span per row (`WideLine::new`,
+//!   `WideLine::next`).
+//! - What a nib covers in a region as it moves along many lines is returned span by span, each pixel once and no others
+//!   (`StrokeMask::begin`, `StrokeMask::next_span`).
+//! - A line has one pixel for each step along its major axis (`line_law`).
+//! - A nib covers what lies within its reach of a pixel of the line; a nib of one pixel covers the line itself
+//!   (`wide_stroke_law`).
+//! - Lines and polygons have no pixels above or below the rows of their lines (`row_law`), and all their pixels lie in
+//!   each box that contains the lines (`line_box_law`).
+//! - The part of a span between two numbers is a span with exactly these numbers (`Span::between`).
 #![tactic(auto)]
 
 mod active_edges;
@@ -28,12 +33,10 @@ mod bounds;
 mod clip;
 mod column_table;
 mod counted_row;
-mod course;
 mod crossed_rows;
 mod crossing;
 mod crossing_moves;
 mod crossings;
-mod cut;
 mod division;
 mod edge;
 mod edge_list;
@@ -44,6 +47,7 @@ mod insertion;
 mod joining;
 mod laws;
 mod line;
+mod major_line;
 mod mask_frame;
 mod mask_marks;
 mod memory;
@@ -53,17 +57,18 @@ mod product;
 mod reach;
 mod row_buf;
 mod row_error;
+mod row_slope;
 mod row_spans;
-mod slant;
 mod span;
+mod stepper;
 mod steps;
-mod strip;
-mod strip_rows;
 mod stroke_mask;
 mod stroke_rows;
 mod strokes;
 mod sweep;
 mod walk;
+mod wide_edge;
+mod wide_edge_rows;
 mod wide_line;
 mod winding;
 

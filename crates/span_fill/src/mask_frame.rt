@@ -1,4 +1,4 @@
-//! Where the rows of lines lie in a mask.
+//! The rows of a mask for rows of lines.
 
 ghost use Rattle.std.specs.Prelude.{◌≡◌, ◌*◌, ◌<◌, ◌≤◌, pos, negsuc, ◌≤ℤ◌, ◌<ℤ◌};
 ghost use Rattle.mapping.specs.Nibs.{IsNib};
@@ -8,10 +8,10 @@ ghost use Rattle.span_fill.specs.WideStrokes.{row_of};
 use crate::span::{Region, Span};
 use mapping::{Nib, reach_after};
 
-/// A nib that is led along lines, and the region of a surface of which a mask is made.
+/// A nib that moves along lines, and the region of a surface for a mask.
 ///
-/// The mask's first rows are those of the lines: of the rows from which the nib reaches the region, in their order. Rows from which it reaches
-/// all of the region share one row of the mask, so that twice the region's rows are always enough.
+/// The mask's first rows are rows of lines, in order: the rows from which the nib reaches the region. All rows from
+/// which it reaches the whole region share one row of the mask, so that twice the region's rows are always enough.
 #[derive(Clone, Copy, Debug)]
 pub(crate) struct MaskFrame {
     pub(crate) nib: Nib,
@@ -21,7 +21,7 @@ pub(crate) struct MaskFrame {
 impl MaskFrame {
     ghost use Rattle.span_fill.specs.MaskFrames.{IsMaskFrame, IsPartOf, depth_of, first_row, mask_row, row_at, row_count, shared_nib, shared_row, spare_of};
 
-    /// How many columns the region has.
+    /// The number of columns in the region.
     pub(crate) fn width(self) -> u32
         requires { IsMaskRegion self.region }
         ensures width { result ≡ width_of self.region }
@@ -30,7 +30,7 @@ impl MaskFrame {
         self.region.columns.to - self.region.columns.from
     }
 
-    /// How many rows the region has.
+    /// The number of rows in the region.
     pub(crate) fn height(self) -> u32
         requires { IsMaskRegion self.region }
         ensures height { result ≡ height_of self.region }
@@ -39,7 +39,7 @@ impl MaskFrame {
         self.region.rows.to - self.region.rows.from
     }
 
-    /// The nib's columns.
+    /// The nib's columns, as a nib of one row.
     pub(crate) fn row_of_nib(self) -> Nib
         requires { IsMaskFrame self }
         ensures nib { result ≡ row_of self.nib }
@@ -61,7 +61,7 @@ impl MaskFrame {
         self.region.rows.from as i32 - reach_after(self.nib.y)
     }
 
-    /// How many rows of lines there are from which it does.
+    /// The number of rows of lines from which it does.
     pub(crate) fn row_count(self) -> u32
         requires { IsMaskFrame self }
         ensures { result ≡ row_count self }
@@ -69,7 +69,7 @@ impl MaskFrame {
         self.height() + u32::from(self.nib.y) - 1
     }
 
-    /// The row of lines that lies so many rows behind the first, or the end of the rows.
+    /// The row of lines this many rows after the first one, or the end of these rows.
     pub(crate) fn row_at(self, number: u32) -> i32
         requires frame { IsMaskFrame self }
         requires number { number ≤ row_count self }
@@ -88,7 +88,7 @@ impl MaskFrame {
         u32::from(self.nib.y).min(self.height())
     }
 
-    /// How many rows of lines have no row of the mask of their own.
+    /// How many rows of lines don't have their own row in the mask.
     pub(crate) fn spare(self) -> u32
         requires { IsMaskFrame self }
         ensures { result ≡ spare_of self }
@@ -96,7 +96,7 @@ impl MaskFrame {
         u32::from(self.nib.y) - self.depth()
     }
 
-    /// The row of the mask that a row of lines has, counted from the first.
+    /// The row of the mask for a row of lines, counted from the first one.
     pub(crate) fn mask_row(self, row: u32) -> u32
         requires frame { IsMaskFrame self }
         requires row { row < row_count self }
@@ -108,7 +108,8 @@ impl MaskFrame {
             .max(row.saturating_sub(self.spare()))
     }
 
-    /// A nib as wide that covers at once what the nib's columns cover in the rows of lines that share a row of the mask.
+    /// A nib of the same width, which covers at once what the nib's columns cover in all rows of lines that share a row
+    /// of the mask.
     pub(crate) fn shared_nib(self) -> Nib
         requires frame { IsMaskFrame self }
         requires some { 1 ≤ height_of self.region }
@@ -121,7 +122,7 @@ impl MaskFrame {
         }
     }
 
-    /// The row that this nib is led along.
+    /// The row along which this nib moves.
     pub(crate) fn shared_row(self) -> i32
         requires frame { IsMaskFrame self }
         requires some { 1 ≤ height_of self.region }
@@ -132,7 +133,7 @@ impl MaskFrame {
         self.row_at(self.height() - 1) + reach_after(self.shared_nib().y)
     }
 
-    /// What columns of a surface have of the region, counted from its first column.
+    /// The part of some columns of a surface in the region, counted from the region's first column.
     pub(crate) fn columns_of(self, columns: Span) -> Span
         requires { IsMaskRegion self.region }
         ensures columns { IsPartOf self.region columns result }
@@ -140,13 +141,13 @@ impl MaskFrame {
         ensures within { result.to ≤ width_of self.region }
     {
         let start = self.region.columns.from;
-        let cut = self
+        let stepper = self
             .region
             .columns
             .between(i64::from(columns.from), i64::from(columns.to));
         Span {
-            from: cut.from - start,
-            to: cut.to - start,
+            from: stepper.from - start,
+            to: stepper.to - start,
         }
     }
 }

@@ -1,4 +1,4 @@
-//! What a nib covers that is led along lines, marked in rows of bits.
+//! Marking what a nib covers along lines, in rows of bits.
 
 ghost use Rattle.std.specs.Prelude.{◌+◌, ◌-◌, ◌*◌, ◌<◌, ◌≤◌, ◌≤ℤ◌, ◌<ℤ◌};
 ghost use Rattle.span_fill.specs.BitRows.{HasSize};
@@ -14,7 +14,7 @@ use crate::outline::Outline;
 use crate::span::Span;
 use crate::wide_line::{WideLine, WideRow};
 
-/// What the nib covers in the region that is led along the lines of an outline, in bits that are clear.
+/// Marks what the nib covers in the region along the lines of an outline. All bits must be clear.
 pub(crate) fn cover<O: Outline>(bits: &mut BitRows, outline: &mut O, frame: MaskFrame)
     requires frame { IsMaskFrame frame }
     requires size { HasRows frame bits.old }
@@ -30,7 +30,7 @@ pub(crate) fn cover<O: Outline>(bits: &mut BitRows, outline: &mut O, frame: Mask
     widen(bits, height, frame.depth());
 }
 
-/// Marks what the nib's columns cover that are led along the lines of an outline.
+/// Marks what the nib's columns cover along the lines of an outline.
 fn mark_lines<O: Outline>(bits: &mut BitRows, outline: &mut O, frame: MaskFrame)
     requires frame { IsMaskFrame frame }
     requires size { HasRows frame bits.old }
@@ -43,7 +43,7 @@ fn mark_lines<O: Outline>(bits: &mut BitRows, outline: &mut O, frame: MaskFrame)
     }
 }
 
-/// Marks what the nib's columns cover that are led along a line.
+/// Marks what the nib's columns cover along a line.
 fn mark_line(bits: &mut BitRows, line: Line, frame: MaskFrame)
     requires frame { IsMaskFrame frame }
     requires size { HasRows frame bits.old }
@@ -57,14 +57,15 @@ fn mark_line(bits: &mut BitRows, line: Line, frame: MaskFrame)
         mark_rows(bits, line, frame, 0, frame.row_count());
         return;
     }
-    // The rows that share one are marked at once, by a nib of so many rows: a steep line costs the mask's rows, and none of the nib's.
+    // The rows that share one are marked at once, by a nib of this many rows: the cost of a y-major line depends on the
+    // mask's rows, but not on the nib's.
     let before = frame.height() - 1;
     mark_rows(bits, line, frame, 0, before);
     mark_shared(bits, line, frame);
     mark_rows(bits, line, frame, before + 1 + spare, before);
 }
 
-/// Marks what they cover in so many rows of lines from a row on.
+/// Marks what the nib's columns cover in some rows of lines.
 fn mark_rows(bits: &mut BitRows, line: Line, frame: MaskFrame, from: u32, count: u32)
     requires frame { IsMaskFrame frame }
     requires size { HasRows frame bits.old }
@@ -85,7 +86,7 @@ fn mark_rows(bits: &mut BitRows, line: Line, frame: MaskFrame, from: u32, count:
     }
 }
 
-/// Marks what they cover in a row.
+/// Marks what the nib's columns cover in a row.
 fn mark_row(bits: &mut BitRows, row: WideRow, frame: MaskFrame)
     requires frame { IsMaskFrame frame }
     requires size { HasRows frame bits.old }
@@ -99,7 +100,7 @@ fn mark_row(bits: &mut BitRows, row: WideRow, frame: MaskFrame)
     mark_columns(bits, row.columns, frame, frame.mask_row(place));
 }
 
-/// Marks what they cover in the rows of lines that share a row of the mask.
+/// Marks what the nib's columns cover in the rows of lines that share a row of the mask.
 fn mark_shared(bits: &mut BitRows, line: Line, frame: MaskFrame)
     requires frame { IsMaskFrame frame }
     requires size { HasRows frame bits.old }
@@ -128,7 +129,7 @@ fn mark_columns(bits: &mut BitRows, columns: Span, frame: MaskFrame, row: u32)
     bits.set(row, part.from, part.to);
 }
 
-/// Gives each of the first rows what so many rows from it on have.
+/// Joins to each of the first rows the rows after it, `depth` rows in all.
 fn widen(bits: &mut BitRows, height: u32, depth: u32)
     requires some { 1 ≤ depth }
     requires depth { depth ≤ height }
@@ -140,7 +141,7 @@ fn widen(bits: &mut BitRows, height: u32, depth: u32)
     let rows = height + depth - 1;
     let mut reach = 1;
     while 2 * reach <= depth {
-        // Each row that has so many rows behind it gets twice as many.
+        // Each row with enough rows after it doubles the number of rows that it has joined.
         bits.join(rows + 1 - 2 * reach, reach);
         reach *= 2;
     }

@@ -1,10 +1,10 @@
-//! Room in vectors.
+//! The capacity of vectors.
 
 ghost use Rattle.std.specs.Prelude.{◌≡◌, ◌≤◌, ◌^◌, OnOk, vec_capacity};
 
 use crate::row_error::OutOfMemory;
 
-/// Memory for so many elements.
+/// Allocates memory for this many elements.
 pub(crate) fn grow<T>(elements: &mut Vec<T>, count: usize) -> Result<(), OutOfMemory>
     requires { count ≤ 2 ^ 21 }
     ensures ok { OnOk result (count ≤ vec_capacity elements.new) }

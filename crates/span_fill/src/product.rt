@@ -1,4 +1,4 @@
-//! Products that need no more than 64 bits.
+//! Products that fit 64 bits.
 
 ghost use Rattle.std.specs.Prelude.{◌≡◌, ◌+◌, ◌^◌, ◌≤◌, pos, negsuc, ◌*ℤ◌, ◌≤ℤ◌};
 

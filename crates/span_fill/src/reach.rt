@@ -1,11 +1,11 @@
-//! Numbers held between two others.
+//! Numbers limited to a range.
 
 ghost use Rattle.std.specs.Prelude.{◌≡◌, ◌<◌, ◌≤◌, ◌↔◌, ℕ, ℤ, pos, ◌≤ℤ◌, ◌<ℤ◌};
 ghost use Rattle.std.specs.Int.{int_max, int_min};
 
 use crate::bounds::CoordinateRange;
 
-/// The first of 8,192 columns from a coordinate on.
+/// A coordinate as one of 8,192 columns, or the column after them.
 pub(crate) fn seen_from(coordinate: i64) -> u32
     ensures exact { (n : ℕ) → n < 8192 → (result ≤ n ↔ (coordinate ≤ℤ pos n)) }
     ensures within { result ≤ 8192 }
@@ -19,7 +19,7 @@ pub(crate) fn seen_from(coordinate: i64) -> u32
     }
 }
 
-/// The first row of a range from a coordinate on, or the row where the range ends.
+/// A coordinate as a row of a range, or the end of the range.
 pub(crate) fn first_in(range: CoordinateRange, coordinate: i64) -> i32
     requires { range.from ≤ℤ range.to }
     ensures exact { (y : ℤ) → range.from ≤ℤ y → y <ℤ range.to → (result ≤ℤ y ↔ (coordinate ≤ℤ y)) }
@@ -35,7 +35,7 @@ pub(crate) fn first_in(range: CoordinateRange, coordinate: i64) -> i32
     }
 }
 
-/// The lesser of two numbers.
+/// The minimum of two numbers.
 pub(crate) fn lesser(first: i64, second: i64) -> i64
     ensures value { result ≡ int_min first second }
     ensures first { result ≤ℤ first }
@@ -44,7 +44,7 @@ pub(crate) fn lesser(first: i64, second: i64) -> i64
     if second < first { second } else { first }
 }
 
-/// The greater of two numbers.
+/// The maximum of two numbers.
 pub(crate) fn greater(first: i64, second: i64) -> i64
     ensures value { result ≡ int_max first second }
     ensures first { first ≤ℤ result }

@@ -1,8 +1,8 @@
-//! A buffer that gives the spans of an outline's rows, one row after another.
+//! A buffer that computes the spans of an outline's rows, one row after another.
 
 ghost use Rattle.std.specs.Prelude.{◌≡◌, ◌+◌, ◌<◌, ◌≤◌, ◌^◌, [], length, OnOk, OnErr};
 ghost use Rattle.mapping.specs.Nibs.{IsNib};
-ghost use Rattle.span_fill.specs.RowState.{BeginsFill, BeginsStroke, DiffersInRoom, FillsRow, HasFoundCrossings, SameWork, IsFillingWork, IsStrokingWork, filling, idle, stroking};
+ghost use Rattle.span_fill.specs.RowState.{BeginsFill, BeginsStroke, DiffersInCapacity, FillsRow, HasFoundCrossings, SameWork, IsFillingWork, IsStrokingWork, filling, idle, stroking};
 
 mod sweeping;
 
@@ -10,7 +10,7 @@ use crate::active_edges::{admit, sort_edges};
 use crate::column_table::ColumnTable;
 use crate::counted_row::{ColumnCount, most_counts};
 use crate::crossing::Crossing;
-use crate::crossings::tell;
+use crate::crossings::put_crossings;
 use crate::edge::{ActiveEdge, Edge};
 use crate::edge_list::collect_edges;
 use crate::events::next_event;
@@ -27,7 +27,7 @@ use smallvec::SmallVec;
 use std::alloc::Global;
 use std::marker::Model;
 
-/// What is done with the lines.
+/// What the lines are used for.
 #[derive(Clone, Copy, Debug)]
 enum Work {
     Idle,
@@ -35,32 +35,32 @@ enum Work {
     Stroking,
 }
 
-/// The lines of an outline, and the spans that they give row by row: of the pixels inside, or of their own.
+/// The lines of an outline, and their spans row by row: either of the pixels inside, or of the lines themselves.
 ///
-/// Each line is divided once, at the row where it begins; from there on its crossing moves by additions. Where very many lines cross
-/// a few columns, rows are read from a table, for which each line is divided once a column.
+/// Each line is divided once, at the row where it begins; from there on its crossing moves by additions. If very many
+/// lines cross a few columns, rows are read from a table, for which each line is divided once per column.
 ///
 /// # Guarantees
 ///
-/// - Within its room no call but `reserve` wants memory.
+/// - Within its capacity, only `reserve` allocates memory.
 #[derive(Debug, Drop)]
 pub struct RowBuf {
     lines: Vec<Line>,
-    /// The edges that end behind the first row, in the order of the rows where they begin.
+    /// The edges that end after the first row, sorted by the rows where they begin.
     edges: Vec<Edge>,
     /// How many of them have begun.
     begun: usize,
     /// Those that cross the next row.
     active: Vec<ActiveEdge>,
-    /// Whether these are in the order of the columns where they do.
+    /// Whether these are sorted by the columns where they do.
     is_sorted: bool,
-    /// The first row in which one of these has ended or another begins.
+    /// The first row in which one of these has ended or another one begins.
     event: u32,
-    /// Where the lines cross the next row, once that was asked for.
+    /// Where the lines cross the next row, if that was computed.
     crossings: Vec<Crossing>,
-    /// Room for the counts of a row's columns.
+    /// Scratch memory for the counts of a row's columns.
     counts: Vec<ColumnCount>,
-    /// What is inside of a few columns, where so many edges cross them that this takes less time than to move those.
+    /// The inside of a few columns, if so many edges cross them that this takes less time than moving the edges.
     table: ColumnTable,
     spans: RowSpans,
     /// The lines themselves.
@@ -68,7 +68,7 @@ pub struct RowBuf {
     work: Work,
     rule: FillRule,
     next: u32,
-    room: usize,
+    capacity: usize,
 }
 
 impl Model for RowBuf {
@@ -84,12 +84,12 @@ impl Model for RowBuf {
 }
 
 impl RowBuf {
-    /// A buffer with nothing begun and room for no line. It takes no memory yet.
+    /// A buffer with no work and no capacity. Allocates no memory.
     pub fn new(alloc: Global) -> RowBuf
         ensures lines { result.lines ≡ [] }
         ensures work { result.work ≡ idle }
         ensures spans { result.spans ≡ [] }
-        ensures room { result.room ≡ 0 }
+        ensures capacity { result.capacity ≡ 0 }
     {
         RowBuf {
             lines: Vec::new(alloc),
@@ -106,21 +106,21 @@ impl RowBuf {
             work: Work::Idle,
             rule: FillRule::EvenOdd,
             next: 0,
-            room: 0,
+            capacity: 0,
         }
     }
 
-    /// Memory for outlines of so many lines, at most 2^20: `OutOfMemory` where it was refused, and then
-    /// the buffer is what it was.
+    /// Allocates memory for outlines of this many lines, at most 2^20. Fails with `OutOfMemory`, and then the buffer is
+    /// unchanged.
     pub fn reserve(&mut self, lines: usize) -> Result<(), OutOfMemory>
         requires { lines ≤ 2 ^ 20 }
-        ensures ok { OnOk result (lines ≤ self.new.room) }
-        ensures err { OnErr result (self.old.room < lines) }
+        ensures ok { OnOk result (lines ≤ self.new.capacity) }
+        ensures err { OnErr result (self.old.capacity < lines) }
         ensures unchanged { OnErr result (self.new ≡ self.old) }
-        ensures same { DiffersInRoom self.old self.new }
-        ensures kept { self.old.room ≤ self.new.room }
+        ensures same { DiffersInCapacity self.old self.new }
+        ensures kept { self.old.capacity ≤ self.new.capacity }
     {
-        if lines <= self.room {
+        if lines <= self.capacity {
             return Ok(());
         }
         grow(&mut self.lines, lines)?;
@@ -131,15 +131,15 @@ impl RowBuf {
         self.table.reserve(lines)?;
         grow_spans(&mut self.spans, lines + 2)?;
         self.strokes.reserve(lines)?;
-        self.room = lines;
+        self.capacity = lines;
         Ok(())
     }
 
-    /// Begins with the pixels inside of the outline, at row `y`. All lines of the outline are taken.
+    /// Starts with the pixels inside the outline, at row `y`. Takes all lines of the outline.
     pub fn begin_fill<O: Outline>(&mut self, outline: &mut O, rule: FillRule, y: u32)
-        requires count { length (O.lines outline.old) ≤ self.old.room }
+        requires count { length (O.lines outline.old) ≤ self.old.capacity }
         requires row { y ≤ 8192 }
-        ensures { BeginsFill rule (O.lines outline.old) y self.old.room self.new }
+        ensures { BeginsFill rule (O.lines outline.old) y self.old.capacity self.new }
     {
         copy_lines(outline, &mut self.lines);
         self.spans.clear();
@@ -155,7 +155,7 @@ impl RowBuf {
         self.event = next_event(self.active.as_slice(), self.edges.as_slice(), self.begun);
     }
 
-    /// The spans of the next row within the interval.
+    /// Computes the spans of the next row within the interval.
     pub fn next_fill(&mut self, interval: Span)
         requires filling { IsFillingWork self.old.work }
         requires next { self.old.next < 8192 }
@@ -168,27 +168,27 @@ impl RowBuf {
         self.step();
     }
 
-    /// The spans of one row: a begin and its first row.
+    /// Computes the spans of one row: starts and computes its first row.
     pub fn fill_row<O: Outline>(&mut self, outline: &mut O, rule: FillRule, y: u32, interval: Span)
-        requires count { length (O.lines outline.old) ≤ self.old.room }
+        requires count { length (O.lines outline.old) ≤ self.old.capacity }
         requires row { y < 8192 }
         requires interval { interval.to ≤ 8192 }
         ensures work { self.new.work ≡ filling rule }
         ensures lines { self.new.lines ≡ O.lines outline.old }
         ensures spans { FillsRow (filling rule) (O.lines outline.old) y interval self.new.spans }
         ensures next { self.new.next ≡ y + 1 }
-        ensures room { self.new.room ≡ self.old.room }
+        ensures capacity { self.new.capacity ≡ self.old.capacity }
     {
         self.begin_fill(outline, rule, y);
         self.next_fill(interval);
     }
 
-    /// Begins with the pixels of the outline's lines, at row `y`. All lines of the outline are taken.
+    /// Starts with the pixels of the outline's lines, at row `y`. Takes all lines of the outline.
     pub fn begin_stroke<O: Outline>(&mut self, outline: &mut O, nib: Nib, y: u32)
-        requires count { length (O.lines outline.old) ≤ self.old.room }
+        requires count { length (O.lines outline.old) ≤ self.old.capacity }
         requires nib { IsNib nib }
         requires row { y ≤ 8192 }
-        ensures { BeginsStroke nib (O.lines outline.old) y self.old.room self.new }
+        ensures { BeginsStroke nib (O.lines outline.old) y self.old.capacity self.new }
     {
         copy_lines(outline, &mut self.lines);
         self.spans.clear();
@@ -197,7 +197,7 @@ impl RowBuf {
         self.strokes.begin(self.lines.as_slice(), nib, y);
     }
 
-    /// The spans of the next row within the interval.
+    /// Computes the spans of the next row within the interval.
     pub fn next_stroke(&mut self, interval: Span)
         requires stroking { IsStrokingWork self.old.work }
         requires next { self.old.next < 8192 }
@@ -210,9 +210,9 @@ impl RowBuf {
         self.next += 1;
     }
 
-    /// The spans of one row: a begin and its first row.
+    /// Computes the spans of one row: starts and computes its first row.
     pub fn stroke_row<O: Outline>(&mut self, outline: &mut O, nib: Nib, y: u32, interval: Span)
-        requires count { length (O.lines outline.old) ≤ self.old.room }
+        requires count { length (O.lines outline.old) ≤ self.old.capacity }
         requires nib { IsNib nib }
         requires row { y < 8192 }
         requires interval { interval.to ≤ 8192 }
@@ -220,29 +220,28 @@ impl RowBuf {
         ensures lines { self.new.lines ≡ O.lines outline.old }
         ensures spans { FillsRow (stroking nib) (O.lines outline.old) y interval self.new.spans }
         ensures next { self.new.next ≡ y + 1 }
-        ensures room { self.new.room ≡ self.old.room }
+        ensures capacity { self.new.capacity ≡ self.old.capacity }
     {
         self.begin_stroke(outline, nib, y);
         self.next_stroke(interval);
     }
 
-    /// The spans of the row before the next, in order, at least one pixel apart.
+    /// The spans of the latest row, in order, at least one pixel apart.
     pub fn spans(&self) -> &[Span]
         ensures { result.now ≡ self.now.spans }
     {
         self.spans.as_slice()
     }
 
-    /// Finds where the lines cross the middle of the next row: each line once that has it between its ends, and no other. Each is
-    /// divided anew, for whoever asks.
+    /// Finds where the lines cross the centre of the next row, once for each line that does. Each line is divided anew.
     pub fn find_crossings(&mut self)
         requires { IsFillingWork self.old.work }
         ensures { HasFoundCrossings self.old self.new }
     {
-        tell(&mut self.crossings, self.lines.as_slice(), self.next);
+        put_crossings(&mut self.crossings, self.lines.as_slice(), self.next);
     }
 
-    /// The crossings that were found last, in no order.
+    /// The crossings that were found last, in no particular order.
     pub fn crossings(&self) -> &[Crossing]
         ensures { result.now ≡ self.now.crossings }
     {

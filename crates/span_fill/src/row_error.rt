@@ -1,9 +1,9 @@
-//! What can go wrong at a row buffer: the system refuses memory.
+//! The error of a row buffer: a failed allocation.
 
 use std::error::Error;
 use std::fmt;
 
-/// Memory for the lines of an outline was refused.
+/// Memory for the lines of an outline couldn't be allocated.
 #[derive(Clone, Copy, Debug, PartialEq, Eq)]
 pub struct OutOfMemory;
 

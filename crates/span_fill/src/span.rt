@@ -1,10 +1,9 @@
-//! Spans: what a row has, and intervals to look at.
+//! Spans: parts of rows, and intervals.
 
 ghost use Rattle.std.specs.Prelude.{◌≡◌, ◌≤◌, ◌<◌, ◌↔◌, ◌&&◌, ◌<ℤ◌, ℕ, pos};
 ghost use Rattle.mapping.specs.PixelBoxes.{is_from_to};
 
-/// Columns of a row, or rows: from the first up to before the last. Where `to` isn't above `from` there
-/// is none.
+/// Columns of a row, or rows: from the first to before the last. If `to` isn't above `from`, there are none.
 #[derive(Clone, Copy, Debug, Default, PartialEq, Eq)]
 pub struct Span {
     pub from: u32,
@@ -14,7 +13,7 @@ pub struct Span {
 impl Span {
     ghost use Rattle.span_fill.specs.Spans.{in_span};
 
-    /// What the span has from one number on, up to before another.
+    /// The part of the span from one number to before another.
     #[inline]
     pub fn between(self, from: i64, to: i64) -> Span
         requires { self.from ≤ self.to }
@@ -38,7 +37,7 @@ pub struct Region {
     pub rows: Span,
 }
 
-/// The number nearest to another, of those from one on up to a third.
+/// A number, limited to be at least the second and at most the third.
 fn clamped(number: i64, least: u32, most: u32) -> u32
     requires { least ≤ most }
     ensures least { least ≤ result }

@@ -1,29 +1,29 @@
-//! The pixels of a line within a region, a step at a time.
+//! The pixels of a line within a region, step by step.
 
 ghost use Rattle.std.specs.Prelude.{◌≡◌, ◌↔◌, ◌<◌, ◌≤◌, IsTrue};
 ghost use Rattle.span_fill.specs.Lines.{HasNearEnds};
 ghost use Rattle.span_fill.specs.Steps.{GivesPixel, HasAllSteps, TakesStep};
 
-use crate::axes::{course_along, runs_steeply, steps_within, walk_within};
+use crate::axes::{major_along, runs_y_major, steps_within, walk_within};
 use crate::line::Line;
 use crate::pixel::Pixel;
 use crate::span::Region;
 use crate::walk::Walk;
 use std::marker::Model;
 
-/// The pixels of a line within a region, in the order of the line's steps along its longer axis, from its first
-/// point on.
+/// The pixels of a line within a region, in the order of the line's steps along its major axis, from its first point
+/// on.
 ///
 /// # Guarantees
 ///
-/// - The pixel of each step to come is within the region.
+/// - The pixel of each remaining step is within the region.
 #[derive(Debug, Drop)]
 pub struct LineSteps {
     line: Line,
     region: Region,
-    /// Where the pixel of step `next` is, if there is one to come.
+    /// The position of the pixel of step `next`, if a step remains.
     walk: Walk,
-    steep: bool,
+    y_major: bool,
     next: u32,
     end: u32,
 }
@@ -41,8 +41,8 @@ impl Model for LineSteps {
 }
 
 impl LineSteps {
-    /// The pixels of a line that a region has. Where both ends of the line are in the region nothing is divided,
-    /// else up to three times.
+    /// The pixels of a line that lie in a region. If both ends of the line do, nothing is divided, otherwise up to
+    /// three times.
     pub fn new(line: Line, region: Region) -> LineSteps
         requires near { HasNearEnds line }
         requires columns { region.columns.to ≤ 8192 }
@@ -51,27 +51,27 @@ impl LineSteps {
         ensures region { result.region ≡ region }
         ensures all { HasAllSteps result }
     {
-        let steep = runs_steeply(line);
-        let course = course_along(line, steep);
-        let clip = steps_within(course, region, steep);
+        let y_major = runs_y_major(line);
+        let major = major_along(line, y_major);
+        let clip = steps_within(major, region, y_major);
         LineSteps {
             line,
             region,
-            walk: walk_within(course, clip),
-            steep,
+            walk: walk_within(major, clip),
+            y_major,
             next: clip.from,
             end: clip.to,
         }
     }
 
-    /// Whether no step is to come.
+    /// Whether no step remains.
     pub fn is_empty(&self) -> bool
         ensures { IsTrue result ↔ (self.now.end ≤ self.now.next) }
     {
         self.next >= self.end
     }
 
-    /// The pixel of the next step, or none behind the last.
+    /// The pixel of the next step, or `None` after the last one.
     pub fn next(&mut self) -> Option<Pixel>
         ensures { GivesPixel self.old result self.new }
     {
@@ -86,7 +86,7 @@ impl LineSteps {
         requires { self.old.next < self.old.end }
         ensures { TakesStep self.old self.new result }
     {
-        let pixel = self.walk.pixel(self.steep);
+        let pixel = self.walk.pixel(self.y_major);
         self.walk = self.walk.advanced();
         self.next += 1;
         pixel

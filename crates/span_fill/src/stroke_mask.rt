@@ -1,8 +1,8 @@
-//! What a nib covers that is led along many lines, as a mask of bits.
+//! What a nib covers along many lines, as a mask of bits.
 
 ghost use Rattle.std.specs.Prelude.{◌≡◌, ◌↔◌, ℕ, ◌<◌, false, IsTrue, IfOk};
 ghost use Rattle.mapping.specs.Nibs.{IsNib};
-ghost use Rattle.span_fill.specs.StrokeMasks.{GivesRun, GivesSpan, GivesSpanOfRow, HasMaskRoom, HasStrokeToCome, IsMaskRegion, to_come};
+ghost use Rattle.span_fill.specs.StrokeMasks.{GivesRun, GivesSpan, GivesSpanOfRow, HasMaskCapacity, HasStrokeToCome, IsMaskRegion, to_come};
 
 use crate::bit_rows::BitRows;
 use crate::mask_frame::MaskFrame;
@@ -23,20 +23,21 @@ pub struct RowSpan {
     pub columns: Span,
 }
 
-/// What a nib covers in a region that is led along many lines: marked in bits, widened at once, given span by span.
+/// What a nib covers in a region as it moves along many lines: marked in bits, widened at once, and returned span by
+/// span.
 ///
-/// A line marks its own rows alone, with what the nib's columns cover there. The nib's rows are added to all lines at once, so that their
-/// number costs a mask its logarithm, and a line nothing.
+/// A line marks only its own rows, with what the nib's columns cover there. The nib's rows are added for all lines at
+/// once, so that their number costs the mask its logarithm, and a line nothing.
 ///
 /// # Guarantees
 ///
-/// - No call but `new` takes memory.
+/// - Only `new` allocates memory.
 #[derive(Drop)]
 pub struct StrokeMask {
-    /// The region's rows of bits, from its first row and its first column on.
+    /// The rows of bits of the region, from its first row and first column on.
     bits: BitRows,
     region: Region,
-    /// The row and the column from which pixels are to come.
+    /// The row and the column of the next pixels.
     row: u32,
     column: u32,
 }
@@ -54,7 +55,7 @@ impl Model for StrokeMask {
 }
 
 impl StrokeMask {
-    /// A mask of which nothing is to come. It takes all memory that it ever takes.
+    /// A mask with nothing to return. It allocates all of its memory.
     pub fn new(alloc: Global) -> Result<StrokeMask, OutOfMemory>
         ensures { IfOk result (λ mask. (x y : ℕ) → to_come mask x y ≡ false) }
     {
@@ -72,23 +73,23 @@ impl StrokeMask {
     }
 
     /// Whether a region is small enough.
-    pub fn has_room(&self, region: Region) -> bool
+    pub fn has_capacity(&self, region: Region) -> bool
         requires { IsMaskRegion region }
-        ensures { IsTrue result ↔ HasMaskRoom region }
+        ensures { IsTrue result ↔ HasMaskCapacity region }
     {
         let frame = MaskFrame {
             nib: Nib::ONE,
             region,
         };
-        self.bits.has_room(2 * frame.height(), frame.width())
+        self.bits.has_capacity(2 * frame.height(), frame.width())
     }
 
-    /// Begins with what a nib covers in a region that is led along the lines of an outline. All of these are taken, unless the region has no
-    /// row.
+    /// Starts with what a nib covers in a region along the lines of an outline. Takes all of the lines, unless the
+    /// region has no row.
     pub fn begin<O: Outline>(&mut self, outline: &mut O, nib: Nib, region: Region)
         requires nib { IsNib nib }
         requires region { IsMaskRegion region }
-        requires room { HasMaskRoom region }
+        requires capacity { HasMaskCapacity region }
         ensures region { self.new.region ≡ region }
         ensures stroke { HasStrokeToCome nib region (O.lines outline.old) self.new }
     {
@@ -100,7 +101,7 @@ impl StrokeMask {
         self.column = region.columns.from;
     }
 
-    /// The next span, in the order of rows and columns, or none behind the last.
+    /// The next span, in the order of rows and columns, or `None` after the last one.
     pub fn next_span(&mut self) -> Option<RowSpan>
         ensures { GivesSpan self.old result self.new }
     {
@@ -112,14 +113,14 @@ impl StrokeMask {
         None
     }
 
-    /// Whether there is a row to look at.
+    /// Whether a row remains.
     fn has_row(&self) -> bool
         ensures { IsTrue result ↔ (self.now.row < self.now.region.rows.to) }
     {
         self.row < self.region.rows.to
     }
 
-    /// The next span of the row, or on to the next row.
+    /// The next span of the row, or advances to the next row.
     fn next_of_row(&mut self) -> Option<RowSpan>
         requires { self.old.row < self.old.region.rows.to }
         ensures { GivesSpanOfRow self.old result self.new }
@@ -136,7 +137,7 @@ impl StrokeMask {
         })
     }
 
-    /// The next columns of the row that are set.
+    /// The next set columns of the row.
     fn next_run(&self) -> Option<Span>
         requires { self.now.row < self.now.region.rows.to }
         ensures { GivesRun self.now result }

@@ -1,49 +1,48 @@
-//! A row's spans from the edges that cross it.
+//! The spans of a row, from the edges that cross it.
 
 ghost use Rattle.std.specs.Prelude.{◌≡◌, ◌+◌, ◌-◌, ◌≤◌, ◌<◌, ◌^◌, ◌++◌, IsTrue, drop, length, max, min, if◌then◌else◌};
 ghost use Rattle.smallvec.specs.SmallVec.{HasRoomFor, small_vec_len};
 ghost use Rattle.span_fill.specs.Edges.{column_of, near_column};
 ghost use Rattle.span_fill.specs.Fill.{is_inside};
-ghost use Rattle.span_fill.specs.Sweep.{has_pair, is_over_behind, is_part, longer_run, ended_spans, run_spans, swept, swept_within};
+ghost use Rattle.span_fill.specs.Sweep.{has_pair, is_over_after, is_part, longer_run, ended_spans, run_spans, swept, swept_within};
 
 use crate::edge::ActiveEdge;
 use crate::fill_rule::FillRule;
 use crate::row_spans::RowSpans;
 use crate::span::Span;
 
-/// The spans of a row within the interval, behind those that are there. Most rows have two edges, and one
-/// span between them.
+/// Appends the spans of a row within the interval. Most rows have two edges, and one span between them.
 #[inline]
 pub(crate) fn sweep(rule: FillRule, edges: &[ActiveEdge], interval: Span, spans: &mut RowSpans)
     requires count { length edges.now ≤ 2 ^ 20 }
     requires interval { interval.to ≤ 8192 }
-    requires room { HasRoomFor spans.old (length edges.now + 2) }
+    requires capacity { HasRoomFor spans.old (length edges.now + 2) }
     ensures spans { spans.new.items ≡ spans.old.items ++ swept_within rule edges.now interval }
-    ensures room { spans.new.capacity ≡ spans.old.capacity }
+    ensures capacity { spans.new.capacity ≡ spans.old.capacity }
 {
-    if edges.len() == 2 && is_over_behind(rule, edges[0], edges[1]) {
-        let from = column_behind(interval.from, &edges[0], interval.to);
-        let to = column_behind(from, &edges[1], interval.to);
+    if edges.len() == 2 && is_over_after(rule, edges[0], edges[1]) {
+        let from = column_after(interval.from, &edges[0], interval.to);
+        let to = column_after(from, &edges[1], interval.to);
         put_run(spans, Span { from, to });
     } else {
         sweep_pairs(rule, edges, interval, spans);
     }
 }
 
-/// The same of any edges: two by two, as long as nothing is inside behind both.
+/// The same for any edges: two at a time, for as long as nothing is inside after both.
 fn sweep_pairs(rule: FillRule, edges: &[ActiveEdge], interval: Span, spans: &mut RowSpans)
     requires count { length edges.now ≤ 2 ^ 20 }
     requires interval { interval.to ≤ 8192 }
-    requires room { HasRoomFor spans.old (length edges.now + 2) }
+    requires capacity { HasRoomFor spans.old (length edges.now + 2) }
     ensures spans { spans.new.items ≡ spans.old.items ++ swept_within rule edges.now interval }
-    ensures room { spans.new.capacity ≡ spans.old.capacity }
+    ensures capacity { spans.new.capacity ≡ spans.old.capacity }
 {
     let mut at = interval.from;
     let mut run = Span { from: at, to: at };
     let mut place = 0;
     while has_pair(rule, edges, place) {
-        let from = column_behind(at, &edges[place], interval.to);
-        at = column_behind(from, &edges[place + 1], interval.to);
+        let from = column_after(at, &edges[place], interval.to);
+        at = column_after(from, &edges[place + 1], interval.to);
         run = put_part(spans, run, from, at, true);
         place += 2;
     }
@@ -60,19 +59,19 @@ fn sweep_pairs(rule: FillRule, edges: &[ActiveEdge], interval: Span, spans: &mut
     );
 }
 
-/// Whether two edges stand from the place on, and nothing is inside behind both, if nothing is before.
+/// Whether there are two edges at the index, and nothing is inside after both if nothing is before.
 fn has_pair(rule: FillRule, edges: &[ActiveEdge], place: usize) -> bool
     requires count { length edges.now ≤ 2 ^ 20 }
     requires place { place ≤ length edges.now }
     ensures pair { result ≡ has_pair rule (drop place edges.now) }
     ensures within { IsTrue result → place + 1 < length edges.now }
 {
-    place + 1 < edges.len() && is_over_behind(rule, edges[place], edges[place + 1])
+    place + 1 < edges.len() && is_over_after(rule, edges[place], edges[place + 1])
 }
 
-/// Whether nothing is inside behind the two edges.
-fn is_over_behind(rule: FillRule, left: ActiveEdge, right: ActiveEdge) -> bool
-    ensures { result ≡ is_over_behind rule left right }
+/// Whether nothing is inside after the two edges.
+fn is_over_after(rule: FillRule, left: ActiveEdge, right: ActiveEdge) -> bool
+    ensures { result ≡ is_over_after rule left right }
 {
     match rule {
         FillRule::EvenOdd => true,
@@ -80,8 +79,8 @@ fn is_over_behind(rule: FillRule, left: ActiveEdge, right: ActiveEdge) -> bool
     }
 }
 
-/// The same of the edges from the place on, in the rest of the interval: from one to the next, in the order of their
-/// columns, with the count of those to the left. Before them nothing is inside, and a run isn't ended yet.
+/// The same for the edges from the index on, in the rest of the interval: in the order of their columns, with the
+/// number of those to the left. Before them nothing is inside, and a run may not have ended yet.
 fn sweep_rest(
     rule: FillRule,
     edges: &[ActiveEdge],
@@ -93,9 +92,9 @@ fn sweep_rest(
     requires count { length edges.now ≤ 2 ^ 20 }
     requires place { place ≤ length edges.now }
     requires interval { rest.to ≤ 8192 }
-    requires room { HasRoomFor spans.old (length edges.now - place + 2) }
+    requires capacity { HasRoomFor spans.old (length edges.now - place + 2) }
     ensures spans { spans.new.items ≡ spans.old.items ++ swept rule rest.to (drop place edges.now) rest.from 0 0 begun }
-    ensures room { spans.new.capacity ≡ spans.old.capacity }
+    ensures capacity { spans.new.capacity ≡ spans.old.capacity }
 {
     let mut at = rest.from;
     let mut run = begun;
@@ -103,7 +102,7 @@ fn sweep_rest(
     let mut ups: u32 = 0;
     for next in place..edges.len() {
         let edge = &edges[next];
-        let column = column_behind(at, edge, rest.to);
+        let column = column_after(at, edge, rest.to);
         run = put_part(spans, run, at, column, is_inside_at(rule, downs, ups));
         at = column;
         downs = counted(downs, edge.is_down);
@@ -113,15 +112,15 @@ fn sweep_rest(
     put_run(spans, run);
 }
 
-/// The edge's column within the rest of the interval.
-fn column_behind(at: u32, edge: &ActiveEdge, end: u32) -> u32
+/// The edge's column, limited to the rest of the interval.
+fn column_after(at: u32, edge: &ActiveEdge, end: u32) -> u32
     requires { end ≤ 8192 }
     ensures { result ≡ max at (min (column_of edge.now) end) }
 {
     edge.column.min(i64::from(end)).max(i64::from(at)) as u32
 }
 
-/// One more where the edge counts.
+/// The count plus 1, if the edge counts.
 pub(crate) fn counted(count: u32, counts: bool) -> u32
     requires { count ≤ 2 ^ 20 }
     ensures { result ≡ count + (if counts then 1 else 0) }
@@ -129,7 +128,7 @@ pub(crate) fn counted(count: u32, counts: bool) -> u32
     count + u32::from(counts)
 }
 
-/// Whether a pixel with so many edges to its left is inside.
+/// Whether a pixel with these numbers of edges to its left is inside.
 pub(crate) fn is_inside_at(rule: FillRule, downs: u32, ups: u32) -> bool
     requires { downs + ups < 2 ^ 32 }
     ensures { result ≡ is_inside rule downs ups }
@@ -140,14 +139,14 @@ pub(crate) fn is_inside_at(rule: FillRule, downs: u32, ups: u32) -> bool
     }
 }
 
-/// The run with the columns from `from` up to before `to`, if they are inside. A run that they don't
-/// adjoin is a span.
+/// Extends the run by the columns from `from` to before `to`, if they are inside. If they aren't adjacent to the run,
+/// the run becomes a span.
 pub(crate) fn put_part(spans: &mut RowSpans, run: Span, from: u32, to: u32, inside: bool) -> Span
     requires { HasRoomFor spans.old 1 }
     ensures run { result ≡ longer_run inside run from to }
     ensures spans { spans.new.items ≡ spans.old.items ++ ended_spans inside run from to }
     ensures length { small_vec_len spans.new ≤ small_vec_len spans.old + 1 }
-    ensures room { spans.new.capacity ≡ spans.old.capacity }
+    ensures capacity { spans.new.capacity ≡ spans.old.capacity }
 {
     if !inside || from >= to {
         return run;
@@ -159,12 +158,12 @@ pub(crate) fn put_part(spans: &mut RowSpans, run: Span, from: u32, to: u32, insi
     Span { from, to }
 }
 
-/// The run is a span, if it has columns.
+/// Appends the run as a span, if it has columns.
 pub(crate) fn put_run(spans: &mut RowSpans, run: Span)
     requires { HasRoomFor spans.old 1 }
     ensures spans { spans.new.items ≡ spans.old.items ++ run_spans run }
     ensures length { small_vec_len spans.new ≤ small_vec_len spans.old + 1 }
-    ensures room { spans.new.capacity ≡ spans.old.capacity }
+    ensures capacity { spans.new.capacity ≡ spans.old.capacity }
 {
     if run.from < run.to {
         spans.push_reserved(run);

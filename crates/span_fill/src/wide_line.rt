@@ -1,4 +1,4 @@
-//! What a nib covers that is led along one line, a row at a time.
+//! What a nib covers along one line, row by row.
 
 ghost use Rattle.std.specs.Prelude.{◌≡◌, pos, negsuc, ◌≤ℤ◌, ◌<ℤ◌};
 ghost use Rattle.mapping.specs.Nibs.{IsNib};
@@ -8,7 +8,7 @@ ghost use Rattle.span_fill.specs.WideLines.{GivesRow, HasAllRows, TakesRow};
 use crate::bounds::CoordinateRange;
 use crate::line::Line;
 use crate::span::Span;
-use crate::strip::Strip;
+use crate::wide_edge::WideEdge;
 use mapping::Nib;
 use std::marker::Model;
 
@@ -16,20 +16,20 @@ use std::marker::Model;
 #[derive(Clone, Copy, Debug)]
 pub struct WideRow {
     pub y: i32,
-    /// Those of the columns from 0 to 8,191.
+    /// The columns, limited to those from 0 to 8,191.
     pub columns: Span,
 }
 
-/// What a nib covers that is led along a line, row by row: in each row one span.
+/// What a nib covers as it moves along a line, row by row: in each row one span.
 ///
 /// # Guarantees
 ///
-/// - No call takes memory, and nothing is divided but when a line begins.
+/// - No call allocates memory, and nothing is divided except when a line begins.
 #[derive(Debug, Drop)]
 pub struct WideLine {
     nib: Nib,
-    /// The line at row `next`, if that is one of its rows to come.
-    strip: Strip,
+    /// The line at row `next`, if that is one of its remaining rows.
+    edge: WideEdge,
     next: i32,
 }
 
@@ -38,7 +38,7 @@ impl Model for WideLine {
 
     ghost Value = { WideLineState };
 
-    ghost view = { λ a. record { line = a.strip.line; nib = a.nib; next = a.next; end = a.strip.seen.to } };
+    ghost view = { λ a. record { line = a.edge.line; nib = a.nib; next = a.next; end = a.edge.seen.to } };
 
     ghost use Rattle.span_fill.specs.WideLineInside.{IsWideLine};
 
@@ -46,8 +46,8 @@ impl Model for WideLine {
 }
 
 impl WideLine {
-    /// The rows of those from `from` up to before `to` in which the nib covers something. They are of the rows from -4,096 to 12,287:
-    /// those of a surface, and those from which a nib reaches it.
+    /// The rows from `from` to before `to` in which the nib covers something. They are limited to the rows from -4,096
+    /// to 12,287: those of a surface, and those from which a nib reaches it.
     pub fn new(line: Line, nib: Nib, from: i32, to: i32) -> WideLine
         requires near { HasNearEnds line }
         requires nib { IsNib nib }
@@ -58,25 +58,25 @@ impl WideLine {
         ensures nib { result.nib ≡ nib }
         ensures all { HasAllRows from to result }
     {
-        match Strip::new(line, nib, CoordinateRange { from, to }) {
-            Some(strip) => WideLine {
+        match WideEdge::new(line, nib, CoordinateRange { from, to }) {
+            Some(edge) => WideLine {
                 nib,
-                strip,
-                next: strip.seen.from,
+                edge,
+                next: edge.seen.from,
             },
             None => WideLine {
                 nib,
-                strip: Strip::unseen(line, from),
+                edge: WideEdge::unseen(line, from),
                 next: from,
             },
         }
     }
 
-    /// The next row, or none after the last.
+    /// The next row, or `None` after the last one.
     pub fn next(&mut self) -> Option<WideRow>
         ensures { GivesRow self.old result self.new }
     {
-        if self.next >= self.strip.seen.to {
+        if self.next >= self.edge.seen.to {
             return None;
         }
         Some(self.take())
@@ -89,9 +89,9 @@ impl WideLine {
     {
         let row = WideRow {
             y: self.next,
-            columns: self.strip.part(self.nib),
+            columns: self.edge.part(self.nib),
         };
-        self.strip.move_on(self.nib, i64::from(self.next));
+        self.edge.move_on(self.nib, i64::from(self.next));
         self.next += 1;
         row
     }

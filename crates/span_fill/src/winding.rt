@@ -11,15 +11,15 @@ use crate::edge::Edge;
 use crate::line::Line;
 use crate::span::Span;
 
-/// For how many rows there are changes: those of the largest surface, and one below it for what ends there.
+/// The number of rows with changes: those of the largest surface, and one below it for what ends there.
 pub(crate) const CHANGES: usize = 8193;
 
-/// No changes, in place of those that are there.
+/// Replaces the changes by none.
 pub(crate) fn clear_changes(changes: &mut Vec<i32>)
     requires { 8193 ≤ vec_capacity changes.old }
     ensures none { All (IsWithin 0) changes.new.items }
     ensures length { vec_len changes.new ≡ 8193 }
-    ensures room { vec_capacity changes.new ≡ vec_capacity changes.old }
+    ensures capacity { vec_capacity changes.new ≡ vec_capacity changes.old }
 {
     changes.clear();
     for _ in 0..CHANGES {
@@ -27,7 +27,7 @@ pub(crate) fn clear_changes(changes: &mut Vec<i32>)
     }
 }
 
-/// Adds the changes that the lines make in a column.
+/// Adds the changes of the lines in a column.
 pub(crate) fn wind_lines(lines: &[Line], column: u32, changes: &mut [i32])
     requires near { All HasNearEnds lines.now }
     requires count { length lines.now ≤ 2 ^ 20 }
@@ -42,7 +42,7 @@ pub(crate) fn wind_lines(lines: &[Line], column: u32, changes: &mut [i32])
     }
 }
 
-/// Adds the changes that a line makes: where its rows begin and where they end.
+/// Adds the changes of a line: where its rows begin and where they end.
 fn wind_line(line: Line, column: u32, changes: &mut [i32])
     requires near { HasNearEnds line }
     requires column { column < 8192 }
@@ -71,7 +71,7 @@ fn wind_line(line: Line, column: u32, changes: &mut [i32])
     }
 }
 
-/// Adds so much to the windings of these rows.
+/// Adds a number to the windings of these rows.
 fn wind_rows(rows: Span, by: i32, changes: &mut [i32])
     requires order { rows.from ≤ rows.to }
     requires within { rows.to ≤ 8192 }
@@ -86,7 +86,7 @@ fn wind_rows(rows: Span, by: i32, changes: &mut [i32])
     change(rows.to, -by, changes);
 }
 
-/// Adds so much to the windings from a row on.
+/// Adds a number to the windings from a row on.
 fn change(row: u32, by: i32, changes: &mut [i32])
     requires row { row < length changes.old }
     requires by { IsWithin 1 by }

@@ -1,4 +1,4 @@
--- How the records of WMF are framed ([MS-WMF] 2.3).
+-- The framing of WMF records ([MS-WMF] 2.3).
 use Rattle.draw_ops.specs.Records.{Framing}
 
 -- a head of six bytes: the size in words of two bytes, and the function; 0 ends the file

@@ -1,11 +1,12 @@
--- Where the fields of object records stand, in bytes from a record's front ([MS-WMF] 2.3.4). An `end` is the bytes that a record needs.
+-- The offsets of the fields of object records in bytes from the start of a record ([MS-WMF] 2.3.4). An `end` is the
+-- number of bytes that a record needs.
 use Rattle.std.specs.Prelude.{ℕ}
 
 -- the index of the object: ObjectIndex or Palette
 abbrev pub object_index : ℕ
 object_index = 6
 
--- a record of which only the index is read
+-- a record with only an index
 abbrev pub index_end : ℕ
 index_end = 8
 
@@ -13,11 +14,11 @@ index_end = 8
 abbrev pub pen_style : ℕ
 pen_style = 6
 
--- x of its Width, which is a point
+-- x of the pen's Width, which is a point
 abbrev pub pen_width : ℕ
 pen_width = 8
 
--- its ColorRef
+-- the pen's ColorRef
 abbrev pub pen_color : ℕ
 pen_color = 12
 
@@ -29,11 +30,11 @@ pen_end = 16
 abbrev pub logbrush_style : ℕ
 logbrush_style = 6
 
--- its ColorRef
+-- the brush's ColorRef
 abbrev pub logbrush_color : ℕ
 logbrush_color = 8
 
--- its BrushHatch
+-- the brush's BrushHatch
 abbrev pub logbrush_hatch : ℕ
 logbrush_hatch = 12
 

@@ -1,6 +1,6 @@
 -- What each record of WMF means ([MS-WMF] 2.3).
 use Rattle.std.specs.Prelude.{ℕ, List, Option, Some, None, Result, Ok, Err}
-use Rattle.draw_ops.specs.Meaning.{Meaning, MeantValue, noting, unnoted}
+use Rattle.draw_ops.specs.Meaning.{Meaning, DecodedValue, noting, unnoted}
 use Rattle.draw_ops.specs.Objects.{font_object, palette_object}
 use Rattle.draw_ops.specs.Operation.{no_effect, save, move_to, offset_viewport_origin, offset_window_origin, set_viewport_extent, set_viewport_origin, set_window_extent, set_window_origin, select, select_palette, delete}
 use Rattle.draw_ops.specs.Records.{Record}
@@ -13,10 +13,10 @@ use Rattle.wmf_records.specs.Kinds.{wmf_entry_of}
 use Rattle.wmf_records.specs.ObjectRecords.{create_brush_indirect, create_pen_indirect, created, index_record}
 use Rattle.wmf_records.specs.StateRecords.{exclude_clip_rect, intersect_clip_rect, point_record, restore_dc, set_bk_color, set_bk_mode, set_layout, set_map_mode_record, set_poly_fill_mode, set_rop2}
 use Rattle.wmf_records.specs.declared.entry.WmfEntry.{WmfEntry}
-use Rattle.wmf_records.specs.declared.entry.WmfEntry.TheVariants.{DibBitBlt, DibStretchBlt, StretchDib, Eof, LineTo, PatBlt, Polyline, Polygon, PolyPolygon, Rectangle, SetPixel, CreateBrushIndirect, CreateFontIndirect, CreatePalette, CreatePenIndirect, DeleteObject, DibCreatePatternBrush, SelectObject, SelectPalette, ExcludeClipRect, IntersectClipRect, MoveTo, OffsetViewportOrg, OffsetWindowOrg, RestoreDc, SaveDc, SetBkColor, SetBkMode, SetLayout, SetMapMode, SetPolyFillMode, SetRop2, SetViewportExt, SetViewportOrg, SetWindowExt, SetWindowOrg, Skipped, Refused}
+use Rattle.wmf_records.specs.declared.entry.WmfEntry.TheVariants.{DibBitBlt, DibStretchBlt, StretchDib, Eof, LineTo, PatBlt, Polyline, Polygon, PolyPolygon, Rectangle, SetPixel, CreateBrushIndirect, CreateFontIndirect, CreatePalette, CreatePenIndirect, DeleteObject, DibCreatePatternBrush, SelectObject, SelectPalette, ExcludeClipRect, IntersectClipRect, MoveTo, OffsetViewportOrg, OffsetWindowOrg, RestoreDc, SaveDc, SetBkColor, SetBkMode, SetLayout, SetMapMode, SetPolyFillMode, SetRop2, SetViewportExt, SetViewportOrg, SetWindowExt, SetWindowOrg, Skipped, Rejected}
 
--- what a record with each entry means, by its function and its bytes
-unfoldable pub wmf_record : WmfEntry → ℕ → List ℕ → Result MeantValue RecordFault
+-- what a record means, by its entry, its function and its bytes
+unfoldable pub wmf_record : WmfEntry → ℕ → List ℕ → Result DecodedValue RecordFault
 wmf_record DibBitBlt function bytes = dib_bit_blt bytes
 wmf_record DibStretchBlt function bytes = dib_stretch_blt bytes
 wmf_record StretchDib function bytes = stretch_dib bytes
@@ -54,13 +54,13 @@ wmf_record SetViewportOrg function bytes = point_record set_viewport_origin byte
 wmf_record SetWindowExt function bytes = point_record set_window_extent bytes
 wmf_record SetWindowOrg function bytes = point_record set_window_origin bytes
 wmf_record Skipped function bytes = Ok (noting NoteSkipped no_effect)
-wmf_record Refused function bytes = Err (Unsupported function)
+wmf_record Rejected function bytes = Err (Unsupported function)
 
--- a function that the standard doesn't have is unknown
-abbrev pub wmf_record_if : Option WmfEntry → Record → Result MeantValue RecordFault
+-- what a record means; a function that the standard doesn't have is unknown
+abbrev pub wmf_record_if : Option WmfEntry → Record → Result DecodedValue RecordFault
 wmf_record_if None r = Err (UnknownRecord r.kind)
 wmf_record_if (Some entry) r = wmf_record entry r.kind r.bytes
 
--- by the record's function, wherever it stands in the file
+-- what each record of WMF means, by its function, wherever it is in the file
 abbrev pub wmf_meaning : Meaning
 wmf_meaning number r = wmf_record_if (wmf_entry_of r.kind) r

@@ -2,7 +2,7 @@
 
 ghost use Rattle.std.specs.Prelude.{◌≡◌, ◌≤◌, Some, length};
 ghost use Rattle.std.specs.Option.{option_map};
-ghost use Rattle.draw_ops.specs.RecordOf.{meant_of};
+ghost use Rattle.draw_ops.specs.RecordOf.{decoded_of};
 ghost use Rattle.draw_ops.specs.Results.{result_map};
 ghost use Rattle.point_views.specs.Counts.{counts_of};
 ghost use Rattle.point_views.specs.Points.{points_of};
@@ -12,37 +12,37 @@ ghost use Rattle.wmf_records.specs.DrawingRecords.{points_for, poly_polygon_reco
 ghost use Rattle.point_views.specs.Numbers.{i16_at};
 
 use draw_ops::{
-    Meant, Op, RecordFault, RectangleEdges, counts_at, points_at, rgb_at, turned_box_at, yx_at,
+    Decoded, Op, RecordFault, RectangleEdges, counts_at, points_at, reversed_box_at, rgb_at, yx_at,
 };
 use point_views::{Counts, NumberWidth, Points, Polys, i16_at, u16_at};
 
 /// META_LINETO (2.3.3.10): y, x.
-pub(crate) fn line_to(bytes: &[u8]) -> Result<Meant<'_>, RecordFault>
-    ensures value { line_to_record bytes.entry.now ≡ result_map meant_of result }
+pub(crate) fn line_to(bytes: &[u8]) -> Result<Decoded<'_>, RecordFault>
+    ensures value { line_to_record bytes.entry.now ≡ result_map decoded_of result }
 {
     if bytes.len() < 10 {
         return Err(RecordFault::BadParams);
     }
-    Ok(Meant::unnoted(Op::LineTo(yx_at(bytes, 6))))
+    Ok(Decoded::unnoted(Op::LineTo(yx_at(bytes, 6))))
 }
 
 /// META_POLYLINE (2.3.3.14): NumberOfPoints, aPoints.
-pub(crate) fn polyline(bytes: &[u8]) -> Result<Meant<'_>, RecordFault>
-    ensures value { polyline_record bytes.entry.now ≡ result_map meant_of result }
+pub(crate) fn polyline(bytes: &[u8]) -> Result<Decoded<'_>, RecordFault>
+    ensures value { polyline_record bytes.entry.now ≡ result_map decoded_of result }
 {
     let points = points(bytes)?;
-    Ok(Meant::unnoted(Op::Polyline(Polys::one(points))))
+    Ok(Decoded::unnoted(Op::Polyline(Polys::one(points))))
 }
 
 /// META_POLYGON (2.3.3.15): NumberOfPoints, aPoints.
-pub(crate) fn polygon(bytes: &[u8]) -> Result<Meant<'_>, RecordFault>
-    ensures value { polygon_record bytes.entry.now ≡ result_map meant_of result }
+pub(crate) fn polygon(bytes: &[u8]) -> Result<Decoded<'_>, RecordFault>
+    ensures value { polygon_record bytes.entry.now ≡ result_map decoded_of result }
 {
     let points = points(bytes)?;
-    Ok(Meant::unnoted(Op::Polygon(Polys::one(points))))
+    Ok(Decoded::unnoted(Op::Polygon(Polys::one(points))))
 }
 
-/// A count of points, and the points.
+/// A count of points, followed by the points.
 fn points(bytes: &[u8]) -> Result<Points<'_>, RecordFault>
     ensures value { point_list bytes.entry.now ≡ result_map points_of result }
 {
@@ -55,7 +55,7 @@ fn points(bytes: &[u8]) -> Result<Points<'_>, RecordFault>
     }
 }
 
-/// So many points behind the count: none where the count is negative, or the bytes don't hold them.
+/// This many points after the count. `None` if the count is negative, or if the bytes don't contain them.
 fn counted_points(count: i16, bytes: &[u8]) -> Option<Points<'_>>
     requires { 8 ≤ length bytes.now }
     ensures { counted_points count bytes.entry.now ≡ option_map points_of result }
@@ -67,19 +67,19 @@ fn counted_points(count: i16, bytes: &[u8]) -> Option<Points<'_>>
 }
 
 /// META_POLYPOLYGON (2.3.3.16): NumberOfPolygons, aPointsPerPolygon, aPoints.
-pub(crate) fn poly_polygon(bytes: &[u8]) -> Result<Meant<'_>, RecordFault>
-    ensures value { poly_polygon_record bytes.entry.now ≡ result_map meant_of result }
+pub(crate) fn poly_polygon(bytes: &[u8]) -> Result<Decoded<'_>, RecordFault>
+    ensures value { poly_polygon_record bytes.entry.now ≡ result_map decoded_of result }
 {
     if bytes.len() < 8 {
         return Err(RecordFault::BadParams);
     }
     match polygons(usize::from(u16_at(bytes, 6)), bytes) {
-        Some(polygons) => Ok(Meant::unnoted(Op::Polygon(polygons))),
+        Some(polygons) => Ok(Decoded::unnoted(Op::Polygon(polygons))),
         None => Err(RecordFault::BadParams),
     }
 }
 
-/// So many polygons behind their number: none where the bytes don't hold their counts and their points.
+/// This many polygons after their number. `None` if the bytes don't contain their counts and points.
 fn polygons(number: usize, bytes: &[u8]) -> Option<Polys<'_>>
     requires { 8 ≤ length bytes.now }
     ensures { lists_of_polygons number bytes.entry.now ≡ option_map lists_of result }
@@ -93,7 +93,7 @@ fn polygons(number: usize, bytes: &[u8]) -> Option<Polys<'_>>
     Polys::new(counts, points)
 }
 
-/// As many points from a place on as the counts ask for: none where the bytes don't hold them.
+/// As many points as the counts ask for, from an offset on. `None` if the bytes don't contain them.
 fn points_for<'a>(counts: Counts<'a>, bytes: &'a [u8], place: usize) -> Option<Points<'a>>
     requires { place ≤ length bytes.now }
     ensures { points_for (Some (counts_of counts.entry)) bytes.entry.now place ≡ option_map points_of result }
@@ -105,26 +105,26 @@ fn points_for<'a>(counts: Counts<'a>, bytes: &'a [u8], place: usize) -> Option<P
 }
 
 /// META_RECTANGLE (2.3.3.17): BottomRect, RightRect, TopRect, LeftRect.
-pub(crate) fn rectangle(bytes: &[u8]) -> Result<Meant<'_>, RecordFault>
-    ensures value { rectangle_record bytes.entry.now ≡ result_map meant_of result }
+pub(crate) fn rectangle(bytes: &[u8]) -> Result<Decoded<'_>, RecordFault>
+    ensures value { rectangle_record bytes.entry.now ≡ result_map decoded_of result }
 {
     if bytes.len() < 14 {
         return Err(RecordFault::BadParams);
     }
-    Ok(Meant::unnoted(Op::Rectangle {
-        corners: turned_box_at(bytes, 6),
+    Ok(Decoded::unnoted(Op::Rectangle {
+        corners: reversed_box_at(bytes, 6),
         edges: RectangleEdges::HalfOpen,
     }))
 }
 
 /// META_SETPIXEL (2.3.3.19): ColorRef, y, x.
-pub(crate) fn set_pixel(bytes: &[u8]) -> Result<Meant<'_>, RecordFault>
-    ensures value { set_pixel bytes.entry.now ≡ result_map meant_of result }
+pub(crate) fn set_pixel(bytes: &[u8]) -> Result<Decoded<'_>, RecordFault>
+    ensures value { set_pixel bytes.entry.now ≡ result_map decoded_of result }
 {
     if bytes.len() < 14 {
         return Err(RecordFault::BadParams);
     }
     let colour = rgb_at(bytes, 6)?;
     let point = yx_at(bytes, 10);
-    Ok(Meant::unnoted(Op::Pixel { point, colour }))
+    Ok(Decoded::unnoted(Op::Pixel { point, colour }))
 }

@@ -1,4 +1,4 @@
-//! What is done with each record, by its function.
+//! How each record is treated, by its function.
 
 ghost use Rattle.std.specs.Prelude.{◌≡◌, length, true};
 ghost use Rattle.draw_ops.specs.KindTable.{is_each_once};
@@ -6,7 +6,7 @@ ghost use Rattle.wmf_records.specs.Kinds.{wmf_functions, wmf_entry_of};
 
 use crate::functions::*;
 
-/// A record that is played, by its name in the standard, or what is done with the others.
+/// A supported record, by its name in the standard, or how other records are treated.
 #[derive(Clone, Copy, Debug, PartialEq, Eq)]
 pub(crate) enum WmfEntry {
     DibBitBlt,
@@ -45,13 +45,13 @@ pub(crate) enum WmfEntry {
     SetViewportOrg,
     SetWindowExt,
     SetWindowOrg,
-    /// It is without effect, and noted.
+    /// It has no effect, and adds a note.
     Skipped,
-    /// It is not played.
-    Refused,
+    /// It isn't supported.
+    Rejected,
 }
 
-/// What is done with a record of this function: none exactly where the standard has no such function.
+/// How a record with this function is treated. `None` exactly if the standard has no such function.
 pub(crate) fn entry_of(function: u32) -> Option<WmfEntry>
     ensures { result ≡ wmf_entry_of function }
 {
@@ -104,33 +104,33 @@ pub(crate) fn entry_of(function: u32) -> Option<WmfEntry>
         META_SETMAPPERFLAGS => Some(WmfEntry::Skipped),
         META_ANIMATEPALETTE => Some(WmfEntry::Skipped),
         META_ESCAPE => Some(WmfEntry::Skipped),
-        META_OFFSETCLIPRGN => Some(WmfEntry::Refused),
-        META_FILLREGION => Some(WmfEntry::Refused),
-        META_SCALEWINDOWEXT => Some(WmfEntry::Refused),
-        META_SCALEVIEWPORTEXT => Some(WmfEntry::Refused),
-        META_ELLIPSE => Some(WmfEntry::Refused),
-        META_FLOODFILL => Some(WmfEntry::Refused),
-        META_FRAMEREGION => Some(WmfEntry::Refused),
-        META_TEXTOUT => Some(WmfEntry::Refused),
-        META_EXTFLOODFILL => Some(WmfEntry::Refused),
-        META_ROUNDRECT => Some(WmfEntry::Refused),
-        META_ARC => Some(WmfEntry::Refused),
-        META_PIE => Some(WmfEntry::Refused),
-        META_CHORD => Some(WmfEntry::Refused),
-        META_BITBLT => Some(WmfEntry::Refused),
-        META_EXTTEXTOUT => Some(WmfEntry::Refused),
-        META_STRETCHBLT => Some(WmfEntry::Refused),
-        META_SETDIBTODEV => Some(WmfEntry::Refused),
-        META_INVERTREGION => Some(WmfEntry::Refused),
-        META_PAINTREGION => Some(WmfEntry::Refused),
-        META_SELECTCLIPREGION => Some(WmfEntry::Refused),
-        META_CREATEPATTERNBRUSH => Some(WmfEntry::Refused),
-        META_CREATEREGION => Some(WmfEntry::Refused),
+        META_OFFSETCLIPRGN => Some(WmfEntry::Rejected),
+        META_FILLREGION => Some(WmfEntry::Rejected),
+        META_SCALEWINDOWEXT => Some(WmfEntry::Rejected),
+        META_SCALEVIEWPORTEXT => Some(WmfEntry::Rejected),
+        META_ELLIPSE => Some(WmfEntry::Rejected),
+        META_FLOODFILL => Some(WmfEntry::Rejected),
+        META_FRAMEREGION => Some(WmfEntry::Rejected),
+        META_TEXTOUT => Some(WmfEntry::Rejected),
+        META_EXTFLOODFILL => Some(WmfEntry::Rejected),
+        META_ROUNDRECT => Some(WmfEntry::Rejected),
+        META_ARC => Some(WmfEntry::Rejected),
+        META_PIE => Some(WmfEntry::Rejected),
+        META_CHORD => Some(WmfEntry::Rejected),
+        META_BITBLT => Some(WmfEntry::Rejected),
+        META_EXTTEXTOUT => Some(WmfEntry::Rejected),
+        META_STRETCHBLT => Some(WmfEntry::Rejected),
+        META_SETDIBTODEV => Some(WmfEntry::Rejected),
+        META_INVERTREGION => Some(WmfEntry::Rejected),
+        META_PAINTREGION => Some(WmfEntry::Rejected),
+        META_SELECTCLIPREGION => Some(WmfEntry::Rejected),
+        META_CREATEPATTERNBRUSH => Some(WmfEntry::Rejected),
+        META_CREATEREGION => Some(WmfEntry::Rejected),
         _ => None,
     }
 }
 
-/// No function stands twice in the table of kinds, which has 70 of them.
+/// A law: no function occurs twice in the table of kinds, which has 70 of them.
 pub fn kinds_law()
     ensures each_once { is_each_once wmf_functions ≡ true }
     ensures whole { length wmf_functions ≡ 70 }

@@ -102,7 +102,7 @@ pub(crate) const META_ANIMATEPALETTE: u32 = 0x0436;
 
 pub(crate) const META_ESCAPE: u32 = 0x0626;
 
-// Records that are not played.
+// Records that aren't supported.
 pub(crate) const META_OFFSETCLIPRGN: u32 = 0x0220;
 
 pub(crate) const META_FILLREGION: u32 = 0x0228;

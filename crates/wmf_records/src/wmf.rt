@@ -1,8 +1,8 @@
-//! The records of WMF: how they are framed, and what each means.
+//! The records of WMF: their framing, and what each means.
 
 ghost use Rattle.std.specs.Prelude.{◌≡◌};
 ghost use Rattle.draw_ops.specs.PrefixLaws.{HoldsItsFields};
-ghost use Rattle.draw_ops.specs.RecordOf.{meant_of};
+ghost use Rattle.draw_ops.specs.RecordOf.{decoded_of};
 ghost use Rattle.draw_ops.specs.Results.{result_map};
 ghost use Rattle.wmf_records.specs.Framing.{wmf_framing};
 ghost use Rattle.wmf_records.specs.Wmf.{wmf_meaning, wmf_record};
@@ -22,17 +22,17 @@ use crate::state_records::{
     restore_dc, set_bk_color, set_bk_mode, set_layout, set_map_mode, set_poly_fill_mode, set_rop2,
     set_viewport_ext, set_viewport_org, set_window_ext, set_window_org,
 };
-use draw_ops::{Format, Meant, Note, Object, Op, RawRecord, RecordFault, RecordOps};
+use draw_ops::{Decoded, Format, Note, Object, Op, RawRecord, RecordFault, RecordOps};
 use point_views::{u16_at, u32_at};
 
-/// The bytes of a record's head: the size in words of two bytes, and the function.
+/// The number of bytes in a record's head: the size in words of two bytes, and the function.
 const HEAD_LENGTH: usize = 6;
 
 /// The records of WMF.
 #[derive(Clone, Copy, Debug, PartialEq, Eq)]
 pub struct Wmf;
 
-/// A source over the bytes behind a file's headers.
+/// A source over the bytes after a file's headers.
 pub type WmfOps<'a> = RecordOps<'a, Wmf>;
 
 impl Format for Wmf {
@@ -61,24 +61,24 @@ impl Format for Wmf {
     }
 
     #[inline(never)]
-    fn read(_number: u32, front: RawRecord<'_>) -> Result<Meant<'_>, RecordFault> {
-        match entry_of(front.kind) {
-            Some(entry) => record(entry, front.kind, front.bytes),
-            None => Err(RecordFault::UnknownRecord(front.kind)),
+    fn read(_number: u32, leading: RawRecord<'_>) -> Result<Decoded<'_>, RecordFault> {
+        match entry_of(leading.kind) {
+            Some(entry) => record(entry, leading.kind, leading.bytes),
+            None => Err(RecordFault::UnknownRecord(leading.kind)),
         }
     }
 }
 
 /// What a record with this entry means, or its first fault.
 #[tactic(auto, unfolding(crate::specs::Wmf::wmf_record))]
-fn record(entry: WmfEntry, function: u32, bytes: &[u8]) -> Result<Meant<'_>, RecordFault>
-    ensures value { wmf_record entry function bytes.entry.now ≡ result_map meant_of result }
+fn record(entry: WmfEntry, function: u32, bytes: &[u8]) -> Result<Decoded<'_>, RecordFault>
+    ensures value { wmf_record entry function bytes.entry.now ≡ result_map decoded_of result }
 {
     match entry {
         WmfEntry::DibBitBlt => dib_bit_blt(bytes),
         WmfEntry::DibStretchBlt => dib_stretch_blt(bytes),
         WmfEntry::StretchDib => stretch_dib(bytes),
-        WmfEntry::Eof => Ok(Meant::unnoted(Op::NoEffect)),
+        WmfEntry::Eof => Ok(Decoded::unnoted(Op::NoEffect)),
         WmfEntry::LineTo => line_to(bytes),
         WmfEntry::PatBlt => pat_blt(bytes),
         WmfEntry::Polyline => polyline(bytes),
@@ -100,7 +100,7 @@ fn record(entry: WmfEntry, function: u32, bytes: &[u8]) -> Result<Meant<'_>, Rec
         WmfEntry::OffsetViewportOrg => offset_viewport_org(bytes),
         WmfEntry::OffsetWindowOrg => offset_window_org(bytes),
         WmfEntry::RestoreDc => restore_dc(bytes),
-        WmfEntry::SaveDc => Ok(Meant::unnoted(Op::Save)),
+        WmfEntry::SaveDc => Ok(Decoded::unnoted(Op::Save)),
         WmfEntry::SetBkColor => set_bk_color(bytes),
         WmfEntry::SetBkMode => set_bk_mode(bytes),
         WmfEntry::SetLayout => set_layout(bytes),
@@ -111,12 +111,13 @@ fn record(entry: WmfEntry, function: u32, bytes: &[u8]) -> Result<Meant<'_>, Rec
         WmfEntry::SetViewportOrg => set_viewport_org(bytes),
         WmfEntry::SetWindowExt => set_window_ext(bytes),
         WmfEntry::SetWindowOrg => set_window_org(bytes),
-        WmfEntry::Skipped => Ok(Meant::noting(Note::Skipped, Op::NoEffect)),
-        WmfEntry::Refused => Err(RecordFault::Unsupported(function)),
+        WmfEntry::Skipped => Ok(Decoded::noting(Note::Skipped, Op::NoEffect)),
+        WmfEntry::Rejected => Err(RecordFault::Unsupported(function)),
     }
 }
 
-/// The head of a record holds its size and its function: so bytes that spell records spell none where they are cut short (`prefix_law`).
+/// A law: the head of a record contains its size and its function. So bytes that spell records spell none if they are
+/// cut short (`prefix_law`).
 pub fn framing_law()
     ensures { HoldsItsFields wmf_framing }
 {}

@@ -7,17 +7,18 @@ ghost use Rattle.dc_stack.specs.Needs.{greater_needs, pieces_needed};
 ghost use Rattle.dc_stack.specs.Path.{is_open, piece_count, piece_limit};
 ghost use Rattle.dc_stack.specs.Pieces.{AreMappedAlone, page_points};
 ghost use Rattle.dc_stack.specs.State.{with_position};
-ghost use Rattle.dc_stack.specs.declared.piece.Joining.TheVariants.{GoesOn as LinesGoOn};
+ghost use Rattle.dc_stack.specs.declared.piece.Verb.TheVariants.{GoesOn as LinesGoOn};
 
 use crate::machine::Machine;
-use crate::piece::{Joining, PiecePoints};
+use crate::piece::{PiecePoints, Verb};
 use crate::projection::Projection;
 use draw_ops::Fault;
 use mapping::{Point, Rect};
 use object_tables::Table;
 
 impl<'a, T: Table<'a>> Machine<'a, T> {
-    /// Adds lines through the points of one list, and makes a point the position. It answers with their extent, as `add_lists` does.
+    /// Adds lines through the points of one list, and moves the current position to a point. Returns their extent, as
+    /// `add_lists` does.
     pub(super) fn add_lines(
         &mut self,
         points: PiecePoints<'a>,
@@ -45,15 +46,15 @@ impl<'a, T: Table<'a>> Machine<'a, T> {
         }
     }
 
-    /// Adds lists as figures of their own.
+    /// Adds lists as separate figures.
     pub(super) fn add_lists(
         &mut self,
         points: PiecePoints<'a>,
-        joining: Joining,
+        verb: Verb,
     ) -> Result<Option<Rect>, Fault>
         requires open { is_open self.old.state.path ≡ true }
-        requires own { joining ≢ LinesGoOn }
-        ensures adds { AddsLists joining points.entry self.old result self.new }
+        requires own { verb ≢ LinesGoOn }
+        ensures adds { AddsLists verb points.entry self.old result self.new }
         ensures goes_on { GoesOn self.old self.new }
     {
         if !points.is_some() {
@@ -64,7 +65,7 @@ impl<'a, T: Table<'a>> Machine<'a, T> {
             map: self.dc.map,
             place: self.place,
         };
-        match self.path.add_lists(points, joining, &by) {
+        match self.path.add_lists(points, verb, &by) {
             Ok(extent) => {
                 self.added(self.dc.position);
                 Ok(extent)
@@ -73,7 +74,7 @@ impl<'a, T: Table<'a>> Machine<'a, T> {
         }
     }
 
-    /// Counts the pieces of the open path, and makes a point the position.
+    /// Counts the pieces of the open path, and moves the current position to a point.
     fn added(&mut self, end: Point)
         requires open { is_open self.old.state.path ≡ true }
         ensures few { piece_count self.old.state.path ≤ piece_limit }

@@ -28,7 +28,7 @@ impl<'a, T: Table<'a>> Machine<'a, T> {
         }
     }
 
-    /// Keeps what a box of the page has of the clip.
+    /// Intersects the clip with a box of the page.
     pub(super) fn intersect_clip(&mut self, corners: Rect) -> Result<Option<Rect>, Fault>
         ensures plays { Plays (intersect_clip corners) self.old (undrawn result) self.new }
         ensures goes_on { GoesOn self.old self.new }
@@ -43,7 +43,7 @@ impl<'a, T: Table<'a>> Machine<'a, T> {
         }
     }
 
-    /// Clips nothing from here on.
+    /// Removes the clip.
     pub(super) fn remove_clip(&mut self) -> Result<Option<Rect>, Fault>
         ensures plays { Plays remove_clip self.old (undrawn result) self.new }
         ensures goes_on { GoesOn self.old self.new }

@@ -1,4 +1,4 @@
-//! Steps that draw, or add to an open path in place of that.
+//! Steps that draw, or add to an open path instead.
 
 ghost use Rattle.std.specs.Prelude.{◌≡◌};
 ghost use Rattle.draw_ops.specs.Blits.{blit_value_of, source_of};
@@ -11,7 +11,7 @@ ghost use Rattle.dc_stack.specs.OperationFault.{source_fault};
 use crate::draw::{Draw, Mark, Painting, PlaneBlit};
 use crate::machine::marking::end_of;
 use crate::machine::{Machine, draw_nothing};
-use crate::piece::{Joining, PiecePoints};
+use crate::piece::{PiecePoints, Verb};
 use crate::placing::{plane_blit, plane_point};
 use draw_ops::{Blit, BlitSource, Fault, RecordFault, RectangleEdges, TernaryOp};
 use mapping::{Colour, Point, Rect, box_law};
@@ -40,7 +40,7 @@ impl<'a, T: Table<'a>> Machine<'a, T> {
         }
     }
 
-    /// Paints a box by a ternary raster operation, also while a path is open.
+    /// Paints a box by a ternary raster operation, even while a path is open.
     pub(super) fn blit(
         &mut self,
         asked: &Blit<'a>,
@@ -65,7 +65,8 @@ impl<'a, T: Table<'a>> Machine<'a, T> {
         self.make_draw(mark, Some(Rect::between(first, second)), 0, drawn)
     }
 
-    /// Draws a line from the position to a point, which is then the position, or adds it to an open path.
+    /// Draws a line from the current position to a point, or adds it to an open path. The point becomes the current
+    /// position.
     pub(super) fn line_to(
         &mut self,
         point: Point,
@@ -92,7 +93,7 @@ impl<'a, T: Table<'a>> Machine<'a, T> {
         ensures goes_on { GoesOn self.old self.new }
     {
         if self.path.is_open() {
-            let added = self.add_lists(PiecePoints::Corners(corners), Joining::Polygons);
+            let added = self.add_lists(PiecePoints::Corners(corners), Verb::Polygons);
             draw_nothing(added, drawn)
         } else {
             self.draw_rectangle(corners, edges, drawn)
@@ -109,7 +110,7 @@ impl<'a, T: Table<'a>> Machine<'a, T> {
         ensures goes_on { GoesOn self.old self.new }
     {
         if self.path.is_open() {
-            let added = self.add_lists(PiecePoints::of(lists), Joining::Polylines);
+            let added = self.add_lists(PiecePoints::of(lists), Verb::Polylines);
             draw_nothing(added, drawn)
         } else {
             self.draw_polylines(lists, drawn)
@@ -126,15 +127,15 @@ impl<'a, T: Table<'a>> Machine<'a, T> {
         ensures goes_on { GoesOn self.old self.new }
     {
         if self.path.is_open() {
-            let added = self.add_lists(PiecePoints::of(lists), Joining::Polygons);
+            let added = self.add_lists(PiecePoints::of(lists), Verb::Polygons);
             draw_nothing(added, drawn)
         } else {
             self.draw_lists(Painting::StrokeAndFill, lists, drawn)
         }
     }
 
-    /// Draws lines from the position through points, of which the last is then the position, or adds them to
-    /// an open path.
+    /// Draws lines from the current position through points, or adds them to an open path. The last point becomes the
+    /// current position.
     pub(super) fn polyline_to(
         &mut self,
         points: Points<'a>,
@@ -152,7 +153,7 @@ impl<'a, T: Table<'a>> Machine<'a, T> {
     }
 }
 
-/// `SourceMissing` or `SourceOutside`, where the operation depends on the source and there is nothing to read.
+/// `SourceMissing` or `SourceOutside`, if the operation depends on the source and there is no readable one.
 fn source_fault(operation: TernaryOp, source: &BlitSource<'_>) -> Option<RecordFault>
     ensures { result ≡ source_fault operation.table (source_of source.now) }
 {

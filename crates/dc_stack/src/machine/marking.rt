@@ -1,4 +1,4 @@
-//! How a step draws: what it marks is made a drawing in one place.
+//! Making drawings: the one place where a mark becomes a drawing.
 
 ghost use Rattle.std.specs.Prelude.{◌≡◌, [], ◌∷◌, if◌then◌else◌, IfErr, IfOk, SomeIff, is_some};
 ghost use Rattle.mapping.specs.Nibs.{IsNib, is_nib};
@@ -24,8 +24,9 @@ use object_tables::Table;
 use point_views::{Points, Polys};
 
 impl<'a, T: Table<'a>> Machine<'a, T> {
-    /// Makes the drawing of a mark, by the least box around its points on the plane and how many points it needs room for: `OffPlane` where
-    /// they don't all land, and `NibTooWide` where its nib would be too wide. No step draws otherwise.
+    /// Makes the drawing of a mark, from the bounding box of its points on the plane and the number of points for which
+    /// it needs memory. Fails with `OffPlane` if the points don't all land, or with `NibTooWide` if its nib would be
+    /// too wide. Every step that draws uses this.
     #[inline(always)]
     pub(super) fn make_draw(
         &mut self,
@@ -51,14 +52,14 @@ impl<'a, T: Table<'a>> Machine<'a, T> {
         Ok(extent)
     }
 
-    /// The nib of a stroke of this width, where the points of a drawing land and the nib isn't too wide. It isn't inlined, so that what draws
-    /// is made in its place.
+    /// The nib of a stroke of this width, if the points of a drawing land and the nib isn't too wide. This isn't
+    /// inlined, so that the drawing is built in place.
     #[inline(never)]
     fn placed_nib(&self, extent: Option<Rect>, width: u32) -> Result<Nib, RecordFault>
         ensures nib { IfOk result (λ nib. nib ≡ stroke_nib width self.now self.now.surface) }
         ensures allowed { IfOk result IsNib }
         ensures lands { IfOk result (λ nib. AllLand extent self.now.surface) }
-        ensures refused { IfErr result (IsPlaceFault extent (stroke_nib width self.now self.now.surface) self.now.surface) }
+        ensures rejected { IfErr result (IsPlaceFault extent (stroke_nib width self.now self.now.surface) self.now.surface) }
     {
         if !fits(extent, self.place) {
             return Err(RecordFault::OffPlane);
@@ -69,8 +70,8 @@ impl<'a, T: Table<'a>> Machine<'a, T> {
         }
     }
 
-    /// The nib of the last step's drawing on a surface: that of the selected pen by the page map of the moment, and one pixel where nothing
-    /// is stroked. There is none where a side would be above 4,096 pixels.
+    /// The nib of the last step's drawing on a surface: that of the selected pen by the current page map, or one pixel
+    /// if nothing is stroked. `None` if its width or height would exceed 4,096 pixels.
     pub fn nib_on(&self, draw: &Draw<'a>, place: Place) -> Option<Nib>
         ensures nib { let nib = drawing_nib (drawing_with self.now draw.now) (surface_of place) in SomeIff result (IsNib nib) nib }
         ensures test { is_some result ≡ is_nib (drawing_nib (drawing_with self.now draw.now) (surface_of place)) }
@@ -78,7 +79,7 @@ impl<'a, T: Table<'a>> Machine<'a, T> {
         self.mark_nib(&draw.mark, place)
     }
 
-    /// The same, of a mark.
+    /// The same for a mark.
     fn mark_nib(&self, mark: &Mark<'a>, place: Place) -> Option<Nib>
         ensures nib { let nib = mark_nib mark.now self.now (surface_of place) in SomeIff result (IsNib nib) nib }
         ensures test { is_some result ≡ is_nib (mark_nib mark.now self.now (surface_of place)) }
@@ -86,7 +87,7 @@ impl<'a, T: Table<'a>> Machine<'a, T> {
         place.nib(stroke_width(mark, self.dc.selected.pen), &self.dc.map)
     }
 
-    /// Draws a line from the position to a point, which is then the position.
+    /// Draws a line from the current position to a point, which becomes the current position.
     pub(super) fn draw_line(
         &mut self,
         point: Point,
@@ -182,7 +183,7 @@ impl<'a, T: Table<'a>> Machine<'a, T> {
         }
     }
 
-    /// Draws lines from the position through points, of which the last is then the position.
+    /// Draws lines from the current position through points. The last point becomes the current position.
     pub(super) fn draw_lines(
         &mut self,
         points: Points<'a>,
@@ -214,7 +215,7 @@ impl<'a, T: Table<'a>> Machine<'a, T> {
     }
 }
 
-/// How wide a mark is stroked by a pen, in page units: 0 where it isn't stroked.
+/// The width in page units with which a pen strokes a mark. 0 if it isn't stroked.
 fn stroke_width(mark: &Mark<'_>, pen: Pen) -> u32
     ensures { result ≡ (if strokes mark.now then pen_width pen else 0) }
 {
@@ -227,7 +228,7 @@ fn stroke_width(mark: &Mark<'_>, pen: Pen) -> u32
     }
 }
 
-/// Where lines from a point through others end.
+/// The end of lines from a point through others.
 pub(super) fn end_of(start: Point, points: Points<'_>) -> Point
     ensures { result ≡ end_of start (points_of points.entry) }
 {

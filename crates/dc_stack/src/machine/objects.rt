@@ -1,4 +1,4 @@
-//! Steps that make, select and delete objects.
+//! Steps that create, select and delete objects.
 
 ghost use Rattle.std.specs.Prelude.{◌≡◌};
 ghost use Rattle.std.specs.List.{list_any};
@@ -6,7 +6,7 @@ ghost use Rattle.std.specs.Option.{option_map};
 ghost use Rattle.draw_ops.specs.Objects.{index_of, object_value_of};
 ghost use Rattle.draw_ops.specs.Operation.{create, delete, select, select_palette};
 ghost use Rattle.dc_stack.specs.MachineState.{GoesOn, Plays, undrawn};
-ghost use Rattle.dc_stack.specs.Selecting.{is_held, named_object, selects};
+ghost use Rattle.dc_stack.specs.Selecting.{is_in_use, named_object, selects};
 ghost use Rattle.dc_stack.specs.Values.{dc_value};
 
 use crate::dc::Dc;
@@ -35,7 +35,7 @@ impl<'a, T: Table<'a>> Machine<'a, T> {
         }
     }
 
-    /// Puts a pen, a brush or a font in use.
+    /// Selects a pen, a brush or a font.
     pub(super) fn select(&mut self, handle: Handle) -> Result<Option<Rect>, Fault>
         ensures plays { Plays (select handle.0) self.old (undrawn result) self.new }
         ensures goes_on { GoesOn self.old self.new }
@@ -50,7 +50,7 @@ impl<'a, T: Table<'a>> Machine<'a, T> {
         }
     }
 
-    /// Puts a palette in use.
+    /// Selects a palette.
     pub(super) fn select_palette(&mut self, handle: Handle) -> Result<Option<Rect>, Fault>
         ensures plays { Plays (select_palette handle.0) self.old (undrawn result) self.new }
         ensures goes_on { GoesOn self.old self.new }
@@ -65,7 +65,7 @@ impl<'a, T: Table<'a>> Machine<'a, T> {
         }
     }
 
-    /// Takes an object that nothing holds out of the table.
+    /// Removes an object that isn't selected from the table.
     pub(super) fn delete(&mut self, handle: Handle) -> Result<Option<Rect>, Fault>
         ensures plays { Plays (delete handle.0) self.old (undrawn result) self.new }
         ensures goes_on { GoesOn self.old self.new }
@@ -73,7 +73,7 @@ impl<'a, T: Table<'a>> Machine<'a, T> {
         if self.table.get(handle).is_err() {
             return Err(Fault::Record(RecordFault::NoSuchHandle));
         }
-        if self.is_held(handle) {
+        if self.is_in_use(handle) {
             return Err(Fault::Record(RecordFault::HeldObject));
         }
         match self.table.remove(handle) {
@@ -82,7 +82,7 @@ impl<'a, T: Table<'a>> Machine<'a, T> {
         }
     }
 
-    /// The object that an index names: a stock object, or one of the table.
+    /// The object with an index: a stock object, or one in the table.
     fn named(&self, handle: Handle) -> Option<Object<'a>>
         ensures { option_map object_value_of result ≡ named_object handle.0 self.now.state.slots }
     {
@@ -95,15 +95,15 @@ impl<'a, T: Table<'a>> Machine<'a, T> {
         }
     }
 
-    /// Whether the state or any saved state has an index selected.
-    fn is_held(&self, handle: Handle) -> bool
-        ensures { result ≡ is_held handle.0 self.now.state }
+    /// Whether an index is selected, now or in a saved state.
+    fn is_in_use(&self, handle: Handle) -> bool
+        ensures { result ≡ is_in_use handle.0 self.now.state }
     {
         self.dc.selected.has(handle) || any_has(self.saved.as_slice(), handle)
     }
 }
 
-/// Whether one of the saved states has an index selected.
+/// Whether an index is selected in one of the saved states.
 fn any_has(saved: &[Dc<'_>], handle: Handle) -> bool
     ensures { result ≡ list_any (λ dc. selects handle.0 (dc_value dc).selected) saved.now }
 {

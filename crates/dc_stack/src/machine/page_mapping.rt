@@ -1,4 +1,4 @@
-//! Steps that set the page map.
+//! Steps that change the page map.
 
 ghost use Rattle.draw_ops.specs.Operation.{offset_viewport_origin, offset_window_origin, set_map_mode, set_viewport_extent, set_viewport_origin, set_window_extent, set_window_origin};
 ghost use Rattle.dc_stack.specs.MachineState.{GoesOn, Plays, undrawn};

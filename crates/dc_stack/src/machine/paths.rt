@@ -10,7 +10,7 @@ use mapping::{Point, Rect};
 use object_tables::Table;
 
 impl<'a, T: Table<'a>> Machine<'a, T> {
-    /// Opens an empty path, in place of one that waits to be painted.
+    /// Opens an empty path, replacing a finished one.
     pub(super) fn begin_path(&mut self) -> Result<Option<Rect>, Fault>
         ensures plays { Plays begin_path self.old (undrawn result) self.new }
         ensures goes_on { GoesOn self.old self.new }
@@ -46,7 +46,7 @@ impl<'a, T: Table<'a>> Machine<'a, T> {
         Ok(None)
     }
 
-    /// Drops whatever path there is.
+    /// Drops any path.
     pub(super) fn abort_path(&mut self) -> Result<Option<Rect>, Fault>
         ensures plays { Plays abort_path self.old (undrawn result) self.new }
         ensures goes_on { GoesOn self.old self.new }
@@ -55,7 +55,7 @@ impl<'a, T: Table<'a>> Machine<'a, T> {
         Ok(None)
     }
 
-    /// Makes a point the current one. The open figure of an open path ends.
+    /// Moves the current position. The open figure of an open path ends.
     pub(super) fn move_to(&mut self, point: Point) -> Result<Option<Rect>, Fault>
         ensures plays { Plays (move_to point) self.old (undrawn result) self.new }
         ensures goes_on { GoesOn self.old self.new }
@@ -65,7 +65,7 @@ impl<'a, T: Table<'a>> Machine<'a, T> {
         Ok(None)
     }
 
-    /// Paints the path that waits for it, which is no path any more.
+    /// Paints the finished path, which is then dropped.
     pub(super) fn paint_path(
         &mut self,
         painting: Painting,
@@ -88,7 +88,7 @@ impl<'a, T: Table<'a>> Machine<'a, T> {
         let extent = self.path.bounds;
         match self.make_draw(mark, extent, edges, drawn) {
             Ok(extent) => {
-                self.path.lend();
+                self.path.borrow_pieces();
                 Ok(extent)
             }
             Err(fault) => Err(fault),

@@ -1,4 +1,4 @@
-//! Steps that save the state, and take a saved one back.
+//! Steps that save the state and restore a saved one.
 
 ghost use Rattle.draw_ops.specs.Operation.{restore, save};
 ghost use Rattle.dc_stack.specs.MachineState.{GoesOn, Plays, undrawn};
@@ -9,7 +9,7 @@ use draw_ops::{Fault, RecordFault, SavedState};
 use mapping::Rect;
 use object_tables::Table;
 
-/// How many states are saved at most at a time.
+/// The most saved states at a time.
 pub const MAX_SAVED_STATES: usize = 256;
 
 impl<'a, T: Table<'a>> Machine<'a, T> {
@@ -30,7 +30,7 @@ impl<'a, T: Table<'a>> Machine<'a, T> {
         }
     }
 
-    /// Takes a saved state back.
+    /// Restores a saved state.
     pub(super) fn restore(&mut self, which: SavedState) -> Result<Option<Rect>, Fault>
         ensures plays { Plays (restore which.0) self.old (undrawn result) self.new }
         ensures goes_on { GoesOn self.old self.new }

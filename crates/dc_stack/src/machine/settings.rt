@@ -1,4 +1,4 @@
-//! Steps that set how what follows is drawn.
+//! Steps that change settings for later drawing.
 
 ghost use Rattle.draw_ops.specs.Operation.{set_background_colour, set_background_mode, set_fill_mode, set_raster_op};
 ghost use Rattle.dc_stack.specs.MachineState.{GoesOn, Plays, undrawn};
@@ -30,7 +30,7 @@ impl<'a, T: Table<'a>> Machine<'a, T> {
         Ok(None)
     }
 
-    /// Sets how colours join what is there.
+    /// Sets the raster operation for pens and brushes.
     pub(super) fn set_raster_op(&mut self, raster_op: RasterOp) -> Result<Option<Rect>, Fault>
         ensures plays { Plays (set_raster_op raster_op) self.old (undrawn result) self.new }
         ensures goes_on { GoesOn self.old self.new }

@@ -1,4 +1,4 @@
-//! The rows of a fill: from the edges that cross them, which go on from row to row, or from a table of a few columns.
+//! The rows of a fill: from active edges, which move from row to row, or from a table of a few columns.
 
 ghost use Rattle.std.specs.Prelude.{◌≡◌, ◌+◌, ◌<◌, ◌≤◌};
 ghost use Rattle.span_fill.specs.RowState.{FillsRow, SameWork, IsFillingWork};
@@ -15,8 +15,8 @@ use crate::span::Span;
 use crate::sweep::sweep;
 
 impl RowBuf {
-    /// Goes over to a table of the interval's columns, once many edges were moved so often that it would have taken less time.
-    /// How many rows are to come isn't known, but so this takes no more than twice the time of the better way.
+    /// Switches to a table of the interval's columns once many edges have been moved so often that it would have taken
+    /// less time. The number of remaining rows isn't known, but this takes at most twice the time of the better way.
     #[inline(never)]
     fn turn_to_table(&mut self, interval: Span)
         requires filling { IsFillingWork self.old.work }
@@ -36,7 +36,7 @@ impl RowBuf {
         }
     }
 
-    /// The spans of the next row within the interval, which stays the next.
+    /// Computes the spans of the next row within the interval. Doesn't advance to the row after it.
     pub(super) fn sweep_row(&mut self, interval: Span)
         requires filling { IsFillingWork self.old.work }
         requires next { self.old.next < 8192 }
@@ -73,7 +73,7 @@ impl RowBuf {
         sweep(self.rule, self.active.as_slice(), interval, &mut self.spans);
     }
 
-    /// The same by edges that begin anew at the row, since the table hasn't all columns of the interval.
+    /// The same with edges that start anew at this row, because the table doesn't have all columns of the interval.
     #[inline(never)]
     fn sweep_anew(&mut self, interval: Span)
         requires filling { IsFillingWork self.old.work }
@@ -95,7 +95,7 @@ impl RowBuf {
         sweep(self.rule, self.active.as_slice(), interval, &mut self.spans);
     }
 
-    /// On to the next row.
+    /// Advances to the next row.
     pub(super) fn step(&mut self)
         requires filling { IsFillingWork self.old.work }
         requires next { self.old.next < 8192 }

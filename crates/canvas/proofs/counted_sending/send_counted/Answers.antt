@@ -19,9 +19,9 @@ loop-rest-preserved-in-Ok g c =
     let count = c.in-Ok.count in
     record {
       sending = rw (take_rest rest count) (sending_more _ _ c.loop-rest.invariant.sending (sym (take-append-drop count rest)) c.in-Ok.ensures.bytes);
-      room =
+      capacity =
           let same = no_fault _ _ count _ c.in-Ok.count-test.1 c.in-Ok.ensures.count in
-          let room = c.loop-rest.invariant.room in
-          omega (arith, same, room);
+          let capacity = c.loop-rest.invariant.capacity in
+          omega (arith, same, capacity);
       count = search rules;
     }

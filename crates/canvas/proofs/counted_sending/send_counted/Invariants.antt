@@ -6,7 +6,7 @@ use Rattle.canvas.proofs.counted_sending.send_counted.Given as goal
 abbrev pub invariant-loop-rest : goal.invariant-loop-rest
 invariant-loop-rest g l = record {
   sending : Sending (g.W.Write.contents l.fn.out) (g.W.Write.contents l.out) l.bytes l.rest;
-  room : g.W.FaultCount.fault_count l.out < 2 ^ 64 - 1;
+  capacity : g.W.FaultCount.fault_count l.out < 2 ^ 64 - 1;
   count : g.W.FaultCount.fault_count l.fn.out ≤ g.W.FaultCount.fault_count l.out;
 }
 

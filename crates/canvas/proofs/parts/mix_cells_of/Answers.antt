@@ -4,7 +4,7 @@ use Rattle.std.specs.Int.{bit_at}
 use Rattle.mapping.specs.IndexLaws.{count_indexes_most}
 use Rattle.mapping.specs.Mixes.{mixed_by}
 use Rattle.mapping.specs.Pixels.{is_cell}
-use Rattle.canvas.proofs.CellLemmas.{count_stage_none, count_stage_set, count_stage_unset, stage, stage_apart, stage_none, stage_room, stage_set, stage_unset}
+use Rattle.canvas.proofs.CellLemmas.{count_stage_none, count_stage_set, count_stage_unset, stage, stage_apart, stage_none, stage_capacity, stage_set, stage_unset}
 use Rattle.canvas.proofs.WritingLawLemmas.{either_one}
 use Rattle.canvas.proofs.parts.mix_cells_of.Goals as goal
 use Rattle.canvas.proofs.parts.mix_cells_of.Goals.{then-has_bit, else-has_bit}
@@ -17,17 +17,17 @@ loop-offset-init c = record {
 
 pub overflow_add-count : goal.overflow_add-count
 overflow_add-count c =
-    let room = stage_room c.args.cells c.args.column c.loop-offset.offset (length c.loop-offset.part) in
+    let capacity = stage_capacity c.args.cells c.args.column c.loop-offset.offset (length c.loop-offset.part) in
     let before = c.loop-offset.invariant.count in
     let more = c.mix_each_eighth-count.ensures.count in
-    omega (arith, room, before, more)
+    omega (arith, capacity, before, more)
 
 pub loop-offset-preserved : goal.loop-offset-preserved
 loop-offset-preserved c =
     let cells = c.args.cells in
     let column = c.args.column in
     let offset = c.loop-offset.offset in
-    let bit : is_cell cells (column + offset) ≡ c.has_bit.result = sym (c.has_bit.ensures ∙ ap (λ (i : ℕ). eqb (bit_at cells i) 1) c.turned.ensures.place) in
+    let bit : is_cell cells (column + offset) ≡ c.has_bit.result = sym (c.has_bit.ensures ∙ ap (λ (i : ℕ). eqb (bit_at cells i) 1) c.rotated.ensures.place) in
     let long = c.if-has_bit.auto.part in
     elim c.if-has_bit.branch [
       | then-has_bit w ↦

@@ -1,13 +1,13 @@
 use Rattle.std.proofs.Common.{arith, refl, take}
 use Rattle.std.proofs.lemmas.Result.{err_from_is_err_and, on_err_weaker}
-use Rattle.canvas.specs.Sending.{sending_more, sending_front_more}
+use Rattle.canvas.specs.Sending.{sending_more, sending_prefix_more}
 use Rattle.canvas.proofs.PieceLemmas.{cut_at}
 use Rattle.canvas.proofs.ppm_counted.write_pieces_to.Goals as goal
 
 pub returns-in_err-send_counted-clause-err : goal.returns-in_err-send_counted-clause-err
 returns-in_err-send_counted-clause-err g c =
     let p = err_from_is_err_and c.from_residual.result c.from_residual.ensures.1 in
-    rw p.1 (sending_front_more _ _ c.loop-done.invariant.sending (cut_at (take c.loop-done.filled c.loop-done.piece) _ c.loop-done.done _ c.args.canvas.now.colours c.put_samples-filled.ensures.text) c.in_err-send_counted.ensures.err)
+    rw p.1 (sending_prefix_more _ _ c.loop-done.invariant.sending (cut_at (take c.loop-done.filled c.loop-done.piece) _ c.loop-done.done _ c.args.canvas.now.colours c.put_samples-filled.ensures.text) c.in_err-send_counted.ensures.err)
 
 pub loop-done-preserved : goal.loop-done-preserved
 loop-done-preserved g c =
@@ -17,10 +17,10 @@ loop-done-preserved g c =
       short = omega arith;
       within = omega arith;
       sending = sending_more _ _ c.loop-done.invariant.sending (cut_at (take c.loop-done.filled c.loop-done.piece) _ c.loop-done.done _ c.args.canvas.now.colours c.put_samples-filled.ensures.text) c.in_ok-send_counted.ensures.ok;
-      room = c.in_ok-send_counted.ensures.room;
+      capacity = c.in_ok-send_counted.ensures.capacity;
       count = omega (arith, before, here);
     }
 
 pub returns-clause-err : goal.returns-clause-err
 returns-clause-err g c =
-    on_err_weaker c.send_counted-2.result (λ f. sending_front_more _ _ c.loop-done.invariant.sending refl f) c.send_counted-2.ensures.err
+    on_err_weaker c.send_counted-2.result (λ f. sending_prefix_more _ _ c.loop-done.invariant.sending refl f) c.send_counted-2.ensures.err

@@ -10,7 +10,7 @@ invariant-loop-done g l = record {
   short : l.filled ≤ 32;
   within : l.done ≤ l.count;
   sending : Sending (g.W.Write.contents l.fn.out) (g.W.Write.contents l.out) (take l.ready l.fn.piece ++ raster l.canvas.colours) (take l.filled l.piece ++ raster (drop l.done l.canvas.colours));
-  room : g.W.FaultCount.fault_count l.out < 2 ^ 64 - 1;
+  capacity : g.W.FaultCount.fault_count l.out < 2 ^ 64 - 1;
   count : g.W.FaultCount.fault_count l.fn.out ≤ g.W.FaultCount.fault_count l.out;
 }
 

@@ -9,9 +9,9 @@ use Rattle.commands.proofs.declared.metaplay.Goals as goal
 pub returns : goal.returns
 returns c =
     let named : app_of c.in_ok-bin_name.field-0 ≡ new_app (codes "metaplay") = ap app_of_fields c.in_ok-bin_name.ensures.0 ∙ c.new.ensures.app in
-    let told : app_of c.after_help.result ≡ new_app (codes "metaplay") = ap app_of_fields c.after_help.ensures ∙ (ap app_of_fields c.about.ensures ∙ named) in
+    let printed : app_of c.after_help.result ≡ new_app (codes "metaplay") = ap app_of_fields c.after_help.ensures ∙ (ap app_of_fields c.about.ensures ∙ named) in
     let bare : app_of c.subcommand_required.result ≡ bare_app =
-    ap app_of_fields c.subcommand_required.ensures ∙ ap (λ (a : App). record a { top = record a.top { subcommand_required = true } }) told in
+    ap app_of_fields c.subcommand_required.ensures ∙ ap (λ (a : App). record a { top = record a.top { subcommand_required = true } }) printed in
     let one : app_of c.in_ok-subcommand.field-0 ≡ with_subcommand bare_app show_app.top =
     c.in_ok-subcommand.ensures.shape c.in_ok-show.ensures.local ∙ ap₂ with_subcommand bare (ap (λ (a : App). a.top) c.in_ok-show.ensures.is) in
     let two : app_of c.in_ok-subcommand-2.field-0 ≡ with_subcommand (with_subcommand bare_app show_app.top) prepare_app.top =

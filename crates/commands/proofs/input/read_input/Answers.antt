@@ -10,5 +10,5 @@ both (Some x) None c bs cs p q = absurd p
 both (Some x) (Some y) None bs cs p q = absurd q
 both (Some x) (Some y) (Some z) bs cs p q = p ∙ ap (λ l. bs ++ l) q ∙ sym (append_assoc bs cs z)
 
-pub returns-then-is_err-clause-front : goal.returns-then-is_err-clause-front
-returns-then-is_err-clause-front g c = record { front = _; consumed = both _ _ _ _ _ c.loop-piece.invariant c.in-Ok.ensures.bytes.0 }
+pub returns-then-is_err-clause-prefix : goal.returns-then-is_err-clause-prefix
+returns-then-is_err-clause-prefix g c = record { prefix = _; consumed = both _ _ _ _ _ c.loop-piece.invariant c.in-Ok.ensures.bytes.0 }

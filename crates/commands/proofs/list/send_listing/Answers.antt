@@ -1,7 +1,7 @@
 -- What was written is the listing, or a prefix of it.
 use Rattle.std.proofs.Common.{refl, rules}
 use Rattle.std.proofs.lemmas.Result.{err_from_is_err_and}
-use Rattle.canvas.specs.Sending.{sending_front, sending_kept, sending_whole}
+use Rattle.canvas.specs.Sending.{sending_prefix, sending_kept, sending_whole}
 use Rattle.listing.specs.Listing.{listing_of}
 use Rattle.commands.proofs.ListLemmas.{is_listing}
 use Rattle.commands.proofs.list.send_listing.Goals as goal
@@ -17,12 +17,12 @@ returns-in_err-flush_sent-clause-err g c =
     rw p.1 (record {
       text = listing_of c.args.file.now;
       fact = is_listing c.args.file.now;
-      written = sending_front (sending_kept (sending_whole c.in_ok-listed.ensures.ok) c.flush_sent.ensures.bytes);
+      written = sending_prefix (sending_kept (sending_whole c.in_ok-listed.ensures.ok) c.flush_sent.ensures.bytes);
     })
 
 pub returns-clause-ok : goal.returns-clause-ok
 returns-clause-ok g c = record {
   text = listing_of c.args.file.now;
-  fact = record { end = c.in_ok-listed.ensures.listed; told = refl };
+  fact = record { end = c.in_ok-listed.ensures.listed; printed = refl };
   written = search rules;
 }

@@ -1,13 +1,13 @@
 -- The way the command ends says what was written and reported, whether the output failed, and that a finished text is
 -- flushed.
-use Rattle.commands.proofs.FailureLemmas.{done_by, fails_by, holds_by, told_by, written_by}
+use Rattle.commands.proofs.FailureLemmas.{done_by, fails_by, holds_by, printed_by, written_by}
 use Rattle.commands.proofs.over.over_command.Goals as goal
 
 pub returns-clause-written : goal.returns-clause-written
 returns-clause-written g c = written_by _ c.write_over-done.result c.ending.result _ _ c.ending.ensures.end c.write_over-done.ensures.done c.write_over-done.ensures.failed
 
-pub returns-clause-told : goal.returns-clause-told
-returns-clause-told g c = told_by _ c.write_over-done.result c.ending.result _ _ _ _ c.ending.ensures.end c.write_over-done.ensures.failed c.ending.ensures.told (λ t. t)
+pub returns-clause-printed : goal.returns-clause-printed
+returns-clause-printed g c = printed_by _ c.write_over-done.result c.ending.result _ _ _ _ c.ending.ensures.end c.write_over-done.ensures.failed c.ending.ensures.printed (λ t. t)
 
 pub returns-clause-memory : goal.returns-clause-memory
 returns-clause-memory g c = holds_by c.write_over-done.result c.ending.result _ c.ending.ensures.end c.write_over-done.ensures.memory

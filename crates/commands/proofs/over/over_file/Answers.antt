@@ -1,15 +1,15 @@
 -- What was accepted is played over the image, or rejected after the check.
 use Rattle.std.proofs.Common.{rules}
-use Rattle.commands.proofs.PlayLemmas.{no_image_refuses, over_check_refuses, over_surface_refuses, played_over}
+use Rattle.commands.proofs.PlayLemmas.{no_image_rejects, over_check_rejects, over_surface_rejects, played_over}
 use Rattle.commands.proofs.PreparedLemmas.{accepted_opens}
 use Rattle.commands.proofs.over.over_file.Goals as goal
 
 pub returns-in-Err-clause-refusal : goal.returns-in-Err-clause-refusal
-returns-in-Err-clause-refusal c = over_check_refuses _ _ _ c.in-Err.refusal c.in-Err.ensures.refusal
+returns-in-Err-clause-refusal c = over_check_rejects _ _ _ c.in-Err.refusal c.in-Err.ensures.refusal
 
 pub returns-in-Err-BadImage-clause-refusal : goal.returns-in-Err-BadImage-clause-refusal
 returns-in-Err-BadImage-clause-refusal c =
-    no_image_refuses _ _ _ _ c.in-Ok.ensures.accepted (c.in-Err-BadImage.ensures.bad.0 c.in-Err-BadImage.field-0-is) (search rules) (search rules)
+    no_image_rejects _ _ _ _ c.in-Ok.ensures.accepted (c.in-Err-BadImage.ensures.bad.0 c.in-Err-BadImage.field-0-is) (search rules) (search rules)
 
 pub returns-in-Ok-play_over-clause-image : goal.returns-in-Ok-play_over-clause-image
 returns-in-Ok-play_over-clause-image c =
@@ -17,7 +17,7 @@ returns-in-Ok-play_over-clause-image c =
 
 pub returns-in-Err-play_over-clause-refusal : goal.returns-in-Err-play_over-clause-refusal
 returns-in-Err-play_over-clause-refusal c =
-    over_surface_refuses _ _ _ _ c.in-Ok.cleared c.in-Err-play_over.fault _ c.in-Ok.ensures.accepted c.in-Ok.ensures.read c.in-Ok-from_ppm.ensures.image c.in-Err-play_over.ensures.refusal (search rules) (search rules)
+    over_surface_rejects _ _ _ _ c.in-Ok.cleared c.in-Err-play_over.fault _ c.in-Ok.ensures.accepted c.in-Ok.ensures.read c.in-Ok-from_ppm.ensures.image c.in-Err-play_over.ensures.refusal (search rules) (search rules)
 
 pub returns-in-Err-BadImage-clause-memory : goal.returns-in-Err-BadImage-clause-memory
 returns-in-Err-BadImage-clause-memory c = λ e. accepted_opens _ _ c.in-Ok.ensures.accepted

@@ -19,6 +19,6 @@ returns-in-Err-flush_sent-clause-failed g c =
       written = record {
         text = done.text;
         of_run = done.of_run;
-        appended = record { sent = done.text; unsent = []; front = sym (append-nil done.text); appended = appended };
+        appended = record { sent = done.text; unsent = []; prefix = sym (append-nil done.text); appended = appended };
       };
     }

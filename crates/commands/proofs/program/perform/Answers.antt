@@ -5,17 +5,17 @@ use Rattle.commands.proofs.program.perform.Goals as goal
 
 pub returns-in-Ok-clause-written : goal.returns-in-Ok-clause-written
 returns-in-Ok-clause-written g c =
-    out_of_task c.args.line _ _ _ _ c.in-Ok.ensures.read _ _ _ c.run_task.result.end _ _ c.run_task.ensures.written c.run_task.ensures.told
+    out_of_task c.args.line _ _ _ _ c.in-Ok.ensures.read _ _ _ c.run_task.result.end _ _ c.run_task.ensures.written c.run_task.ensures.printed
 
-pub returns-in-Ok-clause-told : goal.returns-in-Ok-clause-told
-returns-in-Ok-clause-told g c =
-    err_of_task c.args.line _ _ _ _ c.in-Ok.ensures.read _ _ _ c.run_task.result.end c.run_task.ensures.told
+pub returns-in-Ok-clause-printed : goal.returns-in-Ok-clause-printed
+returns-in-Ok-clause-printed g c =
+    err_of_task c.args.line _ _ _ _ c.in-Ok.ensures.read _ _ _ c.run_task.result.end c.run_task.ensures.printed
 
 pub returns-in-Err-clause-written : goal.returns-in-Err-clause-written
 returns-in-Err-clause-written g c = out_unread c.args.line _ c.in-Err.fault _ _ _ c.no_input.ensures.end (search rules)
 
-pub returns-in-Err-clause-told : goal.returns-in-Err-clause-told
-returns-in-Err-clause-told g c = err_unread c.args.line _ c.in-Err.fault _ _ _ _ c.no_input.ensures.end c.no_input.ensures.line
+pub returns-in-Err-clause-printed : goal.returns-in-Err-clause-printed
+returns-in-Err-clause-printed g c = err_unread c.args.line _ c.in-Err.fault _ _ _ _ c.no_input.ensures.end c.no_input.ensures.line
 
 pub returns-in-Err-clause-cannot_write : goal.returns-in-Err-clause-cannot_write
 returns-in-Err-clause-cannot_write g c = unread_failed c.in-Err.fault _ _ c.no_input.ensures.end

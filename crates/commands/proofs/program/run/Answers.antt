@@ -5,8 +5,8 @@ use Rattle.commands.proofs.program.run.Goals as goal
 pub returns-in-Ok-clause-written : goal.returns-in-Ok-clause-written
 returns-in-Ok-clause-written g c = out_of_asked _ _ c.run_words.result.end _ _ c.run_words.ensures.written
 
-pub returns-in-Ok-clause-told : goal.returns-in-Ok-clause-told
-returns-in-Ok-clause-told g c = err_of_asked _ _ c.run_words.result.end _ _ _ c.run_words.ensures.told
+pub returns-in-Ok-clause-printed : goal.returns-in-Ok-clause-printed
+returns-in-Ok-clause-printed g c = err_of_asked _ _ c.run_words.result.end _ _ _ c.run_words.ensures.printed
 
 pub returns-in-Ok-clause-cannot_write : goal.returns-in-Ok-clause-cannot_write
 returns-in-Ok-clause-cannot_write g c = λ e. holds_of_some _ _ (c.run_words.ensures.cannot_write e)

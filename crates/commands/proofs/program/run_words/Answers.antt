@@ -6,20 +6,20 @@ use Rattle.commands.proofs.program.run_words.Goals as goal
 
 pub returns-in-Ok-clause-written : goal.returns-in-Ok-clause-written
 returns-in-Ok-clause-written g c =
-    out_of_line _ c.in-Ok.line _ c.in-Ok.ensures.sides c.in-Ok.ensures.asked c.perform.result.end _ _ c.perform.ensures.written
+    out_of_line _ c.in-Ok.line _ c.in-Ok.ensures.dimensions c.in-Ok.ensures.asked c.perform.result.end _ _ c.perform.ensures.written
 
-pub returns-in-Ok-clause-told : goal.returns-in-Ok-clause-told
-returns-in-Ok-clause-told g c =
-    err_of_line _ c.in-Ok.line _ c.in-Ok.ensures.sides c.in-Ok.ensures.asked c.perform.result.end _ _ _ c.perform.ensures.told
+pub returns-in-Ok-clause-printed : goal.returns-in-Ok-clause-printed
+returns-in-Ok-clause-printed g c =
+    err_of_line _ c.in-Ok.line _ c.in-Ok.ensures.dimensions c.in-Ok.ensures.asked c.perform.result.end _ _ _ c.perform.ensures.printed
 
 pub returns-in-Ok-clause-cannot_write : goal.returns-in-Ok-clause-cannot_write
-returns-in-Ok-clause-cannot_write g c = λ e. holds_of_line _ c.in-Ok.line _ c.in-Ok.ensures.sides c.in-Ok.ensures.asked (c.perform.ensures.cannot_write e)
+returns-in-Ok-clause-cannot_write g c = λ e. holds_of_line _ c.in-Ok.line _ c.in-Ok.ensures.dimensions c.in-Ok.ensures.asked (c.perform.ensures.cannot_write e)
 
 pub returns-in-Ok-clause-flushed : goal.returns-in-Ok-clause-flushed
-returns-in-Ok-clause-flushed g c = λ e. holds_of_line _ c.in-Ok.line _ c.in-Ok.ensures.sides c.in-Ok.ensures.asked (c.perform.ensures.flushed e)
+returns-in-Ok-clause-flushed g c = λ e. holds_of_line _ c.in-Ok.line _ c.in-Ok.ensures.dimensions c.in-Ok.ensures.asked (c.perform.ensures.flushed e)
 
 pub returns-in-Ok-clause-unshown : goal.returns-in-Ok-clause-unshown
-returns-in-Ok-clause-unshown g c = on_err_weaker c.perform.result.told inl c.perform.ensures.unreported
+returns-in-Ok-clause-unshown g c = on_err_weaker c.perform.result.printed inl c.perform.ensures.unreported
 
 pub returns-in-Err-clause-cannot_write : goal.returns-in-Err-clause-cannot_write
 returns-in-Err-clause-cannot_write g c = usage_failed c.usage.result.end _ c.usage.ensures.ends

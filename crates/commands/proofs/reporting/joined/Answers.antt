@@ -7,6 +7,6 @@ use Rattle.commands.proofs.reporting.joined.Goals as goal
 
 pub returns : goal.returns
 returns g c =
-    let room = c.requires in
+    let capacity = c.requires in
     let long = length-append (inline_text c.args.text) c.args.more.now in
-    c.and_str.ensures.to_end (omega arith) ∙ whole _ _ (omega (arith, room, long))
+    c.and_str.ensures.to_end (omega arith) ∙ whole _ _ (omega (arith, capacity, long))

@@ -9,19 +9,19 @@ use Rattle.dc_stack.proofs.ListLemmas.{never_too_many}
 use Rattle.dc_stack.proofs.PlaneBoxLemmas.{point_plane_box}
 use Rattle.dc_stack.proofs.placing.plane_lines.Goals as goal
 
-pub returns-then-len-ge-MAX_EDGES-clause-refused : goal.returns-then-len-ge-MAX_EDGES-clause-refused
-returns-then-len-ge-MAX_EDGES-clause-refused c = λ s shows.
+pub returns-then-len-ge-MAX_EDGES-clause-rejected : goal.returns-then-len-ge-MAX_EDGES-clause-rejected
+returns-then-len-ge-MAX_EDGES-clause-rejected c = λ s shows.
     past_limit (map_numbers c.args.map.now) (c.args.start ∷ points_of c.args.points) s (suc c.len.result) (ap suc c.len.ensures) (omega arith)
 
-pub returns-in-Err-clause-refused : goal.returns-in-Err-clause-refused
-returns-in-Err-clause-refused c = λ s shows.
+pub returns-in-Err-clause-rejected : goal.returns-in-Err-clause-rejected
+returns-in-Err-clause-rejected c = λ s shows.
     let map = map_numbers c.args.map.now in
     let points = points_of c.args.points in
     let few = within_limit map (c.args.start ∷ points) s (suc c.len.result) (ap suc c.len.ensures) (omega arith) in
     first_point_off s (mapped_point map c.args.start) (mapped_list map points) c.in-Err.fault (c.in-Err.ensures.off s shows) ∙ few
 
-pub returns-in-Err-plane_box-clause-refused : goal.returns-in-Err-plane_box-clause-refused
-returns-in-Err-plane_box-clause-refused c = λ s shows.
+pub returns-in-Err-plane_box-clause-rejected : goal.returns-in-Err-plane_box-clause-rejected
+returns-in-Err-plane_box-clause-rejected c = λ s shows.
     let map = map_numbers c.args.map.now in
     let points = points_of c.args.points in
     let few = within_limit map (c.args.start ∷ points) s (suc c.len.result) (ap suc c.len.ensures) (omega arith) in

@@ -10,8 +10,8 @@ use Rattle.dc_stack.proofs.LandingLemmas.{past_limit, within_limit}
 use Rattle.dc_stack.proofs.ListLemmas.{never_too_many, points_mapped}
 use Rattle.dc_stack.proofs.placing.plane_lists.Goals as goal
 
-pub returns-then-len-gt-MAX_EDGES-clause-refused : goal.returns-then-len-gt-MAX_EDGES-clause-refused
-returns-then-len-gt-MAX_EDGES-clause-refused c = λ s shows.
+pub returns-then-len-gt-MAX_EDGES-clause-rejected : goal.returns-then-len-gt-MAX_EDGES-clause-rejected
+returns-then-len-gt-MAX_EDGES-clause-rejected c = λ s shows.
     let map = map_numbers c.args.map.now in
     let points = points_of c.points-points.result in
     let all = points_mapped map points (lists_of c.args.lists) c.points-points.ensures in
@@ -33,8 +33,8 @@ returns-in-Ok-clause-extent c =
     let all = points_mapped (map_numbers c.args.map.now) points (lists_of c.args.lists) c.points-points.ensures in
     subst (IsExtent c.in-Ok.extent) all c.in-Ok.ensures.extent
 
-pub returns-in-Err-clause-refused : goal.returns-in-Err-clause-refused
-returns-in-Err-clause-refused c = λ s shows.
+pub returns-in-Err-clause-rejected : goal.returns-in-Err-clause-rejected
+returns-in-Err-clause-rejected c = λ s shows.
     let map = map_numbers c.args.map.now in
     let points = points_of c.points-points.result in
     let all = points_mapped map points (lists_of c.args.lists) c.points-points.ensures in

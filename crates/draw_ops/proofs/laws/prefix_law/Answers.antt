@@ -1,5 +1,5 @@
-use Rattle.draw_ops.proofs.PrefixLemmas.{fronts_are_cut_short}
+use Rattle.draw_ops.proofs.PrefixLemmas.{prefixes_are_cut_short}
 use Rattle.draw_ops.proofs.laws.prefix_law.Goals as goal
 
 pub returns : goal.returns
-returns c = fronts_are_cut_short c.number_law.ensures
+returns c = prefixes_are_cut_short c.number_law.ensures

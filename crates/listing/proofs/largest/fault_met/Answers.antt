@@ -4,7 +4,7 @@ use Rattle.mapping.specs.PlaceOf.{surface_of}
 use Rattle.draw_ops.specs.OperationOf.{operation_of}
 use Rattle.dc_stack.specs.Drawing.{Drawing}
 use Rattle.dc_stack.specs.OperationFault.{nib_fault}
-use Rattle.listing.specs.Judging.{is_painting}
+use Rattle.listing.specs.DryRunState.{is_painting}
 use Rattle.listing.proofs.largest.fault_met.Goals as goal
 
 pub returns-then-is_painting : goal.returns-then-is_painting

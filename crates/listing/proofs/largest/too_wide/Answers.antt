@@ -5,9 +5,9 @@ use Rattle.draw_ops.specs.OperationOf.{operation_of}
 use Rattle.draw_ops.specs.declared.record_fault.RecordFault.TheVariants.{NibTooWide, OffPlane}
 use Rattle.dc_stack.specs.Extents.{IsExtent}
 use Rattle.dc_stack.specs.OperationFault.{all_land_within, fault_of, plane_points}
-use Rattle.listing.specs.Judging.{without_pen}
-use Rattle.listing.proofs.JudgingLemmas.{refused_here}
-use Rattle.listing.proofs.LargestLemmas.{played_bare, refused_there, same_points}
+use Rattle.listing.specs.DryRunState.{without_pen}
+use Rattle.listing.proofs.DryRunStateLemmas.{rejected_here}
+use Rattle.listing.proofs.LargestLemmas.{played_bare, rejected_there, same_points}
 use Rattle.listing.proofs.PathLemmas.{stays_landed}
 use Rattle.listing.proofs.largest.too_wide.Goals as goal
 
@@ -51,8 +51,8 @@ returns-in-Err-clause-fault c =
     let largest = surface_of c.args.largest in
     let same : fault_of operation (without_pen old.state) old.surface ≡ fault_of operation bare.state bare.surface =
     rw (c.select_no_pen.ensures.state, c.select_no_pen.ensures.goes_on.surface) refl in
-    refused_there c.fault_law.ensures c.nib_law.ensures operation old.state old.surface largest c.requires.too_wide (fault_of operation bare.state bare.surface)
-    c.in-Err.field-0 same (refused_here c.need_law.ensures operation bare c.in-Err.field-0 c.select_no_pen.ensures.room c.in-Err.ensures.refused)
+    rejected_there c.fault_law.ensures c.nib_law.ensures operation old.state old.surface largest c.requires.too_wide (fault_of operation bare.state bare.surface)
+    c.in-Err.field-0 same (rejected_here c.need_law.ensures operation bare c.in-Err.field-0 c.select_no_pen.ensures.capacity c.in-Err.ensures.rejected)
 
 pub returns-then-fits-clause-landed : goal.returns-then-fits-clause-landed
 returns-then-fits-clause-landed c =

@@ -6,7 +6,7 @@ use Rattle.span_fill.specs.WideStrokes.{widened}
 use Rattle.dc_stack.specs.Clip.{placed_box}
 use Rattle.dc_stack.specs.Draws.{IsPlacedDraw}
 use Rattle.dc_stack.specs.MachineState.{HasNib, drawing_with}
-use Rattle.preflight_cert.specs.MissedRowsLaws.{LiesBeside}
+use Rattle.preflight_cert.specs.MissedRowsLaws.{LiesOutside}
 use Rattle.painting.proofs.LandedBoxLemmas.{shows}
 use Rattle.painting.proofs.MissedLemmas.{missed_drawn}
 use Rattle.painting.proofs.drawing.draw.Goals as goal
@@ -21,6 +21,6 @@ returns-then-misses_rows-clause-drawn g c =
     let placed : IsPlacedDraw machine.surface machine.painted drawn = rw c.in-Some.is at c.requires.placed in
     let shown : ShowsFrame machine.surface = subst ShowsFrame c.place.ensures (shows place) in
     let nib : HasNib machine.surface machine drawn = rw c.in-Some.is at c.requires.nib in
-    let here = subst (λ (s : Surface). LiesBeside (widened drawn.nib (placed_box s drawn.bounds)) canvas.first canvas.rows) c.place.ensures (c.misses_rows.ensures.0 c.if-misses_rows.true) in
-    let beside = subst (λ (n : Nib). LiesBeside (widened n (placed_box machine.surface drawn.bounds)) canvas.first canvas.rows) nib.is here in
+    let here = subst (λ (s : Surface). LiesOutside (widened drawn.nib (placed_box s drawn.bounds)) canvas.first canvas.rows) c.place.ensures (c.misses_rows.ensures.0 c.if-misses_rows.true) in
+    let beside = subst (λ (n : Nib). LiesOutside (widened n (placed_box machine.surface drawn.bounds)) canvas.first canvas.rows) nib.is here in
     rw c.in-Some.is (missed_drawn c.missed_rows_law.ensures machine.surface (drawing_with machine drawn) drawn.bounds canvas shown c.whole_law.ensures.whole c.requires.held placed.least beside)

@@ -12,7 +12,7 @@ use Rattle.preflight_cert.specs.Rectangles.{rectangle_on}
 use Rattle.preflight_cert.specs.Shape.{fill_rule_of, inside_figures, inside_rectangle}
 use Rattle.span_fill.specs.Fill.{in_fill}
 use Rattle.span_fill.specs.declared.line.Line.{Line}
-use Rattle.painting.specs.Brushings.{brushing_paint}
+use Rattle.painting.specs.FillStyles.{fill_style_paint}
 use Rattle.painting.specs.FigureOutlines.{outline_left}
 use Rattle.painting.specs.declared.list_lines.Ends.TheVariants.{Closed}
 use Rattle.painting.proofs.DrawingLemmas.{brush_fills, painted_layer}
@@ -25,10 +25,10 @@ use Rattle.painting.proofs.drawing.fill.Goals as goal
 
 pub new-outline-requires : goal.new-outline-requires
 new-outline-requires g c =
-    let lent = rw c.in-Figures.is at c.requires.may.placed.ready in
+    let borrowed = rw c.in-Figures.is at c.requires.may.placed.ready in
     let land = rw c.in-Figures.is at c.requires.may.placed.within in
     let few = few_to_count _ (rw c.in-Figures.is at c.requires.may.placed.few) in
-    search (lent, land, few, rules)
+    search (borrowed, land, few, rules)
 
 pub fill_inside-requires : goal.fill_inside-requires
 fill_inside-requires g c =
@@ -39,12 +39,12 @@ fill_inside-requires g c =
     let lines = c.new-outline.ensures ∙ closed_lines_along s figures in
     let least = rw c.in-Figures.is at c.requires.may.placed.least in
     let within = rw c.in-Figures.is at c.requires.may.placed.within in
-    let room = rw c.in-Figures.is at c.requires.may.lines in
+    let enough = rw c.in-Figures.is at c.requires.may.lines in
     let counted = lines_few s figures Closed (outline_left c.new-outline.result) c.new-outline.ensures in
     record {
       countable = c.requires.countable;
       alone = c.with-paint.ensures.alone;
-      room = omega (arith, room, counted);
+      capacity = omega (arith, enough, counted);
       within = λ x y h.
           shape_landed c.drawing_box_law.ensures one_pixel c.place-place.result s c.place-place.ensures c.args.drawn.bounds c.landed_box.result c.landed_box.ensures (points_of_figures figures) least within
           shape refl (figures_closed figures) (points_closed figures) x y (sym (ap (λ (list : List Line). in_fill rule list x y) lines) ∙ h);
@@ -68,11 +68,11 @@ returns-in_default-painting g c =
     let figures = figures_drawn c.args.machine.now.painted c.in-Figures.points in
     let shape = inside_figures tools.modes.fill_mode (all_closed figures) in
     let lines = c.new-outline.ensures ∙ closed_lines_along s figures in
-    let drawn = painted_layer c.writing_law.ensures s c.args.canvas.now c.fill_inside.new.canvas c.whole_law.ensures.whole c.requires.may.held (brushed_now tools.brush tools) tools (brushing_paint c.with-paint.result) asked _ shape
+    let drawn = painted_layer c.writing_law.ensures s c.args.canvas.now c.fill_inside.new.canvas c.whole_law.ensures.whole c.requires.may.held (brushed_now tools.brush tools) tools (fill_style_paint c.with-paint.result) asked _ shape
     (λ x y. rw (c.with-paint.ensures.modes, lines) refl) c.fill_inside.ensures.pixels c.fill_inside.ensures.few in
     record {
       drawn = rw (c.in-Figures.is, fills_figures c.in-Figures.painting figures tools c.in_default-painting.not-Stroke, brush_fills c.dc.result.now.selected.brush shape tools c.in_default.not-Null brush) drawn;
-      room = c.fill_inside.ensures.room;
+      capacity = c.fill_inside.ensures.capacity;
     }
 
 pub returns-in-Rectangle : goal.returns-in-Rectangle
@@ -82,9 +82,9 @@ returns-in-Rectangle g c =
     let brush = ap (λ (d : DcValue). d.selected.brush.object) c.dc.ensures.value in
     let asked = rw brush at c.with-paint.ensures.paint in
     let shape = inside_rectangle c.in-Rectangle.first c.in-Rectangle.second c.in-Rectangle.edges in
-    let drawn = painted_layer c.writing_law.ensures s c.args.canvas.now c.fill_box.new.canvas c.whole_law.ensures.whole c.requires.may.held (brushed_now tools.brush tools) tools (brushing_paint c.with-paint.result) asked _ shape
+    let drawn = painted_layer c.writing_law.ensures s c.args.canvas.now c.fill_box.new.canvas c.whole_law.ensures.whole c.requires.may.held (brushed_now tools.brush tools) tools (fill_style_paint c.with-paint.result) asked _ shape
     (λ x y. ap (λ (box : Rect). in_box box x y) c.placed_box-inside.ensures.value ∙ ap (λ (r : Surface). in_box (rectangle_on r c.in-Rectangle.first c.in-Rectangle.second c.in-Rectangle.edges) x y) c.place-place.ensures) c.fill_box.ensures.pixels c.fill_box.ensures.few in
     record {
       drawn = rw (c.in-Rectangle.is, brush_fills c.dc.result.now.selected.brush shape tools c.in_default.not-Null brush) drawn;
-      room = refl;
+      capacity = refl;
     }

@@ -70,5 +70,5 @@ returns-in-Line g c =
         most = stroked.rows.most ∙ filled.rows.most;
       };
       few = omega (arith, fill_few, stroke_few);
-      room = c.stroke.ensures.room ∙ c.fill.ensures.room;
+      capacity = c.stroke.ensures.capacity ∙ c.fill.ensures.capacity;
     }

@@ -2,7 +2,7 @@ use Rattle.std.proofs.Common.{◌≡◌, Bool, true, false, ◌||◌, [], ◌∷
 use Rattle.mapping.specs.PixelBoxes.{in_box}
 use Rattle.dc_stack.specs.Values.{placed_value}
 use Rattle.span_fill.specs.Spans.{in_span, in_spans}
-use Rattle.painting.specs.Brushings.{brushing_paint}
+use Rattle.painting.specs.FillStyles.{fill_style_paint}
 use Rattle.painting.specs.RowPainters.{painter_paint}
 use Rattle.painting.proofs.RegionLemmas.{box_row, none_seen, row_added, rows_begun, rows_done}
 use Rattle.painting.proofs.RowLemmas.{few_written}
@@ -17,7 +17,7 @@ lone false = refl
 
 pub returns-then-columns-clause-pixels : goal.returns-then-columns-clause-pixels
 returns-then-columns-clause-pixels c =
-    none_seen (brushing_paint c.args.paint.now) (in_box c.args.inside) c.args.canvas.now c.writing_law.ensures c.whole_law.ensures.whole c.visible_in-drawn.result c.visible_in-drawn.ensures.visible c.if-columns.true
+    none_seen (fill_style_paint c.args.paint.now) (in_box c.args.inside) c.args.canvas.now c.writing_law.ensures c.whole_law.ensures.whole c.visible_in-drawn.result c.visible_in-drawn.ensures.visible c.if-columns.true
 
 pub loop-y-init : goal.loop-y-init
 loop-y-init c =
@@ -25,7 +25,7 @@ loop-y-init c =
     let visible = rw (← ap placed_value c.painter-painter.ensures.clip) at drawn.ensures.visible in
     record {
       clip = refl;
-      inks = refl;
+      row_ops = refl;
       painted = rows_begun (painter_paint c.painter-painter.result) (in_box c.args.inside) c.args.canvas.now c.writing_law.ensures c.whole_law.ensures.whole drawn.result visible;
       held = tt;
     }
@@ -47,16 +47,16 @@ loop-y-preserved c =
     let bottom = drawn.ensures.visible.held.bottom in
     let row = c.put_row.ensures.painted in
     let inv = c.loop-y.invariant in
-    let is_ink = rw (inv.clip, inv.inks) at row.is_ink in
+    let is_row_op = rw (inv.clip, inv.row_ops) at row.is_row_op in
     let cuts = rw (c.cut_boxes.ensures, inv.clip) at c.uncut_part-painter.ensures.all in
     record {
       painted = row_added (painter_paint c.painter-painter.result) (in_box c.args.inside) c.args.canvas.now c.writing_law.ensures c.whole_law.ensures.whole drawn.result visible
-          c.loop-y.canvas c.put_row.new.canvas c.loop-y.y row.ink (in_spans (columns ∷ [])) c.uncut_part-painter.result
+          c.loop-y.canvas c.put_row.new.canvas c.loop-y.y row.row_op (in_spans (columns ∷ [])) c.uncut_part-painter.result
           (λ x. lone (in_span columns x) ∙ box_row drawn.result c.args.inside drawn.ensures.boxed x c.loop-y.y low high)
-          is_ink (λ x h uncut. cuts x (sym (lone (in_span columns x)) ∙ h) uncut) low high (record { from_first = omega (arith, low, top); to_last = omega (arith, high, bottom) })
+          is_row_op (λ x h uncut. cuts x (sym (lone (in_span columns x)) ∙ h) uncut) low high (record { from_first = omega (arith, low, top); to_last = omega (arith, high, bottom) })
           inv.painted (rw inv.clip at row.painted);
       clip = inv.clip;
-      inks = inv.inks;
+      row_ops = inv.row_ops;
       held = rw c.put_row.ensures.sources c.read_row-kept.ensures.gathered;
     }
 
@@ -67,7 +67,7 @@ pub returns-clause-pixels : goal.returns-clause-pixels
 returns-clause-pixels c =
     let drawn = c.visible_in-drawn in
     let visible = rw (← ap placed_value c.painter-painter.ensures.clip) at drawn.ensures.visible in
-    painted_same c.writing_law.ensures (painter_paint c.painter-painter.result) (brushing_paint c.args.paint.now) (in_box c.args.inside) c.args.canvas.now c.loop-y.canvas c.whole_law.ensures.whole c.painter-painter.ensures.paint
+    painted_same c.writing_law.ensures (painter_paint c.painter-painter.result) (fill_style_paint c.args.paint.now) (in_box c.args.inside) c.args.canvas.now c.loop-y.canvas c.whole_law.ensures.whole c.painter-painter.ensures.paint
     (rows_done (painter_paint c.painter-painter.result) (in_box c.args.inside) c.args.canvas.now c.writing_law.ensures c.whole_law.ensures.whole drawn.result visible c.loop-y.canvas c.loop-y.y c.loop-y-test.false c.loop-y.invariant.painted)
 
 pub put_row-requires : goal.put_row-requires
@@ -95,7 +95,7 @@ put_row-requires c =
       spans = (omega arith, omega (arith, some), omega (arith, right, width), tt);
       row = record { from_first = omega (arith, low, top, first); to_last = omega (arith, high, bottom, first, rows) };
       countable = omega (arith, few, right, side, countable, width);
-      read = rw inv.inks (c.painter-painter.ensures.reads c.uncut_part-painter.result c.loop-y.y _ c.read_row-kept.ensures.read);
+      read = rw inv.row_ops (c.painter-painter.ensures.reads c.uncut_part-painter.result c.loop-y.y _ c.read_row-kept.ensures.read);
       order = part_order;
       end = omega (arith, right, side, part_last);
     }

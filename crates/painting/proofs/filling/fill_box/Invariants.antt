@@ -10,7 +10,7 @@ use Rattle.painting.proofs.filling.fill_box.Given as goal
 abbrev pub invariant-loop-y : goal.invariant-loop-y
 invariant-loop-y l = record {
   clip : l.painter.clip ≡ l.initial.painter.clip;
-  inks : l.painter.inks ≡ l.initial.painter.inks;
+  row_ops : l.painter.row_ops ≡ l.initial.painter.row_ops;
   painted : HasRowsPainted (painter_paint l.initial.painter) (in_box l.fn.inside) l.y l.fn.canvas l.canvas;
-  held : IfSome l.kept (λ it. IfSome l.paint.source (λ reader. HoldsRow reader it.columns it.row l.room.sources.value));
+  held : IfSome l.kept (λ it. IfSome l.paint.source (λ reader. HoldsRow reader it.columns it.row l.scratch.sources.value));
 }

@@ -2,7 +2,7 @@ use Rattle.std.proofs.Common.{arith}
 use Rattle.dc_stack.specs.Values.{placed_value}
 use Rattle.span_fill.specs.Fill.{in_fill}
 use Rattle.preflight_cert.specs.Shape.{fill_rule_of}
-use Rattle.painting.specs.Brushings.{brushing_paint}
+use Rattle.painting.specs.FillStyles.{fill_style_paint}
 use Rattle.painting.specs.RowPainters.{painter_paint}
 use Rattle.painting.proofs.RegionLemmas.{none_seen}
 use Rattle.painting.proofs.VisibleLemmas.{painted_same, seen_within}
@@ -10,7 +10,7 @@ use Rattle.painting.proofs.filling.fill_inside.Goals as goal
 
 pub returns-then-drawn-clause-pixels : goal.returns-then-drawn-clause-pixels
 returns-then-drawn-clause-pixels g c =
-    none_seen (brushing_paint c.args.paint.now) (in_fill (fill_rule_of c.args.paint.now.modes.fill_mode) (g.O.Outline.lines c.args.outline)) c.args.canvas.now c.writing_law.ensures c.whole_law.ensures.whole c.visible_in-drawn.result
+    none_seen (fill_style_paint c.args.paint.now) (in_fill (fill_rule_of c.args.paint.now.modes.fill_mode) (g.O.Outline.lines c.args.outline)) c.args.canvas.now c.writing_law.ensures c.whole_law.ensures.whole c.visible_in-drawn.result
     (seen_within _ _ _ c.args.canvas.now c.visible_in-drawn.result c.requires.within c.visible_in-drawn.ensures.visible) c.if-drawn.true
 
 pub paint_rows-requires-clause-begun : goal.paint_rows-requires-clause-begun
@@ -31,6 +31,6 @@ paint_rows-requires-clause-begun g c =
 
 pub returns-clause-pixels : goal.returns-clause-pixels
 returns-clause-pixels g c =
-    painted_same c.writing_law.ensures (painter_paint c.painter-painter.result) (brushing_paint c.args.paint.now) (in_fill (fill_rule_of c.args.paint.now.modes.fill_mode) (g.O.Outline.lines c.args.outline)) c.args.canvas.now c.paint_rows.new.canvas c.whole_law.ensures.whole
+    painted_same c.writing_law.ensures (painter_paint c.painter-painter.result) (fill_style_paint c.args.paint.now) (in_fill (fill_rule_of c.args.paint.now.modes.fill_mode) (g.O.Outline.lines c.args.outline)) c.args.canvas.now c.paint_rows.new.canvas c.whole_law.ensures.whole
     c.painter-painter.ensures.paint
     (rw (c.begin_fill.ensures.lines, c.rule_of-rule.ensures) at c.paint_rows.ensures.pixels)

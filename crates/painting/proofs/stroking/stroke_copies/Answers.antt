@@ -1,7 +1,7 @@
 use Rattle.painting.proofs.stroking.stroke_copies.Goals as goal
 
-pub stroke_by_marks-requires-clause-visible : goal.stroke_by_marks-requires-clause-visible
-stroke_by_marks-requires-clause-visible c = rw (c.begin_stamps.ensures.region c.if-begin_stamps.true, c.as_slice.ensures.value) c.requires.visible
+pub stroke_by_visited_mask-requires-clause-visible : goal.stroke_by_visited_mask-requires-clause-visible
+stroke_by_visited_mask-requires-clause-visible c = rw (c.begin_visited_mask.ensures.region c.if-begin_visited_mask.true, c.as_slice.ensures.value) c.requires.visible
 
 pub paint_begun-requires-clause-begun : goal.paint_begun-requires-clause-begun
 paint_begun-requires-clause-begun c =

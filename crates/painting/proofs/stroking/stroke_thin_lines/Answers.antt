@@ -29,10 +29,10 @@ pub returns-in-Some-clause-few : goal.returns-in-Some-clause-few
 returns-in-Some-clause-few g c = few_written c.writing_law.ensures _ _ c.args.canvas.now c.step_line.new.canvas c.step_line.ensures c.whole_law.ensures.pixels
 
 -- what is visible of the lines lies in the region
-pub stroke_by_marks-requires-clause-visible : goal.stroke_by_marks-requires-clause-visible
-stroke_by_marks-requires-clause-visible g c =
+pub stroke_by_visited_mask-requires-clause-visible : goal.stroke_by_visited_mask-requires-clause-visible
+stroke_by_visited_mask-requires-clause-visible g c =
     let shape = in_wide_stroke one_pixel (g.O.Outline.lines c.args.lines.outline) in
-    rw (c.begin_stamps.ensures.region c.if-begin_stamps.true) (seen_within _ _ shape c.args.canvas.now c.visible_in-drawn.result (c.on_surface.ensures shape c.requires.within) c.visible_in-drawn.ensures.visible)
+    rw (c.begin_visited_mask.ensures.region c.if-begin_visited_mask.true) (seen_within _ _ shape c.args.canvas.now c.visible_in-drawn.result (c.on_surface.ensures shape c.requires.within) c.visible_in-drawn.ensures.visible)
 
 pub stroke_copies-requires-clause-visible : goal.stroke_copies-requires-clause-visible
 stroke_copies-requires-clause-visible g c =

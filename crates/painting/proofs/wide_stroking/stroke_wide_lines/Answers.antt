@@ -24,8 +24,8 @@ returns-in-Some-clause-pixels g c =
 pub returns-in-Some-clause-few : goal.returns-in-Some-clause-few
 returns-in-Some-clause-few g c = few_written c.writing_law.ensures _ _ c.args.canvas.now c.mix_wide_line.new.canvas c.mix_wide_line.ensures c.whole_law.ensures.pixels
 
-pub returns-then-has_room-clause-pixels : goal.returns-then-has_room-clause-pixels
-returns-then-has_room-clause-pixels g c =
+pub returns-then-has_capacity-clause-pixels : goal.returns-then-has_capacity-clause-pixels
+returns-then-has_capacity-clause-pixels g c =
     let stroke = c.args.stroke.now in
     let lines = g.O.Outline.lines c.args.lines.outline in
     let shape = in_wide_stroke stroke.nib lines in
@@ -36,5 +36,5 @@ returns-then-has_room-clause-pixels g c =
     painted_wide c.writing_law.ensures (placed_value stroke.clip.now) stroke.mix stroke.nib lines drawn.result c.args.canvas.now c.mix_by_mask.new.canvas c.whole_law.ensures.whole visible none
     c.mix_by_mask.ensures
 
-pub returns-then-has_room-clause-few : goal.returns-then-has_room-clause-few
-returns-then-has_room-clause-few g c = few_written c.writing_law.ensures _ _ c.args.canvas.now c.mix_by_mask.new.canvas c.mix_by_mask.ensures c.whole_law.ensures.pixels
+pub returns-then-has_capacity-clause-few : goal.returns-then-has_capacity-clause-few
+returns-then-has_capacity-clause-few g c = few_written c.writing_law.ensures _ _ c.args.canvas.now c.mix_by_mask.new.canvas c.mix_by_mask.ensures c.whole_law.ensures.pixels

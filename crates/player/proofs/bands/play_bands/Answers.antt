@@ -1,8 +1,8 @@
-use Rattle.player.proofs.WriterLemmas.{refused_by_writer, unless_written}
+use Rattle.player.proofs.WriterLemmas.{rejected_by_writer, unless_written}
 use Rattle.player.proofs.bands.play_bands.Goals as goal
 
 pub returns-in-Ok-clause-refusal : goal.returns-in-Ok-clause-refusal
-returns-in-Ok-clause-refusal g c = refused_by_writer c.write_image.result c.write_image.ensures.refusal
+returns-in-Ok-clause-refusal g c = rejected_by_writer c.write_image.result c.write_image.ensures.refusal
 
 pub returns-in-Ok-clause-unwritten : goal.returns-in-Ok-clause-unwritten
 returns-in-Ok-clause-unwritten g c = unless_written _ c.write_image.result c.write_image.ensures.refusal

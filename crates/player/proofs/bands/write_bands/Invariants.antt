@@ -7,11 +7,11 @@ use Rattle.player.proofs.bands.write_bands.Given as goal
 abbrev pub invariant-loop-first : goal.invariant-loop-first
 invariant-loop-first g l = record {
   within : l.first ≤ l.plan.height;
-  ready : IsReadyForBands l.cleared l.plan l.room;
-  few : l.room.canvas.writes ≤ 140737488355328 * l.first;
+  ready : IsReadyForBands l.cleared l.plan l.scratch;
+  few : l.scratch.canvas.writes ≤ 140737488355328 * l.first;
   written : WritesRows l.cleared l.plan l.first g.W.Write.contents l.fn.out l.out;
-  counted : CountsRows l.cleared l.plan l.first l.room.canvas.writes;
-  room : g.P.PartWriter.faults l.out + g.P.PartWriter.counted < 2 ^ 64;
+  counted : CountsRows l.cleared l.plan l.first l.scratch.canvas.writes;
+  capacity : g.P.PartWriter.faults l.out + g.P.PartWriter.counted < 2 ^ 64;
   faults : g.P.PartWriter.faults l.fn.out ≤ g.P.PartWriter.faults l.out;
 }
 

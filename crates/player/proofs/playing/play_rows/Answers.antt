@@ -7,7 +7,7 @@ use Rattle.dc_stack.specs.State.{start_of}
 use Rattle.preflight_cert.specs.Answer.{bound_of}
 use Rattle.preflight_cert.specs.CertificateOf.{certificate_of}
 use Rattle.preflight_cert.specs.Stop.{stop_of}
-use Rattle.player.proofs.ClearedLemmas.{lines_for_file, never_stops, room_for_file}
+use Rattle.player.proofs.ClearedLemmas.{lines_for_file, never_stops, capacity_for_file}
 use Rattle.player.proofs.playing.play_rows.Goals as goal
 
 pub play_steps-requires : goal.play_steps-requires
@@ -16,9 +16,9 @@ play_steps-requires g c =
     let o = opened_of cleared.opened in
     let m = c.args.machine.now in
     let content = source_content c.source.result in
-    let room = room_for_file c.answer_law.ensures o cleared.opened.records.now (certificate_of cleared.certificate) cleared.checked content c.source.ensures.content m c.requires.start.state c.requires.start.needs c.requires.ready.room in
-    let lines = lines_for_file c.answer_law.ensures o cleared.opened.records.now (certificate_of cleared.certificate) cleared.checked content c.source.ensures.content m c.requires.start.state c.requires.start.needs c.args.drawings.now.rows.room c.requires.ready.lines in
-    search (room, lines, rules)
+    let scratch = capacity_for_file c.answer_law.ensures o cleared.opened.records.now (certificate_of cleared.certificate) cleared.checked content c.source.ensures.content m c.requires.start.state c.requires.start.needs c.requires.ready.capacity in
+    let lines = lines_for_file c.answer_law.ensures o cleared.opened.records.now (certificate_of cleared.certificate) cleared.checked content c.source.ensures.content m c.requires.start.state c.requires.start.needs c.args.drawings.now.rows.capacity c.requires.ready.lines in
+    search (scratch, lines, rules)
 
 pub unreachable-requires : goal.unreachable-requires
 unreachable-requires g c =

@@ -5,9 +5,9 @@ use Rattle.draw_ops.specs.OperationOf.{operation_of}
 use Rattle.draw_ops.specs.Records.{record_limit}
 use Rattle.draw_ops.specs.StepOf.{step_value_of}
 use Rattle.draw_ops.specs.declared.record_fault.RecordFault.{RecordFault}
-use Rattle.dc_stack.specs.MachineState.{HasStepped, IsDrawingOf, RefusesStep}
-use Rattle.player.proofs.AfterLemmas.{lines_behind, lines_for_first, room_behind}
-use Rattle.player.proofs.StepLemmas.{broken_stops, refused_stops}
+use Rattle.dc_stack.specs.MachineState.{HasStepped, IsDrawingOf, RejectsStep}
+use Rattle.player.proofs.AfterLemmas.{lines_after, lines_for_first, capacity_after}
+use Rattle.player.proofs.StepLemmas.{broken_stops, rejected_stops}
 use Rattle.player.proofs.playing.play_steps.Goals as goal
 
 pub draw-requires : goal.draw-requires
@@ -18,7 +18,7 @@ draw-requires g c =
     let step = c.next_into.new.step in
     let is : put c.next_into.result step ≡ Ok (Some step) = ap (λ (r : Result Bool RecordFault). put r step) (c.in-Ok.is ∙ ap Ok c.if-not-is_put.false) in
     let begins : content loop.source ≡ with_step (step_value_of step) (content c.next_into.new.self) = rw is at c.next_into.ensures.gives in
-    let lines = lines_for_first c.need_law.ensures loop.drawings.rows.room (content loop.source) (content c.next_into.new.self) (step_value_of step) loop.machine c.step_into.new.self c.step_into.new.drawn begins c.in-Ok-step_into.ensures.drawn c.in-Ok-step_into.ensures.placed loop.invariant.lines in
+    let lines = lines_for_first c.need_law.ensures loop.drawings.rows.capacity (content loop.source) (content c.next_into.new.self) (step_value_of step) loop.machine c.step_into.new.self c.step_into.new.drawn begins c.in-Ok-step_into.ensures.drawn c.in-Ok-step_into.ensures.placed loop.invariant.lines in
     search (lines, rules)
 
 pub loop-is_put-preserved : goal.loop-is_put-preserved
@@ -40,9 +40,9 @@ loop-is_put-preserved g c =
       few = omega (arith, one_more, inv, few);
       same_surface = search rules;
       goes_on = search rules;
-      room = room_behind (content loop.source) rest (step_value_of step) old new begins stepped c.step_into.ensures.goes_on loop.invariant.room;
-      same_room = search rules;
-      lines = rw c.draw.ensures.room (lines_behind loop.drawings.rows.room (content loop.source) rest (step_value_of step) old new begins stepped loop.invariant.lines);
+      capacity = capacity_after (content loop.source) rest (step_value_of step) old new begins stepped c.step_into.ensures.goes_on loop.invariant.capacity;
+      same_capacity = search rules;
+      lines = rw c.draw.ensures.capacity (lines_after loop.drawings.rows.capacity (content loop.source) rest (step_value_of step) old new begins stepped loop.invariant.lines);
       held = search rules;
       rows = search rules;
       fault = search (begins, rules);
@@ -67,9 +67,9 @@ returns-in-Err-step_into-clause-refusal g c =
     let step = c.next_into.new.step in
     let is : put c.next_into.result step ≡ Ok (Some step) = ap (λ (r : Result Bool RecordFault). put r step) (c.in-Ok.is ∙ ap Ok c.if-not-is_put.false) in
     let begins : content loop.source ≡ with_step (step_value_of step) (content c.next_into.new.self) = rw is at c.next_into.ensures.gives in
-    let refused : RefusesStep (operation_of step.op) loop.machine c.in-Err-step_into.fault = c.in-Err-step_into.ensures.refused in
+    let rejected : RejectsStep (operation_of step.op) loop.machine c.in-Err-step_into.fault = c.in-Err-step_into.ensures.rejected in
     rw loop.invariant.same_surface at
-    (refused_stops c.need_law.ensures (content c.args.source.now) (content loop.source) (content c.next_into.new.self) (step_value_of step) c.args.machine.now.state loop.machine c.in-Err-step_into.fault begins loop.invariant.room refused
+    (rejected_stops c.need_law.ensures (content c.args.source.now) (content loop.source) (content c.next_into.new.self) (step_value_of step) c.args.machine.now.state loop.machine c.in-Err-step_into.fault begins loop.invariant.capacity rejected
     (rw loop.invariant.same_surface loop.invariant.stops))
 
 pub returns-in-Err-clause-bounded : goal.returns-in-Err-clause-bounded

@@ -1,5 +1,5 @@
-use Rattle.point_views.proofs.FrontLemmas.{reads_within_front}
+use Rattle.point_views.proofs.PrefixLemmas.{reads_within_prefix}
 use Rattle.point_views.proofs.laws.number_law.Goals as goal
 
 pub returns : goal.returns
-returns c = reads_within_front
+returns c = reads_within_prefix

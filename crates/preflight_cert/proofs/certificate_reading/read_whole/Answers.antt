@@ -2,7 +2,7 @@
 use Rattle.std.proofs.Common.{◌≡◌, ◌+◌, ◌*◌, ◌≤◌, ℕ, List, length, ap, sym, ◌∙◌, arith}
 use Rattle.preflight_cert.specs.CertificateReading.{count_in, entry_size, whole_size}
 use Rattle.preflight_cert.specs.declared.version.Version.{Version}
-use Rattle.preflight_cert.proofs.EntryLemmas.{is_read_whole, is_refused}
+use Rattle.preflight_cert.proofs.EntryLemmas.{is_read_whole, is_rejected}
 use Rattle.preflight_cert.proofs.certificate_reading.read_whole.Goals as goal
 
 -- the bytes end where the entries do, as their number is read
@@ -14,7 +14,7 @@ ends version bytes count size e f long short =
 pub returns-then-not-have_nibs-clause-value : goal.returns-then-not-have_nibs-clause-value
 returns-then-not-have_nibs-clause-value c =
     let whole = ends c.args.version c.args.bytes.now _ _ c.u32_at.ensures c.entries_size-end.ensures.product c.if-bytes-end.false c.if-end-bytes.false in
-    is_refused c.args.version c.args.bytes.now whole (sym c.if-not-have_nibs.ensures)
+    is_rejected c.args.version c.args.bytes.now whole (sym c.if-not-have_nibs.ensures)
 
 pub returns-clause-value : goal.returns-clause-value
 returns-clause-value c =

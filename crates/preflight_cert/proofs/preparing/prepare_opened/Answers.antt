@@ -8,7 +8,7 @@ use Rattle.meta_headers.specs.SourceContent.{source_content}
 use Rattle.object_tables.specs.Table.{TableKind}
 use Rattle.dc_stack.specs.State.{start_state}
 use Rattle.preflight_cert.proofs.ClearedLemmas.{records_counted}
-use Rattle.preflight_cert.proofs.PreparedLemmas.{gathered_text, held, least_certificate, records_prepared, records_read, room, short}
+use Rattle.preflight_cert.proofs.PreparedLemmas.{gathered_text, held, least_certificate, records_prepared, records_read, capacity, short}
 use Rattle.preflight_cert.proofs.StartLemmas.{IsAtStart}
 use Rattle.preflight_cert.proofs.preparing.prepare_opened.Goals as goal
 
@@ -25,7 +25,7 @@ finish-requires c =
     let content = source_content c.source.result in
     let made = c.in-Ok-gather.ensures in
     record {
-      room = room content o opened.records.now w h m c.source.ensures.content at c.of-noted.result.counts c.in-Ok-gather.totals c.gather.new.machine c.in-Ok.draft c.gather.new.draft c.in-Ok.ensures made.gathers;
+      capacity = capacity content o opened.records.now w h m c.source.ensures.content at c.of-noted.result.counts c.in-Ok-gather.totals c.gather.new.machine c.in-Ok.draft c.gather.new.draft c.in-Ok.ensures made.gathers;
       short = short content o opened.records.now w h m c.source.ensures.content at c.of-noted.result.counts c.in-Ok-gather.totals c.gather.new.machine c.in-Ok.draft c.gather.new.draft c.in-Ok.ensures made.gathers made.few;
     }
 
@@ -59,5 +59,5 @@ returns-in-Ok-finish c =
           c.box_law.ensures c.need_law.ensures c.preparation_law.ensures c.text_law.ensures c.answer_law.ensures c.requires.wide c.requires.high handles fits few;
       counts = records_counted c.content_law.ensures content o opened.records.now c.source.ensures.content noted totals c.of-noted.ensures gathers.records gathers.notes;
       refusal = tt;
-      number_told = tt;
+      number_reported = tt;
     }

@@ -28,7 +28,7 @@ returns-in-Err-step_into-clause-plays g c =
       step = step_value_of step;
       fault = c.in-Err-step_into.fault;
       first = rw is at c.next_into.ensures.gives;
-      refused = c.in-Err-step_into.ensures.refused;
+      rejected = c.in-Err-step_into.ensures.rejected;
       number = c.of_step.ensures.number;
-      told = c.of_step.ensures.fault;
+      reported = c.of_step.ensures.fault;
     })

@@ -19,17 +19,17 @@ returns c entries single stand =
     let count : c.saturating_sub-count.result / 20 ≡ length entries =
     ap (λ (n : ℕ). n / 20) c.saturating_sub-count.ensures ∙ ap (λ (n : ℕ). (n - 40) / 20) (c.len.ensures ∙ held) ∙ counted Mpc1 old.items entries stand in
     let size = sized Mpc1 old.items entries stand in
-    let had = stand.room in
+    let had = stand.capacity in
     let n = 40 + 24 * (c.saturating_sub-count.result / 20) in
     let noughts : List ℕ = replicate (n - length old.items) 0 in
     let long : length old.items ≤ n = omega (arith, count, size, had) in
     let items : now ≡ take n old.items ++ noughts = c.deref_mut.ensures.value ∙ c.in_ok-lengthen.ensures in
     let all = ap length (items ∙ ap (λ (kept : List ℕ). kept ++ noughts) (take_all n old.items long)) ∙ length-append old.items noughts in
-    let room : 40 ≤ length now = omega (arith, all, had) in
+    let capacity : 40 ≤ length now = omega (arith, all, had) in
     let slice : take (length now - 40) (drop 40 now) ≡ flat_map (entry_text Mpc1) entries ++ noughts =
     take_rest now 40 ∙ ap (λ (bytes : List ℕ). drop 40 bytes) items ∙ longer old.items entries n (n - length old.items) stand long in
     let part : length apart ≡ length now - 40 = c.spread.ensures.len ∙ ap length (take_rest now 40) ∙ length-drop 40 now in
     let wide = c.spread.ensures.entries entries noughts (sym count) single slice in
     subst (λ (bytes : List ℕ). StandIn Mpc2 bytes entries)
-    (sym (with_items_is new (put_mid 40 (length now - 40) now apart) (length_put now apart room part ∙ c.deref_mut.ensures.len)))
-    (nibs_stand now apart entries room part wide)
+    (sym (with_items_is new (put_mid 40 (length now - 40) now apart) (length_put now apart capacity part ∙ c.deref_mut.ensures.len)))
+    (nibs_stand now apart entries capacity part wide)

@@ -1,6 +1,6 @@
 -- One entry more has been moved.
 use Rattle.std.proofs.Common.{◌*◌, ◌-◌, arith, ◌∙◌}
-use Rattle.preflight_cert.proofs.DraftLemmas.{front_less, moved_next}
+use Rattle.preflight_cert.proofs.DraftLemmas.{prefix_less, moved_next}
 use Rattle.preflight_cert.proofs.widening.spread.Goals as goal
 
 pub loop-left-preserved : goal.loop-left-preserved
@@ -14,7 +14,7 @@ loop-left-preserved c =
     record {
       few = omega (arith, few);
       len = c.move_entry.ensures.len ∙ before.len;
-      front = c.move_entry.ensures.front ∙ front_less (20 * (left - 1)) (20 * left) old start (omega arith) before.front;
-      moved = λ entries behind size single whole. moved_next left start old c.move_entry.new.bytes entries behind some (omega (arith, few, size)) single whole
-          before.front c.move_entry.ensures.behind (before.moved entries behind size single whole);
+      prefix = c.move_entry.ensures.prefix ∙ prefix_less (20 * (left - 1)) (20 * left) old start (omega arith) before.prefix;
+      moved = λ entries after size single whole. moved_next left start old c.move_entry.new.bytes entries after some (omega (arith, few, size)) single whole
+          before.prefix c.move_entry.ensures.after (before.moved entries after size single whole);
     }

@@ -8,7 +8,7 @@ returns-in-Vertical c = λ x. rw c.in-Vertical.is (first_cell (x % 8) (omega ari
 pub returns-in-Cross : goal.returns-in-Cross
 returns-in-Cross c = λ x.
     let m : x % 8 < 8 = omega arith in
-    rw c.in-Cross.is (either_cells c.level-in-Cross.result 1 (x % 8) ∙ rw (c.level-in-Cross.ensures (x % 8) m, first_cell (x % 8) m) refl)
+    rw c.in-Cross.is (either_cells c.horizontal-in-Cross.result 1 (x % 8) ∙ rw (c.horizontal-in-Cross.ensures (x % 8) m, first_cell (x % 8) m) refl)
 
 pub returns-in-DiagonalCross : goal.returns-in-DiagonalCross
 returns-in-DiagonalCross c = λ x.

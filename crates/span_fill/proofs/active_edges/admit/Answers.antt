@@ -12,5 +12,5 @@ loop-edge-preserved c =
       left = left_step c.args.row c.in-Some.edge _ _ _ begins.first begins.waits c.loop-edge.invariant.left;
       within = omega arith;
       length = omega (arith, c.push_reserved.ensures.len);
-      room = omega arith;
+      capacity = omega arith;
     }

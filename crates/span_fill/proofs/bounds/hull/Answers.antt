@@ -6,13 +6,13 @@ use Rattle.std.proofs.lemmas.Int.{ints, to_z-of_z}
 use Rattle.span_fill.proofs.HullLemmas.{rise_hull, fall_hull}
 use Rattle.span_fill.proofs.bounds.hull.Goals as goal
 
-pub returns-then-course-clause-within : goal.returns-then-course-clause-within
-returns-then-course-clause-within c = λ u v on.
-    let from : FitsSigned w32 c.args.course.from_v = search rules in
-    let to : FitsSigned w32 c.args.course.to_v = search rules in
-    let test : int_le c.args.course.from_v c.args.course.to_v ≡ true = simp to_z-of_z at c.if-course.true in
-    let rises : c.args.course.from_v ≤ℤ c.args.course.to_v = grind (arith, ints, test) in
-    let parts = rise_hull c.args.course.from_u c.args.course.from_v c.args.course.to_u c.args.course.to_v u v on rises in
+pub returns-then-major-clause-within : goal.returns-then-major-clause-within
+returns-then-major-clause-within c = λ u v on.
+    let from : FitsSigned w32 c.args.major.from_v = search rules in
+    let to : FitsSigned w32 c.args.major.to_v = search rules in
+    let test : int_le c.args.major.from_v c.args.major.to_v ≡ true = simp to_z-of_z at c.if-major.true in
+    let rises : c.args.major.from_v ≤ℤ c.args.major.to_v = grind (arith, ints, test) in
+    let parts = rise_hull c.args.major.from_u c.args.major.from_v c.args.major.to_u c.args.major.to_v u v on rises in
     let low = parts.0 in
     let high = parts.1 in
     let to_low = c.requires.to_v.low in
@@ -21,13 +21,13 @@ returns-then-course-clause-within c = λ u v on.
     let from_high = c.requires.from_v.high in
     (omega (arith, ints, low, from_low, from_high), omega (arith, ints, high, to_low, to_high))
 
-pub returns-else-course-clause-within : goal.returns-else-course-clause-within
-returns-else-course-clause-within c = λ u v on.
-    let from : FitsSigned w32 c.args.course.from_v = search rules in
-    let to : FitsSigned w32 c.args.course.to_v = search rules in
-    let test : int_le c.args.course.from_v c.args.course.to_v ≡ false = simp to_z-of_z at c.if-course.false in
-    let falls : c.args.course.to_v ≤ℤ c.args.course.from_v = grind (arith, ints, test) in
-    let parts = fall_hull c.args.course.from_u c.args.course.from_v c.args.course.to_u c.args.course.to_v u v on falls in
+pub returns-else-major-clause-within : goal.returns-else-major-clause-within
+returns-else-major-clause-within c = λ u v on.
+    let from : FitsSigned w32 c.args.major.from_v = search rules in
+    let to : FitsSigned w32 c.args.major.to_v = search rules in
+    let test : int_le c.args.major.from_v c.args.major.to_v ≡ false = simp to_z-of_z at c.if-major.false in
+    let falls : c.args.major.to_v ≤ℤ c.args.major.from_v = grind (arith, ints, test) in
+    let parts = fall_hull c.args.major.from_u c.args.major.from_v c.args.major.to_u c.args.major.to_v u v on falls in
     let low = parts.0 in
     let high = parts.1 in
     let to_low = c.requires.to_v.low in

@@ -1,10 +1,10 @@
 -- What both spans have.
-use Rattle.span_fill.specs.Courses.{course_step}
+use Rattle.span_fill.specs.MajorLines.{major_step}
 use Rattle.span_fill.proofs.clip.clipped.Goals as goal
 
 pub returns-clause-exact : goal.returns-clause-exact
 returns-clause-exact c = λ a b on.
-    let both = c.common.ensures.both (course_step c.args.course a) in
+    let both = c.common.ensures.both (major_step c.args.major a) in
     let along = c.steps_along.ensures.exact a b on in
     let across = c.steps_across.ensures.exact a b on in
     let columns = c.ordered.ensures.same a in

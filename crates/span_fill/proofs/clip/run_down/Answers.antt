@@ -3,11 +3,11 @@ use Rattle.std.proofs.Common.{rules, FitsSigned, ℕ, ◌<◌, ◌≤◌, ◌≤
 use Rattle.std.specs.Int.{w32}
 use Rattle.std.specs.Prelude.{◌↔◌}
 use Rattle.std.proofs.lemmas.Int.{to_z-of_z}
-use Rattle.span_fill.specs.Courses.{length_of}
+use Rattle.span_fill.specs.MajorLines.{length_of}
 use Rattle.span_fill.proofs.ClipLemmas.{run_down_exact}
 use Rattle.span_fill.proofs.clip.run_down.Goals as goal
 
-exact : (c : goal.After-first_from) (k : ℕ) → k < length_of c.args.course → c.first_from.result ≤ k ↔ (c.distance_below.result ≤ℤ pos k)
+exact : (c : goal.After-first_from) (k : ℕ) → k < length_of c.args.major → c.first_from.result ≤ k ↔ (c.distance_below.result ≤ℤ pos k)
 exact c k h =
     let fits : FitsSigned w32 c.distance_below.result = search rules in
     let there = c.first_from.ensures.exact k (omega (arith, h, c.length.ensures.value)) in
@@ -15,7 +15,7 @@ exact c k h =
 
 pub returns-clause-exact : goal.returns-clause-exact
 returns-clause-exact c = λ u v on.
-    let course = c.args.course in
-    let fits : FitsSigned w32 c.args.course.from_u = search rules in
+    let major = c.args.major in
+    let fits : FitsSigned w32 c.args.major.from_u = search rules in
     let is = simp to_z-of_z at c.distance_below.ensures in
-    run_down_exact course.from_u course.from_v course.to_u course.to_v u v (pos c.args.bound) c.distance_below.result c.first_from.result on c.requires.backwards is (exact c)
+    run_down_exact major.from_u major.from_v major.to_u major.to_v u v (pos c.args.bound) c.distance_below.result c.first_from.result on c.requires.backwards is (exact c)

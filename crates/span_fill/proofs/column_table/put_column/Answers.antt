@@ -70,5 +70,5 @@ loop-row-preserved c =
       kept = λ k inside. rw pushed.items (get_or-append c.loop-row.flags.items (c.is_wound.result ∷ []) false k (omega (arith, inside, long)) ∙ there.kept k inside);
       added = rw pushed.items (row_added c.args.rule c.args.changes.now c.args.flags.now.items c.loop-row.flags.items row c.is_wound.result long there.added (λ downs ups e. wound downs ups (omega (arith, ints, sum, next, e))));
       length = omega (arith, pushed.len, long);
-      room = omega (arith, pushed.capacity, there.room);
+      capacity = omega (arith, pushed.capacity, there.capacity);
     }

@@ -10,5 +10,5 @@ invariant-loop-row l = record {
   kept : (k : ℕ) → k < length l.fn.flags.items → slice_index_or l.flags.items k false ≡ slice_index_or l.fn.flags.items k false;
   added : (y : ℕ) → y < l.row → AnswersWinding l.rule (total (take (suc y) l.changes)) (slice_index_or l.flags.items (length l.fn.flags.items + y) false);
   length : length l.flags.items ≡ length l.fn.flags.items + l.row;
-  room : vec_capacity l.flags ≡ vec_capacity l.fn.flags;
+  capacity : vec_capacity l.flags ≡ vec_capacity l.fn.flags;
 }

@@ -9,9 +9,9 @@ use Rattle.span_fill.proofs.column_table.put_flagged.Given as goal
 abbrev pub invariant-loop-column : goal.invariant-loop-column
 invariant-loop-column l = record {
   order : l.run.from ≤ l.run.to;
-  behind : l.run.to ≤ l.column;
+  after : l.run.to ≤ l.column;
   apart : (others : List Span) → AreApart l.run.from l.fn.interval.to others → AreApart l.fn.interval.from l.fn.interval.to (l.spans.items ++ others);
   exact : (x : ℕ) → (in_spans l.spans.items x || in_span l.run x) ≡ (nat_le l.fn.interval.from x && (nat_lt x l.column && flag_at l.flags l.first x l.row));
   length : small_vec_len l.spans + l.fn.interval.from ≤ l.column;
-  room : l.spans.capacity ≡ l.fn.spans.capacity;
+  capacity : l.spans.capacity ≡ l.fn.spans.capacity;
 }

@@ -37,23 +37,23 @@ pub returns-then-across-lt0-clause-rows : goal.returns-then-across-lt0-clause-ro
 returns-then-across-lt0-clause-rows c =
     let across : FitsSigned w64 c.across-across.result = search rules in
     let reach : FitsSigned w64 c.reach-reach.result = search rules in
-    let turned : FitsSigned w64 (pos 0 -ℤ c.across-across.result) = search rules in
+    let flipped : FitsSigned w64 (pos 0 -ℤ c.across-across.result) = search rules in
     let less : FitsSigned w64 (c.across-across.result -ℤ c.reach-reach.result) = search rules in
     let least : FitsSigned w64 (c.across-across.result -ℤ c.reach-reach.result -ℤ pos 1) = search rules in
     let twice : FitsSigned w64 c.doubled-then-across-lt0.result = search rules in
     let last : FitsSigned w64 c.last_multiple-then-across-lt0.result = search rules in
     let twice_is = simp to_z-of_z at c.doubled-then-across-lt0.ensures.value in
     let multiple = simp to_z-of_z at c.last_multiple-then-across-lt0.ensures.last in
-    let rows = simp to_z-of_z at c.rows_behind.ensures.rows in
+    let rows = simp to_z-of_z at c.rows_after.ensures.rows in
     let turn = rw (twice_is, c.reach-reach.ensures.value, c.across-across.ensures.value) at multiple in
-    crossed_left c.args.edge.upper c.args.edge.lower c.args.column c.last_multiple-then-across-lt0.result c.rows_behind.result turn rows
+    crossed_left c.args.edge.upper c.args.edge.lower c.args.column c.last_multiple-then-across-lt0.result c.rows_after.result turn rows
 
 pub returns-then-reach-ge0-clause-rows : goal.returns-then-reach-ge0-clause-rows
 returns-then-reach-ge0-clause-rows c =
     let reach : FitsSigned w64 c.reach-reach.result = search rules in
     let straight : across c.args.edge.upper c.args.edge.lower ≡ pos 0 = omega (arith, ints, c.across-across.ensures.value, c.if-across-gt0.false, c.if-across-lt0.false) in
     let above : pos 0 ≤ℤ reach_of c.args.edge.upper c.args.edge.lower c.args.column = omega (arith, ints, c.reach-reach.ensures.value, c.if-reach-ge0.true) in
-    crossed_always c.args.edge.upper c.args.edge.lower c.args.column c.rows_behind-then-reach-ge0.result straight above c.rows_behind-then-reach-ge0.ensures.rows
+    crossed_always c.args.edge.upper c.args.edge.lower c.args.column c.rows_after-then-reach-ge0.result straight above c.rows_after-then-reach-ge0.ensures.rows
 
 pub returns-else-reach-ge0-clause-rows : goal.returns-else-reach-ge0-clause-rows
 returns-else-reach-ge0-clause-rows c =

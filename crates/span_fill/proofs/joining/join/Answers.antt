@@ -5,7 +5,7 @@ use Rattle.span_fill.proofs.joining.join.Goals as goal
 
 pub loop-part-preserved : goal.loop-part-preserved
 loop-part-preserved c = record {
-  spans = joined_step c.args.interval.to c.args.parts.now c.loop-part.part-index c.loop-part.run c.put_part-run.result _ c.loop-part.spans.items c.put_part-run.new.spans.items _ c.behind-from.result c.behind-to.result (omega arith) c.behind-from.ensures c.behind-to.ensures c.put_part-run.ensures.run c.put_part-run.ensures.spans c.loop-part.invariant.spans;
+  spans = joined_step c.args.interval.to c.args.parts.now c.loop-part.part-index c.loop-part.run c.put_part-run.result _ c.loop-part.spans.items c.put_part-run.new.spans.items _ c.after-from.result c.after-to.result (omega arith) c.after-from.ensures c.after-to.ensures c.put_part-run.ensures.run c.put_part-run.ensures.spans c.loop-part.invariant.spans;
   length = omega arith;
-  room = omega arith;
+  capacity = omega arith;
 }

@@ -8,5 +8,5 @@ abbrev pub invariant-loop-part : goal.invariant-loop-part
 invariant-loop-part l = record {
   spans : l.spans.items ++ joined l.interval.to (drop l.part-index l.parts) l.run ≡ joined l.interval.to l.parts l.initial.run;
   length : small_vec_len l.spans ≤ l.part-index;
-  room : l.spans.capacity ≡ l.initial.spans.capacity;
+  capacity : l.spans.capacity ≡ l.initial.spans.capacity;
 }

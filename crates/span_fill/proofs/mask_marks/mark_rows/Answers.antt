@@ -7,7 +7,7 @@ use Rattle.span_fill.specs.BitRows.{has_bit}
 use Rattle.span_fill.specs.MaskFrames.{row_at}
 use Rattle.span_fill.specs.WideLines.{HasAllRows, TakesRow}
 use Rattle.span_fill.specs.WideStrokes.{row_of}
-use Rattle.span_fill.proofs.MarkLemmas.{all_marked, none_before, none_behind, row_more}
+use Rattle.span_fill.proofs.MarkLemmas.{all_marked, none_before, none_after, row_more}
 use Rattle.span_fill.proofs.mask_marks.mark_rows.Goals as goal
 
 pub loop-row-init : goal.loop-row-init
@@ -26,7 +26,7 @@ loop-row-init c =
       nib = nib;
       first = all.first;
       last = all.last;
-      behind = λ x y low behind high. none_behind (row_of c.args.frame.nib) c.args.line c.new-rows.result (row_at c.args.frame c.args.from) (row_at c.args.frame (c.args.from + c.args.count)) x y all line nib low behind high;
+      after = λ x y low after high. none_after (row_of c.args.frame.nib) c.args.line c.new-rows.result (row_at c.args.frame c.args.from) (row_at c.args.frame (c.args.from + c.args.count)) x y all line nib low after high;
       size = record { row_count = refl; column_count = refl };
     }
 
@@ -52,7 +52,7 @@ loop-row-preserved c =
       nib = takes.nib ∙ there.nib;
       first = omega (arith, ints, first, next);
       last = rw end there.last;
-      behind = λ x y low behind high. there.behind x y low (rw end at behind) high;
+      after = λ x y low after high. there.after x y low (rw end at after) high;
       size = record { row_count = c.mark_row.ensures.size.row_count ∙ size.row_count; column_count = c.mark_row.ensures.size.column_count ∙ size.column_count };
     }
 
@@ -61,4 +61,4 @@ returns-clause-rows c = λ x i wide high.
     let there = c.loop-row.invariant in
     let ended : (c.loop-row.rows.end ≤ℤ c.loop-row.rows.next) × (c.next.new.self ≡ c.loop-row.rows) = c.in_default.ensures in
     there.marked x i wide high
-    ∙ ap (λ b. has_bit c.args.bits.now x i || b) (all_marked c.args.frame c.args.line c.args.from c.args.count c.loop-row.rows.next c.loop-row.rows.end x i ended.0 there.first there.behind)
+    ∙ ap (λ b. has_bit c.args.bits.now x i || b) (all_marked c.args.frame c.args.line c.args.from c.args.count c.loop-row.rows.next c.loop-row.rows.end x i ended.0 there.first there.after)

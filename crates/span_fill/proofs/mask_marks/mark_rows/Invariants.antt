@@ -16,7 +16,7 @@ invariant-loop-row l = record {
   nib : l.rows.nib ≡ row_of l.frame.nib;
   first : row_at l.frame l.from ≤ℤ l.rows.next;
   last : l.rows.end ≤ℤ row_at l.frame (l.from + l.count);
-  behind : (x y : ℤ) → row_at l.frame l.from ≤ℤ y → l.rows.end ≤ℤ y → y <ℤ row_at l.frame (l.from + l.count) → on_wide_line (row_of l.frame.nib) l.fn.line x y ≡ false;
+  after : (x y : ℤ) → row_at l.frame l.from ≤ℤ y → l.rows.end ≤ℤ y → y <ℤ row_at l.frame (l.from + l.count) → on_wide_line (row_of l.frame.nib) l.fn.line x y ≡ false;
   size : HasSize l.bits l.initial.bits.rows l.initial.bits.columns;
 }
 

@@ -8,7 +8,7 @@ abbrev pub invariant-loop-line : goal.invariant-loop-line
 invariant-loop-line g l = record {
   lines : l.lines.items ++ g.O.Outline.lines l.outline ≡ g.O.Outline.lines l.fn.outline;
   near : All HasNearEnds l.lines.items;
-  room : vec_capacity l.lines ≡ vec_capacity l.initial.lines;
+  capacity : vec_capacity l.lines ≡ vec_capacity l.initial.lines;
 }
 
 abbrev pub decreases-loop-line : goal.decreases-loop-line

@@ -16,8 +16,8 @@ loop-from-preserved c =
     let within : place + 1 < length edges = pair.within refl in
     let over = sym (has_pair_at c.args.rule edges place none within) ∙ sym pair.pair in
     record {
-      spans = swept_pairs c.args.rule c.args.interval.to edges place c.loop-from.at c.loop-from.run none c.column_behind-from.result c.column_behind-at.result c.put_part-run.result c.loop-from.spans.items c.put_part-run.new.spans.items _ within over c.column_behind-from.ensures c.column_behind-at.ensures c.put_part-run.ensures.run c.put_part-run.ensures.spans c.loop-from.invariant.spans;
+      spans = swept_pairs c.args.rule c.args.interval.to edges place c.loop-from.at c.loop-from.run none c.column_after-from.result c.column_after-at.result c.put_part-run.result c.loop-from.spans.items c.put_part-run.new.spans.items _ within over c.column_after-from.ensures c.column_after-at.ensures c.put_part-run.ensures.run c.put_part-run.ensures.spans c.loop-from.invariant.spans;
       within = omega (arith, within);
       length = omega arith;
-      room = omega arith;
+      capacity = omega arith;
     }

@@ -9,7 +9,7 @@ invariant-loop-from l = record {
   spans : l.spans.items ++ swept l.rule l.interval.to (drop l.place l.edges) l.at 0 0 l.run ≡ l.initial.spans.items ++ swept_within l.rule l.edges l.interval;
   within : l.place ≤ length l.edges;
   length : small_vec_len l.spans ≤ small_vec_len l.initial.spans + l.place;
-  room : l.spans.capacity ≡ l.initial.spans.capacity;
+  capacity : l.spans.capacity ≡ l.initial.spans.capacity;
 }
 
 abbrev pub decreases-loop-from : goal.decreases-loop-from

@@ -9,5 +9,5 @@ invariant-loop-next l = record {
   spans : l.spans.items ++ swept l.rule l.rest.to (drop l.next l.edges) l.at l.downs l.ups l.run ≡ l.initial.spans.items ++ swept l.rule l.rest.to (drop l.place l.edges) l.rest.from 0 0 l.fn.begun;
   counts : l.downs + l.ups ≤ l.next;
   length : small_vec_len l.spans ≤ small_vec_len l.initial.spans + (l.next - l.place);
-  room : l.spans.capacity ≡ l.initial.spans.capacity;
+  capacity : l.spans.capacity ≡ l.initial.spans.capacity;
 }

@@ -8,5 +8,5 @@ abbrev pub invariant-loop : goal.invariant-loop
 invariant-loop l = record {
   none : All (IsWithin 0) l.changes.items;
   length : vec_len l.changes ≡ l.counter;
-  room : vec_capacity l.changes ≡ vec_capacity l.fn.changes;
+  capacity : vec_capacity l.changes ≡ vec_capacity l.fn.changes;
 }

@@ -1,7 +1,7 @@
 -- The line runs downwards, upwards or along a row.
 use Rattle.std.proofs.Common.{arith}
 use Rattle.std.proofs.lemmas.Int.{ints}
-use Rattle.span_fill.proofs.WindingLemmas.{winds_down, winds_level, winds_up}
+use Rattle.span_fill.proofs.WindingLemmas.{winds_down, winds_horizontal, winds_up}
 use Rattle.span_fill.proofs.winding.wind_line.Goals as goal
 
 pub returns-then-line-clause-windings : goal.returns-then-line-clause-windings
@@ -14,4 +14,4 @@ returns-then-line-2-clause-windings c =
 
 pub returns-else-line-2-clause-windings : goal.returns-else-line-2-clause-windings
 returns-else-line-2-clause-windings c =
-    winds_level c.args.line c.args.column c.args.changes.now (omega (arith, ints, c.if-line.false)) (omega (arith, ints, c.if-line-2.false))
+    winds_horizontal c.args.line c.args.column c.args.changes.now (omega (arith, ints, c.if-line.false)) (omega (arith, ints, c.if-line-2.false))

@@ -11,7 +11,7 @@ change-requires-2-clause-few c =
 pub returns-clause-windings : goal.returns-clause-windings
 returns-clause-windings c =
     let by : FitsSigned w32 c.args.by = c.ranges.by in
-    let turned : FitsSigned w32 (pos 0 -ℤ c.args.by) = search rules in
+    let flipped : FitsSigned w32 (pos 0 -ℤ c.args.by) = search rules in
     let first = simp to_z-of_z at c.change.ensures.windings in
     let last = simp to_z-of_z at c.change-2.ensures.windings in
     winds_rows c.args.rows c.args.by c.args.changes.now c.change.new.changes c.change-2.new.changes c.requires.order first last

@@ -19,7 +19,7 @@ returns c =
     let apart = c.self.invariant.apart in
     let most : rows ≤ inside.most = search rules in
     let less = mul-le rows stride inside.most stride most (omega arith) in
-    let count : c.resize.new.self.len ≡ rows * stride = c.resize.ensures.len ∙ cond-true _ _ _ (c.resize.ensures.succeeds (omega (arith, less))) ∙ c.room-count.ensures in
+    let count : c.resize.new.self.len ≡ rows * stride = c.resize.ensures.len ∙ cond-true _ _ _ (c.resize.ensures.succeeds (omega (arith, less))) ∙ c.area-count.ensures in
     let long : length filled ≡ c.resize.new.self.len = search rules in
     let items = take_at filled _ c.resize.new.self.len long ∙ all_one filled (rows * stride) colour (long ∙ count) (search (count, rules)) in
     ap (λ (cs : List Colour). record { width = inside.width; first = c.args.first; rows = rows; colours = cs; writes = inside.writes; most = inside.most })

@@ -10,7 +10,7 @@ returns c =
     let width = c.args.width in
     let stride = row_stride width in
     let rows = c.args.rows in
-    let many : c.room.result ≡ rows * stride = c.room.ensures ∙ ap (λ n. rows * n) c.stride_of.ensures in
+    let many : c.area.result ≡ rows * stride = c.area.ensures ∙ ap (λ n. rows * n) c.stride_of.ensures in
     let items : c.in_ok-colours.colours.items ≡ replicate (rows * stride) c.args.colour = c.in_ok-colours.ensures ∙ ap (λ n. replicate n c.args.colour) many in
     c.of.ensures
     ∙ ap (λ (cs : List Colour). made_of cs width c.args.first rows)

@@ -9,10 +9,10 @@ pub returns-clause-pixels : goal.returns-clause-pixels
 returns-clause-pixels c =
     let from = c.args.x_from in
     let inks = c.args.inks.now in
-    let lent = c.deref_mut.result.now in
+    let borrowed = c.deref_mut.result.now in
     let made = c.copy_from_slice.ensures.after in
     let count : from + length inks - from ≡ length inks = omega arith in
-    wrote_span c.args.y from (from + length inks) c.place-start.result (c.place-start.result + length inks - c.place-start.result) c.self.inside.stride _ _ c.args.self.now _ lent c.copy_from_slice.new.self c.self.view_is
+    wrote_span c.args.y from (from + length inks) c.place-start.result (c.place-start.result + length inks - c.place-start.result) c.self.inside.stride _ _ c.args.self.now _ borrowed c.copy_from_slice.new.self c.self.view_is
     record { order = omega arith; within = c.requires.width; from_first = c.requires.row.from_first; to_last = c.requires.row.to_last }
     (lies_inside c.self.inside _ c.self.invariant c.deref_mut.ensures.value)
     c.place-start.ensures

@@ -11,7 +11,7 @@ loop-done-preserved c =
     let end = c.put_pixels-end.ensures.end in
     let colours = c.args.self.now.colours in
     let part = c.part_of_row-part.result.now in
-    let front = take c.args.at c.args.buffer.now in
+    let prefix = take c.args.at c.args.buffer.now in
     let before = raster (take (c.loop-done.done - c.args.from) (drop c.args.from colours)) in
     let here : raster part ≡ raster (take (length part) (drop c.loop-done.done colours)) = ap raster c.part_of_row-part.ensures.part in
     record {
@@ -20,7 +20,7 @@ loop-done-preserved c =
       end = omega (arith, end);
       text = c.put_pixels-end.ensures.text
           ∙ ap (λ (bytes : List ℕ). bytes ++ raster part) c.loop-done.invariant.text
-          ∙ append_assoc front before (raster part)
-          ∙ ap (λ (bytes : List ℕ). front ++ (before ++ bytes)) here
-          ∙ ap (λ (bytes : List ℕ). front ++ bytes) (sym (more_samples c.args.from c.loop-done.done (length part) (c.loop-done.done + length part) colours low refl));
+          ∙ append_assoc prefix before (raster part)
+          ∙ ap (λ (bytes : List ℕ). prefix ++ (before ++ bytes)) here
+          ∙ ap (λ (bytes : List ℕ). prefix ++ bytes) (sym (more_samples c.args.from c.loop-done.done (length part) (c.loop-done.done + length part) colours low refl));
     }

@@ -16,7 +16,7 @@ returns-then-not-is_some-clause-adds g c =
     let map = old.state.dc.map in
     let none : page_points c.args.points ≡ [] = search rules in
     let no_points = none_on_plane map c.args.points none in
-    let same = nothing_listed c.args.joining (plane_lists map c.args.points) old.state.path c.requires.own no_points in
+    let same = nothing_listed c.args.verb (plane_lists map c.args.points) old.state.path c.requires.own no_points in
     rw same (record {
       no_fault = no_fault_of_none old.state.path _ old.surface c.added-then-not-is_some.ensures.few (ap (mapped_list map) none);
       state = search rules;
@@ -39,7 +39,7 @@ returns-in-Err-clause-adds g c =
     let some : page_points c.args.points ≢ [] = search rules in
     let pieces = c.self.inside.path.pieces in
     let before = pieces_counted c.self.inside.path.phase pieces.items begun in
-    let count = lists_count c.args.joining lists path begun (some_on_plane map c.args.points some) in
+    let count = lists_count c.args.verb lists path begun (some_on_plane map c.args.points some) in
     let after = count ∙ ap (λ n. n + 1) before in
     let points = mapped_list map (page_points c.args.points) in
     let fault = ap (λ n. addition_fault n points (surface_of c.self.inside.place)) (sym after) in

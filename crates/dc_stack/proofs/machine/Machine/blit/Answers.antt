@@ -38,6 +38,6 @@ returns-in-Err-clause-plays g c =
     let shows : ShowsFrame (surface_of place) = record { wide = place.frame.wide; high = place.frame.high } in
     let none : source_fault asked.operation.table (source_of asked.source) ≡ None = search rules in
     rw (← c.self.view_is) (record {
-      refused = inl (rw none (ap (option_map Record) (first_of_both _ _ _ (sym (c.in-Err.ensures.off (surface_of place) shows)))));
+      rejected = inl (rw none (ap (option_map Record) (first_of_both _ _ _ (sym (c.in-Err.ensures.off (surface_of place) shows)))));
       kept = record { state = refl; painted = refl; plane_extent = refl; needs = refl };
     })

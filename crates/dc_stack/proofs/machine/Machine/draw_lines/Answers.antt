@@ -9,7 +9,7 @@ use Rattle.dc_stack.specs.Next.{end_of}
 use Rattle.dc_stack.specs.declared.draw.Painting.TheVariants.{Stroke}
 use Rattle.dc_stack.specs.State.{with_position}
 use Rattle.dc_stack.proofs.ListLemmas.{has_points, through_fault}
-use Rattle.dc_stack.proofs.MarkingLemmas.{draws_through, refuses_lists}
+use Rattle.dc_stack.proofs.MarkingLemmas.{draws_through, rejects_lists}
 use Rattle.dc_stack.proofs.machine.Machine.draw_lines.Goals as goal
 
 pub returns-in-Ok-make_draw-clause-draws : goal.returns-in-Ok-make_draw-clause-draws
@@ -18,16 +18,16 @@ returns-in-Ok-make_draw-clause-draws g c =
     let lines = c.in-Ok.lines in
     let marks = rw (← c.self.view_is) at c.make_draw.ensures.marks in
     let drawn = draws_through c.self.inside.dc.map c.self.inside.dc.position lines.0 c.args.points lines.1.extent lines.1.count _ _ _ some c.in-Ok.ensures.from c.in-Ok.ensures.count c.in-Ok.ensures.few c.in-Ok.ensures.extent marks in
-    let told = rw (c.in-Ok-make_draw.is, ← c.self-2.view_is) at drawn in
+    let reported = rw (c.in-Ok-make_draw.is, ← c.self-2.view_is) at drawn in
     rw (← c.self.view_is) (record {
-      no_fault = told.no_fault;
-      state = rw c.end_of-self-inside.ensures (ap (with_position (end_of c.self.inside.dc.position (points_of c.args.points))) told.state);
-      needs = told.needs;
-      drawn = told.drawn;
-      placed = told.placed;
-      nib = told.nib;
-      apart = told.apart;
-      extent = told.extent;
+      no_fault = reported.no_fault;
+      state = rw c.end_of-self-inside.ensures (ap (with_position (end_of c.self.inside.dc.position (points_of c.args.points))) reported.state);
+      needs = reported.needs;
+      drawn = reported.drawn;
+      placed = reported.placed;
+      nib = reported.nib;
+      apart = reported.apart;
+      extent = reported.extent;
     })
 
 pub returns-in-Err-make_draw-clause-draws : goal.returns-in-Err-make_draw-clause-draws
@@ -47,4 +47,4 @@ returns-in-Err-clause-draws g c =
     let points = points_of c.args.points in
     let some = has_points points _ c.is_empty.ensures c.if-is_empty.false in
     rw (← c.self.view_is)
-    (refuses_lists Stroke (mapped_lists map (going_on start points)) _ _ c.in-Err.fault (through_fault map start points s some ∙ sym (c.in-Err.ensures.refused s shows)) (record { state = refl; painted = refl; plane_extent = refl; needs = refl }))
+    (rejects_lists Stroke (mapped_lists map (going_on start points)) _ _ c.in-Err.fault (through_fault map start points s some ∙ sym (c.in-Err.ensures.rejected s shows)) (record { state = refl; painted = refl; plane_extent = refl; needs = refl }))

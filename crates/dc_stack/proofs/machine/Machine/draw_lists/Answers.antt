@@ -7,7 +7,7 @@ use Rattle.dc_stack.specs.Drawing.{lists_painted}
 use Rattle.dc_stack.specs.Extents.{IsExtent}
 use Rattle.dc_stack.specs.Mapped.{mapped_lists}
 use Rattle.dc_stack.proofs.ListLemmas.{points_listed}
-use Rattle.dc_stack.proofs.MarkingLemmas.{draws_marked, refuses_lists}
+use Rattle.dc_stack.proofs.MarkingLemmas.{draws_marked, rejects_lists}
 use Rattle.dc_stack.proofs.machine.Machine.draw_lists.Goals as goal
 
 pub returns-in-Ok-clause-draws : goal.returns-in-Ok-clause-draws
@@ -25,4 +25,4 @@ returns-in-Err-clause-draws g c =
     let shows : ShowsFrame s = record { wide = c.self.inside.place.frame.wide; high = c.self.inside.place.frame.high } in
     let on_plane = mapped_lists (map_numbers c.self.inside.dc.map) (lists_of c.args.lists) in
     rw (← c.self.view_is)
-    (refuses_lists c.args.painting on_plane _ _ c.in-Err.fault (sym (c.in-Err.ensures.refused s shows)) (record { state = refl; painted = refl; plane_extent = refl; needs = refl }))
+    (rejects_lists c.args.painting on_plane _ _ c.in-Err.fault (sym (c.in-Err.ensures.rejected s shows)) (record { state = refl; painted = refl; plane_extent = refl; needs = refl }))

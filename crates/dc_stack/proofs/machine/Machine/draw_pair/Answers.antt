@@ -6,7 +6,7 @@ use Rattle.dc_stack.specs.Extents.{IsPlaneBox}
 use Rattle.dc_stack.specs.declared.draw.Mark.TheVariants.{Line}
 use Rattle.dc_stack.specs.declared.draw.Painting.TheVariants.{Stroke}
 use Rattle.dc_stack.proofs.ListLemmas.{never_too_many}
-use Rattle.dc_stack.proofs.MarkingLemmas.{draws_marked, refuses_off}
+use Rattle.dc_stack.proofs.MarkingLemmas.{draws_marked, rejects_off}
 use Rattle.dc_stack.proofs.machine.Machine.draw_pair.Goals as goal
 
 pub returns-in-Ok-clause-draws : goal.returns-in-Ok-clause-draws
@@ -23,4 +23,4 @@ returns-in-Err-clause-draws g c =
     let place = c.self.inside.place in
     let shows : ShowsFrame (surface_of place) = record { wide = place.frame.wide; high = place.frame.high } in
     rw (← c.self.view_is)
-    (refuses_off _ _ _ c.in-Err.fault (never_too_many 2 (omega arith)) (c.in-Err.ensures.off (surface_of place) shows) (record { state = refl; painted = refl; plane_extent = refl; needs = refl }))
+    (rejects_off _ _ _ c.in-Err.fault (never_too_many 2 (omega arith)) (c.in-Err.ensures.off (surface_of place) shows) (record { state = refl; painted = refl; plane_extent = refl; needs = refl }))

@@ -5,7 +5,7 @@ use Rattle.dc_stack.specs.Drawing.{rectangle_between}
 use Rattle.dc_stack.specs.Extents.{IsPlaneBox}
 use Rattle.dc_stack.specs.declared.draw.Mark.TheVariants.{Rectangle}
 use Rattle.dc_stack.proofs.ListLemmas.{never_too_many}
-use Rattle.dc_stack.proofs.MarkingLemmas.{draws_marked, refuses_off}
+use Rattle.dc_stack.proofs.MarkingLemmas.{draws_marked, rejects_off}
 use Rattle.dc_stack.proofs.machine.Machine.draw_rectangle.Goals as goal
 
 pub returns-in-Ok-clause-draws : goal.returns-in-Ok-clause-draws
@@ -25,4 +25,4 @@ returns-in-Err-clause-draws g c =
     let shows : ShowsFrame (surface_of place) = record { wide = place.frame.wide; high = place.frame.high } in
     let off = rw (c.left_top.ensures, c.right_bottom.ensures) at c.in-Err.ensures.off in
     rw (← c.self.view_is)
-    (refuses_off _ _ _ c.in-Err.fault (never_too_many 4 (omega arith)) (off (surface_of place) shows) (record { state = refl; painted = refl; plane_extent = refl; needs = refl }))
+    (rejects_off _ _ _ c.in-Err.fault (never_too_many 4 (omega arith)) (off (surface_of place) shows) (record { state = refl; painted = refl; plane_extent = refl; needs = refl }))

@@ -31,6 +31,6 @@ returns-in-Err-clause-plays g c =
     let place = c.self.inside.place in
     let shows : ShowsFrame (surface_of place) = record { wide = place.frame.wide; high = place.frame.high } in
     rw (← c.self.view_is) (record {
-      refused = inl (ap (option_map Record) (first_of_both _ _ _ (sym (c.in-Err.ensures.off (surface_of place) shows))));
+      rejected = inl (ap (option_map Record) (first_of_both _ _ _ (sym (c.in-Err.ensures.off (surface_of place) shows))));
       kept = record { state = refl; painted = refl; plane_extent = refl; needs = refl };
     })

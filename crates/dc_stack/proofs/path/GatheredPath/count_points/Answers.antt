@@ -29,8 +29,8 @@ pub returns-clause-count : goal.returns-clause-count
 returns-clause-count c =
     let pieces = c.args.self.now.pieces.items in
     let count = c.len-index-end.ensures in
-    let behind = c.loop-index-test.false in
-    c.loop-index.invariant.counted ∙ all_counted pieces c.loop-index.index (omega (arith, count, behind)) ∙ sym (gathered_count pieces)
+    let after = c.loop-index-test.false in
+    c.loop-index.invariant.counted ∙ all_counted pieces c.loop-index.index (omega (arith, count, after)) ∙ sym (gathered_count pieces)
 
 pub returns-clause-few : goal.returns-clause-few
 unfolding edge_limit

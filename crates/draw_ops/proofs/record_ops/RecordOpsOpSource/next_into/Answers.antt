@@ -5,7 +5,7 @@ use Rattle.std.proofs.lemmas.List.{take_rest}
 use Rattle.draw_ops.specs.declared.record_fault.RecordFault.{RecordFault}
 use Rattle.draw_ops.specs.Content.{Content, StepValue, broken_by, with_step}
 use Rattle.draw_ops.specs.Meaning.{Meaning}
-use Rattle.draw_ops.specs.Reading.{content_from, content_left, front_step, first_then}
+use Rattle.draw_ops.specs.Reading.{content_from, content_left, leading_step, first_then}
 use Rattle.draw_ops.specs.Records.{Framing, record_limit, rest_of, size_of}
 use Rattle.draw_ops.specs.StepOf.{step_value_of}
 use Rattle.draw_ops.specs.declared.record_ops.Reading.{Reading}
@@ -14,14 +14,14 @@ use Rattle.draw_ops.proofs.ContentLemmas.{content_step}
 use Rattle.draw_ops.proofs.record_ops.RecordOpsOpSource.next_into.Goals as goal
 
 -- what is left, by the first record
-left_by : (f : Framing) (meaning : Meaning) (reading : Reading) (number : ℕ) (rest : List ℕ) (value : Content) (first : Result StepValue RecordFault) → reading ≡ Records → number ≤ record_limit → content_left f meaning reading number rest ≡ value → front_step f meaning number rest ≡ first → value ≡ first_then f rest first (content_from f meaning (record_limit - suc number) (suc number) (rest_of f rest))
+left_by : (f : Framing) (meaning : Meaning) (reading : Reading) (number : ℕ) (rest : List ℕ) (value : Content) (first : Result StepValue RecordFault) → reading ≡ Records → number ≤ record_limit → content_left f meaning reading number rest ≡ value → leading_step f meaning number rest ≡ first → value ≡ first_then f rest first (content_from f meaning (record_limit - suc number) (suc number) (rest_of f rest))
 left_by f meaning reading number rest value first r h v e =
     sym v ∙ ap (λ (s : Reading). content_left f meaning s number rest) r ∙ content_step f meaning number rest h
     ∙ ap (λ (g : Result StepValue RecordFault). first_then f rest g (content_from f meaning (record_limit - suc number) (suc number) (rest_of f rest))) e
 
 -- what is left behind the first record
-left_behind : (f : Framing) (meaning : Meaning) (reading : Reading) (number n : ℕ) (rest : List ℕ) → reading ≡ Records → n ≡ size_of f rest → content_left f meaning reading (number + 1) (take (length rest - n) (drop n rest)) ≡ content_from f meaning (record_limit - suc number) (suc number) (rest_of f rest)
-left_behind f meaning reading number n rest r h = rw (r, take_rest rest n, h, add-one) refl
+left_after : (f : Framing) (meaning : Meaning) (reading : Reading) (number n : ℕ) (rest : List ℕ) → reading ≡ Records → n ≡ size_of f rest → content_left f meaning reading (number + 1) (take (length rest - n) (drop n rest)) ≡ content_from f meaning (record_limit - suc number) (suc number) (rest_of f rest)
+left_after f meaning reading number n rest r h = rw (r, take_rest rest n, h, add-one) refl
 
 pub overflow_add-self : goal.overflow_add-self
 unfolding record_limit
@@ -44,6 +44,6 @@ returns-else-kind-end_kind g c =
     let goes_on = ne_eqb _ _ (λ p. c.if-kind-end_kind.false (c.kind.ensures ∙ p ∙ sym c.end_kind.ensures)) in
     record {
       gives = rw goes_on at e
-          ∙ ap (with_step (step_value_of c.put_step.new.step)) (sym (left_behind g.F.Format.framing g.F.Format.meaning c.self.inside.reading c.self.inside.number c.size.result c.self.inside.rest.now c.in-Records.is c.size.ensures));
+          ∙ ap (with_step (step_value_of c.put_step.new.step)) (sym (left_after g.F.Format.framing g.F.Format.meaning c.self.inside.reading c.self.inside.number c.size.result c.self.inside.rest.now c.in-Records.is c.size.ensures));
       kept = record {};
     }

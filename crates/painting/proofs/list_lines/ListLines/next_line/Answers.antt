@@ -17,7 +17,7 @@ invariant_of-self-2 c =
     let taken = c.in-Some-split_first in
     let e : points_of lines.points ≡ taken.point ∷ points_of taken.rest = taken.ensures.points in
     let near : IsNearPoint c.at-last.result = rw c.at-last.ensures (first_near lines.by taken.point (points_of taken.rest) (points_of lines.points) e lines.land) in
-    record { first_near = c.in-Some.course.first_near; last_near = near }
+    record { first_near = c.in-Some.cursor.first_near; last_near = near }
 
 pub invariant_of-self-3 : goal.invariant_of-self-3
 invariant_of-self-3 c =

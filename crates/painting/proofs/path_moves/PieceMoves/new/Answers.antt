@@ -25,12 +25,12 @@ invariant_of-result c =
 pub returns : goal.returns
 returns c =
     let by : Projection = record { map = c.args.piece.map; place = c.args.place } in
-    let joining = c.args.piece.joining in
+    let verb = c.args.piece.verb in
     let end : List Move = End c.args.piece.end ∷ [] in
     let laws : PlacingLaws = c.placing_law.ensures in
     let points = c.args.piece.points in
-    let behind : List (List Point) → List Move = λ lists. moves_of_lists joining (map (projected_list by) lists) ++ end in
-    ap (λ (moves : List Move). moves ++ behind (lists_of c.lists_to_place.result)) c.new.ensures
-    ∙ ap (λ (first : List Point). moves_of_list joining first ++ behind (lists_of c.lists_to_place.result)) c.place_part-first.ensures
-    ∙ ap (λ (lists : List (List Point)). moves_of_list joining (placed_part by points) ++ behind lists) c.lists_to_place.ensures
-    ∙ in_parts by laws joining points end
+    let after : List (List Point) → List Move = λ lists. moves_of_lists verb (map (projected_list by) lists) ++ end in
+    ap (λ (moves : List Move). moves ++ after (lists_of c.lists_to_place.result)) c.new.ensures
+    ∙ ap (λ (first : List Point). moves_of_list verb first ++ after (lists_of c.lists_to_place.result)) c.place_part-first.ensures
+    ∙ ap (λ (lists : List (List Point)). moves_of_list verb (placed_part by points) ++ after lists) c.lists_to_place.ensures
+    ∙ in_parts by laws verb points end

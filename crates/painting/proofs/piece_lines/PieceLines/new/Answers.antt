@@ -17,8 +17,8 @@ pub invariant_of-result : goal.invariant_of-result
 invariant_of-result c =
     let lines = lines_are c in
     let few = figure_lines_few (surface_of c.args.place) c.args.ends (all_figures (figures_of c.args.pieces.now)) in
-    let room = c.requires.few in
-    record { few = rw lines (omega (arith, few, room)) }
+    let scratch = c.requires.few in
+    record { few = rw lines (omega (arith, few, scratch)) }
 
 pub returns : goal.returns
 returns c = ap (lines_of_moves c.args.ends nothing) c.new.ensures ∙ pieces_drawn c.args.ends (surface_of c.args.place) c.args.pieces.now

@@ -9,16 +9,16 @@ pub returns : goal.returns
 returns c entries h =
     let version = c.args.self.version in
     let text = c.args.self.text in
-    let front = c.in_ok-front.front.items in
-    let made : c.put_front.new.text ≡ front ++ drop 40 text.items = rw (c.deref.ensures.value, c.deref_mut.ensures.value) at c.put_front.ensures in
+    let prefix = c.in_ok-prefix.prefix.items in
+    let made : c.put_prefix.new.text ≡ prefix ++ drop 40 text.items = rw (c.deref.ensures.value, c.deref_mut.ensures.value) at c.put_prefix.ensures in
     let held : length text.items ≡ text.len = ap length (sym c.deref_mut.ensures.value) ∙ c.deref_mut.ensures.len in
-    let first = ap length c.in_ok-front.ensures ∙ length-head version (head_value c.args.head) ((c.len.result - 40) / c.entry_size.result) in
-    let all = ap length made ∙ length-append front (drop 40 text.items) in
+    let first = ap length c.in_ok-prefix.ensures ∙ length-head version (head_value c.args.head) ((c.len.result - 40) / c.entry_size.result) in
+    let all = ap length made ∙ length-append prefix (drop 40 text.items) in
     let rest = length-drop 40 text.items in
-    let room = c.requires.room in
-    let long : length c.put_front.new.text ≡ text.len = omega (arith, held, first, all, rest, room) in
+    let capacity = c.requires.capacity in
+    let long : length c.put_prefix.new.text ≡ text.len = omega (arith, held, first, all, rest, capacity) in
     let count : (c.len.result - 40) / c.entry_size.result ≡ length entries =
     ap (λ (n : ℕ). (n - 40) / c.entry_size.result) (c.len.ensures ∙ sym held) ∙ ap (λ (n : ℕ). (length text.items - 40) / n) c.entry_size.ensures
     ∙ counted version text.items entries h.standing in
-    with_items_is text c.put_front.new.text long ∙ made
-    ∙ finished version (head_value c.args.head) ((c.len.result - 40) / c.entry_size.result) text.items front entries h.standing c.in_ok-front.ensures count
+    with_items_is text c.put_prefix.new.text long ∙ made
+    ∙ finished version (head_value c.args.head) ((c.len.result - 40) / c.entry_size.result) text.items prefix entries h.standing c.in_ok-prefix.ensures count

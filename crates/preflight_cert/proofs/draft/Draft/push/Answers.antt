@@ -3,7 +3,7 @@ use Rattle.std.proofs.Common.{◌≡◌, ◌++◌, List}
 use Rattle.std.proofs.lemmas.Result.{on_ok_weaker}
 use Rattle.preflight_cert.specs.CertificateText.{entry_text}
 use Rattle.preflight_cert.specs.DraftOf.{Holds}
-use Rattle.preflight_cert.specs.declared.entry.Entry.{Entry}
+use Rattle.preflight_cert.specs.declared.certificate_entry.Entry.{Entry}
 use Rattle.preflight_cert.proofs.DraftLemmas.{stand_then}
 use Rattle.preflight_cert.proofs.draft.Draft.push.Goals as goal
 

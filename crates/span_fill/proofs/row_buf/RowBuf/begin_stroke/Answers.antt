@@ -7,23 +7,23 @@ use Rattle.span_fill.proofs.row_buf.RowBuf.begin_stroke.Goals as goal
 
 pub invariant_of-self : goal.invariant_of-self
 invariant_of-self g c =
-    let there = c.self.invariant.room in
-    let room : c.self.inside.room ≡ c.args.self.now.room = ap (λ (s : RowState). s.room) c.self.view_is in
+    let there = c.self.invariant.capacity in
+    let capacity : c.self.inside.capacity ≡ c.args.self.now.capacity = ap (λ (s : RowState). s.capacity) c.self.view_is in
     let lines : length c.copy_lines.new.lines.items ≡ length (g.O.Outline.lines c.args.outline.now) = ap (λ xs. length xs) c.copy_lines.ensures.lines in
-    let asked : length (g.O.Outline.lines c.args.outline.now) ≤ c.args.self.now.room = c.requires.count in
-    let count : length c.copy_lines.new.lines.items ≤ c.self.inside.room = omega (arith, room, lines, asked) in
+    let asked : length (g.O.Outline.lines c.args.outline.now) ≤ c.args.self.now.capacity = c.requires.count in
+    let count : length c.copy_lines.new.lines.items ≤ c.self.inside.capacity = omega (arith, capacity, lines, asked) in
     let given = ap (λ xs. length xs) c.as_slice.ensures.value in
     record {
-      room = record {
+      capacity = record {
         limit = there.limit;
-        lines = omega (arith, there.lines, c.copy_lines.ensures.room);
+        lines = omega (arith, there.lines, c.copy_lines.ensures.capacity);
         edges = there.edges;
         active = there.active;
         crossings = there.crossings;
         counts = there.counts;
         table = there.table;
         spans = omega (arith, there.spans, c.clear.ensures.capacity);
-        strokes = c.begin.ensures.room c.self.inside.room there.strokes;
+        strokes = c.begin.ensures.capacity c.self.inside.capacity there.strokes;
       };
       count = count;
       near = c.copy_lines.ensures.near;

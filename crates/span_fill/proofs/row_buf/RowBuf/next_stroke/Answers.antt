@@ -7,28 +7,28 @@ use Rattle.span_fill.specs.RowState.{FillsRow, IsFillingWork, IsStrokingWork, Ro
 use Rattle.span_fill.proofs.StrokingLemmas.{not_both, stroked}
 use Rattle.span_fill.proofs.row_buf.RowBuf.next_stroke.Goals as goal
 
-pub next_row-requires-clause-room : goal.next_row-requires-clause-room
-next_row-requires-clause-room c = λ _.
+pub next_row-requires-clause-capacity : goal.next_row-requires-clause-capacity
+next_row-requires-clause-capacity c = λ _.
     let work = subst (λ (s : RowState). IsStrokingWork s.work) (sym c.self.view_is) c.requires.stroking in
     let strokes = c.self.invariant.stroking work in
-    let room = c.self.invariant.room.spans in
-    omega (arith, room, strokes.count)
+    let capacity = c.self.invariant.capacity.spans in
+    omega (arith, capacity, strokes.count)
 
 pub returns-clause-spans : goal.returns-clause-spans
 returns-clause-spans c =
     let work = subst (λ (s : RowState). IsStrokingWork s.work) (sym c.self.view_is) c.requires.stroking in
     let next : c.self.inside.next < 8192 = subst (λ (s : RowState). s.next < 8192) (sym c.self.view_is) c.requires.next in
     subst (λ (s : RowState). FillsRow s.work s.lines s.next c.args.interval c.next_row.new.spans.items) c.self.view_is
-    (stroked c.self.inside.work c.self.inside.rule c.self.inside.next c.self.inside.room c.self.inside.lines.items c.self.inside.strokes c.args.interval c.next_row.new.spans.items work next c.requires.interval (c.self.invariant.stroking work) c.next_row.ensures.spans)
+    (stroked c.self.inside.work c.self.inside.rule c.self.inside.next c.self.inside.capacity c.self.inside.lines.items c.self.inside.strokes c.args.interval c.next_row.new.spans.items work next c.requires.interval (c.self.invariant.stroking work) c.next_row.ensures.spans)
 
 pub invariant_of-self : goal.invariant_of-self
 invariant_of-self c =
     let work = subst (λ (s : RowState). IsStrokingWork s.work) (sym c.self.view_is) c.requires.stroking in
     let next : c.self.inside.next < 8192 = subst (λ (s : RowState). s.next < 8192) (sym c.self.view_is) c.requires.next in
-    let there = c.self.invariant.room in
+    let there = c.self.invariant.capacity in
     let strokes = c.self.invariant.stroking work in
     record {
-      room = record {
+      capacity = record {
         limit = there.limit;
         lines = there.lines;
         edges = there.edges;
@@ -36,8 +36,8 @@ invariant_of-self c =
         crossings = there.crossings;
         counts = there.counts;
         table = there.table;
-        spans = omega (arith, there.spans, c.next_row.ensures.spans_room);
-        strokes = c.next_row.ensures.room c.self.inside.room there.strokes;
+        spans = omega (arith, there.spans, c.next_row.ensures.spans_capacity);
+        strokes = c.next_row.ensures.capacity c.self.inside.capacity there.strokes;
       };
       count = c.self.invariant.count;
       near = c.self.invariant.near;

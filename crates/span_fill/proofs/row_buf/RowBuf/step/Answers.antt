@@ -28,16 +28,16 @@ pub invariant_of-self-then-self-2 : goal.invariant_of-self-then-self-2
 invariant_of-self-then-self-2 c =
     let next : c.self.inside.next < 8192 = subst (λ (s : RowState). s.next < 8192) (sym c.self.view_is) c.requires.next in
     record {
-      room = record {
-        limit = c.self.invariant.room.limit;
-        lines = c.self.invariant.room.lines;
-        edges = c.self.invariant.room.edges;
-        active = c.self.invariant.room.active;
-        crossings = c.self.invariant.room.crossings;
-        counts = c.self.invariant.room.counts;
-        table = c.self.invariant.room.table;
-        spans = c.self.invariant.room.spans;
-        strokes = c.self.invariant.room.strokes;
+      capacity = record {
+        limit = c.self.invariant.capacity.limit;
+        lines = c.self.invariant.capacity.lines;
+        edges = c.self.invariant.capacity.edges;
+        active = c.self.invariant.capacity.active;
+        crossings = c.self.invariant.capacity.crossings;
+        counts = c.self.invariant.capacity.counts;
+        table = c.self.invariant.capacity.table;
+        spans = c.self.invariant.capacity.spans;
+        strokes = c.self.invariant.capacity.strokes;
       };
       count = c.self.invariant.count;
       near = c.self.invariant.near;
@@ -52,21 +52,21 @@ pub invariant_of-self : goal.invariant_of-self
 invariant_of-self c =
     let next : c.self.inside.next < 8192 = subst (λ (s : RowState). s.next < 8192) (sym c.self.view_is) c.requires.next in
     record {
-      room = record {
-        limit = c.self.invariant.room.limit;
-        lines = c.self.invariant.room.lines;
-        edges = c.self.invariant.room.edges;
+      capacity = record {
+        limit = c.self.invariant.capacity.limit;
+        lines = c.self.invariant.capacity.lines;
+        edges = c.self.invariant.capacity.edges;
         active = omega arith;
-        crossings = c.self.invariant.room.crossings;
-        counts = c.self.invariant.room.counts;
-        table = c.self.invariant.room.table;
-        spans = c.self.invariant.room.spans;
-        strokes = c.self.invariant.room.strokes;
+        crossings = c.self.invariant.capacity.crossings;
+        counts = c.self.invariant.capacity.counts;
+        table = c.self.invariant.capacity.table;
+        spans = c.self.invariant.capacity.spans;
+        strokes = c.self.invariant.capacity.strokes;
       };
       count = c.self.invariant.count;
       near = c.self.invariant.near;
       row = omega (arith, next);
-      filling = λ work unused. filling_goes_on c.self.inside.next (c.self.inside.next + 1) c.self.inside.room c.self.inside.lines.items c.self.inside.edges.items c.self.inside.begun c.self.inside.active.items c.move_edges-self-inside.new.active.items c.self.inside.is_sorted c.move_edges-self-inside.result c.self.inside.event refl next c.if-self.true c.self.invariant.near (c.self.invariant.filling work (unused_above c.self.inside.table.is_used c.self.inside.active.items c.self.inside.is_sorted c.self.inside.event (c.self.inside.next + 1) c.self.invariant.counted c.if-self.true)) c.move_edges-self-inside.ensures.edges c.move_edges-self-inside.ensures.sorted;
+      filling = λ work unused. filling_goes_on c.self.inside.next (c.self.inside.next + 1) c.self.inside.capacity c.self.inside.lines.items c.self.inside.edges.items c.self.inside.begun c.self.inside.active.items c.move_edges-self-inside.new.active.items c.self.inside.is_sorted c.move_edges-self-inside.result c.self.inside.event refl next c.if-self.true c.self.invariant.near (c.self.invariant.filling work (unused_above c.self.inside.table.is_used c.self.inside.active.items c.self.inside.is_sorted c.self.inside.event (c.self.inside.next + 1) c.self.invariant.counted c.if-self.true)) c.move_edges-self-inside.ensures.edges c.move_edges-self-inside.ensures.sorted;
       tabled = λ work used. absurd (false≢true (sym (unused_above c.self.inside.table.is_used c.self.inside.active.items c.self.inside.is_sorted c.self.inside.event (c.self.inside.next + 1) c.self.invariant.counted c.if-self.true) ∙ used));
       counted = λ used. absurd (false≢true (sym (unused_above c.self.inside.table.is_used c.self.inside.active.items c.self.inside.is_sorted c.self.inside.event (c.self.inside.next + 1) c.self.invariant.counted c.if-self.true) ∙ used));
       stroking = λ h. absurd (not_both _ (subst (λ (s : RowState). IsFillingWork s.work) (sym c.self.view_is) c.requires.filling) h);
@@ -76,16 +76,16 @@ pub invariant_of-self-2 : goal.invariant_of-self-2
 invariant_of-self-2 c =
     let next : c.self.inside.next < 8192 = subst (λ (s : RowState). s.next < 8192) (sym c.self.view_is) c.requires.next in
     record {
-      room = record {
-        limit = c.self.invariant.room.limit;
-        lines = c.self.invariant.room.lines;
-        edges = c.self.invariant.room.edges;
+      capacity = record {
+        limit = c.self.invariant.capacity.limit;
+        lines = c.self.invariant.capacity.lines;
+        edges = c.self.invariant.capacity.edges;
         active = omega arith;
-        crossings = c.self.invariant.room.crossings;
-        counts = c.self.invariant.room.counts;
-        table = c.self.invariant.room.table;
-        spans = c.self.invariant.room.spans;
-        strokes = c.self.invariant.room.strokes;
+        crossings = c.self.invariant.capacity.crossings;
+        counts = c.self.invariant.capacity.counts;
+        table = c.self.invariant.capacity.table;
+        spans = c.self.invariant.capacity.spans;
+        strokes = c.self.invariant.capacity.strokes;
       };
       count = c.self.invariant.count;
       near = c.self.invariant.near;
@@ -98,7 +98,7 @@ invariant_of-self-2 c =
           let edges = ap (λ xs. length xs) c.as_slice.ensures.value in
           let event = rw (c.as_slice-2.ensures.value, c.as_slice-3.ensures.value) at c.next_event-self-inside.ensures in
           let quiet = quiet_above c.next_event-self-inside.result c.admit-self-inside.result c.admit-self-inside.new.active.items c.self.inside.edges.items filling.ordered event in
-          filling_steps c.self.inside.next (c.self.inside.next + 1) c.self.inside.room c.self.inside.lines.items c.self.inside.edges.items c.self.inside.begun c.admit-self-inside.result c.self.inside.active.items c.admit-self-inside.new.active.items c.self.inside.is_sorted false c.self.inside.event c.next_event-self-inside.result refl next c.self.invariant.near filling admitted left (omega (arith, edges, c.admit-self-inside.ensures.within)) (λ t. absurd cc) (omega (arith, edges, filling.count, c.retire.ensures.length, c.move_edges.ensures.length, c.admit-self-inside.ensures.length)) quiet;
+          filling_steps c.self.inside.next (c.self.inside.next + 1) c.self.inside.capacity c.self.inside.lines.items c.self.inside.edges.items c.self.inside.begun c.admit-self-inside.result c.self.inside.active.items c.admit-self-inside.new.active.items c.self.inside.is_sorted false c.self.inside.event c.next_event-self-inside.result refl next c.self.invariant.near filling admitted left (omega (arith, edges, c.admit-self-inside.ensures.within)) (λ t. absurd cc) (omega (arith, edges, filling.count, c.retire.ensures.length, c.move_edges.ensures.length, c.admit-self-inside.ensures.length)) quiet;
       tabled = λ work used. absurd (false≢true (sym c.if-self-2.false ∙ used));
       counted = λ used. absurd (false≢true (sym c.if-self-2.false ∙ used));
       stroking = λ h. absurd (not_both _ (subst (λ (s : RowState). IsFillingWork s.work) (sym c.self.view_is) c.requires.filling) h);

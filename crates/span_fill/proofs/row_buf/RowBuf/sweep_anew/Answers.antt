@@ -17,7 +17,7 @@ admit-self-inside-requires-clause-edges c =
     subst (λ (es : List Edge). All IsEdge es) (sym c.as_slice-2.ensures.value) listed
 
 -- the edges that begin, in order
-in_order : (c : goal.After-sweep) → IsFilling c.self.inside.lines.items c.self.inside.next c.self.inside.room c.sort_edges.new.edges.items c.admit-self-inside.result c.sort_active.new.active.items true c.next_event-self-inside.result
+in_order : (c : goal.After-sweep) → IsFilling c.self.inside.lines.items c.self.inside.next c.self.inside.capacity c.sort_edges.new.edges.items c.admit-self-inside.result c.sort_active.new.active.items true c.next_event-self-inside.result
 in_order c =
     let collected = rw c.as_slice.ensures.value at c.collect_edges.ensures.edges in
     let admitted = rw (c.as_slice-2.ensures.value, c.clear-2.ensures.items) at c.admit-self-inside.ensures.active in
@@ -26,28 +26,28 @@ in_order c =
     let given = ap (λ xs. length xs) c.as_slice.ensures.value in
     let edges = ap (λ xs. length xs) c.as_slice-2.ensures.value in
     let event = rw (c.as_slice-3.ensures.value, c.as_slice-4.ensures.value) at c.next_event-self-inside.ensures in
-    let begins = filling_begins c.self.inside.next c.self.inside.room c.self.inside.lines.items c.collect_edges.new.edges.items c.sort_edges.new.edges.items c.admit-self-inside.result c.admit-self-inside.new.active.items c.next_event-self-inside.result c.self.invariant.near c.self.invariant.row collected c.sort_edges.ensures.permutation c.sort_edges.ensures.sorted admitted left (omega (arith, edges, c.admit-self-inside.ensures.within)) (omega (arith, edges, count, given, c.admit-self-inside.ensures.length, c.collect_edges.ensures.length)) event in
-    filling_sorts c.self.inside.next c.self.inside.room c.self.inside.lines.items c.sort_edges.new.edges.items c.admit-self-inside.result c.admit-self-inside.new.active.items c.sort_active.new.active.items false c.next_event-self-inside.result begins c.sort_active.ensures.permutation (omega (arith, c.sort_active.ensures.length)) c.sort_active.ensures.sorted
+    let begins = filling_begins c.self.inside.next c.self.inside.capacity c.self.inside.lines.items c.collect_edges.new.edges.items c.sort_edges.new.edges.items c.admit-self-inside.result c.admit-self-inside.new.active.items c.next_event-self-inside.result c.self.invariant.near c.self.invariant.row collected c.sort_edges.ensures.permutation c.sort_edges.ensures.sorted admitted left (omega (arith, edges, c.admit-self-inside.ensures.within)) (omega (arith, edges, count, given, c.admit-self-inside.ensures.length, c.collect_edges.ensures.length)) event in
+    filling_sorts c.self.inside.next c.self.inside.capacity c.self.inside.lines.items c.sort_edges.new.edges.items c.admit-self-inside.result c.admit-self-inside.new.active.items c.sort_active.new.active.items false c.next_event-self-inside.result begins c.sort_active.ensures.permutation (omega (arith, c.sort_active.ensures.length)) c.sort_active.ensures.sorted
 
 pub returns-clause-spans : goal.returns-clause-spans
 returns-clause-spans c =
     let work = subst (λ (s : RowState). IsFillingWork s.work) (sym c.self.view_is) c.requires.filling in
     subst (λ (s : RowState). FillsRow s.work s.lines s.next c.args.interval c.sweep.new.spans.items) c.self.view_is
-    (filled_swept c.self.inside.work c.self.inside.rule c.self.inside.strokes.nib c.self.inside.next c.self.inside.room c.self.inside.lines.items c.sort_edges.new.edges.items c.admit-self-inside.result c.sort_active.new.active.items c.next_event-self-inside.result c.args.interval c.sweep.new.spans.items work c.self.invariant.near (in_order c) c.requires.interval c.requires.order (rw (c.clear.ensures.items, c.as_slice-5.ensures.value) at c.sweep.ensures.spans))
+    (filled_swept c.self.inside.work c.self.inside.rule c.self.inside.strokes.nib c.self.inside.next c.self.inside.capacity c.self.inside.lines.items c.sort_edges.new.edges.items c.admit-self-inside.result c.sort_active.new.active.items c.next_event-self-inside.result c.args.interval c.sweep.new.spans.items work c.self.invariant.near (in_order c) c.requires.interval c.requires.order (rw (c.clear.ensures.items, c.as_slice-5.ensures.value) at c.sweep.ensures.spans))
 
 pub invariant_of-self : goal.invariant_of-self
 invariant_of-self c =
-    let there = c.self.invariant.room in
+    let there = c.self.invariant.capacity in
     record {
-      room = record {
+      capacity = record {
         limit = there.limit;
         lines = there.lines;
-        edges = omega (arith, there.edges, c.collect_edges.ensures.room, c.sort_edges.ensures.room);
-        active = omega (arith, there.active, c.clear-2.ensures.capacity, c.admit-self-inside.ensures.room, c.sort_active.ensures.room);
+        edges = omega (arith, there.edges, c.collect_edges.ensures.capacity, c.sort_edges.ensures.capacity);
+        active = omega (arith, there.active, c.clear-2.ensures.capacity, c.admit-self-inside.ensures.capacity, c.sort_active.ensures.capacity);
         crossings = there.crossings;
         counts = there.counts;
-        table = c.begin.ensures.room c.self.inside.room there.table;
-        spans = omega (arith, there.spans, c.clear.ensures.capacity, c.sweep.ensures.room);
+        table = c.begin.ensures.capacity c.self.inside.capacity there.table;
+        spans = omega (arith, there.spans, c.clear.ensures.capacity, c.sweep.ensures.capacity);
         strokes = there.strokes;
       };
       count = c.self.invariant.count;

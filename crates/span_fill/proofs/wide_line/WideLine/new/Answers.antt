@@ -9,9 +9,9 @@ pub invariant_of-t-8 : goal.invariant_of-t-8
 invariant_of-t-8 c =
     let from : FitsSigned w32 c.args.from = c.ranges.from in
     let to : FitsSigned w32 c.args.to = c.ranges.to in
-    let first : FitsSigned w32 c.in-Some.strip.seen.from = search rules in
+    let first : FitsSigned w32 c.in-Some.edge.seen.from = search rules in
     let begun = simp to_z-of_z at c.in-Some.ensures in
-    simp to_z-of_z (begun_line c.args.nib c.args.from c.args.to c.args.line c.in-Some.strip c.requires.nib c.requires.low c.requires.high begun)
+    simp to_z-of_z (begun_line c.args.nib c.args.from c.args.to c.args.line c.in-Some.edge c.requires.nib c.requires.low c.requires.high begun)
 
 pub invariant_of-result : goal.invariant_of-result
 invariant_of-result c =
@@ -24,9 +24,9 @@ pub returns-in-Some-clause-all : goal.returns-in-Some-clause-all
 returns-in-Some-clause-all c =
     let from : FitsSigned w32 c.args.from = c.ranges.from in
     let to : FitsSigned w32 c.args.to = c.ranges.to in
-    let first : FitsSigned w32 c.in-Some.strip.seen.from = search rules in
+    let first : FitsSigned w32 c.in-Some.edge.seen.from = search rules in
     let begun = simp to_z-of_z at c.in-Some.ensures in
-    simp to_z-of_z (all_rows c.args.nib c.args.from c.args.to c.args.line c.in-Some.strip begun)
+    simp to_z-of_z (all_rows c.args.nib c.args.from c.args.to c.args.line c.in-Some.edge begun)
 
 pub returns-in-None-clause-all : goal.returns-in-None-clause-all
 returns-in-None-clause-all c =

@@ -8,7 +8,7 @@ use Rattle.span_fill.proofs.wide_line.WideLine.next.Goals as goal
 pub returns-then-self : goal.returns-then-self
 returns-then-self c =
     let next : FitsSigned w32 c.self.inside.next = search rules in
-    let end : FitsSigned w32 c.self.inside.strip.seen.to = search rules in
+    let end : FitsSigned w32 c.self.inside.edge.seen.to = search rules in
     let test = simp to_z-of_z at c.if-self.true in
-    let ended = int_le-true c.self.inside.strip.seen.to c.self.inside.next test in
+    let ended = int_le-true c.self.inside.edge.seen.to c.self.inside.next test in
     rw (← c.self.view_is) (ended, refl)

@@ -1,6 +1,0 @@
--- All numbers of the report are integers.
-use Rattle.commands.proofs.ReportLemmas.{refused_whole}
-use Rattle.commands.proofs.check_report.refused_report.Goals as goal
-
-pub text_of-requires : goal.text_of-requires
-text_of-requires c = rw c.in_ok-report.ensures (refused_whole c.args.refusal.number c.args.refusal.fault)

@@ -1,5 +1,0 @@
--- What is put is told of the step.
-use Rattle.listing.proofs.line.put_meant.Goals as goal
-
-pub returns-in-Ok-clause-text : goal.returns-in-Ok-clause-text
-returns-in-Ok-clause-text c = rw c.in-Ok.is c.put_step.ensures.text

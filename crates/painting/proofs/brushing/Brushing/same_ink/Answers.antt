@@ -1,8 +1,0 @@
-use Rattle.std.proofs.Common.{◌∙◌, refl}
-use Rattle.painting.proofs.brushing.Brushing.same_ink.Goals as goal
-
-pub returns-in-Solid-None : goal.returns-in-Solid-None
-returns-in-Solid-None c = record {
-  test = λ x y. c.full.ensures.test x ∙ rw c.in-Solid-None.is-0 refl;
-  colour = λ x y old. c.full.ensures.ink x old ∙ c.mix.ensures old ∙ rw (c.in-Solid-None.is-0, c.in-Solid-None.is-1) refl;
-}

@@ -1,5 +1,0 @@
-use Rattle.std.proofs.Common.{length}
-use Rattle.painting.proofs.mark_costs.shares_of.Given as goal
-
-abbrev pub decreases-loop-line : goal.decreases-loop-line
-decreases-loop-line g l = length (g.O.Outline.lines l.lines)

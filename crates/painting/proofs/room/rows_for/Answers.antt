@@ -1,7 +1,0 @@
-use Rattle.std.proofs.Common.{rules}
-use Rattle.dc_stack.specs.Drawing.{edge_limit}
-use Rattle.painting.proofs.room.rows_for.Goals as goal
-
-pub returns : goal.returns
-unfolding edge_limit
-returns g = search rules

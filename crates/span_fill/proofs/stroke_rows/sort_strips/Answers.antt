@@ -1,9 +1,0 @@
--- The key is the closure's.
-use Rattle.std.proofs.Common.{rules}
-use Rattle.std.specs.Prelude.{unsigned_abs}
-use Rattle.std.proofs.lemmas.List.Sorted.{IsNonDecreasingBy-from_sort_by_key}
-use Rattle.span_fill.proofs.stroke_rows.sort_strips.Goals as goal
-
-pub returns-clause-sorted : goal.returns-clause-sorted
-returns-clause-sorted c =
-    IsNonDecreasingBy-from_sort_by_key (λ strip. unsigned_abs strip.seen.from) _ c.sort_unstable_by_key.ensures.sorted (λ a r q k. search rules)
