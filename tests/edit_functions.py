@@ -87,9 +87,9 @@ def blocks(sources, path):
 
 def functions(crate, sources, path):
     """The functions of a source file of a crate, those in impls and traits too."""
-    text, found = sources[path], []
+    text, standing, found = sources[path], blocks(sources, path), []
     for it in FUNCTION.finditer(text):
-        owners = [block for block in blocks(sources, path) if it["indent"] and block.start <= it.start() < block.end]
+        owners = [block for block in standing if it["indent"] and block.start <= it.start() < block.end]
         inside = [*owners[0].modules, owners[0].name] if owners else modules_of(path)
         name = "::".join([crate, *inside, it["name"]])
         found.append(Function(name, it.start(), end_of(text, it.end(), it["indent"])))
