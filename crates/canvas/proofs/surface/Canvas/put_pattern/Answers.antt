@@ -13,6 +13,6 @@ returns-clause-pixels c =
     c.place-start.ensures
     (omega arith)
     c.fill_with_pattern.auto.part
-    (λ j d h. c.fill_with_pattern.ensures j d h ∙ get_or_default c.args.pattern.now ((c.args.x_from + j) % 8) d _ (let t = c.reported-pattern in omega arith))
+    (λ j d h. c.fill_with_pattern.ensures j d h ∙ get_or_default c.args.pattern.now ((c.args.x_from + j) % 8) d _ (let t = c.told-pattern in omega arith))
     (λ long. ap (row_colours c.self.inside.rows c.self.inside.width c.self.inside.stride) (with_items_is c.self.inside.colours _ (long ∙ c.deref_mut.ensures.len)))
     (omega arith) refl refl refl refl
