@@ -1,13 +1,12 @@
 //! Checking certificates, and the reports.
 
-use crate::command_results::{same, same_want_of_memory};
-use crate::files::{DOT, NIL, NIL_CERT, NOTED, NOTED_CERT, TRI, TRI_CERT, changed};
-use crate::limited;
+use crate::command_results::same_want_of_memory;
 use canvas::Counting;
 use commands::check_command;
 use std::alloc::Global;
 use std::process::Abort;
 use std::test::Fail;
+use test_support::{DOT, NIL, NIL_CERT, NOTED, NOTED_CERT, TRI, TRI_CERT, changed, limited, same};
 
 /// Ends the test unless checking a certificate ends with this status and report.
 fn reports(

@@ -1,12 +1,7 @@
-//! Compares two values in one function, so that each comparison in a test needs little proof.
+//! What standard error holds after a failed allocation.
 
-use std::fmt::Debug;
 use std::process::Abort;
-
-/// Ends the test and prints both values, unless they are equal.
-pub(crate) fn same<T: PartialEq + Debug + Drop>(rt: &impl Abort, left: T, right: T) {
-    assert_eq!(rt; left, right);
-}
+use test_support::same;
 
 /// Compares standard error with the line that reports a failed allocation, byte by byte.
 pub(crate) fn same_want_of_memory(rt: &impl Abort, err: &[u8; 64]) {

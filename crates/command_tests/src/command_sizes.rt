@@ -1,11 +1,11 @@
 //! Commands at each width and at each height: the certificate, its report, and the image that three commands write.
 
-use crate::files::DOT;
 use canvas::Counting;
 use commands::{
     Completion, check_command, over_command, play_command, prepare_command, show_command,
 };
 use std::alloc::{AllocError, Global};
+use test_support::DOT;
 
 /// The P6 text of a white image with the dot of `DOT`: column 2 of 4 begins at half of the width, and row 1 of 4 at a quarter of the height.
 fn image_of(alloc: Global, width: u32, height: u32) -> Result<Vec<u8>, AllocError> {

@@ -1,9 +1,9 @@
 //! Listings of each count of records, and reports of each count of drawings, notes and records.
 
-use crate::files::DOT;
 use canvas::Counting;
 use commands::{check_command, list_command, prepare_command};
 use std::alloc::{AllocError, Global};
+use test_support::DOT;
 
 /// META_SETPIXEL ([MS-WMF] 2.3.3.19) of red at (2, 1).
 const PIXEL: &[u8] = b"\x07\0\0\0\x1f\x04\xff\0\0\0\x01\0\x02\0";

@@ -1,12 +1,11 @@
 //! Showing files, and rejected files.
 
-use crate::command_results::{same, same_want_of_memory};
-use crate::files::DOT;
-use crate::limited;
+use crate::command_results::same_want_of_memory;
 use canvas::Counting;
 use commands::show_command;
 use std::alloc::{AllocError, Global};
 use std::test::Fail;
+use test_support::{DOT, limited, same};
 
 /// An image of one row or one column: white except for one red pixel.
 #[derive(Clone, Copy)]

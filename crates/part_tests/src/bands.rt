@@ -1,11 +1,11 @@
 //! Bands: some rows of a surface, moved further down, and written one after another.
 
-use crate::comparing::same;
 use canvas::{Canvas, OutOfMemory, WriteFault, write_header};
 use mapping::Colour;
 use std::io;
 use std::io::Write;
 use std::test::Fail;
+use test_support::same;
 
 const RED: Colour = Colour { r: 255, g: 0, b: 0 };
 
@@ -124,7 +124,7 @@ fn a_full_writer_has_a_prefix_of_the_rows(rt: HostRuntime) -> Result<(), Fail> {
     Ok(())
 }
 
-// tests/rejected_growth_test.py runs this once more for each allocation that can fail.
+// tests/failed_growth_test.py runs this once more for each allocation that can fail.
 #[test]
 fn a_band_under_failed_growth(rt: HostRuntime) -> Result<(), Fail> {
     match Canvas::band(rt.alloc(), 2, 3, 2, GREY) {

@@ -1,11 +1,11 @@
 //! P6 texts byte by byte, and writers that are slow or fail.
 
-use crate::comparing::same;
 use canvas::{Canvas, OutOfMemory, WriteFault};
 use mapping::Colour;
 use std::io;
 use std::io::{ErrorKind, Write};
 use std::test::Fail;
+use test_support::same;
 
 const RED: Colour = Colour { r: 255, g: 0, b: 0 };
 
@@ -242,7 +242,7 @@ fn a_large_piece_goes_out_byte_by_byte(rt: HostRuntime) -> Result<(), Fail> {
     Ok(())
 }
 
-// tests/rejected_growth_test.py runs this once more for each allocation that can fail.
+// tests/failed_growth_test.py runs this once more for each allocation that can fail.
 #[test]
 fn a_canvas_under_failed_growth(rt: HostRuntime) -> Result<(), Fail> {
     match Canvas::new(rt.alloc(), 2, 3, RED) {

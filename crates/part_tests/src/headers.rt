@@ -1,11 +1,10 @@
 //! What opening a file returns, and what it notes.
 
-use crate::comparing::same;
-use crate::dot::{DOT, changed};
 use draw_ops::{Note, NoteSet};
 use mapping::Frame;
 use meta_headers::{FileFormat, open_file};
 use std::test::Fail;
+use test_support::{DOT, changed, same};
 
 /// The smallest EMF file without a drawing: its bounds are (0, 0, -1, -1).
 pub(crate) const NIL_EMF: [u8; 108] = [
@@ -23,7 +22,7 @@ pub(crate) const NIL_EMF: [u8; 108] = [
 
 #[test]
 fn a_placeable_file_has_its_box_for_a_frame(rt: HostRuntime) -> Result<(), Fail> {
-    let opened = open_file(&DOT)?;
+    let opened = open_file(DOT)?;
     same(&rt, opened.format, FileFormat::Placeable);
     same(&rt, Some(opened.frame), Frame::new(4, 4));
     same(&rt, opened.handles, None);
@@ -43,7 +42,7 @@ fn an_emf_file_has_its_bounds_for_a_frame(rt: HostRuntime) -> Result<(), Fail> {
 
 #[test]
 fn another_checksum_is_noted(rt: HostRuntime) -> Result<(), Fail> {
-    let file = changed(rt.alloc(), 20, &[0x70])?;
+    let file = changed(rt.alloc(), DOT, 20, &[0x70])?;
     let noted = NoteSet::none().with(Note::PlaceableChecksum);
     same(&rt, open_file(file.as_slice())?.notes, noted);
     Ok(())
@@ -52,7 +51,7 @@ fn another_checksum_is_noted(rt: HostRuntime) -> Result<(), Fail> {
 #[test]
 fn a_reserved_field_is_noted(rt: HostRuntime) -> Result<(), Fail> {
     // Both words are 1, so the checksum is unchanged.
-    let file = changed(rt.alloc(), 16, &[1, 0, 1, 0])?;
+    let file = changed(rt.alloc(), DOT, 16, &[1, 0, 1, 0])?;
     let noted = NoteSet::none().with(Note::PlaceableFields);
     same(&rt, open_file(file.as_slice())?.notes, noted);
     Ok(())
@@ -60,7 +59,7 @@ fn a_reserved_field_is_noted(rt: HostRuntime) -> Result<(), Fail> {
 
 #[test]
 fn another_size_is_noted(rt: HostRuntime) -> Result<(), Fail> {
-    let file = changed(rt.alloc(), 28, &[0x14])?;
+    let file = changed(rt.alloc(), DOT, 28, &[0x14])?;
     let noted = NoteSet::none().with(Note::SizeField);
     same(&rt, open_file(file.as_slice())?.notes, noted);
     Ok(())

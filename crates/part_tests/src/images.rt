@@ -1,10 +1,10 @@
 //! Reading P6 texts: gaps, comments, numbers, sizes and rasters.
 
-use crate::comparing::same;
 use canvas::{Canvas, ImageError};
 use mapping::Colour;
 use std::alloc::Global;
 use std::test::Fail;
+use test_support::same;
 
 /// The width and height that a text is read with, or the error.
 fn dimensions(alloc: Global, text: &[u8]) -> Result<(u32, u32), ImageError> {
@@ -229,7 +229,7 @@ fn errors_display_their_names(rt: HostRuntime) -> Result<(), Fail> {
     Ok(())
 }
 
-// tests/rejected_growth_test.py runs this once more for each allocation that can fail.
+// tests/failed_growth_test.py runs this once more for each allocation that can fail.
 #[test]
 fn an_image_under_failed_growth(rt: HostRuntime) -> Result<(), Fail> {
     match Canvas::from_ppm(rt.alloc(), b"P6 1 2 255 abcdef".as_slice()) {

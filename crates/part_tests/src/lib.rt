@@ -11,10 +11,7 @@ mod canvases;
 #[cfg(test)]
 mod codes;
 #[cfg(test)]
-mod comparing;
-#[cfg(test)]
 mod counted_writers;
-mod dot;
 #[cfg(test)]
 mod empty_lists;
 #[cfg(test)]
@@ -55,5 +52,3 @@ mod table_indexes;
 mod tables;
 #[cfg(test)]
 mod texts;
-
-pub use dot::{DOT, RED, changed};

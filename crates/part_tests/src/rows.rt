@@ -1,10 +1,10 @@
 //! Rows of spans: their capacity for lines, and failed allocations.
 
-use crate::comparing::same;
 use span_fill::{OutOfMemory, RowBuf};
 use std::test::Fail;
+use test_support::same;
 
-// tests/rejected_growth_test.py runs this once more for each allocation that can fail. After a failure the buffer is
+// tests/failed_growth_test.py runs this once more for each allocation that can fail. After a failure the buffer is
 // unchanged, and a second call allocates the memory.
 #[test]
 fn capacity_is_reserved_under_failed_growth(rt: HostRuntime) -> Result<(), Fail> {

@@ -1,9 +1,9 @@
 //! Tables of objects: indexes, and failed allocations.
 
-use crate::comparing::same;
 use draw_ops::{Brush, Fault, Handle, Object, Pen, RecordFault};
 use object_tables::{Given, LowestFree, Table};
 use std::test::Fail;
+use test_support::same;
 
 const FONT: Object<'static> = Object::Font;
 
@@ -69,7 +69,7 @@ fn an_index_is_given_once(rt: HostRuntime) -> Result<(), Fail> {
     Ok(())
 }
 
-// tests/rejected_growth_test.py runs this once more for each allocation that can fail.
+// tests/failed_growth_test.py runs this once more for each allocation that can fail.
 #[test]
 fn a_create_under_failed_growth(rt: HostRuntime) -> Result<(), Fail> {
     let mut table = LowestFree::new(rt.alloc());
@@ -91,7 +91,7 @@ fn a_create_under_failed_growth(rt: HostRuntime) -> Result<(), Fail> {
     Ok(())
 }
 
-// tests/rejected_growth_test.py runs this once more for each allocation that can fail.
+// tests/failed_growth_test.py runs this once more for each allocation that can fail.
 #[test]
 fn a_given_index_under_failed_growth(rt: HostRuntime) -> Result<(), Fail> {
     let mut table = Given::new(rt.alloc(), 1000);
@@ -108,7 +108,7 @@ fn a_given_index_under_failed_growth(rt: HostRuntime) -> Result<(), Fail> {
     Ok(())
 }
 
-// tests/rejected_growth_test.py runs this once more for each allocation that can fail.
+// tests/failed_growth_test.py runs this once more for each allocation that can fail.
 #[test]
 fn a_reserve_under_failed_growth(rt: HostRuntime) -> Result<(), Fail> {
     let mut table = Given::new(rt.alloc(), 500);

@@ -1,7 +1,6 @@
 //! Playing files by certificate in bands, with the texts worked by hand.
 
 use crate::certificates::{CERTIFICATE, POLYGON};
-use crate::comparing::same;
 use crate::files::placeable;
 use crate::worked_files::BLUE;
 use canvas::{Counting, FaultCount};
@@ -14,6 +13,7 @@ use std::io;
 use std::io::Write;
 use std::process::Abort;
 use std::test::Fail;
+use test_support::same;
 
 /// The polygon over blue at 4 by 4: black, but (1,1) white, and (2,1), (1,2), (3,2), (2,3) and (3,3) blue.
 const TEXT: &[u8; 59] = b"P6\n4 4\n255\n\
@@ -266,7 +266,7 @@ fn a_writer_that_counts_has_one_fault_where_it_is_full(rt: HostRuntime) -> Resul
     Ok(())
 }
 
-// tests/rejected_growth_test.py runs this once more for each allocation that can fail.
+// tests/failed_growth_test.py runs this once more for each allocation that can fail.
 #[test]
 fn bands_under_failed_growth(rt: HostRuntime) -> Result<(), Fail> {
     let Ok(cleared) = check(rt.alloc(), &POLYGON, &CERTIFICATE) else {

@@ -5,8 +5,8 @@ use crate::bitmap_files::{Bitmap, DEPTHS, blit, tiles};
 use crate::runs::{Shape, run};
 use crate::worked_files::{BLUE, colour};
 use mapping::Colour;
-use part_tests::RED;
 use std::alloc::{AllocError, Global};
+use test_support::RED;
 
 /// Sides beside powers of two, up to the largest of a surface.
 const GREAT_DIMENSIONS: [u16; 14] = [

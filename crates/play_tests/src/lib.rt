@@ -14,8 +14,6 @@ mod certificates;
 #[cfg(test)]
 mod cleared;
 #[cfg(test)]
-mod comparing;
-#[cfg(test)]
 mod files;
 #[cfg(test)]
 mod machine_sizes;

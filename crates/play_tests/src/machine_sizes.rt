@@ -4,12 +4,12 @@ use dc_stack::{MAX_PIECES, Machine};
 use mapping::Place;
 use meta_headers::open_file;
 use object_tables::LowestFree;
-use part_tests::DOT;
 use std::alloc::Global;
+use test_support::DOT;
 
 /// Whether a machine can allocate memory for this many saved states, objects and pieces.
 fn has_machine(alloc: Global, depth: usize, slots: usize, pieces: usize) -> bool {
-    let Ok(opened) = open_file(&DOT) else {
+    let Ok(opened) = open_file(DOT) else {
         return false;
     };
     let place = Place::new(&opened.frame, 2, 2);

@@ -1,13 +1,12 @@
 //! Machines: what a step draws and needs, a restart, and failed allocations.
 
-use crate::comparing::same;
 use crate::stepping::{machine, step};
 use dc_stack::{Draw, Mark, Needs};
 use draw_ops::{Fault, FillMode, Handle, Object, Op, RecordFault, SavedState};
 use mapping::{Nib, Point, Rect};
 use meta_headers::open_file;
-use part_tests::{DOT, RED};
 use std::test::Fail;
+use test_support::{DOT, RED, same};
 
 const PIXEL: Op<'static> = Op::Pixel {
     point: Point { x: 3, y: -1 },
@@ -21,7 +20,7 @@ const FONT: Op<'static> = Op::Create {
 
 #[test]
 fn a_pixel_is_drawn_where_it_lands(rt: HostRuntime) -> Result<(), Fail> {
-    let opened = open_file(&DOT)?;
+    let opened = open_file(DOT)?;
     let mut machine = machine(rt.alloc(), &opened);
     let at = Point { x: 3, y: -1 };
     let drawn = Draw {
@@ -50,7 +49,7 @@ fn a_pixel_is_drawn_where_it_lands(rt: HostRuntime) -> Result<(), Fail> {
 
 #[test]
 fn needs_are_the_greatest_since_the_start(rt: HostRuntime) -> Result<(), Fail> {
-    let opened = open_file(&DOT)?;
+    let opened = open_file(DOT)?;
     let mut machine = machine(rt.alloc(), &opened);
     let none = machine.needs();
     for op in [
@@ -91,11 +90,11 @@ fn needs_are_the_greatest_since_the_start(rt: HostRuntime) -> Result<(), Fail> {
     Ok(())
 }
 
-// tests/rejected_growth_test.py runs this once more for each allocation that can fail. After a failure, the machine is
+// tests/failed_growth_test.py runs this once more for each allocation that can fail. After a failure, the machine is
 // as it was before the step.
 #[test]
 fn steps_under_failed_growth(rt: HostRuntime) -> Result<(), Fail> {
-    let opened = open_file(&DOT)?;
+    let opened = open_file(DOT)?;
     let mut machine = machine(rt.alloc(), &opened);
     for count in 1..100 {
         for op in [FONT, Op::Save] {
@@ -112,10 +111,10 @@ fn steps_under_failed_growth(rt: HostRuntime) -> Result<(), Fail> {
     Ok(())
 }
 
-// tests/rejected_growth_test.py runs this once more for each allocation that can fail.
+// tests/failed_growth_test.py runs this once more for each allocation that can fail.
 #[test]
 fn reserved_steps_under_failed_growth(rt: HostRuntime) -> Result<(), Fail> {
-    let opened = open_file(&DOT)?;
+    let opened = open_file(DOT)?;
     let mut machine = machine(rt.alloc(), &opened);
     if let Err(fault) = machine.reserve(100, 100, 0) {
         same(&rt, fault, Fault::OutOfMemory);

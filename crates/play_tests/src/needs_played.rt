@@ -3,8 +3,8 @@
 use crate::files::{bounded, framed, placeable};
 use crate::runs::{BLACK, Shape, has_certificate, run};
 use crate::worked_files::colour;
-use part_tests::RED;
 use std::alloc::{AllocError, Global};
+use test_support::RED;
 
 /// Counts beside powers of two, above those that are tried one by one.
 const GREAT_COUNTS: [u32; 15] = [

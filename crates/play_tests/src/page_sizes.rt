@@ -5,8 +5,8 @@ use crate::files::framed;
 use crate::runs::{BLACK, Shape, has_certificate, run};
 use crate::worked_files::{BLUE, colour};
 use mapping::Colour;
-use part_tests::RED;
 use std::alloc::{AllocError, Global};
+use test_support::RED;
 
 const GREEN: Colour = Colour { r: 0, g: 255, b: 0 };
 

@@ -1,13 +1,12 @@
 //! Paths of a machine: the pieces that it lets others borrow, its state after a failed step, and failed allocations.
 
-use crate::comparing::same;
 use crate::stepping::{machine, step};
 use dc_stack::MAX_PIECES;
 use draw_ops::{Fault, Op, RecordFault};
 use mapping::Point;
 use meta_headers::open_file;
-use part_tests::DOT;
 use std::test::Fail;
+use test_support::{DOT, same};
 
 const LINE: Op<'static> = Op::LineTo(Point { x: 1, y: 2 });
 
@@ -19,7 +18,7 @@ const FAR: Point = Point {
 
 #[test]
 fn pieces_are_borrowed_until_the_next_accepted_step(rt: HostRuntime) -> Result<(), Fail> {
-    let opened = open_file(&DOT)?;
+    let opened = open_file(DOT)?;
     let mut machine = machine(rt.alloc(), &opened);
     for (op, answer, borrowed) in [
         (Op::BeginPath, Ok(false), 0),
@@ -37,7 +36,7 @@ fn pieces_are_borrowed_until_the_next_accepted_step(rt: HostRuntime) -> Result<(
 
 #[test]
 fn a_new_start_has_no_path(rt: HostRuntime) -> Result<(), Fail> {
-    let opened = open_file(&DOT)?;
+    let opened = open_file(DOT)?;
     let mut machine = machine(rt.alloc(), &opened);
     same(&rt, step(&mut machine, Op::BeginPath), Ok(false));
     machine.restart(&opened);
@@ -52,7 +51,7 @@ fn a_new_start_has_no_path(rt: HostRuntime) -> Result<(), Fail> {
 
 #[test]
 fn a_rejected_line_begins_no_figure(rt: HostRuntime) -> Result<(), Fail> {
-    let opened = open_file(&DOT)?;
+    let opened = open_file(DOT)?;
     let mut machine = machine(rt.alloc(), &opened);
     for (op, answer, pieces) in [
         (Op::BeginPath, Ok(false), 0),
@@ -75,10 +74,10 @@ fn a_rejected_line_begins_no_figure(rt: HostRuntime) -> Result<(), Fail> {
     Ok(())
 }
 
-// tests/rejected_growth_test.py runs this once more for each allocation that can fail.
+// tests/failed_growth_test.py runs this once more for each allocation that can fail.
 #[test]
 fn path_steps_under_failed_growth(rt: HostRuntime) -> Result<(), Fail> {
-    let opened = open_file(&DOT)?;
+    let opened = open_file(DOT)?;
     let mut machine = machine(rt.alloc(), &opened);
     same(&rt, step(&mut machine, Op::BeginPath), Ok(false));
     for count in 1..100 {
@@ -93,10 +92,10 @@ fn path_steps_under_failed_growth(rt: HostRuntime) -> Result<(), Fail> {
     Ok(())
 }
 
-// tests/rejected_growth_test.py runs this once more for each allocation that can fail.
+// tests/failed_growth_test.py runs this once more for each allocation that can fail.
 #[test]
 fn reserved_path_steps_under_failed_growth(rt: HostRuntime) -> Result<(), Fail> {
-    let opened = open_file(&DOT)?;
+    let opened = open_file(DOT)?;
     let mut machine = machine(rt.alloc(), &opened);
     if let Err(fault) = machine.reserve(0, 0, MAX_PIECES) {
         same(&rt, fault, Fault::OutOfMemory);

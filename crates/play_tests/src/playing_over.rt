@@ -1,14 +1,13 @@
 //! Playing files over an image on a canvas.
 
-use crate::comparing::same;
 use crate::worked_files::{BLUE, colour};
 use canvas::Canvas;
 use draw_ops::{Fault, RecordFault};
-use part_tests::{DOT, RED, changed};
 use player::play;
 use preflight_cert::{Refusal, check, prepare};
 use std::alloc::Global;
 use std::test::Fail;
+use test_support::{DOT, RED, changed, same};
 
 /// Prepares a file at the size of a canvas, checks its certificate, and plays it over the image on the canvas. The
 /// canvas has a whole surface and has counted few writes so far.
@@ -32,7 +31,7 @@ fn play_over(
 fn a_dot_leaves_the_rest_and_counts_on(rt: HostRuntime) -> Result<(), Fail> {
     let mut canvas = Canvas::new(rt.alloc(), 4, 4, BLUE)?;
     for played in 1..4 {
-        same(&rt, play_over(rt.alloc(), &DOT, &mut canvas)?, Ok(1));
+        same(&rt, play_over(rt.alloc(), DOT, &mut canvas)?, Ok(1));
         same(&rt, canvas.writes(), played);
         for y in 0..4 {
             for x in 0..4 {
@@ -47,7 +46,7 @@ fn a_dot_leaves_the_rest_and_counts_on(rt: HostRuntime) -> Result<(), Fail> {
 #[test]
 fn a_broken_file_has_its_fault(rt: HostRuntime) -> Result<(), Fail> {
     let mut canvas = Canvas::new(rt.alloc(), 4, 4, BLUE)?;
-    let broken = changed(rt.alloc(), 54, b"\x02")?;
+    let broken = changed(rt.alloc(), DOT, 54, b"\x02")?;
     let short = Refusal {
         number: Some(1),
         fault: Fault::Record(RecordFault::ShortRecord),

@@ -3,8 +3,8 @@
 use crate::files::{bounded, enhanced};
 use crate::runs::{Shape, run};
 use crate::worked_files::colour;
-use part_tests::{DOT, RED};
 use std::alloc::{AllocError, Global};
+use test_support::{DOT, RED};
 
 /// Lengths beside powers of two, above those that are tried one by one.
 const GREAT_LENGTHS: [u32; 21] = [
@@ -72,7 +72,7 @@ fn a_comment_has_each_length(rt: HostRuntime) -> Result<(), AllocError> {
 
 #[test]
 fn each_count_of_bytes_may_follow_the_end(rt: HostRuntime) -> Result<(), AllocError> {
-    let mut small = Vec::from_slice(rt.alloc(), &DOT)?;
+    let mut small = Vec::from_slice(rt.alloc(), DOT)?;
     let mut large = bounded(rt.alloc(), 3, 3, &[15, 20, 2, 1, 255])?;
     for count in 0..8200 {
         assert!(rt; has_dot(rt.alloc(), small.as_slice()), "{count} bytes");

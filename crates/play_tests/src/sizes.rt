@@ -3,10 +3,10 @@
 
 use crate::worked_files::{colour, play_white};
 use draw_ops::{Fault, RecordFault};
-use part_tests::{DOT, RED};
 use preflight_cert::Refusal;
 use std::alloc::{AllocError, Global};
 use std::test::Fail;
+use test_support::{DOT, RED};
 
 /// META_SETPIXEL of red at (2, 1): size in words, function, colour, y, x.
 const PIXEL: [u8; 14] = [7, 0, 0, 0, 0x1f, 4, 255, 0, 0, 0, 1, 0, 2, 0];
@@ -37,7 +37,7 @@ fn has_dot(alloc: Global, width: u32, height: u32, x: u32, y: u32) -> bool {
     if width == 0 || 8192 < width || height == 0 || 8192 < height {
         return false;
     }
-    match play_white(alloc, &DOT, width, height) {
+    match play_white(alloc, DOT, width, height) {
         Ok(canvas) => canvas.writes() == 1 && colour(&canvas, x, y) == Some(RED),
         Err(_) => false,
     }

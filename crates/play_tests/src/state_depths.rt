@@ -7,9 +7,9 @@ use draw_ops::{Fault, Handle, Object, Op, RecordFault, SavedState};
 use mapping::{Place, Point, Rect};
 use meta_headers::{Opened, open_file};
 use object_tables::{Given, LowestFree};
-use part_tests::DOT;
 use std::alloc::Global;
 use std::test::Fail;
+use test_support::DOT;
 
 const FONT: Op<'static> = Op::Create {
     at: None,
@@ -60,7 +60,7 @@ fn leaves<'a>(machine: &mut Machine<'a, LowestFree<'a>>, place: i32, left: usize
 
 #[test]
 fn states_are_saved_and_restored_to_each_depth(rt: HostRuntime) -> Result<(), Fail> {
-    let opened = open_file(&DOT)?;
+    let opened = open_file(DOT)?;
     let mut machine = machine(rt.alloc(), &opened);
     for place in [0, 1, -1, 2, -2, 256, -256, i32::MAX, i32::MIN] {
         assert!(rt;
@@ -108,7 +108,7 @@ fn goes_down(alloc: Global, opened: &Opened<'_>, depth: u32) -> bool {
 
 #[test]
 fn a_machine_goes_down_from_each_depth(rt: HostRuntime) -> Result<(), Fail> {
-    let opened = open_file(&DOT)?;
+    let opened = open_file(DOT)?;
     for depth in 0..257 {
         assert!(rt; goes_down(rt.alloc(), &opened, depth), "{depth}");
     }
@@ -131,7 +131,7 @@ fn is_selected<'a>(machine: &mut Machine<'a, LowestFree<'a>>, index: u32) -> boo
 
 #[test]
 fn objects_are_made_selected_and_deleted_at_each_index(rt: HostRuntime) -> Result<(), Fail> {
-    let opened = open_file(&DOT)?;
+    let opened = open_file(DOT)?;
     let mut machine = machine(rt.alloc(), &opened);
     for index in 0..1024 {
         assert!(rt; is_selected(&mut machine, index), "{index}");
@@ -174,7 +174,7 @@ fn given_step<'a>(machine: &mut Machine<'a, Given<'a>>, op: Op<'a>) -> Result<bo
 
 #[test]
 fn a_file_names_each_index(rt: HostRuntime) -> Result<(), Fail> {
-    let opened = open_file(&DOT)?;
+    let opened = open_file(DOT)?;
     let place = Place::new(&opened.frame, 2, 2);
     let table = Given::new(rt.alloc(), 65535);
     let mut machine = Machine::new(rt.alloc(), &opened, place, table);
@@ -186,7 +186,7 @@ fn a_file_names_each_index(rt: HostRuntime) -> Result<(), Fail> {
 
 #[test]
 fn a_path_has_each_count_of_pieces(rt: HostRuntime) -> Result<(), Fail> {
-    let opened = open_file(&DOT)?;
+    let opened = open_file(DOT)?;
     let mut machine = machine(rt.alloc(), &opened);
     assert!(rt; step(&mut machine, Op::BeginPath) == Ok(false));
     // The first line begins a figure, which is a piece of its own.
@@ -228,7 +228,7 @@ fn has_cuts(alloc: Global, opened: &Opened<'_>, count: u32) -> bool {
 
 #[test]
 fn a_clip_has_each_count_of_cuts(rt: HostRuntime) -> Result<(), Fail> {
-    let opened = open_file(&DOT)?;
+    let opened = open_file(DOT)?;
     for count in 0..17 {
         assert!(rt; has_cuts(rt.alloc(), &opened, count), "{count}");
     }

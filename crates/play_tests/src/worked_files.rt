@@ -2,15 +2,14 @@
 
 ghost use Rattle.mapping.specs.Limits.{IsSurfaceSide};
 
-use crate::comparing::same;
 use canvas::Canvas;
 use draw_ops::{Fault, RecordFault};
 use mapping::Colour;
-use part_tests::{DOT, RED, changed};
 use player::play;
 use preflight_cert::{Refusal, check, prepare};
 use std::alloc::{AllocError, Global};
 use std::test::Fail;
+use test_support::{DOT, RED, changed, same};
 
 pub(crate) const BLUE: Colour = Colour { r: 0, g: 0, b: 255 };
 
@@ -48,7 +47,7 @@ pub(crate) fn play_white(
 
 #[test]
 fn a_dot_is_one_red_pixel(rt: HostRuntime) -> Result<(), Fail> {
-    let canvas = play_white(rt.alloc(), &DOT, 4, 4)?;
+    let canvas = play_white(rt.alloc(), DOT, 4, 4)?;
     same(&rt, canvas.writes(), 1);
     let mut text = Vec::new(rt.alloc());
     canvas.write_ppm(&mut text)?;
@@ -67,7 +66,7 @@ fn a_dot_is_one_red_pixel(rt: HostRuntime) -> Result<(), Fail> {
 
 #[test]
 fn a_dot_moves_with_the_surface(rt: HostRuntime) -> Result<(), Fail> {
-    let canvas = play_white(rt.alloc(), &DOT, 2, 2)?;
+    let canvas = play_white(rt.alloc(), DOT, 2, 2)?;
     same(&rt, canvas.writes(), 1);
     for (x, y, want) in [
         (0, 0, Colour::WHITE),
@@ -154,7 +153,7 @@ fn each_change_of_a_file_has_its_fault(rt: HostRuntime) -> Result<(), Fail> {
         ),
     ];
     for (place, bytes, number, fault) in changes {
-        let file = changed(rt.alloc(), place, bytes)?;
+        let file = changed(rt.alloc(), DOT, place, bytes)?;
         let refusal = play_white(rt.alloc(), file.as_slice(), 4, 4).err();
         same(
             &rt,
@@ -176,7 +175,7 @@ fn what_the_standard_allows_is_played(rt: HostRuntime) -> Result<(), Fail> {
         (32, b"\xff\xff\xff\xff"),
     ];
     for (place, bytes) in changes {
-        let file = changed(rt.alloc(), place, bytes)?;
+        let file = changed(rt.alloc(), DOT, place, bytes)?;
         let canvas = play_white(rt.alloc(), file.as_slice(), 4, 4)?;
         same(&rt, (place, colour(&canvas, 2, 1)), (place, Some(RED)));
     }
@@ -193,7 +192,7 @@ fn a_pixel_off_the_surface_is_not_written(rt: HostRuntime) -> Result<(), Fail> {
         b"\xff\xff\x02\x00",
     ];
     for place in places {
-        let file = changed(rt.alloc(), 50, place)?;
+        let file = changed(rt.alloc(), DOT, 50, place)?;
         let canvas = play_white(rt.alloc(), file.as_slice(), 4, 4)?;
         same(&rt, canvas.writes(), 0);
         for y in 0..4 {
@@ -234,7 +233,7 @@ fn bytes_after_the_end_are_not_read(rt: HostRuntime) -> Result<(), Fail> {
 #[test]
 fn a_box_with_flipped_dimensions_mirrors(rt: HostRuntime) -> Result<(), Fail> {
     // Left 4, top 4, right 0, bottom 0: x = 2 lands in column 2, and y = 1 in row 3.
-    let file = changed(rt.alloc(), 6, b"\x04\x00\x04\x00\x00\x00\x00\x00")?;
+    let file = changed(rt.alloc(), DOT, 6, b"\x04\x00\x04\x00\x00\x00\x00\x00")?;
     let canvas = play_white(rt.alloc(), file.as_slice(), 4, 4)?;
     same(&rt, canvas.writes(), 1);
     same(&rt, colour(&canvas, 2, 3), Some(RED));
@@ -245,7 +244,7 @@ fn a_box_with_flipped_dimensions_mirrors(rt: HostRuntime) -> Result<(), Fail> {
 fn a_point_far_outside_is_off_the_plane(rt: HostRuntime) -> Result<(), Fail> {
     // The box (-32768, 0, -32767, 1) is one unit wide; x = 32767 is 65,535 units from its left, and
     // 65,535 times 8,192 is above 2^28. On a surface of 4,096 it fits.
-    let mut file = changed(rt.alloc(), 6, b"\x00\x80\x00\x00\x01\x80\x01\x00")?;
+    let mut file = changed(rt.alloc(), DOT, 6, b"\x00\x80\x00\x00\x01\x80\x01\x00")?;
     file.truncate(40);
     file.extend_from_slice(
         b"\x07\x00\x00\x00\x1f\x04\xff\x00\x00\x00\x00\x00\xff\x7f\x03\x00\x00\x00\x00\x00",
@@ -287,7 +286,7 @@ fn a_file_has_at_most_1048576_records(rt: HostRuntime) -> Result<(), Fail> {
 
 #[test]
 fn a_file_has_at_most_67108864_bytes(rt: HostRuntime) -> Result<(), Fail> {
-    let mut file = Vec::from_slice(rt.alloc(), &DOT)?;
+    let mut file = Vec::from_slice(rt.alloc(), DOT)?;
     file.resize(67108864, 0)?;
     let canvas = play_white(rt.alloc(), file.as_slice(), 4, 4)?;
     same(&rt, canvas.writes(), 1);
@@ -323,10 +322,10 @@ fn a_refusal_shows_its_record(rt: HostRuntime) -> Result<(), Fail> {
     Ok(())
 }
 
-// tests/rejected_growth_test.py runs this once more for each allocation that can fail.
+// tests/failed_growth_test.py runs this once more for each allocation that can fail.
 #[test]
 fn a_dot_under_failed_growth(rt: HostRuntime) -> Result<(), Fail> {
-    match play_white(rt.alloc(), &DOT, 4, 4) {
+    match play_white(rt.alloc(), DOT, 4, 4) {
         Ok(canvas) => {
             same(&rt, canvas.writes(), 1);
             same(&rt, colour(&canvas, 2, 1), Some(RED));

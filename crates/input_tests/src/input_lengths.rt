@@ -1,7 +1,6 @@
 //! Inputs of each length beside the pieces that are read, and readers that give each number of bytes at once.
 
 use crate::command_lines::words;
-use crate::files::DOT;
 use crate::output_pieces::IMAGE;
 use canvas::Counting;
 use commands::{read_input, run_words};
@@ -9,6 +8,7 @@ use std::alloc::{AllocError, Global};
 use std::io;
 use std::io::Read;
 use std::rt::Files;
+use test_support::DOT;
 
 /// A reader that gives at most so many bytes a call.
 #[derive(Drop)]

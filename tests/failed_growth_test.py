@@ -125,9 +125,9 @@ class RefusedGrowth(unittest.TestCase):
     def setUpClass(cls):
         room = tempfile.TemporaryDirectory()
         cls.addClassCleanup(room.cleanup)
-        cls.library = f"{room.name}/refuse_growth.so"
+        cls.library = f"{room.name}/fail_growth.so"
         cls.mark = pathlib.Path(f"{room.name}/refused")
-        source = pathlib.Path(__file__).with_name("refuse_growth.c")
+        source = pathlib.Path(__file__).with_name("fail_growth.c")
         build = ["cc", "-O2", "-Wall", "-Wextra", "-Werror", "-shared", "-fPIC"]
         subprocess.run([*build, "-o", cls.library, source, "-ldl"], check=True)
 
@@ -246,7 +246,7 @@ class RefusedGrowth(unittest.TestCase):
         tried = []
         for program in sorted(CRATES.glob("*/out/*_tests")):
             listed = answer(program, ["--list"]).out.decode()
-            for name in re.findall(r"(\S*_under_refused_growth): test", listed):
+            for name in re.findall(r"(\S*_under_failed_growth): test", listed):
                 tried.append(name)
                 answers = list(self.under_refusals(program, [name]))
                 self.assertTrue(answers, f"{name} takes no memory")

@@ -1,6 +1,5 @@
 //! Writers that take each number of bytes at once.
 
-use crate::files::{DOT, DOT_CERT, TRI, TRI_CERT};
 use canvas::Counting;
 use commands::{
     Completion, check_command, list_command, play_command, prepare_command, show_command,
@@ -8,6 +7,7 @@ use commands::{
 use std::alloc::Global;
 use std::io;
 use std::io::Write;
+use test_support::{DOT, DOT_CERT, TRI, TRI_CERT};
 
 /// A writer that takes at most so many bytes a call.
 #[derive(Drop)]

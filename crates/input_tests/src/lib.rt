@@ -1,0 +1,18 @@
+//! Command lines, inputs and outputs that work, and each kind that doesn't.
+//!
+//! tests/failed_growth_test.py runs the tests named `.._under_failed_growth` once more for each allocation that can
+//! fail.
+#![tactic(auto)]
+
+#[cfg(test)]
+mod command_lines;
+#[cfg(test)]
+mod input_lengths;
+#[cfg(test)]
+mod inputs;
+#[cfg(test)]
+mod output_pieces;
+#[cfg(test)]
+mod reports;
+#[cfg(test)]
+mod writers;
