@@ -1,12 +1,13 @@
 //! Checking certificates, and the reports.
 
 use crate::command_results::same_want_of_memory;
+use crate::comparing::same;
 use canvas::Counting;
 use commands::check_command;
 use std::alloc::Global;
 use std::process::Abort;
 use std::test::Fail;
-use test_support::{DOT, NIL, NIL_CERT, NOTED, NOTED_CERT, TRI, TRI_CERT, changed, limited, same};
+use test_support::{DOT, NIL, NIL_CERT, NOTED, NOTED_CERT, TRI, TRI_CERT, changed, limited};
 
 /// Ends the test unless checking a certificate ends with this status and report.
 fn reports(

@@ -1,7 +1,7 @@
 //! What standard error holds after a failed allocation.
 
+use crate::comparing::same;
 use std::process::Abort;
-use test_support::same;
 
 /// Compares standard error with the line that reports a failed allocation, byte by byte.
 pub(crate) fn same_want_of_memory(rt: &impl Abort, err: &[u8; 64]) {

@@ -11,6 +11,8 @@ mod command_results;
 #[cfg(test)]
 mod command_sizes;
 #[cfg(test)]
+mod comparing;
+#[cfg(test)]
 mod listings;
 #[cfg(test)]
 mod over_images;

@@ -1,12 +1,13 @@
 //! Listings, and the reports when they can't be written.
 
 use crate::command_results::same_want_of_memory;
+use crate::comparing::same;
 use canvas::Counting;
 use commands::list_command;
 use std::alloc::Global;
 use std::process::Abort;
 use std::test::Fail;
-use test_support::{DOT, FAR, NIL, limited, same};
+use test_support::{DOT, FAR, NIL, limited};
 
 /// The listing of `DOT`.
 const DOT_LINES: &str = "0\t40\t14\t0x041f\tMETA_SETPIXEL\tplayed\tpixel 2,1 #ff0000\n\

@@ -1,10 +1,11 @@
 //! Playing files over images by their certificates.
 
 use crate::command_results::same_want_of_memory;
+use crate::comparing::same;
 use canvas::Counting;
 use commands::over_command;
 use std::test::Fail;
-use test_support::{DOT, DOT_CERT, NIL, NIL_CERT, TRI, TRI_CERT, changed, limited, same};
+use test_support::{DOT, DOT_CERT, NIL, NIL_CERT, TRI, TRI_CERT, changed, limited};
 
 /// An image of 4 by 4 pixels, with a comment in its header and a word after its raster.
 const PAGE: &[u8] = b"P6 # page\n4 4\t255\nabcdefghijklmnopqrstuvwxyzABCDEFGHIJKLMNOPQRSTUVmore";

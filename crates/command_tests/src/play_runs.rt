@@ -1,11 +1,12 @@
 //! Playing files by their certificates.
 
 use crate::command_results::same_want_of_memory;
+use crate::comparing::same;
 use canvas::Counting;
 use commands::play_command;
 use std::alloc::{AllocError, Global};
 use std::test::Fail;
-use test_support::{NIL, NIL_CERT, TRI, TRI_CERT, changed, limited, same};
+use test_support::{NIL, NIL_CERT, TRI, TRI_CERT, changed, limited};
 
 /// The P6 text of a header and rows of black (`#`) and white pixels.
 fn text_of(alloc: Global, header: &[u8], rows: &str) -> Result<Vec<u8>, AllocError> {

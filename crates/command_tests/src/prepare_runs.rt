@@ -1,11 +1,12 @@
 //! Preparing certificates.
 
 use crate::command_results::same_want_of_memory;
+use crate::comparing::same;
 use canvas::Counting;
 use commands::prepare_command;
 use std::alloc::Global;
 use std::test::Fail;
-use test_support::{DOT, NIL, NIL_CERT, TRI, TRI_CERT, limited, same};
+use test_support::{DOT, NIL, NIL_CERT, TRI, TRI_CERT, limited};
 
 /// The certificate of `DOT` for surfaces of at most 4 by 4: one write, in record 0, at (2,1).
 const DOT_CERT: &[u8; 60] = b"MPC1\x04\0\0\0\x04\0\0\0\x01\0\0\0\0\0\0\0\

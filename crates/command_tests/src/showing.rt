@@ -1,11 +1,12 @@
 //! Showing files, and rejected files.
 
 use crate::command_results::same_want_of_memory;
+use crate::comparing::same;
 use canvas::Counting;
 use commands::show_command;
 use std::alloc::{AllocError, Global};
 use std::test::Fail;
-use test_support::{DOT, limited, same};
+use test_support::{DOT, limited};
 
 /// An image of one row or one column: white except for one red pixel.
 #[derive(Clone, Copy)]

@@ -1,10 +1,10 @@
 //! Command lines, and the response to each wrong one.
 
+use crate::comparing::same;
 use canvas::Counting;
 use commands::{CommandLine, line, usage};
 use std::alloc::{AllocError, Global};
 use std::test::Fail;
-use test_support::same;
 
 /// The words of a command line.
 pub(crate) fn words(alloc: Global, words: &[&str]) -> Result<Vec<String>, AllocError> {

@@ -1,11 +1,11 @@
 //! Inputs that are read to their end, and inputs that can't be read.
 
+use crate::comparing::same;
 use commands::{InputFault, read_file, read_input};
 use std::alloc::{AllocError, Global};
 use std::io;
 use std::io::Read;
 use std::test::Fail;
-use test_support::same;
 
 /// A reader that returns one byte per call, and fails at one call, counted from 0.
 #[derive(Drop)]

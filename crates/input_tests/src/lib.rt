@@ -7,6 +7,8 @@
 #[cfg(test)]
 mod command_lines;
 #[cfg(test)]
+mod comparing;
+#[cfg(test)]
 mod input_lengths;
 #[cfg(test)]
 mod inputs;

@@ -1,12 +1,12 @@
 //! Lines on standard error.
 
+use crate::comparing::same;
 use canvas::{Counting, WriteFault};
 use commands::{CommandEnd, Completion, InputFault, no_input, report, report_refusal};
 use draw_ops::{Fault, RecordFault};
 use preflight_cert::Refusal;
 use std::alloc::{AllocError, Global};
 use std::test::Fail;
-use test_support::same;
 
 #[test]
 fn an_input_that_fails_is_reported_in_one_line(rt: HostRuntime) -> Result<(), Fail> {

@@ -1,13 +1,14 @@
 //! Writers that fail, accept nothing, stop short or are interrupted.
 
 use crate::command_lines::words;
+use crate::comparing::same;
 use canvas::Counting;
 use commands::{line, show_command, usage};
 use std::alloc::Global;
 use std::io;
 use std::io::Write;
 use std::test::Fail;
-use test_support::{DOT, limited, same};
+use test_support::{DOT, limited};
 
 /// The image of `DOT` at 4 by 1: the red pixel is in column 2.
 const ROW: &[u8] = b"P6\n4 1\n255\n\xff\xff\xff\xff\xff\xff\xff\x00\x00\xff\xff\xff";

@@ -1,11 +1,11 @@
 //! Bands: some rows of a surface, moved further down, and written one after another.
 
+use crate::comparing::same;
 use canvas::{Canvas, OutOfMemory, WriteFault, write_header};
 use mapping::Colour;
 use std::io;
 use std::io::Write;
 use std::test::Fail;
-use test_support::same;
 
 const RED: Colour = Colour { r: 255, g: 0, b: 0 };
 

@@ -1,11 +1,11 @@
 //! P6 texts byte by byte, and writers that are slow or fail.
 
+use crate::comparing::same;
 use canvas::{Canvas, OutOfMemory, WriteFault};
 use mapping::Colour;
 use std::io;
 use std::io::{ErrorKind, Write};
 use std::test::Fail;
-use test_support::same;
 
 const RED: Colour = Colour { r: 255, g: 0, b: 0 };
 

@@ -1,9 +1,9 @@
 //! The codes of settings, raster operations and hatches: the first, the last, and their neighbours.
 
+use crate::comparing::same;
 use draw_ops::{BackgroundMode, FillMode, Hatch, RasterOp};
 use mapping::MapMode;
 use std::test::Fail;
-use test_support::same;
 
 #[test]
 fn background_modes_are_1_and_2(rt: HostRuntime) -> Result<(), Fail> {

@@ -2,6 +2,7 @@
 
 use crate::bands::Full;
 use crate::canvases::Slow;
+use crate::comparing::same;
 use canvas::{
     Canvas, Counting, FaultCount, WriteFault, flush_sent, send_counted, send_finished,
     write_header_to,
@@ -11,7 +12,6 @@ use std::alloc::Global;
 use std::io;
 use std::io::{ErrorKind, Write};
 use std::test::Fail;
-use test_support::same;
 
 const GREY: Colour = Colour { r: 7, g: 8, b: 9 };
 

@@ -1,8 +1,8 @@
 //! Zeros among counts, and empty lists among lists, are skipped.
 
+use crate::comparing::same;
 use point_views::{Counts, Points, Polys};
 use std::test::Fail;
-use test_support::same;
 
 /// Six points of 16-bit numbers, (0, 0) to (5, 0).
 const ROW: [u8; 24] = [

@@ -1,8 +1,8 @@
 //! How faults are shown to users.
 
+use crate::comparing::same;
 use draw_ops::{Fault, RecordFault};
 use std::test::Fail;
-use test_support::same;
 
 #[test]
 fn a_fault_shows_its_name_and_the_record_that_it_speaks_of(rt: HostRuntime) -> Result<(), Fail> {

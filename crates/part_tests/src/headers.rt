@@ -1,10 +1,11 @@
 //! What opening a file returns, and what it notes.
 
+use crate::comparing::same;
 use draw_ops::{Note, NoteSet};
 use mapping::Frame;
 use meta_headers::{FileFormat, open_file};
 use std::test::Fail;
-use test_support::{DOT, changed, same};
+use test_support::{DOT, changed};
 
 /// The smallest EMF file without a drawing: its bounds are (0, 0, -1, -1).
 pub(crate) const NIL_EMF: [u8; 108] = [

@@ -1,10 +1,10 @@
 //! Reading P6 texts: gaps, comments, numbers, sizes and rasters.
 
+use crate::comparing::same;
 use canvas::{Canvas, ImageError};
 use mapping::Colour;
 use std::alloc::Global;
 use std::test::Fail;
-use test_support::same;
 
 /// The width and height that a text is read with, or the error.
 fn dimensions(alloc: Global, text: &[u8]) -> Result<(u32, u32), ImageError> {

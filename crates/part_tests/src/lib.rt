@@ -11,6 +11,8 @@ mod canvases;
 #[cfg(test)]
 mod codes;
 #[cfg(test)]
+mod comparing;
+#[cfg(test)]
 mod counted_writers;
 #[cfg(test)]
 mod empty_lists;

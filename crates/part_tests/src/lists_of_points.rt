@@ -1,9 +1,9 @@
 //! Views over small files, with every expected number worked by hand.
 
+use crate::comparing::same;
 use mapping::{Point, Rect};
 use point_views::{Counts, Points, Polys, i16_at, i32_at, u8_at, u16_at, u32_at};
 use std::test::Fail;
-use test_support::same;
 
 /// Three points of 16-bit numbers: (-1, 1), (-32768, 32767) and (300, -2).
 const SHORT: [u8; 12] = [

@@ -5,12 +5,12 @@ ghost use Rattle.std.specs.List.{All};
 ghost use Rattle.span_fill.specs.Lines.{HasNearEnds};
 ghost use Rattle.span_fill.specs.RowState.{IsFillingWork, SameWork, filling};
 
+use crate::comparing::same;
 use crate::line_list::{LineList, put_lines};
 use mapping::Point;
 use span_fill::{FillRule, Line, RowBuf, Span};
 use std::process::Abort;
 use std::test::Fail;
-use test_support::same;
 
 /// A line on the left side of a column, from row `top` to the row before `bottom`.
 fn upright(column: u8, top: u8, bottom: u8, is_down: bool) -> Line

@@ -1,8 +1,8 @@
 //! The names of notes, and their counts.
 
+use crate::comparing::same;
 use draw_ops::{Note, NoteSet, Notes};
 use std::test::Fail;
-use test_support::same;
 
 /// Every kind of note, with its name.
 const KINDS: [(Note, &str); 9] = [

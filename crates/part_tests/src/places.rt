@@ -1,8 +1,8 @@
 //! Values worked by hand, and each limit from both sides.
 
+use crate::comparing::same;
 use mapping::{Frame, MapMode, PageAxis, PageMap, Place, Point};
 use std::test::Fail;
-use test_support::same;
 
 fn axis(window_origin: i32, window_extent: i32, viewport_extent: i32) -> Option<PageAxis> {
     if window_extent == 0 {

@@ -1,9 +1,9 @@
 //! The steps of WMF records, with their numbers and notes.
 
+use crate::comparing::same;
 use draw_ops::{Note, NoteSet, Object, Op, OpSource, Pen, RecordFault, Step};
 use mapping::{Colour, MapMode, Point};
 use std::test::Fail;
-use test_support::same;
 use wmf_records::WmfOps;
 
 /// META_SETPIXEL of red at (2, 1), and META_EOF.

@@ -5,12 +5,12 @@ ghost use Rattle.std.specs.List.{All};
 ghost use Rattle.span_fill.specs.Lines.{HasNearEnds, IsNearPoint};
 ghost use Rattle.span_fill.specs.RowState.{IsFillingWork, SameWork};
 
+use crate::comparing::same;
 use crate::line_list::{LineList, put_lines};
 use mapping::Point;
 use span_fill::{Crossing, FillRule, Line, RowBuf, Span};
 use std::process::Abort;
 use std::test::Fail;
-use test_support::same;
 
 /// What a row has: the points where lines cross it, and its spans.
 #[derive(Clone, Copy)]

@@ -1,8 +1,8 @@
 //! Rows of spans: their capacity for lines, and failed allocations.
 
+use crate::comparing::same;
 use span_fill::{OutOfMemory, RowBuf};
 use std::test::Fail;
-use test_support::same;
 
 // tests/failed_growth_test.py runs this once more for each allocation that can fail. After a failure the buffer is
 // unchanged, and a second call allocates the memory.

@@ -1,10 +1,10 @@
 //! What a source of listed steps returns, and how many steps it has.
 
+use crate::comparing::same;
 use draw_ops::{Listed, Note, NoteSet, Op, OpSource, RecordFault, Step, count_steps};
 use mapping::Point;
 use point_views::{Points, Polys};
 use std::test::Fail;
-use test_support::same;
 
 /// META_SAVEDC, 0x001e.
 fn save() -> Step<'static> {

@@ -1,9 +1,9 @@
 //! Tables of objects: indexes, and failed allocations.
 
+use crate::comparing::same;
 use draw_ops::{Brush, Fault, Handle, Object, Pen, RecordFault};
 use object_tables::{Given, LowestFree, Table};
 use std::test::Fail;
-use test_support::same;
 
 const FONT: Object<'static> = Object::Font;
 

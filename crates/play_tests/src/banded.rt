@@ -1,6 +1,7 @@
 //! Playing files by certificate in bands, with the texts worked by hand.
 
 use crate::certificates::{CERTIFICATE, POLYGON};
+use crate::comparing::same;
 use crate::files::placeable;
 use crate::worked_files::BLUE;
 use canvas::{Counting, FaultCount};
@@ -13,7 +14,6 @@ use std::io;
 use std::io::Write;
 use std::process::Abort;
 use std::test::Fail;
-use test_support::same;
 
 /// The polygon over blue at 4 by 4: black, but (1,1) white, and (2,1), (1,2), (3,2), (2,3) and (3,3) blue.
 const TEXT: &[u8; 59] = b"P6\n4 4\n255\n\

@@ -1,12 +1,13 @@
 //! Certificates of small files, worked by hand: what is prepared, what is accepted, and every reason for a rejection.
 
+use crate::comparing::same;
 use crate::files::{certificate, enhanced, placeable};
 use draw_ops::{Fault, RecordFault};
 use preflight_cert::{Refusal, check, prepare};
 use std::alloc::{AllocError, Global};
 use std::process::Abort;
 use std::test::Fail;
-use test_support::{DOT, same};
+use test_support::DOT;
 
 /// A placeable file with the box (0, 0)-(4, 4) and a polygon (0, 0), (4, 0), (0, 4).
 #[rattlefmt::skip]

@@ -1,6 +1,7 @@
 //! Playing files by certificate on surfaces within the bound and on one that exceeds it.
 
 use crate::certificates::{CERTIFICATE, POLYGON};
+use crate::comparing::same;
 use crate::worked_files::{BLUE, colour};
 use canvas::Canvas;
 use draw_ops::Fault;
@@ -8,7 +9,6 @@ use mapping::Colour;
 use player::play;
 use preflight_cert::{check, prepare};
 use std::test::Fail;
-use test_support::same;
 
 const K: Colour = Colour { r: 0, g: 0, b: 0 };
 

@@ -14,6 +14,8 @@ mod certificates;
 #[cfg(test)]
 mod cleared;
 #[cfg(test)]
+mod comparing;
+#[cfg(test)]
 mod files;
 #[cfg(test)]
 mod machine_sizes;

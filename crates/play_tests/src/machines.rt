@@ -1,12 +1,13 @@
 //! Machines: what a step draws and needs, a restart, and failed allocations.
 
+use crate::comparing::same;
 use crate::stepping::{machine, step};
 use dc_stack::{Draw, Mark, Needs};
 use draw_ops::{Fault, FillMode, Handle, Object, Op, RecordFault, SavedState};
 use mapping::{Nib, Point, Rect};
 use meta_headers::open_file;
 use std::test::Fail;
-use test_support::{DOT, RED, same};
+use test_support::{DOT, RED};
 
 const PIXEL: Op<'static> = Op::Pixel {
     point: Point { x: 3, y: -1 },

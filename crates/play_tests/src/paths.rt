@@ -1,12 +1,13 @@
 //! Paths of a machine: the pieces that it lets others borrow, its state after a failed step, and failed allocations.
 
+use crate::comparing::same;
 use crate::stepping::{machine, step};
 use dc_stack::MAX_PIECES;
 use draw_ops::{Fault, Op, RecordFault};
 use mapping::Point;
 use meta_headers::open_file;
 use std::test::Fail;
-use test_support::{DOT, same};
+use test_support::DOT;
 
 const LINE: Op<'static> = Op::LineTo(Point { x: 1, y: 2 });
 

@@ -1,5 +1,6 @@
 //! Playing files over an image on a canvas.
 
+use crate::comparing::same;
 use crate::worked_files::{BLUE, colour};
 use canvas::Canvas;
 use draw_ops::{Fault, RecordFault};
@@ -7,7 +8,7 @@ use player::play;
 use preflight_cert::{Refusal, check, prepare};
 use std::alloc::Global;
 use std::test::Fail;
-use test_support::{DOT, RED, changed, same};
+use test_support::{DOT, RED, changed};
 
 /// Prepares a file at the size of a canvas, checks its certificate, and plays it over the image on the canvas. The
 /// canvas has a whole surface and has counted few writes so far.

@@ -1,5 +1,6 @@
 //! A picture that is drawn on some rows of a surface at a time, with results worked by hand.
 
+use crate::comparing::same;
 use crate::files::placeable;
 use crate::worked_files::{BLUE, colour};
 use canvas::Canvas;
@@ -11,7 +12,6 @@ use object_tables::LowestFree;
 use painting::{DrawingScratch, draw};
 use std::alloc::Global;
 use std::test::Fail;
-use test_support::same;
 
 /// Draws the drawing of a WMF file's first record on some rows of a surface of 4 by 4 pixels, and returns the number of
 /// pixels written.

@@ -2,6 +2,7 @@
 
 ghost use Rattle.mapping.specs.Limits.{IsSurfaceSide};
 
+use crate::comparing::same;
 use canvas::Canvas;
 use draw_ops::{Fault, RecordFault};
 use mapping::Colour;
@@ -9,7 +10,7 @@ use player::play;
 use preflight_cert::{Refusal, check, prepare};
 use std::alloc::{AllocError, Global};
 use std::test::Fail;
-use test_support::{DOT, RED, changed, same};
+use test_support::{DOT, RED, changed};
 
 pub(crate) const BLUE: Colour = Colour { r: 0, g: 0, b: 255 };
 

@@ -1,11 +1,9 @@
-//! What the crates of tests share: small files, a comparison, and a writer that becomes full.
+//! What the crates of tests share: small files, and a writer that becomes full.
 #![tactic(auto)]
 
-mod comparing;
 mod full_writer;
 mod sample_files;
 
-pub use comparing::same;
 pub use full_writer::{Full, limited};
 pub use sample_files::{
     DOT, DOT_CERT, FAR, NIL, NIL_CERT, NOTED, NOTED_CERT, RED, TRI, TRI_CERT, changed,
