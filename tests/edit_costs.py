@@ -1,10 +1,10 @@
 #!/usr/bin/env python3
-"""Prints how much processor time the wrong bodies of a crate take, those first that take most.
+"""Prints how much processor time the mutants of a crate take, those first that take most.
 
     edit_costs.py CRATE..
 
-It tries them in rounds, as edits.py does, and asks the prover to say when it ends with each function. A wrong body that takes more than some 20 s wants
-another wrong body for the same clause, or an answer of its function by hand, as `search rules`, which ends sooner where it finds nothing.
+It tries them in rounds, as edits.py does, and asks the prover to say when it ends with each function. A mutant that takes more than some 20 s wants
+another mutant for the same clause, or an answer of its function by hand, as `search rules`, which ends sooner where it finds nothing.
 """
 
 import argparse
@@ -29,7 +29,7 @@ LEAST = 5
 
 
 class Cost(NamedTuple):
-    """What the proof of a function took, in seconds of processor, and its wrong body, if it has one."""
+    """What the proof of a function took, in seconds of processor, and its mutant, if it has one."""
 
     seconds: float
     function: str
@@ -93,7 +93,7 @@ def main():
             return 1
         found = list(costs_of(bodies))
         wrong = sum(it.seconds for it in found if it.edit)
-        print(f"{bodies.crate.name}: {sum(it.seconds for it in found):.0f} s, of which wrong bodies took {wrong:.0f}")
+        print(f"{bodies.crate.name}: {sum(it.seconds for it in found):.0f} s, of which mutants took {wrong:.0f}")
         for it in sorted(found, reverse=True):
             if it.seconds >= LEAST:
                 print(f"{it.seconds:7.1f} {it.function} {it.edit}", flush=True)

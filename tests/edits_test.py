@@ -1,4 +1,4 @@
-"""What tries the wrong bodies in edits/, without the prover: the names of functions, what a refusal is, and rounds."""
+"""What tries the mutants in edits/, without the prover: the names of functions, what a refusal is, and rounds."""
 
 import pathlib
 import unittest

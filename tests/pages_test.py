@@ -49,7 +49,7 @@ def text_of(page):
 
 
 def files_known():
-    """The files that a page may name alone, or by their place in a crate, and wrong bodies, whose names are those of files."""
+    """The files that a page may name alone, or by their place in a crate, and mutants, whose names are those of files."""
     crates = [path for part in ("src", "specs", "proofs") for folder in (ROOT / "crates").glob(f"*/{part}") for path in folder.rglob("*")]
     names = {it.name for it in crates} | {"/".join(it.parts[-2:]) for it in crates}
     others = {it.name for folder in ("samples", "tests", "docs") for it in (ROOT / folder).rglob("*")}
