@@ -5,16 +5,14 @@ use canvas::Canvas;
 use mapping::Colour;
 use std::alloc::Global;
 
-/// A row has room for an odd number of parts of 64 colours, up to this one.
-const MOST_ROW_PARTS: u32 = 129;
-
 /// The parts of 128 rows of the widest surface.
 const MOST_PARTS: u32 = 16_512;
 
-/// The number of parts that a row has on a canvas of this many, where not all are in one column.
+/// The number of parts that each row has on a canvas of this many parts. A row has room for an odd number of them, up
+/// to 129.
 fn parts_of_row(parts: u32) -> u32 {
     let mut found = 1;
-    for half in 1..=MOST_ROW_PARTS / 2 {
+    for half in 1..65 {
         let row = 2 * half + 1;
         if parts % row == 0 {
             found = row;
@@ -25,10 +23,13 @@ fn parts_of_row(parts: u32) -> u32 {
 
 /// Whether a canvas can be made of this many parts of 64 colours. There is none if its rows would be too many.
 fn has_parts(alloc: Global, parts: u32) -> bool {
-    let row = parts_of_row(parts).max(1);
+    let row = parts_of_row(parts);
+    if row == 0 {
+        return false;
+    }
     let width = row.wrapping_mul(64).wrapping_sub(64).max(1);
     let rows = parts / row;
-    if 8192 < width || rows == 0 || 8192 < rows {
+    if width == 0 || 8192 < width || rows == 0 || 8192 < rows {
         return 8192 < rows;
     }
     Canvas::band(alloc, width, 0, rows, Colour::WHITE).is_ok()
@@ -36,7 +37,7 @@ fn has_parts(alloc: Global, parts: u32) -> bool {
 
 #[test]
 fn a_canvas_has_each_number_of_colours(rt: HostRuntime) {
-    for parts in 1..=MOST_PARTS {
+    for parts in 1..MOST_PARTS + 1 {
         assert!(rt; has_parts(rt.alloc(), parts), "{parts}");
     }
 }

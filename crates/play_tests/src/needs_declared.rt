@@ -29,7 +29,7 @@ fn line(alloc: Global) -> Result<Vec<u8>, AllocError> {
 
 /// Puts a number at a place of a certificate.
 fn put_number(text: &mut Vec<u8>, place: usize, number: u32) {
-    for (at, byte) in (place..).zip(number.to_le_bytes()) {
+    for (at, byte) in (place..place.wrapping_add(4)).zip(number.to_le_bytes()) {
         if let Some(old) = text.get_mut(at) {
             *old = byte;
         }
@@ -58,7 +58,8 @@ fn plays(alloc: Global, file: &[u8], needs: Needs) -> bool {
 fn each_depth_may_be_declared(rt: HostRuntime) -> Result<(), AllocError> {
     let file = line(rt.alloc())?;
     for depth in 0..257 {
-        let needs = Needs { depth, ..LINE };
+        let mut needs = LINE;
+        needs.depth = depth;
         assert!(rt; plays(rt.alloc(), file.as_slice(), needs), "{depth}");
     }
     Ok(())
@@ -68,16 +69,15 @@ fn each_depth_may_be_declared(rt: HostRuntime) -> Result<(), AllocError> {
 fn each_count_of_slots_may_be_declared(rt: HostRuntime) -> Result<(), AllocError> {
     let file = line(rt.alloc())?;
     for slots in 0..65_536 {
-        let needs = Needs { slots, ..LINE };
+        let mut needs = LINE;
+        needs.slots = slots;
         assert!(rt; plays(rt.alloc(), file.as_slice(), needs), "{slots}");
     }
     // A placeable file has at most 1,024 objects.
     for slots in 0..1_025 {
-        let needs = Needs {
-            slots,
-            edges: 3,
-            ..LINE
-        };
+        let mut needs = LINE;
+        needs.edges = 3;
+        needs.slots = slots;
         assert!(rt; plays(rt.alloc(), &POLYGON, needs), "{slots}");
     }
     Ok(())
@@ -87,7 +87,8 @@ fn each_count_of_slots_may_be_declared(rt: HostRuntime) -> Result<(), AllocError
 fn each_count_of_pieces_may_be_declared(rt: HostRuntime) -> Result<(), AllocError> {
     let file = line(rt.alloc())?;
     for pieces in 0..65_537 {
-        let needs = Needs { pieces, ..LINE };
+        let mut needs = LINE;
+        needs.pieces = pieces;
         assert!(rt; plays(rt.alloc(), file.as_slice(), needs), "{pieces}");
     }
     Ok(())
@@ -97,11 +98,13 @@ fn each_count_of_pieces_may_be_declared(rt: HostRuntime) -> Result<(), AllocErro
 fn each_count_of_edges_may_be_declared(rt: HostRuntime) -> Result<(), AllocError> {
     let file = line(rt.alloc())?;
     for edges in 2..65_537 {
-        let needs = Needs { edges, ..LINE };
+        let mut needs = LINE;
+        needs.edges = edges;
         assert!(rt; plays(rt.alloc(), file.as_slice(), needs), "{edges}");
     }
     for edges in GREAT_COUNTS {
-        let needs = Needs { edges, ..LINE };
+        let mut needs = LINE;
+        needs.edges = edges;
         assert!(rt; plays(rt.alloc(), file.as_slice(), needs), "{edges}");
     }
     Ok(())
