@@ -7,6 +7,9 @@ use std::alloc::Global;
 
 const FONT: Object<'static> = Object::Font;
 
+/// The greatest indexes, above those that are tried one by one.
+const GREATEST: [u32; 3] = [65532, 65533, 65534];
+
 /// Whether a new object gets this index, the lowest free one, is found there, is removed, and gets it again.
 fn is_made(table: &mut LowestFree<'static>, index: u32) -> bool {
     let at = Handle(index);
@@ -83,7 +86,10 @@ fn an_object_is_put_at_each_index_in_order(rt: HostRuntime) {
 
 #[test]
 fn the_first_object_is_put_at_each_index(rt: HostRuntime) {
-    for index in 1..65535 {
+    for index in 1..32770 {
+        assert!(rt; is_last(rt.alloc(), index), "{index}");
+    }
+    for index in GREATEST {
         assert!(rt; is_last(rt.alloc(), index), "{index}");
     }
 }
