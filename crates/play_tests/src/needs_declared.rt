@@ -18,8 +18,9 @@ const LINE: Needs = Needs {
 };
 
 /// Counts beside powers of two, above those that are tried one by one, up to the most edges.
-const GREAT_COUNTS: [u32; 10] = [
-    131_071, 131_072, 131_073, 262_143, 262_144, 262_145, 524_287, 524_288, 1_048_575, 1_048_576,
+const GREAT_COUNTS: [u32; 13] = [
+    65_535, 65_536, 65_537, 131_071, 131_072, 131_073, 262_143, 262_144, 262_145, 524_287, 524_288,
+    1_048_575, 1_048_576,
 ];
 
 /// An EMF file with a line: EMR_LINETO ([MS-EMF] 2.3.5.13).
@@ -97,7 +98,7 @@ fn each_count_of_pieces_may_be_declared(rt: HostRuntime) -> Result<(), AllocErro
 #[test]
 fn each_count_of_edges_may_be_declared(rt: HostRuntime) -> Result<(), AllocError> {
     let file = line(rt.alloc())?;
-    for edges in 2..65_537 {
+    for edges in 2..32_770 {
         let mut needs = LINE;
         needs.edges = edges;
         assert!(rt; plays(rt.alloc(), file.as_slice(), needs), "{edges}");
