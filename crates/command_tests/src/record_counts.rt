@@ -195,8 +195,8 @@ fn is_rejected(alloc: Global, skipped: &[u8], count: usize) -> Result<bool, Allo
 
 #[test]
 fn a_rejection_in_each_record_is_reported(rt: HostRuntime) -> Result<(), AllocError> {
-    let file = repeated(rt.alloc(), SKIPPED, 10_000, b"")?;
-    for count in 0..10_001 {
+    let file = repeated(rt.alloc(), SKIPPED, 6_000, b"")?;
+    for count in 0..6_001 {
         assert!(rt; is_rejected(rt.alloc(), file.as_slice(), count)?, "{count}");
     }
     Ok(())
