@@ -506,6 +506,50 @@ def blits_and_stock_objects_in_a_long_path():
     return Counted(EMF.file([*records, EMF.step("abort_path")], 64, 16), 64, 64)
 
 
+def records_beside_a_path():
+    """Each sort of record, many times over, while a path of 60,000 pieces is ended and waits to be painted: none of them may look at its pieces."""
+    each = "move 3 3; line 2 2; pixel 1 1; polyline 1 1 2 2; polyline_to 3 3 4 4; polygon 1 1 2 2 3 1; rectangle 1 1 3 3; save; restore -1; "
+    each += "back_mode 1; raster 13; fill_mode 1; back_colour 0x102030; window_origin 0 0; viewport_origin 0 0; keep 0 0 64 64; "
+    each += f"pat_blt {PATINVERT} 1 1 2 2; select_palette 1; select_palette 2; brush 5; select 5; select 3; delete 5; select_at 0x80000007; "
+    each += "select_palette_at 0x8000000F"
+    blit = EMF.step("stretch_dib", SRCCOPY, 1, 1, 2, 2, 0, 0, 2, 2, str(noise(2, 24)))
+    records = EMF.records("palette 1; palette 2; brush 3; font 4") + open_path(60_000) + [EMF.step("end_path")]
+    records += (EMF.records(each) + [EMF.record(COMMENT, u32(4) + b"none"), blit]) * 500
+    return Counted(EMF.file([*records, EMF.step("abort_path")], 64, 16), 64, 64)
+
+
+def listed_records_beside_a_path():
+    """The same, listed."""
+    return records_beside_a_path()._replace(is_listed=True)
+
+
+def listed_lists_in_a_path():
+    """A path of as many polygons, lists of lines and rectangles as it has room for, listed: a list is looked at without those before it."""
+    return lists_in_a_path()._replace(is_listed=True)
+
+
+def narrow_polygons():
+    """High polygons of two columns in one colour, at the right of a wide surface: their rows have one ink, which is made once."""
+    chance, width, height = random.Random(26), 8192, 64
+    records = WMF.records("null_pen 0; solid_brush 1 0x206040; select 0; select 1")
+    for left in chance.choices(range(4_096, width - 3), k=6_000):
+        records.append(WMF.step("polygon", left, 0, left + 2, 0, left + 3, height, left + 1, height))
+    return Counted(WMF.file(records, (width, height), 0), width, height)
+
+
+def strokes_beside_a_narrow_surface():
+    """Strokes of many lines on a map that scales, of which few lie on a narrow surface, with and without a box that is cut out: a line is placed no
+    more often than it must be."""
+    chance, width, height = random.Random(27), 16, 64
+    records = EMF.records("map_mode 8; window_extent 3000 3000; viewport_extent 2000 2000")
+    for cut in ("", "cut 3 3 9 9"):
+        records += EMF.records(cut)
+        for _ in range(10):
+            below = [part for _ in range(5_000) for part in (chance.randrange(9_000), 1_000 + chance.randrange(9_000))]
+            records.append(EMF.step("polyline", 0, 0, 15, 63, *below))
+    return Counted(EMF.file(records, (width, height), 16), width, height)
+
+
 def upright_strokes_in_a_box():
     """Strokes of many upright lines and of few on a wide surface, in a box that is kept: they go by marks, as they do without one."""
     chance, width, height = random.Random(24), 8192, 64
@@ -566,6 +610,11 @@ FILES = {
     "800 blits and stock objects while a path is open": blits_and_stock_objects_in_a_long_path,
     "1,010 upright strokes in a box, 8,192 by 64": upright_strokes_in_a_box,
     "6,000 high rectangles of two columns, 8,192 by 64": narrow_fills,
+    "13,500 records beside a path": records_beside_a_path,
+    "13,500 records beside a path, listed": listed_records_beside_a_path,
+    "a path of 16,000 polygons, lists and rectangles, listed": listed_lists_in_a_path,
+    "6,000 high polygons of two columns, 8,192 by 64": narrow_polygons,
+    "20 strokes beside a narrow surface, 16 by 64": strokes_beside_a_narrow_surface,
 }
 
 # How many times the instructions on record a file may take, where that is less than for others: what it is to show is a part of its work.
@@ -573,6 +622,7 @@ CLOSE = dict.fromkeys(
     [
         "3,000 small tiled rectangles, 8,192 by 64",
         "bitmaps of few rows stretched, 1,024 by 1,024",
+        "100,000 points on a map that scales, 64 by 64",
         "each record 500 times in a state that is full",
         "84,000 short records of a plain file",
         "6,000 polylines of two points, 1,024 by 1,024",
@@ -582,6 +632,8 @@ CLOSE = dict.fromkeys(
         "620 polylines under wide pens, 512 by 512",
         "21,000 lines under large nibs, 512 by 512",
         "100 wide strokes in bands, 8,192 by 2,048",
+        "6,000 high polygons of two columns, 8,192 by 64",
+        "20 strokes beside a narrow surface, 16 by 64",
     ],
     1.15,
 )

@@ -1,4 +1,4 @@
-"""The instructions that the built program takes on forty-six files, beside those on record in bench/."""
+"""The instructions that the built program takes on fifty-one files, beside those on record in bench/."""
 
 import sys
 import unittest
@@ -11,11 +11,11 @@ from instruction_counts import FILES, count, is_within, most_of, on_record  # no
 
 
 class Instructions(unittest.TestCase):
-    """No file takes more than 1.3 times the instructions on record, eleven no more than 1.15. The record is of the program as LLVM builds it."""
+    """No file takes more than 1.3 times the instructions on record, fourteen no more than 1.15. The record is of the program as LLVM builds it."""
 
     def test_a_record_stands_for_each_file(self):
         self.assertEqual(sorted(on_record()), sorted(FILES))
-        self.assertEqual(len(FILES), 46)
+        self.assertEqual(len(FILES), 51)
 
     def test_the_limit_is_1_3_times_the_record(self):
         self.assertTrue(is_within(1300, 1000))

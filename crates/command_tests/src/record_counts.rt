@@ -1,7 +1,7 @@
 //! Listings of each count of records, and reports of each count of drawings, notes and records.
 
 use canvas::Counting;
-use commands::{check_command, list_command, prepare_command};
+use commands::{check_command, list_command, prepare_command, show_command};
 use std::alloc::{AllocError, Global};
 use test_support::DOT;
 
@@ -175,6 +175,52 @@ fn a_report_has_each_count_of_notes_and_each_record(rt: HostRuntime) -> Result<(
     for count in GREAT_COUNTS {
         assert!(rt; are_notes_reported(rt.alloc(), count)?, "{count}");
         assert!(rt; is_end_missed(rt.alloc(), count)?, "{count}");
+    }
+    Ok(())
+}
+
+/// Whether a file that ends after so many skipped records is rejected there with a line on standard error.
+fn is_rejected(alloc: Global, skipped: &[u8], count: usize) -> Result<bool, AllocError> {
+    let end = count.wrapping_mul(SKIPPED.len()).wrapping_add(40);
+    let Some(file) = skipped.get(..end) else {
+        return Ok(false);
+    };
+    let want = format!(in alloc; "metaplay: NoEnd at record {count}\n")?;
+    let mut out = Counting::new(Vec::new(alloc));
+    let mut err = Counting::new(Vec::new(alloc));
+    let answer = show_command(alloc, file, 4, 4, &mut out, &mut err);
+    let err = err.into_writer();
+    Ok(answer.status() == 1 && answer.printed.is_ok() && err.as_slice() == want.as_bytes())
+}
+
+#[test]
+fn a_rejection_in_each_record_is_reported(rt: HostRuntime) -> Result<(), AllocError> {
+    let file = repeated(rt.alloc(), SKIPPED, 6_000, b"")?;
+    for count in 0..6_001 {
+        assert!(rt; is_rejected(rt.alloc(), file.as_slice(), count)?, "{count}");
+    }
+    Ok(())
+}
+
+/// Whether a file of a pixel is listed with these bytes after its end.
+fn is_listed_before(alloc: Global, bytes: &[u8]) -> Result<bool, AllocError> {
+    let mut file = repeated(alloc, PIXEL, 1, END)?;
+    file.extend_from_slice(bytes)?;
+    let mut out = Counting::new(Vec::new(alloc));
+    let mut err = Counting::new(Vec::new(alloc));
+    let answer = list_command(alloc, file.as_slice(), &mut out, &mut err);
+    let out = out.into_writer();
+    let want = b"0\t40\t14\t0x041f\tMETA_SETPIXEL\tplayed\tpixel 2,1 #ff0000\n\
+        1\t54\t6\t0x0000\tMETA_EOF\tplayed\tnothing; AfterEnd\n";
+    Ok(answer.status() == 0 && out.as_slice() == want.as_slice())
+}
+
+#[test]
+fn a_file_of_each_length_is_listed(rt: HostRuntime) -> Result<(), AllocError> {
+    let mut bytes = Vec::new(rt.alloc());
+    for count in 0..10_000 {
+        bytes.push(7)?;
+        assert!(rt; is_listed_before(rt.alloc(), bytes.as_slice())?, "{count}");
     }
     Ok(())
 }

@@ -64,14 +64,14 @@ fn the_longest_refusal_has_capacity(rt: HostRuntime) -> Result<(), Fail> {
     Ok(())
 }
 
-/// Record numbers: each of the first 3,000, and the neighbours of powers of two.
+/// Record numbers: each of the first 10,000, and the neighbours of powers of two.
 fn some_numbers(alloc: Global) -> Result<Vec<u32>, AllocError> {
     let mut numbers = Vec::new(alloc);
-    for number in 0..3000 {
+    for number in 0..10_000 {
         numbers.push(number)?;
     }
-    let mut power = 4096u32;
-    for _ in 12..32 {
+    let mut power = 16_384u32;
+    for _ in 14..32 {
         numbers.push(power.saturating_sub(1))?;
         numbers.push(power)?;
         numbers.push(power.saturating_add(1))?;

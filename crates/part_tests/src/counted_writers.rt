@@ -15,21 +15,72 @@ use std::test::Fail;
 
 const GREY: Colour = Colour { r: 7, g: 8, b: 9 };
 
-/// A writer that accepts every byte, and whose first flushes fail.
+/// Every kind of error that a writer can return.
+const KINDS: [ErrorKind; 41] = [
+    ErrorKind::NotFound,
+    ErrorKind::PermissionDenied,
+    ErrorKind::ConnectionRefused,
+    ErrorKind::ConnectionReset,
+    ErrorKind::HostUnreachable,
+    ErrorKind::NetworkUnreachable,
+    ErrorKind::ConnectionAborted,
+    ErrorKind::NotConnected,
+    ErrorKind::AddrInUse,
+    ErrorKind::AddrNotAvailable,
+    ErrorKind::NetworkDown,
+    ErrorKind::BrokenPipe,
+    ErrorKind::AlreadyExists,
+    ErrorKind::WouldBlock,
+    ErrorKind::NotADirectory,
+    ErrorKind::IsADirectory,
+    ErrorKind::DirectoryNotEmpty,
+    ErrorKind::ReadOnlyFilesystem,
+    ErrorKind::FilesystemLoop,
+    ErrorKind::StaleNetworkFileHandle,
+    ErrorKind::InvalidInput,
+    ErrorKind::InvalidData,
+    ErrorKind::TimedOut,
+    ErrorKind::WriteZero,
+    ErrorKind::StorageFull,
+    ErrorKind::NotSeekable,
+    ErrorKind::QuotaExceeded,
+    ErrorKind::FileTooLarge,
+    ErrorKind::ResourceBusy,
+    ErrorKind::ExecutableFileBusy,
+    ErrorKind::Deadlock,
+    ErrorKind::CrossesDevices,
+    ErrorKind::TooManyLinks,
+    ErrorKind::InvalidFilename,
+    ErrorKind::ArgumentListTooLong,
+    ErrorKind::Interrupted,
+    ErrorKind::Unsupported,
+    ErrorKind::UnexpectedEof,
+    ErrorKind::OutOfMemory,
+    ErrorKind::InProgress,
+    ErrorKind::Other,
+];
+
+/// A writer that accepts every byte, and whose first flushes fail with one kind of error.
 #[derive(Drop)]
 struct Stuck {
     taken: Vec<u8>,
     /// The number of bytes that were flushed.
     flushed: usize,
     failures: usize,
+    kind: ErrorKind,
 }
 
 impl Stuck {
     fn new(alloc: Global, failures: usize) -> Stuck {
+        Stuck::with(alloc, failures, ErrorKind::StorageFull)
+    }
+
+    fn with(alloc: Global, failures: usize, kind: ErrorKind) -> Stuck {
         Stuck {
             taken: Vec::new(alloc),
             flushed: 0,
             failures,
+            kind,
         }
     }
 }
@@ -43,7 +94,7 @@ impl Write for Stuck {
     fn flush(&mut self) -> io::Result<()> {
         if self.failures > 0 {
             self.failures -= 1;
-            return Err(io::Error::from(ErrorKind::StorageFull));
+            return Err(io::Error::from(self.kind));
         }
         self.flushed = self.taken.len();
         Ok(())
@@ -149,6 +200,25 @@ fn a_plain_flush_answers_as_the_writer_does(rt: HostRuntime) -> Result<(), Fail>
     same(&rt, out.flush().is_ok(), true);
     same(&rt, out.into_writer().flushed, 2);
     Ok(())
+}
+
+/// The kind of error with which a call failed, if it did.
+fn kind_of(done: io::Result<()>) -> Option<ErrorKind> {
+    match done {
+        Ok(()) => None,
+        Err(error) => Some(error.kind()),
+    }
+}
+
+#[test]
+fn a_flush_returns_each_kind_of_error(rt: HostRuntime) {
+    for kind in KINDS {
+        let mut out = Counting::new(Stuck::with(rt.alloc(), 2, kind));
+        same(&rt, kind_of(out.flush()), Some(kind));
+        assert!(rt; out.faults() == 0);
+        same(&rt, kind_of(out.flush_counted()), Some(kind));
+        same(&rt, out.faults(), 1);
+    }
 }
 
 #[test]

@@ -25,6 +25,8 @@ mod image_sizes;
 #[cfg(test)]
 mod images;
 #[cfg(test)]
+mod large_bands;
+#[cfg(test)]
 mod line_list;
 #[cfg(test)]
 mod lists_of_points;

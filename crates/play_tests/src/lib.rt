@@ -22,6 +22,8 @@ mod machine_sizes;
 #[cfg(test)]
 mod machines;
 #[cfg(test)]
+mod needs_declared;
+#[cfg(test)]
 mod needs_played;
 #[cfg(test)]
 mod nib_sizes;
