@@ -1,7 +1,6 @@
 //! Checking certificates, and the reports.
 
-use crate::command_results::same_want_of_memory;
-use crate::comparing::same;
+use crate::command_results::{same, same_want_of_memory};
 use canvas::Counting;
 use commands::check_command;
 use std::alloc::Global;

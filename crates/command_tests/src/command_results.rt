@@ -1,7 +1,12 @@
-//! What standard error holds after a failed allocation.
+//! Compares values, and what standard error holds after a failed allocation.
 
-use crate::comparing::same;
+use std::fmt::Debug;
 use std::process::Abort;
+
+/// Ends the test and prints both values, unless they are equal.
+pub(crate) fn same<T: PartialEq + Debug + Drop>(rt: &impl Abort, left: T, right: T) {
+    assert_eq!(rt; left, right);
+}
 
 /// Compares standard error with the line that reports a failed allocation, byte by byte.
 pub(crate) fn same_want_of_memory(rt: &impl Abort, err: &[u8; 64]) {

@@ -11,8 +11,6 @@ mod command_results;
 #[cfg(test)]
 mod command_sizes;
 #[cfg(test)]
-mod comparing;
-#[cfg(test)]
 mod listings;
 #[cfg(test)]
 mod over_images;

@@ -1,7 +1,6 @@
 //! Listings, and the reports when they can't be written.
 
-use crate::command_results::same_want_of_memory;
-use crate::comparing::same;
+use crate::command_results::{same, same_want_of_memory};
 use canvas::Counting;
 use commands::list_command;
 use std::alloc::Global;

@@ -1,7 +1,6 @@
 //! Playing files by their certificates.
 
-use crate::command_results::same_want_of_memory;
-use crate::comparing::same;
+use crate::command_results::{same, same_want_of_memory};
 use canvas::Counting;
 use commands::play_command;
 use std::alloc::{AllocError, Global};

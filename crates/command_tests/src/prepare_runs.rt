@@ -1,7 +1,6 @@
 //! Preparing certificates.
 
-use crate::command_results::same_want_of_memory;
-use crate::comparing::same;
+use crate::command_results::{same, same_want_of_memory};
 use canvas::Counting;
 use commands::prepare_command;
 use std::alloc::Global;

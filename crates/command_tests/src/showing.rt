@@ -1,7 +1,6 @@
 //! Showing files, and rejected files.
 
-use crate::command_results::same_want_of_memory;
-use crate::comparing::same;
+use crate::command_results::{same, same_want_of_memory};
 use canvas::Counting;
 use commands::show_command;
 use std::alloc::{AllocError, Global};

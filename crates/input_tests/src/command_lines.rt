@@ -1,6 +1,6 @@
 //! Command lines, and the response to each wrong one.
 
-use crate::comparing::same;
+use crate::same_values::same;
 use canvas::Counting;
 use commands::{CommandLine, line, usage};
 use std::alloc::{AllocError, Global};

@@ -1,6 +1,6 @@
 //! Inputs that are read to their end, and inputs that can't be read.
 
-use crate::comparing::same;
+use crate::same_values::same;
 use commands::{InputFault, read_file, read_input};
 use std::alloc::{AllocError, Global};
 use std::io;

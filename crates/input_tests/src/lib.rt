@@ -7,8 +7,6 @@
 #[cfg(test)]
 mod command_lines;
 #[cfg(test)]
-mod comparing;
-#[cfg(test)]
 mod input_lengths;
 #[cfg(test)]
 mod inputs;
@@ -16,5 +14,7 @@ mod inputs;
 mod output_pieces;
 #[cfg(test)]
 mod reports;
+#[cfg(test)]
+mod same_values;
 #[cfg(test)]
 mod writers;

@@ -1,6 +1,6 @@
 //! Lines on standard error.
 
-use crate::comparing::same;
+use crate::same_values::same;
 use canvas::{Counting, WriteFault};
 use commands::{CommandEnd, Completion, InputFault, no_input, report, report_refusal};
 use draw_ops::{Fault, RecordFault};

@@ -1,7 +1,7 @@
 //! Writers that fail, accept nothing, stop short or are interrupted.
 
 use crate::command_lines::words;
-use crate::comparing::same;
+use crate::same_values::same;
 use canvas::Counting;
 use commands::{line, show_command, usage};
 use std::alloc::Global;
