@@ -113,6 +113,19 @@ class Clock:
         print(f"gate: {what}: {time.monotonic() - self.start:.0f} s, {Processors.now().since(self.processors)}", flush=True)
 
 
+RECORD = edits.ROOT / "launcher/record"
+
+
+def sources_sum():
+    """The checksum of the program's sources, as the launcher computes it."""
+    return subprocess.run([RECORD], capture_output=True, text=True, check=True).stdout.strip()
+
+
+def recorded(status, sources):
+    """The status of `rt ci`. If it passed, records for the launcher that the program was built from these sources."""
+    return status or subprocess.call([RECORD, sources])
+
+
 def say_status(clock, what, status):
     """Says when a step ended, and answers its status."""
     clock.say(f"{what} {'FAILED' if status else 'passed'}")
@@ -121,7 +134,8 @@ def say_status(clock, what, status):
 
 def in_turn(clock, words, parts):
     """Runs the steps one after the other, and answers the status of the first that fails, else 0."""
-    steps = {"rt ci": lambda: subprocess.call(words), "edits": lambda: edits.try_parts(parts, []), "tests": run.run_all}
+    sources = sources_sum()
+    steps = {"rt ci": lambda: recorded(subprocess.call(words), sources), "edits": lambda: edits.try_parts(parts, []), "tests": run.run_all}
     return next((status for name, step in steps.items() if (status := say_status(clock, name, step()))), 0)
 
 
@@ -133,11 +147,11 @@ def lanes(number):
 def beside(clock, words, parts):
     """Runs `rt ci` and then the tests with these parts beside them, and answers the status. Parts get the memory of `rt ci` when that has ended."""
     how = {"stdout": subprocess.PIPE, "text": True, "errors": "replace", "env": {**os.environ, "PYTHONUNBUFFERED": "1"}}
-    number = edits.lanes(CI_MEMORY)
+    number, sources = edits.lanes(CI_MEMORY), sources_sum()
     with subprocess.Popen(words, **how) as ci, lanes(number) as pool, lanes(max(1, edits.rt.processors() - number)) as more:
         trying = Beside(parts, pool)
         trying.follow(ci.stdout)
-        status = say_status(clock, "rt ci", ci.wait())
+        status = say_status(clock, "rt ci", recorded(ci.wait(), sources))
         if not status and number < edits.lanes():
             trying.share(more)
         status = status or say_status(clock, "tests", run.run_all())

@@ -3,6 +3,8 @@ what is said of times; and which files of tests are well."""
 
 import contextlib
 import io
+import pathlib
+import tempfile
 import unittest
 from typing import NamedTuple
 from unittest import mock
@@ -89,7 +91,7 @@ class BesideTest(unittest.TestCase):
 class WholeTest(unittest.TestCase):
     """The steps beside each other, without the toolchain."""
 
-    def ended(self, proved, failing=(), tests=0):
+    def ended(self, proved, failing=(), tests=0, record="true"):
         """The status of a gate whose first step proves these crates, whose tests have this status, and of whose parts these fail; and what it said."""
         parts, said = [Part("low 1", LOW), Part("middle 1", MIDDLE), Part("high 1", HIGH)], io.StringIO()
         trying = lambda part: [f"{part.name} went wrong"] * (part.name in failing)
@@ -97,6 +99,7 @@ class WholeTest(unittest.TestCase):
             stack.enter_context(mock.patch.object(Beside.__init__, "__defaults__", (trying,)))
             stack.enter_context(mock.patch.object(gate.run, "run_all", lambda: tests))
             stack.enter_context(mock.patch.object(edits, "lanes", lambda taken=0: 1 if taken else 2))
+            stack.enter_context(mock.patch.object(gate, "RECORD", record))
             words = ["printf", "".join(f"rt: {name} proved\n" for name in proved)]
             return gate.beside(Clock(), words, parts), said.getvalue()
 
@@ -109,6 +112,13 @@ class WholeTest(unittest.TestCase):
         self.assertEqual((status, "middle 1 went wrong" in said), (1, True))
         status, said = self.ended(["low"])
         self.assertEqual((status, "high 1 was not tried" in said), (1, True))
+
+    def test_it_fails_where_the_build_is_not_recorded(self):
+        with tempfile.TemporaryDirectory() as folder:
+            record = pathlib.Path(folder, "record")
+            record.write_text("#!/bin/sh\nexit $#\n")
+            record.chmod(0o755)
+            self.assertEqual(self.ended(["low", "middle", "high"], record=record)[0], 1)
 
     def test_it_fails_where_the_tests_do(self):
         self.assertEqual(self.ended(["low", "middle", "high"], tests=1)[0], 1)

@@ -9,7 +9,7 @@ import subprocess
 import tempfile
 import unittest
 
-from built import DOT, DOT_IMAGE, ROOT, SAMPLES, Answer, answer, for_each_program
+from built import DOT, DOT_IMAGE, SAMPLES, Answer, answer, for_each_program
 
 DOT_FILE = SAMPLES / "dot.wmf"
 
@@ -205,27 +205,6 @@ class Program(unittest.TestCase):
         self.assertEqual(answered, Answer(4, b"", b"metaplay: OutOfMemory\n"))
         small = answer(program, ["show", DOT_FILE, "4", "4"], preexec_fn=with_little_memory)
         self.assertEqual(small, Answer(0, DOT_IMAGE, b""))
-
-
-class Launcher(unittest.TestCase):
-    launcher = ROOT / "metaplay"
-
-    def test_the_launcher_works_from_any_folder(self):
-        with tempfile.TemporaryDirectory() as folder:
-            relative = os.path.relpath(DOT_FILE, folder)
-            answered = answer(self.launcher, ["show", relative, "4", "4"], cwd=folder)
-        self.assertEqual(answered, Answer(0, DOT_IMAGE, b""))
-
-    def test_the_launcher_works_through_links(self):
-        with tempfile.TemporaryDirectory() as folder:
-            os.symlink(self.launcher, f"{folder}/first")
-            os.symlink("first", f"{folder}/second")
-            answered = answer(f"{folder}/second", ["show", "stdin", "4", "4"], DOT)
-        self.assertEqual(answered, Answer(0, DOT_IMAGE, b""))
-
-    def test_the_launcher_answers_the_program_s_status(self):
-        refused = answer(self.launcher, ["show", "stdin", "4", "4"], DOT[:50])
-        self.assertEqual(refused, Answer(1, b"", b"metaplay: PastEnd at record 0\n"))
 
 
 if __name__ == "__main__":

@@ -1,0 +1,96 @@
+# The proved program, and whether it is the one that was built from the sources as they are.
+# shellcheck shell=sh disable=SC2154
+
+main=meta_main
+made=$root/crates/$main/out
+program=$made/$main
+
+# What was built: the checksums of the sources and of the program, and the toolchain's version, a line each.
+sums=$made/built.sums
+
+# The size, the time of the last change and the name of each of these files. As long as this listing stays the same,
+# no checksum is computed again.
+listing=$made/built.list
+
+# Each crate that the program stands on, and its own: a line with its name and the names of the libraries below it.
+crates() {
+    awk -v main="$main" '
+        { sub(/#.*/, "") }
+        /^[a-z0-9_]+ *:/ {
+            name = $0
+            sub(/ *:.*/, "", name)
+            sub(/^[^:]*:/, "")
+            names[++count] = name
+            below[name] = $0
+        }
+        END {
+            wanted[main] = 1
+            for (i = count; i > 0; i--) {
+                libraries = wanted[names[i]] ? split(below[names[i]], its) : 0
+                for (k = 1; k <= libraries; k++) wanted[its[k]] = 1
+            }
+            for (i = 1; i <= count; i++) if (wanted[names[i]]) print names[i] below[names[i]]
+        }' "$root/crates.txt"
+}
+
+# The folders of their sources, from the root.
+source_folders() {
+    crates | while read -r name _; do
+        for part in src specs proofs; do
+            [ -d "$root/crates/$name/$part" ] && echo "crates/$name/$part"
+        done
+    done
+}
+
+# The size, the time of the last change and the name of each source, of the program and of the toolchain's commands.
+listed() {
+    # shellcheck disable=SC2046
+    (cd "$root" && find crates.txt $(source_folders) "crates/$main/out/$main" -type f -printf '%s %T@ %p\n')
+    if kit=$(command -v rt); then
+        find "$(dirname "$(readlink -f "$kit")")" -maxdepth 1 -type f -printf '%s %T@ %p\n'
+    fi
+}
+
+# The checksum of all sources, with their names.
+sources_sum() {
+    # shellcheck disable=SC2046
+    (cd "$root" && find crates.txt $(source_folders) -type f -print0 | LC_ALL=C sort -z | xargs -0 sha256sum) |
+        sha256sum | cut -d ' ' -f 1
+}
+
+# The toolchain's version. Without a toolchain nothing can be built, so the one that built the program counts.
+toolchain() {
+    rt version 2>/dev/null || sed -n 's/^toolchain //p' "$sums"
+}
+
+# What is there now, as it stands in $sums.
+sums_now() {
+    echo "sources $(sources_sum)"
+    echo "program $(sha256sum <"$program" | cut -d ' ' -f 1)"
+    echo "toolchain $(toolchain)"
+}
+
+# Writes standard input to a file, as a whole.
+put() {
+    cat >"$1.$$" && mv -f "$1.$$" "$1"
+}
+
+# Whether the program is there, and was built from the sources as they are, by this toolchain.
+is_fresh() {
+    [ -r "$root/crates.txt" ] && [ -x "$program" ] && [ -r "$sums" ] || return 1
+    now=$(listed 2>/dev/null)
+    [ "$now" = "$(cat "$listing" 2>/dev/null)" ] && return 0
+    [ "$(sums_now)" = "$(cat "$sums")" ] || return 1
+    echo "$now" | put "$listing" 2>/dev/null
+    return 0
+}
+
+# Records that the program was proved and built from the sources that had this checksum, if they still have it.
+record_built() {
+    now=$(listed)
+    if [ "$(sources_sum)" != "$1" ]; then
+        say "the sources changed while they were being proved; call it again"
+        return 1
+    fi
+    sums_now | put "$sums" && echo "$now" | put "$listing"
+}

@@ -1,0 +1,261 @@
+"""The launcher: when it builds, when it doesn't, and what it does meanwhile. A script stands in for the toolchain, since a real build takes half an
+hour."""
+
+import os
+import pathlib
+import resource
+import shutil
+import signal
+import subprocess
+import tempfile
+import time
+import unittest
+
+from built import DOT, DOT_IMAGE, ROOT, SAMPLES, Answer, answer
+
+# The toolchain's command. It writes down each call and waits as long as the file `seconds` says. A program that it builds prints the source.
+RT = """#!/bin/sh
+kit=$(dirname "$0")/../kit
+case $1 in
+    version) cat "$kit/version"; exit ;;
+    try) echo "tried $*"; exit ;;
+esac
+echo "$(basename "$PWD")" >>"$kit/calls"
+[ -e "$kit/says" ] && cat "$kit/says"
+sleep "$(cat "$kit/seconds")"
+[ -e "$kit/fails" ] && exit 1
+[ -e "$kit/changes" ] && echo "// changed" >>../low/src/lib.rt
+if [ "$1" = run ]; then
+    { echo '#!/bin/sh'; echo "echo $(cat src/main.rt)"; } >out/meta_main
+    chmod +x out/meta_main
+fi
+exit 0
+"""
+
+CRATES = {"low/src/lib.rt": "low\n", "low/proofs/Lib.antt": "proof\n", "meta_main/src/main.rt": "first\n"}
+
+CRATES_TXT = "# The lowest.\nlow:\ntest_of_low: low\nmeta_main: low\n"
+
+# At most so many seconds of processor for a call of a program that is built, without those of the program.
+MOST_SECONDS = 0.05
+
+
+class Launcher(unittest.TestCase):
+    """A folder with the launcher, two small crates and a toolchain."""
+
+    def setUp(self):
+        folder = tempfile.TemporaryDirectory(ignore_cleanup_errors=True)
+        self.addCleanup(folder.cleanup)
+        self.folder = pathlib.Path(folder.name)
+        self.root = self.folder / "a folder"
+        self.kit = self.folder / "kit"
+        for path in (self.root, self.kit, self.folder / "bin"):
+            path.mkdir()
+        shutil.copy(ROOT / "metaplay", self.root)
+        shutil.copytree(ROOT / "launcher", self.root / "launcher")
+        for name, text in CRATES.items():
+            self.write(f"crates/{name}", text)
+        self.write("crates.txt", CRATES_TXT)
+        self.write("samples/dot.wmf", "")
+        (self.folder / "bin/rt").write_text(RT)
+        (self.folder / "bin/rt").chmod(0o755)
+        (self.kit / "version").write_text("first kit\n")
+        (self.kit / "seconds").write_text("0")
+        self.settings = {**os.environ, "PATH": f"{self.folder}/bin:{os.environ['PATH']}"}
+        self.without = {**os.environ, "PATH": "/usr/bin:/bin"}
+
+    def write(self, name, text):
+        """A file in the folder."""
+        (self.root / name).parent.mkdir(parents=True, exist_ok=True)
+        (self.root / name).write_text(text)
+
+    def begin(self, *words, root=None, settings=None):
+        """A running launcher, in a group of processes of its own."""
+        streams = dict.fromkeys(("stdout", "stderr"), subprocess.PIPE)
+        words = [(root or self.root) / "metaplay", *words]
+        return subprocess.Popen(words, env=settings or self.settings, stdin=subprocess.DEVNULL, text=True, start_new_session=True, **streams)
+
+    def call(self, *words, **how):
+        """The launcher's status, its output, and its messages."""
+        run = self.begin(*words, **how)
+        out, err = run.communicate(timeout=60)
+        return run.returncode, out, err
+
+    def calls(self):
+        """The crates that the toolchain was called for, in order, since the last time."""
+        path = self.kit / "calls"
+        names = path.read_text().split() if path.exists() else []
+        path.unlink(missing_ok=True)
+        return names
+
+    def is_run(self, text, built, **how):
+        """Checks that a call runs the program, which prints this text, after builds of these crates."""
+        status, out, err = self.call("list", "x", **how)
+        self.assertEqual((status, out, self.calls()), (0, f"{text}\n", built), err)
+        return err
+
+    def test_it_builds_once(self):
+        err = self.is_run("first", ["low", "meta_main"])
+        self.assertIn("metaplay: low proved and built in 0 s (1 of 2); minutes so far 0, to come about", err)
+        self.assertEqual(self.is_run("first", []), "")
+        self.assertEqual(sorted(path.name for path in (self.root / "crates/meta_main/out").iterdir()), ["built.list", "built.sums", "lock", "meta_main"])
+
+    def test_times_alone_change_nothing(self):
+        self.is_run("first", ["low", "meta_main"])
+        for path in self.root.rglob("*"):
+            os.utime(path, (2_000_000_000, 2_000_000_000))
+        self.is_run("first", [])
+        shutil.copytree(self.root, self.folder / "copy")
+        self.is_run("first", [], root=self.folder / "copy")
+
+    def test_a_change_of_the_same_size_at_an_older_time_is_built(self):
+        self.is_run("first", ["low", "meta_main"])
+        self.write("crates/meta_main/src/main.rt", "other\n")
+        os.utime(self.root / "crates/meta_main/src/main.rt", (1, 1))
+        self.is_run("other", ["low", "meta_main"])
+
+    def test_files_that_come_and_go_are_changes(self):
+        self.is_run("first", ["low", "meta_main"])
+        self.write("crates/low/proofs/New.antt", "")
+        self.is_run("first", ["low", "meta_main"])
+        (self.root / "crates/low/proofs/New.antt").rename(self.root / "crates/low/proofs/Other.antt")
+        self.is_run("first", ["low", "meta_main"])
+        (self.root / "crates/low/proofs/Other.antt").unlink()
+        self.is_run("first", ["low", "meta_main"])
+
+    def test_another_program_is_not_run(self):
+        self.is_run("first", ["low", "meta_main"])
+        self.write("crates/meta_main/out/meta_main", "#!/bin/sh\necho wrong\n")
+        self.is_run("first", ["low", "meta_main"])
+
+    def test_a_file_of_no_crate_is_no_change(self):
+        self.is_run("first", ["low", "meta_main"])
+        self.write("crates/test_of_low/src/lib.rt", "a test")
+        self.write("README.md", "a page")
+        self.is_run("first", [])
+
+    def test_another_toolchain_builds_anew(self):
+        self.is_run("first", ["low", "meta_main"])
+        (self.kit / "version").write_text("second kit\n")
+        os.utime(self.folder / "bin/rt")
+        self.is_run("first", ["low", "meta_main"])
+
+    def test_a_program_that_is_built_needs_no_toolchain(self):
+        self.is_run("first", ["low", "meta_main"])
+        self.is_run("first", [], settings=self.without)
+        self.write("crates/low/src/lib.rt", "changed")
+        missing = (3, "", "metaplay: the toolchain's command rt is not on the PATH\n")
+        self.assertEqual(self.call("list", "x", settings=self.without), missing)
+        self.assertEqual(self.call("try", "stdin", "4", "4", settings=self.without), missing)
+
+    def test_one_builds_and_the_other_waits(self):
+        (self.kit / "seconds").write_text("2")
+        runs = [self.begin("list", "x") for _ in range(3)]
+        ended = [(*run.communicate(timeout=60), run.returncode) for run in runs]
+        self.assertEqual([(out, status) for out, _, status in ended], [("first\n", 0)] * 3)
+        self.assertEqual(self.calls(), ["low", "meta_main"])
+        waits = "metaplay: another build is running; waiting for it ...\n"
+        self.assertEqual(sorted(err == waits for _, err, _ in ended), [False, True, True])
+
+    def test_a_build_that_is_killed_leaves_no_lock(self):
+        (self.kit / "seconds").write_text("3")
+        run = self.begin("list", "x")
+        self.wait_for(lambda: (self.kit / "calls").exists())
+        run.kill()
+        run.communicate()
+        (self.kit / "seconds").write_text("0")
+        self.calls()
+        self.is_run("first", ["low", "meta_main"])
+
+    def test_a_build_that_is_stopped_ends(self):
+        (self.kit / "seconds").write_text("30")
+        run = self.begin("list", "x")
+        self.wait_for(lambda: (self.kit / "calls").exists())
+        run.send_signal(signal.SIGTERM)
+        out, _ = run.communicate(timeout=10)
+        self.assertEqual((run.returncode, out), (3, ""))
+        self.assertEqual(sorted(path.name for path in (self.root / "crates/meta_main/out").iterdir()), ["lock"])
+
+    def wait_for(self, is_there):
+        """Waits until something is there."""
+        end = time.monotonic() + 20
+        while not is_there() and time.monotonic() < end:
+            time.sleep(0.05)
+        self.assertTrue(is_there())
+
+    def test_what_changes_meanwhile_is_not_proved(self):
+        (self.kit / "changes").touch()
+        status, out, err = self.call("list", "x")
+        self.assertEqual((status, out), (3, ""))
+        self.assertTrue(err.endswith("metaplay: the sources changed while they were being proved; call it again\n"), err)
+        (self.kit / "changes").unlink()
+        self.calls()
+        self.is_run("first", ["low", "meta_main"])
+
+    def test_a_crate_that_fails_is_named(self):
+        (self.kit / "fails").touch()
+        status, out, err = self.call("list", "x")
+        self.assertEqual((status, out, self.calls()), (3, "", ["low"]))
+        self.assertRegex(err, r"metaplay: low could not be built; see .*/low\.log\n$")
+
+    def test_a_long_build_reports_where_it_is(self):
+        build = self.root / "launcher/build.sh"
+        build.write_text(build.read_text().replace("most_silent=30\n", "most_silent=1\n"))
+        (self.kit / "seconds").write_text("3")
+        (self.kit / "says").write_text("so far: 7 of 9 functions\nso far: 8 of 9 functions\n")
+        err = self.is_run("first", ["low", "meta_main"])
+        self.assertRegex(err, r"metaplay: proving low: [1-3] s, 8 of 9 functions; minutes so far 0\n")
+
+    def test_without_a_list_of_crates_nothing_runs(self):
+        self.is_run("first", ["low", "meta_main"])
+        (self.root / "crates.txt").unlink()
+        self.assertEqual(self.call("list", "x"), (3, "", "metaplay: crates.txt is missing\n"))
+
+    def test_a_trial_takes_the_sides_that_show_takes(self):
+        sample = self.root / "samples/dot.wmf"
+        for given, side in [("4", "4"), ("08", "8"), ("+9", "9"), ("000000000064", "64")]:
+            status, out, _ = self.call("try", sample, given, given)
+            self.assertEqual((status, out), (0, f"tried try -- show stdin {side} {side}\n"))
+        for given in ["0", "00", "", "+", "-4", "++4", "4+", "8193", "0x8", "8 ", "4.0", "99999999999999999999"]:
+            status, out, err = self.call("try", sample, given, "4")
+            self.assertEqual((status, out, err[:15]), (2, "", "metaplay: usage"), given)
+        self.assertEqual(self.call("try", sample, "8192", "8192")[0], 2)
+        for missing in [self.root / "no file", self.root]:
+            self.assertEqual(self.call("try", missing, "4", "4"), (3, "", "metaplay: cannot read\n"))
+
+
+class Program(unittest.TestCase):
+    """The launcher of this repository, and the program that is built."""
+
+    launcher = ROOT / "metaplay"
+
+    def test_it_works_from_any_folder(self):
+        with tempfile.TemporaryDirectory() as folder:
+            relative = os.path.relpath(SAMPLES / "dot.wmf", folder)
+            answered = answer(self.launcher, ["show", relative, "4", "4"], cwd=folder)
+        self.assertEqual(answered, Answer(0, DOT_IMAGE, b""))
+
+    def test_it_works_through_links(self):
+        with tempfile.TemporaryDirectory() as folder:
+            os.symlink(self.launcher, f"{folder}/first")
+            os.symlink("first", f"{folder}/second")
+            answered = answer(f"{folder}/second", ["show", "stdin", "4", "4"], DOT)
+            self.assertEqual(answered, Answer(0, DOT_IMAGE, b""))
+            self.assertEqual(answer("./second", ["show", "stdin", "4", "4"], DOT, cwd=folder), answered)
+
+    def test_it_has_the_program_s_status(self):
+        refused = answer(self.launcher, ["show", "stdin", "4", "4"], DOT[:50])
+        self.assertEqual(refused, Answer(1, b"", b"metaplay: PastEnd at record 0\n"))
+
+    def test_a_call_takes_no_time(self):
+        taken = []
+        for _ in range(5):
+            before = resource.getrusage(resource.RUSAGE_CHILDREN)
+            answer(self.launcher, ["show", "stdin", "4", "4"], DOT)
+            after = resource.getrusage(resource.RUSAGE_CHILDREN)
+            taken.append(after.ru_utime + after.ru_stime - before.ru_utime - before.ru_stime)
+        self.assertLess(min(taken), MOST_SECONDS)
+
+
+if __name__ == "__main__":
+    unittest.main()
