@@ -64,7 +64,7 @@ begin_ready() {
         [ $((begun - ended)) -lt "$most" ] || break
         # shellcheck disable=SC2086
         if is_ready "$name" $libraries; then
-            build_crate "$name" 9>&- &
+            (exec 9>&- && build_crate "$name") &
             echo "$! $(date +%s)" >"$logs/$name.begun"
         fi
     done

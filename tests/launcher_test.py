@@ -158,14 +158,19 @@ class Launcher(unittest.TestCase):
         self.assertEqual(sorted(err == waits for _, err, _ in ended), [False, True, True])
 
     def test_a_build_that_is_killed_leaves_no_lock(self):
-        (self.kit / "seconds").write_text("3")
+        (self.kit / "seconds").write_text("40")
         run = self.begin("list", "x")
+        self.addCleanup(os.killpg, run.pid, signal.SIGKILL)
         self.wait_for(lambda: (self.kit / "calls").exists())
         run.kill()
-        run.communicate()
+        run.wait()
+        run.stdout.close()
+        run.stderr.close()
         (self.kit / "seconds").write_text("0")
         self.calls()
+        start = time.monotonic()
         self.is_run("first", ["low", "meta_main"])
+        self.assertLess(time.monotonic() - start, 20)
 
     def test_a_build_that_is_stopped_ends(self):
         (self.kit / "seconds").write_text("30")
