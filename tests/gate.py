@@ -34,6 +34,9 @@ CI_MEMORY = 10_000_000_000
 # By how much the edits give way.
 NICENESS = 10
 
+# What records for the launcher which sources the program was built from.
+RECORD = edits.ROOT / "launcher/record"
+
 
 def is_built():
     """Whether libraries of an earlier run are there."""
@@ -111,9 +114,6 @@ class Clock:
     def say(self, what):
         """Says how long it is since the beginning."""
         print(f"gate: {what}: {time.monotonic() - self.start:.0f} s, {Processors.now().since(self.processors)}", flush=True)
-
-
-RECORD = edits.ROOT / "launcher/record"
 
 
 def sources_sum():

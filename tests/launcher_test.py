@@ -36,7 +36,7 @@ CRATES = {"low/src/lib.rt": "low\n", "low/proofs/Lib.antt": "proof\n", "meta_mai
 
 CRATES_TXT = "# The lowest.\nlow:\ntest_of_low: low\nmeta_main: low\n"
 
-# At most so many seconds of processor for a call of a program that is built, without those of the program.
+# At most so many seconds of processor for a call of a program that is built, those of the program included.
 MOST_SECONDS = 0.05
 
 
