@@ -4,21 +4,17 @@ rules of the reference for each drawing and pixel alone."""
 import os
 import random
 import re
-import struct
 import subprocess
 import unittest
 from functools import cache
 from typing import NamedTuple
 
-from built import CRATES
 from metafile.scripts import EMF, FORMS, WMF
 from reference.certificates import Certificate, Certifier, Entry, PlaneAxis
 from reference.pixels import LONGEST_NIB
 from reference.player import Reference
 from reference_test import Maker
-
-# A program that answers requests (crates/certificate_tests), as both compilers of the toolchain build it.
-PROGRAMS = [CRATES / "certificate_tests/out/certificate_tests", CRATES / "certificate_tests/out/certificate_tests.by-rattle"]
+from request_program import CHECK, PLAY, PREPARE, PROGRAMS, asked, replies
 
 # How many files there are of each format, and how many of each hundred are played.
 FILES, PLAYED = 1500, 8
@@ -26,32 +22,6 @@ FILES, PLAYED = 1500, 8
 SEED = 23
 
 LARGEST_SIDE = 8192
-
-PREPARE, CHECK, PLAY = range(3)
-
-
-def asked(kind, sides, given, certificate=b"", image=b""):
-    """A request."""
-    return struct.pack("<5I", kind, *sides, len(given), len(certificate)) + given + certificate + image
-
-
-def replies(program, requests):
-    """What a program answers, request by request: a line, and the bytes that it made."""
-    with subprocess.Popen([program], stdin=subprocess.PIPE, stdout=subprocess.PIPE) as run:
-        told, _ = run.communicate(b"".join(requests), timeout=600)
-    found = []
-    while told:
-        line, _, told = told.partition(b"\n")
-        words = line.decode().split()
-        count = 0
-        if words[0] == "prepared":
-            count = int(words[1])
-        elif words[0] == "played":
-            head = told.split(b"\n", 3)[:3]
-            count = sum(map(len, head)) + 3 + 3 * int(head[1].split()[0]) * int(head[1].split()[1])
-        found.append((line.decode(), told[:count]))
-        told = told[count:]
-    return found
 
 
 def line_of(refusal):

@@ -10,13 +10,13 @@ from concurrent.futures import ProcessPoolExecutor
 
 from answers import refused
 from built import SAMPLES, answer, for_each_program
-from certificates_test import PROGRAMS
 from commands_test import CommandTest
 from hostile.each_byte import Sample, compared, of_bitmap, tried, variants
 from metafile.bitmaps import QUAD, bitmap
 from metafile.fields import RED, i32, u16, u32
 from metafile.files import EMF_END, emf_file, emf_record
 from metafile.scripts import WMF
+from request_program import PROGRAMS
 
 # Of the wheel, whose 3,228 records are alike, each byte of so many is tried, and of its certificate. With EVERY_BYTE set each is.
 STRIDE = {"wheel.wmf": 1 if "EVERY_BYTE" in os.environ else 499}

@@ -10,8 +10,6 @@ import tempfile
 import unittest
 
 from built import PROGRAMS, SAMPLES, answer, for_each_program
-from certificates_test import PLAY, asked
-from certificates_test import PROGRAMS as REQUESTED
 from hostile.each_byte import answers
 from hostile.measured import measured
 from memory_test import ROOM, bare
@@ -21,6 +19,8 @@ from metafile.scripts import EMF, FORMS
 from reading.fields import IDENTITY
 from reference.certificates import Certificate
 from reference.pixels import is_on_line
+from request_program import PLAY, asked
+from request_program import PROGRAMS as REQUESTED
 
 # The longest side of a surface, the farthest place of a point, and how many lines go there and back.
 SIDE, FAR, LINES = 8192, 1 << 28, 1000

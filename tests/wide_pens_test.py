@@ -11,14 +11,14 @@ import unittest
 
 from answers import refused, shown
 from built import PROGRAMS, Answer, answer, for_each_program
-from certificates_test import PLAY, asked, replies
-from certificates_test import PROGRAMS as REQUESTED
 from metafile.blits import PATCOPY
 from metafile.fields import BLACK
 from metafile.scripts import EMF, FORMS, HANDLES, SIDE, WMF
 from reading.commands import Asked
 from reference.certificates import Certificate, Entry
 from reference.pixels import is_on_line, is_stroked, opened, reach
+from request_program import PLAY, asked, replies
+from request_program import PROGRAMS as REQUESTED
 from shape_pictures import INVERT, ShapeTest, drawing, empty
 
 BANDS = [1, 3, 4, 8]

@@ -4,16 +4,13 @@ import struct
 import unittest
 
 from blits_test import stretched
-from certificates_test import PREPARE, PROGRAMS, asked, replies
 from large_lists_test import BOUNDS, POLYGON, ROUNDS
 from large_lists_test import SIDE as SQUARE
 from metafile.bitmaps import QUAD
 from metafile.fields import i16, u32
 from metafile.files import emf_record
 from metafile.scripts import EMF, WMF
-
-# A request to play a file on white, which is answered by how many pixels were written.
-COUNT = 3
+from request_program import COUNT, PREPARE, PROGRAMS, asked, replies
 
 # The longest side of a surface, and the coordinate farthest from 0 on which a point may land.
 LONGEST, FAR = 8192, 1 << 28
