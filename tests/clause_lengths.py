@@ -20,7 +20,7 @@ from typing import NamedTuple
 
 ROOT = pathlib.Path(__file__).resolve().parent.parent
 
-OF_TESTS = re.compile(r"\w+_tests|test_support|example_\w+")
+OF_TESTS = re.compile(r"\w+_tests|test_\w+|example_\w+")
 
 LENGTHS = (120, 140, 200)
 

@@ -14,6 +14,8 @@ import unittest
 
 from answers import refused, shown
 from built import CRATES, DOT, DOT_IMAGE, PROGRAMS, SAMPLES, Answer, answer
+from command_inputs import DOT_LINES, TRIANGLE, TRIANGLE_CERT
+from commands_test import DOT_CERT
 from metafile.bitmaps import QUAD, QUAD_ROWS
 from metafile.blits import MASKED, PATCOPY, PATINVERT, SRCCOPY
 from metafile.scripts import EMF, FORMS, HANDLES, SIDE, WMF
@@ -92,6 +94,15 @@ LINES = [
     (["--help"], b""),
     (["show", "--help"], b""),
     *[(SHOW, state_file(form, script)) for form, script, _ in STATE_SCRIPTS],
+]
+
+# Commands on the smallest files, by the names that they get, and their answers where memory is ample.
+SMALLEST = [
+    (["show", "dot", "1", "1"], Answer(0, b"P6\n1 1\n255\n\xff\0\0", b"")),
+    (["check", "dot", "nothing"], Answer(1, b'{"accepted":false,"code":6,"fault":"NotCertificate","number":null,"record":null}\n', b"")),
+    (["play", "triangle", "triangle.cert", "1", "1"], Answer(0, b"P6\n1 1\n255\n\0\0\0", b"")),
+    (["over", "dot", "dot.cert", "page"], Answer(0, b"P6\n1 1\n255\n\xff\0\0", b"")),
+    (["list", "dot"], Answer(0, DOT_LINES, b"")),
 ]
 
 # Records of which a thousand more take no more memory than one.
@@ -214,6 +225,22 @@ class RefusedGrowth(unittest.TestCase):
             lines += [["over", file, certificate, image], ["over", file, certificate, file]]
             for words in lines:
                 self.check_command(program, words, output)
+
+    def test_each_command_on_the_smallest_files_by_hand(self):
+        names = {"dot": DOT, "dot.cert": DOT_CERT, "triangle": TRIANGLE, "triangle.cert": TRIANGLE_CERT, "nothing": b"", "page": b"P6\n1 1\n255\nabc"}
+        files = {name: str(self.mark.with_name(name)) for name in names}
+        for name, given in names.items():
+            pathlib.Path(files[name]).write_bytes(given)
+        output = self.mark.with_name("output")
+        for program in PROGRAMS:
+            for words, wanted in SMALLEST:
+                named = [files.get(word, word) for word in words]
+                with self.subTest(program=program.name, words=words):
+                    self.assertEqual(answer(program, named), wanted)
+                    self.check_command(program, named, output)
+            prepare = ["prepare", files["dot"], "4", "4", str(output)]
+            self.assertEqual((answer(program, prepare), output.read_bytes()), (Answer(0, b"", b""), DOT_CERT))
+            self.check_command(program, prepare, output)
 
     def test_the_commands_for_certificates_on_states_paths_and_tiles(self):
         # The program of the other compiler is of the same code: it has the files above.

@@ -88,7 +88,7 @@ class Layers(unittest.TestCase):
     def test_that_each_crate_has_a_row_and_each_of_tests_a_word(self):
         text = without_blocks(text_of("docs/LAYERS.md"))
         in_rows = set(re.findall(r"`(\w+)`", " ".join(re.findall(r"(?m)^\| (`[^|]*) \|", text))))
-        tests = {name for name in CRATES if name.endswith("_tests") or name == "test_support"}
+        tests = {name for name in CRATES if name.endswith("_tests") or name.startswith("test_")}
         layers = {name for name in CRATES if not name.startswith("example_")} - tests
         self.assertEqual(in_rows & CRATES.keys(), layers)
         self.assertEqual(tests - set(quoted(text)), set())

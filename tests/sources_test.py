@@ -75,7 +75,7 @@ def sources_of(crate):
 
 def crates_of_code():
     """The crates, those of tests left out."""
-    return [crate for crate in sorted(CRATES.iterdir()) if (crate / "src").is_dir() and not re.fullmatch(r"\w+_tests|test_support", crate.name)]
+    return [crate for crate in sorted(CRATES.iterdir()) if (crate / "src").is_dir() and not re.fullmatch(r"\w+_tests|test_\w+", crate.name)]
 
 
 def with_names(crate, sources):

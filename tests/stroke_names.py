@@ -24,7 +24,7 @@ ROOT = pathlib.Path(__file__).resolve().parent.parent
 
 PARTS = ("src", "specs", "proofs")
 
-OF_TESTS = re.compile(r"\w+_tests|test_support|example_\w+")
+OF_TESTS = re.compile(r"\w+_tests|test_\w+|example_\w+")
 
 COMMENT = {".rt": re.compile(r"//[^\n]*"), ".antt": re.compile(r"--[^\n]*")}
 

@@ -1,18 +1,28 @@
-//! A program for tests (tests/certificates_test.py). It answers requests from standard input, one after another:
-//! prepare a file's certificate, check a certificate, play a file by its certificate over an image, or count the writes
-//! of playing it on white.
+//! A program for tests (tests/request_program.py). It answers requests from standard input, one after another: prepare
+//! a file's certificate, check a certificate, play a file by its certificate over an image, count the writes of playing
+//! it on white, or run a command.
 //!
 //! A request is five little-endian numbers of four bytes, followed by the bytes that they count. The numbers are its
 //! kind, a width, a height, and the lengths of the file and the certificate. An image has three bytes per pixel.
+//!
+//! For a command there are six more numbers: the length of an image in P6, the rows of a band or 0, and for each output
+//! how many bytes it takes, and 1 if it can be flushed.
 #![tactic(auto)]
 
-use canvas::Canvas;
+ghost use Rattle.std.specs.Prelude.{◌-◌, ◌^◌, ◌<◌};
+
+use canvas::{Canvas, Counting, FaultCount};
+use commands::{
+    CommandEnd, Completion, check_command, list_command, over_command, play_command,
+    prepare_command, show_command,
+};
 use mapping::{Colour, MAX_SURFACE_SIDE};
 use player::play;
 use point_views::u32_at;
 use preflight_cert::{Cleared, check, prepare};
 use std::alloc::Global;
 use std::io::{self, Read, Write};
+use test_support::limited;
 
 /// A request.
 #[derive(Clone, Copy)]
@@ -20,9 +30,33 @@ struct Request<'a> {
     kind: u32,
     width: u32,
     height: u32,
+    more: Numbers,
     file: &'a [u8],
     certificate: &'a [u8],
     image: &'a [u8],
+}
+
+/// The numbers that only a request for a command has.
+#[derive(Clone, Copy)]
+struct Numbers {
+    of_image: u32,
+    rows: u32,
+    out: u32,
+    flushes_out: u32,
+    err: u32,
+    flushes_err: u32,
+}
+
+impl Numbers {
+    /// Those of other requests.
+    const NONE: Numbers = Numbers {
+        of_image: 0,
+        rows: 0,
+        out: 0,
+        flushes_out: 0,
+        err: 0,
+        flushes_err: 0,
+    };
 }
 
 /// Splits off this many bytes, if there are that many.
@@ -39,6 +73,22 @@ fn number(bytes: &[u8]) -> Option<(u32, &[u8])> {
         return None;
     }
     Some((u32_at(bytes, 0), &bytes[4..]))
+}
+
+/// The first numbers of a command, and the bytes after them.
+fn first_numbers(bytes: &[u8]) -> Option<(Numbers, &[u8])> {
+    if bytes.len() < 24 {
+        return None;
+    }
+    let numbers = Numbers {
+        of_image: u32_at(bytes, 0),
+        rows: u32_at(bytes, 4),
+        out: u32_at(bytes, 8),
+        flushes_out: u32_at(bytes, 12),
+        err: u32_at(bytes, 16),
+        flushes_err: u32_at(bytes, 20),
+    };
+    Some((numbers, &bytes[24..]))
 }
 
 /// The first colour, and the bytes after it.
@@ -61,18 +111,24 @@ fn next_request(bytes: &[u8]) -> Option<(Request<'_>, &[u8])> {
     let (height, rest) = number(rest)?;
     let (of_file, rest) = number(rest)?;
     let (of_certificate, rest) = number(rest)?;
+    let (more, rest) = if kind < 4 {
+        (Numbers::NONE, rest)
+    } else {
+        first_numbers(rest)?
+    };
     let (file, rest) = split(rest, of_file as usize)?;
     let (certificate, rest) = split(rest, of_certificate as usize)?;
-    let pixels = if kind == 2 && width <= 4096 && height <= 4096 {
-        width * height
+    let of_image = if kind == 2 && width <= 4096 && height <= 4096 {
+        3 * width * height
     } else {
-        0
+        more.of_image
     };
-    let (image, rest) = split(rest, 3 * pixels as usize)?;
+    let (image, rest) = split(rest, of_image as usize)?;
     let request = Request {
         kind,
         width,
         height,
+        more,
         file,
         certificate,
         image,
@@ -144,8 +200,55 @@ fn answer_count<W: Write>(
     }
 }
 
+/// Runs a command. Without a valid size it has wrong usage.
+fn run_command<O: FaultCount, E: FaultCount>(
+    alloc: Global,
+    request: &Request<'_>,
+    out: &mut O,
+    err: &mut E,
+) -> Completion
+    requires capacity_out { O.fault_count out.old < 2 ^ 64 - 1 }
+    requires capacity_err { E.fault_count err.old < 2 ^ 64 - 1 }
+{
+    let (width, height) = (request.width, request.height);
+    let (file, certificate) = (request.file, request.certificate);
+    if width < 1 || MAX_SURFACE_SIDE < width || height < 1 || MAX_SURFACE_SIDE < height {
+        return Completion {
+            end: CommandEnd::WrongUsage,
+            printed: Ok(()),
+        };
+    }
+    let rows = request.more.rows;
+    let bands = if rows == 0 { None } else { Some(rows) };
+    match request.kind {
+        4 => show_command(alloc, file, width, height, out, err),
+        5 => prepare_command(alloc, file, width, height, out, err),
+        6 => check_command(alloc, file, certificate, out, err),
+        7 => play_command(alloc, file, certificate, width, height, bands, out, err),
+        8 => over_command(alloc, file, certificate, request.image, out, err),
+        _ => list_command(alloc, file, out, err),
+    }
+}
+
+/// Runs a command, and writes its status, 1 if its line was printed or it had none, and what its outputs got.
+fn answer_command<W: Write>(alloc: Global, request: &Request<'_>, to: &mut W) -> io::Result<()> {
+    let more = request.more;
+    let mut out = Counting::new(limited(alloc, more.out as usize, more.flushes_out == 1));
+    let mut err = Counting::new(limited(alloc, more.err as usize, more.flushes_err == 1));
+    let done = run_command(alloc, request, &mut out, &mut err);
+    let (out, err) = (out.into_writer(), err.into_writer());
+    let (status, printed) = (done.status(), u8::from(done.printed.is_ok()));
+    let (of_out, of_err) = (out.taken.len(), err.taken.len());
+    writeln!(to, "ended {status} {printed} {of_out} {of_err}")?;
+    to.write_all(&out.taken)?;
+    to.write_all(&err.taken)
+}
+
 /// Answers a request with a line and the bytes that were made.
 fn answer<W: Write>(alloc: Global, request: &Request<'_>, out: &mut W) -> io::Result<()> {
+    if request.kind >= 4 {
+        return answer_command(alloc, request, out);
+    }
     if request.kind == 0 {
         return match prepare(alloc, request.file, request.width, request.height) {
             Err(refusal) => writeln!(out, "{refusal}"),
